@@ -3,21 +3,21 @@ use Rattle.std.specs.Prelude.{ℕ, List, Option}
 use Rattle.std.specs.Io.Buffered.{writer_buffer}
 use Rattle.std.specs.declared.io.Error.{Error}
 use Rattle.lsp_command.specs.Beginnings.{kept}
-use Rattle.lsp_command.specs.declared.input.Input.{Input}
-use Rattle.lsp_command.specs.declared.output.Output.{Output}
+use Rattle.lsp_command.specs.declared.input.BufferedInput.{BufferedInput}
+use Rattle.lsp_command.specs.declared.output.BufferedOutput.{BufferedOutput}
 
 -- the bytes that an output took and has not written
-abbrev pub unwritten : {W : Type 0} → Output W → List ℕ
+abbrev pub unwritten : {W : Type 0} → BufferedOutput W → List ℕ
 unwritten o = writer_buffer o.writer
 
 -- the first bytes that an input gave
-abbrev pub first_bytes : {R : Type 0} → Input R → List ℕ
+abbrev pub first_bytes : {R : Type 0} → BufferedInput R → List ℕ
 first_bytes i = kept i.beginning
 
 -- the error by which an input last failed
-abbrev pub input_error : {R : Type 0} → Input R → Option Error
+abbrev pub input_error : {R : Type 0} → BufferedInput R → Option Error
 input_error i = i.tally.cause
 
 -- the error by which an output last failed
-abbrev pub output_error : {W : Type 0} → Output W → Option Error
+abbrev pub output_error : {W : Type 0} → BufferedOutput W → Option Error
 output_error o = o.tally.cause

@@ -20,22 +20,22 @@ const GATHERED: usize = 65_536;
 /// A source over a reader of std, which reads ahead. It keeps what the reader gave first, and the
 /// error by which it last failed.
 #[derive(Drop)]
-pub struct Input<R> {
+pub struct BufferedInput<R> {
     reader: BufReader<R>,
     beginning: Beginning,
     tally: IoState,
 }
 
-impl<R: Read + Drop> Input<R> {
+impl<R: Read + Drop> BufferedInput<R> {
     /// A source that has not failed and has given nothing yet.
-    pub fn new(alloc: Global, reader: R) -> Result<Input<R>, AllocError>
+    pub fn new(alloc: Global, reader: R) -> Result<BufferedInput<R>, AllocError>
         ensures remaining { IfOk result (λ input.
-            Consumes (R.remaining reader) (⟦<Input<R> as Source>⟧.told input).bytes []) }
+            Consumes (R.remaining reader) (⟦<BufferedInput<R> as Source>⟧.told input).bytes []) }
         ensures first { IfOk result (λ input. first_bytes input ≡ []) }
         ensures failures { IfOk result (λ input.
-            (⟦<Input<R> as Source>⟧.told input).failures ≡ 0) }
+            (⟦<BufferedInput<R> as Source>⟧.told input).failures ≡ 0) }
     {
-        Ok(Input {
+        Ok(BufferedInput {
             reader: BufReader::with_capacity(alloc, GATHERED, reader).map_err(|_| AllocError)?,
             beginning: Beginning::new(),
             tally: IoState::new(),
@@ -52,13 +52,13 @@ impl<R: Read + Drop> Input<R> {
     /// Why the last call failed that did.
     pub fn cause(&self) -> Option<io::Error>
         ensures value { result ≡ input_error self.now }
-        ensures failed { IsSome result ↔ (0 < (⟦<Input<R> as Source>⟧.told self.now).failures) }
+        ensures failed { IsSome result ↔ (0 < (⟦<BufferedInput<R> as Source>⟧.told self.now).failures) }
     {
         self.tally.cause()
     }
 }
 
-impl<R: Read> Source for Input<R> {
+impl<R: Read> Source for BufferedInput<R> {
     ghost told = { λ s. record {
       bytes = ⟦<BufReader<R> as Read>⟧.remaining s.reader;
       count = s.tally.bytes;
@@ -70,15 +70,15 @@ impl<R: Read> Source for Input<R> {
     fn pull(&mut self, buffer: &mut [u8]) -> Result<usize, Failed>
         ensures count { ReadsAtMost result buffer.new }
         ensures gave { IfOk result (λ n.
-            Gave (⟦<Input<R> as Source>⟧.told self.old) (⟦<Input<R> as Source>⟧.told self.new)
+            Gave (⟦<BufferedInput<R> as Source>⟧.told self.old) (⟦<BufferedInput<R> as Source>⟧.told self.new)
             (take n buffer.new)) }
         ensures end { IfOk result (λ n.
-            n ≡ 0 → 0 < length buffer.new → IsAtEnd (⟦<Input<R> as Source>⟧.told self.new).bytes) }
+            n ≡ 0 → 0 < length buffer.new → IsAtEnd (⟦<BufferedInput<R> as Source>⟧.told self.new).bytes) }
         ensures err { OnErr result
-            (KeepsBytes (⟦<Input<R> as Source>⟧.told self.old)
-            (⟦<Input<R> as Source>⟧.told self.new)) }
-        ensures failures { CountsFailure (⟦<Input<R> as Source>⟧.told self.old).failures
-            (⟦<Input<R> as Source>⟧.told self.new).failures result }
+            (KeepsBytes (⟦<BufferedInput<R> as Source>⟧.told self.old)
+            (⟦<BufferedInput<R> as Source>⟧.told self.new)) }
+        ensures failures { CountsFailure (⟦<BufferedInput<R> as Source>⟧.told self.old).failures
+            (⟦<BufferedInput<R> as Source>⟧.told self.new).failures result }
         // The first bytes are kept.
         ensures first { IfOk result (λ n.
             first_bytes self.new ≡ take 32 (first_bytes self.old ++ take n buffer.new)) }
@@ -96,16 +96,16 @@ impl<R: Read> Source for Input<R> {
         requires room { vec_len buffer.old + most ≤ vec_capacity buffer.old }
         ensures room { vec_capacity buffer.old ≤ vec_capacity buffer.new }
         ensures gave { IfOk result (λ n.
-            GaveOnto (⟦<Input<R> as Source>⟧.told self.old) (⟦<Input<R> as Source>⟧.told self.new)
+            GaveOnto (⟦<BufferedInput<R> as Source>⟧.told self.old) (⟦<BufferedInput<R> as Source>⟧.told self.new)
             buffer.old.items buffer.new.items most n) }
         ensures end { IfOk result (λ n.
-            n ≡ 0 → 0 < most → IsAtEnd (⟦<Input<R> as Source>⟧.told self.new).bytes) }
+            n ≡ 0 → 0 < most → IsAtEnd (⟦<BufferedInput<R> as Source>⟧.told self.new).bytes) }
         ensures same { OnErr result (buffer.new.items ≡ buffer.old.items) }
         ensures err { OnErr result
-            (KeepsBytes (⟦<Input<R> as Source>⟧.told self.old)
-            (⟦<Input<R> as Source>⟧.told self.new)) }
-        ensures failures { CountsFailure (⟦<Input<R> as Source>⟧.told self.old).failures
-            (⟦<Input<R> as Source>⟧.told self.new).failures result }
+            (KeepsBytes (⟦<BufferedInput<R> as Source>⟧.told self.old)
+            (⟦<BufferedInput<R> as Source>⟧.told self.new)) }
+        ensures failures { CountsFailure (⟦<BufferedInput<R> as Source>⟧.told self.old).failures
+            (⟦<BufferedInput<R> as Source>⟧.told self.new).failures result }
         // The first bytes are kept.
         ensures first { OnOk result (first_bytes self.new
             ≡ take 32 (first_bytes self.old ++ appended_bytes buffer.old.items buffer.new.items)) }
@@ -125,23 +125,23 @@ impl<R: Read> Source for Input<R> {
 
 /// Appends what one call of the input gives, at most this many bytes and [`GATHERED`].
 fn pull_fresh<R: Read>(
-    input: &mut Input<R>,
+    input: &mut BufferedInput<R>,
     buffer: &mut Vec<u8>,
     most: usize,
 ) -> Result<usize, Failed>
     requires room { vec_len buffer.old + most ≤ vec_capacity buffer.old }
     ensures room { vec_capacity buffer.old ≤ vec_capacity buffer.new }
     ensures gave { IfOk result (λ n.
-        GaveOnto (⟦<Input<R> as Source>⟧.told input.old) (⟦<Input<R> as Source>⟧.told input.new)
+        GaveOnto (⟦<BufferedInput<R> as Source>⟧.told input.old) (⟦<BufferedInput<R> as Source>⟧.told input.new)
         buffer.old.items buffer.new.items most n) }
     ensures end { IfOk result (λ n.
-        n ≡ 0 → 0 < most → IsAtEnd (⟦<Input<R> as Source>⟧.told input.new).bytes) }
+        n ≡ 0 → 0 < most → IsAtEnd (⟦<BufferedInput<R> as Source>⟧.told input.new).bytes) }
     ensures same { OnErr result (buffer.new.items ≡ buffer.old.items) }
     ensures err { OnErr result
-        (KeepsBytes (⟦<Input<R> as Source>⟧.told input.old)
-        (⟦<Input<R> as Source>⟧.told input.new)) }
-    ensures failures { CountsFailure (⟦<Input<R> as Source>⟧.told input.old).failures
-        (⟦<Input<R> as Source>⟧.told input.new).failures result }
+        (KeepsBytes (⟦<BufferedInput<R> as Source>⟧.told input.old)
+        (⟦<BufferedInput<R> as Source>⟧.told input.new)) }
+    ensures failures { CountsFailure (⟦<BufferedInput<R> as Source>⟧.told input.old).failures
+        (⟦<BufferedInput<R> as Source>⟧.told input.new).failures result }
     ensures first { OnOk result (first_bytes input.new
         ≡ take 32 (first_bytes input.old ++ appended_bytes buffer.old.items buffer.new.items)) }
     ensures same_first { OnErr result (first_bytes input.new ≡ first_bytes input.old) }

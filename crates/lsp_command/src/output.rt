@@ -15,27 +15,27 @@ const GATHERED: usize = 65_536;
 /// A sink over a writer of std, which gathers bytes and writes them together. It keeps the error by
 /// which it last failed.
 #[derive(Drop)]
-pub struct Output<W: Write + Drop> {
+pub struct BufferedOutput<W: Write + Drop> {
     writer: BufWriter<W>,
     tally: IoState,
 }
 
-impl<W: Write + Drop> Output<W> {
+impl<W: Write + Drop> BufferedOutput<W> {
     ghost use Rattle.std.specs.Prelude.{◌≡◌, ◌<◌, ◌↔◌, [], IfOk, OnOk, IsSome};
     ghost use Rattle.std.specs.Io.KnownBytes.{Appends};
     ghost use Rattle.lsp_frame.specs.Told.{CountsFailure, KeepsBytes};
     ghost use Rattle.lsp_command.specs.Ports.{output_error, unwritten};
 
     /// A sink that has not failed, and holds no bytes back.
-    pub fn new(alloc: Global, writer: W) -> Result<Output<W>, AllocError>
+    pub fn new(alloc: Global, writer: W) -> Result<BufferedOutput<W>, AllocError>
         ensures taken { IfOk result
             (λ output. Appends (W.contents writer)
-            (⟦<Output<W> as Sink>⟧.told output).bytes []) }
+            (⟦<BufferedOutput<W> as Sink>⟧.told output).bytes []) }
         ensures empty { IfOk result (λ output. unwritten output ≡ []) }
         ensures failures { IfOk result
-            (λ output. (⟦<Output<W> as Sink>⟧.told output).failures ≡ 0) }
+            (λ output. (⟦<BufferedOutput<W> as Sink>⟧.told output).failures ≡ 0) }
     {
-        Ok(Output {
+        Ok(BufferedOutput {
             writer: BufWriter::with_capacity(alloc, GATHERED, writer).map_err(|_| AllocError)?,
             tally: IoState::new(),
         })
@@ -49,10 +49,10 @@ impl<W: Write + Drop> Output<W> {
     /// and is written by the next flush.
     pub fn flush(&mut self) -> Result<(), Failed>
         ensures whole { OnOk result (unwritten self.new ≡ []) }
-        ensures bytes { KeepsBytes (⟦<Output<W> as Sink>⟧.told self.old)
-            (⟦<Output<W> as Sink>⟧.told self.new) }
-        ensures failures { CountsFailure (⟦<Output<W> as Sink>⟧.told self.old).failures
-            (⟦<Output<W> as Sink>⟧.told self.new).failures result }
+        ensures bytes { KeepsBytes (⟦<BufferedOutput<W> as Sink>⟧.told self.old)
+            (⟦<BufferedOutput<W> as Sink>⟧.told self.new) }
+        ensures failures { CountsFailure (⟦<BufferedOutput<W> as Sink>⟧.told self.old).failures
+            (⟦<BufferedOutput<W> as Sink>⟧.told self.new).failures result }
     {
         let answer = self.writer.flush();
         self.tally.heed(answer)
@@ -61,7 +61,7 @@ impl<W: Write + Drop> Output<W> {
     /// Why the last call failed that did.
     pub fn cause(&self) -> Option<io::Error>
         ensures value { result ≡ output_error self.now }
-        ensures failed { IsSome result ↔ (0 < (⟦<Output<W> as Sink>⟧.told self.now).failures) }
+        ensures failed { IsSome result ↔ (0 < (⟦<BufferedOutput<W> as Sink>⟧.told self.now).failures) }
     {
         self.tally.cause()
     }
@@ -81,7 +81,7 @@ fn taken(answer: io::Result<usize>, len: usize) -> io::Result<usize>
     }
 }
 
-impl<W: Write + Drop> Sink for Output<W> {
+impl<W: Write + Drop> Sink for BufferedOutput<W> {
     ghost told = { λ s. record {
       bytes = ⟦<BufWriter<W> as Write>⟧.contents s.writer;
       count = s.tally.bytes;

@@ -6,8 +6,8 @@ ghost use Rattle.lsp_command.specs.Ports.{input_error, output_error, unwritten};
 ghost use Rattle.lsp_command.specs.Tasks.{Answers, RanThrough};
 
 use crate::command_line::Task;
-use crate::input::Input;
-use crate::output::Output;
+use crate::input::BufferedInput;
+use crate::output::BufferedOutput;
 use crate::task_outcome::{TaskOutcome, of_event, of_run};
 use lsp_explain::{run_explain, run_explain_all};
 use lsp_frame::{Limits, Sink, Source};
@@ -74,15 +74,15 @@ pub fn run_task<R: Source, W: Sink>(
 pub fn run_through<R: Read + Drop, W: Write + Drop>(
     alloc: Global,
     task: Task<'_>,
-    input: &mut Input<R>,
-    output: &mut Output<W>,
+    input: &mut BufferedInput<R>,
+    output: &mut BufferedOutput<W>,
     limits: Limits,
 ) -> Result<TaskOutcome, RunFault>
     ensures ran { RanThrough limits task.entry (record {
-      source_before = ⟦<Input<R> as Source>⟧.told input.old;
-      source_after = ⟦<Input<R> as Source>⟧.told input.new;
-      sink_before = ⟦<Output<W> as Sink>⟧.told output.old;
-      sink_after = ⟦<Output<W> as Sink>⟧.told output.new;
+      source_before = ⟦<BufferedInput<R> as Source>⟧.told input.old;
+      source_after = ⟦<BufferedInput<R> as Source>⟧.told input.new;
+      sink_before = ⟦<BufferedOutput<W> as Sink>⟧.told output.old;
+      sink_after = ⟦<BufferedOutput<W> as Sink>⟧.told output.new;
     }) (unwritten output.new) result }
     ensures flushed { OnOk result (unwritten output.new ≡ []) }
     // A fault of the input or the output has its error.

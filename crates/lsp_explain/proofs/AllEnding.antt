@@ -36,7 +36,8 @@ use Rattle.lsp_verdict.specs.Complete.{IsVerdictBy}
 use Rattle.lsp_verdict.specs.Report.{line, report}
 use Rattle.lsp_verdict.specs.RunIo.{OfRead}
 use Rattle.lsp_verdict.specs.Survey.{IsSurvey, bad_lines, by_itself, ends_inside, ends_listed}
-use Rattle.lsp_verdict.specs.Survey.{first_ends, first_verdict, found_in, is_frame_fault}
+use Rattle.lsp_verdict.specs.Offences.{is_frame_fault}
+use Rattle.lsp_verdict.specs.Survey.{first_ends, first_verdict, found_in}
 use Rattle.lsp_verdict.specs.Survey.{lacks_listed, rests_listed}
 use Rattle.lsp_verdict.specs.Verdict.{Verdict, Ending, Summary, summary, no_next}
 use Rattle.lsp_verdict.specs.declared.completeness.Completeness.{Completeness}

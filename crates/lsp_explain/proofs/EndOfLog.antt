@@ -26,7 +26,8 @@ use Rattle.lsp_verdict.specs.Outcome.{HasRest, ending, log_terms}
 use Rattle.lsp_verdict.specs.Placed.{Raw, Placed, joined}
 use Rattle.lsp_verdict.specs.Report.{report}
 use Rattle.lsp_verdict.specs.RunIo.{OfRead}
-use Rattle.lsp_verdict.specs.Survey.{by_itself, is_frame_fault, ends_listed, found_in}
+use Rattle.lsp_verdict.specs.Offences.{is_frame_fault}
+use Rattle.lsp_verdict.specs.Survey.{by_itself, ends_listed, found_in}
 use Rattle.lsp_verdict.specs.Survey.{first_verdict}
 use Rattle.lsp_verdict.specs.Verdict.{Verdict, bad_log, bad_log_of, Ending, summary}
 use Rattle.lsp_verdict.specs.declared.completeness.Completeness.{Completeness}

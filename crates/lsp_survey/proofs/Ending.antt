@@ -19,7 +19,8 @@ use Rattle.lsp_verdict.specs.Event.{Event}
 use Rattle.lsp_verdict.specs.Offences.{Noted, Offence, IsNoted, events_of}
 use Rattle.lsp_verdict.specs.Placed.{Raw, joined}
 use Rattle.lsp_verdict.specs.Outcome.{HasRest, is_rest}
-use Rattle.lsp_verdict.specs.Survey.{is_frame_fault, ends_inside, rests_listed, lacks_listed}
+use Rattle.lsp_verdict.specs.Offences.{is_frame_fault}
+use Rattle.lsp_verdict.specs.Survey.{ends_inside, rests_listed, lacks_listed}
 use Rattle.lsp_verdict.specs.Survey.{first_ends}
 use Rattle.lsp_verdict.specs.Verdict.{Verdict, no_next}
 use Rattle.lsp_verdict.specs.declared.completeness.Completeness.{Completeness}

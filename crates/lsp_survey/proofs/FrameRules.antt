@@ -19,7 +19,7 @@ use Rattle.lsp_verdict.specs.Contents.{IsRefused, ReadsAs}
 use Rattle.lsp_verdict.specs.Event.{Event, message, fault, snapshot}
 use Rattle.lsp_verdict.specs.Offences.{Noted, IsNoted, events_of}
 use Rattle.lsp_verdict.specs.Placed.{Raw, content, broken, show, new_fault, Reads}
-use Rattle.lsp_verdict.specs.Survey.{is_frame_fault}
+use Rattle.lsp_verdict.specs.Offences.{is_frame_fault}
 use Rattle.lsp_verdict.proofs.Streams.Joined.{is_own}
 
 -- ---- frames: up to 106

@@ -2,6 +2,7 @@
 use Rattle.std.specs.Prelude.{unwrap_or, chars, ℤ}
 use Rattle.std.proofs.Common.{◌≡◌, ℕ, Bool, false, List, [], ◌∷◌, ◌++◌, Some, None, refl}
 use Rattle.std.proofs.Common.{sym, ap, subst, ◌∙◌}
+use Rattle.std.proofs.lemmas.Option.{same_Some}
 use Rattle.lsp_docs.specs.Calls.{Call, shows}
 use Rattle.lsp_docs.specs.Answer.{answer_of}
 use Rattle.lsp_docs.specs.Documents.{held}
@@ -34,7 +35,9 @@ use Rattle.lsp_survey.specs.declared.notes.openings.Openings.{Openings}
 use Rattle.lsp_survey.specs.declared.notes.session_notes.SessionNotes.{SessionNotes}
 use Rattle.lsp_survey.specs.Notes.{AreAfter, asks_of, note_in}
 use Rattle.lsp_survey.specs.Walking.{Walks, WalksBy, IsRefused, IsShown, IsUnread, PassesOver}
-use Rattle.lsp_survey.specs.Walking.{IsOffending, Hears, NotesKept, NotesMessage, NotesSnapshot}
+use Rattle.lsp_survey.specs.Walking.{IsMessageOf, IsOffending, Hears, NotesKept, NotesMessage}
+use Rattle.lsp_survey.specs.Walking.{NotesSnapshot}
+use Rattle.lsp_survey.specs.Sides.{sides_read}
 use Rattle.lsp_survey.specs.declared.offending.Judged.{Judged}
 use Rattle.lsp_survey.specs.declared.offending.Judged.TheVariants as heard
 use Rattle.lsp_survey.specs.declared.offending.OffendingEvent.{OffendingEvent}
@@ -110,7 +113,8 @@ module _ (old new : Replay) (notes : List Noted) (number : ℕ) (walks : Walks o
       let n : Noted = record { event = message sent; asks = asks_of side said } in
       kept_on (content side bytes) old new notes n (call_of enc kind act) walks
       (reads, asks_said side bytes sent said reads says) clean (ap (call_of enc kind) means)
-      terms_are holds counted is_broken (noted.0 enc kind)
+      terms_are holds counted is_broken
+      (noted.4 ∙ ap (λ (s : Side). sides_read s old.sides) (sym is_by)) (noted.0 enc kind)
       (act_done terms old.marks.map.entries new.marks.map.entries events sent number walks.marked
       clean is_number
       (λ e k. subst (λ (a : Act). DoneBy number (call_of e k a) old.marks.map.entries
@@ -135,7 +139,7 @@ module _ (old new : Replay) (notes : List Noted) (number : ℕ) (walks : Walks o
       let call : Call = shows uri version text in
       let n : Noted = record { event = snapshot uri version text; asks = false } in
       kept_on raw old new notes n (Some call) walks (reads, asks) clean refl terms_are holds counted
-      is_broken
+      is_broken noted.4
       (subst (λ (w : Notes). AreAfter None (Some call) old.notes.map.entries w.map.entries)
       (sym noted.0) (notes_stay None call old.notes.map.entries refl))
       (shown_done terms old.marks.map.entries new.marks.map.entries events uri version text number
@@ -185,9 +189,8 @@ module _ (old new : Replay) (notes : List Noted) (number : ℕ) (walks : Walks o
 -- what was noted before is all that matters
 pub noted_after : (number : ℕ) (given : lent.Heard) (mid old new : Replay) → mid.notes ≡ old.notes
     → mid.marks ≡ old.marks → mid.openings ≡ old.openings → mid.said ≡ old.said
-    → NotesKept number given mid new
-    → NotesKept number given old new
-noted_after number (kept.Message side spoken) mid old new notes marks openings said noted =
+    → mid.sides ≡ old.sides → NotesKept number given mid new → NotesKept number given old new
+noted_after number (kept.Message side spoken) mid old new notes marks openings said sides noted =
     let act : Act = act_view spoken.act in (
       λ enc kind. subst (λ (w : Notes).
           AreAfter None (call_of enc kind act) w.map.entries new.notes.map.entries) notes
@@ -200,14 +203,16 @@ noted_after number (kept.Message side spoken) mid old new notes marks openings s
       λ sents stands. subst (λ (w : SessionNotes).
           SaysOn number side (message_view spoken.message) (phase sents) w new.said) said
           (noted.3 sents stands),
+      noted.4 ∙ ap (sides_read side) sides,
     )
 noted_after number (kept.Snapshot version uri text answer) mid old new notes marks openings said
-    noted = (
+    sides noted = (
       noted.0 ∙ notes,
       subst (λ (w : Marks).
           ShownBy number uri.now version answer w.map.entries new.marks.map.entries) marks noted.1,
       noted.2 ∙ openings,
       noted.3 ∙ said,
+      noted.4 ∙ sides,
     )
 
 -- the next event was heard, kept and noted
@@ -238,8 +243,10 @@ pub still_walks : (old new : Replay) (notes : List Noted) → Walks old notes
     → new.events.docs.terms ≡ old.events.docs.terms
     → Holds new.events.session new.events.docs (kept_of old.events.docs.terms (events_of notes))
     → new.events.counts ≡ old.events.counts → new.notes ≡ old.notes → new.broken ≡ old.broken
-    → new.marks ≡ old.marks → new.openings ≡ old.openings → new.said ≡ old.said → Walks new notes
-still_walks old new notes walks terms_are holds counts notes_are is_broken marks openings said =
+    → new.marks ≡ old.marks → new.openings ≡ old.openings → new.said ≡ old.said
+    → new.sides ≡ old.sides → Walks new notes
+still_walks old new notes walks terms_are holds counts notes_are is_broken marks openings said
+    sides =
     let terms : Terms = old.events.docs.terms in
     let events : List Event = events_of notes in
     subst (λ (t : Terms). WalksBy t new notes) (sym terms_are) (record {
@@ -250,18 +257,21 @@ still_walks old new notes walks terms_are holds counts notes_are is_broken marks
       marked = subst (λ (m : Marks). AreMarks terms m.map.entries events) (sym marks) walks.marked;
       opened = subst (λ (o : Openings). AreOpenings terms o events) (sym openings) walks.opened;
       said = subst (λ (m : SessionNotes). AreNotes terms m events) (sym said) walks.said;
+      sided = sides ∙ walks.sided;
     })
 
 module _ (old new : Replay) (notes : List Noted) (given : Judged) (walks : Walks old notes) where
   -- a fault of the frames
   pub frames_refused : (side : Side) (code rule : ℕ)
       → IsRefused (broken side code) old.events.docs.terms notes (refused.Rule rule)
-      → PassesOver old new (who_of side) rule false (λ enc kind. None) (λ o. o ≡ what.Frames side)
-      given → Hears (broken side code) old.events.docs.terms new notes given
+      → PassesOver old new (who_of side) rule false (λ enc kind. None) (λ e. e ≡ fault side rule)
+      (λ o. o ≡ what.Frames side) given
+      → Hears (broken side code) old.events.docs.terms new notes given
   frames_refused side code rule is passes =
       let n : Noted = record { event = fault side code; asks = false } in
       passed_over (broken side code) old new notes n (who_of side) rule (λ enc kind. None) Utf16
-      Nothing (λ o. o ≡ what.Frames side) given walks (refl, refl) refl (ap rule_of (sym is)) refl
+      Nothing (λ e. e ≡ fault side rule) (λ o. o ≡ what.Frames side) given walks (refl, refl)
+      (ap (fault side) (same_Some code rule (ap rule_of (sym is)))) refl (ap rule_of (sym is)) refl
       (λ o e. subst (IsOffending (broken side code) old.events.docs.terms
       (kept_of old.events.docs.terms (events_of notes)) rule) (sym e) refl) passes
 
@@ -269,12 +279,14 @@ module _ (old new : Replay) (notes : List Noted) (given : Judged) (walks : Walks
   pub content_refused : (side : Side) (bytes : List ℕ) (rule : ℕ) (asks : Bool)
       → IsRefused (content side bytes) old.events.docs.terms notes (refused.Rule rule)
       → Asks (content side bytes) asks
-      → PassesOver old new (who_of side) rule asks (λ e k. None) (IsUnread side bytes) given
+      → PassesOver old new (who_of side) rule asks (λ e k. None) (λ e. e ≡ fault side rule)
+      (IsUnread side bytes) given
       → Hears (content side bytes) old.events.docs.terms new notes given
   content_refused side bytes rule asks reads asked passes =
       let n : Noted = record { event = fault side rule; asks = asks } in
       passed_over (content side bytes) old new notes n (who_of side) rule (λ e k. None) Utf16
-      Nothing (IsUnread side bytes) given walks (reads, asked) refl refl refl is_such passes
+      Nothing (λ e. e ≡ fault side rule) (IsUnread side bytes) given walks (reads, asked) refl refl
+      refl refl is_such passes
     where
       is_such : (o : OffendingEvent) → IsUnread side bytes o
           → IsOffending (content side bytes) old.events.docs.terms
@@ -288,8 +300,8 @@ module _ (old new : Replay) (notes : List Noted) (given : Judged) (walks : Walks
   pub message_refused : (raw : Raw) (side : Side) (rule : ℕ) (spoken : Spoken)
       → IsRefused raw old.events.docs.terms notes (refused.Message side rule spoken)
       → PassesOver old new (who_of side) rule (asks_of side (message_view spoken.message))
-      (λ e k. call_of e k (act_view spoken.act)) (λ o. o ≡ what.Message side spoken) given
-      → Hears raw old.events.docs.terms new notes given
+      (λ e k. call_of e k (act_view spoken.act)) (IsMessageOf side)
+      (λ o. o ≡ what.Message side spoken) given → Hears raw old.events.docs.terms new notes given
   message_refused (content side bytes) by rule spoken (same, refuses) passes =
       let terms : Terms = old.events.docs.terms in
       let kept : List Event = kept_of terms (events_of notes) in
@@ -301,8 +313,10 @@ module _ (old new : Replay) (notes : List Noted) (given : Judged) (walks : Walks
       let asked = subst (λ (s : Side). Asks (content side bytes) (asks_of s said)) (sym same)
       (asks_said side bytes sent said refuses.reads refuses.says) in
       passed_over (content side bytes) old new notes n (who_of by) rule
-      (λ e k. call_of e k (act_view spoken.act)) enc kind (λ o. o ≡ what.Message by spoken) given
-      walks (refuses.reads, asked) (ap who_of (refuses.reads.by ∙ sym same)) refuses.offends
+      (λ e k. call_of e k (act_view spoken.act)) enc kind (IsMessageOf by)
+      (λ o. o ≡ what.Message by spoken) given walks (refuses.reads, asked)
+      (sent, refl, refuses.reads.by ∙ sym same) (ap who_of (refuses.reads.by ∙ sym same))
+      refuses.offends
       (ap (call_of enc kind) refuses.means)
       (λ o e. subst (IsOffending (content side bytes) terms kept rule) (sym e) (same, refuses))
       passes
@@ -313,10 +327,12 @@ module _ (old new : Replay) (notes : List Noted) (given : Judged) (walks : Walks
   pub snapshot_refused : (number : ℤ) (uri text : List ℕ) (rule : ℕ)
       → IsRefused (show number uri text) old.events.docs.terms notes (refused.Rule rule)
       → PassesOver old new who.Snapshot rule false
-      (λ e k. Some (shows uri number (chars text))) (IsShown number uri text) given
+      (λ e k. Some (shows uri number (chars text))) (λ e. e ≡ snapshot uri number (chars text))
+      (IsShown number uri text) given
       → Hears (show number uri text) old.events.docs.terms new notes given
   snapshot_refused number uri text rule offends passes =
       let n : Noted = record { event = snapshot uri number (chars text); asks = false } in
       passed_over (show number uri text) old new notes n who.Snapshot rule
-      (λ e k. Some (shows uri number (chars text))) Utf16 Nothing (IsShown number uri text) given
-      walks (refl, refl) refl offends refl (λ o is. is) passes
+      (λ e k. Some (shows uri number (chars text))) Utf16 Nothing
+      (λ e. e ≡ snapshot uri number (chars text)) (IsShown number uri text) given walks (refl, refl)
+      refl refl offends refl (λ o is. is) passes

@@ -8,6 +8,7 @@ pub mod MarksWorked
 pub mod OpeningSteps
 pub mod SessionSteps
 pub mod Waiting
+pub mod SidesSteps
 pub mod Passing
 pub mod Hearing
 pub mod FrameRules

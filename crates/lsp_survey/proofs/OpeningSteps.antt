@@ -1,6 +1,9 @@
 -- The openings and closings that are held, with one event more.
-use Rattle.std.specs.Prelude.{option_and_then, unwrap_or, ℤ}
-use Rattle.std.specs.List.{cons_option}
+use Rattle.std.specs.Prelude.{option_and_then, option_map, reverse, unwrap_or, ℤ}
+use Rattle.std.specs.List.{cons_option, find}
+use Rattle.std.specs.Option.{option_or}
+use Rattle.std.proofs.lemmas.List.{map-append, reverse-append}
+use Rattle.std.proofs.lemmas.List.Folds.{find-append}
 use Rattle.std.proofs.Common.{◌≡◌, ℕ, List, [], ◌∷◌, ◌++◌, Option, Some, None, refl, sym, ap, ◌∙◌}
 use Rattle.std.proofs.Common.{append-nil, subst}
 use Rattle.lsp_docs.specs.Calls.{Call, shows}
@@ -19,7 +22,8 @@ use Rattle.lsp_verdict.proofs.LookBackLemmas.{each_of-snoc}
 use Rattle.lsp_survey.specs.LastOnes.{last_ones}
 use Rattle.lsp_survey.specs.Marking.{number_next}
 use Rattle.lsp_survey.specs.Openings.{AreOpenings, Holds, OnDocument, OpensBy, closed_by, ons_view}
-use Rattle.lsp_survey.specs.Openings.{most_closings, most_openings, opened_by, taken_at, taken_by}
+use Rattle.lsp_survey.specs.Openings.{is_on, last_on, most_closings, most_openings, on_view}
+use Rattle.lsp_survey.specs.Openings.{opened_by, taken_at, taken_by}
 use Rattle.lsp_survey.specs.declared.notes.openings.DocumentEvent.{DocumentEvent}
 use Rattle.lsp_survey.specs.declared.notes.openings.Openings.{Openings}
 
@@ -135,3 +139,27 @@ shown_opened terms o before uri v text are kept =
         kept_takes takes terms before (snapshot uri v text) (Some (shows uri v text))
         (number_next before) kept refl refl
         ∙ none
+
+-- ---- two parts of what is held
+
+found-or : {A B : Type 0} (f : A → B) (x y : Option A)
+    → option_or (option_map f x) (option_map f y) ≡ option_map f (option_or x y)
+found-or f (Some a) y = refl
+found-or f None y = refl
+
+-- the last one in the second part, or else in the first
+pub last_on-append : (uri : List ℕ) (first second : List DocumentEvent)
+    → option_or (last_on uri (ons_view second)) (last_on uri (ons_view first))
+    ≡ last_on uri (ons_view (first ++ second))
+last_on-append uri first second =
+    found-or event_of (find (is_on uri) (reverse (ons_view second)))
+    (find (is_on uri) (reverse (ons_view first)))
+    ∙ ap (option_map event_of) (sym (find-append (is_on uri) (reverse (ons_view second))
+    (reverse (ons_view first))))
+    ∙ ap (λ (l : List OnDocument). option_map event_of (find (is_on uri) l))
+    (sym (reverse-append (ons_view first) (ons_view second)))
+    ∙ ap (λ (l : List OnDocument). option_map event_of (find (is_on uri) (reverse l)))
+    (sym (map-append on_view first second))
+  where
+    event_of : OnDocument → ℕ
+    event_of on = on.event

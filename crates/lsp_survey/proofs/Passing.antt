@@ -10,6 +10,7 @@ use Rattle.lsp_session.specs.State as session
 use Rattle.lsp_survey.specs.Notes.{note_of, note_after, AreAfter, is_noted_lost}
 use Rattle.lsp_survey.specs.Marks.{AreMarks}
 use Rattle.lsp_survey.specs.Openings.{AreOpenings}
+use Rattle.lsp_survey.specs.Sides.{sides_after, sides_of}
 use Rattle.lsp_survey.specs.SessionNoting.{AreNotes}
 use Rattle.lsp_survey.specs.Walking.{WalksBy, Walks, offence_of, PassesOver}
 use Rattle.lsp_survey.specs.Walking.{IsOffending, Offends, IsHeard, Hears}
@@ -28,13 +29,15 @@ use Rattle.lsp_verdict.specs.Event.{Event}
 use Rattle.lsp_verdict.specs.Given.{given_offence}
 use Rattle.lsp_verdict.specs.LookBack.{first_of}
 use Rattle.lsp_verdict.specs.Offences.{Noted, IsNoted, breaks_handshake, broken_by, events_of}
-use Rattle.lsp_verdict.specs.Offences.{is_on_lost, kept_of, rule_at, said_at}
+use Rattle.lsp_verdict.specs.Offences.{follows_bytes, is_on_lost, kept_of, may_answer, rule_at}
+use Rattle.lsp_verdict.specs.Offences.{said_at}
 use Rattle.lsp_verdict.specs.Placed.{Raw}
 use Rattle.lsp_verdict.specs.Verdict.{whose}
 use Rattle.lsp_verdict.specs.declared.verdict.Who.{Who}
 use Rattle.lsp_survey.proofs.MarkSteps.{refused_leaves}
 use Rattle.lsp_survey.proofs.OpeningSteps.{refused_opens}
 use Rattle.lsp_survey.proofs.SessionSteps.{refused_unsaid}
+use Rattle.lsp_survey.proofs.SidesSteps.{sides_pushed}
 use Rattle.lsp_verdict.proofs.Offences.Steps.{broken-push, events_of-push, is_lost-push, kept-push}
 use Rattle.lsp_verdict.proofs.Offences.Steps.{kept-refused}
 
@@ -47,15 +50,16 @@ note_pushed terms uri events e =
     ap (λ (b : Bool). let n : Note = record { lost = b } in n) (is_lost-push terms uri events e)
 
 -- an event that offends by this rule, or is kept, breaks the handshake
-abbrev breaks_by : Option ℕ → Bool → Bool
-breaks_by None asks = false
-breaks_by (Some rule) asks = breaks_handshake asks rule
+abbrev breaks_by : Option ℕ → Bool → Bool → Bool
+breaks_by None asks answers = false
+breaks_by (Some rule) asks answers = breaks_handshake asks rule || answers
 
-breaks_at : (o : Option ℕ) (asks : Bool)
-    → is_some (option_and_then (λ rule. if breaks_handshake asks rule then Some rule else None) o)
-    ≡ breaks_by o asks
-breaks_at None asks = refl
-breaks_at (Some rule) asks = by_test (breaks_handshake asks rule)
+breaks_at : (o : Option ℕ) (asks answers : Bool)
+    → is_some (option_and_then (λ rule.
+    if breaks_handshake asks rule || answers then Some rule else None) o)
+    ≡ breaks_by o asks answers
+breaks_at None asks answers = refl
+breaks_at (Some rule) asks answers = by_test (breaks_handshake asks rule || answers)
   where
     by_test : (b : Bool) → is_some (if b then Some rule else None) ≡ b
     by_test true = refl
@@ -64,11 +68,13 @@ breaks_at (Some rule) asks = by_test (breaks_handshake asks rule)
 broken_pushed : (terms : Terms) (notes : List Noted) (n : Noted)
     → is_some (first_of (broken_by terms) (notes ++ n ∷ []))
     ≡ (is_some (first_of (broken_by terms) notes) || breaks_by
-    (rule_at terms (events_of notes) n.event) n.asks)
+    (rule_at terms (events_of notes) n.event) n.asks
+    (may_answer (kept_of terms (events_of notes)) n.event))
 broken_pushed terms notes n =
     broken-push terms notes n
     ∙ ap (λ (b : Bool). is_some (first_of (broken_by terms) notes) || b)
-    (breaks_at (rule_at terms (events_of notes) n.event) n.asks)
+    (breaks_at (rule_at terms (events_of notes) n.event) n.asks
+    (may_answer (kept_of terms (events_of notes)) n.event))
 
 -- what is noted lost is lost
 pub noted_lost : (terms : Terms) (w : Replay) (notes : List Noted) (said : Option Call)
@@ -88,7 +94,9 @@ record Steps (terms : Terms) (old new : Replay) (notes : List Noted) (n : Noted)
   pub terms_are : new.events.docs.terms ≡ terms
   pub holds : Holds new.events.session new.events.docs (kept_of terms (events_of (notes ++ n ∷ [])))
   pub counted : AreCounts new.events.counts (events_of notes ++ n.event ∷ [])
-  pub is_broken : new.broken ≡ (old.broken || breaks_by rule n.asks)
+  pub is_broken : new.broken ≡ (old.broken || breaks_by rule n.asks
+      (may_answer (kept_of terms (events_of notes)) n.event))
+  pub sides : new.sides ≡ sides_after n.event old.sides
   pub noted : AreAfter rule said old.notes.map.entries new.notes.map.entries
   pub marked : AreMarks terms new.marks.map.entries (events_of notes ++ n.event ∷ [])
   pub opened : AreOpenings terms new.openings (events_of notes ++ n.event ∷ [])
@@ -112,10 +120,16 @@ walks_on terms old new notes n rule said walks s =
           ∙ ap (note_of terms uri) (sym (events_of-push notes n));
       is_broken =
           s.is_broken
-          ∙ ap (λ (b : Bool). b || breaks_by rule n.asks) walks.is_broken
-          ∙ ap (λ (o : Option ℕ).
-          is_some (first_of (broken_by terms) notes) || breaks_by o n.asks) (sym s.rule_is)
+          ∙ ap (λ (b : Bool). b || breaks_by rule n.asks
+          (may_answer (kept_of terms (events_of notes)) n.event)) walks.is_broken
+          ∙ ap (λ (o : Option ℕ). is_some (first_of (broken_by terms) notes) || breaks_by o n.asks
+          (may_answer (kept_of terms (events_of notes)) n.event)) (sym s.rule_is)
           ∙ sym (broken_pushed terms notes n);
+      sided =
+          s.sides
+          ∙ ap (sides_after n.event) walks.sided
+          ∙ sym (sides_pushed (events_of notes) n.event)
+          ∙ ap sides_of (sym (events_of-push notes n));
       marked = subst (AreMarks terms new.marks.map.entries) (sym (events_of-push notes n)) s.marked;
       opened = subst (AreOpenings terms new.openings) (sym (events_of-push notes n)) s.opened;
       said = subst (AreNotes terms new.said) (sym (events_of-push notes n)) s.told;
@@ -135,26 +149,29 @@ kept_holds terms notes n rule m d is holds =
 -- it was passed over
 pub passed_over : (raw : Raw) (old new : Replay) (notes : List Noted) (n : Noted) (by : Who)
     (rule : ℕ) (says : Encoding → SyncKind → Option Call) (enc : Encoding) (kind : SyncKind)
-    (IsSuch : OffendingEvent → Type 0) (given : Judged) → Walks old notes → IsNoted raw n
+    (IsEvent : Event → Type 0) (IsSuch : OffendingEvent → Type 0) (given : Judged) → Walks old notes
+    → IsNoted raw n → IsEvent n.event
     → whose n.event ≡ by → rule_at old.events.docs.terms (events_of notes) n.event ≡ Some rule
     → said_at old.events.docs.terms (events_of notes) n.event ≡ says enc kind
     → ((what : OffendingEvent) → IsSuch what → IsOffending raw old.events.docs.terms
     (kept_of old.events.docs.terms (events_of notes)) rule what)
-    → PassesOver old new by rule n.asks says IsSuch given
+    → PassesOver old new by rule n.asks says IsEvent IsSuch given
     → Hears raw old.events.docs.terms new notes given
-passed_over raw old new notes n by rule says enc kind IsSuch given walks is_noted whose_is rule_is
-    said_is such p =
+passed_over raw old new notes n by rule says enc kind IsEvent IsSuch given walks is_noted is_event
+    whose_is rule_is said_is such p =
     let terms : Terms = old.events.docs.terms in
+    let late : Bool = follows_bytes rule (events_of notes) n.event in
     let found : Offends raw terms notes n p.found = record {
       rule = rule;
       offends = rule_is;
-      is = p.offence enc kind notes walks
-          ∙ ap (λ (b : Bool). given_offence (offence_of terms notes by rule b))
+      is = p.offence enc kind notes n.event is_event walks
+          ∙ ap (λ (b : Bool). given_offence (offence_of terms notes by rule b late))
           (noted_lost terms old notes (says enc kind) walks)
           ∙ ap (λ (o : Option Call). given_offence
-          (offence_of terms notes by rule (is_on_lost terms (events_of notes) o))) (sym said_is)
+          (offence_of terms notes by rule (is_on_lost terms (events_of notes) o) late))
+          (sym said_is)
           ∙ ap (λ (w : Who). given_offence (offence_of terms notes w rule
-          (is_on_lost terms (events_of notes) (said_at terms (events_of notes) n.event))))
+          (is_on_lost terms (events_of notes) (said_at terms (events_of notes) n.event)) late))
           (sym whose_is);
       is_such = such p.found.offending p.is_such;
     } in
@@ -172,7 +189,8 @@ passed_over raw old new notes n by rule says enc kind IsSuch given walks is_note
             (kept_of terms (events_of (notes ++ n ∷ [])))) (sym p.counted.documents)
             (kept_holds terms notes n rule old.events.session old.events.docs rule_is walks.holds));
         counted = p.counted.counts (events_of notes) n.event walks.counted whose_is;
-        is_broken = p.counted.is_broken;
+        is_broken = p.is_broken n.event (kept_of terms (events_of notes)) is_event walks.holds;
+        sides = p.sides n.event is_event;
         noted = p.noted enc kind;
         marked = refused_leaves terms new.marks.map.entries (events_of notes) n.event rule
             (subst (λ (m : Marks). AreMarks terms m.map.entries (events_of notes)) (sym p.marks)
@@ -210,13 +228,14 @@ pub kept_on : (raw : Raw) (old new : Replay) (notes : List Noted) (n : Noted) (s
     → Holds new.events.session new.events.docs
     (kept_of old.events.docs.terms (events_of notes) ++ n.event ∷ [])
     → AreCounts new.events.counts (events_of notes ++ n.event ∷ []) → new.broken ≡ old.broken
+    → new.sides ≡ sides_after n.event old.sides
     → AreAfter None said old.notes.map.entries new.notes.map.entries
     → AreMarks old.events.docs.terms new.marks.map.entries (events_of notes ++ n.event ∷ [])
     → AreOpenings old.events.docs.terms new.openings (events_of notes ++ n.event ∷ [])
     → AreNotes old.events.docs.terms new.said (events_of notes ++ n.event ∷ [])
     → Hears raw old.events.docs.terms new notes heard.Kept
 kept_on raw old new notes n said walks is_noted rule_is said_is terms_are holds counted is_broken
-    noted marked opened told =
+    sides noted marked opened told =
     let terms : Terms = old.events.docs.terms in
     record {
       n = n;
@@ -229,6 +248,7 @@ kept_on raw old new notes n said walks is_noted rule_is said_is terms_are holds 
         holds = more_holds terms notes n new.events.session new.events.docs rule_is holds;
         counted = counted;
         is_broken = is_broken ∙ or_false old.broken;
+        sides = sides;
         noted = noted;
         marked = marked;
         opened = opened;

@@ -19,7 +19,7 @@ use Rattle.lsp_verdict.proofs.LookBackLemmas.{each_of-snoc, cons_append}
 use Rattle.lsp_verdict.proofs.Offences.Offending.{kept_are_others}
 use Rattle.lsp_verdict.proofs.Offences.Steps.{last_behind}
 use Rattle.lsp_survey.specs.Asking.{Numbered, Reply, numbered_as, numbered_by, numbered_at}
-use Rattle.lsp_survey.specs.Asking.{numbered, sents, asks, asks_by, replied, reply_by, replies}
+use Rattle.lsp_survey.specs.Asking.{numbered, sents, asks, asks_by, reply_by, reply_of, replies}
 use Rattle.lsp_survey.specs.Asking.{most_replies, leads, leads_by}
 use Rattle.lsp_survey.specs.LastOnes.{last_ones}
 use Rattle.lsp_survey.specs.Marking.{number_next}
@@ -110,9 +110,9 @@ module _ (side : Side) (n : ℕ) (m : Sent) (said : Message) (same : outline m.m
       replies_are =
           more.replies (replies side before) is.replies_are
           ∙ ap (λ (o : Option Ident). last_ones most_replies
-          (replies side before ++ option_to_list (option_map (replied n) o))) same_answered
+          (replies side before ++ option_to_list (reply_of n o))) same_answered
           ∙ ap (λ (l : List Reply). last_ones most_replies (replies side before ++ l))
-          (as_list (option_map (replied n) (answered_from side m.side m.message)))
+          (as_list (reply_of n (answered_from side m.side m.message)))
           ∙ ap (last_ones most_replies)
           (sym (filter_map-snoc (reply_by side) before (numbered_as n m)));
     }

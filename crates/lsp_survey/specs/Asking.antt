@@ -1,9 +1,9 @@
 -- By which events requests were asked and answered, and which event led to the phase of a session.
-use Rattle.std.specs.Prelude.{ℕ, List, [], ◌∷◌, ◌++◌, map, Bool, ◌==◌}
+use Rattle.std.specs.Prelude.{ℕ, List, [], ◌∷◌, ◌++◌, length, map, Bool, true, ◌==◌, nat_le}
 use Rattle.std.specs.Prelude.{if◌then◌else◌, Option, Some, None, option_map}
 use Rattle.std.specs.List.{filter_map}
 use Rattle.lsp_docs.specs.Terms.{Terms}
-use Rattle.lsp_rpc.specs.Ident.{Ident, same_id}
+use Rattle.lsp_rpc.specs.Ident.{Ident, number, text, same_id}
 use Rattle.lsp_rpc.specs.Message.{Message}
 use Rattle.lsp_session.specs.Handshake.{phase}
 use Rattle.lsp_session.specs.Requests.{names}
@@ -75,10 +75,19 @@ pub record Reply : Type 0 where
 abbrev pub replied : ℕ → Ident → Reply
 replied n id = record { id = id; number = n }
 
-abbrev pub reply_by : Side → Numbered → Option Reply
-reply_by side m = option_map (replied m.number) (answered_from side m.sent.side m.sent.message)
+-- a longer id is not looked for
+abbrev pub is_short : Ident → Bool
+is_short (number n) = true
+is_short (text bytes) = nat_le (length bytes) 128
 
--- the answers to this side's requests
+abbrev pub reply_of : ℕ → Option Ident → Option Reply
+reply_of n None = None
+reply_of n (Some id) = if is_short id then Some (replied n id) else None
+
+abbrev pub reply_by : Side → Numbered → Option Reply
+reply_by side m = reply_of m.number (answered_from side m.sent.side m.sent.message)
+
+-- the answers to this side's requests of a short id
 abbrev pub replies : Side → List Numbered → List Reply
 replies side said = filter_map (reply_by side) said
 
@@ -94,7 +103,7 @@ abbrev pub last_reply : Ident → List Reply → Option ℕ
 last_reply id given = last_or None (filter_map (reply_to id) given)
 
 -- **the event that answered this side's request with this id last**, where it is one of the last
--- answers
+-- answers and the id is short
 abbrev pub answered : Side → Ident → List Numbered → Option ℕ
 answered side id said = last_reply id (last_ones most_replies (replies side said))
 

@@ -6,6 +6,7 @@ pub mod Marking
 pub mod Marks
 pub mod Openings
 pub mod SessionNoting
+pub mod Sides
 pub mod Walking
 pub mod Ending
 pub mod Reads

@@ -36,7 +36,8 @@ use Rattle.lsp_verdict.specs.Offences.{offences, rule_at}
 use Rattle.lsp_verdict.specs.Outcome.{HasRest, log_terms}
 use Rattle.lsp_verdict.specs.Placed.{Raw, content, broken, show, joined}
 use Rattle.lsp_verdict.specs.RunIo.{OfRead, failures_after}
-use Rattle.lsp_verdict.specs.Survey.{IsSurvey, is_frame_fault}
+use Rattle.lsp_verdict.specs.Offences.{is_frame_fault}
+use Rattle.lsp_verdict.specs.Survey.{IsSurvey}
 use Rattle.lsp_verdict.specs.Verdict.{Summary, Verdict, summary, yes}
 use Rattle.lsp_verdict.specs.declared.completeness.Completeness.{Completeness}
 use Rattle.lsp_verdict.specs.declared.offence.Offence as code

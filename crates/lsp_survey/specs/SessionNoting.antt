@@ -12,8 +12,8 @@ use Rattle.lsp_session.specs.declared.phase.Phase.{Phase}
 use Rattle.lsp_types.specs.declared.side.Side.{Side}
 use Rattle.lsp_types.specs.declared.side.Side.TheVariants.{Editor, Server}
 use Rattle.lsp_verdict.specs.Event.{Event}
-use Rattle.lsp_survey.specs.Asking.{Numbered, Reply, asks, asked, replies, replied, most_replies}
-use Rattle.lsp_survey.specs.Asking.{leads, numbered, sents, since}
+use Rattle.lsp_survey.specs.Asking.{Numbered, Reply, asks, asked, replies, replied, reply_of}
+use Rattle.lsp_survey.specs.Asking.{most_replies, leads, numbered, sents, since}
 use Rattle.lsp_survey.specs.LastOnes.{last_ones}
 use Rattle.lsp_survey.specs.declared.notes.exchange.Exchange.{Exchange}
 use Rattle.lsp_survey.specs.declared.notes.exchange.Given.{Given}
@@ -38,7 +38,7 @@ pub record Exchanges (side : Side) (n : ℕ) (sender : Side) (m : Message) (old 
       ≡ unwrap_or (asks side (id_view k) n sender m) (asked_in old.asked.entries (id_view k))
   pub replies : (given : List Reply) → replies_in old ≡ last_ones most_replies given
       → replies_in new ≡ last_ones most_replies
-      (given ++ option_to_list (option_map (replied n) (answered_from side sender m)))
+      (given ++ option_to_list (reply_of n (answered_from side sender m)))
 
 -- what is noted of the side's requests is what these messages left of it
 pub record IsExchange (side : Side) (e : Exchange) (said : List Numbered) : Type 0 where

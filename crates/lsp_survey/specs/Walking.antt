@@ -18,6 +18,7 @@ use Rattle.lsp_survey.specs.Marks.{AreMarks, DoneBy, ShownBy}
 use Rattle.lsp_survey.specs.Openings.{AreOpenings, OpensBy}
 use Rattle.lsp_survey.specs.SessionNoting.{AreNotes, SaysOn}
 use Rattle.lsp_survey.specs.Notes.{note_in, note_of, AreAfter, is_noted_lost}
+use Rattle.lsp_survey.specs.Sides.{sides_after, sides_of, sides_read}
 use Rattle.lsp_survey.specs.declared.offending.FoundOffence.{FoundOffence}
 use Rattle.lsp_survey.specs.declared.offending.Judged.{Judged}
 use Rattle.lsp_survey.specs.declared.offending.Judged.TheVariants as heard
@@ -30,11 +31,12 @@ use Rattle.lsp_types.specs.declared.side.Side.{Side}
 use Rattle.lsp_verdict.specs.Calls.{call_of}
 use Rattle.lsp_verdict.specs.Counting.{AreCounts}
 use Rattle.lsp_verdict.specs.Contents.{ReadsAs}
-use Rattle.lsp_verdict.specs.Event.{Event, fault}
+use Rattle.lsp_verdict.specs.Event.{Event, fault, message}
 use Rattle.lsp_verdict.specs.Given.{given_offence, offence_view}
 use Rattle.lsp_verdict.specs.LookBack.{first_of}
 use Rattle.lsp_verdict.specs.Offences.{Noted, Offence, IsNoted, breaks_handshake, broken_by}
-use Rattle.lsp_verdict.specs.Offences.{events_of, is_handshake_lost, kept_of, offence_by, rule_at}
+use Rattle.lsp_verdict.specs.Offences.{events_of, follows_bytes, is_handshake_lost, kept_of}
+use Rattle.lsp_verdict.specs.Offences.{may_answer, offence_by, rule_at}
 use Rattle.lsp_verdict.specs.Offences.{wants_handshake, wants_text}
 use Rattle.lsp_verdict.specs.Placed.{Raw, content, broken, show}
 use Rattle.lsp_verdict.specs.Verdict.{no_next, whose}
@@ -51,6 +53,7 @@ pub record WalksBy (terms : Terms) (w : Replay) (notes : List Noted) : Type 0 wh
   pub marked : AreMarks terms w.marks.map.entries (events_of notes)
   pub opened : AreOpenings terms w.openings (events_of notes)
   pub said : AreNotes terms w.said (events_of notes)
+  pub sided : w.sides ≡ sides_of (events_of notes)
 
 -- **a walk has heard these events**, and skipped each that offends after the kept ones before
 -- it
@@ -74,6 +77,7 @@ NotesMessage number side said act old new =
     → OpensBy number (call_of enc kind act) old.openings new.openings)
     × ((sents : List Sent) → Stands new.events.session sents
     → SaysOn number side said (phase sents) old.said new.said)
+    × (new.sides ≡ sides_read side old.sides)
 
 -- a snapshot that is kept, the event of this number, was noted as it was answered
 abbrev pub NotesSnapshot : ℕ → List ℕ → ℤ → Match → Replay → Replay → Type 0
@@ -82,6 +86,7 @@ NotesSnapshot number uri version answer old new =
     × ShownBy number uri version answer old.marks.map.entries new.marks.map.entries
     × (new.openings ≡ old.openings)
     × (new.said ≡ old.said)
+    × (new.sides ≡ old.sides)
 
 -- the event that is kept, of this number, was noted
 abbrev pub NotesKept : ℕ → events.Heard → Replay → Replay → Type 0
@@ -90,22 +95,25 @@ NotesKept number (kept.Message side spoken) old new =
 NotesKept number (kept.Snapshot version uri text answer) old new =
     NotesSnapshot number uri.now version answer old new
 
--- one more event of theirs was counted, which offends by this rule; the result of the kept events
--- is as it was
-pub record Counted (old new : Replay) (by : Who) (rule : ℕ) (asks : Bool) : Type 0 where
+-- one more event of theirs was counted; the result of the kept events is as it was
+pub record Counted (old new : Replay) (by : Who) : Type 0 where
   pub session : new.events.session ≡ old.events.session
   pub documents : new.events.docs ≡ old.events.docs
   pub counts : (events : List Event) (event : Event) → AreCounts old.events.counts events
       → whose event ≡ by → AreCounts new.events.counts (events ++ event ∷ [])
-  pub is_broken : new.broken ≡ (old.broken || breaks_handshake asks rule)
 
 -- the offence by this rule at the event of theirs that comes next, which speaks of a lost document
--- or does not
-abbrev pub offence_of : Terms → List Noted → Who → ℕ → Bool → Offence
-offence_of terms before by rule on_lost = record {
+-- or does not, and follows from bytes that failed or does not
+abbrev pub offence_of : Terms → List Noted → Who → ℕ → Bool → Bool → Offence
+offence_of terms before by rule on_lost late = record {
   no = no_next rule by (events_of before);
-  follows = wants_handshake rule && is_handshake_lost terms before || wants_text rule && on_lost;
+  follows = wants_handshake rule && is_handshake_lost terms before
+      || (wants_text rule && on_lost || late);
 }
+
+-- a message of this side
+abbrev pub IsMessageOf : Side → Event → Type 0
+IsMessageOf side event = (sent : Sent) × (event ≡ message sent) × (sent.side ≡ side)
 
 -- this content of the side does not read as a message that means something
 abbrev pub IsUnread : Side → List ℕ → OffendingEvent → Type 0
@@ -119,24 +127,29 @@ IsShown number uri text (what.Snapshot version name shown) =
 IsShown number uri text other = ⊥
 
 -- an event of theirs that offends by this rule was skipped: it says this about a document, under
--- what was agreed, and is such as was found
+-- what was agreed, is such an event, and such as was found
 pub record PassesOver (old new : Replay) (by : Who) (rule : ℕ) (asks : Bool)
-    (says : Encoding → SyncKind → Option Call) (IsSuch : OffendingEvent → Type 0)
-    (given : Judged) : Type
-    0 where
+    (says : Encoding → SyncKind → Option Call) (IsEvent : Event → Type 0)
+    (IsSuch : OffendingEvent → Type 0) (given : Judged) : Type 0 where
   pub found : FoundOffence
   pub is_given : given ≡ heard.Offence found
   pub is_such : IsSuch found.offending
-  pub counted : Counted old new by rule asks
+  pub counted : Counted old new by
+  pub is_broken : (event : Event) (kept : List Event) → IsEvent event
+      → Holds old.events.session old.events.docs kept
+      → new.broken ≡ (old.broken || (breaks_handshake asks rule || may_answer kept event))
+  pub sides : (event : Event) → IsEvent event → new.sides ≡ sides_after event old.sides
   pub noted : (enc : Encoding) (kind : SyncKind)
       → AreAfter (Some rule) (says enc kind) old.notes.map.entries new.notes.map.entries
   pub marks : new.marks ≡ old.marks
   pub openings : new.openings ≡ old.openings
   pub said : new.said ≡ old.said
-  pub offence : (enc : Encoding) (kind : SyncKind) (notes : List Noted) → Walks old notes
+  pub offence : (enc : Encoding) (kind : SyncKind) (notes : List Noted) (event : Event)
+      → IsEvent event → Walks old notes
       → offence_view found.offence
       ≡ given_offence (offence_of old.events.docs.terms notes by rule
-      (is_noted_lost old.notes.map.entries (says enc kind)))
+      (is_noted_lost old.notes.map.entries (says enc kind))
+      (follows_bytes rule (events_of notes) event))
 
 -- ---- what was heard
 

@@ -2,9 +2,9 @@
 //! event is judged here, and no log is read.
 //!
 //! [`Notes`] says which documents are lost: an offence left the held text another than the
-//! sender's. [`Marks`] says which events left a document as it is, [`Openings`] which opened and
-//! closed documents last, and [`SessionNotes`] by which requests were asked and answered, and which
-//! led to the phase. Of an offence,
+//! sender's. [`Sides`] says how the bytes of the two sides failed. [`Marks`] says which events left
+//! a document as it is, [`Openings`] which opened and closed documents last, and [`SessionNotes`] by
+//! which requests were asked and answered, and which led to the phase. Of an offence,
 //! [`wants_handshake`] and [`wants_text`] say whether it may follow from an earlier one, and
 //! [`breaks_handshake`] whether it leaves the handshake lost.
 
@@ -18,6 +18,7 @@ mod note;
 mod openings;
 mod rules;
 mod session_notes;
+mod sides;
 
 pub use documents::uri_in;
 pub(crate) use documents::{is_on_lost, note_kept_act, note_refused, note_refused_act};
@@ -28,3 +29,4 @@ pub(crate) use note::{Note, Notes};
 pub use openings::{Closing, DocumentEvent, Openings};
 pub(crate) use rules::{breaks_handshake, wants_handshake, wants_text};
 pub use session_notes::SessionNotes;
+pub(crate) use sides::Sides;

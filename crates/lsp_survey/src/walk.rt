@@ -1,28 +1,31 @@
 //! The events of a session, of which those that offend are skipped.
 ghost use Rattle.std.specs.Prelude.{◌≡◌, ◌&&◌, ◌||◌, [], Bool, List, None, Some, false, IfOk, OnOk};
-ghost use Rattle.std.specs.Prelude.{chars};
+ghost use Rattle.std.specs.Prelude.{chars, ℕ};
 ghost use Rattle.lsp_docs.specs.Calls.{shows};
 ghost use Rattle.lsp_docs.specs.Terms.{terms_of};
 ghost use Rattle.lsp_replay.specs.Standing.{Holds};
 ghost use Rattle.lsp_rpc.specs.View.{act_view, message_view};
 ghost use Rattle.lsp_verdict.specs.Calls.{call_of};
 ghost use Rattle.lsp_verdict.specs.Counting.{AreCounts};
-ghost use Rattle.lsp_verdict.specs.Event.{Event};
+ghost use Rattle.lsp_verdict.specs.Event.{Event, fault, snapshot};
 ghost use Rattle.lsp_verdict.specs.Given.{given_offence, offence_view};
-ghost use Rattle.lsp_verdict.specs.Offences.{Asks, Noted, breaks_handshake, is_handshake_lost};
+ghost use Rattle.lsp_verdict.specs.Offences.{Asks, Noted, breaks_handshake, events_of};
+ghost use Rattle.lsp_verdict.specs.Offences.{follows_bytes, is_handshake_lost, may_answer};
 ghost use Rattle.lsp_verdict.specs.Offences.{wants_handshake, wants_text};
 ghost use Rattle.lsp_verdict.specs.Placed as placed;
 ghost use Rattle.lsp_verdict.specs.Verdict as spec;
 ghost use Rattle.lsp_survey.specs.Marking.{number_next};
 ghost use Rattle.lsp_survey.specs.Notes.{asks_of};
+ghost use Rattle.lsp_survey.specs.Sides.{sides_failed};
 ghost use Rattle.lsp_verdict.specs.Lent.{raw_view};
 ghost use Rattle.lsp_survey.specs.Ending.{lack_by};
-ghost use Rattle.lsp_survey.specs.Walking.{Counted, Hears, IsRefused, IsShown, IsUnread};
-ghost use Rattle.lsp_survey.specs.Walking.{NotesKept, NotesMessage, PassesOver, Walks, offence_of};
+ghost use Rattle.lsp_survey.specs.Walking.{Counted, Hears, IsMessageOf, IsRefused, IsShown};
+ghost use Rattle.lsp_survey.specs.Walking.{IsUnread, NotesKept, NotesMessage, PassesOver, Walks};
+ghost use Rattle.lsp_survey.specs.Walking.{offence_of};
 
 use crate::notes::{
-    Marks, Notes, Openings, SessionNotes, asks_again, asks_handshake, breaks_handshake, is_on_lost,
-    note_kept_act, note_refused, note_refused_act, wants_handshake, wants_text,
+    Marks, Notes, Openings, SessionNotes, Sides, asks_again, asks_handshake, breaks_handshake,
+    is_on_lost, note_kept_act, note_refused, note_refused_act, wants_handshake, wants_text,
 };
 use crate::offending::{FoundOffence, Judged, OffendingEvent};
 use lsp_frame::{Format, Limits};
@@ -42,6 +45,8 @@ pub(crate) struct Replay {
     notes: Notes,
     /// Whether an event of the handshake was refused.
     broken: bool,
+    /// How the bytes of the two sides failed.
+    sides: Sides,
     /// Which kept events left the documents as they are.
     pub marks: Marks,
     /// Which documents they opened and closed last.
@@ -60,6 +65,7 @@ impl Replay {
             events: Events::new(alloc, limits, format),
             notes: Notes::new(alloc),
             broken: false,
+            sides: Sides::new(),
             marks: Marks::new(alloc),
             openings: Openings::new(alloc),
             said: SessionNotes::new(alloc),
@@ -128,6 +134,7 @@ impl Replay {
             (act_view spoken.now.act) self.old self.new) }
     {
         let phase = self.events.session.phase();
+        self.sides = self.sides.after_message(side);
         note_kept_act(&mut self.notes, &spoken.act)?;
         self.marks.keep_act(number, &spoken.act)?;
         self.openings.keep_act(number, &spoken.act)?;
@@ -168,9 +175,10 @@ impl Replay {
     fn refuse_frames(&mut self, side: Side, rule: u16) -> Judged
         ensures terms { self.new.events.docs.terms ≡ self.old.events.docs.terms }
         ensures passes { PassesOver self.old self.new (spec.who_of side) rule false
-            (λ enc kind. None) (λ what. what ≡ OffendingEvent.Frames side) result }
+            (λ enc kind. None) (λ event. event ≡ fault side rule)
+            (λ what. what ≡ OffendingEvent.Frames side) result }
     {
-        let offence = self.refuse(rule, who_of(side), false, false);
+        let offence = self.refuse_fault(side, rule, false);
         Judged::Offence(FoundOffence {
             offence,
             offending: OffendingEvent::Frames(side),
@@ -184,11 +192,14 @@ impl Replay {
             (PassesOver self.old self.new (spec.who_of side) rule
             (asks_of side (message_view spoken.message))
             (λ enc kind. call_of enc kind (act_view spoken.act))
-            (λ what. what ≡ OffendingEvent.Message side spoken)) }
+            (IsMessageOf side) (λ what. what ≡ OffendingEvent.Message side spoken)) }
     {
-        let asks = asks_handshake(side, &spoken.message);
+        let breaks = breaks_handshake(asks_handshake(side, &spoken.message), rule);
         let on_lost = is_on_lost(&self.notes, &spoken.act);
-        let offence = self.refuse(rule, who_of(side), asks, on_lost);
+        let late = self.sides.message_follows(side, rule);
+        let follows = self.follows(rule, on_lost, late);
+        let offence = self.refuse(rule, who_of(side), breaks, follows);
+        self.sides = self.sides.after_message(side);
         note_refused_act(&mut self.notes, rule, &spoken.act)?;
         Ok(Judged::Offence(FoundOffence {
             offence,
@@ -208,11 +219,12 @@ impl Replay {
         ensures passes { IfOk result
             (λ heard. (asks : Bool) × Asks (placed.content side content.now) asks
             × PassesOver self.old self.new (spec.who_of side) rule asks
-            (λ enc kind. None) (IsUnread side content.now) heard) }
+            (λ enc kind. None) (λ event. event ≡ fault side rule) (IsUnread side content.now)
+            heard) }
     {
         let asks = asks_again(alloc, side, content)?;
         let content = Vec::from_slice(alloc, content)?;
-        let offence = self.refuse(rule, who_of(side), asks, false);
+        let offence = self.refuse_fault(side, rule, asks);
         Ok(Judged::Offence(FoundOffence {
             offence,
             offending: OffendingEvent::Content { side, content },
@@ -231,10 +243,13 @@ impl Replay {
         ensures terms { self.new.events.docs.terms ≡ self.old.events.docs.terms }
         ensures passes { IfOk result (PassesOver self.old self.new Who.Snapshot rule false
             (λ enc kind. Some (shows uri.now version (chars text.now)))
+            (λ event. event ≡ snapshot uri.now version (chars text.now))
             (IsShown version uri.now text.now)) }
     {
         let on_lost = self.notes.get(uri).lost;
-        let offence = self.refuse(rule, Who::Snapshot, false, on_lost);
+        let follows = self.follows(rule, on_lost, false);
+        let breaks = breaks_handshake(false, rule);
+        let offence = self.refuse(rule, Who::Snapshot, breaks, follows);
         note_refused(&mut self.notes, rule, uri, false)?;
         let uri = String::from_str(alloc, uri)?;
         let text = String::from_str(alloc, text)?;
@@ -244,35 +259,66 @@ impl Replay {
         }))
     }
 
-    /// Counts an event that offends by this rule, and gives its offence.
-    fn refuse(&mut self, rule: u16, by: Who, asks: bool, on_lost: bool) -> Offence
-        ensures counted { Counted self.old self.new by rule asks }
+    /// Counts a frame or a content of a side that breaks this rule, and gives its offence; the
+    /// content may ask for the handshake.
+    fn refuse_fault(&mut self, side: Side, rule: u16, asks: bool) -> Offence
+        ensures counted { Counted self.old self.new (spec.who_of side) }
         ensures notes { self.new.notes ≡ self.old.notes }
         ensures marks { self.new.marks ≡ self.old.marks }
         ensures openings { self.new.openings ≡ self.old.openings }
         ensures said { self.new.said ≡ self.old.said }
+        ensures sides { self.new.sides ≡ sides_failed side rule self.old.sides }
+        ensures broken { (kept : List Event)
+            → Holds self.old.events.session self.old.events.docs kept
+            → self.new.broken ≡ (self.old.broken || (breaks_handshake asks rule
+            || may_answer kept (fault side rule))) }
+        ensures offence { (before : List Noted) → Walks self.old before
+            → offence_view result ≡ given_offence (offence_of self.old.events.docs.terms before
+            (spec.who_of side) rule false
+            (follows_bytes rule (events_of before) (fault side rule))) }
+    {
+        let breaks = self.breaks(side, rule, asks);
+        let late = self.sides.fault_follows(side, rule);
+        let follows = self.follows(rule, false, late);
+        let offence = self.refuse(rule, who_of(side), breaks, follows);
+        self.sides = self.sides.after_fault(side, rule);
+        offence
+    }
+
+    /// Counts an event that offends by this rule, and gives its offence, which follows from an
+    /// earlier one or doesn't; the event breaks the handshake or doesn't.
+    fn refuse(&mut self, rule: u16, by: Who, breaks: bool, follows: bool) -> Offence
+        ensures counted { Counted self.old self.new by }
+        ensures notes { self.new.notes ≡ self.old.notes }
+        ensures marks { self.new.marks ≡ self.old.marks }
+        ensures openings { self.new.openings ≡ self.old.openings }
+        ensures said { self.new.said ≡ self.old.said }
+        ensures sides { self.new.sides ≡ self.old.sides }
+        ensures broken { self.new.broken ≡ (self.old.broken || breaks) }
         ensures offence { (before : List Noted) → Walks self.old before
             → offence_view result ≡ given_offence
-            (offence_of self.old.events.docs.terms before by rule on_lost) }
+            (record { no = spec.no_next rule by (events_of before); follows = follows }) }
     {
-        let follows = self.follows(rule, on_lost);
         let offence = Offence::next(&self.events.counts, rule, by, follows);
-        self.broken = self.is_broken_by(asks, rule);
+        self.broken = self.broken || breaks;
         self.events.counts.add(by);
         offence
     }
 
     /// Whether an offence by this rule follows from an earlier one, where its event speaks of a
-    /// lost document or doesn't.
-    fn follows(&self, rule: u16, on_lost: bool) -> bool
+    /// lost document or doesn't, and follows from bytes that failed or doesn't.
+    fn follows(&self, rule: u16, on_lost: bool, late: bool) -> bool
         ensures { (before : List Noted) → Walks self.now before
             → result ≡ (wants_handshake rule && is_handshake_lost self.now.events.docs.terms before
-            || wants_text rule && on_lost) }
+            || (wants_text rule && on_lost || late)) }
     {
         if wants_handshake(rule) && self.is_handshake_lost() {
             return true;
         }
-        wants_text(rule) && on_lost
+        if wants_text(rule) && on_lost {
+            return true;
+        }
+        late
     }
 
     /// Whether an event of the handshake was refused, and no answer has settled it.
@@ -283,11 +329,25 @@ impl Replay {
         self.broken && !self.events.session.is_done()
     }
 
-    /// Whether an event of the handshake was refused, also with one that offends by this rule.
-    fn is_broken_by(&self, asks: bool, rule: u16) -> bool
-        ensures { result ≡ (self.now.broken || breaks_handshake asks rule) }
+    /// Whether a frame or a content of this side that breaks this rule breaks the handshake; the
+    /// content may ask for it.
+    fn breaks(&self, side: Side, rule: u16, asks: bool) -> bool
+        ensures { (kept : List Event) → Holds self.now.events.session self.now.events.docs kept
+            → result ≡ (breaks_handshake asks rule || may_answer kept (fault side rule)) }
     {
-        self.broken || breaks_handshake(asks, rule)
+        breaks_handshake(asks, rule) || self.may_answer(side)
+    }
+
+    /// Whether what cannot be read of this side may be the answer to an `initialize`.
+    fn may_answer(&self, side: Side) -> bool
+        ensures { (kept : List Event) (rule : ℕ)
+            → Holds self.now.events.session self.now.events.docs kept
+            → result ≡ may_answer kept (fault side rule) }
+    {
+        match side {
+            Side::Editor => false,
+            Side::Server => self.events.session.awaits_initialize(),
+        }
     }
 }
 

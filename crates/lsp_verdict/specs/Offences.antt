@@ -1,18 +1,23 @@
--- All offences of a session: which events are kept, which offend after the kept ones before them, and which offences follow from an earlier one.
-use Rattle.std.specs.Prelude.{◌≡◌, ℕ, List, [], ◌∷◌, ◌++◌, map, Bool, true, false, ◌&&◌, ◌||◌, not, ◌==◌, nat_le, if◌then◌else◌, Option, Some, None, is_some, is_none, option_map, option_and_then, codes}
-use Rattle.std.specs.List.{AllZip, list_any}
+-- All offences of a session: which events are kept, which offend after the kept ones before them,
+-- and which offences follow from an earlier one.
+use Rattle.std.specs.Prelude.{◌≡◌, ℕ, List, [], ◌∷◌, ◌++◌, map, Bool, true, false, ◌&&◌, ◌||◌, not}
+use Rattle.std.specs.Prelude.{◌==◌, nat_le, if◌then◌else◌, Option, Some, None, is_some, is_none}
+use Rattle.std.specs.Prelude.{option_map, option_and_then, codes}
+use Rattle.std.specs.List.{AllZip, filter_map, list_any}
 use Rattle.std.specs.Str.{bytes_eq}
 use Rattle.lsp_frame.specs.Bounds.{Bounds}
 use Rattle.lsp_rpc.specs.Message.{Message, request, notification, response}
 use Rattle.lsp_rpc.specs.Reading as content
+use Rattle.lsp_types.specs.declared.side.Side.{Side}
 use Rattle.lsp_types.specs.declared.side.Side.TheVariants.{Editor, Server}
-use Rattle.lsp_session.specs.Handshake.{is_done}
+use Rattle.lsp_session.specs.Handshake.{is_done, is_empty, open_initializes}
+use Rattle.lsp_session.specs.Sent.{other_side, same_side}
 use Rattle.lsp_text.specs.Edits.{Edit}
 use Rattle.lsp_docs.specs.Calls.{Call, opens, changes, closes, saves, shows, uri_of}
 use Rattle.lsp_docs.specs.Terms.{Terms}
 use Rattle.lsp_log.specs.Log.{Record}
 use Rattle.lsp_verdict.specs.Calls.{call_at}
-use Rattle.lsp_verdict.specs.Event.{Event, sent_in}
+use Rattle.lsp_verdict.specs.Event.{Event, message, fault, snapshot, sent_in}
 use Rattle.lsp_verdict.specs.LookBack.{first_of, each_of}
 use Rattle.lsp_verdict.specs.Placed as placed
 use Rattle.lsp_verdict.specs.Placed.{Raw, broken, show, Placed, Reads}
@@ -98,13 +103,59 @@ abbrev pub breaks_handshake : Bool → ℕ → Bool
 breaks_handshake asks rule = rule == rules.BAD_METHOD_PARAMS && asks
     || is_within rules.BAD_INITIALIZE_RESULT rules.ENCODING_OUTSIDE_PROFILE rule
 
+-- after these kept events, what cannot be read may be the answer to an `initialize`: it is the
+-- server's, and one is open
+abbrev pub may_answer : List Event → Event → Bool
+may_answer kept (fault Server rule) = not (is_empty (open_initializes (sent_in kept)))
+may_answer kept _ = false
+
 abbrev pub broken_by : Terms → List Noted → Noted → Option ℕ
-broken_by terms before n = option_and_then (λ rule. if breaks_handshake n.asks rule then Some rule else None) (rule_at terms (events_of before) n.event)
+broken_by terms before n =
+    option_and_then (λ rule.
+    if breaks_handshake n.asks rule || may_answer (kept_of terms (events_of before)) n.event
+    then Some rule else None) (rule_at terms (events_of before) n.event)
 
 -- **the handshake is lost after these events**: an event of it was refused, and no answer has
 -- settled it
 abbrev pub is_handshake_lost : Terms → List Noted → Bool
 is_handshake_lost terms before = is_some (first_of (broken_by terms) before) && not (is_done (sent_in (kept_of terms (events_of before))))
+
+-- ---- the bytes of a side fail
+
+-- 101 to 106: the frames of this side have a fault, after which its stream is at its end
+abbrev pub is_frame_fault : Side → Event → Bool
+is_frame_fault side (fault by rule) = same_side side by && nat_le rule rules.CHARSET_NOT_UTF_8
+is_frame_fault side (message m) = false
+is_frame_fault side (snapshot uri number text) = false
+
+-- **the frames of this side broke**: nothing is heard of what it sends later
+abbrev pub has_broken : Side → List Event → Bool
+has_broken side events = list_any (is_frame_fault side) events
+
+-- whether an event, if it is one of this side, is a content that is not JSON
+abbrev pub unread_by : Side → Event → Option Bool
+unread_by side (message m) = if same_side side m.side then Some false else None
+unread_by side (fault by rule) =
+    if same_side side by then Some (rule == rules.CONTENT_NOT_JSON) else None
+unread_by side (snapshot uri number text) = None
+
+-- **the last event of this side is a content that is not JSON**, as where its length is wrong
+abbrev pub is_unread : Side → List Event → Bool
+is_unread side events = last_or false (filter_map (unread_by side) events)
+
+-- the rules that a side breaks where what the other sends is not heard: 301, 402, 411, 412
+abbrev pub wants_other : ℕ → Bool
+wants_other rule = rule == rules.RESPONSE_TO_NO_OPEN_REQUEST
+    || (rule == rules.EDITOR_WHILE_INITIALIZE_OPEN
+    || is_within rules.SERVER_BEFORE_INITIALIZE rules.SERVER_WHILE_INITIALIZE_OPEN rule)
+
+-- **an offence of this event, by this rule, follows from bytes that failed before**: the frames of
+-- the other side, or the content in front of a fault of the frames
+abbrev pub follows_bytes : ℕ → List Event → Event → Bool
+follows_bytes rule before (message m) = wants_other rule && has_broken (other_side m.side) before
+follows_bytes rule before (fault side code) =
+    nat_le rule rules.CHARSET_NOT_UTF_8 && is_unread side before
+follows_bytes rule before (snapshot uri number text) = false
 
 -- ---- what follows
 
@@ -127,7 +178,9 @@ is_on_lost terms before (Some call) = is_lost terms (uri_of call) before
 abbrev pub follows : Terms → List Noted → Noted → ℕ → Bool
 follows terms before n rule =
     wants_handshake rule && is_handshake_lost terms before
-    || wants_text rule && is_on_lost terms (events_of before) (said_at terms (events_of before) n.event)
+    || (wants_text rule
+    && is_on_lost terms (events_of before) (said_at terms (events_of before) n.event)
+    || follows_bytes rule (events_of before) n.event)
 
 -- ---- all offences
 

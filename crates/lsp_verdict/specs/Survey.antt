@@ -1,20 +1,20 @@
 -- All that is wrong with a session: its offences and how it ends, and what is said about them.
 use Rattle.std.specs.Prelude.{◌≡◌, ℕ, List, [], ◌∷◌, ◌++◌, map, filter, length, Bool, true, false, ◌&&◌, not, nat_le, if◌then◌else◌, Option, Some, None, option_map, option_to_list, codes, decimal}
-use Rattle.std.specs.List.{flat_map, list_any}
+use Rattle.std.specs.List.{flat_map}
 use Rattle.lsp_frame.specs.Bounds.{Bounds}
 use Rattle.lsp_frame.specs.declared.format.Format.{Format}
 use Rattle.lsp_types.specs.declared.side.Side.{Side}
 use Rattle.lsp_types.specs.declared.side.Side.TheVariants.{Editor, Server}
 use Rattle.lsp_session.specs.Incomplete.{incomplete}
-use Rattle.lsp_session.specs.Sent.{same_side}
 use Rattle.lsp_docs.specs.Terms.{Terms}
 use Rattle.lsp_log.specs.Log.{Record, IsLog}
 use Rattle.lsp_log.specs.declared.fault.LogCode.{LogCode}
 use Rattle.lsp_verdict.specs.declared.completeness.Completeness.{Completeness}
 use Rattle.lsp_verdict.specs.declared.completeness.Completeness.TheVariants.{Ignored, Required}
 use Rattle.lsp_verdict.specs.declared.verdict.Who.TheVariants as who
-use Rattle.lsp_verdict.specs.Event.{Event, message, fault, snapshot, sent_in}
-use Rattle.lsp_verdict.specs.Offences.{Noted, Offence, events_of, kept_of, offences, IsNotedSession}
+use Rattle.lsp_verdict.specs.Event.{Event, sent_in}
+use Rattle.lsp_verdict.specs.Offences.{Noted, Offence, events_of, has_broken, kept_of, offences}
+use Rattle.lsp_verdict.specs.Offences.{IsNotedSession}
 use Rattle.lsp_verdict.specs.Outcome.{HasRest, ending, log_terms}
 use Rattle.lsp_verdict.specs.Placed.{joined}
 use Rattle.lsp_verdict.specs.Report.{line, who_name, report}
@@ -24,15 +24,9 @@ use Rattle.lsp_types.specs.declared.rules.TheConstants as rules
 
 -- ---- how a session ends
 
--- 101 to 106: the frames of this side have a fault, after which its stream is at its end
-abbrev pub is_frame_fault : Side → Event → Bool
-is_frame_fault side (fault by rule) = same_side side by && nat_le rule rules.CHARSET_NOT_UTF_8
-is_frame_fault side (message m) = false
-is_frame_fault side (snapshot uri number text) = false
-
 -- the stream of this side ends inside a frame, where bytes are left after its last one
 abbrev pub ends_inside : Side → List Event → Bool → Bool
-ends_inside side events rest = rest && not (list_any (is_frame_fault side) events)
+ends_inside side events rest = rest && not (has_broken side events)
 
 -- 107 for each side that does, the editor's first
 abbrev pub rests_listed : List Event → Bool → Bool → List Verdict

@@ -16,10 +16,10 @@ use clap::Error;
 use clap::error::ErrorKind;
 pub use lsp_command::status_of;
 use lsp_command::{
-    Hint, Input, Output, Request, Slip, TaskOutcome, hint_of, only_word, remark_of, report_apart,
-    request_of, run_through, status_of_task, status_of_words, uri_alone,
+    BufferedInput, BufferedOutput, Hint, Request, Slip, TaskOutcome, hint_of, only_word, remark_of,
+    report_apart, request_of, run_through, status_of_task, status_of_words, uri_alone,
 };
-use lsp_judge::{Limits, RunFault};
+use lsp_judge::RunFault;
 use progress::{MakingWay, Progress, Watched};
 use std::alloc::Global;
 use std::fs::OpenFile;
@@ -70,13 +70,13 @@ fn run_on<R: Print + Eprint + AllocGlobal, I: Read + Drop>(
     progress: &Progress<'_, R>,
 ) -> Ended {
     let alloc = rt.alloc();
-    let Ok(mut input) = Input::new(alloc, Watched::new(progress, input)) else {
+    let Ok(mut input) = BufferedInput::new(alloc, Watched::new(progress, input)) else {
         return Ended::by(RunFault::Memory);
     };
-    let Ok(mut output) = Output::new(alloc, MakingWay::new(progress, io::writer(rt))) else {
+    let Ok(mut output) = BufferedOutput::new(alloc, MakingWay::new(progress, io::writer(rt))) else {
         return Ended::by(RunFault::Memory);
     };
-    let limits = Limits::profile();
+    let limits = request.limits();
     let answer = run_through(alloc, request.task, &mut input, &mut output, limits);
     let advice = match answer {
         Err(RunFault::Read) => input.cause().map(Advice::Input),

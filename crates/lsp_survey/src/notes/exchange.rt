@@ -1,8 +1,10 @@
 //! By which events the requests of one side were asked and answered.
 ghost use Rattle.std.specs.Prelude.{◌≡◌, ◌++◌, ◌∷◌, [], List, None, Some, OnOk, map, if◌then◌else◌};
+ghost use Rattle.std.specs.Prelude.{option_to_list};
 ghost use Rattle.lsp_rpc.specs.Ident.{id_view, same_id};
 ghost use Rattle.lsp_rpc.specs.declared.message.Id.{Id as AnId};
-ghost use Rattle.lsp_survey.specs.Asking.{Reply, last_reply, most_replies, replied};
+ghost use Rattle.lsp_survey.specs.Asking.{Reply, is_short, last_reply, most_replies, replied};
+ghost use Rattle.lsp_survey.specs.Asking.{reply_of};
 ghost use Rattle.lsp_survey.specs.LastOnes.{last_ones};
 ghost use Rattle.lsp_survey.specs.SessionNoting.{asked_in, given_view, replies_in};
 
@@ -15,6 +17,9 @@ use std::collections::VecDeque;
 /// How many answers are held at most.
 const MOST_REPLIES: usize = 1024;
 
+/// The length in bytes of the longest id that is held.
+const MOST_ID: usize = 128;
+
 /// An answer that was given: the id of its request, and the number of its event.
 #[derive(Drop)]
 pub(crate) struct Given {
@@ -22,7 +27,8 @@ pub(crate) struct Given {
     event: u64,
 }
 
-/// The requests of one side: the events of those that are open, and of the last answers.
+/// The requests of one side: the events of those that are open, and of the last answers to those
+/// with a short id.
 #[derive(Drop)]
 pub(crate) struct Exchange {
     asked: IndexMap<Id, u64>,
@@ -74,10 +80,24 @@ impl Exchange {
         ensures replies { OnOk result ((given : List Reply)
             → replies_in self.old ≡ last_ones most_replies given
             → replies_in self.new ≡ last_ones most_replies (given
-            ++ replied event (id_view id.now) ∷ [])) }
+            ++ option_to_list (reply_of event (Some (id_view id.now))))) }
     {
         forget(&mut self.asked, id);
-        push(&mut self.replies, id, event)
+        if is_short(id) {
+            push(&mut self.replies, id, event)
+        } else {
+            Ok(())
+        }
+    }
+}
+
+/// Whether an id is so short that it is held.
+fn is_short(id: &Id) -> bool
+    ensures { result ≡ is_short (id_view id.now) }
+{
+    match id {
+        Id::Number(_) => true,
+        Id::Text(text) => text.as_str().len() <= MOST_ID,
     }
 }
 

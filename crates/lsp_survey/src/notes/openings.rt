@@ -1,16 +1,15 @@
 //! Which documents were opened and closed last.
-ghost use Rattle.std.specs.Prelude.{◌≡◌, ◌++◌, ◌<◌, ◌∷◌, [], List, Some, None, OnOk, length};
-ghost use Rattle.std.specs.Prelude.{nat_lt};
+ghost use Rattle.std.specs.Prelude.{◌≡◌, ◌++◌, ◌<◌, [], List, Some, OnOk};
 ghost use Rattle.lsp_docs.specs.Terms.{Terms};
 ghost use Rattle.lsp_rpc.specs.View.{act_view};
 ghost use Rattle.lsp_types.specs.declared.change.SyncKind.{SyncKind};
 ghost use Rattle.lsp_types.specs.declared.position.Encoding.{Encoding};
 ghost use Rattle.lsp_verdict.specs.Calls.{call_of};
 ghost use Rattle.lsp_verdict.specs.Event.{Event};
-ghost use Rattle.lsp_survey.specs.LastOnes.{last_ones, with_room};
+ghost use Rattle.lsp_survey.specs.LastOnes.{last_ones};
 ghost use Rattle.lsp_survey.specs.Openings.{AreOpenings, Holds, OpensBy, closing_by, closing_of};
-ghost use Rattle.lsp_survey.specs.Openings.{closings, is_on, last_on, most_closings};
-ghost use Rattle.lsp_survey.specs.Openings.{most_openings, on_document, ons_view, openings};
+ghost use Rattle.lsp_survey.specs.Openings.{closings, is_on, last_on, most_openings, on_document};
+ghost use Rattle.lsp_survey.specs.Openings.{on_view, ons_view, openings};
 
 use crate::notes::last_ones::make_room;
 use lsp_rpc::{Act, Memory};

@@ -2,7 +2,7 @@
 //! after.
 ghost use Rattle.std.specs.Prelude.{◌≡◌};
 ghost use Rattle.lsp_verdict.specs.Offences.{breaks_handshake, is_within, wants_handshake};
-ghost use Rattle.lsp_verdict.specs.Offences.{wants_text};
+ghost use Rattle.lsp_verdict.specs.Offences.{wants_other, wants_text};
 ghost use Rattle.lsp_survey.specs.Notes.{loses_by};
 
 use lsp_types::rules;
@@ -25,6 +25,23 @@ pub(crate) fn wants_handshake(rule: u16) -> bool
         rules::EDITOR_WHILE_INITIALIZE_OPEN,
         rule,
     ) {
+        return true;
+    }
+    is_within(
+        rules::SERVER_BEFORE_INITIALIZE,
+        rules::SERVER_WHILE_INITIALIZE_OPEN,
+        rule,
+    )
+}
+
+/// Whether a side breaks the rule where what the other sends is not heard.
+pub(crate) fn wants_other(rule: u16) -> bool
+    ensures { result ≡ wants_other rule }
+{
+    if rule == rules::RESPONSE_TO_NO_OPEN_REQUEST {
+        return true;
+    }
+    if rule == rules::EDITOR_WHILE_INITIALIZE_OPEN {
         return true;
     }
     is_within(

@@ -13,7 +13,8 @@ use lsp_session::Phase;
 use std::alloc::Global;
 
 /// By which events the requests of both sides were asked and answered, and which one led to the
-/// phase of the session. Of the answers to a side's requests the last 1,024 are held.
+/// phase of the session. Of the answers to a side's requests the last 1,024 are held, where the id
+/// has at most 128 bytes.
 ///
 /// It stands for the events of a session of which those that offend are skipped.
 #[derive(Drop)]
@@ -49,7 +50,8 @@ impl SessionNotes {
     }
 
     /// The number of the event that answered a request of this side with this id last, from 1,
-    /// where it is among the last 1,024 answers to requests of this side.
+    /// where it is among the last 1,024 answers to requests of this side, and the id has at most
+    /// 128 bytes.
     pub fn answered(&self, side: Side, id: &Id) -> Option<u64>
         ensures { (terms : Terms) (events : List Event) → AreNotes terms self.now events
             → result ≡ answered side (id_view id.now) (numbered terms events) }

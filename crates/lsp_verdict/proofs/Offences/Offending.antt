@@ -1,6 +1,7 @@
 -- All offences of a session: which events are kept, and what is listed.
 use Rattle.std.specs.Prelude.{option_map, option_and_then, ◌&&◌, ◌||◌, not, is_some, if◌then◌else◌}
-use Rattle.std.specs.List.{cons_option}
+use Rattle.std.specs.Prelude.{nat_le}
+use Rattle.std.specs.List.{cons_option, filter_map, list_any}
 use Rattle.std.specs.Option.{option_or}
 use Rattle.std.specs.Str.{bytes_eq}
 use Rattle.std.proofs.Common.{◌≡◌, ℕ, Bool, true, false, List, [], ◌∷◌, ◌++◌, Option, Some, None, refl, sym, ap, ◌∙◌, append_assoc, append-nil}
@@ -9,10 +10,19 @@ use Rattle.std.proofs.Math.Bool.{and-false}
 use Rattle.lsp_docs.specs.Calls.{Call, uri_of}
 use Rattle.lsp_docs.specs.Terms.{Terms}
 use Rattle.lsp_session.specs.Handshake.{is_done}
-use Rattle.lsp_verdict.specs.Event.{Event, sent_in}
+use Rattle.lsp_session.specs.Sent.{other_side, same_side}
+use Rattle.lsp_types.specs.declared.rules.TheConstants as rules
+use Rattle.lsp_types.specs.declared.side.Side.{Side}
+use Rattle.lsp_verdict.specs.Event.{Event, message, fault, snapshot, sent_in}
 use Rattle.lsp_verdict.specs.LookBack.{first_from, first_of, each_from, each_of}
 use Rattle.lsp_verdict.specs.OffenceLaws.{KeptOffendNowhere, kept_at, KeptAreOthers, AllAreKept, NothingListed, FirstListed, IsOffence, IsListed, ListedOffend}
-use Rattle.lsp_verdict.specs.Offences.{Noted, Offence, events_of, kept_after, kept_of, rule_at, said_at, renews, left_lost, lost_by, last_or, is_lost, breaks_handshake, broken_by, is_handshake_lost, wants_handshake, wants_text, is_on_lost, follows, offence_by, offence_at, offences}
+use Rattle.lsp_verdict.specs.Offences.{Noted, Offence, events_of, kept_after, kept_of, rule_at}
+use Rattle.lsp_verdict.specs.Offences.{said_at, renews, left_lost, lost_by, last_or, is_lost}
+use Rattle.lsp_verdict.specs.Offences.{breaks_handshake, may_answer, broken_by, is_handshake_lost}
+use Rattle.lsp_verdict.specs.Offences.{is_frame_fault, has_broken, unread_by, is_unread}
+use Rattle.lsp_verdict.specs.Offences.{wants_other, follows_bytes, wants_handshake, wants_text}
+use Rattle.lsp_verdict.specs.Offences.{is_on_lost, follows}
+use Rattle.lsp_verdict.specs.Offences.{offence_by, offence_at, offences}
 use Rattle.lsp_verdict.specs.Verdict.{Verdict, offence, no_by, no_at, first_no}
 use Rattle.lsp_verdict.proofs.Finding.{nothing_from, nothing_at, map_none}
 use Rattle.lsp_verdict.proofs.LookBackLemmas.{first_of-snoc, first_of-append, each_from-append, each_of-snoc, or_none_parts}
@@ -144,7 +154,11 @@ handshake_stands : (terms : Terms) (before : List Noted) → IsClean terms befor
 handshake_stands terms before clean =
     ap (λ (o : Option ℕ). is_some o && not (is_done (sent_in (kept_of terms (events_of before)))))
     (nothing_from (broken_by terms) [] before (λ front after n cut.
-    ap (option_and_then (λ rule. if breaks_handshake n.asks rule then Some rule else None)) (clean_rule terms front after n (ap (λ (ns : List Noted). first_of (no_at terms) (events_of ns)) (sym cut) ∙ clean))))
+    ap (option_and_then (λ rule.
+    if breaks_handshake n.asks rule || may_answer (kept_of terms (events_of front)) n.event
+    then Some rule else None))
+    (clean_rule terms front after n
+    (ap (λ (ns : List Noted). first_of (no_at terms) (events_of ns)) (sym cut) ∙ clean))))
 
 -- ---- no document is lost
 
@@ -187,12 +201,68 @@ none_on_lost : (terms : Terms) (before : List Event) (o : Option Call) → first
 none_on_lost terms before None clean = refl
 none_on_lost terms before (Some call) clean = document_stands terms (uri_of call) before clean
 
-follows_none : (terms : Terms) (before : List Noted) (n : Noted) (rule : ℕ) → IsClean terms before → follows terms before n rule ≡ false
+-- ---- no bytes failed
+
+-- where no event offends, none is a fault of the frames
+pub no_frame_fault : (terms : Terms) (side : Side) (before events : List Event)
+    → first_from (no_at terms) before events ≡ None → has_broken side events ≡ false
+no_frame_fault terms side before [] none = refl
+no_frame_fault terms side before (message m ∷ events) none =
+    no_frame_fault terms side (before ++ message m ∷ []) events
+    (or_none_parts (no_at terms before (message m)) _ none).1
+no_frame_fault terms side before (snapshot uri n t ∷ events) none =
+    no_frame_fault terms side (before ++ snapshot uri n t ∷ []) events
+    (or_none_parts (no_at terms before (snapshot uri n t)) _ none).1
+no_frame_fault terms side before (fault by rule ∷ events) none =
+    absurd (cc (or_none_parts (no_at terms before (fault by rule))
+    (first_from (no_at terms) (before ++ fault by rule ∷ []) events) none).0)
+
+-- and none a content that is not JSON
+none_unread : (terms : Terms) (side : Side) (before events : List Event)
+    → first_from (no_at terms) before events ≡ None → is_unread side events ≡ false
+none_unread terms side before [] none = refl
+none_unread terms side before (message m ∷ events) none =
+    last_false (unread_by side (message m)) (filter_map (unread_by side) events)
+    (is_read (same_side side m.side))
+    (none_unread terms side (before ++ message m ∷ []) events
+    (or_none_parts (no_at terms before (message m)) _ none).1)
+  where
+    is_read : (own : Bool) → (if own then Some false else None) ≡ Some true → ⊥
+    is_read true e = absurd cc
+    is_read false e = absurd cc
+none_unread terms side before (snapshot uri n t ∷ events) none =
+    none_unread terms side (before ++ snapshot uri n t ∷ []) events
+    (or_none_parts (no_at terms before (snapshot uri n t)) _ none).1
+none_unread terms side before (fault by rule ∷ events) none =
+    absurd (cc (or_none_parts (no_at terms before (fault by rule))
+    (first_from (no_at terms) (before ++ fault by rule ∷ []) events) none).0)
+
+bytes_stand : (terms : Terms) (rule : ℕ) (before : List Event) (e : Event)
+    → first_of (no_at terms) before ≡ None → follows_bytes rule before e ≡ false
+bytes_stand terms rule before (message m) clean =
+    ap (λ (b : Bool). wants_other rule && b)
+    (no_frame_fault terms (other_side m.side) [] before clean) ∙ and-false (wants_other rule)
+bytes_stand terms rule before (fault side code) clean =
+    ap (λ (b : Bool). nat_le rule rules.CHARSET_NOT_UTF_8 && b)
+    (none_unread terms side [] before clean) ∙ and-false (nat_le rule rules.CHARSET_NOT_UTF_8)
+bytes_stand terms rule before (snapshot uri n t) clean = refl
+
+follows_none : (terms : Terms) (before : List Noted) (n : Noted) (rule : ℕ) → IsClean terms before
+    → follows terms before n rule ≡ false
 follows_none terms before n rule clean =
-    ap (λ (b : Bool). (wants_handshake rule && b) || (wants_text rule && is_on_lost terms (events_of before) (said_at terms (events_of before) n.event))) (handshake_stands terms before clean)
-    ∙ ap (λ (b : Bool). b || (wants_text rule && is_on_lost terms (events_of before) (said_at terms (events_of before) n.event))) (and-false (wants_handshake rule))
-    ∙ ap (λ (b : Bool). wants_text rule && b) (none_on_lost terms (events_of before) (said_at terms (events_of before) n.event) clean)
-    ∙ and-false (wants_text rule)
+    ap (λ (b : Bool). wants_handshake rule && b || (wants_text rule && on_lost || late))
+    (handshake_stands terms before clean)
+    ∙ ap (λ (b : Bool). b || (wants_text rule && on_lost || late)) (and-false (wants_handshake rule))
+    ∙ ap (λ (b : Bool). wants_text rule && b || late)
+    (none_on_lost terms (events_of before) (said_at terms (events_of before) n.event) clean)
+    ∙ ap (λ (b : Bool). b || late) (and-false (wants_text rule))
+    ∙ bytes_stand terms rule (events_of before) n.event clean
+  where
+    on_lost : Bool
+    on_lost = is_on_lost terms (events_of before) (said_at terms (events_of before) n.event)
+
+    late : Bool
+    late = follows_bytes rule (events_of before) n.event
 
 -- ---- the first that is listed
 

@@ -1,13 +1,19 @@
 -- All offences of a session, with one event more.
 use Rattle.std.specs.Prelude.{◌||◌, unwrap_or, is_some, if◌then◌else◌}
-use Rattle.std.specs.List.{cons_option}
+use Rattle.std.specs.List.{cons_option, filter_map}
 use Rattle.std.specs.Option.{option_or}
 use Rattle.std.proofs.Common.{◌≡◌, ℕ, false, List, [], ◌∷◌, ◌++◌, Option, Some, None, refl, ap, ◌∙◌}
+use Rattle.std.proofs.Math.Bool.{or-false}
 use Rattle.std.proofs.lemmas.List.{map-append}
+use Rattle.std.proofs.lemmas.List.Elements.{filter_map-append}
+use Rattle.std.proofs.lemmas.List.Folds.{list_any-append}
+use Rattle.lsp_types.specs.declared.side.Side.{Side}
 use Rattle.lsp_docs.specs.Terms.{Terms}
 use Rattle.lsp_verdict.specs.Event.{Event}
 use Rattle.lsp_verdict.specs.LookBack.{first_of, each_of}
-use Rattle.lsp_verdict.specs.Offences.{Noted, events_of, kept_of, rule_at, lost_by, last_or, is_lost, broken_by, offence_at, offences}
+use Rattle.lsp_verdict.specs.Offences.{Noted, events_of, kept_of, rule_at, lost_by, last_or, is_lost}
+use Rattle.lsp_verdict.specs.Offences.{broken_by, offence_at, offences, is_frame_fault, has_broken}
+use Rattle.lsp_verdict.specs.Offences.{unread_by, is_unread}
 use Rattle.lsp_verdict.proofs.LookBackLemmas.{first_of-snoc, each_of-snoc}
 use Rattle.lsp_verdict.proofs.Offences.Offending.{kept_more}
 
@@ -43,3 +49,19 @@ broken-push terms notes n = ap is_some (first_of-snoc (broken_by terms) notes n)
 -- the events of the notes
 pub events_of-push : (notes : List Noted) (n : Noted) → events_of (notes ++ n ∷ []) ≡ events_of notes ++ n.event ∷ []
 events_of-push notes n = map-append (λ (m : Noted). m.event) notes (n ∷ [])
+
+-- ---- the bytes of a side
+
+-- its frames broke by this event, or before
+pub has_broken-push : (side : Side) (events : List Event) (e : Event)
+    → has_broken side (events ++ e ∷ []) ≡ (has_broken side events || is_frame_fault side e)
+has_broken-push side events e =
+    list_any-append (is_frame_fault side) events (e ∷ [])
+    ∙ ap (λ b. has_broken side events || b) (or-false (is_frame_fault side e))
+
+-- its last event is this one, where that is one of it
+pub is_unread-push : (side : Side) (events : List Event) (e : Event)
+    → is_unread side (events ++ e ∷ []) ≡ unwrap_or (unread_by side e) (is_unread side events)
+is_unread-push side events e =
+    ap (last_or false) (filter_map-append (unread_by side) events (e ∷ []))
+    ∙ last_behind false (filter_map (unread_by side) events) (unread_by side e)

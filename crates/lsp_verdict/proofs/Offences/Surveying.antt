@@ -21,7 +21,7 @@ use Rattle.lsp_verdict.specs.OffenceLaws.{SurveyAgrees, SomeSurvey, OneSurvey}
 use Rattle.lsp_verdict.specs.Offences.{Noted, Offence, events_of, kept_of, asks_handshake, Asks, IsNoted, IsNotedSession}
 use Rattle.lsp_verdict.specs.Outcome.{ending, IsVerdict, log_terms}
 use Rattle.lsp_verdict.specs.Placed.{Raw, content, broken, show, Placed, Reads, joined}
-use Rattle.lsp_verdict.specs.Survey.{is_frame_fault, ends_inside, rests_listed, lacks_listed, first_ends, ends_listed, by_itself, found_in, first_verdict, IsSurvey}
+use Rattle.lsp_verdict.specs.Survey.{ends_inside, rests_listed, lacks_listed, first_ends, ends_listed, by_itself, found_in, first_verdict, IsSurvey}
 use Rattle.lsp_verdict.specs.Verdict.{Verdict, yes, Summary, summary, Ending, bad_log_of, rest_of, no_at, first_no, no_by, no_next, verdict}
 use Rattle.lsp_verdict.specs.declared.completeness.Completeness.{Completeness}
 use Rattle.lsp_verdict.specs.declared.completeness.Completeness.TheVariants.{Ignored, Required}
@@ -30,7 +30,8 @@ use Rattle.lsp_verdict.proofs.Below.{one_log, some_log, some_stream, one_message
 use Rattle.lsp_verdict.proofs.Completing.{one_complete_verdict}
 use Rattle.lsp_verdict.proofs.Logs.{one_verdict}
 use Rattle.lsp_verdict.proofs.LookBackLemmas.{or_none_parts}
-use Rattle.lsp_verdict.proofs.Offences.Offending.{all_are_kept, first_listed, nothing_listed}
+use Rattle.lsp_verdict.proofs.Offences.Offending.{all_are_kept, first_listed, no_frame_fault}
+use Rattle.lsp_verdict.proofs.Offences.Offending.{nothing_listed}
 use Rattle.lsp_verdict.proofs.OneEvent.{one_read, some_read}
 use Rattle.lsp_verdict.proofs.Outcomes.{one_rest}
 use Rattle.lsp_verdict.proofs.PlacedLemmas.{one_placed}
@@ -48,13 +49,6 @@ verdict_by Required events v = completed events v
 no_stays : (c : Completeness) (events before : List Event) (e : Event) (rule : ℕ) → verdict_by c events (no_by before e rule) ≡ no_by before e rule
 no_stays Ignored events before e rule = refl
 no_stays Required events before e rule = refl
-
--- where no event offends, none is a fault of the frames
-pub no_frame_fault : (terms : Terms) (side : Side) (before events : List Event) → first_from (no_at terms) before events ≡ None → list_any (is_frame_fault side) events ≡ false
-no_frame_fault terms side before [] none = refl
-no_frame_fault terms side before (message m ∷ events) none = no_frame_fault terms side (before ++ message m ∷ []) events (or_none_parts (no_at terms before (message m)) _ none).1
-no_frame_fault terms side before (snapshot uri n t ∷ events) none = no_frame_fault terms side (before ++ snapshot uri n t ∷ []) events (or_none_parts (no_at terms before (snapshot uri n t)) _ none).1
-no_frame_fault terms side before (fault by rule ∷ events) none = absurd (cc (or_none_parts (no_at terms before (fault by rule)) (first_from (no_at terms) (before ++ fault by rule ∷ []) events) none).0)
 
 -- so a side's rest stands as it is
 rest_stands : (terms : Terms) (side : Side) (events : List Event) (rest : Bool) → first_no terms events ≡ None → ends_inside side events rest ≡ rest

@@ -12,7 +12,7 @@ use Rattle.json.specs.Print.{escape_byte}
 use Rattle.serde_json.specs.Read.{number_of}
 use Rattle.lsp_log.specs.declared.fault.LogCode.{LogCode}
 use Rattle.lsp_log.specs.declared.fault.LogCode.TheVariants.{L4}
-use Rattle.lsp_types.specs.declared.side.Side.TheVariants.{Editor}
+use Rattle.lsp_types.specs.declared.side.Side.TheVariants.{Editor, Server}
 use Rattle.lsp_verdict.specs.Event.{Event, fault}
 use Rattle.lsp_verdict.specs.Offences.{Noted, Offence, offences}
 use Rattle.lsp_verdict.specs.Survey.{found_in, all_report}
@@ -97,6 +97,43 @@ no_handshake : all_of (REQ ∷ LOG ∷ RES (codes "7") ∷ [])
     ≡ cause 401 who.Editor 1 1 ∷ cause 411 who.Server 1 2 ∷ cause 301 who.Server 2 3 ∷ []
 unfolding value punctuate lex content word after_number number_of scan_numeral chars
 no_handshake = refl
+
+-- what the server sends cannot be read while an `initialize` is open: it may be the answer
+unread_answer : all_of (I1 ∷ fault Server 201 ∷ N1 ∷ A1 ∷ REQ ∷ [])
+    ≡ cause 201 who.Server 1 2 ∷ after_it 402 who.Editor 2 3 ∷ cause 403 who.Editor 3 5 ∷ []
+unfolding value punctuate lex content word after_number number_of scan_numeral chars
+unread_answer = refl
+
+-- ---- bytes that fail
+
+-- behind a fault of its frames nothing of a side is heard: what the other says of that follows
+editor_broke : all_of (START ++ fault Editor 102 ∷ RES (codes "7") ∷ [])
+    ≡ cause 102 who.Editor 3 4 ∷ after_it 301 who.Server 2 5 ∷ []
+unfolding value punctuate lex content word after_number number_of scan_numeral chars
+editor_broke = refl
+
+server_broke : all_of (I1 ∷ fault Server 102 ∷ REQ ∷ [])
+    ≡ cause 102 who.Server 1 2 ∷ after_it 402 who.Editor 2 3 ∷ []
+unfolding value punctuate lex content word after_number number_of scan_numeral chars
+server_broke = refl
+
+-- what a side says against the rules itself does not
+own_offence : all_of (START ++ fault Server 102 ∷ CLOSE ∷ [])
+    ≡ cause 102 who.Server 2 4 ∷ cause 602 who.Editor 3 5 ∷ []
+unfolding value punctuate lex content word after_number number_of scan_numeral chars
+own_offence = refl
+
+-- a wrong length cuts a content off, and the rest of it is no header part; a content of the side
+-- between the two says that the frames are right there
+wrong_length : all_of (START ++ fault Editor 201 ∷ RES (codes "7") ∷ fault Editor 102 ∷ [])
+    ≡ cause 201 who.Editor 3 4 ∷ cause 301 who.Server 2 5 ∷ after_it 102 who.Editor 4 6 ∷ []
+unfolding value punctuate lex content word after_number number_of scan_numeral chars
+wrong_length = refl
+
+right_again : all_of (START ++ fault Editor 201 ∷ REQ ∷ fault Editor 102 ∷ [])
+    ≡ cause 201 who.Editor 3 4 ∷ cause 102 who.Editor 5 6 ∷ []
+unfolding value punctuate lex content word after_number number_of scan_numeral chars
+right_again = refl
 
 -- ---- how sessions end
 

@@ -21,5 +21,6 @@ returns-clause-noted c =
                 unwrap_or (leads c.args.number c.args.self.now.said.phase (behind i))
                 c.args.self.now.said.since);
           },
+      c.after_message.ensures,
     ))
     c.keep.ensures.editor c.keep.ensures.server

@@ -1,23 +1,35 @@
-use Rattle.std.proofs.Common.{None, Some, refl, sym, subst}
+use Rattle.std.specs.Prelude.{◌||◌}
+use Rattle.std.proofs.Common.{◌≡◌, ◌∙◌, false, None, Some, refl, sym, ap, subst}
 use Rattle.lsp_survey.specs.Notes.{AreAfter}
+use Rattle.lsp_survey.specs.Sides.{sides_after}
+use Rattle.lsp_survey.specs.Walking.{offence_of}
 use Rattle.lsp_survey.specs.declared.notes.note.Notes.{Notes}
+use Rattle.lsp_verdict.specs.Given.{given_offence}
+use Rattle.lsp_verdict.specs.Offences.{breaks_handshake, events_of, follows_bytes, may_answer}
+use Rattle.lsp_verdict.specs.Verdict.{who_of}
 use Rattle.lsp_survey.proofs.Noting.{nothing_said}
 use Rattle.lsp_survey.proofs.walk.Replay.refuse_frames.Goals as goal
 
 pub returns-clause-passes : goal.returns-clause-passes
 returns-clause-passes c =
-    let refused = c.refuse-offence.ensures in
+    let refused = c.refuse_fault-offence.ensures in
     let old = c.args.self.now in
+    let rule = c.args.rule in
     record {
       found = _;
       is_given = refl;
       is_such = refl;
-      counted = rw c.who_of.ensures at refused.counted;
+      counted = refused.counted;
+      is_broken = λ event kept is holds. refused.broken kept holds
+          ∙ ap (λ e. old.broken || (breaks_handshake false rule || may_answer kept e)) (sym is);
+      sides = λ event is. refused.sides ∙ ap (λ e. sides_after e old.sides) (sym is);
       noted = λ enc kind. subst (λ (w : Notes).
-          AreAfter (Some c.args.rule) None old.notes.map.entries w.map.entries) (sym refused.notes)
-          (nothing_said (Some c.args.rule) old.notes.map.entries);
+          AreAfter (Some rule) None old.notes.map.entries w.map.entries) (sym refused.notes)
+          (nothing_said (Some rule) old.notes.map.entries);
       marks = refused.marks;
       openings = refused.openings;
       said = refused.said;
-      offence = λ enc kind notes w. rw c.who_of.ensures at (refused.offence notes w);
+      offence = λ enc kind notes event is w. refused.offence notes w
+          ∙ ap (λ e. given_offence (offence_of old.events.docs.terms notes (who_of c.args.side) rule
+          false (follows_bytes rule (events_of notes) e))) (sym is);
     }

@@ -1,14 +1,18 @@
-use Rattle.std.specs.Prelude.{chars}
-use Rattle.std.proofs.Common.{Some, refl, ap, subst, ◌∙◌, w32}
+use Rattle.std.specs.Prelude.{chars, ◌&&◌, ◌||◌}
+use Rattle.std.proofs.Common.{◌≡◌, Some, false, refl, sym, ap, subst, ◌∙◌, w32}
+use Rattle.std.proofs.Math.Bool.{or-false}
 use Rattle.std.proofs.lemmas.Int.{to_z-of_z}
 use mir.Val.{SFits}
 use Rattle.lsp_docs.specs.Calls.{shows}
 use Rattle.lsp_survey.specs.Notes.{AreAfter}
-use Rattle.lsp_survey.specs.Walking.{offence_of}
+use Rattle.lsp_survey.specs.Sides.{sides_after}
 use Rattle.lsp_survey.specs.declared.notes.note.Note.{Note}
 use Rattle.lsp_survey.specs.declared.notes.note.Notes.{Notes}
 use Rattle.lsp_survey.specs.declared.offending.OffendingEvent.TheVariants.{Snapshot}
 use Rattle.lsp_verdict.specs.Given.{given_offence}
+use Rattle.lsp_verdict.specs.Offences.{breaks_handshake, events_of, follows_bytes}
+use Rattle.lsp_verdict.specs.Offences.{is_handshake_lost, may_answer, wants_handshake, wants_text}
+use Rattle.lsp_verdict.specs.Verdict.{no_next}
 use Rattle.lsp_verdict.specs.declared.verdict.Who.TheVariants as who
 use Rattle.lsp_survey.proofs.walk.Replay.refuse_snapshot.Goals as goal
 
@@ -17,6 +21,7 @@ returns-clause-passes c =
     let fits : SFits w32 c.args.version = c.ranges.version in
     let refused = c.refuse-offence.ensures in
     let old = c.args.self.now in
+    let rule = c.args.rule in
     let call = shows c.args.uri.now c.args.version (chars c.args.text.now) in
     let is_lost = ap (λ (n : Note). n.lost) c.get-on_lost.ensures in
     record {
@@ -31,8 +36,12 @@ returns-clause-passes c =
         session = refused.counted.session;
         documents = refused.counted.documents;
         counts = refused.counted.counts;
-        is_broken = refused.counted.is_broken;
       };
+      is_broken = λ event kept is holds. refused.broken
+          ∙ ap (λ b. old.broken || b) (c.breaks_handshake-breaks.ensures
+          ∙ sym (or-false (breaks_handshake false rule))
+          ∙ ap (λ e. breaks_handshake false rule || may_answer kept e) (sym is));
+      sides = λ event is. refused.sides ∙ ap (λ e. sides_after e old.sides) (sym is);
       noted = λ enc kind. subst (λ (w : Notes).
           AreAfter (Some c.args.rule) (Some call) w.map.entries
           c.note_refused.new.notes.map.entries) refused.notes
@@ -40,7 +49,15 @@ returns-clause-passes c =
       marks = refused.marks;
       openings = refused.openings;
       said = refused.said;
-      offence = λ enc kind notes w. refused.offence notes w
-          ∙ ap (λ b. given_offence (offence_of old.events.docs.terms notes who.Snapshot c.args.rule
-          b)) is_lost;
+      offence = λ enc kind notes event is walks.
+          let lost = wants_handshake rule && is_handshake_lost old.events.docs.terms notes in
+          refused.offence notes walks
+          ∙ ap (λ b. given_offence (record {
+            no = no_next rule who.Snapshot (events_of notes);
+            follows = b;
+          }))
+          (c.follows-follows.ensures notes walks
+          ∙ ap (λ on_lost. lost || (wants_text rule && on_lost || false)) is_lost
+          ∙ ap (λ e. lost || (wants_text rule && _ || follows_bytes rule (events_of notes) e))
+          (sym is));
     }

@@ -2,7 +2,7 @@ use Rattle.std.proofs.Common.{◌≡◌, ◌≤◌, ap, arith, length}
 use Rattle.std.specs.Io.Buffered.{reader_buffer}
 use Rattle.lsp_frame.proofs.Telling.{given_ok}
 use Rattle.lsp_command.proofs.Appended.{ahead_given, ahead_left}
-use Rattle.lsp_command.proofs.input.InputSource.pull_onto.Goals as goal
+use Rattle.lsp_command.proofs.input.BufferedInputSource.pull_onto.Goals as goal
 
 pub returns-clause-gave : goal.returns-clause-gave
 returns-clause-gave g c =

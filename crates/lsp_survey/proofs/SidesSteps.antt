@@ -1,0 +1,106 @@
+-- What is noted of the bytes of both sides, with one event more.
+use Rattle.std.specs.Prelude.{nat_le, ◌&&◌, ◌||◌, ◌==◌, if◌then◌else◌, unwrap_or}
+use Rattle.std.proofs.Common.{◌≡◌, ℕ, Bool, true, false, List, [], ◌∷◌, ◌++◌, Some, None, refl, sym}
+use Rattle.std.proofs.Common.{ap, ◌∙◌}
+use Rattle.std.proofs.Math.Bool.{or-false}
+use Rattle.lsp_session.specs.Sent.{same_side, other_side}
+use Rattle.lsp_types.specs.declared.rules.TheConstants as rules
+use Rattle.lsp_types.specs.declared.side.Side.{Side}
+use Rattle.lsp_types.specs.declared.side.Side.TheVariants.{Editor, Server}
+use Rattle.lsp_verdict.specs.Event.{Event, message, fault, snapshot}
+use Rattle.lsp_verdict.specs.Offences.{follows_bytes, has_broken, is_frame_fault, is_unread}
+use Rattle.lsp_verdict.specs.Offences.{may_answer, unread_by, wants_other}
+use Rattle.lsp_verdict.proofs.Offences.Steps.{has_broken-push, is_unread-push}
+use Rattle.lsp_survey.specs.Sides.{failed_on, read_on, side_in, side_of, sides_after, sides_of}
+use Rattle.lsp_survey.specs.Sides.{sides_read}
+use Rattle.lsp_survey.specs.Walking.{IsMessageOf}
+use Rattle.lsp_survey.specs.declared.notes.sides.SideNote.{SideNote}
+use Rattle.lsp_survey.specs.declared.notes.sides.Sides.{Sides}
+
+note : Bool → Bool → SideNote
+note broken unread = record { broken = broken; unread = unread }
+
+pushed : (side : Side) (events : List Event) (e : Event) → side_of side (events ++ e ∷ [])
+    ≡ note (has_broken side events || is_frame_fault side e)
+    (unwrap_or (unread_by side e) (is_unread side events))
+pushed side events e =
+    λ i. note (has_broken-push side events e i) (is_unread-push side events e i)
+
+message_by : (own b u : Bool) → note (b || false) (unwrap_or (if own then Some false else None) u)
+    ≡ (if own then read_on (note b u) else note b u)
+message_by true b u = ap (λ x. note x false) (or-false b)
+message_by false b u = ap (λ x. note x u) (or-false b)
+
+fault_by : (own b u : Bool) (rule : ℕ)
+    → note (b || (own && nat_le rule rules.CHARSET_NOT_UTF_8))
+    (unwrap_or (if own then Some (rule == rules.CONTENT_NOT_JSON) else None) u)
+    ≡ (if own then failed_on rule (note b u) else note b u)
+fault_by true b u rule = refl
+fault_by false b u rule = ap (λ x. note x u) (or-false b)
+
+-- **with one event more**
+pub sides_pushed : (events : List Event) (e : Event)
+    → sides_of (events ++ e ∷ []) ≡ sides_after e (sides_of events)
+sides_pushed events (message m) = λ i. record {
+  editor = (pushed Editor events (message m)
+      ∙ message_by (same_side Editor m.side) (has_broken Editor events)
+      (is_unread Editor events)) i;
+  server = (pushed Server events (message m)
+      ∙ message_by (same_side Server m.side) (has_broken Server events)
+      (is_unread Server events)) i;
+}
+sides_pushed events (fault side rule) = λ i. record {
+  editor = (pushed Editor events (fault side rule)
+      ∙ fault_by (same_side Editor side) (has_broken Editor events)
+      (is_unread Editor events) rule) i;
+  server = (pushed Server events (fault side rule)
+      ∙ fault_by (same_side Server side) (has_broken Server events)
+      (is_unread Server events) rule) i;
+}
+sides_pushed events (snapshot uri number text) = λ i. record {
+  editor = (pushed Editor events (snapshot uri number text)
+      ∙ ap (λ x. note x (is_unread Editor events)) (or-false (has_broken Editor events))) i;
+  server = (pushed Server events (snapshot uri number text)
+      ∙ ap (λ x. note x (is_unread Server events)) (or-false (has_broken Server events))) i;
+}
+
+-- what is noted of a side is what is to be noted of it
+pub unread_in : (side : Side) (events : List Event)
+    → (side_in side (sides_of events)).unread ≡ is_unread side events
+unread_in Editor events = refl
+unread_in Server events = refl
+
+pub broken_in : (side : Side) (events : List Event)
+    → (side_in side (sides_of events)).broken ≡ has_broken side events
+broken_in Editor events = refl
+broken_in Server events = refl
+
+-- ---- what follows from bytes that failed
+
+module _ (rule : ℕ) (side : Side) (s : Sides) (events : List Event) (are : s ≡ sides_of events)
+  where
+    pub fault_late : (nat_le rule rules.CHARSET_NOT_UTF_8 && (side_in side s).unread)
+        ≡ follows_bytes rule events (fault side rule)
+    fault_late =
+        ap (λ w. nat_le rule rules.CHARSET_NOT_UTF_8 && (side_in side w).unread) are
+        ∙ ap (λ b. nat_le rule rules.CHARSET_NOT_UTF_8 && b) (unread_in side events)
+
+    pub message_late : (event : Event) → IsMessageOf side event
+        → (wants_other rule && (side_in (other_side side) s).broken)
+        ≡ follows_bytes rule events event
+    message_late event is =
+        ap (λ w. wants_other rule && (side_in (other_side side) w).broken) are
+        ∙ ap (λ b. wants_other rule && b) (broken_in (other_side side) events)
+        ∙ ap (λ by. wants_other rule && has_broken (other_side by) events) (sym is.2)
+        ∙ ap (follows_bytes rule events) (sym is.1)
+
+pub message_after : (side : Side) (s : Sides) (event : Event) → IsMessageOf side event
+    → sides_read side s ≡ sides_after event s
+message_after side s event is =
+    ap (λ by. sides_read by s) (sym is.2) ∙ ap (λ e. sides_after e s) (sym is.1)
+
+-- a message answers nothing by failing
+pub message_answers : (side : Side) (b : Bool) (kept : List Event) (event : Event)
+    → IsMessageOf side event → b ≡ (b || may_answer kept event)
+message_answers side b kept event is =
+    sym (or-false b) ∙ ap (λ e. b || may_answer kept e) (sym is.1)

@@ -1,0 +1,57 @@
+use Rattle.std.specs.Prelude.{◌&&◌, ◌||◌}
+use Rattle.std.proofs.Common.{◌≡◌, ◌∙◌, Some, refl, ap, subst}
+use Rattle.lsp_rpc.specs.View.{act_view, message_view}
+use Rattle.lsp_survey.specs.Notes.{AreAfter, asks_of}
+use Rattle.lsp_survey.specs.Sides.{sides_read}
+use Rattle.lsp_survey.specs.declared.notes.note.Notes.{Notes}
+use Rattle.lsp_verdict.specs.Calls.{call_of}
+use Rattle.lsp_verdict.specs.Given.{given_offence}
+use Rattle.lsp_verdict.specs.Offences.{breaks_handshake, events_of, is_handshake_lost}
+use Rattle.lsp_verdict.specs.Offences.{wants_handshake, wants_text}
+use Rattle.lsp_verdict.specs.Verdict.{no_next, who_of}
+use Rattle.lsp_survey.proofs.SidesSteps.{message_after, message_answers, message_late}
+use Rattle.lsp_survey.proofs.walk.Replay.refuse_message.Goals as goal
+
+pub returns-clause-passes : goal.returns-clause-passes
+returns-clause-passes c =
+    let refused = c.refuse-offence.ensures in
+    let old = c.args.self.now in
+    let side = c.args.side in
+    let rule = c.args.rule in
+    let asks = asks_of side (message_view c.args.spoken.message) in
+    record {
+      found = _;
+      is_given = refl;
+      is_such = refl;
+      counted = let counted = rw c.who_of.ensures at refused.counted in record {
+        session = counted.session;
+        documents = counted.documents;
+        counts = counted.counts;
+      };
+      is_broken = λ event kept is holds. refused.broken
+          ∙ ap (λ b. old.broken || b) (c.breaks_handshake-breaks.ensures
+          ∙ ap (λ b. breaks_handshake b rule) c.asks_handshake.ensures
+          ∙ message_answers side (breaks_handshake asks rule) kept event is);
+      sides = λ event is. c.after_message.ensures ∙ ap (sides_read side) refused.sides
+          ∙ message_after side old.sides event is;
+      noted = λ enc kind. subst (λ (w : Notes).
+          AreAfter (Some rule) (call_of enc kind (act_view c.args.spoken.act)) w.map.entries
+          c.note_refused_act.new.notes.map.entries) refused.notes
+          (c.in_ok-note_refused_act.ensures enc kind);
+      marks = refused.marks;
+      openings = refused.openings;
+      said = refused.said;
+      offence = λ enc kind notes event is walks.
+          let lost = wants_handshake rule && is_handshake_lost old.events.docs.terms notes in
+          (rw c.who_of.ensures at refused.offence notes walks)
+          ∙ ap (λ b. given_offence (record {
+            no = no_next rule (who_of side) (events_of notes);
+            follows = b;
+          }))
+          (c.follows-follows.ensures notes walks
+          ∙ ap (λ on_lost. lost || (wants_text rule && on_lost || c.message_follows-late.result))
+          (c.is_on_lost-on_lost.ensures enc kind)
+          ∙ ap (λ late. lost || (wants_text rule && _ || late))
+          (c.message_follows-late.ensures
+          ∙ message_late rule side old.sides (events_of notes) walks.sided event is));
+    }
