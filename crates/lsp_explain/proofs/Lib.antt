@@ -17,6 +17,7 @@ pub mod AllLaws
 pub mod OneExplanation
 pub mod Differing
 pub mod Naming
+pub mod NoteLines
 pub mod Offers
 pub mod MadeChanges
 pub mod Refusals
@@ -24,5 +25,6 @@ pub mod AtEdges
 pub mod OtherTexts
 pub mod DocumentRules
 pub mod Refused
+pub mod ShapedMembers
 pub mod SomeFacts
 pub mod OneFacts

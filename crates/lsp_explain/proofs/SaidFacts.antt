@@ -20,7 +20,8 @@ use Rattle.lsp_explain.specs.FlawFacts.{Rests, rest_of, frame_facts}
 use Rattle.lsp_explain.specs.Lines.{bare_event, content_event, content_message, event_line}
 use Rattle.lsp_explain.specs.Lines.{message_event}
 use Rattle.lsp_explain.proofs.Naming.{message_named}
-use Rattle.lsp_explain.specs.MessageFacts.{content_facts}
+use Rattle.lsp_explain.specs.ContentFacts.{content_facts}
+use Rattle.lsp_explain.specs.MessageFacts.{front_facts}
 use Rattle.lsp_explain.specs.RunSteps.{ShowsFault}
 use Rattle.lsp_explain.specs.Traced.{AreTraced}
 use Rattle.lsp_explain.proofs.Spoken.{same_line}
@@ -32,7 +33,7 @@ module _ (terms : Terms) (before : List Event) (rule : ℕ) where
   -- what is said of what was found, where these bytes are held of its side
   abbrev pub Says : List ℕ → OffendingEvent → List Fact → Type 0
   Says rest (what.Frames by) facts = facts ≡ frame_facts rest
-  Says rest (what.Content by given) facts = facts ≡ content_facts given.items
+  Says rest (what.Content by given) facts = facts ≡ content_facts rule given.items
   Says rest (what.Message by spoken) facts =
       (bytes : List ℕ) → (refused : RefusesMessage by bytes (message_view spoken.message)
       (act_view spoken.act) terms kept rule)
@@ -57,13 +58,13 @@ module _ (terms : Terms) (before : List Event) (rule : ℕ) where
       → AreAll rests raw event facts
   facts_said rest rests (broken side code) event (what.Frames by) facts reads is offends seen says =
       subst (λ e. AreAll rests (broken side code) e facts) (sym reads)
-      (facts, says ∙ ap content_facts seen ∙ ap (λ s. frame_facts (rest_of rests s)) is, refl)
+      (facts, says ∙ ap front_facts seen ∙ ap (λ s. frame_facts (rest_of rests s)) is, refl)
   facts_said rest rests (content side bytes) event (what.Content by given) facts reads is offends
       seen says =
       let same : event ≡ fault side rule =
       one_event side bytes event (fault side rule) reads is.2 in
       subst (λ e. AreAll rests (content side bytes) e facts) (sym same)
-      (facts, says ∙ ap content_facts is.1, refl)
+      (facts, says ∙ ap (content_facts rule) is.1, refl)
   facts_said rest rests (content side bytes) event (what.Message by spoken) facts reads is offends
       seen says =
       let refused = is.1 in

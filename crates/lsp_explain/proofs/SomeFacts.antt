@@ -263,6 +263,6 @@ module _ (terms : Terms) (kept : List Event) (rule : ℕ) where
 
   -- there are facts on each event that offends
   pub some_facts : (rests : Rests) (raw : Raw) (event : Event) → offence terms kept event ≡ Some rule → (facts : List Fact) × AreFacts rests terms kept raw event rule facts
-  some_facts rests raw (fault side number) e = (fault_facts rests raw, refl)
+  some_facts rests raw (fault side number) e = (fault_facts rests rule raw, refl)
   some_facts rests raw (message m) e = some_message_facts m e (nat_lt rule 601) refl
   some_facts rests raw (snapshot uri number text) e = some_call_facts (call_at kept (snapshot uri number text)) e

@@ -10,18 +10,19 @@ use Rattle.lsp_verdict.specs.Calls.{call_at, calls}
 use Rattle.lsp_verdict.specs.Event.{Event, message, fault, snapshot, sent_in}
 use Rattle.lsp_verdict.specs.Placed as placed
 use Rattle.lsp_verdict.specs.Placed.{Raw, broken, show}
+use Rattle.lsp_explain.specs.ContentFacts.{content_facts}
 use Rattle.lsp_explain.specs.DocumentFacts.{AreDocumentFacts}
 use Rattle.lsp_explain.specs.Fact.{Fact}
 use Rattle.lsp_explain.specs.FlawFacts.{Rests, rest_of, frame_facts}
-use Rattle.lsp_explain.specs.MessageFacts.{content_facts, session_facts}
+use Rattle.lsp_explain.specs.MessageFacts.{session_facts}
 use Rattle.lsp_types.specs.declared.rules.TheConstants as rules
 
--- of a content that is not a message, or of the header part that has a fault of the frames; these
+-- of a content that breaks this rule, or of the header part that has a fault of the frames; these
 -- are the rests of both sides' whole streams
-abbrev pub fault_facts : Rests → Raw → List Fact
-fault_facts rests (placed.content side bytes) = content_facts bytes
-fault_facts rests (broken side rule) = frame_facts (rest_of rests side)
-fault_facts rests (show number uri text) = []
+abbrev pub fault_facts : Rests → ℕ → Raw → List Fact
+fault_facts rests rule (placed.content side bytes) = content_facts rule bytes
+fault_facts rests rule (broken side code) = frame_facts (rest_of rests side)
+fault_facts rests rule (show number uri text) = []
 
 -- a call on a document that breaks this rule after the kept events
 abbrev pub AreCallFacts : Terms → List Event → ℕ → Option Call → List Fact → Type 0
@@ -41,7 +42,7 @@ AreMessageFacts terms kept m rule facts =
 
 -- **the facts on an event that offends by this rule after the kept ones before it**
 abbrev pub AreFacts : Rests → Terms → List Event → Raw → Event → ℕ → List Fact → Type 0
-AreFacts rests terms kept raw (fault side number) rule facts = facts ≡ fault_facts rests raw
+AreFacts rests terms kept raw (fault side number) rule facts = facts ≡ fault_facts rests rule raw
 AreFacts rests terms kept raw (message m) rule facts = AreMessageFacts terms kept m rule facts
 AreFacts rests terms kept raw (snapshot uri number text) rule facts =
     AreCallFacts terms kept rule (call_at kept (snapshot uri number text)) facts

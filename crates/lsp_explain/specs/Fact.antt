@@ -64,6 +64,8 @@ pub data Fact : Type 0 where
   -- how many messages can have made texts differ, and one of them, by its version and its event
   has_suspects : ℕ → Fact
   suspects : ℤ → ℕ → Fact
+  -- the open request whose id is the same but for its type, with the event that asked it
+  opens_as : Ident → ℕ → Fact
   -- the event that answered a request, that asked one, and that led to the phase
   answered_by : ℕ → Fact
   asked_by : ℕ → Fact
@@ -75,6 +77,12 @@ pub data Fact : Type 0 where
   similar_to : List ℕ → ℕ → Fact
   -- the front of a content
   begins : List ℕ → Fact
+  -- how many bytes of it come before the place where it breaks, and what is before and after that
+  breaks : ℕ → Fact
+  before : List ℕ → Fact
+  after : List ℕ → Fact
+  -- the member that does not have its shape, by a pointer
+  wrong_at : List ℕ → Fact
   -- the number of a record, the byte at which it begins, and the line that is there
   in_record : ℕ → Fact
   at_byte : ℕ → Fact
@@ -112,6 +120,7 @@ fact_view (facts.Snapshot event) = shown_by event
 fact_view (facts.Equal number event) = equal_by number event
 fact_view (facts.Suspects count) = has_suspects count
 fact_view (facts.Suspect number event) = suspects number event
+fact_view (facts.Open id event) = opens_as (id_view id) event
 fact_view (facts.Answered event) = answered_by event
 fact_view (facts.Asked event) = asked_by event
 fact_view (facts.Since event) = led_by event
@@ -119,6 +128,10 @@ fact_view (facts.Closed event) = closed_by event
 fact_view facts.NeverOpened = never_opened
 fact_view (facts.Similar uri event) = similar_to (string_bytes uri) event
 fact_view (facts.Begins text) = begins (string_bytes text)
+fact_view (facts.Breaks place) = breaks place
+fact_view (facts.Before text) = before (string_bytes text)
+fact_view (facts.After text) = after (string_bytes text)
+fact_view (facts.Member pointer) = wrong_at (string_bytes pointer)
 fact_view (facts.Record number) = in_record number
 fact_view (facts.Byte place) = at_byte place
 fact_view (facts.Found text) = finds (string_bytes text)

@@ -11,7 +11,7 @@ use Rattle.lsp_log.specs.declared.fault.LogCode.{LogCode}
 use Rattle.lsp_verdict.specs.declared.verdict.Who.{Who}
 use Rattle.lsp_verdict.specs.declared.verdict.Who.TheVariants as who
 use Rattle.lsp_explain.specs.Fact.{Fact, in_record, at_byte, finds}
-use Rattle.lsp_explain.specs.MessageFacts.{text_front, content_facts}
+use Rattle.lsp_explain.specs.MessageFacts.{text_front, front_facts}
 
 -- ---- frames: 101 to 107
 
@@ -33,11 +33,11 @@ side_by who.Snapshot = Editor
 -- 101 to 106 lie in a header part, found in these bytes; the bytes after it are not looked
 -- at, since more of them may follow
 abbrev pub frame_facts : List ℕ → List Fact
-frame_facts rest = content_facts (header_front rest)
+frame_facts rest = front_facts (header_front rest)
 
 -- 107 describes all that there is of the last frame
 abbrev pub unfinished_facts : List ℕ → List Fact
-unfinished_facts rest = content_facts rest
+unfinished_facts rest = front_facts rest
 
 -- ---- logs
 

@@ -1,7 +1,9 @@
 pub mod Suspects
 pub mod Unopened
+pub mod Twins
 pub mod Traced
 pub mod Standing
+pub mod Remarks
 pub mod Explained
 pub mod ExplainLaws
 pub mod RunSteps
@@ -13,8 +15,12 @@ pub mod Fact
 pub mod Lines
 pub mod FlawFacts
 pub mod MessageFacts
+pub mod ContentFacts
+pub mod Grammar
 pub mod Refuting
 pub mod DocumentFacts
 pub mod EventFacts
 pub mod Making
+pub mod Members
+pub mod MemberLaws
 pub mod Comparing

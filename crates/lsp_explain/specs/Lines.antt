@@ -30,7 +30,8 @@ use Rattle.lsp_explain.specs.Fact.{in_editor, saved_line, keeps, has_id, in_phas
 use Rattle.lsp_explain.specs.Fact.{registers, waits, waits_since, shown_by, equal_by, has_suspects}
 use Rattle.lsp_explain.specs.Fact.{suspects}
 use Rattle.lsp_explain.specs.Fact.{answered_by, asked_by, led_by, closed_by, never_opened}
-use Rattle.lsp_explain.specs.Fact.{similar_to, begins, in_record, at_byte, finds}
+use Rattle.lsp_explain.specs.Fact.{similar_to, begins, wrong_at, in_record}
+use Rattle.lsp_explain.specs.Fact.{after, at_byte, before, breaks, finds, opens_as}
 use Rattle.lsp_explain.specs.Part.{Part}
 use Rattle.lsp_types.specs.declared.rules.TheConstants as rules
 
@@ -123,6 +124,8 @@ fact_line (shown_by event) = cited (codes "snapshot") event
 fact_line (equal_by number event) = version_by (codes "equal") number event
 fact_line (has_suspects count) = line (codes "suspects" ∷ decimal count ∷ [])
 fact_line (suspects number event) = version_by (codes "suspect") number event
+fact_line (opens_as id event) =
+    line (codes "open" ∷ id_text id ∷ codes "event" ∷ decimal event ∷ [])
 fact_line (answered_by event) = cited (codes "answered") event
 fact_line (asked_by event) = cited (codes "asked") event
 fact_line (led_by event) = cited (codes "since") event
@@ -131,6 +134,10 @@ fact_line never_opened = line (codes "opened" ∷ codes "never" ∷ [])
 fact_line (similar_to uri event) =
     line (codes "similar" ∷ quoted uri ∷ codes "event" ∷ decimal event ∷ [])
 fact_line (begins text) = line (codes "begins" ∷ quoted text ∷ [])
+fact_line (breaks place) = line (codes "breaks" ∷ decimal place ∷ [])
+fact_line (before text) = line (codes "before" ∷ quoted text ∷ [])
+fact_line (after text) = line (codes "after" ∷ quoted text ∷ [])
+fact_line (wrong_at pointer) = line (codes "member" ∷ quoted pointer ∷ [])
 fact_line (in_record number) = line (codes "record" ∷ decimal number ∷ [])
 fact_line (at_byte place) = line (codes "byte" ∷ decimal place ∷ [])
 fact_line (finds text) = line (codes "found" ∷ quoted text ∷ [])

@@ -1,6 +1,7 @@
 -- What is said about a message that offends, read off the messages before.
-use Rattle.std.specs.Prelude.{ℕ, suc, ◌-◌, nat_lt, List, [], ◌∷◌, length, take, if◌then◌else◌}
-use Rattle.std.specs.Prelude.{Option, Some, None, option_map, option_to_list, unwrap_or}
+use Rattle.std.specs.Prelude.{ℕ, suc, ◌-◌, nat_lt, List, [], ◌∷◌, ◌++◌, length, take}
+use Rattle.std.specs.Prelude.{Option, Some, None, if◌then◌else◌, option_map}
+use Rattle.std.specs.Prelude.{option_to_list, unwrap_or}
 use Rattle.std.specs.Str.Lossy.{utf8_valid_len}
 use Rattle.lsp_rpc.specs.Act.{Text, Act, Picked, register}
 use Rattle.lsp_rpc.specs.Ident.{Ident}
@@ -11,17 +12,27 @@ use Rattle.lsp_session.specs.Negotiation.{is_synchronisation}
 use Rattle.lsp_session.specs.Sent.{Sent}
 use Rattle.lsp_verdict.specs.Offences.{is_within}
 use Rattle.lsp_explain.specs.Fact.{Fact, has_id, in_phase, offers, picks, registers, begins}
+use Rattle.lsp_explain.specs.Fact.{wrong_at}
+use Rattle.lsp_explain.specs.Members.{Pointer, wrong_result}
 use Rattle.lsp_frame.specs.Front.{shown_bytes}
 use Rattle.lsp_types.specs.declared.rules.TheConstants as rules
 
--- ---- contents that are not a message: 201 to 209
+-- ---- bytes that are shown as text
 
 -- the longest front of some bytes that is UTF-8
 abbrev pub text_front : List ℕ → List ℕ
 text_front bytes = take (utf8_valid_len bytes) bytes
 
-abbrev pub content_facts : List ℕ → List Fact
-content_facts content = begins (text_front (take shown_bytes content)) ∷ []
+-- as much of that as lies within so many bytes
+abbrev pub shown : ℕ → List ℕ → List ℕ
+shown most bytes = text_front (take most bytes)
+
+-- how some bytes begin
+abbrev pub front_facts : List ℕ → List Fact
+front_facts bytes = begins (shown shown_bytes bytes) ∷ []
+
+abbrev pub member_facts : Option Pointer → List Fact
+member_facts found = option_to_list (option_map wrong_at found)
 
 -- ---- ids: 301 and 302
 
@@ -53,11 +64,13 @@ offer_fact names =
     let count = names_fitting offered_bytes names in offers (take count names)
     (length names - count)
 
--- the encodings that were offered, and the one that is picked where the result has the shape
+-- the encodings that were offered, and the one that is picked where the result has the shape, else
+-- the member that does not
 abbrev pub settled_facts : Option Settled → List Fact
 settled_facts None = []
 settled_facts (Some settled) =
-    offer_fact (unwrap_or settled.offer.encodings []) ∷ pick_facts (picked_at settled.value)
+    offer_fact (unwrap_or settled.offer.encodings [])
+    ∷ (pick_facts (picked_at settled.value) ++ member_facts (wrong_result settled.value))
 
 -- the first of the methods that is one of text synchronisation
 abbrev pub first_synchronisation : List Text → Option Text

@@ -25,12 +25,13 @@ use Rattle.lsp_survey.specs.Marking.{waiting_for}
 use Rattle.lsp_survey.specs.declared.notes.mark.Setter.{Setter}
 use Rattle.lsp_survey.specs.declared.notes.mark.Shown.{Shown}
 use Rattle.lsp_explain.specs.Fact.{Fact, holds, waits, waits_since, holds_by, shown_by, equal_by}
-use Rattle.lsp_explain.specs.Fact.{answered_by, asked_by, led_by, in_phase}
+use Rattle.lsp_explain.specs.Fact.{answered_by, asked_by, led_by, in_phase, opens_as}
 use Rattle.lsp_explain.specs.MessageFacts.{id_in}
 use Rattle.lsp_explain.specs.Refuting.{refuting}
 use Rattle.lsp_types.specs.declared.rules.TheConstants as rules
 use Rattle.lsp_explain.specs.Suspects.{suspect_facts, until_of}
 use Rattle.lsp_explain.specs.Unopened.{unopened_traced}
+use Rattle.lsp_explain.specs.Twins.{twin}
 use Rattle.lsp_explain.specs.declared.suspects.Until.{Until}
 
 -- a fact on an event, where there is one
@@ -113,11 +114,19 @@ answer_facts side said id =
 abbrev pub asking_facts : Side → List Numbered → Option Ident → List Fact
 asking_facts side said id = number_facts asked_by (option_and_then (λ own. asked side own said) id)
 
--- 301 and 302: the event that answered a request of this id before; 302 too: the one that asked it
--- and is open; 401 to 412: the one that led to the phase
+-- the side's open request whose id differs from this one in its type alone
+abbrev pub twin_facts : Side → List Numbered → Option Ident → List Fact
+twin_facts side said None = []
+twin_facts side said (Some own) = number_facts (opens_as own) (asked side own said)
+
+-- 301 and 302: the event that answered a request of this id before; 301 too: the open request whose
+-- id differs in its type alone; 302 too: the event that asked it and is open; 401 to 412: the one
+-- that led to the phase
 abbrev pub session_trace : ℕ → List Numbered → Side → Option Ident → List Fact
 session_trace rule said side id =
-    if rule == rules.RESPONSE_TO_NO_OPEN_REQUEST then answer_facts (other_side side) said id
+    if rule == rules.RESPONSE_TO_NO_OPEN_REQUEST
+    then twin_facts (other_side side) said (option_and_then twin id)
+    ++ answer_facts (other_side side) said id
     else (if rule == rules.ID_ALREADY_OPEN
     then asking_facts side said id ++ answer_facts side said id
     else (if is_within rules.EDITOR_BEFORE_INITIALIZE rules.SERVER_WHILE_INITIALIZE_OPEN rule

@@ -9,10 +9,12 @@
 mod facts;
 mod laws;
 mod offence_facts;
+mod remarks;
 mod run;
 mod run_all;
 mod suspects;
 mod trace;
+mod twins;
 mod unopened;
 
 pub use facts::{
@@ -20,9 +22,9 @@ pub use facts::{
     unfinished_facts,
 };
 pub use laws::{
-    all_explained_are_causes, explanation_begins_with_report, explanation_of_yes_is_report,
-    first_explained_is_verdict, one_explanation, one_explanation_of_all, some_explanation,
-    some_explanation_of_all,
+    all_explained_are_causes, bad_params_have_a_member, bad_result_has_a_member,
+    explanation_begins_with_report, explanation_of_yes_is_report, first_explained_is_verdict,
+    one_explanation, one_explanation_of_all, some_explanation, some_explanation_of_all,
 };
 pub use run::run_explain;
 pub use run_all::run_explain_all;

@@ -52,7 +52,7 @@ fn facts_of(
 {
     match offending {
         OffendingEvent::Frames(_) => frame_facts(alloc, rest),
-        OffendingEvent::Content { content, .. } => content_facts(alloc, content.as_slice()),
+        OffendingEvent::Content { content, .. } => content_facts(alloc, content.as_slice(), rule),
         OffendingEvent::Message { side, spoken } => {
             let side = *side;
             message_traced(alloc, events, number, side, spoken, rule)

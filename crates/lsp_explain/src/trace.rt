@@ -4,6 +4,7 @@ ghost use Rattle.std.specs.Prelude.{List, IfOk, OnOk, map, vec_len};
 ghost use Rattle.std.specs.Prelude.{option_and_then};
 ghost use Rattle.lsp_docs.specs.Calls.{Call, shows};
 ghost use Rattle.lsp_docs.specs.Terms.{Terms};
+ghost use Rattle.lsp_rpc.specs.Ident.{id_view};
 ghost use Rattle.lsp_rpc.specs.View.{act_view, message_view};
 ghost use Rattle.lsp_session.specs.Entry.{request_view};
 ghost use Rattle.lsp_session.specs.Sent.{other_side};
@@ -22,12 +23,14 @@ ghost use Rattle.lsp_explain.specs.MessageFacts.{id_in};
 ghost use Rattle.lsp_explain.specs.Refuting.{refuting};
 ghost use Rattle.lsp_explain.specs.Standing.{StandsAfter, terms_in};
 ghost use Rattle.lsp_explain.specs.Traced as spec;
+ghost use Rattle.lsp_explain.specs.Twins.{twin};
 ghost use Rattle.lsp_types.specs.declared.rules.TheConstants as rules;
 
 use crate::facts::{Fact, id_in, message_facts, refuting, shown_facts};
 use crate::suspects::{Until, push_suspects};
+use crate::twins::twin_of;
 use crate::unopened::trace_unopened;
-use lsp_rpc::{Act, Encoding, Memory, Message, Side, Spoken, copy_id};
+use lsp_rpc::{Act, Encoding, Id, Memory, Message, Side, Spoken, copy_id};
 use lsp_session::{OpenRequest, Pending};
 use lsp_survey::{Marks, SessionNotes, Setter, Shown, SurveyReader};
 use lsp_types::rules;
@@ -107,7 +110,7 @@ fn trace_spoken(
 {
     if rule < rules::FIRST_ON_DOCUMENTS {
         let said = events.session_notes();
-        return trace_message(facts, said, side, &spoken.message, rule);
+        return trace_message(alloc, facts, said, side, &spoken.message, rule);
     }
     trace_act(alloc, facts, events, number, &spoken.act, rule)?;
     trace_unopened(alloc, facts, events, &spoken.act, rule)
@@ -227,9 +230,11 @@ fn trace_snapshot(
 }
 
 /// Adds to the facts on a message of a side that breaks this rule, 301 to 504, under 301 and 302
-/// the event that answered a request of its id before, under 302 also the one that asked the
-/// request that is open, under 401 to 412 the one that led to the phase.
+/// the event that answered a request of its id before, under 301 also the open request whose id
+/// differs in its type alone, under 302 the event that asked the request that is open, under 401 to
+/// 412 the one that led to the phase.
 fn trace_message(
+    alloc: Global,
     facts: &mut Vec<Fact>,
     said: &SessionNotes,
     side: Side,
@@ -242,10 +247,10 @@ fn trace_message(
         (id_in (message_view message.now))) }
 {
     match rule {
-        rules::RESPONSE_TO_NO_OPEN_REQUEST => push_answered(
-            facts,
-            answered(said, other_side(side), message),
-        ),
+        rules::RESPONSE_TO_NO_OPEN_REQUEST => {
+            push_twin(alloc, facts, said, other_side(side), message)?;
+            push_answered(facts, answered(said, other_side(side), message))
+        }
         rules::ID_ALREADY_OPEN => {
             push_asked(facts, asked(said, side, message))?;
             push_answered(facts, answered(said, side, message))
@@ -256,6 +261,40 @@ fn trace_message(
         ),
         _ => Ok(()),
     }
+}
+
+/// Adds this side's open request whose id differs from that of a message in its type alone.
+fn push_twin(
+    alloc: Global,
+    facts: &mut Vec<Fact>,
+    said: &SessionNotes,
+    side: Side,
+    message: &Message,
+) -> Result<(), Memory>
+    ensures { OnOk result ((terms : Terms) (before : List Event) → AreNotes terms said.now before
+        → facts_view facts.new.items ≡ facts_view facts.old.items
+        ++ spec.twin_facts side (numbered terms before)
+        (option_and_then twin (id_in (message_view message.now)))) }
+{
+    let Some(id) = id_in(message) else {
+        return Ok(());
+    };
+    match twin_of(alloc, id)? {
+        Some(twin) => push_open(facts, said, side, twin),
+        None => Ok(()),
+    }
+}
+
+/// Adds the open request of this side with this id, if there is one.
+fn push_open(facts: &mut Vec<Fact>, said: &SessionNotes, side: Side, id: Id) -> Result<(), Memory>
+    ensures { OnOk result ((terms : Terms) (before : List Event) → AreNotes terms said.now before
+        → facts_view facts.new.items ≡ facts_view facts.old.items
+        ++ spec.twin_facts side (numbered terms before) (Some (id_view id))) }
+{
+    let Some(event) = said.asked(side, &id) else {
+        return Ok(());
+    };
+    Ok(facts.push(Fact::Open { id, event })?)
 }
 
 /// The event that answered a request of this side with the id of a message last.

@@ -14,8 +14,8 @@ use Rattle.lsp_survey.specs.SessionNoting.{asked_in}
 
 -- ---- a map by ids
 
-pub lookup_in : (t : Id → Bool) (id : Ident) → ((k : Id) → t k ≡ same_id id (id_view k))
-    → (es : List (Id × ℕ)) → lookup t es ≡ asked_in es id
+pub lookup_in : {X : Type 0} (t : Id → Bool) (id : Ident) → ((k : Id) → t k ≡ same_id id (id_view k))
+    → (es : List (Id × X)) → lookup t es ≡ asked_in es id
 lookup_in t id agrees [] = refl
 lookup_in t id agrees (e ∷ es) =
     elim (cases_Bool (t e.0)) [
@@ -24,17 +24,17 @@ lookup_in t id agrees (e ∷ es) =
     ]
 
 -- what the map's own words say of a change
-pub updates_in : (eq : Id → Id → Bool) → ((a b : Id) → eq a b ≡ same_id (id_view a) (id_view b))
+pub updates_in : {X : Type 0} (eq : Id → Id → Bool) → ((a b : Id) → eq a b ≡ same_id (id_view a) (id_view b))
     → (id : Ident) (t : Id → Bool) → ((q : Id) → t q ≡ same_id id (id_view q))
-    → (w : Option ℕ) (old new : List (Id × ℕ))
+    → (w : Option X) (old new : List (Id × X))
     → ((q : Id) → lookup (eq q) new ≡ cond (t q) w (lookup (eq q) old))
     → (k : Id) → asked_in new (id_view k) ≡ (if same_id id (id_view k) then w else asked_in old
     (id_view k))
-updates_in eq agrees id t at w old new says k =
+updates_in {X} eq agrees id t at w old new says k =
     sym (lookup_in (eq k) (id_view k) (agrees k) new)
     ∙ says k
     ∙ ap (λ (b : Bool). cond b w (lookup (eq k) old)) (at k)
-    ∙ ap (λ (o : Option ℕ). cond (same_id id (id_view k)) w o)
+    ∙ ap (λ (o : Option X). cond (same_id id (id_view k)) w o)
     (lookup_in (eq k) (id_view k) (agrees k) old)
 
 -- ---- answers

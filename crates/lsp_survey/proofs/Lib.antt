@@ -6,9 +6,11 @@ pub mod Marking
 pub mod MarkSteps
 pub mod MarksWorked
 pub mod OpeningSteps
+pub mod RemarkSteps
 pub mod SessionSteps
 pub mod Waiting
 pub mod SidesSteps
+pub mod PassedSteps
 pub mod Passing
 pub mod Hearing
 pub mod FrameRules
@@ -17,3 +19,4 @@ pub mod Ending
 pub mod Reading
 pub mod LogEnds
 pub mod Reporting
+pub mod KeptTexts

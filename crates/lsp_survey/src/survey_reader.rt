@@ -211,6 +211,7 @@ impl SurveyReader {
     }
 
     /// The result of the end of the log.
+    #[inline(never)]
     fn end(&self, end: replay::End) -> Result<SurveyEnd, Memory>
         ensures { IfOk result (λ told. EndIs self.now end told) }
     {

@@ -16,7 +16,7 @@ use Rattle.lsp_verdict.specs.Event.{Event, message, sent_in}
 use Rattle.lsp_verdict.proofs.Worked.Templates.{I1, IE, A, A1, START, REQ, SH, EX, RES, ERR, LOG, REG, CANCEL}
 use Rattle.lsp_explain.specs.Fact.{begins}
 use Rattle.lsp_explain.specs.Lines.{fact_lines}
-use Rattle.lsp_explain.specs.MessageFacts.{content_facts, session_facts}
+use Rattle.lsp_explain.specs.MessageFacts.{front_facts, session_facts}
 
 -- what is said of a message that breaks this rule behind these events
 abbrev said : ℕ → List Event → Event → List ℕ
@@ -73,7 +73,8 @@ server_too_early = refl
 
 -- ---- what is agreed
 
-bad_result : said 501 (I1 ∷ []) (A (codes "1") (codes "{\"textDocumentSync\":3}")) ≡ codes "offered\n"
+bad_result : said 501 (I1 ∷ []) (A (codes "1") (codes "{\"textDocumentSync\":3}"))
+    ≡ codes "offered\nmember \"/capabilities/textDocumentSync\"\n"
 unfolding value punctuate lex content word after_number number_of scan_numeral chars digits escape_byte
 bad_result = refl
 
@@ -89,17 +90,17 @@ registers_opening : said 504 START (REG (codes "textDocument/didOpen")) ≡ code
 unfolding value punctuate lex content word after_number number_of scan_numeral chars digits escape_byte
 registers_opening = refl
 
--- ---- contents that are no message
+-- ---- how bytes begin
 
-a_greeting : fact_lines (content_facts (codes "hi\n")) ≡ codes "begins \"hi\\n\"\n"
+a_greeting : fact_lines (front_facts (codes "hi\n")) ≡ codes "begins \"hi\\n\"\n"
 unfolding utf8_valid_len is_utf8 chars encode digits escape_byte
 a_greeting = refl
 
 -- a character that breaks off is left out
-cut_inside : content_facts (97 ∷ 195 ∷ []) ≡ begins (97 ∷ []) ∷ []
+cut_inside : front_facts (97 ∷ 195 ∷ []) ≡ begins (97 ∷ []) ∷ []
 unfolding utf8_valid_len is_utf8 chars encode
 cut_inside = refl
 
-not_a_byte : content_facts (255 ∷ 97 ∷ []) ≡ begins [] ∷ []
+not_a_byte : front_facts (255 ∷ 97 ∷ []) ≡ begins [] ∷ []
 unfolding utf8_valid_len is_utf8 chars encode
 not_a_byte = refl

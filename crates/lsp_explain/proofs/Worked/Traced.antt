@@ -1,6 +1,6 @@
 -- By which events it came, in worked sessions.
 use Rattle.std.proofs.Common.{◌≡◌, ℕ, ◌∷◌, [], List, ◌++◌, refl}
-use Rattle.std.specs.Prelude.{codes, pos, true, false}
+use Rattle.std.specs.Prelude.{codes, negsuc, pos, Some, None, true, false}
 use Rattle.std.specs.Float.Numeral.{scan_numeral}
 use Rattle.std.specs.Str.{chars}
 use Rattle.std.specs.Fmt.{digits}
@@ -13,6 +13,7 @@ use Rattle.percent_encoding.specs.Percent.{percent_decode}
 use Rattle.serde_json.specs.Read.{number_of}
 use Rattle.lsp_types.specs.declared.line_ends.LineEnds.TheVariants.{Exact}
 use Rattle.lsp_docs.specs.Terms.{Terms}
+use Rattle.lsp_rpc.specs.Ident.{number, text}
 use Rattle.lsp_survey.specs.Asking.{numbered}
 use Rattle.lsp_verdict.specs.Event.{Event}
 use Rattle.lsp_verdict.proofs.Worked.Templates.{terms, I1, N1, START, OPEN, CHG, FULL, CLOSE, REQ}
@@ -20,6 +21,7 @@ use Rattle.lsp_verdict.proofs.Worked.Templates.{RES, ERR, T}
 use Rattle.lsp_explain.specs.Fact.{Fact, of_uri, holds, shows_version}
 use Rattle.lsp_explain.specs.Lines.{fact_lines}
 use Rattle.lsp_explain.specs.Traced.{traced, lack_traced}
+use Rattle.lsp_explain.specs.Twins.{twin}
 use Rattle.lsp_explain.specs.Unopened.{is_similar}
 
 -- what is said of an event that breaks this rule behind these, where this is said of it by itself
@@ -51,6 +53,33 @@ passed_over : with_events 301 (START ++ REQ ∷ REQ ∷ RES (codes "7") ∷ []) 
 unfolding value punctuate lex content word after_number number_of scan_numeral chars digits
     escape_byte
 passed_over = refl
+
+-- an open request whose id is of another type
+other_type : with_events 301 (START ++ REQ ∷ []) (RES (codes "\"7\"")) []
+    ≡ codes "open 7 event 4\n"
+unfolding value punctuate lex content word after_number number_of scan_numeral chars digits
+    escape_byte
+other_type = refl
+
+of_a_number : twin (number (negsuc 11)) ≡ Some (text (codes "-12"))
+unfolding digits
+of_a_number = refl
+
+of_a_text : twin (text (codes "-2147483648")) ≡ Some (number (negsuc 2147483647))
+unfolding digits
+of_a_text = refl
+
+too_great : twin (text (codes "2147483648")) ≡ None
+unfolding digits
+too_great = refl
+
+zero_in_front : twin (text (codes "07")) ≡ None
+unfolding digits
+zero_in_front = refl
+
+a_sign_before_nothing : twin (text (codes "-0")) ≡ None
+unfolding digits
+a_sign_before_nothing = refl
 
 -- ---- the phase
 

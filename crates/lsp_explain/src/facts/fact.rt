@@ -75,6 +75,9 @@ pub enum Fact {
     Suspects(u64),
     /// The version that one of them set, and the number of its event, from 1.
     Suspect { version: i32, event: u64 },
+    /// The id of an open request that differs in its type alone, and the number of the event that
+    /// asked it, from 1.
+    Open { id: Id, event: u64 },
     /// The number of the event that answered a request of this id, from 1.
     Answered(u64),
     /// The number of the event that asked the open request of this id, from 1.
@@ -89,6 +92,16 @@ pub enum Fact {
     Similar { uri: String, event: u64 },
     /// The front of a content that is not a message.
     Begins(String),
+    /// How many bytes of a content come before the first one that cannot stand there, all of them if
+    /// it ends too early (RFC 8259).
+    Breaks(u64),
+    /// What comes before that place.
+    Before(String),
+    /// What comes after it.
+    After(String),
+    /// The member of the params or of the result that does not have its shape, as a JSON pointer
+    /// (RFC 6901) from there.
+    Member(String),
     /// The number of a record of the log, from 1; 0 for the first line.
     Record(u64),
     /// How many bytes of the log come before it.

@@ -4,7 +4,7 @@ ghost use Rattle.lsp_explain.specs.Fact.{facts_view};
 ghost use Rattle.lsp_explain.specs.FlawFacts as spec;
 
 use crate::facts::fact::Fact;
-use crate::facts::messages::{content_facts, text_front};
+use crate::facts::messages::{front_facts, text_front};
 use lsp_frame::header_front;
 use lsp_rpc::Memory;
 use std::alloc::Global;
@@ -17,7 +17,7 @@ use std::alloc::Global;
 pub fn frame_facts(alloc: Global, rest: &[u8]) -> Result<Vec<Fact>, Memory>
     ensures { IfOk result (λ facts. facts_view facts.items ≡ spec.frame_facts rest.now) }
 {
-    content_facts(alloc, header_front(rest))
+    front_facts(alloc, header_front(rest))
 }
 
 /// What is said about a stream that ends inside a frame, 107: how that begins, of the bytes after
@@ -28,7 +28,7 @@ pub fn frame_facts(alloc: Global, rest: &[u8]) -> Result<Vec<Fact>, Memory>
 pub fn unfinished_facts(alloc: Global, rest: &[u8]) -> Result<Vec<Fact>, Memory>
     ensures { IfOk result (λ facts. facts_view facts.items ≡ spec.unfinished_facts rest.now) }
 {
-    content_facts(alloc, rest)
+    front_facts(alloc, rest)
 }
 
 /// What is said about a log that has a fault: the number of its record, from 1, and 0 for the first

@@ -10,7 +10,8 @@ ghost use Rattle.lsp_rpc.specs.View.{message_view, texts_view};
 ghost use Rattle.lsp_verdict.specs.Report.{encoding_name, line};
 ghost use Rattle.lsp_explain.specs.Fact.{fact_view, facts_view, has_kind, counts_in, differs_at};
 ghost use Rattle.lsp_explain.specs.Fact.{fails, in_phase, has_id, waits, waits_since, keeps};
-ghost use Rattle.lsp_explain.specs.Fact.{fits_in, in_line_ends, never_opened, offers, similar_to};
+ghost use Rattle.lsp_explain.specs.Fact.{fits_in, in_line_ends, never_opened, offers, opens_as};
+ghost use Rattle.lsp_explain.specs.Fact.{similar_to};
 ghost use Rattle.lsp_explain.specs.Lines as spec;
 ghost use Rattle.lsp_explain.specs.Part.{part_view};
 
@@ -243,6 +244,16 @@ fn push_request_by(
     Ok(())
 }
 
+fn push_open(alloc: Global, lines: &mut String, id: &Id, event: u64) -> Result<(), Memory>
+    ensures { OnOk result (string_bytes lines.new ≡ string_bytes lines.old
+        ++ spec.fact_line (opens_as (id_view id.now) event)) }
+{
+    lines.push_str("open ")?;
+    push_id(alloc, lines, id)?;
+    writeln!(lines, " event {event}")?;
+    Ok(())
+}
+
 fn push_never_opened(lines: &mut String) -> Result<(), Memory>
     ensures { OnOk result (string_bytes lines.new ≡ string_bytes lines.old
         ++ spec.fact_line never_opened) }
@@ -379,6 +390,7 @@ fn push_fact(alloc: Global, lines: &mut String, fact: &Fact) -> Result<(), Memor
         Fact::Equal { version, event } => push_version_by(lines, "equal", *version, *event),
         Fact::Suspects(count) => push_number(lines, "suspects", *count),
         Fact::Suspect { version, event } => push_version_by(lines, "suspect", *version, *event),
+        Fact::Open { id, event } => push_open(alloc, lines, id, *event),
         Fact::Answered(event) => push_cited(lines, "answered", *event),
         Fact::Asked(event) => push_cited(lines, "asked", *event),
         Fact::Since(event) => push_cited(lines, "since", *event),
@@ -386,6 +398,10 @@ fn push_fact(alloc: Global, lines: &mut String, fact: &Fact) -> Result<(), Memor
         Fact::NeverOpened => push_never_opened(lines),
         Fact::Similar { uri, event } => push_similar(alloc, lines, uri.as_str(), *event),
         Fact::Begins(text) => push_text(alloc, lines, "begins", text.as_str()),
+        Fact::Breaks(place) => push_number(lines, "breaks", *place),
+        Fact::Before(text) => push_text(alloc, lines, "before", text.as_str()),
+        Fact::After(text) => push_text(alloc, lines, "after", text.as_str()),
+        Fact::Member(pointer) => push_text(alloc, lines, "member", pointer.as_str()),
         Fact::Record(number) => push_number(lines, "record", *number),
         Fact::Byte(place) => push_number(lines, "byte", *place),
         Fact::Found(text) => push_text(alloc, lines, "found", text.as_str()),

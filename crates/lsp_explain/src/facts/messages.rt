@@ -1,4 +1,4 @@
-//! Facts on messages, and on contents that are not messages.
+//! Facts on messages, and how some bytes begin.
 ghost use Rattle.std.specs.Prelude.{◌≡◌, ◌≤◌, List, [], ◌∷◌, ◌++◌, IfOk, OnOk, length, take};
 ghost use Rattle.std.specs.Prelude.{option_map, unwrap_or};
 ghost use Rattle.std.specs.Str.{IsUtf8};
@@ -11,9 +11,11 @@ ghost use Rattle.lsp_session.specs.Sent.{Sent};
 ghost use Rattle.lsp_session.specs.State.{Stands};
 ghost use Rattle.lsp_session.specs.View.{sent};
 ghost use Rattle.lsp_explain.specs.Fact.{fact_view, facts_view, has_id};
+ghost use Rattle.lsp_explain.specs.Members.{pointer_view};
 ghost use Rattle.lsp_explain.specs.MessageFacts as spec;
 
 use crate::facts::fact::Fact;
+use crate::facts::params::wrong_result;
 use lsp_rpc::{Act, Id, Memory, Message, Offer, RpcFault, Side, copy_id, picked_of};
 use lsp_session::{Session, is_synchronisation};
 use lsp_types::rules;
@@ -21,7 +23,7 @@ use serde_json::Value;
 use std::alloc::Global;
 use std::str::from_utf8;
 
-/// How many bytes of a content that is not a message are looked at.
+/// How many bytes of a content, of a header part or of an unfinished frame are shown.
 const SHOWN_BYTES: usize = 64;
 
 /// How many bytes are shown of the names that an `initialize` offers, a byte more counted for each.
@@ -55,13 +57,33 @@ pub(crate) fn text_front(bytes: &[u8]) -> &str
     }
 }
 
-/// What is said about a content that is not a message: how it begins, as far as that is UTF-8.
-pub fn content_facts(alloc: Global, content: &[u8]) -> Result<Vec<Fact>, Memory>
-    ensures { IfOk result (λ facts. facts_view facts.items ≡ spec.content_facts content.now) }
+/// As much of some bytes as is UTF-8, and lies within so many.
+pub(crate) fn shown(bytes: &[u8], most: usize) -> &str
+    ensures { result.now ≡ spec.shown most bytes.now }
 {
-    let shown = SHOWN_BYTES.min(content.len());
-    let text = text_front(&content[..shown]);
-    only(alloc, Fact::Begins(String::from_str(alloc, text)?))
+    let len = most.min(bytes.len());
+    text_front(&bytes[..len])
+}
+
+/// How some bytes begin, as far as that is UTF-8.
+pub(crate) fn front_facts(alloc: Global, bytes: &[u8]) -> Result<Vec<Fact>, Memory>
+    ensures { IfOk result (λ facts. facts_view facts.items ≡ spec.front_facts bytes.now) }
+{
+    only(
+        alloc,
+        Fact::Begins(String::from_str(alloc, shown(bytes, SHOWN_BYTES))?),
+    )
+}
+
+/// Adds a member that does not have its shape, where there is one.
+pub(crate) fn push_member(facts: &mut Vec<Fact>, found: Option<String>) -> Result<(), Memory>
+    ensures { OnOk result (facts_view facts.new.items
+        ≡ facts_view facts.old.items ++ spec.member_facts (pointer_view found)) }
+{
+    match found {
+        Some(pointer) => Ok(facts.push(Fact::Member(pointer))?),
+        None => Ok(()),
+    }
 }
 
 /// The id in a message, if it has one.
@@ -164,6 +186,7 @@ fn settled_facts(
     };
     let mut facts = only(alloc, offered(alloc, offer)?)?;
     push_picked(alloc, &mut facts, value)?;
+    push_member(&mut facts, wrong_result(alloc, value)?)?;
     Ok(facts)
 }
 
@@ -200,9 +223,9 @@ fn register_facts(alloc: Global, act: &Act) -> Result<Vec<Fact>, Memory>
 
 /// What is said about a message that breaks this rule, 301 to 504, after the messages of the
 /// session: of 301 and 302 its id, of 401 to 412 how far the session has come, of 501 to 503 the
-/// encodings that the open `initialize` offers and the one that its result picks, of 504 the first
-/// method of text synchronisation that is to be registered. The act is what the message means on
-/// its side.
+/// encodings that the open `initialize` offers and the one that its result picks, or the member of
+/// that which does not have its shape, of 504 the first method of text synchronisation that is to
+/// be registered. The act is what the message means on its side.
 ///
 /// # Errors
 /// `Memory` where memory was refused.

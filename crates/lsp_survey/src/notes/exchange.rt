@@ -8,6 +8,7 @@ ghost use Rattle.lsp_survey.specs.Asking.{reply_of};
 ghost use Rattle.lsp_survey.specs.LastOnes.{last_ones};
 ghost use Rattle.lsp_survey.specs.SessionNoting.{asked_in, given_view, replies_in};
 
+use crate::notes::by_id::{forget, put};
 use crate::notes::last_ones::make_room;
 use indexmap::IndexMap;
 use lsp_rpc::{Id, Memory, copy_id, same_id};
@@ -99,26 +100,6 @@ fn is_short(id: &Id) -> bool
         Id::Number(_) => true,
         Id::Text(text) => text.as_str().len() <= MOST_ID,
     }
-}
-
-/// Puts the event of a request.
-fn put(asked: &mut IndexMap<Id, u64>, id: &Id, event: u64) -> Result<(), Memory>
-    ensures { OnOk result ((k : AnId) → asked_in asked.new.entries (id_view k)
-        ≡ (if same_id (id_view id.now) (id_view k) then Some event else asked_in asked.old.entries
-        (id_view k))) }
-{
-    let key = copy_id(id)?;
-    asked.insert(key, event)?;
-    Ok(())
-}
-
-/// Takes the event of a request away.
-fn forget(asked: &mut IndexMap<Id, u64>, id: &Id)
-    ensures { (k : AnId) → asked_in asked.new.entries (id_view k)
-        ≡ (if same_id (id_view id.now) (id_view k) then None else asked_in asked.old.entries
-        (id_view k)) }
-{
-    let _ = asked.swap_remove(id);
 }
 
 /// Adds an answer after the others, of which the last ones stay.

@@ -10,7 +10,7 @@ use Rattle.std.proofs.lemmas.Result.{IfOk-weaker}
 use Rattle.lsp_survey.specs.Walking.{IsOffending}
 use Rattle.lsp_verdict.specs.Offences.{kept_of, rule_at}
 use Rattle.lsp_explain.specs.Fact.{facts_view}
-use Rattle.lsp_explain.specs.MessageFacts.{content_facts}
+use Rattle.lsp_explain.specs.ContentFacts.{content_facts}
 use Rattle.lsp_explain.specs.RunSteps.{ShowsFault}
 use Rattle.lsp_explain.specs.Standing.{terms_in}
 use Rattle.lsp_explain.proofs.SaidFacts.{facts_said}
@@ -32,7 +32,7 @@ returns-in-Content c = IfOk-weaker c.content_facts.result _ _
     facts_said terms before c.args.rule c.args.rest.now rests raw event _ (facts_view facts.items)
     reads (subst (IsOffending raw terms (kept_of terms before) c.args.rule) c.in-Content.is is)
     offends (subst (λ o. ShowsFault rests o c.args.rest.now) c.in-Content.is shows)
-    (are ∙ ap content_facts c.as_slice.ensures.value)) c.content_facts.ensures
+    (are ∙ ap (content_facts c.args.rule) c.as_slice.ensures.value)) c.content_facts.ensures
 
 pub returns-in-Message : goal.returns-in-Message
 returns-in-Message c = IfOk-weaker c.message_traced.result _ _

@@ -1,0 +1,526 @@
+//! Where a text ends to be JSON (RFC 8259).
+ghost use Rattle.std.specs.Prelude.{◌≡◌, ◌≤◌, ◌<◌, IfOk, IfSome, OnOk, length, nat_lt, option_map};
+ghost use Rattle.json.specs.Word.{is_space};
+ghost use Rattle.lsp_explain.specs.Grammar as spec;
+
+use crate::facts::grammar::{Around, Escape, Gap, Move, Number, Place, Word};
+use lsp_rpc::Memory;
+use std::alloc::Global;
+
+/// How deep arrays and objects nest at most.
+const MOST_OPEN: usize = 127;
+
+fn is_space(byte: u8) -> bool
+    ensures { result ≡ is_space byte }
+{
+    matches!(byte, b' ' | b'\t' | b'\n' | b'\r')
+}
+
+fn is_digit(byte: u8) -> bool
+    ensures { result ≡ spec.is_digit byte }
+{
+    matches!(byte, b'0'..=b'9')
+}
+
+fn is_hex(byte: u8) -> bool
+    ensures { result ≡ spec.is_hex byte }
+{
+    matches!(byte, b'0'..=b'9' | b'A'..=b'F' | b'a'..=b'f')
+}
+
+fn is_d(byte: u8) -> bool
+    ensures { result ≡ spec.is_d byte }
+{
+    matches!(byte, b'd' | b'D')
+}
+
+fn is_8_to_b(byte: u8) -> bool
+    ensures { result ≡ spec.is_8_to_b byte }
+{
+    matches!(byte, b'8'..=b'9' | b'A'..=b'B' | b'a'..=b'b')
+}
+
+fn is_c_to_f(byte: u8) -> bool
+    ensures { result ≡ spec.is_c_to_f byte }
+{
+    matches!(byte, b'C'..=b'F' | b'c'..=b'f')
+}
+
+fn is_e(byte: u8) -> bool
+    ensures { result ≡ spec.is_e byte }
+{
+    matches!(byte, b'e' | b'E')
+}
+
+fn is_escape(byte: u8) -> bool
+    ensures { result ≡ spec.is_escape byte }
+{
+    matches!(byte, b'"' | b'\\' | b'/' | b'b' | b'f' | b'n' | b'r' | b't')
+}
+
+// ---- strings
+
+fn after_backslash(byte: u8) -> Option<Place>
+    ensures { result ≡ spec.after_backslash byte }
+{
+    if byte == b'u' {
+        Some(Place::Escape(Escape::Unit))
+    } else if is_escape(byte) {
+        Some(Place::Text)
+    } else {
+        None
+    }
+}
+
+fn in_unit(byte: u8) -> Option<Place>
+    ensures { result ≡ spec.in_unit byte }
+{
+    if is_d(byte) {
+        Some(Place::Escape(Escape::AfterD))
+    } else if is_hex(byte) {
+        Some(Place::Escape(Escape::ThreeDigits))
+    } else {
+        None
+    }
+}
+
+fn after_d(byte: u8) -> Option<Place>
+    ensures { result ≡ spec.after_d byte }
+{
+    if matches!(byte, b'0'..=b'7') {
+        Some(Place::Escape(Escape::TwoDigits))
+    } else if is_8_to_b(byte) {
+        Some(Place::Escape(Escape::TwoOfHigh))
+    } else {
+        None
+    }
+}
+
+fn escape_if(test: bool, spot: Escape) -> Option<Place>
+    ensures { result ≡ spec.only_if test (spec.escape_at spot) }
+{
+    if test {
+        Some(Place::Escape(spot))
+    } else {
+        None
+    }
+}
+
+fn text_if(test: bool) -> Option<Place>
+    ensures { result ≡ spec.only_if test Place.Text }
+{
+    if test { Some(Place::Text) } else { None }
+}
+
+fn in_escape(spot: Escape, byte: u8) -> Option<Place>
+    ensures { result ≡ spec.in_escape spot byte }
+{
+    match spot {
+        Escape::AfterBackslash => after_backslash(byte),
+        Escape::Unit => in_unit(byte),
+        Escape::AfterD => after_d(byte),
+        Escape::ThreeDigits => escape_if(is_hex(byte), Escape::TwoDigits),
+        Escape::TwoDigits => escape_if(is_hex(byte), Escape::OneDigit),
+        Escape::OneDigit => text_if(is_hex(byte)),
+        Escape::TwoOfHigh => escape_if(is_hex(byte), Escape::OneOfHigh),
+        Escape::OneOfHigh => escape_if(is_hex(byte), Escape::LowBackslash),
+        Escape::LowBackslash => escape_if(byte == b'\\', Escape::LowU),
+        Escape::LowU => escape_if(byte == b'u', Escape::LowUnit),
+        Escape::LowUnit => escape_if(is_d(byte), Escape::LowAfterD),
+        Escape::LowAfterD => escape_if(is_c_to_f(byte), Escape::TwoDigits),
+    }
+}
+
+/// A string ends: that of a key before its colon.
+fn end_text(around: Option<Around>) -> Move
+    ensures { result ≡ spec.end_text around }
+{
+    match around {
+        Some(Around::Key) => Move::Close(Place::Gap(Gap::Colon)),
+        _ => Move::To(Place::Gap(Gap::AfterValue)),
+    }
+}
+
+fn in_text(around: Option<Around>, byte: u8) -> Option<Move>
+    ensures { result ≡ spec.in_text around byte }
+{
+    match byte {
+        b'"' => Some(end_text(around)),
+        b'\\' => Some(Move::To(Place::Escape(Escape::AfterBackslash))),
+        0..=31 => None,
+        _ => Some(Move::To(Place::Text)),
+    }
+}
+
+// ---- words
+
+fn word_if(test: bool, word: Word) -> Option<Place>
+    ensures { result ≡ spec.only_if test (Place.Word word) }
+{
+    if test { Some(Place::Word(word)) } else { None }
+}
+
+fn end_if(test: bool) -> Option<Place>
+    ensures { result ≡ spec.only_if test (Place.Gap Gap.AfterValue) }
+{
+    if test {
+        Some(Place::Gap(Gap::AfterValue))
+    } else {
+        None
+    }
+}
+
+fn in_word(word: Word, byte: u8) -> Option<Place>
+    ensures { result ≡ spec.in_word word byte }
+{
+    match word {
+        Word::Rue => word_if(byte == b'r', Word::Ue),
+        Word::Ue => word_if(byte == b'u', Word::E),
+        Word::E => end_if(byte == b'e'),
+        Word::Alse => word_if(byte == b'a', Word::Lse),
+        Word::Lse => word_if(byte == b'l', Word::Se),
+        Word::Se => word_if(byte == b's', Word::E),
+        Word::Ull => word_if(byte == b'u', Word::Ll),
+        Word::Ll => word_if(byte == b'l', Word::L),
+        Word::L => end_if(byte == b'l'),
+    }
+}
+
+fn begin_word(byte: u8) -> Option<Place>
+    ensures { result ≡ spec.begin_word byte }
+{
+    match byte {
+        b't' => Some(Place::Word(Word::Rue)),
+        b'f' => Some(Place::Word(Word::Alse)),
+        b'n' => Some(Place::Word(Word::Ull)),
+        _ => None,
+    }
+}
+
+// ---- numbers
+
+fn number_if(test: bool, number: Number) -> Option<Number>
+    ensures { result ≡ spec.only_if test number }
+{
+    if test { Some(number) } else { None }
+}
+
+fn whole_part(byte: u8) -> Option<Number>
+    ensures { result ≡ spec.whole_part byte }
+{
+    if byte == b'0' {
+        return Some(Number::AfterZero);
+    }
+    number_if(is_digit(byte), Number::Whole)
+}
+
+fn after_whole(byte: u8) -> Option<Number>
+    ensures { result ≡ spec.after_whole byte }
+{
+    if byte == b'.' {
+        return Some(Number::AfterPoint);
+    }
+    number_if(is_e(byte), Number::AfterE)
+}
+
+fn in_whole(byte: u8) -> Option<Number>
+    ensures { result ≡ spec.in_whole byte }
+{
+    if is_digit(byte) {
+        return Some(Number::Whole);
+    }
+    after_whole(byte)
+}
+
+fn in_fraction(byte: u8) -> Option<Number>
+    ensures { result ≡ spec.in_fraction byte }
+{
+    if is_digit(byte) {
+        return Some(Number::Fraction);
+    }
+    number_if(is_e(byte), Number::AfterE)
+}
+
+fn after_e(byte: u8) -> Option<Number>
+    ensures { result ≡ spec.after_e byte }
+{
+    if byte == b'+' || byte == b'-' {
+        return Some(Number::AfterSign);
+    }
+    number_if(is_digit(byte), Number::Exponent)
+}
+
+/// Where the number goes on.
+fn in_number(number: Number, byte: u8) -> Option<Number>
+    ensures { result ≡ spec.in_number number byte }
+{
+    match number {
+        Number::AfterMinus => whole_part(byte),
+        Number::AfterZero => after_whole(byte),
+        Number::Whole => in_whole(byte),
+        Number::AfterPoint => number_if(is_digit(byte), Number::Fraction),
+        Number::Fraction => in_fraction(byte),
+        Number::AfterE => after_e(byte),
+        Number::AfterSign => number_if(is_digit(byte), Number::Exponent),
+        Number::Exponent => number_if(is_digit(byte), Number::Exponent),
+    }
+}
+
+/// Whether the number may end here.
+fn may_end(number: Number) -> bool
+    ensures { result ≡ spec.may_end number }
+{
+    match number {
+        Number::AfterZero | Number::Whole | Number::Fraction | Number::Exponent => true,
+        Number::AfterMinus | Number::AfterPoint | Number::AfterE | Number::AfterSign => false,
+    }
+}
+
+fn begin_number(byte: u8) -> Option<Place>
+    ensures { result ≡ spec.begin_number byte }
+{
+    if byte == b'-' {
+        return Some(Place::Number(Number::AfterMinus));
+    }
+    match whole_part(byte) {
+        Some(number) => Some(Place::Number(number)),
+        None => None,
+    }
+}
+
+// ---- between values
+
+/// A value begins that is neither an array nor an object.
+fn begin_plain(byte: u8) -> Option<Place>
+    ensures { result ≡ spec.begin_plain byte }
+{
+    if byte == b'"' {
+        return Some(Place::Text);
+    }
+    match begin_number(byte) {
+        Some(place) => Some(place),
+        None => begin_word(byte),
+    }
+}
+
+fn opens(room: bool, around: Around, gap: Gap) -> Option<Move>
+    ensures { result ≡ spec.opens room around gap }
+{
+    if room {
+        Some(Move::Open(around, Place::Gap(gap)))
+    } else {
+        None
+    }
+}
+
+fn to(place: Option<Place>) -> Option<Move>
+    ensures { result ≡ option_map Move.To place }
+{
+    match place {
+        Some(place) => Some(Move::To(place)),
+        None => None,
+    }
+}
+
+/// A value begins, where there is room for one more array or object, or not.
+fn begin_value(room: bool, byte: u8) -> Option<Move>
+    ensures { result ≡ spec.begin_value room byte }
+{
+    match byte {
+        b'[' => opens(room, Around::Array, Gap::FirstItem),
+        b'{' => opens(room, Around::Object, Gap::FirstKey),
+        _ => to(begin_plain(byte)),
+    }
+}
+
+fn begin_key(byte: u8) -> Option<Move>
+    ensures { result ≡ spec.begin_key byte }
+{
+    if byte == b'"' {
+        Some(Move::Open(Around::Key, Place::Text))
+    } else {
+        None
+    }
+}
+
+fn after_comma(around: Option<Around>) -> Option<Move>
+    ensures { result ≡ spec.after_comma around }
+{
+    match around? {
+        Around::Array => Some(Move::To(Place::Gap(Gap::Value))),
+        Around::Object => Some(Move::To(Place::Gap(Gap::Key))),
+        Around::Key => None,
+    }
+}
+
+fn close_if(test: bool) -> Option<Move>
+    ensures { result ≡ spec.only_if test (Move.Close (Place.Gap Gap.AfterValue)) }
+{
+    if test {
+        Some(Move::Close(Place::Gap(Gap::AfterValue)))
+    } else {
+        None
+    }
+}
+
+/// What is open ends.
+fn closes(around: Option<Around>, byte: u8) -> Option<Move>
+    ensures { result ≡ spec.closes around byte }
+{
+    match around? {
+        Around::Array => close_if(byte == b']'),
+        Around::Object => close_if(byte == b'}'),
+        Around::Key => None,
+    }
+}
+
+fn or_closes(around: Option<Around>, byte: u8, begun: Option<Move>) -> Option<Move>
+    ensures { result ≡ spec.or_closes around byte begun }
+{
+    match begun {
+        Some(begun) => Some(begun),
+        None => closes(around, byte),
+    }
+}
+
+fn after_value(around: Option<Around>, byte: u8) -> Option<Move>
+    ensures { result ≡ spec.after_value around byte }
+{
+    if byte == b',' {
+        after_comma(around)
+    } else {
+        closes(around, byte)
+    }
+}
+
+fn colon(byte: u8) -> Option<Move>
+    ensures { result ≡ spec.colon byte }
+{
+    if byte == b':' {
+        Some(Move::To(Place::Gap(Gap::Value)))
+    } else {
+        None
+    }
+}
+
+fn after_space(gap: Gap, around: Option<Around>, room: bool, byte: u8) -> Option<Move>
+    ensures { result ≡ spec.after_space gap around room byte }
+{
+    match gap {
+        Gap::Value => begin_value(room, byte),
+        Gap::FirstItem => or_closes(around, byte, begin_value(room, byte)),
+        Gap::FirstKey => or_closes(around, byte, begin_key(byte)),
+        Gap::Key => begin_key(byte),
+        Gap::Colon => colon(byte),
+        Gap::AfterValue => after_value(around, byte),
+    }
+}
+
+fn in_gap(gap: Gap, around: Option<Around>, room: bool, byte: u8) -> Option<Move>
+    ensures { result ≡ spec.in_gap gap around room byte }
+{
+    if is_space(byte) {
+        return Some(Move::To(Place::Gap(gap)));
+    }
+    after_space(gap, around, room, byte)
+}
+
+// ---- a text
+
+fn number_move(number: Number, around: Option<Around>, room: bool, byte: u8) -> Option<Move>
+    ensures { result ≡ spec.or_after number around room byte (spec.in_number number byte) }
+{
+    if let Some(later) = in_number(number, byte) {
+        return Some(Move::To(Place::Number(later)));
+    }
+    if may_end(number) {
+        in_gap(Gap::AfterValue, around, room, byte)
+    } else {
+        None
+    }
+}
+
+/// What a byte leads to; `None` where it cannot stand.
+fn move_at(place: Place, around: Option<Around>, room: bool, byte: u8) -> Option<Move>
+    ensures { result ≡ spec.move place around room byte }
+{
+    match place {
+        Place::Gap(gap) => in_gap(gap, around, room, byte),
+        Place::Text => in_text(around, byte),
+        Place::Escape(spot) => to(in_escape(spot, byte)),
+        Place::Number(number) => number_move(number, around, room, byte),
+        Place::Word(word) => to(in_word(word, byte)),
+    }
+}
+
+/// The same, where these are open, the last one innermost.
+fn move_in(place: Place, opened: &[Around], byte: u8) -> Option<Move>
+    ensures { result ≡ spec.move_in place opened.now byte }
+{
+    move_at(
+        place,
+        opened.last().copied(),
+        opened.len() < MOST_OPEN,
+        byte,
+    )
+}
+
+/// What is open after a move, and the place that it leads to.
+fn make_move(opened: &mut Vec<Around>, by: Move) -> Result<Place, Memory>
+    ensures to { IfOk result (λ place. place ≡ spec.to by) }
+    ensures opened { OnOk result (opened.new.items ≡ spec.left_open opened.old.items by) }
+{
+    match by {
+        Move::To(place) => Ok(place),
+        Move::Open(around, place) => {
+            opened.push(around)?;
+            Ok(place)
+        }
+        Move::Close(place) => {
+            opened.truncate(opened.len().saturating_sub(1));
+            Ok(place)
+        }
+    }
+}
+
+/// Whether a value may end here.
+fn is_end(place: Place) -> bool
+    ensures { result ≡ spec.is_end place }
+{
+    match place {
+        Place::Gap(Gap::AfterValue) => true,
+        Place::Number(number) => may_end(number),
+        _ => false,
+    }
+}
+
+/// Whether a text may end here.
+fn is_whole(place: Place, opened: &[Around]) -> bool
+    ensures { result ≡ spec.is_whole place opened.now }
+{
+    opened.is_empty() && is_end(place)
+}
+
+/// How many bytes of a text come before the first one that cannot stand there in a JSON text, all if
+/// it ends too early.
+///
+/// # Errors
+/// `Memory` where memory was refused.
+pub(crate) fn json_break(alloc: Global, text: &[u8]) -> Result<Option<usize>, Memory>
+    ensures place { IfOk result (λ place. place ≡ spec.json_break text.now) }
+    ensures within { IfOk result (λ place. IfSome place (λ n. n ≤ length text.now)) }
+{
+    let mut opened = Vec::new(alloc);
+    let mut place = Place::Gap(Gap::Value);
+    for (number, byte) in text.iter().enumerate() {
+        let Some(by) = move_in(place, opened.as_slice(), *byte) else {
+            return Ok(Some(number));
+        };
+        place = make_move(&mut opened, by)?;
+    }
+    if is_whole(place, opened.as_slice()) {
+        Ok(None)
+    } else {
+        Ok(Some(text.len()))
+    }
+}

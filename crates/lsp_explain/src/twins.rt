@@ -1,0 +1,46 @@
+//! Ids that differ in their type alone.
+ghost use Rattle.std.specs.Prelude.{◌≡◌, IfOk, option_map};
+ghost use Rattle.lsp_rpc.specs.Ident.{id_view, text as text_id};
+ghost use Rattle.lsp_explain.specs.Twins as spec;
+
+use lsp_rpc::{Id, Memory};
+use std::alloc::Global;
+
+/// The id of the other type that is written in the same way, if there is one: `7` and `"7"`.
+///
+/// # Errors
+/// `Memory` where memory was refused.
+pub(crate) fn twin_of(alloc: Global, id: &Id) -> Result<Option<Id>, Memory>
+    ensures { IfOk result (λ twin. option_map id_view twin ≡ spec.twin (id_view id.now)) }
+{
+    match id {
+        Id::Number(number) => Ok(Some(Id::Text(format!(in alloc; "{number}")?))),
+        Id::Text(text) => number_of(alloc, text.as_str()),
+    }
+}
+
+/// The number that is written so.
+fn number_of(alloc: Global, text: &str) -> Result<Option<Id>, Memory>
+    ensures { IfOk result
+        (λ twin. option_map id_view twin ≡ spec.twin (text_id text.now)) }
+{
+    match written(alloc, text)? {
+        Some(number) => Ok(Some(Id::Number(number))),
+        None => Ok(None),
+    }
+}
+
+/// The integer that is written so, without a zero in front, a plus or a minus before 0.
+fn written(alloc: Global, text: &str) -> Result<Option<i32>, Memory>
+    ensures { IfOk result (λ number. number ≡ spec.written text.now) }
+{
+    let Ok(number) = text.parse::<i32>() else {
+        return Ok(None);
+    };
+    let again = format!(in alloc; "{number}")?;
+    if again.as_str() == text {
+        Ok(Some(number))
+    } else {
+        Ok(None)
+    }
+}

@@ -1,0 +1,15 @@
+use Rattle.std.specs.Prelude.{string_bytes, option_map}
+use Rattle.std.proofs.lemmas.Result.{on_ok_weaker}
+use Rattle.serde_json.specs.View.{view}
+use Rattle.lsp_rpc.specs.Ident.{id_view}
+use Rattle.lsp_rpc.specs.View.{answer_view}
+use Rattle.lsp_survey.proofs.PassedSteps.{answered_passes, asked_passes, notified_passes}
+use Rattle.lsp_survey.proofs.PassedSteps.{null_passes, other_passes}
+use Rattle.lsp_survey.proofs.notes.passed.Passed.note.Goals as goal
+
+pub returns-in-Request : goal.returns-in-Request
+returns-in-Request c =
+    let at = c.in-Request in
+    rw at.is (on_ok_weaker c.ask.result
+    (λ sets. asked_passes c.args.rule c.args.self.now c.ask.new.self c.args.side (id_view at.id)
+    (string_bytes at.method) (option_map view at.params) sets) c.ask.ensures)
