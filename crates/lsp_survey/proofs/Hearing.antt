@@ -34,6 +34,7 @@ use Rattle.lsp_survey.specs.declared.notes.note.Notes.{Notes}
 use Rattle.lsp_survey.specs.declared.notes.openings.Openings.{Openings}
 use Rattle.lsp_survey.specs.declared.notes.passed.Passed.{Passed}
 use Rattle.lsp_survey.specs.declared.notes.session_notes.SessionNotes.{SessionNotes}
+use Rattle.lsp_survey.specs.declared.notes.sides.Sides.{Sides}
 use Rattle.lsp_survey.specs.Notes.{AreAfter, note_in}
 use Rattle.lsp_survey.specs.Walking.{Walks, WalksBy, IsRefused, IsShown, IsUnread, PassesOver}
 use Rattle.lsp_survey.specs.Walking.{IsMessageOf, IsOffending, Hears, NotesKept, NotesMessage}
@@ -194,7 +195,7 @@ noted_after number (kept.Message side spoken) mid old new notes marks openings s
       λ sents stands. subst (λ (w : SessionNotes).
           SaysOn number side (message_view spoken.message) sents w new.said) said
           (noted.3 sents stands),
-      noted.4 ∙ ap (sides_read side) sides,
+      noted.4 ∙ ap (λ (s : Sides). sides_read side s) sides,
     )
 noted_after number (kept.Snapshot version uri text answer) mid old new notes marks openings said
     sides noted = (

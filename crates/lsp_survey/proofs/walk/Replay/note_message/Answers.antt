@@ -25,6 +25,6 @@ returns-clause-noted c =
                 c.args.self.now.said.since);
             remarked = rw (behind, done) at remarked;
           },
-      c.after_message.ensures,
+      c.after_message-self.ensures,
     ))
     c.keep.ensures.editor c.keep.ensures.server c.keep.ensures.remarks

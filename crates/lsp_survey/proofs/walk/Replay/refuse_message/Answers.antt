@@ -34,7 +34,7 @@ returns-clause-passes c =
       is_broken = λ event kept is holds. refused.broken
           ∙ ap (λ b. old.broken || b) (c.breaks_handshake-breaks.ensures
           ∙ message_answers side (breaks_handshake false rule) kept said event is);
-      sides = λ event is. c.after_message.ensures ∙ ap (sides_read side) refused.sides
+      sides = λ event is. c.after_message-self.ensures ∙ ap (sides_read side) refused.sides
           ∙ message_after side old.sides said event is;
       passed = λ event is. message_passes side said event is rule old.passed
           c.note.new.self (subst (λ (p : Passed). Passes rule side said p c.note.new.self)
