@@ -448,10 +448,11 @@ nothing (Some x) is = absurd (true≢false is)
 
 -- **A result of another shape has a member that is wrong**, and no other has one.
 pub result_has_member : BadResultHasMember
-result_has_member d =
-    (λ none. there (wrong.wrong_result d) (result_some d ∙ ap is_some none),
-    λ (found : (p : Pointer) × (wrong.wrong_result d ≡ Some p)).
-    nothing (results.picked_at d) (sym (result_some d) ∙ ap is_none found.1))
+result_has_member d = (
+  λ none. there (wrong.wrong_result d) (result_some d ∙ ap is_some none),
+  λ (found : (p : Pointer) × (wrong.wrong_result d ≡ Some p)).
+      nothing (results.picked_at d) (sym (result_some d) ∙ ap is_none found.1),
+)
 
 -- a member of the params of this method
 abbrev Found : List ℕ → Option Data → Type 0

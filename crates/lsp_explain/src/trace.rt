@@ -284,12 +284,7 @@ fn push_twin(
 }
 
 /// Adds the open request of this side with this id, if there is one.
-fn push_open(
-    facts: &mut Vec<Fact>,
-    said: &SessionNotes,
-    side: Side,
-    id: Id,
-) -> Result<(), Memory>
+fn push_open(facts: &mut Vec<Fact>, said: &SessionNotes, side: Side, id: Id) -> Result<(), Memory>
     ensures { OnOk result ((terms : Terms) (before : List Event) → AreNotes terms said.now before
         → facts_view facts.new.items ≡ facts_view facts.old.items
         ++ spec.twin_facts side (numbered terms before) (Some (id_view id))) }

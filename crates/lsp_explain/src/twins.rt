@@ -38,5 +38,9 @@ fn written(alloc: Global, text: &str) -> Result<Option<i32>, Memory>
         return Ok(None);
     };
     let again = format!(in alloc; "{number}")?;
-    if again.as_str() == text { Ok(Some(number)) } else { Ok(None) }
+    if again.as_str() == text {
+        Ok(Some(number))
+    } else {
+        Ok(None)
+    }
 }

@@ -66,7 +66,11 @@ fn content_break(alloc: Global, content: &[u8]) -> Result<Option<usize>, Memory>
     if let Some(place) = json_break(alloc, text)? {
         return Ok(Some(place));
     }
-    if text.len() < content.len() { Ok(Some(text.len())) } else { Ok(None) }
+    if text.len() < content.len() {
+        Ok(Some(text.len()))
+    } else {
+        Ok(None)
+    }
 }
 
 /// Adds this place, and what is before and after it.
@@ -117,7 +121,10 @@ fn continuation_len(bytes: &[u8]) -> usize
     ensures value { result ≡ prefix_len spec.is_continuation bytes.now }
     ensures bound { result ≤ length bytes.now }
 {
-    bytes.iter().take_while(|byte| is_continuation(**byte)).count()
+    bytes
+        .iter()
+        .take_while(|byte| is_continuation(**byte))
+        .count()
 }
 
 /// Whether it is no first byte of a character.

@@ -99,7 +99,11 @@ fn after_d(byte: u8) -> Option<Place>
 fn escape_if(test: bool, spot: Escape) -> Option<Place>
     ensures { result ≡ spec.only_if test (spec.escape_at spot) }
 {
-    if test { Some(Place::Escape(spot)) } else { None }
+    if test {
+        Some(Place::Escape(spot))
+    } else {
+        None
+    }
 }
 
 fn text_if(test: bool) -> Option<Place>
@@ -159,7 +163,11 @@ fn word_if(test: bool, word: Word) -> Option<Place>
 fn end_if(test: bool) -> Option<Place>
     ensures { result ≡ spec.only_if test (Place.Gap Gap.AfterValue) }
 {
-    if test { Some(Place::Gap(Gap::AfterValue)) } else { None }
+    if test {
+        Some(Place::Gap(Gap::AfterValue))
+    } else {
+        None
+    }
 }
 
 fn in_word(word: Word, byte: u8) -> Option<Place>
@@ -298,7 +306,11 @@ fn begin_plain(byte: u8) -> Option<Place>
 fn opens(room: bool, around: Around, gap: Gap) -> Option<Move>
     ensures { result ≡ spec.opens room around gap }
 {
-    if room { Some(Move::Open(around, Place::Gap(gap))) } else { None }
+    if room {
+        Some(Move::Open(around, Place::Gap(gap)))
+    } else {
+        None
+    }
 }
 
 fn to(place: Option<Place>) -> Option<Move>
@@ -324,7 +336,11 @@ fn begin_value(room: bool, byte: u8) -> Option<Move>
 fn begin_key(byte: u8) -> Option<Move>
     ensures { result ≡ spec.begin_key byte }
 {
-    if byte == b'"' { Some(Move::Open(Around::Key, Place::Text)) } else { None }
+    if byte == b'"' {
+        Some(Move::Open(Around::Key, Place::Text))
+    } else {
+        None
+    }
 }
 
 fn after_comma(around: Option<Around>) -> Option<Move>
@@ -340,7 +356,11 @@ fn after_comma(around: Option<Around>) -> Option<Move>
 fn close_if(test: bool) -> Option<Move>
     ensures { result ≡ spec.only_if test (Move.Close (Place.Gap Gap.AfterValue)) }
 {
-    if test { Some(Move::Close(Place::Gap(Gap::AfterValue))) } else { None }
+    if test {
+        Some(Move::Close(Place::Gap(Gap::AfterValue)))
+    } else {
+        None
+    }
 }
 
 /// What is open ends.
@@ -366,13 +386,21 @@ fn or_closes(around: Option<Around>, byte: u8, begun: Option<Move>) -> Option<Mo
 fn after_value(around: Option<Around>, byte: u8) -> Option<Move>
     ensures { result ≡ spec.after_value around byte }
 {
-    if byte == b',' { after_comma(around) } else { closes(around, byte) }
+    if byte == b',' {
+        after_comma(around)
+    } else {
+        closes(around, byte)
+    }
 }
 
 fn colon(byte: u8) -> Option<Move>
     ensures { result ≡ spec.colon byte }
 {
-    if byte == b':' { Some(Move::To(Place::Gap(Gap::Value))) } else { None }
+    if byte == b':' {
+        Some(Move::To(Place::Gap(Gap::Value)))
+    } else {
+        None
+    }
 }
 
 fn after_space(gap: Gap, around: Option<Around>, room: bool, byte: u8) -> Option<Move>
@@ -405,7 +433,11 @@ fn number_move(number: Number, around: Option<Around>, room: bool, byte: u8) -> 
     if let Some(later) = in_number(number, byte) {
         return Some(Move::To(Place::Number(later)));
     }
-    if may_end(number) { in_gap(Gap::AfterValue, around, room, byte) } else { None }
+    if may_end(number) {
+        in_gap(Gap::AfterValue, around, room, byte)
+    } else {
+        None
+    }
 }
 
 /// What a byte leads to; `None` where it cannot stand.
@@ -425,7 +457,12 @@ fn move_at(place: Place, around: Option<Around>, room: bool, byte: u8) -> Option
 fn move_in(place: Place, opened: &[Around], byte: u8) -> Option<Move>
     ensures { result ≡ spec.move_in place opened.now byte }
 {
-    move_at(place, opened.last().copied(), opened.len() < MOST_OPEN, byte)
+    move_at(
+        place,
+        opened.last().copied(),
+        opened.len() < MOST_OPEN,
+        byte,
+    )
 }
 
 /// What is open after a move, and the place that it leads to.
@@ -481,5 +518,9 @@ pub(crate) fn json_break(alloc: Global, text: &[u8]) -> Result<Option<usize>, Me
         };
         place = make_move(&mut opened, by)?;
     }
-    if is_whole(place, opened.as_slice()) { Ok(None) } else { Ok(Some(text.len())) }
+    if is_whole(place, opened.as_slice()) {
+        Ok(None)
+    } else {
+        Ok(Some(text.len()))
+    }
 }

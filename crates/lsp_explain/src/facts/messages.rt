@@ -69,7 +69,10 @@ pub(crate) fn shown(bytes: &[u8], most: usize) -> &str
 pub(crate) fn front_facts(alloc: Global, bytes: &[u8]) -> Result<Vec<Fact>, Memory>
     ensures { IfOk result (λ facts. facts_view facts.items ≡ spec.front_facts bytes.now) }
 {
-    only(alloc, Fact::Begins(String::from_str(alloc, shown(bytes, SHOWN_BYTES))?))
+    only(
+        alloc,
+        Fact::Begins(String::from_str(alloc, shown(bytes, SHOWN_BYTES))?),
+    )
 }
 
 /// Adds a member that does not have its shape, where there is one.
