@@ -92,8 +92,8 @@ pub enum Fact {
     Similar { uri: String, event: u64 },
     /// The front of a content that is not a message.
     Begins(String),
-    /// How many bytes of a content come before the first one that cannot stand there, all of them if
-    /// it ends too early (RFC 8259).
+    /// How many bytes of a content come before the first one that cannot stand there, all of them
+    /// if it ends too early (RFC 8259).
     Breaks(u64),
     /// What comes before that place.
     Before(String),
