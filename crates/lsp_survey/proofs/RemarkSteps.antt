@@ -1,6 +1,6 @@
 -- What is remarkable about messages, with one message more.
-use Rattle.std.specs.Prelude.{◌⊎◌, ◌&&◌, ◌||◌, not, string_bytes, option_and_then, unwrap_or, is_some, map}
-use Rattle.std.specs.Prelude.{if◌then◌else◌, Result, Ok, Err, OnOk}
+use Rattle.std.specs.Prelude.{◌⊎◌, ◌&&◌, ◌||◌, not, string_bytes, option_and_then, unwrap_or}
+use Rattle.std.specs.Prelude.{is_some, if◌then◌else◌, Result, Ok, Err, OnOk}
 use Rattle.std.specs.List.{cons_option, filter_map, list_any}
 use Rattle.std.specs.Option.{option_or}
 use Rattle.std.specs.Str.{bytes_eq}
