@@ -5,7 +5,7 @@ use Rattle.std.specs.Prelude.{unwrap_or}
 use Rattle.serde_json.specs.Data.{Data}
 use Rattle.serde_json.specs.Find.{as_str}
 use Rattle.lsp_rpc.specs.Message.{Message}
-use Rattle.lsp_rpc.specs.Params.{member}
+use Rattle.lsp_rpc.specs.Shape.{member}
 use Rattle.lsp_session.specs.Handshake.{first_settled, is_done, phase, result_of}
 use Rattle.lsp_session.specs.Sent.{Sent}
 use Rattle.lsp_session.specs.declared.phase.Phase.{Phase}
