@@ -1,11 +1,10 @@
 -- The openings and closings that are held, with one event more.
-use Rattle.std.specs.Prelude.{option_and_then, option_map, reverse, unwrap_or, ℤ}
-use Rattle.std.specs.List.{cons_option, find}
+use Rattle.std.specs.Prelude.{if◌then◌else◌, option_and_then, unwrap_or, ℤ}
+use Rattle.std.specs.List.{cons_option, filter_map}
 use Rattle.std.specs.Option.{option_or}
-use Rattle.std.proofs.lemmas.List.{map-append, reverse-append}
-use Rattle.std.proofs.lemmas.List.Folds.{find-append}
+use Rattle.std.proofs.lemmas.List.{map-append}
 use Rattle.std.proofs.Common.{◌≡◌, ℕ, List, [], ◌∷◌, ◌++◌, Option, Some, None, refl, sym, ap, ◌∙◌}
-use Rattle.std.proofs.Common.{append-nil, subst}
+use Rattle.std.proofs.Common.{append-nil, Bool, true, false}
 use Rattle.lsp_docs.specs.Calls.{Call, shows}
 use Rattle.lsp_docs.specs.Terms.{Terms}
 use Rattle.lsp_session.specs.Negotiation.{encoding, sync_kind}
@@ -17,13 +16,13 @@ use Rattle.lsp_types.specs.declared.position.Encoding.TheVariants.{Utf16}
 use Rattle.lsp_verdict.specs.Calls.{call_of}
 use Rattle.lsp_verdict.specs.Event.{Event, message, snapshot, sent_in}
 use Rattle.lsp_verdict.specs.LookBack.{each_of}
-use Rattle.lsp_verdict.specs.Offences.{kept_of, rule_at, said_at}
+use Rattle.lsp_verdict.specs.Offences.{kept_of, last_or, rule_at, said_at}
 use Rattle.lsp_verdict.proofs.LookBackLemmas.{each_of-snoc}
 use Rattle.lsp_survey.specs.LastOnes.{last_ones}
 use Rattle.lsp_survey.specs.Marking.{number_next}
 use Rattle.lsp_survey.specs.Openings.{AreOpenings, Holds, OnDocument, OpensBy, closed_by, ons_view}
-use Rattle.lsp_survey.specs.Openings.{is_on, last_on, most_closings, most_openings, on_view}
-use Rattle.lsp_survey.specs.Openings.{opened_by, taken_at, taken_by}
+use Rattle.lsp_survey.specs.Openings.{event_on, is_on, last_on, most_closings, most_openings}
+use Rattle.lsp_survey.specs.Openings.{on_view, opened_by, taken_at, taken_by}
 use Rattle.lsp_survey.specs.declared.notes.openings.DocumentEvent.{DocumentEvent}
 use Rattle.lsp_survey.specs.declared.notes.openings.Openings.{Openings}
 
@@ -142,24 +141,47 @@ shown_opened terms o before uri v text are kept =
 
 -- ---- two parts of what is held
 
-found-or : {A B : Type 0} (f : A → B) (x y : Option A)
-    → option_or (option_map f x) (option_map f y) ≡ option_map f (option_or x y)
-found-or f (Some a) y = refl
-found-or f None y = refl
+module _ (uri : List ℕ) where
+  -- what comes later counts, where there is any
+  later : (ons : List OnDocument) (o : Option ℕ)
+      → last_or o (filter_map (event_on uri) ons) ≡ option_or (last_on uri ons) o
+  later [] o = refl
+  later (on ∷ ons) o = by_test (is_on uri on)
+    where
+      rest : List (Option ℕ)
+      rest = filter_map (event_on uri) ons
 
--- the last one in the second part, or else in the first
-pub last_on-append : (uri : List ℕ) (first second : List DocumentEvent)
-    → option_or (last_on uri (ons_view second)) (last_on uri (ons_view first))
-    ≡ last_on uri (ons_view (first ++ second))
-last_on-append uri first second =
-    found-or event_of (find (is_on uri) (reverse (ons_view second)))
-    (find (is_on uri) (reverse (ons_view first)))
-    ∙ ap (option_map event_of) (sym (find-append (is_on uri) (reverse (ons_view second))
-    (reverse (ons_view first))))
-    ∙ ap (λ (l : List OnDocument). option_map event_of (find (is_on uri) l))
-    (sym (reverse-append (ons_view first) (ons_view second)))
-    ∙ ap (λ (l : List OnDocument). option_map event_of (find (is_on uri) (reverse l)))
-    (sym (map-append on_view first second))
-  where
-    event_of : OnDocument → ℕ
-    event_of on = on.event
+      once : (x : Option ℕ) → option_or x (Some on.event)
+          ≡ option_or (option_or x (Some on.event)) o
+      once None = refl
+      once (Some n) = refl
+
+      by_test : (b : Bool)
+          → last_or o (cons_option (if b then Some (Some on.event) else None) rest)
+          ≡ option_or (last_or None (cons_option (if b then Some (Some on.event) else None) rest)) o
+      by_test true = later ons (Some on.event) ∙ once (last_on uri ons)
+          ∙ ap (λ (x : Option ℕ). option_or x o) (sym (later ons (Some on.event)))
+      by_test false = later ons o
+
+  in_turn : (first second : List OnDocument) (o : Option ℕ)
+      → last_or o (filter_map (event_on uri) (first ++ second))
+      ≡ last_or (last_or o (filter_map (event_on uri) first)) (filter_map (event_on uri) second)
+  in_turn [] second o = refl
+  in_turn (on ∷ first) second o = by_test (is_on uri on)
+    where
+      by_test : (b : Bool)
+          → last_or o (cons_option (if b then Some (Some on.event) else None)
+          (filter_map (event_on uri) (first ++ second)))
+          ≡ last_or (last_or o (cons_option (if b then Some (Some on.event) else None)
+          (filter_map (event_on uri) first))) (filter_map (event_on uri) second)
+      by_test true = in_turn first second (Some on.event)
+      by_test false = in_turn first second o
+
+  -- the last one in the second part, or else in the first
+  pub last_on-append : (first second : List DocumentEvent)
+      → option_or (last_on uri (ons_view second)) (last_on uri (ons_view first))
+      ≡ last_on uri (ons_view (first ++ second))
+  last_on-append first second =
+      sym (later (ons_view second) (last_on uri (ons_view first)))
+      ∙ sym (in_turn (ons_view first) (ons_view second) None)
+      ∙ ap (last_on uri) (sym (map-append on_view first second))

@@ -1,13 +1,14 @@
 -- Which documents were opened and closed last.
-use Rattle.std.specs.Prelude.{◌≡◌, ℕ, List, ◌++◌, map, length, nat_lt, reverse, Bool, true, false}
-use Rattle.std.specs.Prelude.{Option, Some, None, option_map, option_and_then, [], string_bytes}
-use Rattle.std.specs.List.{cons_option, find}
+use Rattle.std.specs.Prelude.{◌≡◌, ℕ, List, ◌++◌, map, length, nat_lt, Bool, true, false}
+use Rattle.std.specs.Prelude.{Option, Some, None, option_and_then, [], string_bytes}
+use Rattle.std.specs.Prelude.{if◌then◌else◌}
+use Rattle.std.specs.List.{cons_option, filter_map}
 use Rattle.std.specs.Str.{bytes_eq}
 use Rattle.lsp_docs.specs.Calls.{Call, opens, changes, closes, saves, shows}
 use Rattle.lsp_docs.specs.Terms.{Terms}
 use Rattle.lsp_verdict.specs.Event.{Event}
 use Rattle.lsp_verdict.specs.LookBack.{each_of}
-use Rattle.lsp_verdict.specs.Offences.{rule_at, said_at}
+use Rattle.lsp_verdict.specs.Offences.{last_or, rule_at, said_at}
 use Rattle.lsp_survey.specs.LastOnes.{last_ones}
 use Rattle.lsp_survey.specs.Marking.{number_next}
 use Rattle.lsp_survey.specs.declared.notes.openings.Closing.{Closing}
@@ -72,9 +73,12 @@ most_closings = 1024
 abbrev pub is_on : List ℕ → OnDocument → Bool
 is_on uri on = bytes_eq uri on.uri
 
+abbrev pub event_on : List ℕ → OnDocument → Option (Option ℕ)
+event_on uri on = if is_on uri on then Some (Some on.event) else None
+
 -- the event of the last of these on the document of this URI
 abbrev pub last_on : List ℕ → List OnDocument → Option ℕ
-last_on uri ons = option_map (λ (on : OnDocument). on.event) (find (is_on uri) (reverse ons))
+last_on uri ons = last_or None (filter_map (event_on uri) ons)
 
 -- the event is known, or, where all closings are looked at, that there is none
 abbrev pub closing_by : Bool → Option ℕ → Closing

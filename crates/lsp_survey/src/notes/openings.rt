@@ -130,8 +130,13 @@ fn last_on(held: &VecDeque<DocumentEvent>, uri: &str) -> Option<u64>
 fn last_in(held: &[DocumentEvent], uri: &str) -> Option<u64>
     ensures { result ≡ last_on uri.now (ons_view held.now) }
 {
-    let last = held.iter().rev().find(|on| is_on(on, uri))?;
-    Some(last.event)
+    let mut last = None;
+    for on in held {
+        if is_on(on, uri) {
+            last = Some(on.event);
+        }
+    }
+    last
 }
 
 fn is_on(on: &DocumentEvent, uri: &str) -> bool
