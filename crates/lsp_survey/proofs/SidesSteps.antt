@@ -18,7 +18,7 @@ use Rattle.lsp_survey.specs.Walking.{IsMessageOf}
 use Rattle.lsp_survey.specs.declared.notes.sides.SideNote.{SideNote}
 use Rattle.lsp_survey.specs.declared.notes.sides.Sides.{Sides}
 
-note : Bool → Bool → SideNote
+abbrev note : Bool → Bool → SideNote
 note broken unread = record { broken = broken; unread = unread }
 
 pushed : (side : Side) (events : List Event) (e : Event) → side_of side (events ++ e ∷ [])

@@ -1,5 +1,6 @@
 //! The message of a content that is refused though it is one: its params don't have their shape.
-ghost use Rattle.std.specs.Prelude.{◌≡◌, IfOk, Some, codes, option_map};
+ghost use Rattle.std.specs.Prelude.{◌≡◌, IfOk, None, Option, Some, codes, if◌then◌else◌};
+ghost use Rattle.std.specs.Prelude.{option_map};
 ghost use Rattle.lsp_rpc.specs.Ident.{id_view};
 ghost use Rattle.lsp_rpc.specs.Message.{Message as AMessage};
 ghost use Rattle.lsp_rpc.specs.Params.{required, uri_at};

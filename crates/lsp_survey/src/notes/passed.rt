@@ -114,8 +114,8 @@ impl Passed {
         ensures { result ≡ has_passed self.now (other_side side) (id_view id.now) }
     {
         match side {
-            Side::Editor => self.server.get(id).is_some(),
-            Side::Server => self.editor.get(id).is_some(),
+            Side::Editor => self.server.contains_key(id),
+            Side::Server => self.editor.contains_key(id),
         }
     }
 }

@@ -6,7 +6,7 @@ use Rattle.lsp_survey.proofs.Exchanging.{updates_in}
 use Rattle.lsp_survey.proofs.notes.by_id.forget.Goals as goal
 
 pub returns : goal.returns
-returns c =
+returns g c =
     let id = c.args.id.now in
     updates_in (eq-value).it eq_is_same_id (id_view id) ((eq-value).it id) (eq_is_same_id id) None
     c.args.map.now.entries _ c.swap_remove.ensures.updates.0

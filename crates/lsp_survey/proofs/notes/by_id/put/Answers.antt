@@ -6,7 +6,7 @@ use Rattle.lsp_survey.proofs.Exchanging.{updates_in}
 use Rattle.lsp_survey.proofs.notes.by_id.put.Goals as goal
 
 pub returns : goal.returns
-returns c =
+returns g c =
     let key = c.in_ok-key.key in
     updates_in (eq-value).it eq_is_same_id (id_view c.args.id.now) ((eq-value).it key)
     (λ q. eq_is_same_id key q ∙ ap (λ x. same_id x (id_view q)) c.in_ok-key.ensures)

@@ -15,6 +15,7 @@ returns-clause-noted c =
     (λ told. (
       c.in_ok-note_kept_act.ensures,
       c.in_ok-keep_act.ensures,
+      c.in_ok-keep_act-2.ensures,
       λ sents stands.
           let behind = c.phase-phase.ensures sents stands in
           let done = c.is_done-done.ensures sents stands in
@@ -34,7 +35,7 @@ returns-clause-noted c =
                   (message_view c.args.spoken.now.message) else older_held said.remarks);
             };
           },
-      c.after_message.ensures,
+      c.after_message-self.ensures,
     ))
     (on_ok_both r (on_ok_both r keeps.editor keeps.server)
     (on_ok_both r (on_ok_both r keeps.misuses keeps.abrupt) (on_ok_both r keeps.done keeps.older)))

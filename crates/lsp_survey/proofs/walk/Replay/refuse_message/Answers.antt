@@ -34,7 +34,7 @@ returns-clause-passes c =
       is_broken = λ event kept is holds. refused.broken
           ∙ ap (λ b. old.broken || b) (c.breaks_handshake-breaks.ensures
           ∙ message_answers side (breaks_handshake false rule) kept said event is);
-      sides = λ event is. c.after_message.ensures ∙ ap (sides_read side) refused.sides
+      sides = λ event is. c.after_message-self.ensures ∙ ap (sides_read side) refused.sides
           ∙ message_after side old.sides said event is;
       passed = λ event is. message_passes side said event is rule old.passed
           c.note.new.self (subst (λ (p : Passed). Passes rule side said p c.note.new.self)
@@ -47,6 +47,7 @@ returns-clause-passes c =
           (c.in_ok-note_refused_act.ensures enc kind now
           (sym (c.reopens-reopens.ensures (calls kept) holds.called enc kind)));
       marks = refused.marks;
+      openings = refused.openings;
       said = refused.said;
       offence = λ enc kind notes event is walks.
           let lost = wants_handshake rule && is_handshake_lost old.events.docs.terms notes in

@@ -4,7 +4,7 @@ use Rattle.std.proofs.Math.Bool.{or-false}
 use Rattle.std.proofs.lemmas.Int.{to_z-of_z}
 use mir.Val.{SFits}
 use Rattle.lsp_docs.specs.Calls.{shows}
-use Rattle.lsp_survey.specs.Notes.{Leaves}
+use Rattle.lsp_survey.specs.Notes.{Leaves, is_noted_lost}
 use Rattle.lsp_rpc.specs.Ident.{id_view}
 use Rattle.lsp_survey.specs.Passed.{has_passed}
 use Rattle.lsp_survey.specs.Sides.{sides_after}
@@ -57,6 +57,7 @@ returns-clause-passes c =
           ∙ ap (λ e. unwrap_or (passes (asked_by side e None) (answered_by side e) (id_view k) rule)
           (has_passed old.passed side (id_view k))) (sym is);
       marks = refused.marks;
+      openings = refused.openings;
       said = refused.said;
       offence = λ enc kind notes event is walks.
           let lost = wants_handshake rule && is_handshake_lost old.events.docs.terms notes in
@@ -67,7 +68,7 @@ returns-clause-passes c =
           }))
           (c.follows-follows.ensures notes walks
           ∙ ap (λ on_lost. lost || (wants_text rule && on_lost || false)) is_lost
-          ∙ ap (λ e. lost || (wants_text rule && _
+          ∙ ap (λ e. lost || (wants_text rule && is_noted_lost old.notes.map.entries (Some call)
           || (follows_passed old.events.docs.terms rule notes e
           || follows_bytes rule (events_of notes) e))) (sym is));
     }
