@@ -34,14 +34,10 @@ use Rattle.lsp_survey.specs.Remarks.{older_held, older_in, older_of}
 use Rattle.lsp_survey.specs.declared.notes.misuses.Misused as code
 use Rattle.lsp_survey.specs.declared.notes.remarks.Remarks.{Remarks}
 
--- two facts of an answer that is no fault, and what follows from one
-pub on_ok_both : {U E P Q : Type 0} (r : Result U E) → OnOk r P → OnOk r Q → OnOk r (P × Q)
-on_ok_both (Ok u) p q = (p, q)
-on_ok_both (Err e) p q = tt
-
-pub on_ok_map : {U E P Q : Type 0} (r : Result U E) → (P → Q) → OnOk r P → OnOk r Q
-on_ok_map (Ok u) f p = f p
-on_ok_map (Err e) f p = tt
+pub on_ok_three : {U E : Type 0} {P Q R S : Type 0} (r : Result U E) → (P → Q → R → S)
+    → OnOk r P → OnOk r Q → OnOk r R → OnOk r S
+on_ok_three (Ok u) f p q s = f p q s
+on_ok_three (Err e) f p q s = tt
 
 pub filter_map-snoc : {A X : Type 0} (f : A → Option X) (xs : List A) (x : A)
     → filter_map f (xs ++ x ∷ []) ≡ filter_map f xs ++ cons_option (f x) []

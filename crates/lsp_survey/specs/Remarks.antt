@@ -1,5 +1,5 @@
 -- What is remarkable about the kept messages of a session, though it breaks no rule.
-use Rattle.std.specs.Prelude.{◌≡◌, ℕ, List, [], ◌∷◌, ◌++◌, Bool, ◌&&◌, not, Option, Some}
+use Rattle.std.specs.Prelude.{◌≡◌, ℕ, List, [], ◌∷◌, ◌++◌, Bool, ◌&&◌, ◌||◌, not, Option, Some}
 use Rattle.std.specs.Prelude.{None, if◌then◌else◌, option_and_then, option_map, codes, string_bytes}
 use Rattle.std.specs.Prelude.{unwrap_or}
 use Rattle.serde_json.specs.Data.{Data}
@@ -22,7 +22,7 @@ use Rattle.lsp_survey.specs.declared.notes.remarks.Remarks.{Remarks}
 -- the session has exited, and was not told to shut down before
 abbrev pub is_abrupt : Phase → Phase → Bool
 is_abrupt before after =
-    same_phase after Exited && not (same_phase before Exited) && not (same_phase before Stopping)
+    same_phase after Exited && not (same_phase before Exited || same_phase before Stopping)
 
 -- the message of this number leads from one phase to the other
 abbrev pub abrupt : ℕ → Phase → Phase → Option (Option ℕ)

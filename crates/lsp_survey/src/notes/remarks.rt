@@ -1,11 +1,10 @@
 //! What is remarkable about the messages of a session, though it breaks no rule.
 ghost use Rattle.std.specs.Prelude.{◌≡◌, ◌&&◌, [], IfOk, OnOk, if◌then◌else◌, not, option_map};
-ghost use Rattle.std.specs.Prelude.{string_bytes, unwrap_or};
+ghost use Rattle.std.specs.Prelude.{string_bytes};
 ghost use Rattle.serde_json.specs.View.{view};
 ghost use Rattle.lsp_rpc.specs.View.{message_view};
 ghost use Rattle.lsp_survey.specs.Remarks as spec;
-ghost use Rattle.lsp_survey.specs.Misuses.{misuse_in, misused_views, with_misuse};
-ghost use Rattle.lsp_survey.specs.Remarks.{AreRemarks, abrupt, older_held, older_of};
+ghost use Rattle.lsp_survey.specs.Remarks.{AreRemarks, Remarked, older_held, older_of};
 
 use crate::notes::misuses::{Misused, note_misuse};
 use lsp_rpc::{Answer, Memory, Message, Side};
@@ -55,10 +54,7 @@ impl Remarks {
     pub(crate) fn older_encoding(&self) -> Option<&str>
         ensures { option_map (λ s. s.now) result ≡ older_held self.now }
     {
-        match self.older_encoding.as_ref() {
-            Some(name) => Some(name.as_str()),
-            None => None,
-        }
+        self.older_encoding.as_ref().map(|name| name.as_str())
     }
 
     /// Takes over a message that is kept, the event of this number, before and after which the
@@ -75,15 +71,8 @@ impl Remarks {
         after: Phase,
         done: bool,
     ) -> Result<(), Memory>
-        ensures misuses { OnOk result (misused_views self.new.misuses.items
-            ≡ with_misuse (misused_views self.old.misuses.items)
-            (misuse_in event side (message_view message.now))) }
-        ensures abrupt { self.new.abrupt_exit
-            ≡ unwrap_or (abrupt event before after) self.old.abrupt_exit }
-        ensures done { OnOk result (self.new.is_done ≡ done) }
-        ensures older { OnOk result (older_held self.new
-            ≡ (if not self.old.is_done && done then older_of (message_view message.now)
-            else older_held self.old)) }
+        ensures { OnOk result (Remarked event side (message_view message.now) before after done
+            self.old self.new) }
     {
         if is_abrupt(before, after) {
             self.abrupt_exit = Some(event);
@@ -137,12 +126,7 @@ fn older_name(message: &Message) -> Option<&str>
             answer: Answer::Result(value),
             ..
         } => older_in(value),
-        Message::Response {
-            answer: Answer::Error { .. },
-            ..
-        } => None,
-        Message::Request { .. } => None,
-        Message::Notification { .. } => None,
+        _ => None,
     }
 }
 

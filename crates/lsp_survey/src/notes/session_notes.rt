@@ -1,15 +1,13 @@
 //! By which events requests were asked and answered, and which event led to the phase.
-ghost use Rattle.std.specs.Prelude.{◌≡◌, ◌&&◌, [], List, OnOk, if◌then◌else◌, not};
-ghost use Rattle.std.specs.Prelude.{option_map, unwrap_or};
+ghost use Rattle.std.specs.Prelude.{◌≡◌, [], List, OnOk, option_map, unwrap_or};
 ghost use Rattle.lsp_docs.specs.Terms.{Terms};
 ghost use Rattle.lsp_rpc.specs.Ident.{id_view};
 ghost use Rattle.lsp_rpc.specs.View.{message_view};
 ghost use Rattle.lsp_verdict.specs.Event.{Event};
 ghost use Rattle.lsp_survey.specs.Asking.{answered, asked, leads, numbered, same_phase, sents};
 ghost use Rattle.lsp_survey.specs.Asking.{since};
-ghost use Rattle.lsp_survey.specs.Misuses.{misuse_in, misused_views, misuses, with_misuse};
-ghost use Rattle.lsp_survey.specs.Remarks.{abrupt, abrupt_exit, older_encoding, older_held};
-ghost use Rattle.lsp_survey.specs.Remarks.{older_of};
+ghost use Rattle.lsp_survey.specs.Misuses.{misused_views, misuses};
+ghost use Rattle.lsp_survey.specs.Remarks.{Remarked, abrupt_exit, older_encoding};
 ghost use Rattle.lsp_survey.specs.SessionNoting.{AreNotes, Exchanges};
 
 use crate::notes::exchange::Exchange;
@@ -127,15 +125,8 @@ impl SessionNotes {
         ensures phase { self.new.phase ≡ phase }
         ensures since { self.new.since
             ≡ unwrap_or (leads event self.old.phase phase) self.old.since }
-        ensures misuses { OnOk result (misused_views self.new.remarks.misuses.items
-            ≡ with_misuse (misused_views self.old.remarks.misuses.items)
-            (misuse_in event side (message_view message.now))) }
-        ensures abrupt { OnOk result (self.new.remarks.abrupt_exit
-            ≡ unwrap_or (abrupt event self.old.phase phase) self.old.remarks.abrupt_exit) }
-        ensures done { OnOk result (self.new.remarks.is_done ≡ done) }
-        ensures older { OnOk result (older_held self.new.remarks
-            ≡ (if not self.old.remarks.is_done && done then older_of (message_view message.now)
-            else older_held self.old.remarks)) }
+        ensures remarks { OnOk result (Remarked event side (message_view message.now)
+            self.old.phase phase done self.old.remarks self.new.remarks) }
     {
         let before = self.phase;
         if !is_same(before, phase) {
