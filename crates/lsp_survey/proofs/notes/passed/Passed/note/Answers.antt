@@ -16,4 +16,4 @@ returns-in-Request c =
 pub returns-in-Response-Some-default : goal.returns-in-Response-Some-default
 returns-in-Response-Some-default c =
     let at = c.in-Response-Some-default in
-    rw (at.is, at.id-is) (c.answer.ensures (answer_view at.answer))
+    c.answer.ensures (answer_view at.answer)
