@@ -29,7 +29,11 @@ returns-clause-passes c =
         found = _;
         is_given = refl;
         is_such = (refl, c.in_ok-content.ensures.items);
-        counted = refused.counted;
+        counted = record {
+          session = refused.counted.session;
+          documents = refused.counted.documents;
+          counts = refused.counted.counts;
+        };
         is_broken = λ event kept is holds. refused.broken kept holds
             ∙ ap (λ b. old.broken || (breaks_handshake b rule
             || may_answer kept (fault c.args.side rule))) meant.asks
@@ -39,7 +43,7 @@ returns-clause-passes c =
         noted = λ enc kind kept holds. subst (λ (brought : Option (List ℕ)).
             Leaves (Some rule) brought None None old.notes.map.entries
             c.note_malformed.new.notes.map.entries) meant.brings
-            (subst (λ (w : Notes). Leaves (Some rule) (option_map string_bytes c.in_ok-asks.brings) None None
+            (subst (λ (w : Notes). Leaves (Some rule) (option_map string_bytes c.in_ok-asks.field-0.brings) None None
             w.map.entries c.note_malformed.new.notes.map.entries) refused.notes
             c.in_ok-note_malformed.ensures);
         passed = λ event is. subst (λ (e : Event).
@@ -47,7 +51,7 @@ returns-clause-passes c =
             (content_passes c.args.side rule rule malformed old.passed c.note_asked.new.self
             (subst (λ (o : Option Ident). SetsAny c.args.side o old.passed c.note_asked.new.self)
             meant.asked (subst (λ (p : Passed). SetsAny c.args.side
-            (option_map id_view c.in_ok-asks.asked) p c.note_asked.new.self) refused.passed
+            (option_map id_view c.in_ok-asks.field-0.asked) p c.note_asked.new.self) refused.passed
             c.in_ok-note_asked.ensures)));
         marks = refused.marks;
         said = refused.said;
