@@ -9,8 +9,8 @@ use Rattle.std.proofs.lemmas.Slice.Eq.{bytes_eq-Decides}
 use Rattle.std.specs.Bool.{Decides}
 use Rattle.std.specs.Option.{option_or}
 use Rattle.std.specs.Str.{bytes_eq}
-use Rattle.serde_json.specs.Data.{Data, null, boolean, number, string, array, object, Items, no_items}
-use Rattle.serde_json.specs.Data.{item}
+use Rattle.serde_json.specs.Data.{Data, null, boolean, number, string, array, object}
+use Rattle.serde_json.specs.Data.{Items, item, no_items}
 use Rattle.serde_json.specs.Find.{as_str}
 use Rattle.lsp_types.specs.declared.side.Side.TheVariants.{Editor, Server}
 use Rattle.lsp_rpc.specs.Act as Act
@@ -22,8 +22,8 @@ use Rattle.lsp_rpc.specs.Results as results
 use Rattle.lsp_rpc.specs.Shape.{member, as_id, as_integer, holds_of, holds_unless_absent}
 use Rattle.lsp_explain.specs.MemberLaws.{BadParamsHaveMember, BadResultHasMember}
 use Rattle.lsp_explain.specs.Members as wrong
-use Rattle.lsp_explain.specs.Members.{Pointer, below, unless, in_items, in_array, needs, allows, fits}
-use Rattle.lsp_explain.specs.Members.{if_there}
+use Rattle.lsp_explain.specs.Members.{Pointer, below, unless, in_items, in_array, needs, allows}
+use Rattle.lsp_explain.specs.Members.{fits, if_there}
 use Rattle.lsp_explain.specs.declared.facts.plain.Plain.{Plain}
 use Rattle.lsp_explain.specs.declared.facts.plain.Plain.TheVariants as plain
 
@@ -88,7 +88,8 @@ module _ {X : Type 0} (name : List ℕ) (p : Plain) (shape : Data → Option X)
 
 -- ---- arrays
 
-module _ {X : Type 0} (w : Data → Option Pointer) (shape : Data → Option X) (same : Fits w shape) where
+module _ {X : Type 0} (w : Data → Option Pointer) (shape : Data → Option X)
+    (same : Fits w shape) where
   items_some : (n : ℕ) (ds : Items) → is_none (in_items w n ds) ≡ is_some (all_of shape ds)
   items_some n no_items = refl
   items_some n (item d ds) =
@@ -374,7 +375,8 @@ registration_some (boolean b) = refl
 registration_some (number n) = refl
 registration_some (string s) = refl
 registration_some (array ds) = refl
-registration_some (object ms) = needs_some (codes "method") plain.Text as_str (λ v. refl) (object ms)
+registration_some (object ms) =
+    needs_some (codes "method") plain.Text as_str (λ v. refl) (object ms)
 
 register_some : Keeps wrong.register params.register_at
 register_some None = refl

@@ -1,5 +1,5 @@
--- What is said about a content that is not a message (201 to 208), or is one whose params do not have
--- the shape of their method (209).
+-- What is said about a content that is not a message (201 to 208), or is one whose params do not
+-- have the shape of their method (209).
 use Rattle.std.specs.Prelude.{ℕ, ◌-◌, ◌&&◌, ◌==◌, nat_lt, nat_le, List, [], ◌∷◌, ◌++◌, length, take}
 use Rattle.std.specs.Prelude.{drop, Bool, if◌then◌else◌, Option, Some, None, option_and_then}
 use Rattle.std.specs.List.{prefix_len}

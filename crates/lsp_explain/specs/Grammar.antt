@@ -1,5 +1,5 @@
--- Up to which byte a text can be the front of a JSON text (RFC 8259), with arrays and objects nested
--- at most 127 deep and surrogates only in pairs. How large a number is does not matter here.
+-- Up to which byte a text can be the front of a JSON text (RFC 8259), with arrays and objects
+-- nested at most 127 deep and surrogates only in pairs. How large a number is does not matter here.
 use Rattle.std.specs.Prelude.{ℕ, suc, ◌-◌, List, [], ◌∷◌, ◌++◌, length, take, Bool, true, false}
 use Rattle.std.specs.Prelude.{◌&&◌, ◌||◌, ◌==◌, nat_lt, nat_le, if◌then◌else◌, slice_get}
 use Rattle.std.specs.Prelude.{Option, Some, None, option_map}

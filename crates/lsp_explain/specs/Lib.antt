@@ -1,4 +1,5 @@
 pub mod Suspects
+pub mod Unopened
 pub mod Twins
 pub mod Traced
 pub mod Standing

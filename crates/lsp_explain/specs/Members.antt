@@ -222,4 +222,5 @@ picked = in_object (λ d.
 -- **the member of the result of `initialize` that does not have its shape**
 abbrev pub wrong_result : Data → Option Pointer
 wrong_result d =
-    in_object (λ o. below (codes "capabilities") (picked (member (codes "capabilities") o))) (Some d)
+    in_object (λ o. below (codes "capabilities") (picked (member (codes "capabilities") o)))
+    (Some d)

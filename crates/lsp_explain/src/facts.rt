@@ -4,10 +4,10 @@
 //! A [`Fact`] is one thing that an explanation says. Of a message [`message_facts`] says them, of a
 //! snapshot [`shown_facts`]: by their rules [`session_facts`], or [`act_facts`] and
 //! [`snapshot_facts`], which say what is wrong with a call on a document. [`content_facts`] are on
-//! a content that is not a message or has params of another shape, [`frame_facts`] and [`unfinished_facts`] on a stream whose
-//! frames have a fault or an end inside one, [`flaw_facts`] on a log that has a fault. [`refuting`]
-//! finds the snapshots whose texts refute a call. [`push_details`] writes the lines of facts, and
-//! `write_event` the line that names an event.
+//! a content that is not a message or has params of another shape, [`frame_facts`] and
+//! [`unfinished_facts`] on a stream whose frames have a fault or an end inside one, [`flaw_facts`]
+//! on a log that has a fault. [`refuting`] finds the snapshots whose texts refute a call.
+//! [`push_details`] writes the lines of facts, and `write_event` the line that names an event.
 
 mod contents;
 mod difference;

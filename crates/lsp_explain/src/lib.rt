@@ -15,6 +15,7 @@ mod run_all;
 mod suspects;
 mod trace;
 mod twins;
+mod unopened;
 
 pub use facts::{
     Fact, act_facts, content_facts, flaw_facts, frame_facts, session_facts, snapshot_facts,

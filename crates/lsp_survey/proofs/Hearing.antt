@@ -27,9 +27,11 @@ use Rattle.lsp_session.specs.State as session
 use Rattle.lsp_docs.specs.State as docs
 use Rattle.lsp_survey.specs.Marking.{number_next}
 use Rattle.lsp_survey.specs.Marks.{AreMarks, DoneBy, ShownBy}
+use Rattle.lsp_survey.specs.Openings.{AreOpenings, OpensBy}
 use Rattle.lsp_survey.specs.SessionNoting.{AreNotes, SaysOn}
 use Rattle.lsp_survey.specs.declared.notes.marks.Marks.{Marks}
 use Rattle.lsp_survey.specs.declared.notes.note.Notes.{Notes}
+use Rattle.lsp_survey.specs.declared.notes.openings.Openings.{Openings}
 use Rattle.lsp_survey.specs.declared.notes.passed.Passed.{Passed}
 use Rattle.lsp_survey.specs.declared.notes.session_notes.SessionNotes.{SessionNotes}
 use Rattle.lsp_survey.specs.declared.notes.sides.Sides.{Sides}
@@ -60,6 +62,7 @@ use Rattle.lsp_verdict.specs.declared.verdict.Who.TheVariants as who
 use Rattle.lsp_verdict.proofs.Offences.Steps.{kept-push}
 use Rattle.lsp_survey.proofs.MarkSteps.{act_done, shown_done}
 use Rattle.lsp_survey.proofs.Noting.{notes_stay}
+use Rattle.lsp_survey.proofs.OpeningSteps.{act_opened, shown_opened}
 use Rattle.lsp_survey.proofs.Passing.{passed_over, kept_on}
 use Rattle.lsp_survey.proofs.SessionSteps.{message_noted, other_unsaid}
 
@@ -95,17 +98,20 @@ module _ (old new : Replay) (notes : List Noted) (number : ℕ) (walks : Walks o
       let told : SaysOn number by said
       (sent_in (kept_of terms (events ++ message sent ∷ []))) old.said new.said =
       subst (λ (es : List Event). SaysOn number by said (sent_in es) old.said new.said) more
-      (noted.2 (sent_in (before ++ message sent ∷ [])) holds.sent) in
+      (noted.3 (sent_in (before ++ message sent ∷ [])) holds.sent) in
       let n : Noted = record { event = message sent; malformed = None } in
       kept_on (content side bytes) old new notes n (call_of enc kind act) walks
       (reads, refl) clean (ap (call_of enc kind) means)
       terms_are holds counted is_broken
-      (noted.3 ∙ ap (λ (s : Side). sides_read s old.sides) (sym is_by)) is_passed
+      (noted.4 ∙ ap (λ (s : Side). sides_read s old.sides) (sym is_by)) is_passed
       (noted.0 enc kind)
       (act_done terms old.marks.map.entries new.marks.map.entries events sent number walks.marked
       clean is_number
       (λ e k. subst (λ (a : Act). DoneBy number (call_of e k a) old.marks.map.entries
       new.marks.map.entries) (sym means) (noted.1 e k)))
+      (act_opened terms old.openings new.openings events sent number walks.opened clean is_number
+      (λ e k. subst (λ (a : Act). OpensBy number (call_of e k a) old.openings new.openings)
+      (sym means) (noted.2 e k)))
       (message_noted terms old.said new.said events sent said number walks.said clean is_number says
       has_value
       (subst (λ (s : Side). SaysOn number s said
@@ -124,13 +130,15 @@ module _ (old new : Replay) (notes : List Noted) (number : ℕ) (walks : Walks o
       let call : Call = shows uri version text in
       let n : Noted = record { event = snapshot uri version text; malformed = None } in
       kept_on raw old new notes n (Some call) walks (reads, whole) clean refl terms_are holds counted
-      is_broken noted.3 is_passed
+      is_broken noted.4 is_passed
       (subst (λ (w : Notes). AreAfter (Some call) old.notes.map.entries w.map.entries)
       (sym noted.0) (notes_stay call old.notes.map.entries refl))
       (shown_done terms old.marks.map.entries new.marks.map.entries events uri version text number
       answer walks.marked clean is_number answers noted.1)
+      (shown_opened terms new.openings events uri version text
+      (subst (λ (o : Openings). AreOpenings terms o events) (sym noted.2) walks.opened) clean)
       (other_unsaid terms new.said events n.event
-      (subst (λ (m : SessionNotes). AreNotes terms m events) (sym noted.2) walks.said) refl)
+      (subst (λ (m : SessionNotes). AreNotes terms m events) (sym noted.3) walks.said) refl)
 
   by_event : (raw : Raw) (given : lent.Heard) (event : Event) → Reads raw event
       → IsHeard event given → AnswersAs terms before given → HeardWhole before event given
@@ -172,10 +180,9 @@ module _ (old new : Replay) (notes : List Noted) (number : ℕ) (walks : Walks o
 
 -- what was noted before is all that matters
 pub noted_after : (number : ℕ) (given : lent.Heard) (mid old new : Replay) → mid.notes ≡ old.notes
-    → mid.marks ≡ old.marks → mid.said ≡ old.said → mid.sides ≡ old.sides
-    → NotesKept number given mid new
-    → NotesKept number given old new
-noted_after number (kept.Message side spoken) mid old new notes marks said sides noted =
+    → mid.marks ≡ old.marks → mid.openings ≡ old.openings → mid.said ≡ old.said
+    → mid.sides ≡ old.sides → NotesKept number given mid new → NotesKept number given old new
+noted_after number (kept.Message side spoken) mid old new notes marks openings said sides noted =
     let act : Act = act_view spoken.act in (
       λ enc kind. subst (λ (w : Notes).
           AreAfter (call_of enc kind act) w.map.entries new.notes.map.entries) notes
@@ -183,18 +190,22 @@ noted_after number (kept.Message side spoken) mid old new notes marks said sides
       λ enc kind. subst (λ (w : Marks).
           DoneBy number (call_of enc kind act) w.map.entries new.marks.map.entries) marks
           (noted.1 enc kind),
+      λ enc kind. subst (λ (w : Openings). OpensBy number (call_of enc kind act) w new.openings)
+          openings (noted.2 enc kind),
       λ sents stands. subst (λ (w : SessionNotes).
           SaysOn number side (message_view spoken.message) sents w new.said) said
-          (noted.2 sents stands),
-      noted.3 ∙ ap (λ (s : Sides). sides_read side s) sides,
+          (noted.3 sents stands),
+      noted.4 ∙ ap (λ (s : Sides). sides_read side s) sides,
     )
-noted_after number (kept.Snapshot version uri text answer) mid old new notes marks said sides noted = (
-  noted.0 ∙ notes,
-  subst (λ (w : Marks).
-      ShownBy number uri.now version answer w.map.entries new.marks.map.entries) marks noted.1,
-  noted.2 ∙ said,
-  noted.3 ∙ sides,
-)
+noted_after number (kept.Snapshot version uri text answer) mid old new notes marks openings said
+    sides noted = (
+      noted.0 ∙ notes,
+      subst (λ (w : Marks).
+          ShownBy number uri.now version answer w.map.entries new.marks.map.entries) marks noted.1,
+      noted.2 ∙ openings,
+      noted.3 ∙ said,
+      noted.4 ∙ sides,
+    )
 
 -- the next event was heard, kept and noted
 pub kept_heard : (raw : Raw) (old new : Replay) (notes : List Noted) (number : ℕ)
@@ -224,9 +235,10 @@ pub still_walks : (old new : Replay) (notes : List Noted) → Walks old notes
     → new.events.docs.terms ≡ old.events.docs.terms
     → Holds new.events.session new.events.docs (kept_of old.events.docs.terms (events_of notes))
     → new.events.counts ≡ old.events.counts → new.notes ≡ old.notes → new.broken ≡ old.broken
-    → new.marks ≡ old.marks → new.said ≡ old.said → new.sides ≡ old.sides
-    → new.passed ≡ old.passed → Walks new notes
-still_walks old new notes walks terms_are holds counts notes_are is_broken marks said sides passed =
+    → new.marks ≡ old.marks → new.openings ≡ old.openings → new.said ≡ old.said
+    → new.sides ≡ old.sides → new.passed ≡ old.passed → Walks new notes
+still_walks old new notes walks terms_are holds counts notes_are is_broken marks openings said sides
+    passed =
     let terms : Terms = old.events.docs.terms in
     let events : List Event = events_of notes in
     subst (λ (t : Terms). WalksBy t new notes) (sym terms_are) (record {
@@ -235,6 +247,7 @@ still_walks old new notes walks terms_are holds counts notes_are is_broken marks
       noted = λ uri. ap (λ (w : Notes). note_in w.map.entries uri) notes_are ∙ walks.noted uri;
       is_broken = is_broken ∙ walks.is_broken;
       marked = subst (λ (m : Marks). AreMarks terms m.map.entries events) (sym marks) walks.marked;
+      opened = subst (λ (o : Openings). AreOpenings terms o events) (sym openings) walks.opened;
       said = subst (λ (m : SessionNotes). AreNotes terms m events) (sym said) walks.said;
       sided = sides ∙ walks.sided;
       passed = λ side k. ap (λ (p : Passed). has_passed p side (id_view k)) passed

@@ -11,6 +11,7 @@ use Rattle.lsp_rpc.specs.Ident.{id_view}
 use Rattle.lsp_rpc.specs.Message.{Message}
 use Rattle.lsp_survey.specs.Notes.{note_of, note_after, Leaves, is_noted_lost}
 use Rattle.lsp_survey.specs.Marks.{AreMarks}
+use Rattle.lsp_survey.specs.Openings.{AreOpenings}
 use Rattle.lsp_survey.specs.Passed.{ArePassed}
 use Rattle.lsp_survey.specs.Sides.{sides_after, sides_of}
 use Rattle.lsp_survey.specs.SessionNoting.{AreNotes}
@@ -18,6 +19,7 @@ use Rattle.lsp_survey.specs.Walking.{WalksBy, Walks, offence_of, PassesOver}
 use Rattle.lsp_survey.specs.Walking.{IsOffending, Offends, IsHeard, Hears}
 use Rattle.lsp_survey.specs.declared.notes.marks.Marks.{Marks}
 use Rattle.lsp_survey.specs.declared.notes.note.Note.{Note}
+use Rattle.lsp_survey.specs.declared.notes.openings.Openings.{Openings}
 use Rattle.lsp_survey.specs.declared.offending.Judged.{Judged}
 use Rattle.lsp_survey.specs.declared.offending.Judged.TheVariants as heard
 use Rattle.lsp_survey.specs.declared.offending.OffendingEvent.{OffendingEvent}
@@ -40,6 +42,7 @@ use Rattle.lsp_verdict.specs.Placed.{Raw}
 use Rattle.lsp_verdict.specs.Verdict.{whose}
 use Rattle.lsp_verdict.specs.declared.verdict.Who.{Who}
 use Rattle.lsp_survey.proofs.MarkSteps.{refused_leaves}
+use Rattle.lsp_survey.proofs.OpeningSteps.{refused_opens}
 use Rattle.lsp_survey.proofs.SessionSteps.{refused_unsaid}
 use Rattle.lsp_survey.proofs.PassedSteps.{kept_passes}
 use Rattle.lsp_survey.proofs.SidesSteps.{sides_pushed}
@@ -110,6 +113,7 @@ record Steps (terms : Terms) (old new : Replay) (notes : List Noted) (n : Noted)
       (held_in terms (calls (kept_of terms (events_of notes))) said) said
       old.notes.map.entries new.notes.map.entries
   pub marked : AreMarks terms new.marks.map.entries (events_of notes ++ n.event ∷ [])
+  pub opened : AreOpenings terms new.openings (events_of notes ++ n.event ∷ [])
   pub told : AreNotes terms new.said (events_of notes ++ n.event ∷ [])
 
 walks_on : (terms : Terms) (old new : Replay) (notes : List Noted) (n : Noted) (rule : Option ℕ)
@@ -150,6 +154,7 @@ walks_on terms old new notes n rule said walks s =
           ∙ ap (λ (o : Option ℕ). unwrap_or (option_and_then does o) was) (sym s.rule_is)
           ∙ sym (is_passed-push terms side (id_view k) notes n);
       marked = subst (AreMarks terms new.marks.map.entries) (sym (events_of-push notes n)) s.marked;
+      opened = subst (AreOpenings terms new.openings) (sym (events_of-push notes n)) s.opened;
       said = subst (AreNotes terms new.said) (sym (events_of-push notes n)) s.told;
     })
 
@@ -215,6 +220,9 @@ passed_over raw old new notes n by rule says enc kind IsEvent IsSuch given walks
         marked = refused_leaves terms new.marks.map.entries (events_of notes) n.event rule
             (subst (λ (m : Marks). AreMarks terms m.map.entries (events_of notes)) (sym p.marks)
             walks.marked) rule_is;
+        opened = refused_opens terms new.openings (events_of notes) n.event rule
+            (subst (λ (o : Openings). AreOpenings terms o (events_of notes)) (sym p.openings)
+            walks.opened) rule_is;
         told = refused_unsaid terms new.said (events_of notes) n.event rule
             (subst (λ (m : SessionNotes). AreNotes terms m (events_of notes)) (sym p.said)
             walks.said) rule_is;
@@ -249,10 +257,11 @@ pub kept_on : (raw : Raw) (old new : Replay) (notes : List Noted) (n : Noted) (s
     → Leaves None (option_and_then brought_by n.malformed) None said old.notes.map.entries
     new.notes.map.entries
     → AreMarks old.events.docs.terms new.marks.map.entries (events_of notes ++ n.event ∷ [])
+    → AreOpenings old.events.docs.terms new.openings (events_of notes ++ n.event ∷ [])
     → AreNotes old.events.docs.terms new.said (events_of notes ++ n.event ∷ [])
     → Hears raw old.events.docs.terms new notes heard.Kept
 kept_on raw old new notes n said walks is_noted rule_is said_is terms_are holds counted is_broken
-    sides passed noted marked told =
+    sides passed noted marked opened told =
     let terms : Terms = old.events.docs.terms in
     record {
       n = n;
@@ -269,6 +278,7 @@ kept_on raw old new notes n said walks is_noted rule_is said_is terms_are holds 
         passed = kept_passes n.event n.malformed old.passed new.passed passed;
         noted = noted;
         marked = marked;
+        opened = opened;
         told = told;
       });
     }

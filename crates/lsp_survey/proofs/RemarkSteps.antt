@@ -1,8 +1,9 @@
 -- What is remarkable about messages, with one message more.
-use Rattle.std.specs.Prelude.{◌⊎◌, ◌&&◌, not, option_and_then, unwrap_or, is_some, map}
-use Rattle.std.specs.Prelude.{if◌then◌else◌, Result, Ok, Err, OnOk}
-use Rattle.std.specs.List.{cons_option, filter_map}
+use Rattle.std.specs.Prelude.{◌⊎◌, ◌&&◌, ◌||◌, not, string_bytes, option_and_then, unwrap_or}
+use Rattle.std.specs.Prelude.{is_some, if◌then◌else◌, Result, Ok, Err, OnOk}
+use Rattle.std.specs.List.{cons_option, filter_map, list_any}
 use Rattle.std.specs.Option.{option_or}
+use Rattle.std.specs.Str.{bytes_eq}
 use Rattle.std.proofs.Common.{◌≡◌, ℕ, Bool, List, [], ◌∷◌, ◌++◌, Option, Some, None, inl, inr, refl}
 use Rattle.std.proofs.Common.{sym, ap, ◌∙◌, append-nil, append_assoc}
 use Rattle.std.proofs.lemmas.List.{map-append}
@@ -26,10 +27,11 @@ use Rattle.lsp_verdict.specs.Offences.{last_or}
 use Rattle.lsp_verdict.proofs.LookBackLemmas.{each_of-snoc}
 use Rattle.lsp_verdict.proofs.Offences.Steps.{last_behind}
 use Rattle.lsp_survey.specs.Asking.{Numbered, numbered_as, sents}
-use Rattle.lsp_survey.specs.Misuses.{Misused, misuse_at, misuse_in, misused_views, misuses}
-use Rattle.lsp_survey.specs.Misuses.{misuses_after, with_misuse}
+use Rattle.lsp_survey.specs.Misuses.{Misused, has_method, misuse_at, misuse_in, misused_views}
+use Rattle.lsp_survey.specs.Misuses.{misuses, misuses_after, with_misuse}
 use Rattle.lsp_survey.specs.Remarks.{AreRemarks, Remarked, abrupt, abrupt_by, older_encoding}
 use Rattle.lsp_survey.specs.Remarks.{older_held, older_in, older_of}
+use Rattle.lsp_survey.specs.declared.notes.misuses.Misused as code
 use Rattle.lsp_survey.specs.declared.notes.remarks.Remarks.{Remarks}
 
 pub on_ok_three : {U E : Type 0} {P Q R S : Type 0} (r : Result U E) → (P → Q → R → S)
@@ -42,6 +44,14 @@ pub filter_map-snoc : {A X : Type 0} (f : A → Option X) (xs : List A) (x : A)
 filter_map-snoc f xs x = filter_map-append f xs (x ∷ [])
 
 -- ---- calls that are misused
+
+-- one of those that are held has the method
+pub held_named : (name : List ℕ) (items : List code.Misused)
+    → list_any (λ (x : code.Misused). bytes_eq (string_bytes x.method) name) items
+    ≡ has_method name (misused_views items)
+held_named name [] = refl
+held_named name (x ∷ xs) =
+    ap (λ b. bytes_eq (string_bytes x.method) name || b) (held_named name xs)
 
 misuse-outline : (n : ℕ) (side : Side) (m : Message)
     → misuse_in n side m ≡ misuse_in n side (outline m)

@@ -62,7 +62,7 @@ misuse_at m = misuse_in m.number m.sent.side m.sent.message
 
 -- one of these has the method
 abbrev pub has_method : List ℕ → List Misused → Bool
-has_method name found = list_any (λ (x : Misused). bytes_eq name x.method) found
+has_method name found = list_any (λ (x : Misused). bytes_eq x.method name) found
 
 -- after these one more, where its method is new
 abbrev pub with_misuse : List Misused → Option Misused → List Misused

@@ -5,7 +5,7 @@ use Rattle.std.specs.Prelude.{unwrap_or}
 use Rattle.serde_json.specs.Data.{Data}
 use Rattle.serde_json.specs.Find.{as_str}
 use Rattle.lsp_rpc.specs.Message.{Message}
-use Rattle.lsp_rpc.specs.Shape.{member}
+use Rattle.lsp_rpc.specs.Params.{required}
 use Rattle.lsp_session.specs.Handshake.{first_settled, is_done, phase, result_of}
 use Rattle.lsp_session.specs.Sent.{Sent}
 use Rattle.lsp_session.specs.declared.phase.Phase.{Phase}
@@ -39,7 +39,7 @@ abrupt_exit said = last_or None (each_of abrupt_by said)
 
 -- the text of the member `offsetEncoding` of a result
 abbrev pub older_in : Data → Option (List ℕ)
-older_in d = option_and_then as_str (member (codes "offsetEncoding") d)
+older_in d = required (codes "offsetEncoding") as_str d
 
 -- **the encoding that the answer to `initialize` names in the older way**, which LSP 3.17 does not
 -- have

@@ -1,5 +1,5 @@
 -- What is noted of requests and phases, and for which messages it stands.
-use Rattle.std.specs.Prelude.{◌≡◌, ℕ, List, ◌++◌, map, drop, length, nat_lt, if◌then◌else◌, Option}
+use Rattle.std.specs.Prelude.{◌≡◌, ℕ, List, ◌++◌, map, Option}
 use Rattle.std.specs.Prelude.{unwrap_or, option_to_list, option_map}
 use Rattle.std.specs.Map.{lookup}
 use Rattle.lsp_docs.specs.Terms.{Terms}
@@ -30,10 +30,6 @@ asked_in es id = lookup (λ key. same_id id (id_view key)) es
 
 abbrev pub replies_in : Exchange → List Reply
 replies_in e = map given_view e.replies.items
-
--- where no more may be held, the oldest is let go
-abbrev pub room_in : List Given → List Given
-room_in items = if nat_lt (length items) most_replies then items else drop 1 items
 
 -- one more message of the sender, the event of this number
 pub record Exchanges (side : Side) (n : ℕ) (sender : Side) (m : Message) (old new : Exchange) : Type

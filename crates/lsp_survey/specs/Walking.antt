@@ -17,6 +17,7 @@ use Rattle.lsp_rpc.specs.View.{act_view, message_view}
 use Rattle.lsp_session.specs.Sent.{Sent}
 use Rattle.lsp_session.specs.State.{Stands}
 use Rattle.lsp_survey.specs.Marks.{AreMarks, DoneBy, ShownBy}
+use Rattle.lsp_survey.specs.Openings.{AreOpenings, OpensBy}
 use Rattle.lsp_survey.specs.SessionNoting.{AreNotes, SaysOn}
 use Rattle.lsp_survey.specs.Notes.{note_in, note_of, AreAfter, Leaves, is_noted_lost}
 use Rattle.lsp_survey.specs.Passed.{ArePassed, has_passed}
@@ -54,6 +55,7 @@ pub record WalksBy (terms : Terms) (w : Replay) (notes : List Noted) : Type 0 wh
   pub noted : (uri : List ℕ) → note_in w.notes.map.entries uri ≡ note_of terms uri notes
   pub is_broken : w.broken ≡ is_some (first_of (broken_by terms) notes)
   pub marked : AreMarks terms w.marks.map.entries (events_of notes)
+  pub opened : AreOpenings terms w.openings (events_of notes)
   pub said : AreNotes terms w.said (events_of notes)
   pub sided : w.sides ≡ sides_of (events_of notes)
   pub passed : (side : Side) (k : Id) → has_passed w.passed side (id_view k)
@@ -77,6 +79,8 @@ NotesMessage number side said act old new =
     → AreAfter (call_of enc kind act) old.notes.map.entries new.notes.map.entries)
     × ((enc : Encoding) (kind : SyncKind)
     → DoneBy number (call_of enc kind act) old.marks.map.entries new.marks.map.entries)
+    × ((enc : Encoding) (kind : SyncKind)
+    → OpensBy number (call_of enc kind act) old.openings new.openings)
     × ((sents : List Sent) → Stands new.events.session sents
     → SaysOn number side said sents old.said new.said)
     × (new.sides ≡ sides_read side old.sides)
@@ -86,6 +90,7 @@ abbrev pub NotesSnapshot : ℕ → List ℕ → ℤ → Match → Replay → Rep
 NotesSnapshot number uri version answer old new =
     (new.notes ≡ old.notes)
     × ShownBy number uri version answer old.marks.map.entries new.marks.map.entries
+    × (new.openings ≡ old.openings)
     × (new.said ≡ old.said)
     × (new.sides ≡ old.sides)
 
@@ -152,6 +157,7 @@ pub record PassesOver (old new : Replay) (by : Who) (rule : ℕ) (malformed : Op
       (held_in old.events.docs.terms (calls kept) (says enc kind)) (says enc kind)
       old.notes.map.entries new.notes.map.entries
   pub marks : new.marks ≡ old.marks
+  pub openings : new.openings ≡ old.openings
   pub said : new.said ≡ old.said
   pub offence : (enc : Encoding) (kind : SyncKind) (notes : List Noted) (event : Event)
       → IsEvent event → Walks old notes

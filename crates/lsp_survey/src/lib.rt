@@ -7,8 +7,7 @@
 //! defined in `lsp_verdict`.
 //!
 //! What is noted of the events on the way, as which one set a version of a document, is in `notes`:
-//! [`Marks`], [`Setter`], [`Shown`], [`SessionNotes`] and [`Misused`] lend it to who explains a
-//! session.
+//! [`Marks`], [`Openings`], [`SessionNotes`] and [`Misused`] lend it to who explains a session.
 #![tactic(auto)]
 
 mod laws;
@@ -23,7 +22,9 @@ mod walk;
 
 pub use laws::one_kept_text;
 pub use lsp_verdict::Listing;
-pub use notes::{Marks, Misuse, Misused, SessionNotes, Setter, Shown};
+pub use notes::{
+    Closing, DocumentEvent, Marks, Misuse, Misused, Openings, SessionNotes, Setter, Shown, uri_in,
+};
 pub use offence_count::OffenceCount;
 pub use offending::{FoundOffence, Judged, OffendingEvent};
 pub use run::run_survey;

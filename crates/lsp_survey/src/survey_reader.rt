@@ -15,7 +15,7 @@ ghost use Rattle.lsp_verdict.specs.Verdict.{summary, yes};
 ghost use Rattle.lsp_survey.specs.Reads.{EndIs, EndsAre, GivesBehind, IsBroken, Pulls, ShowsFront};
 ghost use Rattle.lsp_survey.specs.Reads.{SoFar};
 
-use crate::notes::{Marks, SessionNotes};
+use crate::notes::{Marks, Openings, SessionNotes};
 use crate::offending::Judged;
 use crate::session_end::ends;
 use crate::walk::Replay;
@@ -163,6 +163,13 @@ impl SurveyReader {
         ensures { result.now ≡ self.now.walk.marks }
     {
         &self.walk.marks
+    }
+
+    /// Which of the kept events heard so far opened and closed documents last.
+    pub fn openings(&self) -> &Openings
+        ensures { result.now ≡ self.now.walk.openings }
+    {
+        &self.walk.openings
     }
 
     /// By which of the kept events heard so far requests were asked and answered, and which led to

@@ -26,7 +26,7 @@ ghost use Rattle.lsp_survey.specs.Walking.{IsUnread, NotesKept, NotesMessage, Pa
 ghost use Rattle.lsp_survey.specs.Walking.{offence_of};
 
 use crate::notes::{
-    Malformed, Marks, Notes, Passed, SessionNotes, Sides, breaks_handshake, is_on_lost,
+    Malformed, Marks, Notes, Openings, Passed, SessionNotes, Sides, breaks_handshake, is_on_lost,
     meant_again, note_kept_act, note_malformed, note_refused, note_refused_act, reopens,
     wants_handshake, wants_text,
 };
@@ -55,6 +55,8 @@ pub(crate) struct Replay {
     passed: Passed,
     /// Which kept events left the documents as they are.
     pub marks: Marks,
+    /// Which documents they opened and closed last.
+    pub openings: Openings,
     /// By which kept events requests were asked and answered.
     pub said: SessionNotes,
 }
@@ -72,6 +74,7 @@ impl Replay {
             sides: Sides::new(),
             passed: Passed::new(alloc),
             marks: Marks::new(alloc),
+            openings: Openings::new(alloc),
             said: SessionNotes::new(alloc),
         }
     }
@@ -145,6 +148,7 @@ impl Replay {
         self.sides = self.sides.after_message(side);
         note_kept_act(&mut self.notes, &spoken.act)?;
         self.marks.keep_act(number, &spoken.act)?;
+        self.openings.keep_act(number, &spoken.act)?;
         self.said.keep(number, side, &spoken.message, phase, done)
     }
 
@@ -280,6 +284,7 @@ impl Replay {
         ensures counted { Counted self.old self.new (spec.who_of side) }
         ensures notes { self.new.notes ≡ self.old.notes }
         ensures marks { self.new.marks ≡ self.old.marks }
+        ensures openings { self.new.openings ≡ self.old.openings }
         ensures said { self.new.said ≡ self.old.said }
         ensures passed { self.new.passed ≡ self.old.passed }
         ensures sides { self.new.sides ≡ sides_failed side rule self.old.sides }
@@ -306,6 +311,7 @@ impl Replay {
         ensures counted { Counted self.old self.new by }
         ensures notes { self.new.notes ≡ self.old.notes }
         ensures marks { self.new.marks ≡ self.old.marks }
+        ensures openings { self.new.openings ≡ self.old.openings }
         ensures said { self.new.said ≡ self.old.said }
         ensures passed { self.new.passed ≡ self.old.passed }
         ensures sides { self.new.sides ≡ self.old.sides }

@@ -18,7 +18,8 @@ use Rattle.lsp_explain.specs.Lines.{fact_lines}
 
 -- ---- where a text is no longer the front of a JSON text
 
-whole : json_break (codes " [1,-0.5e+3,\"a\\u00e9\\ud83d\\ude00\\n\",{\"k\":[]},true,false,null] ") ≡ None
+whole : json_break
+    (codes " [1,-0.5e+3,\"a\\u00e9\\ud83d\\ude00\\n\",{\"k\":[]},true,false,null] ") ≡ None
 whole = refl
 
 empty : json_break [] ≡ Some 0
@@ -81,12 +82,21 @@ no_params : wrong_in (codes "{\"jsonrpc\":\"2.0\",\"method\":\"textDocument/didO
 unfolding value punctuate lex content word after_number number_of scan_numeral is_utf8 chars encode
 no_params = refl
 
-version_is_null : wrong_in (codes "{\"jsonrpc\":\"2.0\",\"method\":\"textDocument/didOpen\",\"params\":{\"textDocument\":{\"uri\":\"a\",\"version\":null,\"text\":\"\"}}}")
+-- a message of this method with these params
+abbrev calls : List ℕ → List ℕ → List ℕ
+calls method params =
+    codes "{\"jsonrpc\":\"2.0\",\"method\":\"" ++ method ++ codes "\",\"params\":" ++ params
+    ++ codes "}"
+
+version_is_null : wrong_in (calls (codes "textDocument/didOpen")
+    (codes "{\"textDocument\":{\"uri\":\"a\",\"version\":null,\"text\":\"\"}}"))
     ≡ Some (codes "/textDocument/version")
 unfolding value punctuate lex content word after_number number_of scan_numeral is_utf8 chars encode
 version_is_null = refl
 
-second_change : wrong_in (codes "{\"jsonrpc\":\"2.0\",\"method\":\"textDocument/didChange\",\"params\":{\"textDocument\":{\"uri\":\"a\",\"version\":1},\"contentChanges\":[{\"text\":\"\"},{\"range\":{\"start\":{\"line\":0,\"character\":-1},\"end\":{\"line\":0,\"character\":0}},\"text\":\"\"}]}}")
+second_change : wrong_in (calls (codes "textDocument/didChange")
+    (codes "{\"textDocument\":{\"uri\":\"a\",\"version\":1},\"contentChanges\":[{\"text\":\"\"},"
+    ++ codes "{\"range\":{\"start\":{\"line\":0,\"character\":-1}},\"text\":\"\"}]}"))
     ≡ Some (codes "/contentChanges/1/range/start/character")
 unfolding value punctuate lex content word after_number number_of scan_numeral is_utf8 chars encode
     digits

@@ -501,8 +501,8 @@ fn is_whole(place: Place, opened: &[Around]) -> bool
     opened.is_empty() && is_end(place)
 }
 
-/// How many bytes of a text come before the first one that cannot stand there in a JSON text, all if
-/// it ends too early.
+/// How many bytes of a text come before the first one that cannot stand there in a JSON text, all
+/// if it ends too early.
 ///
 /// # Errors
 /// `Memory` where memory was refused.

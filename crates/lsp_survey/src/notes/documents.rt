@@ -21,7 +21,7 @@ use lsp_text::TextStore;
 use lsp_types::rules;
 
 /// The URI of the document that an act speaks of.
-fn uri_in(act: &Act) -> Option<&str>
+pub fn uri_in(act: &Act) -> Option<&str>
     ensures { (enc : Encoding) (kind : SyncKind)
         → option_map (λ uri. uri.now) result
         ≡ option_map uri_of (call_of enc kind (act_view act.now)) }

@@ -6,9 +6,10 @@ ghost use Rattle.lsp_rpc.specs.declared.message.Id.{Id as AnId};
 ghost use Rattle.lsp_survey.specs.Asking.{Reply, is_short, last_reply, most_replies, replied};
 ghost use Rattle.lsp_survey.specs.Asking.{reply_of};
 ghost use Rattle.lsp_survey.specs.LastOnes.{last_ones};
-ghost use Rattle.lsp_survey.specs.SessionNoting.{asked_in, given_view, replies_in, room_in};
+ghost use Rattle.lsp_survey.specs.SessionNoting.{asked_in, given_view, replies_in};
 
 use crate::notes::by_id::{forget, put};
+use crate::notes::last_ones::make_room;
 use indexmap::IndexMap;
 use lsp_rpc::{Id, Memory, copy_id, same_id};
 use std::alloc::Global;
@@ -109,19 +110,9 @@ fn push(replies: &mut VecDeque<Given>, id: &Id, event: u64) -> Result<(), Memory
         ≡ last_ones most_replies (given ++ replied event (id_view id.now) ∷ [])) }
 {
     let id = copy_id(id)?;
-    make_room(replies);
+    make_room(replies, MOST_REPLIES);
     replies.push_back(Given { id, event })?;
     Ok(())
-}
-
-/// Drops the oldest answer where no more are held.
-fn make_room(replies: &mut VecDeque<Given>)
-    ensures { replies.new.items ≡ room_in replies.old.items }
-{
-    if replies.len() < MOST_REPLIES {
-        return;
-    }
-    let _ = replies.pop_front();
 }
 
 /// The event of the last of these answers to a request with this id.

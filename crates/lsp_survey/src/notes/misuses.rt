@@ -1,6 +1,8 @@
 //! Calls that LSP 3.17 has in another way than they were sent.
 ghost use Rattle.std.specs.Prelude.{◌≡◌, OnOk, option_map, string_bytes};
 ghost use Rattle.lsp_session.specs.Sent as sent;
+ghost use Rattle.std.specs.List.{list_any};
+ghost use Rattle.std.specs.Str.{bytes_eq};
 ghost use Rattle.lsp_rpc.specs.View.{message_view};
 ghost use Rattle.lsp_survey.specs.Misuses as spec;
 ghost use Rattle.lsp_survey.specs.Misuses.{has_method, misuse_in, misused, misused_views};
@@ -135,6 +137,13 @@ fn note_call(
 /// Whether one of these calls has this method.
 fn is_found(found: &[Misused], method: &str) -> bool
     ensures { result ≡ has_method method.now (misused_views found.now) }
+{
+    any_named(found, method)
+}
+
+fn any_named(found: &[Misused], method: &str) -> bool
+    ensures { result ≡ list_any
+        (λ one. bytes_eq (string_bytes one.method) method.now) found.now }
 {
     found.iter().any(|one| one.method.as_str() == method)
 }

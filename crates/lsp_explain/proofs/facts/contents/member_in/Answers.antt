@@ -13,6 +13,7 @@ returns-in-Ok c =
 
 pub returns-in-Err-Rule : goal.returns-in-Err-Rule
 returns-in-Err-Rule c =
-    let refused = subst (IsRefusal c.args.content.now) c.in-Err-Rule.field-0-is c.in-Err-Rule.ensures.rule in
+    let refused = subst (IsRefusal c.args.content.now) c.in-Err-Rule.field-0-is
+    c.in-Err-Rule.ensures.rule in
     sym (ap (option_and_then wrong_member)
     (none_named c.args.content.now c.in-Err-Rule.field-0-0 refused))

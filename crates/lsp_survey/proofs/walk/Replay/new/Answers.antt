@@ -8,7 +8,8 @@ returns-clause-walks c = record {
   noted = λ uri. c.new-2.ensures uri;
   is_broken = refl;
   marked = c.new-5.ensures c.new.result.docs.terms;
-  said = c.new-6.ensures c.new.result.docs.terms;
+  opened = c.new-6.ensures c.new.result.docs.terms;
+  said = c.new-7.ensures c.new.result.docs.terms;
   sided = c.new-3.ensures;
   passed = c.new-4.ensures;
 }

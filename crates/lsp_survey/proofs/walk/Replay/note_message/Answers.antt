@@ -12,6 +12,7 @@ returns-clause-noted c =
     (λ editor server remarked. (
       c.in_ok-note_kept_act.ensures,
       c.in_ok-keep_act.ensures,
+      c.in_ok-keep_act-2.ensures,
       λ sents stands.
           let behind = c.phase-phase.ensures sents stands in
           let done = c.is_done-done.ensures sents stands in

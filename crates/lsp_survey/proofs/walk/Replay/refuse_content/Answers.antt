@@ -54,6 +54,7 @@ returns-clause-passes c =
             (option_map id_view c.in_ok-asks.field-0.asked) p c.note_asked.new.self) refused.passed
             c.in_ok-note_asked.ensures)));
         marks = refused.marks;
+        openings = refused.openings;
         said = refused.said;
         offence = λ enc kind notes event is w. refused.offence notes w
             ∙ ap (λ e. given_offence (offence_of old.events.docs.terms notes (who_of c.args.side)

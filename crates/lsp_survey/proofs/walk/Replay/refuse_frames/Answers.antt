@@ -30,6 +30,7 @@ returns-clause-passes c =
           (nothing_said (Some rule) None old.notes.map.entries);
       passed = λ event is. fault_passes event c.args.side rule rule old.passed _ is refused.passed;
       marks = refused.marks;
+      openings = refused.openings;
       said = refused.said;
       offence = λ enc kind notes event is w. refused.offence notes w
           ∙ ap (λ e. given_offence (offence_of old.events.docs.terms notes (who_of c.args.side) rule

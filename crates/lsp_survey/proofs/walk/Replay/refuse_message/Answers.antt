@@ -47,6 +47,7 @@ returns-clause-passes c =
           (c.in_ok-note_refused_act.ensures enc kind now
           (sym (c.reopens-reopens.ensures (calls kept) holds.called enc kind)));
       marks = refused.marks;
+      openings = refused.openings;
       said = refused.said;
       offence = λ enc kind notes event is walks.
           let lost = wants_handshake rule && is_handshake_lost old.events.docs.terms notes in

@@ -57,6 +57,7 @@ returns-clause-passes c =
           ∙ ap (λ e. unwrap_or (passes (asked_by side e None) (answered_by side e) (id_view k) rule)
           (has_passed old.passed side (id_view k))) (sym is);
       marks = refused.marks;
+      openings = refused.openings;
       said = refused.said;
       offence = λ enc kind notes event is walks.
           let lost = wants_handshake rule && is_handshake_lost old.events.docs.terms notes in
