@@ -55,11 +55,10 @@ impl Passed {
     {
         match message {
             Message::Request { id, .. } => self.ask(side, id),
-            Message::Response { id: Some(id), .. } => {
-                self.answer(side, rule, id);
+            Message::Response { id, .. } => {
+                self.answer_any(side, rule, id);
                 Ok(())
             }
-            Message::Response { id: None, .. } => Ok(()),
             Message::Notification { .. } => Ok(()),
         }
     }
@@ -84,6 +83,16 @@ impl Passed {
         match side {
             Side::Editor => put(&mut self.editor, id, ()),
             Side::Server => put(&mut self.server, id, ()),
+        }
+    }
+
+    /// A response of this side breaks this rule, and has an id or null.
+    fn answer_any(&mut self, side: Side, rule: u16, id: &Option<Id>)
+        ensures { (reply : Reply)
+            → Passes rule side (response (option_map id_view id.now) reply) self.old self.new }
+    {
+        if let Some(id) = id {
+            self.answer(side, rule, id);
         }
     }
 

@@ -10,7 +10,8 @@ use Rattle.lsp_survey.specs.Walking.{offence_of}
 use Rattle.lsp_survey.specs.declared.notes.note.Notes.{Notes}
 use Rattle.lsp_verdict.specs.Given.{given_offence}
 use Rattle.lsp_verdict.specs.Event.{Event, fault}
-use Rattle.lsp_verdict.specs.Offences.{asks, breaks_handshake, events_of, follows_bytes, may_answer}
+use Rattle.lsp_verdict.specs.Offences.{asks, breaks_handshake, events_of, follows_bytes}
+use Rattle.lsp_verdict.specs.Offences.{follows_passed, may_answer}
 use Rattle.lsp_verdict.specs.Verdict.{who_of}
 use Rattle.lsp_survey.proofs.walk.Replay.refuse_content.Goals as goal
 
@@ -19,7 +20,7 @@ returns-clause-passes c =
     let refused = c.refuse_fault-offence.ensures in
     let old = c.args.self.now in
     let rule = c.args.rule in
-    let read = c.in_ok.ensures in
+    let read = c.in_ok-asks.ensures in
     let malformed = read.0 in
     let meant = read.2 in (
       malformed,
@@ -28,7 +29,11 @@ returns-clause-passes c =
         found = _;
         is_given = refl;
         is_such = (refl, c.in_ok-content.ensures.items);
-        counted = refused.counted;
+        counted = record {
+          session = refused.counted.session;
+          documents = refused.counted.documents;
+          counts = refused.counted.counts;
+        };
         is_broken = λ event kept is holds. refused.broken kept holds
             ∙ ap (λ b. old.broken || (breaks_handshake b rule
             || may_answer kept (fault c.args.side rule))) meant.asks
@@ -38,7 +43,7 @@ returns-clause-passes c =
         noted = λ enc kind kept holds. subst (λ (brought : Option (List ℕ)).
             Leaves (Some rule) brought None None old.notes.map.entries
             c.note_malformed.new.notes.map.entries) meant.brings
-            (subst (λ (w : Notes). Leaves (Some rule) (option_map string_bytes c.in_ok.brings) None None
+            (subst (λ (w : Notes). Leaves (Some rule) (option_map string_bytes c.in_ok-asks.field-0.brings) None None
             w.map.entries c.note_malformed.new.notes.map.entries) refused.notes
             c.in_ok-note_malformed.ensures);
         passed = λ event is. subst (λ (e : Event).
@@ -46,13 +51,14 @@ returns-clause-passes c =
             (content_passes c.args.side rule rule malformed old.passed c.note_asked.new.self
             (subst (λ (o : Option Ident). SetsAny c.args.side o old.passed c.note_asked.new.self)
             meant.asked (subst (λ (p : Passed). SetsAny c.args.side
-            (option_map id_view c.in_ok.asked) p c.note_asked.new.self) refused.passed
+            (option_map id_view c.in_ok-asks.field-0.asked) p c.note_asked.new.self) refused.passed
             c.in_ok-note_asked.ensures)));
         marks = refused.marks;
         openings = refused.openings;
         said = refused.said;
         offence = λ enc kind notes event is w. refused.offence notes w
             ∙ ap (λ e. given_offence (offence_of old.events.docs.terms notes (who_of c.args.side)
-            rule false (follows_bytes rule (events_of notes) e))) (sym is);
+            rule false (follows_passed old.events.docs.terms rule notes e
+            || follows_bytes rule (events_of notes) e))) (sym is);
       },
     )

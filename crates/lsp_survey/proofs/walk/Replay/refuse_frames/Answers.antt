@@ -5,7 +5,8 @@ use Rattle.lsp_survey.specs.Sides.{sides_after}
 use Rattle.lsp_survey.specs.Walking.{offence_of}
 use Rattle.lsp_survey.specs.declared.notes.note.Notes.{Notes}
 use Rattle.lsp_verdict.specs.Given.{given_offence}
-use Rattle.lsp_verdict.specs.Offences.{breaks_handshake, events_of, follows_bytes, may_answer}
+use Rattle.lsp_verdict.specs.Offences.{breaks_handshake, events_of, follows_bytes}
+use Rattle.lsp_verdict.specs.Offences.{follows_passed, may_answer}
 use Rattle.lsp_verdict.specs.Verdict.{who_of}
 use Rattle.lsp_survey.proofs.Noting.{nothing_said}
 use Rattle.lsp_survey.proofs.PassedSteps.{fault_passes}
@@ -33,5 +34,6 @@ returns-clause-passes c =
       said = refused.said;
       offence = λ enc kind notes event is w. refused.offence notes w
           ∙ ap (λ e. given_offence (offence_of old.events.docs.terms notes (who_of c.args.side) rule
-          false (follows_bytes rule (events_of notes) e))) (sym is);
+          false (follows_passed old.events.docs.terms rule notes e
+          || follows_bytes rule (events_of notes) e))) (sym is);
     }

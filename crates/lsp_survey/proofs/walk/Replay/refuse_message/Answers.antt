@@ -1,7 +1,7 @@
 use Rattle.std.specs.Prelude.{◌&&◌, ◌||◌}
 use Rattle.std.proofs.Common.{◌≡◌, ◌∙◌, Some, None, false, refl, sym, ap, subst}
 use Rattle.lsp_rpc.specs.View.{act_view, message_view}
-use Rattle.lsp_survey.specs.Notes.{Leaves}
+use Rattle.lsp_survey.specs.Notes.{Leaves, is_noted_lost}
 use Rattle.lsp_survey.specs.Passed.{Passes}
 use Rattle.lsp_survey.specs.Sides.{sides_read}
 use Rattle.lsp_survey.specs.declared.notes.passed.Passed.{Passed}
@@ -59,6 +59,7 @@ returns-clause-passes c =
           (c.follows-follows.ensures notes walks
           ∙ ap (λ on_lost. lost || (wants_text rule && on_lost || c.message_follows-late.result))
           (c.is_on_lost-on_lost.ensures enc kind)
-          ∙ ap (λ late. lost || (wants_text rule && _ || late))
+          ∙ ap (λ late. lost || (wants_text rule && is_noted_lost old.notes.map.entries
+          (call_of enc kind (act_view c.args.spoken.act)) || late))
           (c.message_follows-late.ensures notes event walks is));
     }
