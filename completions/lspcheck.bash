@@ -20,7 +20,8 @@ _lspcheck() {
         check) options="--complete --all --every --ignore-line-ends --quiet --help -h" ;;
         explain) options="--complete --all --ignore-line-ends --quiet --help -h" ;;
         show) options="--long --quiet --help -h" ;;
-        text | event | normal | upgrade) options="--quiet --help -h" ;;
+        text) options="--all --quiet --help -h" ;;
+        event | normal | upgrade) options="--quiet --help -h" ;;
         frames) options="--as --quiet --help -h" ;;
     esac
     if [[ $previous == --as ]]; then

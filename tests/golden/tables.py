@@ -155,7 +155,7 @@ def log_of(lines, most=sys.maxsize):
     return log.bytes
 
 
-# The words of each run, except for `text` and `event`.
+# The words of each run, except for those of `text` and `event`.
 RUNS = {
     "=": ["check"],
     "complete": ["check", "--complete"],
@@ -178,8 +178,8 @@ RUNS = {
     **{mode: ["frames", "--as", mode] for mode in ["lengths", "kinds", "canonical"]},
 }
 
-# How many more words these take.
-TAKES = {"text": 2, "event": 1}
+# The first words of the runs that take more words, and how many more.
+TAKES = {"text": (["text"], 2), "text-all": (["text", "--all"], 2), "event": (["event"], 1)}
 
 # For each word for how a run ends: the status, and what standard error has if there is no output.
 ENDS = {
@@ -219,7 +219,8 @@ def run_of(word, rest):
         return RUNS[word], rest
     if word in TAKES:
         *given, end = rest.split()
-        return ([word, *given], end) if len(given) == TAKES[word] else None
+        first, count = TAKES[word]
+        return ([*first, *given], end) if len(given) == count else None
     return None
 
 
@@ -304,7 +305,7 @@ def explained(outputs):
         word, *rest = line.split(" ")
         found |= {rest[0]} if word == "no" else {rest[1]} if line.startswith("bad log ") else {word}
         found |= {f"{word} whole"} if rest[1:] == ["whole"] else set()
-        found |= {line} if rest[:1] == ["option"] else set()
+        found |= {line} if rest[:1] in (["option"], ["never"]) else set()
     return found
 
 

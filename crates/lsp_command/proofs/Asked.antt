@@ -11,9 +11,9 @@ use Rattle.clap.specs.Words.{ReadsOne, Row, Text, one_of, one_text, rows_of}
 use Rattle.clap.specs.declared.parser.matches.Found.{Found}
 use Rattle.clap.proofs.WalkLemmas.{one_text-rows}
 use Rattle.lsp_verdict.specs.declared.completeness.Completeness.{Completeness}
-use Rattle.lsp_command.specs.Words.{AsksCheck, AsksExplain, GivesNumber, HasArguments, HasTask}
-use Rattle.lsp_command.specs.Words.{IsFlag, NumberIn, check_of, completeness_of, explain_of}
-use Rattle.lsp_command.specs.Words.{listing_of}
+use Rattle.lsp_command.specs.Words.{AsksCheck, AsksExplain, AsksText, GivesNumber, HasTask, IsFlag}
+use Rattle.lsp_command.specs.Words.{NumberIn, check_of, completeness_of, explain_of, listing_of}
+use Rattle.lsp_command.specs.Words.{text_of}
 use Rattle.lsp_command.specs.declared.command_line.task.Task.{Task}
 use Rattle.lsp_command.specs.declared.command_line.task.Task.TheVariants as tasks
 
@@ -98,17 +98,25 @@ pub asks_explain : (rows : List Row) (complete all : Bool) → IsFlag (one_of (c
 asks_explain rows complete true a b = record { command = refl; arguments = asked_explain rows complete true a b }
 asks_explain rows complete false a b = record { command = refl; arguments = asked_explain rows complete false a b }
 
+pub asks_text : (rows : List Row) (number : NonZeroU64) (uri : Bor Text) (all : Bool)
+    → AsksText rows number uri all → HasTask (codes "text") rows (text_of number uri all)
+asks_text rows number uri true asked = record { command = refl; arguments = asked }
+asks_text rows number uri false asked = record { command = refl; arguments = asked }
+
 -- texts that differ in their second byte
 apart : (a b : Text) → (slice_index a 1 == slice_index b 1) ≡ false → a ≡ b → ⊥
 apart a b differ same = eqb-false _ _ differ (ap (λ (t : Text). slice_index t 1) same)
 
-pub no_text : (rows : List Row) → ((number : NonZeroU64) (uri : Bor Text) → HasArguments rows (tasks.Text number uri) → ⊥) → (task : Task) → HasTask (codes "text") rows task → ⊥
+pub no_text : (rows : List Row)
+    → ((number : NonZeroU64) (uri : Bor Text) (all : Bool) → AsksText rows number uri all → ⊥)
+    → (task : Task) → HasTask (codes "text") rows task → ⊥
 no_text rows none (tasks.Check a) h = apart _ _ refl h.command
 no_text rows none (tasks.Survey a b) h = apart _ _ refl h.command
 no_text rows none (tasks.Explain a) h = apart _ _ refl h.command
 no_text rows none (tasks.ExplainAll a) h = apart _ _ refl h.command
 no_text rows none (tasks.Show a) h = apart _ _ refl h.command
-no_text rows none (tasks.Text number uri) h = none number uri h.arguments
+no_text rows none (tasks.Text number uri) h = none number uri false h.arguments
+no_text rows none (tasks.TextAll number uri) h = none number uri true h.arguments
 no_text rows none (tasks.Event number) h = apart _ _ refl h.command
 no_text rows none tasks.Normal h = apart _ _ refl h.command
 no_text rows none tasks.Upgrade h = apart _ _ refl h.command
@@ -121,6 +129,7 @@ no_event rows none (tasks.Explain a) h = apart _ _ refl h.command
 no_event rows none (tasks.ExplainAll a) h = apart _ _ refl h.command
 no_event rows none (tasks.Show a) h = apart _ _ refl h.command
 no_event rows none (tasks.Text number uri) h = apart _ _ refl h.command
+no_event rows none (tasks.TextAll number uri) h = apart _ _ refl h.command
 no_event rows none (tasks.Event number) h = none (non_zero_u64_get number) h.arguments
 no_event rows none tasks.Normal h = apart _ _ refl h.command
 no_event rows none tasks.Upgrade h = apart _ _ refl h.command

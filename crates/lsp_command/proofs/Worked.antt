@@ -63,6 +63,12 @@ texted_file : found texted (codes "file") ≡ Some (codes "text", None)
 unfolding clap_on_literals
 texted_file = refl
 
+-- `lspcheck text 12 u --all`
+texted_all : found (codes "lspcheck" ∷ codes "text" ∷ codes "12" ∷ codes "u" ∷ codes "--all" ∷ [])
+    (codes "all") ≡ Some (codes "text", Some (codes "true"))
+unfolding clap_on_literals
+texted_all = refl
+
 -- no option says whether line ends count
 texted_ends : found texted (codes "ignore-line-ends") ≡ Some (codes "text", None)
 unfolding clap_on_literals

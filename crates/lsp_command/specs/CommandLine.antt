@@ -79,8 +79,12 @@ explain = command (codes "explain")
 abbrev pub show : Shape
 show = command (codes "show") (flag (codes "long") ∷ quiet ∷ file ∷ [])
 
+-- `text` with its own arguments and options alone
+abbrev pub text_options : Shape
+text_options = command (codes "text") (number ∷ uri ∷ flag (codes "all") ∷ [])
+
 abbrev pub text : Shape
-text = command (codes "text") (number ∷ uri ∷ quiet ∷ file ∷ [])
+text = command (codes "text") (text_options.rules ++ quiet ∷ file ∷ [])
 
 abbrev pub event : Shape
 event = command (codes "event") (number ∷ quiet ∷ file ∷ [])

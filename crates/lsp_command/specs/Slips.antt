@@ -17,6 +17,7 @@ only_word (program ∷ word ∷ other ∷ words) = None
 -- the URI whose document a task asks for
 abbrev pub uri_of : Task → Option Text
 uri_of (tasks.Text number uri) = Some uri.now
+uri_of (tasks.TextAll number uri) = Some uri.now
 uri_of (tasks.Check completeness) = None
 uri_of (tasks.Survey completeness listing) = None
 uri_of (tasks.Explain completeness) = None

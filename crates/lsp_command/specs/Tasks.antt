@@ -10,13 +10,15 @@ use Rattle.lsp_replay.specs.Normal.{EndsNormal, BeginsNormal}
 use Rattle.lsp_verdict.specs.Complete.{IsVerdictBy}
 use Rattle.lsp_verdict.specs.Ports.{IsOutput, IsSilent, OfInput, Ports}
 use Rattle.lsp_verdict.specs.RunIo.{source_failures, sink_failures}
+use Rattle.lsp_verdict.specs.TextAfter.{AnswersText}
 use Rattle.lsp_judge.specs.Checked.{Checked}
 use Rattle.lsp_judge.specs.ShownLog.{Showed}
-use Rattle.lsp_judge.specs.TextAnswers.{WritesText}
 use Rattle.lsp_judge.specs.UpgradedLog.{UpgradesLog}
 use Rattle.lsp_replay.specs.StreamRun.{IsRun, BeginsRun}
+use Rattle.lsp_replay.specs.TextAnswers.{WritesText}
 use Rattle.lsp_explain.specs.AllExplained.{ExplainsAll}
 use Rattle.lsp_explain.specs.Explained.{IsExplanation, BeginsExplanation}
+use Rattle.lsp_survey.specs.KeptText.{AnswersKept}
 use Rattle.lsp_survey.specs.Reported.{SurveysLog}
 use Rattle.lsp_verdict.specs.declared.completeness.Completeness.{Completeness}
 use Rattle.lsp_verdict.specs.declared.outcome.Mode.{Mode}
@@ -34,8 +36,8 @@ use Rattle.lsp_command.specs.declared.task_outcome.TaskOutcome.{TaskOutcome}
 use Rattle.lsp_command.specs.declared.command_line.task.Task.{Task}
 use Rattle.lsp_command.specs.declared.command_line.task.Task.TheVariants.{Check, Survey, Explain}
 use Rattle.lsp_command.specs.declared.command_line.task.Task.TheVariants.{ExplainAll, Show, Text}
-use Rattle.lsp_command.specs.declared.command_line.task.Task.TheVariants.{Event, Normal, Upgrade}
-use Rattle.lsp_command.specs.declared.command_line.task.Task.TheVariants.{Frames}
+use Rattle.lsp_command.specs.declared.command_line.task.Task.TheVariants.{TextAll, Event}
+use Rattle.lsp_command.specs.declared.command_line.task.Task.TheVariants.{Normal, Upgrade, Frames}
 
 -- `explain`: the verdict on the log read, whose session must be complete or not, and what explains
 -- it
@@ -82,7 +84,10 @@ Answers limits (Explain completeness) p result = EndsRun (Explained completeness
 Answers limits (ExplainAll completeness) p result =
     EndsRun (ExplainsAll completeness limits p) result
 Answers limits (Show lines) p result = EndsRun (Showed lines limits p) result
-Answers limits (Text number uri) p result = EndsRun (WritesText limits p (non_zero_u64_get number) uri.now) result
+Answers limits (Text number uri) p result = EndsRun
+    (WritesText limits p (λ log. AnswersText limits log (non_zero_u64_get number) uri.now)) result
+Answers limits (TextAll number uri) p result = EndsRun
+    (WritesText limits p (λ log. AnswersKept limits log (non_zero_u64_get number) uri.now)) result
 Answers limits (Event number) p result = (ended : Result EventOutcome RunFault) × (result ≡ of_event ended) × GaveEvent limits p (non_zero_u64_get number) ended
 Answers limits Normal p result = EndsRun (Normalized limits p) result
 Answers limits Upgrade p result = EndsRun (UpgradesLog limits p) result

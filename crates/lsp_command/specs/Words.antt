@@ -1,5 +1,6 @@
 -- What the words of a command line ask for, read off what `clap` finds in them.
 use Rattle.std.specs.Prelude.{◌≡◌, ◌⊎◌, ◌<◌, ◌^◌, ℕ, Bool, true, false, List, [], Option, Some, None, MatchOption, codes, option_and_then, option_map, if◌then◌else◌}
+use Rattle.std.specs.Borrow.{Bor}
 use Rattle.std.specs.Str.{bytes_eq}
 use Rattle.std.specs.Str.Parse.{IsNumeral, digits_value, without_leading_plus}
 use Rattle.std.specs.Int.NonZero.{non_zero_u64_get}
@@ -120,6 +121,17 @@ abbrev pub NumberIn : List Row → Option NonZeroU64 → Type 0
 NumberIn rows result =
     MatchOption result ((n : ℕ) → GivesNumber rows n → ⊥) (λ n. GivesNumber rows (non_zero_u64_get n))
 
+-- the words give the number and the URI, and each event that offends is skipped where the option
+-- for that is set
+pub record AsksText (rows : List Row) (number : NonZeroU64) (uri : Bor Text)
+    (all : Bool) : Type 0 where
+  pub number_is : GivesNumber rows (non_zero_u64_get number)
+  pub uri_is : first_of (codes "uri") rows ≡ Some uri.now
+  pub all_is : IsFlag (one_of (codes "all") rows) all
+
+abbrev pub text_of : NonZeroU64 → Bor Text → Bool → Task
+text_of number uri all = if all then tasks.TextAll number uri else tasks.Text number uri
+
 -- the command of a task
 abbrev pub command_of : Task → Text
 command_of (tasks.Check completeness) = codes "check"
@@ -128,6 +140,7 @@ command_of (tasks.Explain completeness) = codes "explain"
 command_of (tasks.ExplainAll completeness) = codes "explain"
 command_of (tasks.Show lines) = codes "show"
 command_of (tasks.Text number uri) = codes "text"
+command_of (tasks.TextAll number uri) = codes "text"
 command_of (tasks.Event number) = codes "event"
 command_of tasks.Normal = codes "normal"
 command_of tasks.Upgrade = codes "upgrade"
@@ -140,7 +153,8 @@ HasArguments rows (tasks.Survey completeness listing) = AsksCheck rows completen
 HasArguments rows (tasks.Explain completeness) = AsksExplain rows completeness false
 HasArguments rows (tasks.ExplainAll completeness) = AsksExplain rows completeness true
 HasArguments rows (tasks.Show lines) = AsksShow rows lines
-HasArguments rows (tasks.Text number uri) = GivesNumber rows (non_zero_u64_get number) × (first_of (codes "uri") rows ≡ Some uri.now)
+HasArguments rows (tasks.Text number uri) = AsksText rows number uri false
+HasArguments rows (tasks.TextAll number uri) = AsksText rows number uri true
 HasArguments rows (tasks.Event number) = GivesNumber rows (non_zero_u64_get number)
 HasArguments rows tasks.Normal = Unit {0}
 HasArguments rows tasks.Upgrade = Unit {0}

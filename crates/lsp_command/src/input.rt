@@ -9,6 +9,7 @@ ghost use Rattle.lsp_command.specs.Ports.{first_bytes, input_error};
 
 use crate::beginning::Beginning;
 use crate::io_state::IoState;
+use crate::pace::Supply;
 use lsp_frame::{Failed, Source};
 use std::alloc::{AllocError, Global};
 use std::io;
@@ -17,28 +18,39 @@ use std::io::{BufRead, BufReader, Read};
 /// How many bytes are asked for at once.
 const GATHERED: usize = 65_536;
 
+/// How many bytes are appended at once, at most. They come from what was read ahead, so that no
+/// more than these are ever zeroed before they are written over.
+const PIECE: usize = 2_048;
+
 /// A source over a reader of std, which reads ahead. It keeps what the reader gave first, and the
-/// error by which it last failed.
+/// error by which it last failed, and notes whether anything is left of what was read ahead.
 #[derive(Drop)]
-pub struct BufferedInput<R> {
+pub struct BufferedInput<'a, R> {
     reader: BufReader<R>,
     beginning: Beginning,
     tally: IoState,
+    supply: &'a Supply,
 }
 
-impl<R: Read + Drop> BufferedInput<R> {
+impl<'a, R: Read + Drop> BufferedInput<'a, R> {
     /// A source that has not failed and has given nothing yet.
-    pub fn new(alloc: Global, reader: R) -> Result<BufferedInput<R>, AllocError>
+    pub fn new(
+        alloc: Global,
+        reader: R,
+        supply: &'a Supply,
+    ) -> Result<BufferedInput<'a, R>, AllocError>
         ensures remaining { IfOk result (λ input.
-            Consumes (R.remaining reader) (⟦<BufferedInput<R> as Source>⟧.told input).bytes []) }
+            Consumes (R.remaining reader)
+            (⟦<BufferedInput<'a, R> as Source>⟧.told input).bytes []) }
         ensures first { IfOk result (λ input. first_bytes input ≡ []) }
         ensures failures { IfOk result (λ input.
-            (⟦<BufferedInput<R> as Source>⟧.told input).failures ≡ 0) }
+            (⟦<BufferedInput<'a, R> as Source>⟧.told input).failures ≡ 0) }
     {
         Ok(BufferedInput {
             reader: BufReader::with_capacity(alloc, GATHERED, reader).map_err(|_| AllocError)?,
             beginning: Beginning::new(),
             tally: IoState::new(),
+            supply,
         })
     }
 
@@ -52,13 +64,14 @@ impl<R: Read + Drop> BufferedInput<R> {
     /// Why the last call failed that did.
     pub fn cause(&self) -> Option<io::Error>
         ensures value { result ≡ input_error self.now }
-        ensures failed { IsSome result ↔ (0 < (⟦<BufferedInput<R> as Source>⟧.told self.now).failures) }
+        ensures failed { IsSome result
+            ↔ (0 < (⟦<BufferedInput<'a, R> as Source>⟧.told self.now).failures) }
     {
         self.tally.cause()
     }
 }
 
-impl<R: Read> Source for BufferedInput<R> {
+impl<'a, R: Read> Source for BufferedInput<'a, R> {
     ghost told = { λ s. record {
       bytes = ⟦<BufReader<R> as Read>⟧.remaining s.reader;
       count = s.tally.bytes;
@@ -70,48 +83,50 @@ impl<R: Read> Source for BufferedInput<R> {
     fn pull(&mut self, buffer: &mut [u8]) -> Result<usize, Failed>
         ensures count { ReadsAtMost result buffer.new }
         ensures gave { IfOk result (λ n.
-            Gave (⟦<BufferedInput<R> as Source>⟧.told self.old) (⟦<BufferedInput<R> as Source>⟧.told self.new)
-            (take n buffer.new)) }
-        ensures end { IfOk result (λ n.
-            n ≡ 0 → 0 < length buffer.new → IsAtEnd (⟦<BufferedInput<R> as Source>⟧.told self.new).bytes) }
+            Gave (⟦<BufferedInput<'a, R> as Source>⟧.told self.old)
+            (⟦<BufferedInput<'a, R> as Source>⟧.told self.new) (take n buffer.new)) }
+        ensures end { IfOk result (λ n. n ≡ 0 → 0 < length buffer.new
+            → IsAtEnd (⟦<BufferedInput<'a, R> as Source>⟧.told self.new).bytes) }
         ensures err { OnErr result
-            (KeepsBytes (⟦<BufferedInput<R> as Source>⟧.told self.old)
-            (⟦<BufferedInput<R> as Source>⟧.told self.new)) }
-        ensures failures { CountsFailure (⟦<BufferedInput<R> as Source>⟧.told self.old).failures
-            (⟦<BufferedInput<R> as Source>⟧.told self.new).failures result }
+            (KeepsBytes (⟦<BufferedInput<'a, R> as Source>⟧.told self.old)
+            (⟦<BufferedInput<'a, R> as Source>⟧.told self.new)) }
+        ensures failures { CountsFailure (⟦<BufferedInput<'a, R> as Source>⟧.told self.old).failures
+            (⟦<BufferedInput<'a, R> as Source>⟧.told self.new).failures result }
         // The first bytes are kept.
         ensures first { IfOk result (λ n.
             first_bytes self.new ≡ take 32 (first_bytes self.old ++ take n buffer.new)) }
         ensures same_first { OnErr result (first_bytes self.new ≡ first_bytes self.old) }
     {
         let answer = self.reader.read(buffer);
+        self.supply.note(self.reader.buffer().len());
         let count = self.tally.count(answer)?;
         self.beginning.keep(&buffer[..count]);
         Ok(count)
     }
 
-    /// Appends bytes to the buffer as the trait says: those that were read ahead, straight from
-    /// there, or if there are none, at most [`GATHERED`] from the reader.
+    /// Appends bytes to the buffer as the trait says, at most [`PIECE`]: those that were read ahead,
+    /// straight from there, or if there are none, what the reader gives.
     fn pull_onto(&mut self, buffer: &mut Vec<u8>, most: usize) -> Result<usize, Failed>
         requires room { vec_len buffer.old + most ≤ vec_capacity buffer.old }
         ensures room { vec_capacity buffer.old ≤ vec_capacity buffer.new }
         ensures gave { IfOk result (λ n.
-            GaveOnto (⟦<BufferedInput<R> as Source>⟧.told self.old) (⟦<BufferedInput<R> as Source>⟧.told self.new)
-            buffer.old.items buffer.new.items most n) }
+            GaveOnto (⟦<BufferedInput<'a, R> as Source>⟧.told self.old)
+            (⟦<BufferedInput<'a, R> as Source>⟧.told self.new) buffer.old.items buffer.new.items
+            most n) }
         ensures end { IfOk result (λ n.
-            n ≡ 0 → 0 < most → IsAtEnd (⟦<BufferedInput<R> as Source>⟧.told self.new).bytes) }
+            n ≡ 0 → 0 < most → IsAtEnd (⟦<BufferedInput<'a, R> as Source>⟧.told self.new).bytes) }
         ensures same { OnErr result (buffer.new.items ≡ buffer.old.items) }
         ensures err { OnErr result
-            (KeepsBytes (⟦<BufferedInput<R> as Source>⟧.told self.old)
-            (⟦<BufferedInput<R> as Source>⟧.told self.new)) }
-        ensures failures { CountsFailure (⟦<BufferedInput<R> as Source>⟧.told self.old).failures
-            (⟦<BufferedInput<R> as Source>⟧.told self.new).failures result }
+            (KeepsBytes (⟦<BufferedInput<'a, R> as Source>⟧.told self.old)
+            (⟦<BufferedInput<'a, R> as Source>⟧.told self.new)) }
+        ensures failures { CountsFailure (⟦<BufferedInput<'a, R> as Source>⟧.told self.old).failures
+            (⟦<BufferedInput<'a, R> as Source>⟧.told self.new).failures result }
         // The first bytes are kept.
         ensures first { OnOk result (first_bytes self.new
             ≡ take 32 (first_bytes self.old ++ appended_bytes buffer.old.items buffer.new.items)) }
         ensures same_first { OnErr result (first_bytes self.new ≡ first_bytes self.old) }
     {
-        let count = self.reader.buffer().len().min(most);
+        let count = self.reader.buffer().len().min(most).min(PIECE);
         if count == 0 {
             return pull_fresh(self, buffer, most);
         }
@@ -119,35 +134,37 @@ impl<R: Read> Source for BufferedInput<R> {
         buffer.extend_from_slice(ahead).unwrap();
         self.beginning.keep(ahead);
         self.reader.consume(count);
+        self.supply.note(self.reader.buffer().len());
         self.tally.count(Ok(count))
     }
 }
 
-/// Appends what one call of the input gives, at most this many bytes and [`GATHERED`].
-fn pull_fresh<R: Read>(
-    input: &mut BufferedInput<R>,
+/// Appends what one call of the input gives, at most this many bytes and [`PIECE`].
+fn pull_fresh<'a, R: Read>(
+    input: &mut BufferedInput<'a, R>,
     buffer: &mut Vec<u8>,
     most: usize,
 ) -> Result<usize, Failed>
     requires room { vec_len buffer.old + most ≤ vec_capacity buffer.old }
     ensures room { vec_capacity buffer.old ≤ vec_capacity buffer.new }
     ensures gave { IfOk result (λ n.
-        GaveOnto (⟦<BufferedInput<R> as Source>⟧.told input.old) (⟦<BufferedInput<R> as Source>⟧.told input.new)
-        buffer.old.items buffer.new.items most n) }
+        GaveOnto (⟦<BufferedInput<'a, R> as Source>⟧.told input.old)
+        (⟦<BufferedInput<'a, R> as Source>⟧.told input.new) buffer.old.items buffer.new.items
+        most n) }
     ensures end { IfOk result (λ n.
-        n ≡ 0 → 0 < most → IsAtEnd (⟦<BufferedInput<R> as Source>⟧.told input.new).bytes) }
+        n ≡ 0 → 0 < most → IsAtEnd (⟦<BufferedInput<'a, R> as Source>⟧.told input.new).bytes) }
     ensures same { OnErr result (buffer.new.items ≡ buffer.old.items) }
     ensures err { OnErr result
-        (KeepsBytes (⟦<BufferedInput<R> as Source>⟧.told input.old)
-        (⟦<BufferedInput<R> as Source>⟧.told input.new)) }
-    ensures failures { CountsFailure (⟦<BufferedInput<R> as Source>⟧.told input.old).failures
-        (⟦<BufferedInput<R> as Source>⟧.told input.new).failures result }
+        (KeepsBytes (⟦<BufferedInput<'a, R> as Source>⟧.told input.old)
+        (⟦<BufferedInput<'a, R> as Source>⟧.told input.new)) }
+    ensures failures { CountsFailure (⟦<BufferedInput<'a, R> as Source>⟧.told input.old).failures
+        (⟦<BufferedInput<'a, R> as Source>⟧.told input.new).failures result }
     ensures first { OnOk result (first_bytes input.new
         ≡ take 32 (first_bytes input.old ++ appended_bytes buffer.old.items buffer.new.items)) }
     ensures same_first { OnErr result (first_bytes input.new ≡ first_bytes input.old) }
 {
     let start = buffer.len();
-    buffer.resize(start + most.min(GATHERED), 0).unwrap();
+    buffer.resize(start + most.min(PIECE), 0).unwrap();
     let answer = input.pull(&mut buffer[start..]);
     buffer.truncate(start + answer.unwrap_or(0));
     answer

@@ -70,9 +70,10 @@ fn run_report_apart(
             Ok(Some(frame_report(alloc, *frame, *fault)?))
         }
         (Outcome::Judged(Verdict::Yes(_)), Task::Upgrade) => Ok(None),
-        (Outcome::Judged(verdict), Task::Text { .. } | Task::Normal | Task::Upgrade) => {
-            Ok(Some(verdict_report(alloc, verdict)?))
-        }
+        (
+            Outcome::Judged(verdict),
+            Task::Text { .. } | Task::TextAll { .. } | Task::Normal | Task::Upgrade,
+        ) => Ok(Some(verdict_report(alloc, verdict)?)),
         _ => Ok(None),
     }
 }

@@ -15,7 +15,7 @@ use lsp_judge::{
     Completeness, Lines, RunFault, run_check, run_check_complete, run_event, run_frames,
     run_normal, run_show, run_show_long, run_text, run_upgrade,
 };
-use lsp_survey::run_survey;
+use lsp_survey::{run_survey, run_text_all};
 use std::alloc::Global;
 use std::io::{Read, Write};
 
@@ -62,6 +62,9 @@ pub fn run_task<R: Source, W: Sink>(
         Task::Text { number, uri } => {
             of_run(run_text(alloc, source, sink, limits, number.get(), uri))
         }
+        Task::TextAll { number, uri } => {
+            of_run(run_text_all(alloc, source, sink, limits, number.get(), uri))
+        }
         Task::Event { number } => of_event(run_event(alloc, source, sink, limits, number.get())),
         Task::Normal => of_run(run_normal(alloc, source, sink, limits)),
         Task::Upgrade => of_run(run_upgrade(alloc, source, sink, limits)),
@@ -71,18 +74,18 @@ pub fn run_task<R: Source, W: Sink>(
 
 /// Does the task over an input and into an output. What the task wrote is passed on also where it
 /// failed.
-pub fn run_through<R: Read + Drop, W: Write + Drop>(
+pub fn run_through<'a, R: Read + Drop, W: Write + Drop>(
     alloc: Global,
     task: Task<'_>,
-    input: &mut BufferedInput<R>,
-    output: &mut BufferedOutput<W>,
+    input: &mut BufferedInput<'a, R>,
+    output: &mut BufferedOutput<'a, W>,
     limits: Limits,
 ) -> Result<TaskOutcome, RunFault>
     ensures ran { RanThrough limits task.entry (record {
-      source_before = ⟦<BufferedInput<R> as Source>⟧.told input.old;
-      source_after = ⟦<BufferedInput<R> as Source>⟧.told input.new;
-      sink_before = ⟦<BufferedOutput<W> as Sink>⟧.told output.old;
-      sink_after = ⟦<BufferedOutput<W> as Sink>⟧.told output.new;
+      source_before = ⟦<BufferedInput<'a, R> as Source>⟧.told input.old;
+      source_after = ⟦<BufferedInput<'a, R> as Source>⟧.told input.new;
+      sink_before = ⟦<BufferedOutput<'a, W> as Sink>⟧.told output.old;
+      sink_after = ⟦<BufferedOutput<'a, W> as Sink>⟧.told output.new;
     }) (unwritten output.new) result }
     ensures flushed { OnOk result (unwritten output.new ≡ []) }
     // A fault of the input or the output has its error.

@@ -29,7 +29,8 @@ use Rattle.lsp_verdict.specs.RunIo.{OfRead}
 use Rattle.lsp_verdict.specs.Offences.{is_frame_fault}
 use Rattle.lsp_verdict.specs.Survey.{by_itself, ends_listed, found_in}
 use Rattle.lsp_verdict.specs.Survey.{first_verdict}
-use Rattle.lsp_verdict.specs.Verdict.{Verdict, bad_log, bad_log_of, Ending, summary}
+use Rattle.lsp_verdict.specs.Verdict.{Verdict, bad_log, bad_log_of, Ending, Summary}
+use Rattle.lsp_verdict.specs.Verdict.{summary}
 use Rattle.lsp_verdict.specs.declared.completeness.Completeness.{Completeness}
 use Rattle.lsp_verdict.specs.declared.offence.Offence as given
 use Rattle.lsp_verdict.specs.declared.verdict.Summary as code
@@ -40,10 +41,12 @@ use Rattle.lsp_verdict.proofs.Offences.Offending.{nothing_listed}
 use Rattle.lsp_verdict.proofs.Offences.Surveying.{no_frame_fault}
 use Rattle.lsp_verdict.proofs.RunReading.{read_map}
 use Rattle.lsp_explain.specs.Explained.{Heard, Breach, Explains, raws_of, notes_of, breaches}
-use Rattle.lsp_explain.specs.Explained.{end_explained, explanation, flaw_lines, said_of}
-use Rattle.lsp_explain.specs.Explained.{IsExplained, IsExplanation}
+use Rattle.lsp_explain.specs.Explained.{Explained, before_first, end_explained, explanation}
+use Rattle.lsp_explain.specs.Explained.{flaw_lines, said_before, said_of, IsExplained}
+use Rattle.lsp_explain.specs.Explained.{IsExplanation}
 use Rattle.lsp_explain.specs.FlawFacts.{Rests, rest_of, flaw_facts, log_facts}
-use Rattle.lsp_explain.specs.RunSteps.{IsSound, flaw_held, rests_held, summary_behind}
+use Rattle.lsp_explain.specs.Remarks.{remark_lines, remarks_of}
+use Rattle.lsp_explain.specs.RunSteps.{AddsNotes, IsSound, flaw_held, rests_held, summary_behind}
 use Rattle.lsp_explain.specs.Standing.{StandsAfter, terms_in}
 use Rattle.lsp_explain.specs.declared.run.Explanation.{Explanation}
 use Rattle.lsp_explain.proofs.Explaining.{offence_of, offences_are}
@@ -96,11 +99,15 @@ module _ (e : SurveyReader) (completeness : Completeness) (limits : Bounds) (log
   abbrev rests : Rests
   rests = rests_held e
 
-  pub whole : IsSurveyOf e completeness limits log found bad terms (raws_of hs) (notes_of hs)
-      → offences terms (notes_of hs) ≡ []
-      → IsExplained completeness limits log found
+  abbrev IsWhole : Type 0
+  IsWhole = IsExplained completeness limits log found
       (take 1 (map (λ (o : Offence). end_explained rests said o.no) found)) bad (flaw_held e bad)
       (summary terms (events_of (notes_of hs)))
+
+  -- and the notes are on these messages
+  pub whole : IsSurveyOf e completeness limits log found bad terms (raws_of hs) (notes_of hs)
+      → offences terms (notes_of hs) ≡ []
+      → (is : IsWhole) × (said_before (log_terms limits is.format) is.heard ≡ said)
   whole sv none =
       let p = sv.survey in
       let own = log_terms limits p.format in
@@ -120,67 +127,86 @@ module _ (e : SurveyReader) (completeness : Completeness) (limits : Bounds) (log
       let clean : offences own (notes_of hs) ≡ [] =
       ap (λ t. offences t (notes_of hs)) sv.terms_are ∙ none in
       let are : found ≡ map by_itself ends = lists ∙ ap (λ w. w ++ map by_itself ends) clean in
-      let quiet : breaches own hs ≡ [] = no_breach own hs clean in record {
-        format = p.format;
-        records = p.records;
-        log_fault = p.log_fault;
-        heard = hs;
-        rests = rests;
-        of_events = [];
-        is_log = p.is_log;
-        placed_are = subst (λ (w : List Raw). Placed limits p.records w) sv.raws_are p.session.1;
-        noted = subst (λ (w : List Raw). AllZip IsNoted w (notes_of hs)) sv.raws_are
-            (subst (λ (ns : List Noted). AllZip IsNoted p.session.0 ns) sv.notes_are p.session.2);
-        editor_rest = subst (HasRest limits (joined Editor p.records)) editor p.editor_rest;
-        server_rest = subst (HasRest limits (joined Server p.records)) server p.server_rest;
-        lists = lists;
-        bad_is = p.bad_is;
-        flaw_is = flaw_said e limits log p.format p.records bad p.log_fault p.bad_is sv.flaw_known;
-        comes_to = p.comes_to ∙ ap (λ (ns : List Noted). summary own (events_of ns)) sv.notes_are;
-        explains = subst (λ (w : List Breach). AllZip (Explains rests own) (take 1 w) [])
-            (sym quiet) tt;
-        shows = ap (take 1) (ap (map (λ (o : Offence). end_explained rests said o.no)) are
-            ∙ ends_are rests said ends
-            ∙ ap (λ t. map (end_explained rests (numbered t (events_of (notes_of hs)))) ends)
-            (sym sv.terms_are));
-      }
+      let quiet : breaches own hs ≡ [] = no_breach own hs clean in (
+        record {
+          format = p.format;
+          records = p.records;
+          log_fault = p.log_fault;
+          heard = hs;
+          rests = rests;
+          of_events = [];
+          is_log = p.is_log;
+          placed_are = subst (λ (w : List Raw). Placed limits p.records w) sv.raws_are p.session.1;
+          noted = subst (λ (w : List Raw). AllZip IsNoted w (notes_of hs)) sv.raws_are
+              (subst (λ (ns : List Noted). AllZip IsNoted p.session.0 ns) sv.notes_are p.session.2);
+          editor_rest = subst (HasRest limits (joined Editor p.records)) editor p.editor_rest;
+          server_rest = subst (HasRest limits (joined Server p.records)) server p.server_rest;
+          lists = lists;
+          bad_is = p.bad_is;
+          flaw_is = flaw_said e limits log p.format p.records bad p.log_fault p.bad_is sv.flaw_known;
+          comes_to = p.comes_to ∙ ap (λ (ns : List Noted). summary own (events_of ns)) sv.notes_are;
+          explains = subst (λ (w : List Breach). AllZip (Explains rests own) (take 1 w) [])
+              (sym quiet) tt;
+          shows = ap (take 1) (ap (map (λ (o : Offence). end_explained rests said o.no)) are
+              ∙ ends_are rests said ends
+              ∙ ap (λ t. map (end_explained rests (numbered t (events_of (notes_of hs)))) ends)
+              (sym sv.terms_are));
+        },
+        said_all,
+      )
+    where
+      said_all : said_before (log_terms limits sv.survey.format) hs ≡ said
+      said_all = ap (λ (t : Terms). said_before t hs) sv.terms_are
+          ∙ ap (λ (bs : List Breach). numbered terms (events_of (notes_of (before_first bs hs))))
+          (no_breach terms hs none)
 
 module _ (completeness : Completeness) (limits : Bounds) (e : SurveyReader) (start now : Told)
     (hs : List Heard) (end : SurveyEnd)
     (ended : Ended completeness limits e start now (raws_of hs) (notes_of hs) [] end)
-    (x : Explanation) where
+    (plain x : Explanation) (adds : AddsNotes e plain x) where
   abbrev terms : Terms
   terms = terms_in e
+
+  abbrev said_here : List Numbered
+  said_here = numbered terms (events_of (notes_of hs))
 
   abbrev Explained_ : Type 0
   Explained_ = OfRead limits start now (λ log.
       IsExplanation completeness limits log (verdict_view x.verdict) (string_bytes x.text))
 
   by_found : (found : List Offence) → map offence_view end.listed.items ≡ found
-      → verdict_view x.verdict
+      → verdict_view plain.verdict
       ≡ first_verdict found (option_map verdict_view end.bad) (summary_behind e (notes_of hs))
-      → string_bytes x.text ≡ explanation found
-      (take 1 (map (λ (o : Offence). end_explained (rests_held e)
-      (numbered terms (events_of (notes_of hs))) o.no) found)) (option_map verdict_view end.bad)
-      (flaw_held e (option_map verdict_view end.bad)) (summary_behind e (notes_of hs)) → Explained_
+      → string_bytes plain.text ≡ explanation found
+      (take 1 (map (λ (o : Offence). end_explained (rests_held e) said_here o.no) found))
+      (option_map verdict_view end.bad) (flaw_held e (option_map verdict_view end.bad))
+      (summary_behind e (notes_of hs)) → Explained_
   by_found found is judges says =
+      let explained : List Explained = take 1 (map (λ (o : Offence).
+      end_explained (rests_held e) said_here o.no) found) in
+      let bad : Option Verdict = option_map verdict_view end.bad in
+      let s : Summary = summary_behind e (notes_of hs) in
+      let text : List ℕ = explanation found explained bad (flaw_held e bad) s in
       read_map limits start now
-      (λ log. IsSurveyOf e completeness limits log (map offence_view end.listed.items)
-      (option_map verdict_view end.bad) terms (raws_of hs) (notes_of hs))
+      (λ log. IsSurveyOf e completeness limits log (map offence_view end.listed.items) bad terms
+      (raws_of hs) (notes_of hs))
       (λ log. IsExplanation completeness limits log (verdict_view x.verdict) (string_bytes x.text))
-      (λ log sv. record {
+      (λ log sv.
+      let w = whole e completeness limits log found bad terms hs
+      (subst (λ (l : List Offence). IsSurveyOf e completeness limits log l bad terms (raws_of hs)
+      (notes_of hs)) is sv) (sym ended.lists) in record {
         found = found;
-        explained = take 1 (map (λ (o : Offence).
-            end_explained (rests_held e) (numbered terms (events_of (notes_of hs))) o.no) found);
-        bad = option_map verdict_view end.bad;
-        flaw = flaw_held e (option_map verdict_view end.bad);
-        s = summary_behind e (notes_of hs);
-        is = whole e completeness limits log found (option_map verdict_view end.bad) terms hs
-            (subst (λ (w : List Offence). IsSurveyOf e completeness limits log w
-            (option_map verdict_view end.bad) terms (raws_of hs) (notes_of hs)) is sv)
-            (sym ended.lists);
-        judges = judges;
-        says = says;
+        explained = explained;
+        bad = bad;
+        flaw = flaw_held e bad;
+        s = s;
+        is = w.0;
+        judges = ap verdict_view adds.verdict_is ∙ judges;
+        says =
+            adds.text_is (events_of (notes_of hs)) (stands_after e (notes_of hs) ended.walks)
+            ∙ ap (λ l. l ++ remark_lines (remarks_of (verdict_view plain.verdict) said_here)) says
+            ∙ ap (λ v. text ++ remark_lines (remarks_of v said_here)) judges
+            ∙ ap (λ l. text ++ remark_lines (remarks_of (first_verdict found bad s) l)) (sym w.1);
       }) ended.whole
 
   abbrev AtEnd : Type 0
@@ -201,17 +227,18 @@ module _ (completeness : Completeness) (limits : Bounds) (e : SurveyReader) (sta
           ap (λ w. let o : Option Verdict = Some w in o) (sym is) ∙ e in cc
 
   sound_end : (b : Option code_verdict.Verdict) → end.bad ≡ b
-      → verdict_view x.verdict
+      → verdict_view plain.verdict
       ≡ first_verdict [] (option_map verdict_view b) (summary_behind e (notes_of hs)) → AtEnd
   sound_end None is judges = λ t yes. ended.met is
-  sound_end (Some v) is judges = λ t yes. absurd (no_flaw v t is (sym judges ∙ ap verdict_view yes))
+  sound_end (Some v) is judges = λ t yes. absurd (no_flaw v t is
+      (sym judges ∙ ap verdict_view (sym adds.verdict_is ∙ yes)))
 
   -- nothing is listed
   pub ends_sound : end.listed.items ≡ []
       → (IsSound e (notes_of hs)
-      → (verdict_view x.verdict
+      → (verdict_view plain.verdict
       ≡ first_verdict [] (option_map verdict_view end.bad) (summary_behind e (notes_of hs)))
-      × (string_bytes x.text ≡ report (first_verdict [] (option_map verdict_view end.bad)
+      × (string_bytes plain.text ≡ report (first_verdict [] (option_map verdict_view end.bad)
       (summary_behind e (notes_of hs))) ++ flaw_lines (option_map verdict_view end.bad)
       (flaw_held e (option_map verdict_view end.bad)))) → Explained_ × AtEnd
   ends_sound none says =
@@ -220,9 +247,9 @@ module _ (completeness : Completeness) (limits : Bounds) (e : SurveyReader) (sta
 
   -- something is
   pub ends_told : (o : given.Offence) (os : List given.Offence) → end.listed.items ≡ o ∷ os
-      → verdict_view x.verdict ≡ (offence_view o).no
+      → verdict_view plain.verdict ≡ (offence_view o).no
       → ((before : List Event) → StandsAfter e before
-      → string_bytes x.text ≡ report (offence_view o).no ++ said_of
+      → string_bytes plain.text ≡ report (offence_view o).no ++ said_of
       (end_explained (rests_held e) (numbered terms before) (offence_view o).no))
       → Explained_ × AtEnd
   ends_told o os some named says =
@@ -233,7 +260,7 @@ module _ (completeness : Completeness) (limits : Bounds) (e : SurveyReader) (sta
             (sym (append-nil (said_of (end_explained (rests_held e) said
             (offence_view o).no))))),
         λ t yes. let same : verdict_view (verdicts.Yes t) ≡ (offence_view o).no =
-            ap verdict_view (sym yes) ∙ named in absurd cc,
+            ap verdict_view (sym yes ∙ adds.verdict_is) ∙ named in absurd cc,
       )
 
 -- ---- the first of what is listed

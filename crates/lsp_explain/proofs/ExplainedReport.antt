@@ -1,19 +1,38 @@
 -- The report in an explanation.
-use Rattle.std.proofs.Common.{[], ◌∷◌, Some, None, refl, ap, ◌∙◌, append-nil}
+use Rattle.std.proofs.Common.{◌≡◌, List, [], ◌∷◌, ◌++◌, Option, Some, None, refl, sym, ap, ◌∙◌}
+use Rattle.std.proofs.Common.{append-nil, append_assoc}
 use Rattle.std.specs.List.{flat_map}
 use Rattle.lsp_verdict.specs.Report.{report}
-use Rattle.lsp_verdict.specs.Verdict.{yes, no, bad_log}
+use Rattle.lsp_verdict.specs.Survey.{first_verdict}
+use Rattle.lsp_verdict.specs.Verdict.{Summary, Verdict, yes, no, bad_log}
 use Rattle.lsp_explain.specs.ExplainLaws.{BeginsWithReport, YesIsReport}
-use Rattle.lsp_explain.specs.Explained.{flaw_lines, said_of}
+use Rattle.lsp_explain.specs.Explained.{explanation, flaw_lines, said_before, said_of}
+use Rattle.lsp_explain.specs.Fact.{Fact}
+use Rattle.lsp_explain.specs.Remarks.{remark_lines, remarks_of}
 
 pub begins_with_report : BeginsWithReport
-begins_with_report [] explained bad flaw s = (flaw_lines bad flaw, refl)
-begins_with_report (o ∷ found) explained bad flaw s = (flat_map said_of explained, refl)
+begins_with_report terms heard [] explained bad flaw s =
+    let v = first_verdict [] bad s in
+    let notes = remark_lines (remarks_of v (said_before terms heard)) in
+    (flaw_lines bad flaw ++ notes, append_assoc (report v) (flaw_lines bad flaw) notes)
+begins_with_report terms heard (o ∷ found) explained bad flaw s =
+    let notes = remark_lines (remarks_of o.no (said_before terms heard)) in (
+      flat_map said_of explained ++ notes,
+      append_assoc (report o.no) (flat_map said_of explained) notes,
+    )
+
+-- of Yes nothing is said about a fault
+plain_yes : (bad : Option Verdict) (flaw : List Fact) (s t : Summary)
+    → first_verdict [] bad s ≡ yes t → report (first_verdict [] bad s) ++ flaw_lines bad flaw
+    ≡ report (yes t)
+plain_yes None flaw s t is = append-nil (report (yes s)) ∙ ap report is
+plain_yes (Some (yes u)) flaw s t is = append-nil (report (yes u)) ∙ ap report is
+plain_yes (Some (no rule who count event)) flaw s t is = absurd cc
+plain_yes (Some (bad_log at code)) flaw s t is = absurd cc
 
 pub yes_is_report : YesIsReport
-yes_is_report (o ∷ found) explained bad flaw s t none is = absurd cc
-yes_is_report [] explained None flaw s t none is = append-nil (report (yes s)) ∙ ap report is
-yes_is_report [] explained (Some (yes u)) flaw s t none is =
-    append-nil (report (yes u)) ∙ ap report is
-yes_is_report [] explained (Some (no rule who count event)) flaw s t none is = absurd cc
-yes_is_report [] explained (Some (bad_log at code)) flaw s t none is = absurd cc
+yes_is_report terms heard (o ∷ found) explained bad flaw s t none is = absurd cc
+yes_is_report terms heard [] explained bad flaw s t none is =
+    ap (λ l. l ++ remark_lines (remarks_of (first_verdict [] bad s) (said_before terms heard)))
+    (plain_yes bad flaw s t is)
+    ∙ ap (λ v. report (yes t) ++ remark_lines (remarks_of v (said_before terms heard))) is

@@ -17,6 +17,7 @@ pub mod AllLaws
 pub mod OneExplanation
 pub mod Differing
 pub mod Naming
+pub mod NoteLines
 pub mod Offers
 pub mod MadeChanges
 pub mod Refusals

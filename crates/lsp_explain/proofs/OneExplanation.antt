@@ -20,8 +20,7 @@ use Rattle.lsp_verdict.specs.Survey.{ends_listed, first_verdict, found_in}
 use Rattle.lsp_verdict.specs.Verdict.{Verdict, Ending, Summary, summary, bad_log_of, no_by}
 use Rattle.lsp_verdict.specs.declared.completeness.Completeness.{Completeness}
 use Rattle.lsp_verdict.proofs.Below.{one_log, some_log, some_stream}
-use Rattle.lsp_verdict.proofs.Offences.Surveying.{one_notes, some_asks}
-use Rattle.lsp_verdict.proofs.OneEvent.{some_read}
+use Rattle.lsp_verdict.proofs.Offences.Surveying.{one_notes, some_note}
 use Rattle.lsp_verdict.proofs.Outcomes.{one_rest}
 use Rattle.lsp_verdict.proofs.PlacedLemmas.{one_placed}
 use Rattle.lsp_verdict.proofs.Sessions.{some_placed}
@@ -32,7 +31,8 @@ use Rattle.lsp_explain.proofs.SomeFacts.{some_facts}
 use Rattle.lsp_explain.specs.AllExplained.{all_explanation, causes, is_cause, IsAllExplained}
 use Rattle.lsp_explain.specs.Explained.{Heard, Breach, Explained, Explains, breach, breach_at}
 use Rattle.lsp_explain.specs.Explained.{event_of}
-use Rattle.lsp_explain.specs.Explained.{breaches, raws_of, notes_of, end_explained, explanation}
+use Rattle.lsp_explain.specs.Explained.{breaches, raws_of, notes_of, end_explained}
+use Rattle.lsp_explain.specs.Explained.{noted_explanation}
 use Rattle.lsp_explain.specs.Explained.{IsExplanation}
 use Rattle.lsp_explain.specs.ExplainLaws.{SomeExplanation, OneExplanation, SomeExplanationOfAll}
 use Rattle.lsp_explain.specs.ExplainLaws.{OneExplanationOfAll}
@@ -154,10 +154,7 @@ some_parts : (limits : Bounds) (log : List ℕ) → (x : Parts) × AreParts limi
 some_parts limits log =
     let whole = some_log limits log in
     let raws = some_placed limits [] [] whole.1 in
-    let heard = hears (λ raw. (
-      record { event = (some_read raw).0; asks = (some_asks raw).0 },
-      ((some_read raw).1, (some_asks raw).1),
-    )) raws.0 in
+    let heard = hears some_note raws.0 in
     let editor = some_stream limits (joined Editor whole.1) in
     let server = some_stream limits (joined Server whole.1) in (
       record {
@@ -259,14 +256,14 @@ verdict_of completeness limits x =
 -- ---- what is explained of them
 
 module _ (pick : Terms → List Heard → List Breach) (short : List Explained → List Explained)
-    (write : List Offence → List Explained → Option Verdict → List Fact → Summary → List ℕ)
-    (completeness : Completeness) (limits : Bounds) (log : List ℕ) where
+    (write : Terms → List Heard → List Offence → List Explained → Option Verdict → List Fact
+    → Summary → List ℕ) (completeness : Completeness) (limits : Bounds) (log : List ℕ) where
   -- these of them are explained so
   abbrev Says : Parts → Verdict → List ℕ → Type 0
   Says x v out =
       (es : List Explained) × AllZip (Explains x.rests (terms_of limits x))
       (pick (terms_of limits x) x.heard) es × (v ≡ verdict_of completeness limits x)
-      × (out ≡ write (found_of completeness limits x) (short (es ++ ends_of completeness limits x))
+      × (out ≡ write (terms_of limits x) x.heard (found_of completeness limits x) (short (es ++ ends_of completeness limits x))
       (bad_log_of x.log_fault) (flaw_of limits log x) (sum_of limits x))
 
   says_one : (x : Parts) (v w : Verdict) (out other : List ℕ) → Says x v out → Says x w other
@@ -275,7 +272,7 @@ module _ (pick : Terms → List Heard → List Breach) (short : List Explained �
       let same : p.0 ≡ q.0 = one_each x.rests (terms_of limits x) (pick (terms_of limits x) x.heard)
       p.0 q.0 p.1 q.1 in (
         p.2 ∙ sym q.2,
-        p.3 ∙ ap (λ es. write (found_of completeness limits x)
+        p.3 ∙ ap (λ es. write (terms_of limits x) x.heard (found_of completeness limits x)
             (short (es ++ ends_of completeness limits x)) (bad_log_of x.log_fault)
             (flaw_of limits log x) (sum_of limits x)) same ∙ sym q.3,
       )
@@ -315,8 +312,8 @@ some_explanation completeness limits log =
     (first_offends terms (breaches terms x.heard) (each_offends terms [] x.heard)) in
     let explained = take 1 (said.0 ++ ends_of completeness limits x) in (
       verdict_of completeness limits x,
-      explanation (found_of completeness limits x) explained (bad_log_of x.log_fault)
-          (flaw_of limits log x) (sum_of limits x),
+      noted_explanation terms x.heard (found_of completeness limits x) explained
+          (bad_log_of x.log_fault) (flaw_of limits log x) (sum_of limits x),
       record {
         found = found_of completeness limits x;
         explained = explained;
@@ -350,8 +347,8 @@ some_explanation completeness limits log =
 module _ (completeness : Completeness) (limits : Bounds) (log : List ℕ) (v : Verdict) (out : List ℕ)
   where
     abbrev FirstSays : Parts → Type 0
-    FirstSays x = Says (λ terms hs. take 1 (breaches terms hs)) (take 1) explanation completeness
-        limits log x v out
+    FirstSays x = Says (λ terms hs. take 1 (breaches terms hs)) (take 1) noted_explanation
+        completeness limits log x v out
 
     first_said : IsExplanation completeness limits log v out
         → (x : Parts) × AreParts limits log x × FirstSays x
@@ -375,8 +372,8 @@ module _ (completeness : Completeness) (limits : Bounds) (log : List ℕ) (v : V
             i.of_events,
             i.explains,
             e.judges ∙ same_verdict _ _ _ _ _ _ i.lists i.bad_is i.comes_to,
-            e.says ∙ same_written explanation _ _ _ _ _ _ _ _ _ _ i.lists i.shows i.bad_is i.flaw_is
-                i.comes_to,
+            e.says ∙ same_written (noted_explanation (log_terms limits i.format) i.heard) _ _ _ _ _ _
+                _ _ _ _ i.lists i.shows i.bad_is i.flaw_is i.comes_to,
           ),
         )
 
@@ -384,8 +381,8 @@ pub one_explanation : OneExplanation
 one_explanation completeness limits sizes log v w out other p q =
     let first = first_said completeness limits log v out p in
     let second = first_said completeness limits log w other q in
-    both_say (λ terms hs. take 1 (breaches terms hs)) (take 1) explanation completeness limits log
-    sizes first.0 second.0 v w out other first.1 second.1 first.2 second.2
+    both_say (λ terms hs. take 1 (breaches terms hs)) (take 1) noted_explanation completeness limits
+    log sizes first.0 second.0 v w out other first.1 second.1 first.2 second.2
 
 -- ---- all that is wrong
 
@@ -434,7 +431,8 @@ some_explanation_of_all completeness limits log =
 module _ (completeness : Completeness) (limits : Bounds) (log : List ℕ) (v : Verdict) (out : List ℕ)
   where
     abbrev AllSays : Parts → Type 0
-    AllSays x = Says causes (λ es. es) all_explanation completeness limits log x v out
+    AllSays x = Says causes (λ es. es) (λ terms hs. all_explanation) completeness limits log x v
+        out
 
     all_said : IsAllExplained completeness limits log v out
         → (x : Parts) × AreParts limits log x × AllSays x
@@ -467,5 +465,5 @@ pub one_explanation_of_all : OneExplanationOfAll
 one_explanation_of_all completeness limits sizes log v w out other p q =
     let first = all_said completeness limits log v out p in
     let second = all_said completeness limits log w other q in
-    both_say causes (λ es. es) all_explanation completeness limits log sizes first.0 second.0 v w
-    out other first.1 second.1 first.2 second.2
+    both_say causes (λ es. es) (λ terms hs. all_explanation) completeness limits log sizes
+    first.0 second.0 v w out other first.1 second.1 first.2 second.2

@@ -6,11 +6,13 @@ use Rattle.lsp_replay.specs.Standing.{Holds}
 use Rattle.lsp_frame.specs.Bounds.{Bounds}
 use Rattle.lsp_frame.specs.Told.{Told}
 use Rattle.lsp_survey.specs.Marks.{AreMarks}
+use Rattle.lsp_survey.specs.Openings.{AreOpenings}
 use Rattle.lsp_survey.specs.Reads.{SoFar}
 use Rattle.lsp_survey.specs.SessionNoting.{AreNotes}
 use Rattle.lsp_survey.specs.Walking.{Walks}
 use Rattle.lsp_survey.specs.declared.survey_reader.SurveyReader.{SurveyReader}
 use Rattle.lsp_survey.proofs.MarkSteps.{refused_marks}
+use Rattle.lsp_survey.proofs.OpeningSteps.{refused_openings}
 use Rattle.lsp_survey.proofs.Reading.{so_far_few}
 use Rattle.lsp_survey.proofs.SessionSteps.{refused_notes}
 use Rattle.lsp_verdict.specs.Offences.{Noted, Offence, events_of, kept_of, rule_at}
@@ -25,6 +27,7 @@ pub stands_after : (e : SurveyReader) (notes : List Noted) → Walks e.walk note
 stands_after e notes walks = record {
   holds = walks.holds;
   marked = walks.marked;
+  opened = walks.opened;
   noted = walks.said;
 }
 
@@ -40,6 +43,8 @@ stands_before e notes n rule walks is =
           ∙ kept-refused (terms_in e) (events_of notes) n.event rule is) walks.holds;
       marked = refused_marks (terms_in e) e.walk.marks.map.entries (events_of notes) n.event rule
           (subst (AreMarks (terms_in e) e.walk.marks.map.entries) same walks.marked) is;
+      opened = refused_openings (terms_in e) e.walk.openings (events_of notes) n.event rule
+          (subst (AreOpenings (terms_in e) e.walk.openings) same walks.opened) is;
       noted = refused_notes (terms_in e) e.walk.said (events_of notes) n.event rule
           (subst (AreNotes (terms_in e) e.walk.said) same walks.said) is;
     }

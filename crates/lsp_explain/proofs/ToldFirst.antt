@@ -6,19 +6,21 @@ use Rattle.std.proofs.Common.{append-nil}
 use Rattle.lsp_docs.specs.Terms.{Terms}
 use Rattle.lsp_frame.specs.Bounds.{Bounds}
 use Rattle.lsp_frame.specs.Told.{Told}
+use Rattle.lsp_survey.specs.Asking.{Numbered, numbered}
 use Rattle.lsp_survey.specs.Reads.{SoFar, GaveEvent, BrokeOff, Ended}
 use Rattle.lsp_survey.specs.declared.survey_reader.SurveyEnd.{SurveyEnd}
 use Rattle.lsp_survey.specs.declared.offending.FoundOffence.{FoundOffence}
 use Rattle.lsp_survey.specs.declared.offending.Judged.TheVariants as heard
 use Rattle.lsp_survey.specs.declared.survey_reader.SurveyReader.{SurveyReader}
 use Rattle.lsp_replay.specs.LogEvents.{HasGiven}
+use Rattle.lsp_verdict.specs.Event.{Event}
 use Rattle.lsp_verdict.specs.Given.{offence_view, verdict_view}
 use Rattle.lsp_verdict.specs.Offences.{Noted, Offence, IsNoted, events_of, offences, offence_at}
 use Rattle.lsp_verdict.specs.Offences.{offence_by, rule_at}
 use Rattle.lsp_verdict.specs.Outcome.{log_terms}
 use Rattle.lsp_verdict.specs.Placed.{Raw}
 use Rattle.lsp_verdict.specs.Report.{report}
-use Rattle.lsp_verdict.specs.Verdict.{no_by}
+use Rattle.lsp_verdict.specs.Verdict.{Verdict, no_by}
 use Rattle.lsp_verdict.specs.declared.completeness.Completeness.{Completeness}
 use Rattle.lsp_verdict.specs.declared.completeness.Completeness.TheVariants.{Ignored}
 use Rattle.lsp_verdict.specs.declared.outcome.RunFault.{RunFault}
@@ -26,23 +28,20 @@ use Rattle.lsp_verdict.specs.declared.outcome.RunFault.TheVariants as faults
 use Rattle.lsp_verdict.specs.declared.verdict.Verdict.TheVariants as verdicts
 use Rattle.lsp_survey.proofs.Reading.{so_far_failures, so_far_given}
 use Rattle.lsp_verdict.proofs.Offences.Steps.{offences-push}
-use Rattle.lsp_verdict.proofs.Offences.Surveying.{some_asks}
-use Rattle.lsp_verdict.proofs.OneEvent.{some_read}
+use Rattle.lsp_verdict.proofs.Offences.Surveying.{some_note}
 use Rattle.lsp_verdict.proofs.RunReading.{read_map}
 use Rattle.lsp_explain.specs.Explained.{Heard, Explains, raws_of, notes_of, breach, breaches}
 use Rattle.lsp_explain.specs.Explained.{said_of, IsExplanation}
-use Rattle.lsp_explain.specs.RunSteps.{Tells, TellsEnd, EndsWhole, IsFollowing, IsExplainedBy}
-use Rattle.lsp_explain.specs.Standing.{terms_in}
+use Rattle.lsp_explain.specs.Remarks.{remark_lines, remarks_of}
+use Rattle.lsp_explain.specs.RunSteps.{AddsNotes, Tells, TellsEnd, EndsWhole, IsFollowing}
+use Rattle.lsp_explain.specs.RunSteps.{IsExplainedBy}
+use Rattle.lsp_explain.specs.Standing.{StandsAfter, terms_in}
 use Rattle.lsp_explain.specs.declared.run.Explanation.{Explanation}
 use Rattle.lsp_explain.proofs.EndOfLog.{no_breach}
 use Rattle.lsp_explain.proofs.Explaining.{offence_of, raws-append, notes-append, noted-append}
 use Rattle.lsp_explain.proofs.FirstOffence.{IsFirst, first_explained}
+use Rattle.lsp_explain.proofs.Standing.{stands_before}
 use Rattle.lsp_verdict.specs.RunIo.{BreaksOff}
-
--- each raw event is noted as one
-note : (raw : Raw) → (n : Noted) × IsNoted raw n
-note raw = let read = some_read raw in let asks =
-    some_asks raw in (record { event = read.0; asks = asks.0 }, (read.1, asks.1))
 
 nothing_before : {A : Type 0} (xs : List A) (y z : A) (ys : List A) → ys ≡ y ∷ []
     → xs ++ ys ≡ z ∷ [] → xs ≡ []
@@ -51,8 +50,11 @@ nothing_before (x ∷ []) y z ys is e =
     let long : x ∷ y ∷ [] ≡ z ∷ [] = ap (λ w. x ∷ w) (sym is) ∙ e in absurd cc
 nothing_before (x ∷ w ∷ xs) y z ys is e = absurd cc
 
+abbrev notes_on : Verdict → List Numbered → List ℕ
+notes_on v said = remark_lines (remarks_of v said)
+
 module _ (completeness : Completeness) (limits : Bounds) (e : SurveyReader) (start now : Told)
-    (hs : List Heard) (found : FoundOffence) (x : Explanation) where
+    (hs : List Heard) (found : FoundOffence) (x y : Explanation) where
   module _ (given : GaveEvent limits e start now (raws_of hs) (notes_of hs) []
       (heard.Offence found)) (noted : AllZip IsNoted (raws_of hs) (notes_of hs)) where
     abbrev own : Terms
@@ -64,63 +66,85 @@ module _ (completeness : Completeness) (limits : Bounds) (e : SurveyReader) (sta
     raws_here : raws_of hs ++ given.raw ∷ [] ≡ raws_of (hs ++ here ∷ [])
     raws_here = sym (raws-append hs (here ∷ []))
 
-    module _ (t : Tells limits given.so_far.records own hs here found x) where
-      -- nothing was found before
-      clean : breaches own hs ≡ []
-      clean =
-          let listed : offences own (notes_of hs) ++ cons_option
-          (offence_at own (notes_of hs) given.n) [] ≡ offence_view found.offence ∷ [] =
-          sym (offences-push own (notes_of hs) given.n) ∙ sym given.so_far.lists in
-          no_breach own hs (nothing_before (offences own (notes_of hs))
-          (offence_by own (notes_of hs) given.n t.rule) (offence_view found.offence)
-          (cons_option (offence_at own (notes_of hs) given.n) [])
-          (ap (λ (o : Option ℕ). cons_option (option_map (offence_by own (notes_of hs) given.n) o)
-          []) t.offends) listed)
+    module _ (t : Tells limits given.so_far.records own hs here found x) (adds : AddsNotes e x y)
+      where
+        -- nothing was found before
+        clean : breaches own hs ≡ []
+        clean =
+            let listed : offences own (notes_of hs) ++ cons_option
+            (offence_at own (notes_of hs) given.n) [] ≡ offence_view found.offence ∷ [] =
+            sym (offences-push own (notes_of hs) given.n) ∙ sym given.so_far.lists in
+            no_breach own hs (nothing_before (offences own (notes_of hs))
+            (offence_by own (notes_of hs) given.n t.rule) (offence_view found.offence)
+            (cons_option (offence_at own (notes_of hs) given.n) [])
+            (ap (λ (o : Option ℕ). cons_option (option_map (offence_by own (notes_of hs) given.n) o)
+            []) t.offends) listed)
 
-      of_log : (log : List ℕ) → HasGiven limits e.log.log.format given.so_far.records
-          (raws_of hs ++ given.raw ∷ []) log
-          → IsExplanation completeness limits log (verdict_view x.verdict) (string_bytes x.text)
-      of_log log first =
-          let same : own ≡ log_terms limits e.log.log.format = given.so_far.terms_are in
-          let f : IsFirst completeness limits log
-          (offence_of (log_terms limits e.log.log.format) (breach hs here t.rule)) t.told =
-          first_explained completeness limits log e.log.log.format given.so_far.records note hs here
-          (subst (λ (w : List Raw). HasGiven limits e.log.log.format given.so_far.records w log)
-          raws_here first)
-          (noted-append hs (here ∷ []) noted (given.is_noted, tt))
-          t.rule t.told
-          (subst (λ (ts : Terms). breaches ts hs ≡ []) same clean)
-          (subst (λ (ts : Terms). rule_at ts (events_of (notes_of hs)) given.n.event ≡ Some t.rule)
-          same t.offends)
-          (λ rests behind. subst (λ (ts : Terms). Explains rests ts (breach hs here t.rule) t.told)
-          same (t.explains rests behind)) in record {
-            found = offence_of (log_terms limits e.log.log.format)
-                (breach hs here t.rule) ∷ f.found;
-            explained = t.told ∷ [];
-            bad = f.bad;
-            flaw = f.flaw;
-            s = f.s;
-            is = f.is;
-            judges = t.verdict_is ∙ t.no_is;
-            says = t.text_is ∙ ap (λ v. report v ++ said_of t.told) t.no_is
-                ∙ ap (λ w. report (no_by (events_of (notes_of hs)) given.n.event t.rule) ++ w)
-                (sym (append-nil (said_of t.told)));
-          }
+        abbrev before : List Event
+        before = events_of (notes_of hs)
 
-      pub told_first : IsExplainedBy completeness limits start now x
-      told_first = record {
-        of_read = read_map limits start now (HasGiven limits e.log.log.format given.so_far.records
-            (raws_of hs ++ given.raw ∷ []))
-            (λ log. IsExplanation completeness limits log (verdict_view x.verdict)
-            (string_bytes x.text)) of_log
-            (so_far_given completeness limits e start now (raws_of hs ++ given.raw ∷ [])
-            (notes_of hs ++ given.n ∷ []) (offence_view found.offence ∷ []) given.so_far);
-        failures = so_far_failures completeness limits e start now (raws_of hs ++ given.raw ∷ [])
-            (notes_of hs ++ given.n ∷ []) (offence_view found.offence ∷ []) given.so_far;
-        ended = λ s yes. let same : verdict_view (verdicts.Yes s)
-            ≡ no_by (events_of (notes_of hs)) given.n.event t.rule =
-            ap verdict_view (sym yes) ∙ t.verdict_is ∙ t.no_is in absurd cc;
-      }
+        abbrev own_no : Verdict
+        own_no = no_by before given.n.event t.rule
+
+        abbrev plain_text : List ℕ
+        plain_text = report own_no ++ (said_of t.told ++ [])
+
+        plain : string_bytes x.text ≡ plain_text
+        plain = t.text_is ∙ ap (λ v. report v ++ said_of t.told) t.no_is
+            ∙ ap (λ w. report own_no ++ w) (sym (append-nil (said_of t.told)))
+
+        stands : StandsAfter e before
+        stands = stands_before e (notes_of hs) given.n t.rule given.so_far.walks t.offends
+
+        of_log : (log : List ℕ) → HasGiven limits e.log.log.format given.so_far.records
+            (raws_of hs ++ given.raw ∷ []) log
+            → IsExplanation completeness limits log (verdict_view y.verdict) (string_bytes y.text)
+        of_log log first =
+            let same : own ≡ log_terms limits e.log.log.format = given.so_far.terms_are in
+            let f : IsFirst completeness limits log
+            (offence_of (log_terms limits e.log.log.format) (breach hs here t.rule)) t.told
+            (numbered (log_terms limits e.log.log.format) before) =
+            first_explained completeness limits log e.log.log.format given.so_far.records some_note hs here
+            (subst (λ (w : List Raw). HasGiven limits e.log.log.format given.so_far.records w log)
+            raws_here first)
+            (noted-append hs (here ∷ []) noted (given.is_noted, tt))
+            t.rule t.told
+            (subst (λ (ts : Terms). breaches ts hs ≡ []) same clean)
+            (subst (λ (ts : Terms). rule_at ts (events_of (notes_of hs)) given.n.event ≡ Some t.rule)
+            same t.offends)
+            (λ rests behind. subst (λ (ts : Terms). Explains rests ts (breach hs here t.rule) t.told)
+            same (t.explains rests behind)) in record {
+              found = offence_of (log_terms limits e.log.log.format)
+                  (breach hs here t.rule) ∷ f.found;
+              explained = t.told ∷ [];
+              bad = f.bad;
+              flaw = f.flaw;
+              s = f.s;
+              is = f.is;
+              judges = ap verdict_view adds.verdict_is ∙ t.verdict_is ∙ t.no_is;
+              says =
+                  adds.text_is before stands
+                  ∙ ap (λ w. w ++ notes_on (verdict_view x.verdict) (numbered own before)) plain
+                  ∙ ap (λ v. plain_text ++ notes_on v (numbered own before))
+                  (t.verdict_is ∙ t.no_is)
+                  ∙ ap (λ w. plain_text ++ notes_on own_no w)
+                  (ap (λ ts. numbered ts before) same ∙ sym f.said_is);
+            }
+
+        pub told_first : IsExplainedBy completeness limits start now y
+        told_first = record {
+          of_read = read_map limits start now (HasGiven limits e.log.log.format given.so_far.records
+              (raws_of hs ++ given.raw ∷ []))
+              (λ log. IsExplanation completeness limits log (verdict_view y.verdict)
+              (string_bytes y.text)) of_log
+              (so_far_given completeness limits e start now (raws_of hs ++ given.raw ∷ [])
+              (notes_of hs ++ given.n ∷ []) (offence_view found.offence ∷ []) given.so_far);
+          failures = so_far_failures completeness limits e start now (raws_of hs ++ given.raw ∷ [])
+              (notes_of hs ++ given.n ∷ []) (offence_view found.offence ∷ []) given.so_far;
+          ended = λ s yes. let same : verdict_view (verdicts.Yes s)
+              ≡ no_by (events_of (notes_of hs)) given.n.event t.rule =
+              ap verdict_view (sym yes ∙ adds.verdict_is) ∙ t.verdict_is ∙ t.no_is in absurd cc;
+        }
 
 -- memory was refused behind some events
 pub refused : (limits : Bounds) (e : SurveyReader) (start now : Told) (past : List Raw)

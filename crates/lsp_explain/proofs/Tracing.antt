@@ -16,8 +16,8 @@ use Rattle.lsp_survey.specs.Marking.{Step, agreed, recent}
 use Rattle.lsp_explain.specs.Fact.{Fact, fact_view, shown_by}
 use Rattle.lsp_explain.specs.declared.facts.fact.Fact as code
 use Rattle.lsp_explain.specs.MessageFacts.{id_in}
-use Rattle.lsp_explain.specs.Traced.{act_call, apart_facts, brought, call_traced, document_traced}
-use Rattle.lsp_explain.specs.Traced.{held_by, session_trace, traced, with_setter}
+use Rattle.lsp_explain.specs.Traced.{act_call, apart_facts, brought, document_traced, held_by}
+use Rattle.lsp_explain.specs.Traced.{message_traced, session_trace, traced, with_setter}
 use Rattle.lsp_explain.specs.declared.suspects.Until.{Until}
 use Rattle.lsp_explain.proofs.Spoken.{id_in-outline}
 
@@ -25,7 +25,7 @@ module _ (terms : Terms) (before : List Event) (rule : ℕ) (plain : List Fact) 
   -- what is added, where the rule is one on messages or not
   abbrev added : Bool → Side → Message → Act → List Fact
   added b side said act = if b then plain ++ session_trace rule (numbered terms before) side
-      (id_in said) else call_traced terms before rule (act_call terms before act) plain
+      (id_in said) else message_traced terms before rule (act_call terms before act) plain
 
   -- below 601 the rule is one on messages
   pub added_to_messages : (side : Side) (said : Message) (act : Act) → rule < 601
@@ -45,7 +45,7 @@ module _ (terms : Terms) (before : List Event) (rule : ℕ) (plain : List Fact) 
 
       by_test : (b : Bool) → added b side said act ≡ added b m.side m.message m.act
       by_test true = λ i. plain ++ session_trace rule (numbered terms before) (sym by i) (ids i)
-      by_test false = ap (λ (a : Act). call_traced terms before rule (act_call terms before a)
+      by_test false = ap (λ (a : Act). message_traced terms before rule (act_call terms before a)
           plain) (sym means)
 
 -- the second fact gives way to the same with the event that set the version

@@ -1,5 +1,6 @@
 -- Worked rows, each checked by computing it.
 pub mod Traced
+pub mod Notes
 pub mod Messages
 pub mod Contents
 pub mod Flaws

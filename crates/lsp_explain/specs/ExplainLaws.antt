@@ -1,5 +1,6 @@
 -- Laws of what is explained.
 use Rattle.std.specs.Prelude.{◌≡◌, List, [], ◌∷◌, ◌++◌, map, false, ℕ, Option}
+use Rattle.lsp_docs.specs.Terms.{Terms}
 use Rattle.lsp_frame.specs.Bounds.{Bounds, IsInRange}
 use Rattle.lsp_verdict.specs.Complete.{IsVerdictBy}
 use Rattle.lsp_verdict.specs.Offences.{Offence}
@@ -8,22 +9,27 @@ use Rattle.lsp_verdict.specs.Survey.{first_verdict, shown_of}
 use Rattle.lsp_verdict.specs.Verdict.{Verdict, Summary, yes}
 use Rattle.lsp_verdict.specs.declared.completeness.Completeness.{Completeness}
 use Rattle.lsp_explain.specs.AllExplained.{AreAllSaid, IsAllExplained}
-use Rattle.lsp_explain.specs.Explained.{Explained, explanation, IsExplanation}
+use Rattle.lsp_explain.specs.Explained.{Explained, Heard, noted_explanation, said_before}
+use Rattle.lsp_explain.specs.Explained.{IsExplanation}
 use Rattle.lsp_explain.specs.Fact.{Fact}
+use Rattle.lsp_explain.specs.Remarks.{remark_lines, remarks_of}
 
 -- **An explanation begins with the report of the verdict.**
 abbrev pub BeginsWithReport : Type 0
 BeginsWithReport =
-    (found : List Offence) (explained : List Explained) (bad : Option Verdict) (flaw : List Fact)
-    (s : Summary)
-    → (said : List ℕ) × (explanation found explained bad flaw s
+    (terms : Terms) (heard : List Heard) (found : List Offence) (explained : List Explained)
+    (bad : Option Verdict) (flaw : List Fact) (s : Summary)
+    → (said : List ℕ) × (noted_explanation terms heard found explained bad flaw s
     ≡ report (first_verdict found bad s) ++ said)
 
--- **Of Yes it is the report.**
+-- **Of Yes it is the report and the notes.**
 abbrev pub YesIsReport : Type 0
-YesIsReport = (found : List Offence) (explained : List Explained) (bad : Option Verdict)
-    (flaw : List Fact) (s t : Summary) → found ≡ [] → first_verdict found bad s ≡ yes t
-    → explanation found explained bad flaw s ≡ report (yes t)
+YesIsReport =
+    (terms : Terms) (heard : List Heard) (found : List Offence) (explained : List Explained)
+    (bad : Option Verdict) (flaw : List Fact) (s t : Summary)
+    → found ≡ [] → first_verdict found bad s ≡ yes t
+    → noted_explanation terms heard found explained bad flaw s
+    ≡ report (yes t) ++ remark_lines (remarks_of (yes t) (said_before terms heard))
 
 -- ---- all that is wrong
 

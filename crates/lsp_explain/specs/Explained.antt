@@ -22,6 +22,7 @@ use Rattle.lsp_explain.specs.EventFacts.{AreFacts}
 use Rattle.lsp_explain.specs.Fact.{Fact}
 use Rattle.lsp_explain.specs.FlawFacts.{Rests, rest_of, side_by, unfinished_facts, log_facts}
 use Rattle.lsp_explain.specs.Lines.{detail_lines, event_line, end_event}
+use Rattle.lsp_explain.specs.Remarks.{remark_lines, remarks_of}
 use Rattle.lsp_explain.specs.Traced.{AreTraced, lack_traced}
 use Rattle.lsp_survey.specs.Asking.{Numbered, numbered}
 use Rattle.lsp_types.specs.declared.rules.TheConstants as rules
@@ -114,6 +115,26 @@ abbrev pub explanation : List Offence → List Explained → Option Verdict → 
 explanation [] explained bad flaw s = report (first_verdict [] bad s) ++ flaw_lines bad flaw
 explanation (o ∷ found) explained bad flaw s = report o.no ++ flat_map said_of explained
 
+-- ---- the notes
+
+-- the events before the first that offends
+abbrev pub before_first : List Breach → List Heard → List Heard
+before_first [] heard = heard
+before_first (b ∷ found) heard = b.before
+
+-- the messages among them, with the numbers of their events
+abbrev pub said_before : Terms → List Heard → List Numbered
+said_before terms heard =
+    numbered terms (events_of (notes_of (before_first (breaches terms heard) heard)))
+
+-- **what is written of these events**: the explanation, and after it the notes on the messages
+-- before the first event that offends
+abbrev pub noted_explanation : Terms → List Heard → List Offence → List Explained → Option Verdict
+    → List Fact → Summary → List ℕ
+noted_explanation terms heard found explained bad flaw s =
+    explanation found explained bad flaw s
+    ++ remark_lines (remarks_of (first_verdict found bad s) (said_before terms heard))
+
 -- ---- a log
 
 -- **what is explained of a log**, the first offence: `found` and `bad` and `s` are its survey, and
@@ -144,8 +165,8 @@ pub record IsExplained (completeness : Completeness) (limits : Bounds) (log : Li
       (ends_listed completeness (log_terms limits format) (events_of (notes_of heard))
       (ending log_fault rests.editor rests.server)))
 
--- **the verdict on a log, and what explains it**: the first that its survey lists, else its fault,
--- else Yes
+-- **the verdict on a log, and what explains it**, with the notes: the first that its survey lists,
+-- else its fault, else Yes
 pub record IsExplanation (completeness : Completeness) (limits : Bounds) (log : List ℕ)
     (v : Verdict) (out : List ℕ) : Type 0 where
   pub found : List Offence
@@ -155,7 +176,8 @@ pub record IsExplanation (completeness : Completeness) (limits : Bounds) (log : 
   pub s : Summary
   pub is : IsExplained completeness limits log found explained bad flaw s
   pub judges : v ≡ first_verdict found bad s
-  pub says : out ≡ explanation found explained bad flaw s
+  pub says : out
+      ≡ noted_explanation (log_terms limits is.format) is.heard found explained bad flaw s
 
 -- what begins the explanation of a log
 abbrev pub BeginsExplanation : Completeness → Bounds → List ℕ → List ℕ → Type 0

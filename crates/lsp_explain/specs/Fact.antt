@@ -70,6 +70,11 @@ pub data Fact : Type 0 where
   answered_by : ℕ → Fact
   asked_by : ℕ → Fact
   led_by : ℕ → Fact
+  -- the event that closed a document, that none opened it, and an open document with a similar URI,
+  -- with the event that opened it
+  closed_by : ℕ → Fact
+  never_opened : Fact
+  similar_to : List ℕ → ℕ → Fact
   -- the front of a content
   begins : List ℕ → Fact
   -- how many bytes of it come before the place where it breaks, and what is before and after that
@@ -119,6 +124,9 @@ fact_view (facts.Open id event) = opens_as (id_view id) event
 fact_view (facts.Answered event) = answered_by event
 fact_view (facts.Asked event) = asked_by event
 fact_view (facts.Since event) = led_by event
+fact_view (facts.Closed event) = closed_by event
+fact_view facts.NeverOpened = never_opened
+fact_view (facts.Similar uri event) = similar_to (string_bytes uri) event
 fact_view (facts.Begins text) = begins (string_bytes text)
 fact_view (facts.Breaks place) = breaks place
 fact_view (facts.Before text) = before (string_bytes text)

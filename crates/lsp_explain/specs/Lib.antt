@@ -1,7 +1,9 @@
 pub mod Suspects
+pub mod Unopened
 pub mod Twins
 pub mod Traced
 pub mod Standing
+pub mod Remarks
 pub mod Explained
 pub mod ExplainLaws
 pub mod RunSteps

@@ -29,7 +29,8 @@ use Rattle.lsp_explain.specs.Fact.{by_messages, in_line_ends}
 use Rattle.lsp_explain.specs.Fact.{in_editor, saved_line, keeps, has_id, in_phase, offers, picks}
 use Rattle.lsp_explain.specs.Fact.{registers, waits, waits_since, shown_by, equal_by, has_suspects}
 use Rattle.lsp_explain.specs.Fact.{suspects}
-use Rattle.lsp_explain.specs.Fact.{answered_by, asked_by, led_by, begins, wrong_at, in_record}
+use Rattle.lsp_explain.specs.Fact.{answered_by, asked_by, led_by, closed_by, never_opened}
+use Rattle.lsp_explain.specs.Fact.{similar_to, begins, wrong_at, in_record}
 use Rattle.lsp_explain.specs.Fact.{after, at_byte, before, breaks, finds, opens_as}
 use Rattle.lsp_explain.specs.Part.{Part}
 use Rattle.lsp_types.specs.declared.rules.TheConstants as rules
@@ -128,6 +129,10 @@ fact_line (opens_as id event) =
 fact_line (answered_by event) = cited (codes "answered") event
 fact_line (asked_by event) = cited (codes "asked") event
 fact_line (led_by event) = cited (codes "since") event
+fact_line (closed_by event) = cited (codes "closed") event
+fact_line never_opened = line (codes "opened" ∷ codes "never" ∷ [])
+fact_line (similar_to uri event) =
+    line (codes "similar" ∷ quoted uri ∷ codes "event" ∷ decimal event ∷ [])
 fact_line (begins text) = line (codes "begins" ∷ quoted text ∷ [])
 fact_line (breaks place) = line (codes "breaks" ∷ decimal place ∷ [])
 fact_line (before text) = line (codes "before" ∷ quoted text ∷ [])

@@ -10,6 +10,7 @@ use Rattle.lsp_types.specs.declared.side.Side.{Side}
 use Rattle.lsp_types.specs.declared.side.Side.TheVariants.{Editor, Server}
 use Rattle.lsp_docs.specs.Terms.{Terms}
 use Rattle.lsp_replay.specs.Standing.{Follows}
+use Rattle.lsp_survey.specs.Asking.{numbered}
 use Rattle.lsp_survey.specs.Reads.{SoFar, GaveEvent, Ended}
 use Rattle.lsp_survey.specs.declared.offending.FoundOffence.{FoundOffence}
 use Rattle.lsp_survey.specs.declared.offending.Judged.TheVariants as heard
@@ -17,6 +18,7 @@ use Rattle.lsp_survey.specs.declared.offending.OffendingEvent.{OffendingEvent}
 use Rattle.lsp_survey.specs.declared.offending.OffendingEvent.TheVariants as what
 use Rattle.lsp_survey.specs.declared.survey_reader.SurveyEnd.{SurveyEnd}
 use Rattle.lsp_survey.specs.declared.survey_reader.SurveyReader.{SurveyReader}
+use Rattle.lsp_verdict.specs.Event.{Event}
 use Rattle.lsp_verdict.specs.Given.{as_given, offence_view, verdict_view}
 use Rattle.lsp_verdict.specs.Offences.{Noted, Offence, events_of, rule_at}
 use Rattle.lsp_verdict.specs.Outcome.{HasRest}
@@ -32,7 +34,8 @@ use Rattle.lsp_explain.specs.Explained.{Heard, Explained, Explains, breach, raws
 use Rattle.lsp_explain.specs.Explained.{said_of, IsExplanation}
 use Rattle.lsp_explain.specs.Fact.{Fact}
 use Rattle.lsp_explain.specs.FlawFacts.{Rests, rest_of, flaw_facts}
-use Rattle.lsp_explain.specs.Standing.{terms_in}
+use Rattle.lsp_explain.specs.Remarks.{remark_lines, remarks_of}
+use Rattle.lsp_explain.specs.Standing.{StandsAfter, terms_in}
 use Rattle.lsp_explain.specs.declared.run.Explanation.{Explanation}
 
 -- ---- what a reader of events holds of faults
@@ -91,6 +94,17 @@ TellsOf e found x =
       raw = given.raw;
       note = given.n;
     }) found x
+
+-- after what explains it come the notes on the messages before
+pub record AddsNotes (e : SurveyReader) (plain x : Explanation) : Type 0 where
+  pub verdict_is : x.verdict ≡ plain.verdict
+  pub text_is : (before : List Event) → StandsAfter e before
+      → string_bytes x.text ≡ string_bytes plain.text ++ remark_lines
+      (remarks_of (verdict_view plain.verdict) (numbered (terms_in e) before))
+
+-- what was found is told, and then the notes
+abbrev pub TellsFirst : SurveyReader → FoundOffence → Explanation → Type 0
+TellsFirst e found x = (plain : Explanation) × TellsOf e found plain × AddsNotes e plain x
 
 -- the result of the events heard
 abbrev pub summary_behind : SurveyReader → List Noted → Summary

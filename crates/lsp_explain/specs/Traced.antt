@@ -30,6 +30,7 @@ use Rattle.lsp_explain.specs.MessageFacts.{id_in}
 use Rattle.lsp_explain.specs.Refuting.{refuting}
 use Rattle.lsp_types.specs.declared.rules.TheConstants as rules
 use Rattle.lsp_explain.specs.Suspects.{suspect_facts, until_of}
+use Rattle.lsp_explain.specs.Unopened.{unopened_traced}
 use Rattle.lsp_explain.specs.Twins.{twin}
 use Rattle.lsp_explain.specs.declared.suspects.Until.{Until}
 
@@ -97,6 +98,11 @@ call_traced terms before rule (Some call) plain =
     (differing terms (calls (kept_of terms before)) (steps terms (uri_of call) before)
     (number_next before) call) (until_of (number_next before) call) rule plain
 
+-- the same of a message, with what is said about a document that is not open
+abbrev pub message_traced : Terms → List Event → ℕ → Option Call → List Fact → List Fact
+message_traced terms before rule said plain =
+    call_traced terms before rule said plain ++ unopened_traced terms before rule said
+
 -- ---- messages
 
 -- the event that answered a request of this side's with the id last
@@ -133,7 +139,7 @@ traced terms before (message m) rule plain =
     if nat_lt rule rules.FIRST_ON_DOCUMENTS
     then plain ++ session_trace rule (numbered terms before) m.side
     (id_in m.message)
-    else call_traced terms before rule (said_at terms before (message m)) plain
+    else message_traced terms before rule (said_at terms before (message m)) plain
 traced terms before (snapshot uri number text) rule plain =
     call_traced terms before rule (said_at terms before (snapshot uri number text)) plain
 

@@ -10,7 +10,7 @@ pub fn explanation_begins_with_report()
     ensures { BeginsWithReport }
 {}
 
-/// The explanation of Yes is the report.
+/// The explanation of Yes is the report, and after it the notes.
 pub fn explanation_of_yes_is_report()
     ensures { YesIsReport }
 {}

@@ -9,11 +9,13 @@
 mod facts;
 mod laws;
 mod offence_facts;
+mod remarks;
 mod run;
 mod run_all;
 mod suspects;
 mod trace;
 mod twins;
+mod unopened;
 
 pub use facts::{
     Fact, act_facts, content_facts, flaw_facts, frame_facts, session_facts, snapshot_facts,

@@ -18,12 +18,14 @@ ghost use Rattle.lsp_explain.specs.Explained.{BeginsExplanation, IsExplanation, 
 ghost use Rattle.lsp_explain.specs.Explained.{flaw_lines, said_of};
 ghost use Rattle.lsp_explain.specs.FlawFacts.{Rests, flaw_facts, rest_of, side_by};
 ghost use Rattle.lsp_explain.specs.Lines.{fact_lines, usual_line};
-ghost use Rattle.lsp_explain.specs.RunSteps.{EndsWhole, ExplainsLog, IsSound, TellsEnd, TellsOf};
-ghost use Rattle.lsp_explain.specs.RunSteps.{flaw_held, side_of, summary_behind};
+ghost use Rattle.lsp_explain.specs.RunSteps.{AddsNotes, EndsWhole, ExplainsLog, IsSound, TellsEnd};
+ghost use Rattle.lsp_explain.specs.RunSteps.{TellsFirst, TellsOf, flaw_held, side_of};
+ghost use Rattle.lsp_explain.specs.RunSteps.{summary_behind};
 ghost use Rattle.lsp_explain.specs.Standing.{StandsAfter, terms_in};
 
 use crate::facts::{flaw_facts, push_details};
 use crate::offence_facts::{push_end, push_said};
+use crate::remarks::push_remarks;
 use lsp_frame::{Limits, Sink, Source, put_all};
 use lsp_rpc::{Memory, Side};
 use lsp_survey::{FoundOffence, Judged, NextJudged, OffendingEvent, SurveyEnd, SurveyReader};
@@ -35,7 +37,7 @@ use std::alloc::Global;
 /// Reads a log and writes the report of the verdict on it, and after a No what is wrong: the line
 /// that names the first event that offends, and the facts on it. After the report of a bad log
 /// come the number of its record, how many bytes come before that, and the line that is
-/// there.
+/// there. Last come the notes on the messages before that event, or on all where none offends.
 ///
 /// It reads up to the first event that offends, and nothing is written before the verdict is known.
 ///
@@ -137,15 +139,41 @@ fn explain_heard(
     ensures kept { result ≡ Ok None → heard ≡ Judged.Kept }
     ensures told { IfOk result
         (λ answer. IfSome answer (λ x. (found : FoundOffence) × (heard ≡ Judged.Offence found)
-        × TellsOf events.now found x)) }
+        × TellsFirst events.now found x)) }
 {
     match heard {
         Judged::Kept => Ok(None),
-        Judged::Offence(found) => Ok(Some(explain_found(alloc, events, &found)?)),
+        Judged::Offence(found) => Ok(Some(explain_noted(alloc, events, &found)?)),
     }
 }
 
+/// What explains an offence that was found, and the notes on the messages before it.
+fn explain_noted(
+    alloc: Global,
+    events: &SurveyReader,
+    found: &FoundOffence,
+) -> Result<Explanation, Memory>
+    ensures { IfOk result (TellsFirst events.now found.now) }
+{
+    let explanation = explain_found(alloc, events, found)?;
+    add_notes(alloc, events, explanation)
+}
+
+/// An explanation with the notes on the messages that were heard.
+fn add_notes(
+    alloc: Global,
+    events: &SurveyReader,
+    explanation: Explanation,
+) -> Result<Explanation, Memory>
+    ensures { IfOk result (AddsNotes events.now explanation) }
+{
+    let Explanation { mut text, verdict } = explanation;
+    push_remarks(alloc, &mut text, events, &verdict)?;
+    Ok(Explanation { text, verdict })
+}
+
 /// What explains an offence that was found.
+#[inline(never)]
 pub(crate) fn explain_found(
     alloc: Global,
     events: &SurveyReader,
@@ -174,9 +202,24 @@ fn side_of(offending: &OffendingEvent) -> Side
     }
 }
 
-/// What explains the end of a log, where no event offends.
+/// What explains the end of a log, where no event offends, and the notes on its messages.
 fn explain_end(alloc: Global, events: &SurveyReader, end: SurveyEnd) -> Result<Explanation, Memory>
     ensures { IfOk result (λ x. (completeness : Completeness) (limits : Bounds) (start now : Told)
+        → EndsWhole completeness limits events.now start now end
+        → TellsEnd completeness limits start now x) }
+{
+    let explanation = explain_ending(alloc, events, end)?;
+    add_notes(alloc, events, explanation)
+}
+
+/// What explains the end of a log, where no event offends.
+fn explain_ending(
+    alloc: Global,
+    events: &SurveyReader,
+    end: SurveyEnd,
+) -> Result<Explanation, Memory>
+    ensures { IfOk result (λ plain. (x : Explanation) → AddsNotes events.now plain x
+        → (completeness : Completeness) (limits : Bounds) (start now : Told)
         → EndsWhole completeness limits events.now start now end
         → TellsEnd completeness limits start now x) }
 {

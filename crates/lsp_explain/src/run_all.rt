@@ -138,6 +138,7 @@ fn explain_heard<W: Sink>(
 }
 
 /// Explains an offence that was found, where it follows from no earlier one.
+#[inline(never)]
 fn explain_cause<W: Sink>(
     alloc: Global,
     events: &SurveyReader,

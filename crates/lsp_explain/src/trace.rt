@@ -29,6 +29,7 @@ ghost use Rattle.lsp_types.specs.declared.rules.TheConstants as rules;
 use crate::facts::{Fact, id_in, message_facts, refuting, shown_facts};
 use crate::suspects::{Until, push_suspects};
 use crate::twins::twin_of;
+use crate::unopened::trace_unopened;
 use lsp_rpc::{Act, Encoding, Id, Memory, Message, Side, Spoken, copy_id};
 use lsp_session::{OpenRequest, Pending};
 use lsp_survey::{Marks, SessionNotes, Setter, Shown, SurveyReader};
@@ -103,7 +104,7 @@ fn trace_spoken(
         → facts_view facts.new.items ≡ (if nat_lt rule rules.FIRST_ON_DOCUMENTS
         then facts_view facts.old.items ++ spec.session_trace rule
         (numbered (terms_in events.now) before) side (id_in (message_view spoken.now.message))
-        else spec.call_traced (terms_in events.now) before rule
+        else spec.message_traced (terms_in events.now) before rule
         (spec.act_call (terms_in events.now) before (act_view spoken.now.act))
         (facts_view facts.old.items))) }
 {
@@ -111,7 +112,8 @@ fn trace_spoken(
         let said = events.session_notes();
         return trace_message(alloc, facts, said, side, &spoken.message, rule);
     }
-    trace_act(alloc, facts, events, number, &spoken.act, rule)
+    trace_act(alloc, facts, events, number, &spoken.act, rule)?;
+    trace_unopened(alloc, facts, events, &spoken.act, rule)
 }
 
 /// Adds to the facts on an act, the event of this number, that breaks this rule on documents the

@@ -1,12 +1,11 @@
 -- The text that is held after a message of the editor's, as the events of a log are heard.
 use Rattle.std.proofs.Common.{◌≡◌, ◌+◌, ◌<◌, ◌≤◌, ℕ, Bool, true, false, List, [], ◌∷◌, ◌++◌, length}
-use Rattle.std.proofs.Common.{drop, Option, Some, None, Result, Ok, Err, refl, sym, ap}
+use Rattle.std.proofs.Common.{drop, Option, Some, None, refl, sym, ap}
 use Rattle.std.proofs.Common.{subst, ◌∙◌, append_assoc, append-nil, arith}
-use Rattle.std.specs.Prelude.{is_some, if◌then◌else◌, filter, IfOk}
-use lib.Utf8.{encodes}
+use Rattle.std.specs.Prelude.{is_some, if◌then◌else◌}
 use Rattle.std.proofs.lemmas.List.{take-append-drop}
 use Rattle.lsp_frame.specs.Bounds.{Bounds}
-use Rattle.lsp_frame.specs.Told.{Told, after_failure}
+use Rattle.lsp_frame.specs.Told.{Told}
 use Rattle.lsp_frame.specs.declared.format.Format.{Format}
 use Rattle.lsp_types.specs.declared.side.Side.TheVariants.{Editor}
 use Rattle.lsp_docs.specs.Documents.{held}
@@ -14,29 +13,22 @@ use Rattle.lsp_docs.specs.Terms.{Terms}
 use Rattle.lsp_verdict.specs.Calls.{calls}
 use Rattle.lsp_verdict.specs.Event.{Event}
 use Rattle.lsp_verdict.specs.Outcome.{Offends, format_or_one, log_terms}
-use Rattle.lsp_verdict.specs.Ports.{OutputFor, Ports}
-use Rattle.lsp_verdict.specs.RunIo.{OfRead, GaveAtMost, failures_after, sink_failures_after}
-use Rattle.lsp_verdict.specs.RunIo.{source_failures}
+use Rattle.lsp_verdict.specs.RunIo.{BreaksOff, OfRead}
 use Rattle.lsp_verdict.specs.declared.completeness.Completeness.{Completeness}
 use Rattle.lsp_verdict.specs.declared.completeness.Completeness.TheVariants.{Ignored}
-use Rattle.lsp_verdict.specs.declared.outcome.Outcome.{Outcome}
-use Rattle.lsp_verdict.specs.declared.outcome.Outcome.TheVariants.{Done}
 use Rattle.lsp_verdict.specs.declared.outcome.RunFault.{RunFault}
-use Rattle.lsp_verdict.specs.declared.outcome.RunFault.TheVariants as faults
-use Rattle.lsp_judge.specs.declared.text_answer.TextAnswer as answer
-use Rattle.lsp_judge.specs.TextAnswers.{WritesText, answer_view}
-use Rattle.lsp_verdict.specs.Shown.{TextAnswer, text_is, kept_count, kept_within, up_to_editor}
+use Rattle.lsp_verdict.specs.Shown.{TextAnswer, kept_count, kept_within, up_to_editor}
 use Rattle.lsp_verdict.specs.Shown.{held_answer, missing_answer, text_answer}
-use Rattle.lsp_verdict.specs.TextAfter.{AnswersText, BeginsText, EndsAs, IsText, written_of}
+use Rattle.lsp_verdict.specs.TextAfter.{AnswersText}
 use Rattle.lsp_verdict.specs.Verdict.{Verdict, first_no, no_at, is_of, count_of}
 use Rattle.lsp_verdict.proofs.Finding.{found}
 use Rattle.lsp_verdict.proofs.Logs.{final_more}
-use Rattle.lsp_verdict.proofs.RunReading.{read_map, read_within}
+use Rattle.lsp_verdict.proofs.RunReading.{read_map}
 use Rattle.lsp_verdict.proofs.Logs.Text.{text_missing}
-use Rattle.lsp_verdict.proofs.Logs.UpTo.{reached_more, reached_past, reached_now, count-append}
-use Rattle.lsp_verdict.proofs.Logs.UpTo.{count_one}
+use Rattle.lsp_verdict.proofs.Logs.UpTo.{reached_more, reached_past}
 use Rattle.lsp_verdict.proofs.Verdicts.{no_found}
-use Rattle.lsp_judge.specs.LogEvents.{EndsAt, EndsBy, SoFar, Found, GivesText}
+use Rattle.lsp_replay.proofs.Reached.{count_within, reached_last, still_few}
+use Rattle.lsp_judge.specs.LogEvents.{BeginsWith, BrokeOff, EndsAt, EndsBy, Found, SoFar}
 use Rattle.lsp_replay.specs.Standing.{Follows}
 use Rattle.lsp_judge.specs.declared.event_reader.EventReader.{EventReader}
 use Rattle.lsp_judge.proofs.KeptEvents.{kept_clean, kept_no, kept_final}
@@ -143,33 +135,6 @@ nothing_read limits e start now n so_far ignored positive = record {
   few = positive;
 }
 
-count_other : (xs : List Event) (e : Event) → is_of Editor e ≡ false
-    → count_of (is_of Editor) (xs ++ e ∷ []) ≡ count_of (is_of Editor) xs
-count_other xs e other =
-    let none : count_of (is_of Editor) (e ∷ []) ≡ 0 =
-    ap (λ b. length (if b then e ∷ [] else [])) other in
-    let all = count-append (is_of Editor) xs (e ∷ []) in
-    omega (arith, none, all)
-
--- the message is the last event, or has still to come
-reached_last : (n : ℕ) (xs : List Event) (e : Event) → count_of (is_of Editor) xs < n
-    → count_of (is_of Editor) (xs ++ e ∷ []) ≡ n
-    → up_to_editor n [] (xs ++ e ∷ []) ≡ Some (xs ++ e ∷ [])
-reached_last n xs e few reached = by_own (is_of Editor e) refl
-  where
-    by_own : (b : Bool) → is_of Editor e ≡ b
-        → up_to_editor n [] (xs ++ e ∷ []) ≡ Some (xs ++ e ∷ [])
-    by_own true own = reached_now n xs e (sym (count_one xs e own) ∙ reached) own
-    by_own false other = absurd (omega (arith, few, reached, count_other xs e other))
-
-still_few : (n : ℕ) (xs : List Event) (e : Event) → count_of (is_of Editor) xs < n
-    → (count_of (is_of Editor) (xs ++ e ∷ []) ≡ n → ⊥) → count_of (is_of Editor) (xs ++ e ∷ []) < n
-still_few n xs e few unreached = by_own (is_of Editor e) refl
-  where
-    by_own : (b : Bool) → is_of Editor e ≡ b → count_of (is_of Editor) (xs ++ e ∷ []) < n
-    by_own true own = omega (arith, few, unreached, count_one xs e own)
-    by_own false other = omega (arith, few, count_other xs e other)
-
 module _ (limits : Bounds) (e : EventReader) (start now : Told) (n : ℕ) (heard : List Event)
     (event : Event) (few : count_of (is_of Editor) heard < n)
     (s : SoFar limits e start now (heard ++ event ∷ [])) where
@@ -179,16 +144,6 @@ module _ (limits : Bounds) (e : EventReader) (start now : Told) (n : ℕ) (heard
       let few_all = so_far_few limits e start now all s in
       let sizes = so_far_range limits e start now all s in
       omega (arith, s.has.follows.counted.editor, few_all, sizes.log_high, count_within all)
-    where
-      count_within : (xs : List Event) → count_of (is_of Editor) xs ≤ length xs
-      count_within [] = omega arith
-      count_within (x ∷ xs) = by_own (is_of Editor x) (count_within xs)
-        where
-          by_own : (b : Bool) → count_of (is_of Editor) xs ≤ length xs
-              → length (if b then x ∷ filter (is_of Editor) xs else filter (is_of Editor)
-              xs) ≤ length (x ∷ xs)
-          by_own true p = omega (arith, p)
-          by_own false p = omega (arith, p)
 
   pub reads_on : e.completeness ≡ Ignored → (e.events.counts.editor ≡ n → ⊥)
       → Reading limits e start now n
@@ -231,136 +186,12 @@ text_none completeness limits start now n uri heard v answer ignored few is foun
     (text_ended limits n uri heard v few log
     (subst (λ c. EndsBy c limits log heard v) ignored ends))) found.of_read
 
--- ---- what is written
-
--- what is due for the answer was written
-pub text_due : (limits : Bounds) (start now : Told) (n : ℕ) (uri : List ℕ) (answer : TextAnswer)
-    (out : List ℕ) (outcome : Outcome)
-    → OfRead limits start now (λ log. AnswersText limits log n uri answer) → out ≡ written_of answer
-    → EndsAs answer outcome
-    → OfRead limits start now (λ log. IsText limits log n uri out outcome)
-text_due limits start now n uri answer out outcome told written ends =
-    read_map limits start now (λ log. AnswersText limits log n uri answer)
-    (λ log. IsText limits log n uri out outcome) (λ log answers. record {
-      answer = answer;
-      answers = answers;
-      written = written;
-      ends = ends;
-    }) told
-
--- a front of the text was written
-pub text_begun : (limits : Bounds) (start now : Told) (n : ℕ) (uri text front back : List ℕ)
-    → OfRead limits start now (λ log. AnswersText limits log n uri (text_is text))
-    → encodes text ≡ front ++ back
-    → OfRead limits start now (λ log. BeginsText limits log n uri front)
-text_begun limits start now n uri text front back told whole =
-    read_map limits start now (λ log. AnswersText limits log n uri (text_is text))
-    (λ log. BeginsText limits log n uri front)
-    (λ log answers. (
-      Done,
-      back,
-      record {
-        answer = text_is text;
-        answers = answers;
-        written = sym whole;
-        ends = refl;
-      },
-    )) told
-
--- ---- what the answer says
-
-pub text_answered : (limits : Bounds) (start now : Told) (n : ℕ) (uri : List ℕ)
-    (r : Result answer.TextAnswer RunFault) → GivesText limits start now n uri r
-    → IfOk r (λ a. OfRead limits start now (λ log. AnswersText limits log n uri (answer_view a)))
-text_answered limits start now n uri (Ok a) g = g.0
-text_answered limits start now n uri (Err fault) g = tt
-
-pub text_failures : (limits : Bounds) (start now : Told) (n : ℕ) (uri : List ℕ)
-    (r : Result answer.TextAnswer RunFault) → GivesText limits start now n uri r
-    → now.failures ≡ source_failures r start.failures
-text_failures limits start now n uri (Ok a) g = g.1
-text_failures limits start now n uri (Err fault) g = g.failures
-
-pub text_within : (limits : Bounds) (start now : Told) (n : ℕ) (uri : List ℕ)
-    (r : Result answer.TextAnswer RunFault) → GivesText limits start now n uri r
-    → GaveAtMost (limits.log + 1) start now
-text_within limits start now n uri (Ok a) g = read_within limits start now _ g.0
-text_within limits start now n uri (Err fault) g = read_within limits start now _ g.of_read
-
-pub text_unwritten : (limits : Bounds) (start now : Told) (n : ℕ) (uri : List ℕ)
-    (r : Result answer.TextAnswer RunFault) → GivesText limits start now n uri r
-    → r ≡ Err faults.Write → ⊥
-text_unwritten limits start now n uri (Ok a) g e = absurd cc
-text_unwritten limits start now n uri (Err fault) g e =
-    g.unwritten (let same : fault ≡ faults.Write = cc e in same)
-
--- ---- what is written
-
--- the outcome was reached, and what is due for it was written
-pub outcome_due : (limits : Bounds) (io : Ports) (n : ℕ) (uri : List ℕ) (outcome : Outcome)
-    → OutputFor limits io (λ log out. IsText limits log n uri out outcome)
-    → io.source_after.failures ≡ io.source_before.failures
-    → io.sink_after.failures ≡ io.sink_before.failures
-    → WritesText limits io n uri (Ok outcome)
-outcome_due limits io n uri outcome due source sink = record {
-  written = due;
-  read_fault = λ e. absurd (cc e);
-  memory = λ e. absurd (cc e);
-  write_fault = λ e. absurd (cc e);
-  counts = record {
-    source_failures = source;
-    sink_failures = sink;
-    limit = read_within _ _ _ _ due.2;
-  };
-}
-
--- there is no answer
-pub text_broke : (limits : Bounds) (start now told : Told) (n : ℕ) (uri : List ℕ)
-    (fault : RunFault)
-    → ((let r : Result answer.TextAnswer RunFault = Err fault in r) ≡ Err faults.Write → ⊥)
-    → now.failures ≡ failures_after fault start.failures
-    → GaveAtMost (limits.log + 1) start now
-    → WritesText limits (record {
-      source_before = start;
-      source_after = now;
-      sink_before = told;
-      sink_after = told;
-    }) n uri (Err fault)
-text_broke limits start now told n uri fault never source limit = record {
-  written = tt;
-  read_fault = λ e. refl;
-  memory = λ e. refl;
-  write_fault = λ e. absurd (never (ap Err (same e)));
-  counts = record {
-    source_failures = source;
-    sink_failures = unwritten fault (λ e. never (ap Err e));
-    limit = limit;
-  };
-} where
-  same : (let r : Result Outcome RunFault = Err fault in r) ≡ Err faults.Write
-      → fault ≡ faults.Write
-  same e = cc e
-
-  unwritten : (f : RunFault) → (f ≡ faults.Write → ⊥)
-      → told.failures ≡ sink_failures_after f told.failures
-  unwritten faults.Read never = refl
-  unwritten faults.Write never = absurd (never refl)
-  unwritten faults.Memory never = refl
-
--- the text was not written
-pub text_stopped : (limits : Bounds) (io : Ports) (n : ℕ) (uri : List ℕ)
-    → OutputFor limits io (λ log. BeginsText limits log n uri)
-    → io.source_after.failures ≡ io.source_before.failures
-    → io.sink_after.failures ≡ after_failure io.sink_before.failures
-    → WritesText limits io n uri (Err faults.Write)
-text_stopped limits io n uri begun source sink = record {
-  written = tt;
-  read_fault = λ e. absurd (cc e);
-  memory = λ e. absurd (cc e);
-  write_fault = λ e. begun;
-  counts = record {
-    source_failures = source;
-    sink_failures = sink;
-    limit = read_within _ _ _ _ begun.2;
-  };
+-- reading broke off
+pub no_answer : (limits : Bounds) (start now : Told) (heard : List Event) (fault : RunFault)
+    → BrokeOff limits start now heard fault → BreaksOff limits start now fault
+no_answer limits start now heard fault broke = record {
+  of_read = read_map limits start now (BeginsWith limits heard) (λ log. Unit {0})
+      (λ log begins. tt) broke.of_read;
+  failures = broke.failures;
+  unwritten = broke.unwritten;
 }

@@ -5,7 +5,6 @@ pub mod Heard
 pub mod Standing
 pub mod Judging
 pub mod Ending
-pub mod TextAnswers
 pub mod LogEvents
 pub mod ShownLog
 pub mod UpgradedLog

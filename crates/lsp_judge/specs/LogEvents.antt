@@ -19,10 +19,7 @@ use Rattle.lsp_verdict.specs.declared.completeness.Completeness.TheVariants.{Ign
 use Rattle.lsp_verdict.specs.declared.outcome.RunFault.{RunFault}
 use Rattle.lsp_verdict.specs.declared.verdict.Verdict as code
 use Rattle.lsp_verdict.specs.declared.outcome.RunFault.TheVariants as faults
-use Rattle.lsp_verdict.specs.TextAfter.{AnswersText}
 use Rattle.lsp_judge.specs.Heard.{HasHeard}
-use Rattle.lsp_judge.specs.TextAnswers.{answer_view}
-use Rattle.lsp_judge.specs.declared.text_answer.TextAnswer.{TextAnswer}
 use Rattle.lsp_judge.specs.declared.event_reader.EventReader.{EventReader}
 
 -- ---- logs
@@ -100,10 +97,3 @@ GivesVerdict completeness limits start now (Ok v) =
     OfRead limits start now (λ log. IsVerdictBy completeness limits log (verdict_view v))
     × (now.failures ≡ start.failures)
 GivesVerdict completeness limits start now (Err fault) = BrokeOff limits start now [] fault
-
--- the answer for a text on the log read, or why there is none
-abbrev pub GivesText : Bounds → Told → Told → ℕ → List ℕ → Result TextAnswer RunFault → Type 0
-GivesText limits start now n uri (Ok answer) =
-    OfRead limits start now (λ log. AnswersText limits log n uri (answer_view answer))
-    × (now.failures ≡ start.failures)
-GivesText limits start now n uri (Err fault) = BrokeOff limits start now [] fault

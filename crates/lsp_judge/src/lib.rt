@@ -18,7 +18,6 @@ mod ruling;
 mod show;
 mod show_laws;
 mod text;
-mod text_answer;
 mod upgrade;
 
 pub use check::{run_check, run_check_complete};
@@ -26,9 +25,9 @@ pub use judge::Judge;
 pub use lsp_frame::{Format, Input, Limits, Output};
 pub use lsp_log::LogCode;
 pub use lsp_replay::{
-    EventOutcome, event_is_numbered, normal_form_keeps_events, normal_form_keeps_verdict,
-    normal_form_stays, one_event, one_normal_form, one_run, run_event, run_frames, run_normal,
-    some_event, some_normal_form, some_run,
+    EventOutcome, TextAnswer, event_is_numbered, normal_form_keeps_events,
+    normal_form_keeps_verdict, normal_form_stays, one_event, one_normal_form, one_run, run_event,
+    run_frames, run_normal, some_event, some_normal_form, some_run,
 };
 pub use lsp_verdict::{
     Completeness, Lines, Mode, OpenDocument, Outcome, RunFault, StreamFault, Summary, Verdict, Who,
@@ -43,5 +42,4 @@ pub use lsp_verdict::{
 pub use show::{run_show, run_show_long};
 pub use show_laws::one_shown;
 pub use text::{run_text, text_after};
-pub use text_answer::TextAnswer;
 pub use upgrade::run_upgrade;

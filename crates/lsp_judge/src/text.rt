@@ -1,15 +1,12 @@
 //! The text that is held after a message of the editor's.
-ghost use Rattle.std.specs.Prelude.{◌≡◌, ◌<◌, ◌+◌, Err, IfOk};
-ghost use Rattle.lsp_verdict.specs.RunIo.{OfRead, GaveAtMost, source_failures};
+ghost use Rattle.std.specs.Prelude.{◌<◌};
+ghost use Rattle.lsp_replay.specs.TextAnswers.{FindsText, WritesText};
 ghost use Rattle.lsp_verdict.specs.TextAfter.{AnswersText};
-ghost use Rattle.lsp_judge.specs.TextAnswers.{WritesText, answer_view};
-ghost use Rattle.lsp_judge.specs.LogEvents.{GivesText};
 
 use crate::contents::hear;
 use crate::event_reader::EventReader;
-use crate::text_answer::TextAnswer;
-use lsp_frame::{Limits, Sink, Source, put_all};
-use lsp_replay::Next;
+use lsp_frame::{Limits, Sink, Source};
+use lsp_replay::{Next, TextAnswer};
 use lsp_verdict::{Completeness, Outcome, RunFault};
 use std::alloc::Global;
 
@@ -31,28 +28,8 @@ pub fn text_after<R: Source>(
 ) -> Result<TextAnswer, RunFault>
     requires { 0 < number }
     // The answer is that of the log read, however it continues where its end was not met.
-    ensures answer { IfOk result (λ answer. OfRead limits (R.told reader.old) (R.told reader.new)
-        (λ log. AnswersText limits log number uri.now (answer_view answer))) }
-    ensures no_write_fault { result ≡ Err RunFault.Write → ⊥ }
-    ensures source_failures { (R.told reader.new).failures
-        ≡ source_failures result (R.told reader.old).failures }
-    // At most one byte past the limit is read.
-    ensures limit { GaveAtMost (limits.log + 1) (R.told reader.old) (R.told reader.new) }
-{
-    text_by(alloc, reader, limits, number, uri)
-}
-
-/// Hears the events of a log up to the editor's message of this number, and answers for the text
-/// that is held just after it.
-fn text_by<R: Source>(
-    alloc: Global,
-    reader: &mut R,
-    limits: Limits,
-    number: u64,
-    uri: &str,
-) -> Result<TextAnswer, RunFault>
-    requires { 0 < number }
-    ensures { GivesText limits (R.told reader.old) (R.told reader.new) number uri.now result }
+    ensures { FindsText limits (R.told reader.old) (R.told reader.new)
+        (λ log. AnswersText limits log number uri.now) result }
 {
     let mut events = EventReader::open(alloc, reader, limits, Completeness::Ignored)?;
     loop {
@@ -89,15 +66,8 @@ pub fn run_text<R: Source, W: Sink>(
       source_after = R.told reader.new;
       sink_before = W.told writer.old;
       sink_after = W.told writer.new;
-    }) number uri.now result }
+    }) (λ log. AnswersText limits log number uri.now) result }
 {
-    match text_after(alloc, reader, limits, number, uri)? {
-        TextAnswer::Text(text) => {
-            put_all(writer, text.as_bytes())?;
-            Ok(Outcome::Done)
-        }
-        TextAnswer::NoDocument => Ok(Outcome::NoDocument),
-        TextAnswer::TooFew => Ok(Outcome::TooFew),
-        TextAnswer::Refused(verdict) => Ok(Outcome::Judged(verdict)),
-    }
+    let answer = text_after(alloc, reader, limits, number, uri)?;
+    answer.write(writer)
 }

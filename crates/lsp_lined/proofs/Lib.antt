@@ -5,6 +5,7 @@ pub mod EndCounts
 pub mod EndPlaces
 pub mod EndsBefore
 pub mod Exchanges
+pub mod FurtherPlaces
 pub mod HeldText
 pub mod LentPlaces
 pub mod LineEnds

@@ -9,6 +9,7 @@ ghost use Rattle.std.specs.String.{string_bytes};
 ghost use Rattle.lsp_text.specs.Places.{units, place_in_line};
 ghost use Rattle.lsp_text.specs.Offsets.{IsOffset};
 ghost use Rattle.lsp_lined.specs.Ends.{ends_in, ends_with_return, moved_place, CanMove, IsLineEnd};
+ghost use Rattle.lsp_lined.specs.Ends.{IsNear};
 ghost use Rattle.lsp_lined.specs.Sums.{sums_of};
 ghost use Rattle.lsp_text.specs.SameText.{BeginsOtherwise, due, with_feeds};
 ghost use Rattle.lsp_lined.specs.Parts.{CanReplace, IsReplacedOr, KeepsEnds};
@@ -29,36 +30,13 @@ const FULL: usize = 2048;
 /// The bytes of a block, at most.
 const MOST: usize = 4096;
 
-/// The bytes by which a copy that is edited may grow in place.
-const ROOM: usize = 64;
-
-/// A text, the places after its line ends, and its sums. It is copied in order to be edited, so
-/// that the copy has room for more.
+/// A text, the places after its line ends, and its sums.
 #[derive(Drop)]
 struct BlockText {
     text: String,
     places: Vec<u16>,
     sums: Sums,
     alloc: Global,
-}
-
-impl Clone for BlockText {
-    ghost is_clone = { λ old copy. (string_bytes copy.text ≡ string_bytes old.text)
-        × (copy.places.items ≡ old.places.items) × (copy.sums ≡ old.sums) };
-
-    ghost use Rattle.std.specs.String.{string_bytes};
-
-    fn clone(&self) -> Result<BlockText, AllocError> {
-        let held = self.text.as_str();
-        let mut text = String::with_capacity(self.alloc, held.len().saturating_add(ROOM))?;
-        text.push_str(held)?;
-        Ok(BlockText {
-            text,
-            places: Vec::from_slice(self.alloc, &self.places)?,
-            sums: self.sums,
-            alloc: self.alloc,
-        })
-    }
 }
 
 /// A piece of a text, which texts share. It is one pointer, so that tables of blocks are short.
@@ -130,6 +108,11 @@ impl Part for Block {
         width_of(front, encoding)
     }
 
+    fn rest_of_block(&self, offset: usize) -> &str {
+        let (_, rest) = self.as_str().split_at(offset);
+        rest
+    }
+
     fn replace(&mut self, from: usize, to: usize, inserted: &str) -> Result<bool, AllocError> {
         if inserted.len() > MOST - self.as_str().len() {
             return Ok(false);
@@ -189,9 +172,7 @@ impl Block {
         ensures { IfOk result (λ block. block ≡ replace_range self.now from to text.now) }
     {
         let held: &BlockText = &self.text;
-        let mut whole = String::with_capacity(held.alloc, MOST)?;
-        whole.push_str(held.text.as_str())?;
-        whole.replace_range(from..to, text)?;
+        let whole = spliced(held, from, to, text)?;
         Block::new(held.alloc, whole.as_str())
     }
 }
@@ -245,7 +226,9 @@ fn replace_shared(
         ≡ shared.old.value.places.items) }
     ensures err_sums { OnErr result (shared.new.value.sums ≡ shared.old.value.sums) }
 {
-    let own = Rc::make_mut(shared)?;
+    let Some(own) = Rc::get_mut(shared) else {
+        return replace_copied(shared, from, to, text, sums);
+    };
     own.text.replace_range(from..to, text)?;
     move_places(
         &mut own.places,
@@ -255,6 +238,60 @@ fn replace_shared(
     );
     own.sums = sums;
     Ok(())
+}
+
+/// The same where others may hold the text: in a copy, which is made with the bytes replaced.
+fn replace_copied(
+    shared: &mut Rc<BlockText>,
+    from: usize,
+    to: usize,
+    text: &str,
+    sums: Sums,
+) -> Result<(), AllocError>
+    requires can { CanReplace (string_bytes shared.old.value.text) from to }
+    requires room { length (string_bytes shared.old.value.text) + length text.now ≤ MOST }
+    requires moves { EachIndex shared.old.value.places.items
+        (λ k. CanMove from (to - from) (length text.now)
+        (slice_index shared.old.value.places.items k)) }
+    ensures text { OnOk result (string_bytes shared.new.value.text
+        ≡ replace_range (string_bytes shared.old.value.text) from to text.now) }
+    ensures places { OnOk result (shared.new.value.places.items
+        ≡ map (moved_place from (to - from) (length text.now)) shared.old.value.places.items) }
+    ensures sums { OnOk result (shared.new.value.sums ≡ sums) }
+    ensures err { OnErr result (shared.new.value ≡ shared.old.value) }
+{
+    let held: &BlockText = shared;
+    let mut copy = BlockText {
+        text: spliced(held, from, to, text)?,
+        places: Vec::from_slice(held.alloc, &held.places)?,
+        sums,
+        alloc: held.alloc,
+    };
+    move_places(
+        &mut copy.places,
+        from as u16,
+        (to - from) as u16,
+        text.len() as u16,
+    );
+    *shared = Rc::new(copy.alloc, copy)?;
+    Ok(())
+}
+
+/// The text of a block with some bytes replaced by another, and room for as much as a block may
+/// hold: it grows in place, and copies that come and go as versions do take memory of one size.
+fn spliced(held: &BlockText, from: usize, to: usize, text: &str) -> Result<String, AllocError>
+    requires { CanReplace (string_bytes held.now.text) from to }
+    ensures { IfOk result (λ whole. string_bytes whole
+        ≡ replace_range (string_bytes held.now.text) from to text.now) }
+{
+    let old = held.text.as_str();
+    let (front, _) = old.split_at(from);
+    let (_, back) = old.split_at(to);
+    let mut whole = String::with_capacity(held.alloc, MOST)?;
+    whole.push_str(front)?;
+    whole.push_str(text)?;
+    whole.push_str(back)?;
+    Ok(whole)
 }
 
 /// Cuts a text into blocks after others.

@@ -11,8 +11,8 @@ ghost use Rattle.lsp_lined.specs.Chunks.{HoldReplacedOr, HoldTheSame};
 
 use crate::block::{Block, cut_into};
 use crate::part::{
-    LineEnd, Part, find, find_before, line_end_in, offset_in, push_all, replace_in, share_into,
-    strip_all, sums_in, take_all, units_before_in,
+    LineEnd, Part, find, find_before, line_end_in, offset_in, push_all, replace_in, rest_in,
+    share_into, strip_all, sums_in, take_all, units_before_in,
 };
 use crate::sums::{Measure, Sums};
 use lsp_text::LinesLeft;
@@ -93,6 +93,10 @@ impl Part for Chunk {
 
     fn units_before(&self, encoding: Encoding, offset: usize) -> u64 {
         units_before_in(held(&self.blocks), encoding, offset)
+    }
+
+    fn rest_of_block(&self, offset: usize) -> &str {
+        rest_in(held(&self.blocks), offset)
     }
 
     fn replace(&mut self, from: usize, to: usize, inserted: &str) -> Result<bool, AllocError> {

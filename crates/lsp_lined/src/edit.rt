@@ -1,7 +1,8 @@
-//! Edits of kept lines, which see held bytes by `Lines::read` alone.
+//! Edits of kept lines, which see held bytes by `Lines::read`, and by `Lines::further` on a line
+//! that was read.
 
 ghost use Rattle.std.specs.Prelude.{◌≡◌, ◌<◌, ◌≤◌, ◌+◌, ◌*◌, ◌^◌, Ok, None, length, MatchOption};
-ghost use Rattle.std.specs.Prelude.{OnOk, OnErr, IfErr, IsTrue, ◌↔◌};
+ghost use Rattle.std.specs.Prelude.{OnOk, OnErr, IfSome, IfErr, IsTrue, ◌↔◌};
 ghost use Rattle.std.specs.Str.{chars};
 ghost use Rattle.lsp_text.specs.Places.{place_of};
 ghost use Rattle.lsp_text.specs.Offsets.{IsTextOffset};
@@ -11,6 +12,10 @@ ghost use Rattle.lsp_lined.specs.Steps.{raised, RisesWithin, line_bytes, line_nu
 use crate::lined::lines::{Lines, Steps};
 use lsp_text::TextFault;
 use lsp_types::{Encoding, Position, Span, rules};
+
+/// The units after the first position of a span, at most, for which its second is looked for from
+/// the first on.
+const NEAR: u32 = 256;
 
 /// Replaces what the span holds: 605, then 606, then 607 where the result is over the limit.
 pub(crate) fn edit(
@@ -86,7 +91,27 @@ fn find_second(
     if span.second == span.first {
         return Some(first);
     }
+    if let Some(second) = find_further(lines, encoding, span, first) {
+        return Some(second);
+    }
     find(lines, encoding, span.second, steps)
+}
+
+/// The bytes before the second position of a span, if it is a little further on the line of the
+/// first, which was read.
+fn find_further(lines: &Lines, encoding: Encoding, span: Span, first: usize) -> Option<usize>
+    requires { IsTextOffset encoding lines.now span.first first }
+    ensures { IfSome result (IsTextOffset encoding lines.now span.second) }
+{
+    let Position { line, column } = span.second;
+    if line != span.first.line || column <= span.first.column {
+        return None;
+    }
+    let units = column - span.first.column;
+    if units > NEAR {
+        return None;
+    }
+    lines.further(encoding, first, units)
 }
 
 /// Whether the bytes of a text and of an insertion are over the limit.

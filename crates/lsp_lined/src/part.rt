@@ -1,13 +1,13 @@
 //! Parts of a text, one after another: the blocks of a chunk, and the chunks of a text.
 
 ghost use Rattle.std.specs.Prelude.{◌≡◌, ◌+◌, ◌-◌, ◌<◌, ◌≤◌, ◌^◌, ◌++◌, ℕ, List, length, take, map};
-ghost use Rattle.std.specs.Prelude.{None, MatchOption, IfSome, IfOk, OnOk, OnErr};
+ghost use Rattle.std.specs.Prelude.{drop, false, None, MatchOption, IfSome, IfOk, OnOk, OnErr};
 ghost use Rattle.std.specs.List.{replace_range};
 ghost use Rattle.std.specs.Str.{chars, IsUtf8, IsCharBoundary};
 ghost use Rattle.std.specs.String.{string_bytes};
 ghost use Rattle.lsp_text.specs.Places.{units, place_in_line};
 ghost use Rattle.lsp_text.specs.Offsets.{IsOffset};
-ghost use Rattle.lsp_lined.specs.Ends.{ends_in, IsLineEnd};
+ghost use Rattle.lsp_lined.specs.Ends.{ends_in, IsLineEnd, IsNear};
 ghost use Rattle.lsp_lined.specs.Sums.{sums_of};
 ghost use Rattle.lsp_text.specs.SameText.{BeginsOtherwise, due, with_feeds};
 ghost use Rattle.lsp_lined.specs.Parts.{joined, AreParts, CanReplace};
@@ -58,6 +58,11 @@ pub(crate) trait Part: Drop {
     fn units_before(&self, encoding: Encoding, offset: usize) -> u64
         requires { IsCharBoundary (text self.now) offset }
         ensures { result ≡ units encoding (chars (take offset (text self.now))) };
+
+    /// What comes after a place in its block.
+    fn rest_of_block(&self, offset: usize) -> &str
+        requires { IsCharBoundary (text self.now) offset }
+        ensures { IsNear (drop offset (text self.now)) result.now false };
 
     /// Replaces some bytes by a text, in a part of its own, if it has room. Answers
     /// whether it did.
@@ -248,6 +253,18 @@ pub(crate) fn units_before_in<T: Part>(parts: &[T], encoding: Encoding, offset: 
     let found = find(parts, Measure::Units(Encoding::Utf8), offset as u64);
     let before = sums_in(&parts[..found.index]).by(Measure::Units(encoding));
     before + parts[found.index].units_before(encoding, found.left as usize)
+}
+
+/// What comes after a place in its block.
+pub(crate) fn rest_in<T: Part>(parts: &[T], offset: usize) -> &str
+    requires parts { AreParts (map T.text parts.now) }
+    requires some { 0 < length parts.now }
+    requires fits { length (joined (map T.text parts.now)) < 2 ^ 64 }
+    requires boundary { IsCharBoundary (joined (map T.text parts.now)) offset }
+    ensures { IsNear (drop offset (joined (map T.text parts.now))) result.now false }
+{
+    let found = find(parts, Measure::Units(Encoding::Utf8), offset as u64);
+    parts[found.index].rest_of_block(found.left as usize)
 }
 
 /// Writes parts after a text.

@@ -35,7 +35,8 @@ use Rattle.lsp_verdict.specs.Contents.{IsSent, ReadsAs}
 use Rattle.lsp_verdict.specs.Event.{Event, message, fault as broken, snapshot, sent_in}
 use Rattle.lsp_replay.specs.Faults.{of_content, of_message, of_call, of_snapshot, refused_by}
 use Rattle.lsp_replay.specs.Faults.{rule_of}
-use Rattle.lsp_replay.specs.Standing.{Hears, Refuses, RefusesBy, RefusesContent, RefusesSnapshot}
+use Rattle.lsp_replay.specs.Standing.{HasValue, Hears, Refuses, RefusesBy, RefusesContent}
+use Rattle.lsp_replay.specs.Standing.{RefusesSnapshot}
 use Rattle.lsp_replay.specs.declared.fault.Fault.{Fault}
 use Rattle.lsp_replay.specs.declared.fault.Fault.TheVariants as own
 use Rattle.lsp_replay.specs.declared.fault.Refused.{Refused}
@@ -95,8 +96,9 @@ module _ (side : Side) (bytes : List ℕ) (terms : Terms) (events : List Event) 
 
     -- its call is accepted
     pub heard : (messages : session.State) (documents : docs.State) → option_and_then (call_rule terms (calls events)) (call_of enc kind m.act) ≡ None
-        → session.Stands messages (sent_in events ++ m ∷ []) → docs.Stands documents (calls events ++ cons_option (call_of enc kind m.act) []) → Hears side bytes said m.act terms messages documents events
-    heard messages documents accepted sent called = record {
+        → session.Stands messages (sent_in events ++ m ∷ []) → docs.Stands documents (calls events ++ cons_option (call_of enc kind m.act) [])
+        → HasValue events said m.message → Hears side bytes said m.act terms messages documents events
+    heard messages documents accepted sent called has_value = record {
       sent = m;
       reads = is;
       says = says;
@@ -109,6 +111,7 @@ module _ (side : Side) (bytes : List ℕ) (terms : Terms) (events : List Event) 
             ∙ ap (λ x. calls events ++ cons_option (call_of (unwrap_or (encoding (sent_in events)) Utf16) x m.act) []) k
             ∙ sym (each_of-snoc call_at events (message m))) called;
       };
+      has_value = has_value;
     }
 
 -- ---- refusals

@@ -2,6 +2,8 @@ pub mod Edits
 pub mod Apart
 pub mod Hearing
 pub mod Following
+pub mod Reached
+pub mod TextRuns
 pub mod Listing
 pub mod SameLimits
 pub mod Framing

@@ -2,6 +2,7 @@ pub mod Apart
 pub mod Faults
 pub mod Standing
 pub mod Lines
+pub mod TextAnswers
 pub mod StreamParts
 pub mod StreamRun
 pub mod StreamSteps

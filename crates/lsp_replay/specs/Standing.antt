@@ -45,6 +45,12 @@ pub record Follows (messages : session.State) (documents : docs.State) (counts :
 
 -- ---- a content
 
+-- after these events the message is the whole one without its params; or no `initialize` is open,
+-- and the value of its result, which nothing then reads, may be left out
+abbrev pub HasValue : List Event → rpc.Message → rpc.Message → Type 0
+HasValue events said whole =
+    (open_initializes (sent_in events) ≡ []) ⊎ (said ≡ without_params whole)
+
 -- the content is this message, but for its params and the value of a result, and means this act; it
 -- doesn't offend, and what is held is the result of the events with it
 pub record Hears (side : Side) (bytes : List ℕ) (said : rpc.Message) (act : Act) (terms : Terms)
@@ -55,9 +61,10 @@ pub record Hears (side : Side) (bytes : List ℕ) (said : rpc.Message) (act : Ac
   pub means : sent.act ≡ act
   pub clean : offence terms events (message sent) ≡ None
   pub holds : Holds messages documents (events ++ message sent ∷ [])
+  pub has_value : HasValue events said sent.message
 
 -- the content is this message, but for its params and the value of a result, and means this act; it
--- offends this rule. Where an `initialize` is open, the value of a result is there
+-- offends this rule
 pub record RefusesMessage (side : Side) (bytes : List ℕ) (said : rpc.Message) (act : Act)
     (terms : Terms) (events : List Event) (rule : ℕ) : Type 0 where
   pub sent : Sent
@@ -65,7 +72,7 @@ pub record RefusesMessage (side : Side) (bytes : List ℕ) (said : rpc.Message) 
   pub says : outline sent.message ≡ outline said
   pub means : sent.act ≡ act
   pub offends : offence terms events (message sent) ≡ Some rule
-  pub whole : (open_initializes (sent_in events) ≡ []) ⊎ (said ≡ without_params sent.message)
+  pub whole : HasValue events said sent.message
 
 -- the message that the content is offends the rule of this fault, unless memory ran out
 abbrev pub RefusesBy : Side → List ℕ → rpc.Message → Act → Terms → List Event → Fault → Type 0
@@ -90,6 +97,12 @@ AnswersAs terms events (heard.Snapshot version uri text answer) =
     answer ≡ answer_of version (kept terms uri.now (calls events))
     (held terms uri.now (calls events))
 
+-- a message that was heard has the value of its result, where that is read
+abbrev pub HeardWhole : List Event → Event → Heard → Type 0
+HeardWhole events (message sent) (heard.Message side spoken) =
+    HasValue events (message_view spoken.message) sent.message
+HeardWhole events event given = Unit {0}
+
 -- **the next event is kept**: it doesn't offend after these events, what is held is their
 -- result with it, and it is counted
 pub record Keeps (raw : Raw) (terms : Terms) (before : Counts) (given : Heard)
@@ -99,6 +112,7 @@ pub record Keeps (raw : Raw) (terms : Terms) (before : Counts) (given : Heard)
   pub reads : Reads raw event
   pub is_heard : IsHeard event given
   pub answers : AnswersAs terms events given
+  pub whole : HeardWhole events event given
   pub clean : offence terms events event ≡ None
   pub holds : Holds messages documents (events ++ event ∷ [])
   -- also where more events were counted, which were refused

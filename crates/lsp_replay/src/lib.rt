@@ -23,15 +23,15 @@ mod pieces;
 mod stream_laws;
 mod streams;
 mod summary;
+mod text_answer;
 
-pub use events::Events;
-pub use fault::Refused;
-pub use heard::{EventPlace, Heard};
-pub use lines::write_event_line;
-pub use summary::summary_of;
 pub use event::{EventOutcome, run_event};
 pub use event_laws::{event_is_numbered, one_event, some_event};
+pub use events::Events;
+pub use fault::Refused;
 pub use frames::run_frames;
+pub use heard::{EventPlace, Heard};
+pub use lines::write_event_line;
 pub use log_events::{End, LogEvents, Next};
 pub use normal::run_normal;
 pub use normal_laws::{
@@ -40,3 +40,5 @@ pub use normal_laws::{
 };
 pub use stream_laws::{one_run, some_run};
 pub use streams::Streams;
+pub use summary::summary_of;
+pub use text_answer::TextAnswer;

@@ -1,25 +1,21 @@
 -- The requests of one side, with one message more.
-use Rattle.std.specs.Prelude.{drop, length, map, nat_lt, if◌then◌else◌}
+use Rattle.std.specs.Prelude.{if◌then◌else◌}
 use Rattle.std.specs.List.{cons_option, filter_map}
 use Rattle.std.specs.Map.{lookup}
 use Rattle.std.specs.Option.{option_or}
 use Rattle.std.proofs.Common.{◌≡◌, ℕ, Bool, true, false, cond, List, [], ◌∷◌}
 use Rattle.std.proofs.Common.{◌++◌, Option, Some, None, refl, sym, ap, ◌∙◌, inl, inr, arith}
 use Rattle.std.proofs.lemmas.Bool.{cases_Bool}
-use Rattle.std.proofs.lemmas.List.{map-append, length-map, drop-map}
 use Rattle.lsp_rpc.specs.Ident.{Ident, id_view, same_id}
 use Rattle.lsp_rpc.specs.declared.message.Id.{Id}
 use Rattle.lsp_verdict.specs.Offences.{last_or}
-use Rattle.lsp_survey.specs.Asking.{Reply, most_replies, reply_to, last_reply}
-use Rattle.lsp_survey.specs.LastOnes.{last_ones}
-use Rattle.lsp_survey.proofs.LastOnes.{last_behind_all}
-use Rattle.lsp_survey.specs.SessionNoting.{asked_in, given_view, room_in}
-use Rattle.lsp_survey.specs.declared.notes.exchange.Given.{Given}
+use Rattle.lsp_survey.specs.Asking.{Reply, reply_to, last_reply}
+use Rattle.lsp_survey.specs.SessionNoting.{asked_in}
 
 -- ---- a map by ids
 
-pub lookup_in : (t : Id → Bool) (id : Ident) → ((k : Id) → t k ≡ same_id id (id_view k))
-    → (es : List (Id × ℕ)) → lookup t es ≡ asked_in es id
+pub lookup_in : {X : Type 0} (t : Id → Bool) (id : Ident) → ((k : Id) → t k ≡ same_id id (id_view k))
+    → (es : List (Id × X)) → lookup t es ≡ asked_in es id
 lookup_in t id agrees [] = refl
 lookup_in t id agrees (e ∷ es) =
     elim (cases_Bool (t e.0)) [
@@ -28,39 +24,20 @@ lookup_in t id agrees (e ∷ es) =
     ]
 
 -- what the map's own words say of a change
-pub updates_in : (eq : Id → Id → Bool) → ((a b : Id) → eq a b ≡ same_id (id_view a) (id_view b))
+pub updates_in : {X : Type 0} (eq : Id → Id → Bool) → ((a b : Id) → eq a b ≡ same_id (id_view a) (id_view b))
     → (id : Ident) (t : Id → Bool) → ((q : Id) → t q ≡ same_id id (id_view q))
-    → (w : Option ℕ) (old new : List (Id × ℕ))
+    → (w : Option X) (old new : List (Id × X))
     → ((q : Id) → lookup (eq q) new ≡ cond (t q) w (lookup (eq q) old))
     → (k : Id) → asked_in new (id_view k) ≡ (if same_id id (id_view k) then w else asked_in old
     (id_view k))
-updates_in eq agrees id t at w old new says k =
+updates_in {X} eq agrees id t at w old new says k =
     sym (lookup_in (eq k) (id_view k) (agrees k) new)
     ∙ says k
     ∙ ap (λ (b : Bool). cond b w (lookup (eq k) old)) (at k)
-    ∙ ap (λ (o : Option ℕ). cond (same_id id (id_view k)) w o)
+    ∙ ap (λ (o : Option X). cond (same_id id (id_view k)) w o)
     (lookup_in (eq k) (id_view k) (agrees k) old)
 
 -- ---- answers
-
--- one more answer, after what is left of those held
-pub pushed : (old mid new : List Given) (g : Given) (given : List Reply) → mid ≡ room_in old
-    → new ≡ mid ++ g ∷ [] → map given_view old ≡ last_ones most_replies given
-    → map given_view new ≡ last_ones most_replies (given ++ given_view g ∷ [])
-pushed old mid new g given room more are =
-    ap (map given_view) (more ∙ ap (λ (l : List Given). l ++ g ∷ []) room)
-    ∙ map-append given_view (room_in old) (g ∷ [])
-    ∙ ap (λ (l : List Reply). l ++ given_view g ∷ []) (by_test (nat_lt (length old) most_replies))
-    ∙ ap (λ (n : ℕ). (if nat_lt n most_replies then map given_view old else drop 1
-    (map given_view old)) ++ given_view g ∷ []) (sym (length-map old given_view))
-    ∙ ap (λ (l : List Reply). (if nat_lt (length l) most_replies then l else drop 1 l) ++ given_view
-    g ∷ []) are
-    ∙ sym (last_behind_all most_replies given (given_view g) (omega arith))
-  where
-    by_test : (b : Bool) → map given_view (if b then old else drop 1 old)
-        ≡ (if b then map given_view old else drop 1 (map given_view old))
-    by_test true = refl
-    by_test false = sym (drop-map given_view 1 old)
 
 -- each of these is there
 abbrev AllSome : List (Option ℕ) → Type 0

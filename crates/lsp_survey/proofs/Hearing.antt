@@ -1,6 +1,6 @@
 -- How a walk goes on: with an event that is kept, and with one that offends.
 use Rattle.std.specs.Prelude.{unwrap_or, chars, ℤ}
-use Rattle.std.proofs.Common.{◌≡◌, ℕ, Bool, false, List, [], ◌∷◌, ◌++◌, Some, None, refl}
+use Rattle.std.proofs.Common.{◌≡◌, ℕ, Bool, false, List, [], ◌∷◌, ◌++◌, Option, Some, None, refl}
 use Rattle.std.proofs.Common.{sym, ap, subst, ◌∙◌}
 use Rattle.std.proofs.lemmas.Option.{same_Some}
 use Rattle.lsp_docs.specs.Calls.{Call, shows}
@@ -11,30 +11,35 @@ use Rattle.lsp_docs.specs.declared.snapshot.Match.{Match}
 use Rattle.lsp_docs.specs.Terms.{Terms}
 use Rattle.lsp_replay.specs.Faults.{rule_of}
 use Rattle.lsp_replay.specs.Lines.{IsHeard}
-use Rattle.lsp_replay.specs.Standing.{AnswersAs, Holds, Keeps}
+use Rattle.lsp_replay.specs.Standing.{AnswersAs, HasValue, HeardWhole, Holds, Keeps}
 use Rattle.lsp_replay.specs.declared.fault.Refused.TheVariants as refused
 use Rattle.lsp_replay.specs.declared.heard.Heard as lent
 use Rattle.lsp_replay.specs.declared.heard.Heard.TheVariants as kept
 use Rattle.lsp_rpc.specs.Act.{Act}
-use Rattle.lsp_rpc.specs.Message.{Message, request, notification, response, result, error}
+use Rattle.lsp_rpc.specs.Ident.{id_view}
+use Rattle.lsp_rpc.specs.Message.{Message}
 use Rattle.lsp_rpc.specs.Outline.{outline}
 use Rattle.lsp_rpc.specs.View.{act_view, message_view}
 use Rattle.lsp_rpc.specs.declared.act.Spoken.{Spoken}
 use Rattle.lsp_session.specs.Negotiation.{encoding, sync_kind}
-use Rattle.lsp_session.specs.Handshake.{phase}
 use Rattle.lsp_session.specs.Sent.{Sent}
 use Rattle.lsp_session.specs.State as session
 use Rattle.lsp_docs.specs.State as docs
 use Rattle.lsp_survey.specs.Marking.{number_next}
 use Rattle.lsp_survey.specs.Marks.{AreMarks, DoneBy, ShownBy}
+use Rattle.lsp_survey.specs.Openings.{AreOpenings, OpensBy}
 use Rattle.lsp_survey.specs.SessionNoting.{AreNotes, SaysOn}
 use Rattle.lsp_survey.specs.declared.notes.marks.Marks.{Marks}
 use Rattle.lsp_survey.specs.declared.notes.note.Notes.{Notes}
+use Rattle.lsp_survey.specs.declared.notes.openings.Openings.{Openings}
+use Rattle.lsp_survey.specs.declared.notes.passed.Passed.{Passed}
 use Rattle.lsp_survey.specs.declared.notes.session_notes.SessionNotes.{SessionNotes}
-use Rattle.lsp_survey.specs.Notes.{AreAfter, asks_of, note_in}
+use Rattle.lsp_survey.specs.declared.notes.sides.Sides.{Sides}
+use Rattle.lsp_survey.specs.Notes.{AreAfter, note_in}
 use Rattle.lsp_survey.specs.Walking.{Walks, WalksBy, IsRefused, IsShown, IsUnread, PassesOver}
 use Rattle.lsp_survey.specs.Walking.{IsMessageOf, IsOffending, Hears, NotesKept, NotesMessage}
 use Rattle.lsp_survey.specs.Walking.{NotesSnapshot}
+use Rattle.lsp_survey.specs.Passed.{has_passed}
 use Rattle.lsp_survey.specs.Sides.{sides_read}
 use Rattle.lsp_survey.specs.declared.offending.Judged.{Judged}
 use Rattle.lsp_survey.specs.declared.offending.Judged.TheVariants as heard
@@ -50,38 +55,23 @@ use Rattle.lsp_verdict.specs.Counting.{AreCounts}
 use Rattle.lsp_verdict.specs.declared.counts.Counts.{Counts}
 use Rattle.lsp_verdict.specs.Contents.{IsSent}
 use Rattle.lsp_verdict.specs.Event.{Event, message, fault, snapshot, sent_in}
-use Rattle.lsp_verdict.specs.Offences.{Noted, Asks, asks_handshake, events_of, kept_of, rule_at}
+use Rattle.lsp_verdict.specs.Offences.{Noted, IsMalformed, IsReading, events_of, kept_of, rule_at}
 use Rattle.lsp_verdict.specs.Placed.{Raw, content, broken, show, Reads}
 use Rattle.lsp_verdict.specs.Verdict.{offence, who_of}
 use Rattle.lsp_verdict.specs.declared.verdict.Who.TheVariants as who
-use Rattle.lsp_verdict.proofs.Offences.Surveying.{by_asking}
 use Rattle.lsp_verdict.proofs.Offences.Steps.{kept-push}
 use Rattle.lsp_survey.proofs.MarkSteps.{act_done, shown_done}
 use Rattle.lsp_survey.proofs.Noting.{notes_stay}
+use Rattle.lsp_survey.proofs.OpeningSteps.{act_opened, shown_opened}
 use Rattle.lsp_survey.proofs.Passing.{passed_over, kept_on}
 use Rattle.lsp_survey.proofs.SessionSteps.{message_noted, other_unsaid}
-
--- ---- an `initialize`
-
-asks_alike : (m : Message) → asks_handshake (outline m) ≡ asks_handshake m
-asks_alike (request id method params) = refl
-asks_alike (notification method params) = refl
-asks_alike (response id (result value)) = refl
-asks_alike (response id (error code)) = refl
-
-asks_said : (side : Side) (bytes : List ℕ) (sent : Sent) (said : Message) → IsSent side bytes sent
-    → outline sent.message ≡ outline said → Asks (content side bytes) (asks_of side said)
-asks_said Editor bytes sent said is same =
-    by_asking bytes sent.message (asks_handshake said) is.reads
-    (sym (asks_alike sent.message) ∙ ap asks_handshake same ∙ asks_alike said)
-asks_said Server bytes sent said is same = refl
 
 -- ---- an event that is kept
 
 module _ (old new : Replay) (notes : List Noted) (number : ℕ) (walks : Walks old notes)
     (is_number : number ≡ number_next (events_of notes))
     (terms_are : new.events.docs.terms ≡ old.events.docs.terms)
-    (is_broken : new.broken ≡ old.broken) where
+    (is_broken : new.broken ≡ old.broken) (is_passed : new.passed ≡ old.passed) where
   abbrev terms : Terms
   terms = old.events.docs.terms
 
@@ -93,81 +83,91 @@ module _ (old new : Replay) (notes : List Noted) (number : ℕ) (walks : Walks o
 
   message_heard : (side by : Side) (bytes : List ℕ) (sent : Sent) (said : Message) (act : Act)
       → IsSent side bytes sent → sent.side ≡ by → outline sent.message ≡ outline said
-      → sent.act ≡ act → rule_at terms events (message sent) ≡ None
+      → HasValue before said sent.message → sent.act ≡ act
+      → rule_at terms events (message sent) ≡ None
       → Holds new.events.session new.events.docs (before ++ message sent ∷ [])
       → AreCounts new.events.counts (events ++ message sent ∷ [])
       → NotesMessage number by said act old new
       → Hears (content side bytes) terms new notes heard.Kept
-  message_heard side by bytes sent said act reads is_by says means clean holds counted noted =
+  message_heard side by bytes sent said act reads is_by says has_value means clean holds counted
+      noted =
       let enc = unwrap_or (encoding (sent_in before)) Utf16 in
       let kind = unwrap_or (sync_kind (sent_in before)) Nothing in
       let more : before ++ message sent ∷ [] ≡ kept_of terms (events ++ message sent ∷ []) =
       sym (kept-push terms events (message sent) clean) in
       let told : SaysOn number by said
-      (phase (sent_in (kept_of terms (events ++ message sent ∷ [])))) old.said new.said =
-      subst (λ (es : List Event). SaysOn number by said (phase (sent_in es)) old.said new.said) more
-      (noted.2 (sent_in (before ++ message sent ∷ [])) holds.sent) in
-      let n : Noted = record { event = message sent; asks = asks_of side said } in
+      (sent_in (kept_of terms (events ++ message sent ∷ []))) old.said new.said =
+      subst (λ (es : List Event). SaysOn number by said (sent_in es) old.said new.said) more
+      (noted.3 (sent_in (before ++ message sent ∷ [])) holds.sent) in
+      let n : Noted = record { event = message sent; malformed = None } in
       kept_on (content side bytes) old new notes n (call_of enc kind act) walks
-      (reads, asks_said side bytes sent said reads says) clean (ap (call_of enc kind) means)
+      (reads, refl) clean (ap (call_of enc kind) means)
       terms_are holds counted is_broken
-      (noted.3 ∙ ap (λ (s : Side). sides_read s old.sides) (sym is_by)) (noted.0 enc kind)
+      (noted.4 ∙ ap (λ (s : Side). sides_read s old.sides) (sym is_by)) is_passed
+      (noted.0 enc kind)
       (act_done terms old.marks.map.entries new.marks.map.entries events sent number walks.marked
       clean is_number
       (λ e k. subst (λ (a : Act). DoneBy number (call_of e k a) old.marks.map.entries
       new.marks.map.entries) (sym means) (noted.1 e k)))
+      (act_opened terms old.openings new.openings events sent number walks.opened clean is_number
+      (λ e k. subst (λ (a : Act). OpensBy number (call_of e k a) old.openings new.openings)
+      (sym means) (noted.2 e k)))
       (message_noted terms old.said new.said events sent said number walks.said clean is_number says
+      has_value
       (subst (λ (s : Side). SaysOn number s said
-      (phase (sent_in (kept_of terms (events ++ message sent ∷ [])))) old.said new.said)
+      (sent_in (kept_of terms (events ++ message sent ∷ []))) old.said new.said)
       (sym is_by) told))
 
   snapshot_heard : (raw : Raw) (uri text : List ℕ) (version : ℤ) (answer : Match)
-      → Reads raw (snapshot uri version text) → Asks raw false
+      → Reads raw (snapshot uri version text) → IsMalformed raw (snapshot uri version text) None
       → rule_at terms events (snapshot uri version text) ≡ None
       → Holds new.events.session new.events.docs (before ++ snapshot uri version text ∷ [])
       → AreCounts new.events.counts (events ++ snapshot uri version text ∷ [])
       → answer ≡ answer_of version (kept_versions terms uri (calls before))
       (held terms uri (calls before))
       → NotesSnapshot number uri version answer old new → Hears raw terms new notes heard.Kept
-  snapshot_heard raw uri text version answer reads asks clean holds counted answers noted =
+  snapshot_heard raw uri text version answer reads whole clean holds counted answers noted =
       let call : Call = shows uri version text in
-      let n : Noted = record { event = snapshot uri version text; asks = false } in
-      kept_on raw old new notes n (Some call) walks (reads, asks) clean refl terms_are holds counted
-      is_broken noted.3
-      (subst (λ (w : Notes). AreAfter None (Some call) old.notes.map.entries w.map.entries)
-      (sym noted.0) (notes_stay None call old.notes.map.entries refl))
+      let n : Noted = record { event = snapshot uri version text; malformed = None } in
+      kept_on raw old new notes n (Some call) walks (reads, whole) clean refl terms_are holds counted
+      is_broken noted.4 is_passed
+      (subst (λ (w : Notes). AreAfter (Some call) old.notes.map.entries w.map.entries)
+      (sym noted.0) (notes_stay call old.notes.map.entries refl))
       (shown_done terms old.marks.map.entries new.marks.map.entries events uri version text number
       answer walks.marked clean is_number answers noted.1)
+      (shown_opened terms new.openings events uri version text
+      (subst (λ (o : Openings). AreOpenings terms o events) (sym noted.2) walks.opened) clean)
       (other_unsaid terms new.said events n.event
-      (subst (λ (m : SessionNotes). AreNotes terms m events) (sym noted.2) walks.said) refl)
+      (subst (λ (m : SessionNotes). AreNotes terms m events) (sym noted.3) walks.said) refl)
 
   by_event : (raw : Raw) (given : lent.Heard) (event : Event) → Reads raw event
-      → IsHeard event given → AnswersAs terms before given → offence terms before event ≡ None
+      → IsHeard event given → AnswersAs terms before given → HeardWhole before event given
+      → offence terms before event ≡ None
       → Holds new.events.session new.events.docs (before ++ event ∷ [])
       → AreCounts new.events.counts (events ++ event ∷ []) → NotesKept number given old new
       → Hears raw terms new notes heard.Kept
-  by_event (content side bytes) (kept.Message by spoken) (message sent) reads is answers clean holds
-      counted noted =
+  by_event (content side bytes) (kept.Message by spoken) (message sent) reads is answers whole clean
+      holds counted noted =
       message_heard side by bytes sent (message_view spoken.message) (act_view spoken.act) reads
-      is.0 is.1 is.2 clean holds counted noted
-  by_event (broken side rule) (kept.Message by spoken) (message sent) reads is answers clean holds
-      counted noted = absurd cc
-  by_event (show n uri text) (kept.Message by spoken) (message sent) reads is answers clean holds
-      counted noted = absurd cc
-  by_event raw (kept.Message by spoken) (fault side rule) reads is answers clean holds counted
+      is.0 is.1 whole is.2 clean holds counted noted
+  by_event (broken side rule) (kept.Message by spoken) (message sent) reads is answers whole clean
+      holds counted noted = absurd cc
+  by_event (show n uri text) (kept.Message by spoken) (message sent) reads is answers whole clean
+      holds counted noted = absurd cc
+  by_event raw (kept.Message by spoken) (fault side rule) reads is answers whole clean holds counted
       noted = absurd is
-  by_event raw (kept.Message by spoken) (snapshot u m t) reads is answers clean holds counted
+  by_event raw (kept.Message by spoken) (snapshot u m t) reads is answers whole clean holds counted
       noted = absurd is
-  by_event raw (kept.Snapshot version uri text answer) (message sent) reads is answers clean holds
-      counted noted = absurd is
-  by_event raw (kept.Snapshot version uri text answer) (fault side rule) reads is answers clean
+  by_event raw (kept.Snapshot version uri text answer) (message sent) reads is answers whole clean
       holds counted noted = absurd is
+  by_event raw (kept.Snapshot version uri text answer) (fault side rule) reads is answers whole
+      clean holds counted noted = absurd is
   by_event (content side bytes) (kept.Snapshot version uri text answer) (snapshot u m t) reads is
-      answers clean holds counted noted = absurd reads
+      answers whole clean holds counted noted = absurd reads
   by_event (broken side rule) (kept.Snapshot version uri text answer) (snapshot u m t) reads is
-      answers clean holds counted noted = absurd cc
+      answers whole clean holds counted noted = absurd cc
   by_event (show n name shown) (kept.Snapshot version uri text answer) (snapshot u m t) reads is
-      answers clean holds counted noted =
+      answers whole clean holds counted noted =
       let same : snapshot u m t ≡ snapshot uri.now version (chars text.now) =
       λ i. snapshot (is.0 i) (is.1 i) (is.2 i) in
       snapshot_heard (show n name shown) uri.now (chars text.now) version answer
@@ -180,43 +180,49 @@ module _ (old new : Replay) (notes : List Noted) (number : ℕ) (walks : Walks o
 
 -- what was noted before is all that matters
 pub noted_after : (number : ℕ) (given : lent.Heard) (mid old new : Replay) → mid.notes ≡ old.notes
-    → mid.marks ≡ old.marks → mid.said ≡ old.said → NotesKept number given mid new
-    → NotesKept number given old new
-noted_after number (kept.Message side spoken) mid old new notes marks said noted =
+    → mid.marks ≡ old.marks → mid.openings ≡ old.openings → mid.said ≡ old.said
+    → mid.sides ≡ old.sides → NotesKept number given mid new → NotesKept number given old new
+noted_after number (kept.Message side spoken) mid old new notes marks openings said sides noted =
     let act : Act = act_view spoken.act in (
       λ enc kind. subst (λ (w : Notes).
-          AreAfter None (call_of enc kind act) w.map.entries new.notes.map.entries) notes
+          AreAfter (call_of enc kind act) w.map.entries new.notes.map.entries) notes
           (noted.0 enc kind),
       λ enc kind. subst (λ (w : Marks).
           DoneBy number (call_of enc kind act) w.map.entries new.marks.map.entries) marks
           (noted.1 enc kind),
+      λ enc kind. subst (λ (w : Openings). OpensBy number (call_of enc kind act) w new.openings)
+          openings (noted.2 enc kind),
       λ sents stands. subst (λ (w : SessionNotes).
-          SaysOn number side (message_view spoken.message) (phase sents) w new.said) said
-          (noted.2 sents stands),
+          SaysOn number side (message_view spoken.message) sents w new.said) said
+          (noted.3 sents stands),
+      noted.4 ∙ ap (λ (s : Sides). sides_read side s) sides,
     )
-noted_after number (kept.Snapshot version uri text answer) mid old new notes marks said noted = (
-  noted.0 ∙ notes,
-  subst (λ (w : Marks).
-      ShownBy number uri.now version answer w.map.entries new.marks.map.entries) marks noted.1,
-  noted.2 ∙ said,
-)
+noted_after number (kept.Snapshot version uri text answer) mid old new notes marks openings said
+    sides noted = (
+      noted.0 ∙ notes,
+      subst (λ (w : Marks).
+          ShownBy number uri.now version answer w.map.entries new.marks.map.entries) marks noted.1,
+      noted.2 ∙ openings,
+      noted.3 ∙ said,
+      noted.4 ∙ sides,
+    )
 
 -- the next event was heard, kept and noted
 pub kept_heard : (raw : Raw) (old new : Replay) (notes : List Noted) (number : ℕ)
     (given : lent.Heard) (m : session.State) (d : docs.State) (c : Counts) → Walks old notes
     → number ≡ number_next (events_of notes) → d.terms ≡ old.events.docs.terms
     → new.events.session ≡ m → new.events.docs ≡ d → new.events.counts ≡ c
-    → new.broken ≡ old.broken
+    → new.broken ≡ old.broken → new.passed ≡ old.passed
     → Keeps raw old.events.docs.terms old.events.counts given m d c
     (kept_of old.events.docs.terms (events_of notes))
     → NotesKept number given old new → Hears raw old.events.docs.terms new notes heard.Kept
 kept_heard raw old new notes number given m d c walks is_number terms_are same_m same_d same_c
-    is_broken k noted =
+    is_broken is_passed k noted =
     let events : List Event = events_of notes in
     let before : List Event = kept_of old.events.docs.terms events in
     by_event old new notes number walks is_number
-    (ap (λ (w : docs.State). w.terms) same_d ∙ terms_are) is_broken raw given k.event k.reads
-    k.is_heard k.answers k.clean
+    (ap (λ (w : docs.State). w.terms) same_d ∙ terms_are) is_broken is_passed raw given k.event k.reads
+    k.is_heard k.answers k.whole k.clean
     (subst (λ (w : session.State). Holds w new.events.docs (before ++ k.event ∷ [])) (sym same_m)
     (subst (λ (w : docs.State). Holds m w (before ++ k.event ∷ [])) (sym same_d) k.holds))
     (subst (λ (w : Counts). AreCounts w (events ++ k.event ∷ [])) (sym same_c)
@@ -229,8 +235,10 @@ pub still_walks : (old new : Replay) (notes : List Noted) → Walks old notes
     → new.events.docs.terms ≡ old.events.docs.terms
     → Holds new.events.session new.events.docs (kept_of old.events.docs.terms (events_of notes))
     → new.events.counts ≡ old.events.counts → new.notes ≡ old.notes → new.broken ≡ old.broken
-    → new.marks ≡ old.marks → new.said ≡ old.said → new.sides ≡ old.sides → Walks new notes
-still_walks old new notes walks terms_are holds counts notes_are is_broken marks said sides =
+    → new.marks ≡ old.marks → new.openings ≡ old.openings → new.said ≡ old.said
+    → new.sides ≡ old.sides → new.passed ≡ old.passed → Walks new notes
+still_walks old new notes walks terms_are holds counts notes_are is_broken marks openings said sides
+    passed =
     let terms : Terms = old.events.docs.terms in
     let events : List Event = events_of notes in
     subst (λ (t : Terms). WalksBy t new notes) (sym terms_are) (record {
@@ -239,19 +247,22 @@ still_walks old new notes walks terms_are holds counts notes_are is_broken marks
       noted = λ uri. ap (λ (w : Notes). note_in w.map.entries uri) notes_are ∙ walks.noted uri;
       is_broken = is_broken ∙ walks.is_broken;
       marked = subst (λ (m : Marks). AreMarks terms m.map.entries events) (sym marks) walks.marked;
+      opened = subst (λ (o : Openings). AreOpenings terms o events) (sym openings) walks.opened;
       said = subst (λ (m : SessionNotes). AreNotes terms m events) (sym said) walks.said;
       sided = sides ∙ walks.sided;
+      passed = λ side k. ap (λ (p : Passed). has_passed p side (id_view k)) passed
+          ∙ walks.passed side k;
     })
 
 module _ (old new : Replay) (notes : List Noted) (given : Judged) (walks : Walks old notes) where
   -- a fault of the frames
   pub frames_refused : (side : Side) (code rule : ℕ)
       → IsRefused (broken side code) old.events.docs.terms notes (refused.Rule rule)
-      → PassesOver old new (who_of side) rule false (λ enc kind. None) (λ e. e ≡ fault side rule)
+      → PassesOver old new (who_of side) rule None (λ enc kind. None) (λ e. e ≡ fault side rule)
       (λ o. o ≡ what.Frames side) given
       → Hears (broken side code) old.events.docs.terms new notes given
   frames_refused side code rule is passes =
-      let n : Noted = record { event = fault side code; asks = false } in
+      let n : Noted = record { event = fault side code; malformed = None } in
       passed_over (broken side code) old new notes n (who_of side) rule (λ enc kind. None) Utf16
       Nothing (λ e. e ≡ fault side rule) (λ o. o ≡ what.Frames side) given walks (refl, refl)
       (ap (fault side) (same_Some code rule (ap rule_of (sym is)))) refl (ap rule_of (sym is)) refl
@@ -259,16 +270,16 @@ module _ (old new : Replay) (notes : List Noted) (given : Judged) (walks : Walks
       (kept_of old.events.docs.terms (events_of notes)) rule) (sym e) refl) passes
 
   -- a content that is no message with a meaning
-  pub content_refused : (side : Side) (bytes : List ℕ) (rule : ℕ) (asks : Bool)
+  pub content_refused : (side : Side) (bytes : List ℕ) (rule : ℕ) (malformed : Option Message)
       → IsRefused (content side bytes) old.events.docs.terms notes (refused.Rule rule)
-      → Asks (content side bytes) asks
-      → PassesOver old new (who_of side) rule asks (λ e k. None) (λ e. e ≡ fault side rule)
+      → IsReading bytes malformed
+      → PassesOver old new (who_of side) rule malformed (λ e k. None) (λ e. e ≡ fault side rule)
       (IsUnread side bytes) given
       → Hears (content side bytes) old.events.docs.terms new notes given
-  content_refused side bytes rule asks reads asked passes =
-      let n : Noted = record { event = fault side rule; asks = asks } in
+  content_refused side bytes rule malformed reads reading passes =
+      let n : Noted = record { event = fault side rule; malformed = malformed } in
       passed_over (content side bytes) old new notes n (who_of side) rule (λ e k. None) Utf16
-      Nothing (λ e. e ≡ fault side rule) (IsUnread side bytes) given walks (reads, asked) refl refl
+      Nothing (λ e. e ≡ fault side rule) (IsUnread side bytes) given walks (reads, reading) refl refl
       refl refl is_such passes
     where
       is_such : (o : OffendingEvent) → IsUnread side bytes o
@@ -282,23 +293,22 @@ module _ (old new : Replay) (notes : List Noted) (given : Judged) (walks : Walks
   -- a message
   pub message_refused : (raw : Raw) (side : Side) (rule : ℕ) (spoken : Spoken)
       → IsRefused raw old.events.docs.terms notes (refused.Message side rule spoken)
-      → PassesOver old new (who_of side) rule (asks_of side (message_view spoken.message))
-      (λ e k. call_of e k (act_view spoken.act)) (IsMessageOf side)
+      → PassesOver old new (who_of side) rule None
+      (λ e k. call_of e k (act_view spoken.act))
+      (IsMessageOf side (message_view spoken.message))
       (λ o. o ≡ what.Message side spoken) given → Hears raw old.events.docs.terms new notes given
   message_refused (content side bytes) by rule spoken (same, refuses) passes =
       let terms : Terms = old.events.docs.terms in
       let kept : List Event = kept_of terms (events_of notes) in
       let enc = unwrap_or (encoding (sent_in kept)) Utf16 in
       let kind = unwrap_or (sync_kind (sent_in kept)) Nothing in
-      let said = message_view spoken.message in
       let sent = refuses.sent in
-      let n : Noted = record { event = message sent; asks = asks_of by said } in
-      let asked = subst (λ (s : Side). Asks (content side bytes) (asks_of s said)) (sym same)
-      (asks_said side bytes sent said refuses.reads refuses.says) in
+      let n : Noted = record { event = message sent; malformed = None } in
       passed_over (content side bytes) old new notes n (who_of by) rule
-      (λ e k. call_of e k (act_view spoken.act)) enc kind (IsMessageOf by)
-      (λ o. o ≡ what.Message by spoken) given walks (refuses.reads, asked)
-      (sent, refl, refuses.reads.by ∙ sym same) (ap who_of (refuses.reads.by ∙ sym same))
+      (λ e k. call_of e k (act_view spoken.act)) enc kind
+      (IsMessageOf by (message_view spoken.message))
+      (λ o. o ≡ what.Message by spoken) given walks (refuses.reads, refl)
+      (sent, refl, refuses.reads.by ∙ sym same, refuses.says) (ap who_of (refuses.reads.by ∙ sym same))
       refuses.offends
       (ap (call_of enc kind) refuses.means)
       (λ o e. subst (IsOffending (content side bytes) terms kept rule) (sym e) (same, refuses))
@@ -309,12 +319,12 @@ module _ (old new : Replay) (notes : List Noted) (given : Judged) (walks : Walks
   -- a snapshot
   pub snapshot_refused : (number : ℤ) (uri text : List ℕ) (rule : ℕ)
       → IsRefused (show number uri text) old.events.docs.terms notes (refused.Rule rule)
-      → PassesOver old new who.Snapshot rule false
+      → PassesOver old new who.Snapshot rule None
       (λ e k. Some (shows uri number (chars text))) (λ e. e ≡ snapshot uri number (chars text))
       (IsShown number uri text) given
       → Hears (show number uri text) old.events.docs.terms new notes given
   snapshot_refused number uri text rule offends passes =
-      let n : Noted = record { event = snapshot uri number (chars text); asks = false } in
+      let n : Noted = record { event = snapshot uri number (chars text); malformed = None } in
       passed_over (show number uri text) old new notes n who.Snapshot rule
       (λ e k. Some (shows uri number (chars text))) Utf16 Nothing
       (λ e. e ≡ snapshot uri number (chars text)) (IsShown number uri text) given walks (refl, refl)

@@ -1,11 +1,11 @@
 -- The last ones of a list, with one item more.
-use Rattle.std.specs.Prelude.{◌-◌, drop, length, nat_lt, if◌then◌else◌}
+use Rattle.std.specs.Prelude.{◌-◌, drop, length, map, nat_lt, if◌then◌else◌}
 use Rattle.std.proofs.Common.{◌≡◌, ℕ, zero, suc, ◌≤◌, ◌<◌, Bool, true, false, List, [], ◌∷◌, ◌++◌}
 use Rattle.std.proofs.Common.{refl, sym, ap, ◌∙◌, inl, inr, arith}
 use Rattle.std.proofs.lemmas.Bool.{cases_Bool}
 use Rattle.std.proofs.lemmas.Bool.Decides.{nat_tests}
-use Rattle.std.proofs.lemmas.List.{length-drop}
-use Rattle.lsp_survey.specs.LastOnes.{last_ones}
+use Rattle.std.proofs.lemmas.List.{drop-map, length-drop, length-map, map-append}
+use Rattle.lsp_survey.specs.LastOnes.{last_ones, with_room}
 
 drop_behind : {A : Type 0} (n : ℕ) (xs : List A) (x : A) → n ≤ length xs
     → drop n (xs ++ x ∷ []) ≡ drop n xs ++ x ∷ []
@@ -58,3 +58,30 @@ last_behind_all most xs x some =
   where
     not_less : (n : ℕ) → nat_lt n n ≡ false
     not_less n = grind (arith, nat_tests)
+
+-- one more is held, after what is left of those held
+pub held-push : {A B : Type 0} (view : A → B) (most : ℕ) (old mid new : List A) (x : A)
+    (all : List B) → 0 < most → mid ≡ with_room most old → new ≡ mid ++ x ∷ []
+    → map view old ≡ last_ones most all → map view new ≡ last_ones most (all ++ view x ∷ [])
+held-push view most old mid new x all some room more are =
+    ap (map view) (more ∙ ap (λ (l : List _). l ++ x ∷ []) room)
+    ∙ map-append view (with_room most old) (x ∷ [])
+    ∙ ap (λ (l : List _). l ++ view x ∷ []) (by_test (nat_lt (length old) most))
+    ∙ ap (λ (n : ℕ). (if nat_lt n most then map view old else drop 1 (map view old)) ++ view
+    x ∷ []) (sym (length-map old view))
+    ∙ ap (λ (l : List _). with_room most l ++ view x ∷ []) are
+    ∙ sym (last_behind_all most all (view x) some)
+  where
+    by_test : (b : Bool) → map view (if b then old else drop 1 old)
+        ≡ (if b then map view old else drop 1 (map view old))
+    by_test true = refl
+    by_test false = sym (drop-map view 1 old)
+
+-- fewer than may be held are all
+pub few_held : {A : Type 0} (most : ℕ) (xs : List A)
+    → nat_lt (length (last_ones most xs)) most ≡ nat_lt (length xs) most
+few_held most xs = ap (λ (n : ℕ). nat_lt n most) (length-drop (length xs - most) xs)
+    ∙ less (length xs) most
+  where
+    less : (n m : ℕ) → nat_lt (n - (n - m)) m ≡ nat_lt n m
+    less n m = grind (arith, nat_tests)

@@ -5,9 +5,12 @@ pub mod Exchanging
 pub mod Marking
 pub mod MarkSteps
 pub mod MarksWorked
+pub mod OpeningSteps
+pub mod RemarkSteps
 pub mod SessionSteps
 pub mod Waiting
 pub mod SidesSteps
+pub mod PassedSteps
 pub mod Passing
 pub mod Hearing
 pub mod FrameRules
@@ -16,3 +19,4 @@ pub mod Ending
 pub mod Reading
 pub mod LogEnds
 pub mod Reporting
+pub mod KeptTexts

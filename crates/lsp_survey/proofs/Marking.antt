@@ -15,10 +15,10 @@ use Rattle.lsp_docs.proofs.Words.{capped-add}
 use Rattle.lsp_verdict.specs.Event.{Event}
 use Rattle.lsp_verdict.specs.LookBack.{each_of}
 use Rattle.lsp_verdict.proofs.LookBackLemmas.{each_of-snoc}
-use Rattle.lsp_survey.specs.LastOnes.{last_ones}
+use Rattle.lsp_survey.specs.LastOnes.{last_ones, with_room}
 use Rattle.lsp_survey.specs.Marking.{Step, touches, closed, step_at, steps, is_end, standing, sets}
 use Rattle.lsp_survey.specs.Marking.{rank_after, setter_at, setters, most_setters, recent}
-use Rattle.lsp_survey.specs.Marking.{with_room, next_rank}
+use Rattle.lsp_survey.specs.Marking.{next_rank}
 use Rattle.lsp_survey.specs.Marking.{ends_waiting, waiting_entry, waiting_for, last_shown}
 use Rattle.lsp_survey.specs.Marking.{finds, newer, newer_of, newest, agreed, marked, stepped}
 use Rattle.lsp_survey.specs.declared.notes.mark.Setter.{Setter}
@@ -120,7 +120,7 @@ rank-same done touch n own none =
 -- one more sets a version
 recent-more : (done : List Step) (n : ℕ) (own : ℤ)
     → recent (done ++ touches Reached n own ∷ [])
-    ≡ with_room (recent done) ++ record {
+    ≡ with_room most_setters (recent done) ++ record {
       event = n;
       version = own;
       rank = next_rank
@@ -129,7 +129,7 @@ recent-more : (done : List Step) (n : ℕ) (own : ℤ)
 recent-more done n own =
     ap (last_ones most_setters) (setters_with done Reached n own)
     ∙ last_behind_all most_setters (setters done) _ (omega arith)
-    ∙ ap (λ (r : ℕ). with_room (recent done) ++ record {
+    ∙ ap (λ (r : ℕ). with_room most_setters (recent done) ++ record {
       event = n;
       version = own;
       rank = r;

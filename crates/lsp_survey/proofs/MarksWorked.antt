@@ -4,8 +4,10 @@ use Rattle.lsp_rpc.specs.Ident.{number}
 use Rattle.lsp_survey.specs.Asking.{Reply, last_reply, replied}
 use Rattle.lsp_survey.specs.LastOnes.{last_ones}
 use Rattle.lsp_survey.specs.Marking.{Step, touches, closed, agreed, recent, shown_at, waiting_for}
+use Rattle.lsp_survey.specs.Openings.{OnDocument, on_document, closing_of}
 use Rattle.lsp_survey.specs.declared.notes.mark.Setter.{Setter}
 use Rattle.lsp_survey.specs.declared.notes.mark.Touch.TheVariants.{Reached, Compared, Awaited}
+use Rattle.lsp_survey.specs.declared.notes.openings.Closing.TheVariants as closing
 
 -- two snapshots wait for version 5, one of them since before the opening
 abbrev opening : List Step
@@ -83,3 +85,13 @@ the_later = refl
 
 too_old : last_reply (number (pos 2)) (last_ones 1 answers) ≡ None
 too_old = refl
+
+-- of two messages that closed a document the later counts
+abbrev closings : List OnDocument
+closings = on_document (97 ∷ []) 5 ∷ on_document (98 ∷ []) 7 ∷ on_document (97 ∷ []) 9 ∷ []
+
+closed_last : closing_of (97 ∷ []) closings ≡ closing.Last 9
+closed_last = refl
+
+never_closed : closing_of (99 ∷ []) closings ≡ closing.Never
+never_closed = refl

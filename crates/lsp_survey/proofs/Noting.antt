@@ -8,9 +8,10 @@ use Rattle.std.proofs.lemmas.Bool.Decides.{nat_tests}
 use Rattle.std.proofs.Common.{arith, ◌<◌, ◌≡◌, ℕ, Bool, true, false, List, [], ◌∷◌, Option, Some}
 use Rattle.std.proofs.Common.{None, refl, sym, ap, ◌∙◌}
 use Rattle.lsp_docs.specs.Calls.{Call, uri_of, changes as changes_by}
+use Rattle.lsp_docs.specs.Documents.{Version}
 use Rattle.lsp_rpc.specs.View.{changes_view}
 use Rattle.lsp_survey.specs.ByUri.{held_by}
-use Rattle.lsp_survey.specs.Notes.{nothing, note_in, SetsNote, AreAfter}
+use Rattle.lsp_survey.specs.Notes.{nothing, note_in, SetsNote, AreAfter, Leaves}
 use Rattle.lsp_survey.specs.declared.notes.note.Note.{Note}
 use Rattle.lsp_survey.proofs.Putting.{PutsUnder}
 use Rattle.lsp_text.specs.Edits.{Edit}
@@ -42,14 +43,14 @@ abbrev left_by : Option Bool → Bool → Note → Note
 left_by said own old = record { lost = unwrap_or (if own then said else None) old.lost }
 
 -- it says nothing of a document
-pub nothing_said : (rule : Option ℕ) (notes : List (String Global × Note))
-    → AreAfter rule None notes notes
-nothing_said rule notes uri = refl
+pub nothing_said : (rule : Option ℕ) (now : Option Version) (notes : List (String Global × Note))
+    → Leaves rule None now None notes notes
+nothing_said rule now notes uri = refl
 
 -- it leaves all notes as they are
-pub notes_stay : (rule : Option ℕ) (call : Call) (notes : List (String Global × Note))
-    → left_lost rule call ≡ None → AreAfter rule (Some call) notes notes
-notes_stay rule call notes stays uri =
+pub notes_stay : (call : Call) (notes : List (String Global × Note))
+    → left_lost None None call ≡ None → AreAfter (Some call) notes notes
+notes_stay call notes stays uri =
     sym (ap (λ (o : Option Bool). left_by o (bytes_eq uri (uri_of call)) (note_in notes uri)) stays
     ∙ by_test (bytes_eq uri (uri_of call)))
   where
@@ -57,7 +58,7 @@ notes_stay rule call notes stays uri =
     by_test true = refl
     by_test false = refl
 
-pub kept_leaves : (call : Call) → renews call ≡ false → left_lost None call ≡ None
+pub kept_leaves : (call : Call) → renews call ≡ false → left_lost None None call ≡ None
 kept_leaves call is = ap (λ (b : Bool). if b then Some false else None) is
 
 -- changes with one of the whole text

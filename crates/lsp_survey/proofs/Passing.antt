@@ -1,5 +1,5 @@
 -- A walk over events, with one event more.
-use Rattle.std.specs.Prelude.{if◌then◌else◌, is_some, option_and_then, ◌||◌}
+use Rattle.std.specs.Prelude.{if◌then◌else◌, is_some, option_and_then, unwrap_or, ◌||◌}
 use Rattle.std.proofs.Common.{◌≡◌, ℕ, Bool, true, false, List, [], ◌∷◌, ◌++◌, Option, Some, None}
 use Rattle.std.proofs.Common.{refl, sym, ap, subst, ◌∙◌}
 use Rattle.lsp_docs.specs.Calls.{Call}
@@ -7,14 +7,19 @@ use Rattle.lsp_docs.specs.State as docs
 use Rattle.lsp_docs.specs.Terms.{Terms}
 use Rattle.lsp_replay.specs.Standing.{Holds}
 use Rattle.lsp_session.specs.State as session
-use Rattle.lsp_survey.specs.Notes.{note_of, note_after, AreAfter, is_noted_lost}
+use Rattle.lsp_rpc.specs.Ident.{id_view}
+use Rattle.lsp_rpc.specs.Message.{Message}
+use Rattle.lsp_survey.specs.Notes.{note_of, note_after, Leaves, is_noted_lost}
 use Rattle.lsp_survey.specs.Marks.{AreMarks}
+use Rattle.lsp_survey.specs.Openings.{AreOpenings}
+use Rattle.lsp_survey.specs.Passed.{ArePassed}
 use Rattle.lsp_survey.specs.Sides.{sides_after, sides_of}
 use Rattle.lsp_survey.specs.SessionNoting.{AreNotes}
 use Rattle.lsp_survey.specs.Walking.{WalksBy, Walks, offence_of, PassesOver}
 use Rattle.lsp_survey.specs.Walking.{IsOffending, Offends, IsHeard, Hears}
 use Rattle.lsp_survey.specs.declared.notes.marks.Marks.{Marks}
 use Rattle.lsp_survey.specs.declared.notes.note.Note.{Note}
+use Rattle.lsp_survey.specs.declared.notes.openings.Openings.{Openings}
 use Rattle.lsp_survey.specs.declared.offending.Judged.{Judged}
 use Rattle.lsp_survey.specs.declared.offending.Judged.TheVariants as heard
 use Rattle.lsp_survey.specs.declared.offending.OffendingEvent.{OffendingEvent}
@@ -22,41 +27,50 @@ use Rattle.lsp_survey.specs.declared.notes.session_notes.SessionNotes.{SessionNo
 use Rattle.lsp_survey.specs.declared.walk.Replay.{Replay}
 use Rattle.lsp_types.specs.declared.change.SyncKind.{SyncKind}
 use Rattle.lsp_types.specs.declared.position.Encoding.{Encoding}
+use Rattle.lsp_verdict.specs.Calls.{calls}
 use Rattle.lsp_verdict.specs.Counting.{AreCounts}
 use Rattle.lsp_verdict.specs.Event.{Event}
 use Rattle.lsp_verdict.specs.Given.{given_offence}
 use Rattle.lsp_verdict.specs.LookBack.{first_of}
-use Rattle.lsp_verdict.specs.Offences.{Noted, IsNoted, breaks_handshake, broken_by, events_of}
-use Rattle.lsp_verdict.specs.Offences.{follows_bytes, is_on_lost, kept_of, may_answer, rule_at}
+use Rattle.lsp_verdict.specs.Offences.{Noted, IsNoted, asks, breaks_handshake, broken_by}
+use Rattle.lsp_verdict.specs.Offences.{brought_by, events_of, follows_bytes, held_in, is_on_lost}
+use Rattle.lsp_verdict.specs.Offences.{kept_of}
+use Rattle.lsp_verdict.specs.Offences.{answered_by, asked_by, follows_passed, is_passed}
+use Rattle.lsp_verdict.specs.Offences.{may_answer, passes, rule_at}
 use Rattle.lsp_verdict.specs.Offences.{said_at}
 use Rattle.lsp_verdict.specs.Placed.{Raw}
 use Rattle.lsp_verdict.specs.Verdict.{whose}
 use Rattle.lsp_verdict.specs.declared.verdict.Who.{Who}
 use Rattle.lsp_survey.proofs.MarkSteps.{refused_leaves}
+use Rattle.lsp_survey.proofs.OpeningSteps.{refused_opens}
 use Rattle.lsp_survey.proofs.SessionSteps.{refused_unsaid}
+use Rattle.lsp_survey.proofs.PassedSteps.{kept_passes}
 use Rattle.lsp_survey.proofs.SidesSteps.{sides_pushed}
-use Rattle.lsp_verdict.proofs.Offences.Steps.{broken-push, events_of-push, is_lost-push, kept-push}
-use Rattle.lsp_verdict.proofs.Offences.Steps.{kept-refused}
+use Rattle.lsp_verdict.proofs.Offences.Steps.{broken-push, events_of-push, is_lost-push}
+use Rattle.lsp_verdict.proofs.Offences.Steps.{is_passed-push, kept-push, kept-refused}
 
 -- ---- what is noted
 
-note_pushed : (terms : Terms) (uri : List ℕ) (events : List Event) (e : Event)
-    → note_of terms uri (events ++ e ∷ [])
-    ≡ note_after (rule_at terms events e) (said_at terms events e) uri (note_of terms uri events)
-note_pushed terms uri events e =
-    ap (λ (b : Bool). let n : Note = record { lost = b } in n) (is_lost-push terms uri events e)
+note_pushed : (terms : Terms) (uri : List ℕ) (notes : List Noted) (n : Noted)
+    → note_of terms uri (notes ++ n ∷ [])
+    ≡ note_after (rule_at terms (events_of notes) n.event) (option_and_then brought_by n.malformed)
+    (held_in terms (calls (kept_of terms (events_of notes))) (said_at terms (events_of notes) n.event))
+    (said_at terms (events_of notes) n.event) uri (note_of terms uri notes)
+note_pushed terms uri notes n =
+    ap (λ (b : Bool). let m : Note = record { lost = b } in m) (is_lost-push terms uri notes n)
 
 -- an event that offends by this rule, or is kept, breaks the handshake
-abbrev breaks_by : Option ℕ → Bool → Bool → Bool
-breaks_by None asks answers = false
-breaks_by (Some rule) asks answers = breaks_handshake asks rule || answers
+abbrev breaks_by : Option ℕ → Option Message → Bool → Bool
+breaks_by None malformed answers = false
+breaks_by (Some rule) malformed answers = breaks_handshake (asks malformed) rule || answers
 
-breaks_at : (o : Option ℕ) (asks answers : Bool)
+breaks_at : (o : Option ℕ) (malformed : Option Message) (answers : Bool)
     → is_some (option_and_then (λ rule.
-    if breaks_handshake asks rule || answers then Some rule else None) o)
-    ≡ breaks_by o asks answers
-breaks_at None asks answers = refl
-breaks_at (Some rule) asks answers = by_test (breaks_handshake asks rule || answers)
+    if breaks_handshake (asks malformed) rule || answers then Some rule else None) o)
+    ≡ breaks_by o malformed answers
+breaks_at None malformed answers = refl
+breaks_at (Some rule) malformed answers =
+    by_test (breaks_handshake (asks malformed) rule || answers)
   where
     by_test : (b : Bool) → is_some (if b then Some rule else None) ≡ b
     by_test true = refl
@@ -65,18 +79,18 @@ breaks_at (Some rule) asks answers = by_test (breaks_handshake asks rule || answ
 broken_pushed : (terms : Terms) (notes : List Noted) (n : Noted)
     → is_some (first_of (broken_by terms) (notes ++ n ∷ []))
     ≡ (is_some (first_of (broken_by terms) notes) || breaks_by
-    (rule_at terms (events_of notes) n.event) n.asks
+    (rule_at terms (events_of notes) n.event) n.malformed
     (may_answer (kept_of terms (events_of notes)) n.event))
 broken_pushed terms notes n =
     broken-push terms notes n
     ∙ ap (λ (b : Bool). is_some (first_of (broken_by terms) notes) || b)
-    (breaks_at (rule_at terms (events_of notes) n.event) n.asks
+    (breaks_at (rule_at terms (events_of notes) n.event) n.malformed
     (may_answer (kept_of terms (events_of notes)) n.event))
 
 -- what is noted lost is lost
 pub noted_lost : (terms : Terms) (w : Replay) (notes : List Noted) (said : Option Call)
     → WalksBy terms w notes → is_noted_lost w.notes.map.entries said
-    ≡ is_on_lost terms (events_of notes) said
+    ≡ is_on_lost terms notes said
 noted_lost terms w notes None walks = refl
 noted_lost terms w notes (Some call) walks = ap (λ (n : Note). n.lost) (walks.noted _)
 
@@ -91,11 +105,15 @@ record Steps (terms : Terms) (old new : Replay) (notes : List Noted) (n : Noted)
   pub terms_are : new.events.docs.terms ≡ terms
   pub holds : Holds new.events.session new.events.docs (kept_of terms (events_of (notes ++ n ∷ [])))
   pub counted : AreCounts new.events.counts (events_of notes ++ n.event ∷ [])
-  pub is_broken : new.broken ≡ (old.broken || breaks_by rule n.asks
+  pub is_broken : new.broken ≡ (old.broken || breaks_by rule n.malformed
       (may_answer (kept_of terms (events_of notes)) n.event))
   pub sides : new.sides ≡ sides_after n.event old.sides
-  pub noted : AreAfter rule said old.notes.map.entries new.notes.map.entries
+  pub passed : ArePassed rule n.event n.malformed old.passed new.passed
+  pub noted : Leaves rule (option_and_then brought_by n.malformed)
+      (held_in terms (calls (kept_of terms (events_of notes))) said) said
+      old.notes.map.entries new.notes.map.entries
   pub marked : AreMarks terms new.marks.map.entries (events_of notes ++ n.event ∷ [])
+  pub opened : AreOpenings terms new.openings (events_of notes ++ n.event ∷ [])
   pub told : AreNotes terms new.said (events_of notes ++ n.event ∷ [])
 
 walks_on : (terms : Terms) (old new : Replay) (notes : List Noted) (n : Noted) (rule : Option ℕ)
@@ -106,19 +124,20 @@ walks_on terms old new notes n rule said walks s =
       holds = s.holds;
       counted = subst (AreCounts new.events.counts) (sym (events_of-push notes n)) s.counted;
       noted = λ uri.
+          let brought = option_and_then brought_by n.malformed in
+          let made = calls (kept_of terms (events_of notes)) in
           s.noted uri
-          ∙ ap (note_after rule said uri) (walks.noted uri)
-          ∙ ap (λ (o : Option ℕ). note_after o said uri (note_of terms uri (events_of notes)))
-          (sym s.rule_is)
-          ∙ ap (λ (o : Option Call). note_after (rule_at terms (events_of notes) n.event) o uri
-          (note_of terms uri (events_of notes))) (sym s.said_is)
-          ∙ sym (note_pushed terms uri (events_of notes) n.event)
-          ∙ ap (note_of terms uri) (sym (events_of-push notes n));
+          ∙ ap (note_after rule brought (held_in terms made said) said uri) (walks.noted uri)
+          ∙ ap (λ (o : Option ℕ). note_after o brought (held_in terms made said) said uri
+          (note_of terms uri notes)) (sym s.rule_is)
+          ∙ ap (λ (o : Option Call). note_after (rule_at terms (events_of notes) n.event) brought
+          (held_in terms made o) o uri (note_of terms uri notes)) (sym s.said_is)
+          ∙ sym (note_pushed terms uri notes n);
       is_broken =
           s.is_broken
-          ∙ ap (λ (b : Bool). b || breaks_by rule n.asks
+          ∙ ap (λ (b : Bool). b || breaks_by rule n.malformed
           (may_answer (kept_of terms (events_of notes)) n.event)) walks.is_broken
-          ∙ ap (λ (o : Option ℕ). is_some (first_of (broken_by terms) notes) || breaks_by o n.asks
+          ∙ ap (λ (o : Option ℕ). is_some (first_of (broken_by terms) notes) || breaks_by o n.malformed
           (may_answer (kept_of terms (events_of notes)) n.event)) (sym s.rule_is)
           ∙ sym (broken_pushed terms notes n);
       sided =
@@ -126,7 +145,16 @@ walks_on terms old new notes n rule said walks s =
           ∙ ap (sides_after n.event) walks.sided
           ∙ sym (sides_pushed (events_of notes) n.event)
           ∙ ap sides_of (sym (events_of-push notes n));
+      passed = λ side k.
+          let was = is_passed terms side (id_view k) notes in
+          let does = passes (asked_by side n.event n.malformed) (answered_by side n.event)
+          (id_view k) in
+          s.passed side k
+          ∙ ap (λ (b : Bool). unwrap_or (option_and_then does rule) b) (walks.passed side k)
+          ∙ ap (λ (o : Option ℕ). unwrap_or (option_and_then does o) was) (sym s.rule_is)
+          ∙ sym (is_passed-push terms side (id_view k) notes n);
       marked = subst (AreMarks terms new.marks.map.entries) (sym (events_of-push notes n)) s.marked;
+      opened = subst (AreOpenings terms new.openings) (sym (events_of-push notes n)) s.opened;
       said = subst (AreNotes terms new.said) (sym (events_of-push notes n)) s.told;
     })
 
@@ -150,12 +178,13 @@ pub passed_over : (raw : Raw) (old new : Replay) (notes : List Noted) (n : Noted
     → said_at old.events.docs.terms (events_of notes) n.event ≡ says enc kind
     → ((what : OffendingEvent) → IsSuch what → IsOffending raw old.events.docs.terms
     (kept_of old.events.docs.terms (events_of notes)) rule what)
-    → PassesOver old new by rule n.asks says IsEvent IsSuch given
+    → PassesOver old new by rule n.malformed says IsEvent IsSuch given
     → Hears raw old.events.docs.terms new notes given
 passed_over raw old new notes n by rule says enc kind IsEvent IsSuch given walks is_noted is_event
     whose_is rule_is said_is such p =
     let terms : Terms = old.events.docs.terms in
-    let late : Bool = follows_bytes rule (events_of notes) n.event in
+    let late : Bool = follows_passed terms rule notes n.event
+    || follows_bytes rule (events_of notes) n.event in
     let found : Offends raw terms notes n p.found = record {
       rule = rule;
       offends = rule_is;
@@ -163,10 +192,10 @@ passed_over raw old new notes n by rule says enc kind IsEvent IsSuch given walks
           ∙ ap (λ (b : Bool). given_offence (offence_of terms notes by rule b late))
           (noted_lost terms old notes (says enc kind) walks)
           ∙ ap (λ (o : Option Call). given_offence
-          (offence_of terms notes by rule (is_on_lost terms (events_of notes) o) late))
+          (offence_of terms notes by rule (is_on_lost terms notes o) late))
           (sym said_is)
           ∙ ap (λ (w : Who). given_offence (offence_of terms notes w rule
-          (is_on_lost terms (events_of notes) (said_at terms (events_of notes) n.event)) late))
+          (is_on_lost terms notes (said_at terms (events_of notes) n.event)) late))
           (sym whose_is);
       is_such = such p.found.offending p.is_such;
     } in
@@ -186,10 +215,14 @@ passed_over raw old new notes n by rule says enc kind IsEvent IsSuch given walks
         counted = p.counted.counts (events_of notes) n.event walks.counted whose_is;
         is_broken = p.is_broken n.event (kept_of terms (events_of notes)) is_event walks.holds;
         sides = p.sides n.event is_event;
-        noted = p.noted enc kind;
+        passed = p.passed n.event is_event;
+        noted = p.noted enc kind (kept_of terms (events_of notes)) walks.holds;
         marked = refused_leaves terms new.marks.map.entries (events_of notes) n.event rule
             (subst (λ (m : Marks). AreMarks terms m.map.entries (events_of notes)) (sym p.marks)
             walks.marked) rule_is;
+        opened = refused_opens terms new.openings (events_of notes) n.event rule
+            (subst (λ (o : Openings). AreOpenings terms o (events_of notes)) (sym p.openings)
+            walks.opened) rule_is;
         told = refused_unsaid terms new.said (events_of notes) n.event rule
             (subst (λ (m : SessionNotes). AreNotes terms m (events_of notes)) (sym p.said)
             walks.said) rule_is;
@@ -220,13 +253,15 @@ pub kept_on : (raw : Raw) (old new : Replay) (notes : List Noted) (n : Noted) (s
     → Holds new.events.session new.events.docs
     (kept_of old.events.docs.terms (events_of notes) ++ n.event ∷ [])
     → AreCounts new.events.counts (events_of notes ++ n.event ∷ []) → new.broken ≡ old.broken
-    → new.sides ≡ sides_after n.event old.sides
-    → AreAfter None said old.notes.map.entries new.notes.map.entries
+    → new.sides ≡ sides_after n.event old.sides → new.passed ≡ old.passed
+    → Leaves None (option_and_then brought_by n.malformed) None said old.notes.map.entries
+    new.notes.map.entries
     → AreMarks old.events.docs.terms new.marks.map.entries (events_of notes ++ n.event ∷ [])
+    → AreOpenings old.events.docs.terms new.openings (events_of notes ++ n.event ∷ [])
     → AreNotes old.events.docs.terms new.said (events_of notes ++ n.event ∷ [])
     → Hears raw old.events.docs.terms new notes heard.Kept
 kept_on raw old new notes n said walks is_noted rule_is said_is terms_are holds counted is_broken
-    sides noted marked told =
+    sides passed noted marked opened told =
     let terms : Terms = old.events.docs.terms in
     record {
       n = n;
@@ -240,8 +275,10 @@ kept_on raw old new notes n said walks is_noted rule_is said_is terms_are holds 
         counted = counted;
         is_broken = is_broken ∙ or_false old.broken;
         sides = sides;
+        passed = kept_passes n.event n.malformed old.passed new.passed passed;
         noted = noted;
         marked = marked;
+        opened = opened;
         told = told;
       });
     }

@@ -51,7 +51,7 @@ use Rattle.lsp_verdict.proofs.Sessions.{some_placed}
 
 -- ---- lists
 
-join_notes : (raws more : List Raw) (notes extra : List Noted) → AllZip IsNoted raws notes
+pub join_notes : (raws more : List Raw) (notes extra : List Noted) → AllZip IsNoted raws notes
     → AllZip IsNoted more extra → AllZip IsNoted (raws ++ more) (notes ++ extra)
 join_notes [] more [] extra p q = q
 join_notes [] more (n ∷ notes) extra p q = absurd p

@@ -1,21 +1,24 @@
 -- What is noted of requests and phases, with one event more.
-use Rattle.std.specs.Prelude.{option_map, option_to_list, unwrap_or, is_some, if◌then◌else◌}
+use Rattle.std.specs.Prelude.{◌⊎◌, option_map, option_to_list, unwrap_or, is_some}
+use Rattle.std.specs.Prelude.{if◌then◌else◌}
 use Rattle.std.specs.List.{cons_option, filter_map}
 use Rattle.std.proofs.Common.{◌≡◌, ℕ, List, [], ◌∷◌, ◌++◌, Option, Some, None, refl, sym, ap, ◌∙◌}
 use Rattle.std.proofs.Common.{subst, append-nil}
 use Rattle.lsp_docs.specs.Terms.{Terms}
 use Rattle.lsp_rpc.specs.Ident.{Ident, id_view}
 use Rattle.lsp_rpc.specs.Message.{Message, request, notification, response, result, error}
-use Rattle.lsp_rpc.specs.Outline.{outline}
-use Rattle.lsp_session.specs.Handshake.{phase}
+use Rattle.lsp_replay.specs.Standing.{HasValue}
+use Rattle.lsp_rpc.specs.Outline.{outline, without_params}
+use Rattle.lsp_session.specs.Handshake.{is_done, open_initializes, phase}
 use Rattle.lsp_session.specs.Sent.{Sent, answered_from}
+use Rattle.lsp_session.specs.declared.phase.Phase.{Phase}
 use Rattle.lsp_types.specs.declared.side.Side.{Side}
 use Rattle.lsp_types.specs.declared.side.Side.TheVariants.{Editor, Server}
 use Rattle.lsp_verdict.specs.Event.{Event, message, sent_in, sent_of}
 use Rattle.lsp_verdict.specs.LookBack.{each_from, each_of}
 use Rattle.lsp_verdict.specs.OffenceLaws.{kept_at}
 use Rattle.lsp_verdict.specs.Offences.{kept_of, last_or, rule_at}
-use Rattle.lsp_verdict.proofs.LookBackLemmas.{each_of-snoc, cons_append}
+use Rattle.lsp_verdict.proofs.LookBackLemmas.{each_of-snoc}
 use Rattle.lsp_verdict.proofs.Offences.Offending.{kept_are_others}
 use Rattle.lsp_verdict.proofs.Offences.Steps.{last_behind}
 use Rattle.lsp_survey.specs.Asking.{Numbered, Reply, numbered_as, numbered_by, numbered_at}
@@ -23,17 +26,12 @@ use Rattle.lsp_survey.specs.Asking.{numbered, sents, asks, asks_by, reply_by, re
 use Rattle.lsp_survey.specs.Asking.{most_replies, leads, leads_by}
 use Rattle.lsp_survey.specs.LastOnes.{last_ones}
 use Rattle.lsp_survey.specs.Marking.{number_next}
+use Rattle.lsp_survey.specs.Remarks.{Remarked}
 use Rattle.lsp_survey.specs.SessionNoting.{asked_in, Exchanges, IsExchange, SaysOn, SessionStands}
 use Rattle.lsp_survey.specs.SessionNoting.{AreNotes}
 use Rattle.lsp_survey.specs.declared.notes.exchange.Exchange.{Exchange}
 use Rattle.lsp_survey.specs.declared.notes.session_notes.SessionNotes.{SessionNotes}
-
-filter_map-snoc : {A X : Type 0} (f : A → Option X) (xs : List A) (x : A)
-    → filter_map f (xs ++ x ∷ []) ≡ filter_map f xs ++ cons_option (f x) []
-filter_map-snoc f [] x = refl
-filter_map-snoc f (y ∷ xs) x =
-    ap (cons_option (f y)) (filter_map-snoc f xs x)
-    ∙ cons_append (f y) (filter_map f xs) (cons_option (f x) [])
+use Rattle.lsp_survey.proofs.RemarkSteps.{filter_map-snoc, remarked}
 
 -- ---- the kept messages
 
@@ -167,9 +165,10 @@ other_unsaid terms s before e are is =
 pub message_noted : (terms : Terms) (old new : SessionNotes) (before : List Event) (m : Sent)
     (said : Message) (n : ℕ) → AreNotes terms old before → rule_at terms before (message m) ≡ None
     → n ≡ number_next before → outline m.message ≡ outline said
-    → SaysOn n m.side said (phase (sent_in (kept_of terms (before ++ message m ∷ [])))) old new
+    → HasValue (kept_of terms before) said m.message
+    → SaysOn n m.side said (sent_in (kept_of terms (before ++ message m ∷ []))) old new
     → AreNotes terms new (before ++ message m ∷ [])
-message_noted terms old new before m said n are kept number same says =
+message_noted terms old new before m said n are kept number same has_value says =
     subst (SessionStands new) (sym whole) (record {
       editor = exchanged Editor n m said same old.editor new.editor ms are.editor says.editor;
       server = exchanged Server n m said same old.server new.server ms are.server says.server;
@@ -179,6 +178,9 @@ message_noted terms old new before m said n are kept number same says =
           ∙ (λ i. unwrap_or (leads n (are.phase_is i) (behind i)) (are.since_is i))
           ∙ sym (ap (last_or None) (each_of-snoc leads_by ms (numbered_as n m))
           ∙ last_behind None (each_of leads_by ms) (leads_by ms (numbered_as n m)));
+      remarks_are = remarked n m said ms old.remarks new.remarks same value are.remarks_are
+          (subst (λ (p : Phase). Remarked n m.side said p (phase sents_behind)
+          (is_done sents_behind) old.remarks new.remarks) are.phase_is more);
     })
   where
     ms : List Numbered
@@ -191,7 +193,20 @@ message_noted terms old new before m said n are kept number same says =
         kept
         ∙ ap (λ (k : ℕ). ms ++ numbered_as k m ∷ []) (sym number)
 
-    behind : phase (sent_in (kept_of terms (before ++ message m ∷ [])))
-        ≡ phase (sents (ms ++ numbered_as n m ∷ []))
-    behind = ap phase (sym (sents-numbered terms (before ++ message m ∷ [])))
-        ∙ ap (λ (l : List Numbered). phase (sents l)) whole
+    sents_behind : List Sent
+    sents_behind = sents (ms ++ numbered_as n m ∷ [])
+
+    sents_are : sent_in (kept_of terms (before ++ message m ∷ [])) ≡ sents_behind
+    sents_are = sym (sents-numbered terms (before ++ message m ∷ [])) ∙ ap sents whole
+
+    behind : phase (sent_in (kept_of terms (before ++ message m ∷ []))) ≡ phase sents_behind
+    behind = ap phase sents_are
+
+    value : (open_initializes (sents ms) ≡ []) ⊎ (said ≡ without_params m.message)
+    value = subst (λ (l : List Sent). (open_initializes l ≡ []) ⊎ (said ≡ without_params m.message))
+        (sym (sents-numbered terms before)) has_value
+
+    more : Remarked n m.side said old.phase (phase sents_behind) (is_done sents_behind) old.remarks
+        new.remarks
+    more = subst (λ (l : List Sent). Remarked n m.side said old.phase (phase l) (is_done l)
+        old.remarks new.remarks) sents_are says.remarked

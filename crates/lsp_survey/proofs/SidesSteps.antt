@@ -3,6 +3,7 @@ use Rattle.std.specs.Prelude.{nat_le, ◌&&◌, ◌||◌, ◌==◌, if◌then◌
 use Rattle.std.proofs.Common.{◌≡◌, ℕ, Bool, true, false, List, [], ◌∷◌, ◌++◌, Some, None, refl, sym}
 use Rattle.std.proofs.Common.{ap, ◌∙◌}
 use Rattle.std.proofs.Math.Bool.{or-false}
+use Rattle.lsp_rpc.specs.Message.{Message}
 use Rattle.lsp_session.specs.Sent.{same_side, other_side}
 use Rattle.lsp_types.specs.declared.rules.TheConstants as rules
 use Rattle.lsp_types.specs.declared.side.Side.{Side}
@@ -17,7 +18,7 @@ use Rattle.lsp_survey.specs.Walking.{IsMessageOf}
 use Rattle.lsp_survey.specs.declared.notes.sides.SideNote.{SideNote}
 use Rattle.lsp_survey.specs.declared.notes.sides.Sides.{Sides}
 
-note : Bool → Bool → SideNote
+abbrev note : Bool → Bool → SideNote
 note broken unread = record { broken = broken; unread = unread }
 
 pushed : (side : Side) (events : List Event) (e : Event) → side_of side (events ++ e ∷ [])
@@ -85,22 +86,23 @@ module _ (rule : ℕ) (side : Side) (s : Sides) (events : List Event) (are : s �
         ap (λ w. nat_le rule rules.CHARSET_NOT_UTF_8 && (side_in side w).unread) are
         ∙ ap (λ b. nat_le rule rules.CHARSET_NOT_UTF_8 && b) (unread_in side events)
 
-    pub message_late : (event : Event) → IsMessageOf side event
+    pub message_late : (said : Message) (event : Event) → IsMessageOf side said event
         → (wants_other rule && (side_in (other_side side) s).broken)
         ≡ follows_bytes rule events event
-    message_late event is =
+    message_late said event is =
         ap (λ w. wants_other rule && (side_in (other_side side) w).broken) are
         ∙ ap (λ b. wants_other rule && b) (broken_in (other_side side) events)
         ∙ ap (λ by. wants_other rule && has_broken (other_side by) events) (sym is.2)
         ∙ ap (follows_bytes rule events) (sym is.1)
 
-pub message_after : (side : Side) (s : Sides) (event : Event) → IsMessageOf side event
+pub message_after : (side : Side) (s : Sides) (said : Message) (event : Event)
+    → IsMessageOf side said event
     → sides_read side s ≡ sides_after event s
-message_after side s event is =
+message_after side s said event is =
     ap (λ by. sides_read by s) (sym is.2) ∙ ap (λ e. sides_after e s) (sym is.1)
 
 -- a message answers nothing by failing
-pub message_answers : (side : Side) (b : Bool) (kept : List Event) (event : Event)
-    → IsMessageOf side event → b ≡ (b || may_answer kept event)
-message_answers side b kept event is =
+pub message_answers : (side : Side) (b : Bool) (kept : List Event) (said : Message) (event : Event)
+    → IsMessageOf side said event → b ≡ (b || may_answer kept event)
+message_answers side b kept said event is =
     sym (or-false b) ∙ ap (λ e. b || may_answer kept e) (sym is.1)

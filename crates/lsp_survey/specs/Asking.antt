@@ -7,14 +7,14 @@ use Rattle.lsp_rpc.specs.Ident.{Ident, number, text, same_id}
 use Rattle.lsp_rpc.specs.Message.{Message}
 use Rattle.lsp_session.specs.Handshake.{phase}
 use Rattle.lsp_session.specs.Requests.{names}
-use Rattle.lsp_session.specs.Sent.{Sent, answered_from, request_of, same_side}
+use Rattle.lsp_session.specs.Sent.{Sent, answered_from}
 use Rattle.lsp_session.specs.declared.phase.Phase.{Phase}
 use Rattle.lsp_session.specs.declared.phase.Phase.TheVariants.{Fresh, Waiting, Answered, Ready}
 use Rattle.lsp_session.specs.declared.phase.Phase.TheVariants.{Stopping, Exited}
 use Rattle.lsp_types.specs.declared.side.Side.{Side}
 use Rattle.lsp_verdict.specs.Event.{Event, sent_of}
 use Rattle.lsp_verdict.specs.LookBack.{each_of}
-use Rattle.lsp_verdict.specs.Offences.{last_or, rule_at}
+use Rattle.lsp_verdict.specs.Offences.{asked_from, last_or, rule_at}
 use Rattle.lsp_survey.specs.LastOnes.{last_ones}
 use Rattle.lsp_survey.specs.Marking.{number_next}
 
@@ -46,16 +46,11 @@ sents said = map (λ (m : Numbered). m.sent) said
 
 -- ---- requests
 
--- the id of this side's request that a message of the sender is
-abbrev pub asked_id : Side → Side → Message → Option Ident
-asked_id side sender message =
-    if same_side side sender then option_map (λ asked. asked.0) (request_of message) else None
-
 -- what a message, the event of this number, is for this side's request with this id: it sends it,
 -- or answers it
 abbrev pub asks : Side → Ident → ℕ → Side → Message → Option (Option ℕ)
 asks side id n sender message =
-    if names (asked_id side sender message) id then Some (Some n)
+    if names (asked_from side sender message) id then Some (Some n)
     else (if names (answered_from side sender message) id then Some None else None)
 
 abbrev pub asks_by : Side → Ident → Numbered → Option (Option ℕ)

@@ -4,9 +4,15 @@ pub mod LastOnes
 pub mod Asking
 pub mod Marking
 pub mod Marks
+pub mod Openings
+pub mod StandardMethods
+pub mod Misuses
+pub mod Remarks
 pub mod SessionNoting
+pub mod Passed
 pub mod Sides
 pub mod Walking
 pub mod Ending
 pub mod Reads
 pub mod Reported
+pub mod KeptText

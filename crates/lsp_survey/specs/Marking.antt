@@ -19,7 +19,7 @@ use Rattle.lsp_verdict.specs.Calls.{calls}
 use Rattle.lsp_verdict.specs.Event.{Event}
 use Rattle.lsp_verdict.specs.LookBack.{each_of}
 use Rattle.lsp_verdict.specs.Offences.{kept_of, rule_at, said_at}
-use Rattle.lsp_survey.specs.LastOnes.{last_ones}
+use Rattle.lsp_survey.specs.LastOnes.{last_ones, with_room}
 use Rattle.lsp_survey.specs.declared.notes.mark.Setter.{Setter}
 use Rattle.lsp_survey.specs.declared.notes.mark.Shown.{Shown}
 use Rattle.lsp_survey.specs.declared.notes.mark.Touch.{Touch}
@@ -221,17 +221,13 @@ unmarked = record { setters = []; rank = 0; agreed = None; waiting = λ number. 
 abbrev pub above : ℤ → (ℤ → List ℕ) → ℤ → List ℕ
 above own waiting number = if int_lt own number then waiting number else []
 
--- all but the first, where there is no room for one more
-abbrev pub with_room : List Setter → List Setter
-with_room done = if nat_lt (length done) most_setters then done else drop 1 done
-
 abbrev pub next_rank : ℕ → ℕ
 next_rank rank = capped (rank + 1)
 
 -- one more step
 abbrev pub stepped : Step → Marked → Marked
 stepped (touches Reached n own) m = record {
-  setters = with_room m.setters ++ record {
+  setters = with_room most_setters m.setters ++ record {
     event = n;
     version = own;
     rank = next_rank m.rank;

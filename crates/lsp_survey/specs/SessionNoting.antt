@@ -1,20 +1,20 @@
 -- What is noted of requests and phases, and for which messages it stands.
-use Rattle.std.specs.Prelude.{◌≡◌, ℕ, List, ◌++◌, map, drop, length, nat_lt, if◌then◌else◌, Option}
+use Rattle.std.specs.Prelude.{◌≡◌, ℕ, List, ◌++◌, map, Option}
 use Rattle.std.specs.Prelude.{unwrap_or, option_to_list, option_map}
 use Rattle.std.specs.Map.{lookup}
 use Rattle.lsp_docs.specs.Terms.{Terms}
 use Rattle.lsp_rpc.specs.Ident.{Ident, id_view, same_id}
 use Rattle.lsp_rpc.specs.Message.{Message}
 use Rattle.lsp_rpc.specs.declared.message.Id.{Id}
-use Rattle.lsp_session.specs.Handshake.{phase}
-use Rattle.lsp_session.specs.Sent.{answered_from}
-use Rattle.lsp_session.specs.declared.phase.Phase.{Phase}
+use Rattle.lsp_session.specs.Handshake.{is_done, phase}
+use Rattle.lsp_session.specs.Sent.{Sent, answered_from}
 use Rattle.lsp_types.specs.declared.side.Side.{Side}
 use Rattle.lsp_types.specs.declared.side.Side.TheVariants.{Editor, Server}
 use Rattle.lsp_verdict.specs.Event.{Event}
 use Rattle.lsp_survey.specs.Asking.{Numbered, Reply, asks, asked, replies, replied, reply_of}
 use Rattle.lsp_survey.specs.Asking.{most_replies, leads, numbered, sents, since}
 use Rattle.lsp_survey.specs.LastOnes.{last_ones}
+use Rattle.lsp_survey.specs.Remarks.{AreRemarks, Remarked}
 use Rattle.lsp_survey.specs.declared.notes.exchange.Exchange.{Exchange}
 use Rattle.lsp_survey.specs.declared.notes.exchange.Given.{Given}
 use Rattle.lsp_survey.specs.declared.notes.session_notes.SessionNotes.{SessionNotes}
@@ -25,15 +25,11 @@ abbrev pub given_view : Given → Reply
 given_view g = record { id = id_view g.id; number = g.event }
 
 -- the event that is held of an id
-abbrev pub asked_in : List (Id × ℕ) → Ident → Option ℕ
+abbrev pub asked_in : {X : Type 0} → List (Id × X) → Ident → Option X
 asked_in es id = lookup (λ key. same_id id (id_view key)) es
 
 abbrev pub replies_in : Exchange → List Reply
 replies_in e = map given_view e.replies.items
-
--- where no more may be held, the oldest is let go
-abbrev pub room_in : List Given → List Given
-room_in items = if nat_lt (length items) most_replies then items else drop 1 items
 
 -- one more message of the sender, the event of this number
 pub record Exchanges (side : Side) (n : ℕ) (sender : Side) (m : Message) (old new : Exchange) : Type
@@ -57,15 +53,17 @@ pub record SessionStands (s : SessionNotes) (said : List Numbered) : Type 0 wher
   pub server : IsExchange Server s.server said
   pub phase_is : s.phase ≡ phase (sents said)
   pub since_is : s.since ≡ since said
+  pub remarks_are : AreRemarks s.remarks said
 
--- one more message of the sender, the event of this number, after which the session is in this
--- phase
-pub record SaysOn (n : ℕ) (sender : Side) (m : Message) (behind : Phase)
+-- one more message of the sender, the event of this number, with which the session has these
+pub record SaysOn (n : ℕ) (sender : Side) (m : Message) (behind : List Sent)
     (old new : SessionNotes) : Type 0 where
   pub editor : Exchanges Editor n sender m old.editor new.editor
   pub server : Exchanges Server n sender m old.server new.server
-  pub phase_is : new.phase ≡ behind
-  pub since_is : new.since ≡ unwrap_or (leads n old.phase behind) old.since
+  pub phase_is : new.phase ≡ phase behind
+  pub since_is : new.since ≡ unwrap_or (leads n old.phase (phase behind)) old.since
+  pub remarked : Remarked n sender m old.phase (phase behind) (is_done behind) old.remarks
+      new.remarks
 
 -- **they stand for the kept messages of these events**
 abbrev pub AreNotes : Terms → SessionNotes → List Event → Type 0

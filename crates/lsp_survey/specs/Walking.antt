@@ -1,6 +1,6 @@
 -- What a walk over the events of a session holds, and how one more event is heard.
 use Rattle.std.specs.Prelude.{◌≡◌, ℕ, ℤ, List, [], ◌∷◌, ◌++◌, Bool, ◌&&◌, ◌||◌, Option, Some}
-use Rattle.std.specs.Prelude.{None, is_some, string_bytes}
+use Rattle.std.specs.Prelude.{None, is_some, option_and_then, string_bytes}
 use Rattle.lsp_docs.specs.Calls.{Call}
 use Rattle.lsp_docs.specs.Terms.{Terms}
 use Rattle.lsp_docs.specs.declared.snapshot.Match.{Match}
@@ -9,14 +9,18 @@ use Rattle.lsp_replay.specs.declared.fault.Refused.{Refused}
 use Rattle.lsp_replay.specs.declared.heard.Heard as events
 use Rattle.lsp_replay.specs.declared.heard.Heard.TheVariants as kept
 use Rattle.lsp_rpc.specs.Act.{Act}
+use Rattle.lsp_rpc.specs.Ident.{id_view}
 use Rattle.lsp_rpc.specs.Message.{Message}
+use Rattle.lsp_rpc.specs.Outline.{outline}
+use Rattle.lsp_rpc.specs.declared.message.Id.{Id}
 use Rattle.lsp_rpc.specs.View.{act_view, message_view}
-use Rattle.lsp_session.specs.Handshake.{phase}
 use Rattle.lsp_session.specs.Sent.{Sent}
 use Rattle.lsp_session.specs.State.{Stands}
 use Rattle.lsp_survey.specs.Marks.{AreMarks, DoneBy, ShownBy}
+use Rattle.lsp_survey.specs.Openings.{AreOpenings, OpensBy}
 use Rattle.lsp_survey.specs.SessionNoting.{AreNotes, SaysOn}
-use Rattle.lsp_survey.specs.Notes.{note_in, note_of, AreAfter, is_noted_lost}
+use Rattle.lsp_survey.specs.Notes.{note_in, note_of, AreAfter, Leaves, is_noted_lost}
+use Rattle.lsp_survey.specs.Passed.{ArePassed, has_passed}
 use Rattle.lsp_survey.specs.Sides.{sides_after, sides_of, sides_read}
 use Rattle.lsp_survey.specs.declared.offending.FoundOffence.{FoundOffence}
 use Rattle.lsp_survey.specs.declared.offending.Judged.{Judged}
@@ -27,15 +31,16 @@ use Rattle.lsp_survey.specs.declared.walk.Replay.{Replay}
 use Rattle.lsp_types.specs.declared.change.SyncKind.{SyncKind}
 use Rattle.lsp_types.specs.declared.position.Encoding.{Encoding}
 use Rattle.lsp_types.specs.declared.side.Side.{Side}
-use Rattle.lsp_verdict.specs.Calls.{call_of}
+use Rattle.lsp_verdict.specs.Calls.{call_of, calls}
 use Rattle.lsp_verdict.specs.Counting.{AreCounts}
 use Rattle.lsp_verdict.specs.Contents.{ReadsAs}
 use Rattle.lsp_verdict.specs.Event.{Event, fault, message}
 use Rattle.lsp_verdict.specs.Given.{given_offence, offence_view}
 use Rattle.lsp_verdict.specs.LookBack.{first_of}
-use Rattle.lsp_verdict.specs.Offences.{Noted, Offence, IsNoted, breaks_handshake, broken_by}
-use Rattle.lsp_verdict.specs.Offences.{events_of, follows_bytes, is_handshake_lost, kept_of}
-use Rattle.lsp_verdict.specs.Offences.{may_answer, offence_by, rule_at}
+use Rattle.lsp_verdict.specs.Offences.{Noted, Offence, IsNoted, asks, breaks_handshake, broken_by}
+use Rattle.lsp_verdict.specs.Offences.{held_in}
+use Rattle.lsp_verdict.specs.Offences.{brought_by, events_of, follows_bytes, is_handshake_lost, kept_of}
+use Rattle.lsp_verdict.specs.Offences.{follows_passed, is_passed, may_answer, offence_by, rule_at}
 use Rattle.lsp_verdict.specs.Offences.{wants_handshake, wants_text}
 use Rattle.lsp_verdict.specs.Placed.{Raw, content, broken, show}
 use Rattle.lsp_verdict.specs.Verdict.{no_next, whose}
@@ -47,11 +52,14 @@ use Rattle.lsp_verdict.specs.declared.verdict.Who.{Who}
 pub record WalksBy (terms : Terms) (w : Replay) (notes : List Noted) : Type 0 where
   pub holds : Holds w.events.session w.events.docs (kept_of terms (events_of notes))
   pub counted : AreCounts w.events.counts (events_of notes)
-  pub noted : (uri : List ℕ) → note_in w.notes.map.entries uri ≡ note_of terms uri (events_of notes)
+  pub noted : (uri : List ℕ) → note_in w.notes.map.entries uri ≡ note_of terms uri notes
   pub is_broken : w.broken ≡ is_some (first_of (broken_by terms) notes)
   pub marked : AreMarks terms w.marks.map.entries (events_of notes)
+  pub opened : AreOpenings terms w.openings (events_of notes)
   pub said : AreNotes terms w.said (events_of notes)
   pub sided : w.sides ≡ sides_of (events_of notes)
+  pub passed : (side : Side) (k : Id) → has_passed w.passed side (id_view k)
+      ≡ is_passed terms side (id_view k) notes
 
 -- **a walk has heard these events**, and skipped each that offends after the kept ones before
 -- it
@@ -68,11 +76,13 @@ IsRefused raw terms before refused = Refuses raw terms (kept_of terms (events_of
 abbrev pub NotesMessage : ℕ → Side → Message → Act → Replay → Replay → Type 0
 NotesMessage number side said act old new =
     ((enc : Encoding) (kind : SyncKind)
-    → AreAfter None (call_of enc kind act) old.notes.map.entries new.notes.map.entries)
+    → AreAfter (call_of enc kind act) old.notes.map.entries new.notes.map.entries)
     × ((enc : Encoding) (kind : SyncKind)
     → DoneBy number (call_of enc kind act) old.marks.map.entries new.marks.map.entries)
+    × ((enc : Encoding) (kind : SyncKind)
+    → OpensBy number (call_of enc kind act) old.openings new.openings)
     × ((sents : List Sent) → Stands new.events.session sents
-    → SaysOn number side said (phase sents) old.said new.said)
+    → SaysOn number side said sents old.said new.said)
     × (new.sides ≡ sides_read side old.sides)
 
 -- a snapshot that is kept, the event of this number, was noted as it was answered
@@ -80,6 +90,7 @@ abbrev pub NotesSnapshot : ℕ → List ℕ → ℤ → Match → Replay → Rep
 NotesSnapshot number uri version answer old new =
     (new.notes ≡ old.notes)
     × ShownBy number uri version answer old.marks.map.entries new.marks.map.entries
+    × (new.openings ≡ old.openings)
     × (new.said ≡ old.said)
     × (new.sides ≡ old.sides)
 
@@ -98,7 +109,7 @@ pub record Counted (old new : Replay) (by : Who) : Type 0 where
       → whose event ≡ by → AreCounts new.events.counts (events ++ event ∷ [])
 
 -- the offence by this rule at the event of theirs that comes next, which speaks of a lost document
--- or does not, and follows from bytes that failed or does not
+-- or does not, and follows from bytes that failed or from a request that was passed over or does not
 abbrev pub offence_of : Terms → List Noted → Who → ℕ → Bool → Bool → Offence
 offence_of terms before by rule on_lost late = record {
   no = no_next rule by (events_of before);
@@ -106,9 +117,11 @@ offence_of terms before by rule on_lost late = record {
       || (wants_text rule && on_lost || late);
 }
 
--- a message of this side
-abbrev pub IsMessageOf : Side → Event → Type 0
-IsMessageOf side event = (sent : Sent) × (event ≡ message sent) × (sent.side ≡ side)
+-- this message of the side, up to its params
+abbrev pub IsMessageOf : Side → Message → Event → Type 0
+IsMessageOf side said event =
+    (sent : Sent) × (event ≡ message sent) × (sent.side ≡ side)
+    × (outline sent.message ≡ outline said)
 
 -- this content of the side does not read as a message that means something
 abbrev pub IsUnread : Side → List ℕ → OffendingEvent → Type 0
@@ -121,9 +134,10 @@ IsShown number uri text (what.Snapshot version name shown) =
     (version ≡ number) × (string_bytes name ≡ uri) × (string_bytes shown ≡ text)
 IsShown number uri text other = ⊥
 
--- an event of theirs that offends by this rule was skipped: it says this about a document, under
--- what was agreed, is such an event, and such as was found
-pub record PassesOver (old new : Replay) (by : Who) (rule : ℕ) (asks : Bool)
+-- an event of theirs that offends by this rule was skipped: it is this message, if its content is
+-- malformed, says this about a document, under what was agreed, is such an event, and such as was
+-- found
+pub record PassesOver (old new : Replay) (by : Who) (rule : ℕ) (malformed : Option Message)
     (says : Encoding → SyncKind → Option Call) (IsEvent : Event → Type 0)
     (IsSuch : OffendingEvent → Type 0) (given : Judged) : Type 0 where
   pub found : FoundOffence
@@ -132,18 +146,26 @@ pub record PassesOver (old new : Replay) (by : Who) (rule : ℕ) (asks : Bool)
   pub counted : Counted old new by
   pub is_broken : (event : Event) (kept : List Event) → IsEvent event
       → Holds old.events.session old.events.docs kept
-      → new.broken ≡ (old.broken || (breaks_handshake asks rule || may_answer kept event))
+      → new.broken ≡ (old.broken || (breaks_handshake (asks malformed) rule
+      || may_answer kept event))
   pub sides : (event : Event) → IsEvent event → new.sides ≡ sides_after event old.sides
-  pub noted : (enc : Encoding) (kind : SyncKind)
-      → AreAfter (Some rule) (says enc kind) old.notes.map.entries new.notes.map.entries
+  pub passed : (event : Event) → IsEvent event
+      → ArePassed (Some rule) event malformed old.passed new.passed
+  pub noted : (enc : Encoding) (kind : SyncKind) (kept : List Event)
+      → Holds old.events.session old.events.docs kept
+      → Leaves (Some rule) (option_and_then brought_by malformed)
+      (held_in old.events.docs.terms (calls kept) (says enc kind)) (says enc kind)
+      old.notes.map.entries new.notes.map.entries
   pub marks : new.marks ≡ old.marks
+  pub openings : new.openings ≡ old.openings
   pub said : new.said ≡ old.said
   pub offence : (enc : Encoding) (kind : SyncKind) (notes : List Noted) (event : Event)
       → IsEvent event → Walks old notes
       → offence_view found.offence
       ≡ given_offence (offence_of old.events.docs.terms notes by rule
       (is_noted_lost old.notes.map.entries (says enc kind))
-      (follows_bytes rule (events_of notes) event))
+      (follows_passed old.events.docs.terms rule notes event
+      || follows_bytes rule (events_of notes) event))
 
 -- ---- what was heard
 

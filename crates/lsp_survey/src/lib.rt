@@ -1,25 +1,32 @@
 //! All that is wrong with a session, and not only the first: an event that offends is skipped,
 //! as if it had not been sent, and the next is judged after those that keep the rules.
 //!
-//! `run_survey` reads a log and writes a report of all its offences. An offence may follow from an
-//! earlier one that left a document, or the handshake, apart on the two sides; what is an offence,
-//! and what follows, is defined in `lsp_verdict`.
+//! `run_survey` reads a log and writes a report of all its offences, `run_text_all` the text that
+//! is held after a message of the editor's. An offence may follow from an earlier one that left a
+//! document, or the handshake, apart on the two sides; what is an offence, and what follows, is
+//! defined in `lsp_verdict`.
 //!
 //! What is noted of the events on the way, as which one set a version of a document, is in `notes`:
-//! [`Marks`], [`Setter`], [`Shown`] and [`SessionNotes`] lend it to who explains an offence.
+//! [`Marks`], [`Openings`], [`SessionNotes`] and [`Misused`] lend it to who explains a session.
 #![tactic(auto)]
 
+mod laws;
 mod notes;
 mod offence_count;
 mod offending;
 mod run;
 mod session_end;
 mod survey_reader;
+mod text;
 mod walk;
 
+pub use laws::one_kept_text;
 pub use lsp_verdict::Listing;
-pub use notes::{Marks, SessionNotes, Setter, Shown};
+pub use notes::{
+    Closing, DocumentEvent, Marks, Misuse, Misused, Openings, SessionNotes, Setter, Shown, uri_in,
+};
 pub use offence_count::OffenceCount;
 pub use offending::{FoundOffence, Judged, OffendingEvent};
 pub use run::run_survey;
 pub use survey_reader::{NextJudged, SurveyEnd, SurveyReader};
+pub use text::run_text_all;

@@ -150,6 +150,7 @@ fn list_heard<W: Sink>(
 }
 
 /// Counts an offence, and writes its lines where it is listed.
+#[inline(never)]
 fn list<W: Sink>(
     alloc: Global,
     writer: &mut W,

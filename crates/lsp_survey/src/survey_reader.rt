@@ -15,7 +15,7 @@ ghost use Rattle.lsp_verdict.specs.Verdict.{summary, yes};
 ghost use Rattle.lsp_survey.specs.Reads.{EndIs, EndsAre, GivesBehind, IsBroken, Pulls, ShowsFront};
 ghost use Rattle.lsp_survey.specs.Reads.{SoFar};
 
-use crate::notes::{Marks, SessionNotes};
+use crate::notes::{Marks, Openings, SessionNotes};
 use crate::offending::Judged;
 use crate::session_end::ends;
 use crate::walk::Replay;
@@ -165,6 +165,13 @@ impl SurveyReader {
         &self.walk.marks
     }
 
+    /// Which of the kept events heard so far opened and closed documents last.
+    pub fn openings(&self) -> &Openings
+        ensures { result.now ≡ self.now.walk.openings }
+    {
+        &self.walk.openings
+    }
+
     /// By which of the kept events heard so far requests were asked and answered, and which led to
     /// the phase of the session.
     pub fn session_notes(&self) -> &SessionNotes
@@ -204,6 +211,7 @@ impl SurveyReader {
     }
 
     /// The result of the end of the log.
+    #[inline(never)]
     fn end(&self, end: replay::End) -> Result<SurveyEnd, Memory>
         ensures { IfOk result (λ told. EndIs self.now end told) }
     {

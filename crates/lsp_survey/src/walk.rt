@@ -1,22 +1,24 @@
 //! The events of a session, of which those that offend are skipped.
 ghost use Rattle.std.specs.Prelude.{◌≡◌, ◌&&◌, ◌||◌, [], Bool, List, None, Some, false, IfOk, OnOk};
-ghost use Rattle.std.specs.Prelude.{chars, ℕ};
+ghost use Rattle.std.specs.Prelude.{Option, chars, ℕ, ◌==◌};
 ghost use Rattle.lsp_docs.specs.Calls.{shows};
 ghost use Rattle.lsp_docs.specs.Terms.{terms_of};
 ghost use Rattle.lsp_replay.specs.Standing.{Holds};
+ghost use Rattle.lsp_rpc.specs.Message.{Message as AMessage};
 ghost use Rattle.lsp_rpc.specs.View.{act_view, message_view};
 ghost use Rattle.lsp_verdict.specs.Calls.{call_of};
 ghost use Rattle.lsp_verdict.specs.Counting.{AreCounts};
 ghost use Rattle.lsp_verdict.specs.Event.{Event, fault, snapshot};
 ghost use Rattle.lsp_verdict.specs.Given.{given_offence, offence_view};
-ghost use Rattle.lsp_verdict.specs.Offences.{Asks, Noted, breaks_handshake, events_of};
+ghost use Rattle.lsp_verdict.specs.Offences.{IsReading, Noted, breaks_handshake, events_of};
 ghost use Rattle.lsp_verdict.specs.Offences.{follows_bytes, is_handshake_lost, may_answer};
-ghost use Rattle.lsp_verdict.specs.Offences.{wants_handshake, wants_text};
-ghost use Rattle.lsp_verdict.specs.Placed as placed;
+ghost use Rattle.lsp_verdict.specs.Offences.{follows_passed, wants_handshake, wants_text};
 ghost use Rattle.lsp_verdict.specs.Verdict as spec;
 ghost use Rattle.lsp_survey.specs.Marking.{number_next};
-ghost use Rattle.lsp_survey.specs.Notes.{asks_of};
+ghost use Rattle.lsp_session.specs.Sent.{other_side, response_id};
+ghost use Rattle.lsp_survey.specs.Passed.{has_any};
 ghost use Rattle.lsp_survey.specs.Sides.{sides_failed};
+ghost use Rattle.lsp_types.specs.declared.rules.TheConstants as rules;
 ghost use Rattle.lsp_verdict.specs.Lent.{raw_view};
 ghost use Rattle.lsp_survey.specs.Ending.{lack_by};
 ghost use Rattle.lsp_survey.specs.Walking.{Counted, Hears, IsMessageOf, IsRefused, IsShown};
@@ -24,15 +26,17 @@ ghost use Rattle.lsp_survey.specs.Walking.{IsUnread, NotesKept, NotesMessage, Pa
 ghost use Rattle.lsp_survey.specs.Walking.{offence_of};
 
 use crate::notes::{
-    Marks, Notes, SessionNotes, Sides, asks_again, asks_handshake, breaks_handshake, is_on_lost,
-    note_kept_act, note_refused, note_refused_act, wants_handshake, wants_text,
+    Malformed, Marks, Notes, Openings, Passed, SessionNotes, Sides, breaks_handshake, is_on_lost,
+    meant_again, note_kept_act, note_malformed, note_refused, note_refused_act, reopens,
+    wants_handshake, wants_text,
 };
 use crate::offending::{FoundOffence, Judged, OffendingEvent};
 use lsp_frame::{Format, Limits};
 use lsp_lined::Lined;
 use lsp_replay as replay;
 use lsp_replay::{Events, Refused};
-use lsp_rpc::{Memory, Side, Spoken};
+use lsp_rpc::{Memory, Message, Side, Spoken};
+use lsp_types::rules;
 use lsp_verdict::{Completeness, Counts, Offence, Raw, Who, who_of};
 use std::alloc::Global;
 
@@ -47,8 +51,12 @@ pub(crate) struct Replay {
     broken: bool,
     /// How the bytes of the two sides failed.
     sides: Sides,
+    /// Which requests were passed over.
+    passed: Passed,
     /// Which kept events left the documents as they are.
     pub marks: Marks,
+    /// Which documents they opened and closed last.
+    pub openings: Openings,
     /// By which kept events requests were asked and answered.
     pub said: SessionNotes,
 }
@@ -64,7 +72,9 @@ impl Replay {
             notes: Notes::new(alloc),
             broken: false,
             sides: Sides::new(),
+            passed: Passed::new(alloc),
             marks: Marks::new(alloc),
+            openings: Openings::new(alloc),
             said: SessionNotes::new(alloc),
         }
     }
@@ -95,7 +105,8 @@ impl Replay {
 
     /// Takes over the event of this number, which was heard and is kept.
     fn keep(&mut self, number: u64, kept: replay::Heard<'_>) -> Result<Judged, Memory>
-        ensures same { (self.new.events ≡ self.old.events) × (self.new.broken ≡ self.old.broken) }
+        ensures same { (self.new.events ≡ self.old.events) × (self.new.broken ≡ self.old.broken)
+            × (self.new.passed ≡ self.old.passed) }
         ensures keeps { IfOk result (λ heard. (heard ≡ Judged.Kept)
             × NotesKept number kept.entry self.old self.new) }
     {
@@ -107,7 +118,8 @@ impl Replay {
 
     /// Notes the event of this number, which was heard and is kept.
     fn note(&mut self, number: u64, kept: &replay::Heard<'_>) -> Result<(), Memory>
-        ensures same { (self.new.events ≡ self.old.events) × (self.new.broken ≡ self.old.broken) }
+        ensures same { (self.new.events ≡ self.old.events) × (self.new.broken ≡ self.old.broken)
+            × (self.new.passed ≡ self.old.passed) }
         ensures noted { OnOk result (NotesKept number kept.now self.old self.new) }
     {
         match kept {
@@ -126,18 +138,22 @@ impl Replay {
 
     /// Notes the message of this number, which was heard and is kept.
     fn note_message(&mut self, number: u64, side: Side, spoken: &Spoken) -> Result<(), Memory>
-        ensures same { (self.new.events ≡ self.old.events) × (self.new.broken ≡ self.old.broken) }
+        ensures same { (self.new.events ≡ self.old.events) × (self.new.broken ≡ self.old.broken)
+            × (self.new.passed ≡ self.old.passed) }
         ensures noted { OnOk result (NotesMessage number side (message_view spoken.now.message)
             (act_view spoken.now.act) self.old self.new) }
     {
         let phase = self.events.session.phase();
+        let done = self.events.session.is_done();
         self.sides = self.sides.after_message(side);
         note_kept_act(&mut self.notes, &spoken.act)?;
         self.marks.keep_act(number, &spoken.act)?;
-        self.said.keep(number, side, &spoken.message, phase)
+        self.openings.keep_act(number, &spoken.act)?;
+        self.said.keep(number, side, &spoken.message, phase, done)
     }
 
     /// Skips the event that was refused so.
+    #[inline(never)]
     fn pass_over(&mut self, alloc: Global, raw: Raw<'_>, refused: Refused) -> Result<Judged, Memory>
         ensures terms { self.new.events.docs.terms ≡ self.old.events.docs.terms }
         ensures heard { IfOk result (λ heard. (before : List Noted) → Walks self.old before
@@ -170,7 +186,7 @@ impl Replay {
     /// Skips a fault of the frames of a side.
     fn refuse_frames(&mut self, side: Side, rule: u16) -> Judged
         ensures terms { self.new.events.docs.terms ≡ self.old.events.docs.terms }
-        ensures passes { PassesOver self.old self.new (spec.who_of side) rule false
+        ensures passes { PassesOver self.old self.new (spec.who_of side) rule None
             (λ enc kind. None) (λ event. event ≡ fault side rule)
             (λ what. what ≡ OffendingEvent.Frames side) result }
     {
@@ -185,18 +201,19 @@ impl Replay {
     fn refuse_message(&mut self, side: Side, rule: u16, spoken: Spoken) -> Result<Judged, Memory>
         ensures terms { self.new.events.docs.terms ≡ self.old.events.docs.terms }
         ensures passes { IfOk result
-            (PassesOver self.old self.new (spec.who_of side) rule
-            (asks_of side (message_view spoken.message))
+            (PassesOver self.old self.new (spec.who_of side) rule None
             (λ enc kind. call_of enc kind (act_view spoken.act))
-            (IsMessageOf side) (λ what. what ≡ OffendingEvent.Message side spoken)) }
+            (IsMessageOf side (message_view spoken.message)) (λ what. what ≡ OffendingEvent.Message side spoken)) }
     {
-        let breaks = breaks_handshake(asks_handshake(side, &spoken.message), rule);
+        let breaks = breaks_handshake(false, rule);
+        let reopens = reopens(&self.events.docs, rule, &spoken.act);
         let on_lost = is_on_lost(&self.notes, &spoken.act);
-        let late = self.sides.message_follows(side, rule);
+        let late = self.message_follows(side, rule, &spoken.message);
         let follows = self.follows(rule, on_lost, late);
         let offence = self.refuse(rule, who_of(side), breaks, follows);
         self.sides = self.sides.after_message(side);
-        note_refused_act(&mut self.notes, rule, &spoken.act)?;
+        note_refused_act(&mut self.notes, rule, reopens, &spoken.act)?;
+        self.passed.note(side, rule, &spoken.message)?;
         Ok(Judged::Offence(FoundOffence {
             offence,
             offending: OffendingEvent::Message { side, spoken },
@@ -213,14 +230,20 @@ impl Replay {
     ) -> Result<Judged, Memory>
         ensures terms { self.new.events.docs.terms ≡ self.old.events.docs.terms }
         ensures passes { IfOk result
-            (λ heard. (asks : Bool) × Asks (placed.content side content.now) asks
-            × PassesOver self.old self.new (spec.who_of side) rule asks
+            (λ heard. (malformed : Option AMessage) × IsReading content.now malformed
+            × PassesOver self.old self.new (spec.who_of side) rule malformed
             (λ enc kind. None) (λ event. event ≡ fault side rule) (IsUnread side content.now)
             heard) }
     {
-        let asks = asks_again(alloc, side, content)?;
-        let content = Vec::from_slice(alloc, content)?;
+        let Malformed {
+            asks,
+            brings,
+            asked,
+        } = meant_again(alloc, content)?;
         let offence = self.refuse_fault(side, rule, asks);
+        note_malformed(&mut self.notes, rule, brings)?;
+        self.passed.note_asked(side, asked)?;
+        let content = Vec::from_slice(alloc, content)?;
         Ok(Judged::Offence(FoundOffence {
             offence,
             offending: OffendingEvent::Content { side, content },
@@ -237,7 +260,7 @@ impl Replay {
         text: &str,
     ) -> Result<Judged, Memory>
         ensures terms { self.new.events.docs.terms ≡ self.old.events.docs.terms }
-        ensures passes { IfOk result (PassesOver self.old self.new Who.Snapshot rule false
+        ensures passes { IfOk result (PassesOver self.old self.new Who.Snapshot rule None
             (λ enc kind. Some (shows uri.now version (chars text.now)))
             (λ event. event ≡ snapshot uri.now version (chars text.now))
             (IsShown version uri.now text.now)) }
@@ -246,7 +269,7 @@ impl Replay {
         let follows = self.follows(rule, on_lost, false);
         let breaks = breaks_handshake(false, rule);
         let offence = self.refuse(rule, Who::Snapshot, breaks, follows);
-        note_refused(&mut self.notes, rule, uri, false)?;
+        note_refused(&mut self.notes, rule, uri, false, false)?;
         let uri = String::from_str(alloc, uri)?;
         let text = String::from_str(alloc, text)?;
         Ok(Judged::Offence(FoundOffence {
@@ -261,7 +284,9 @@ impl Replay {
         ensures counted { Counted self.old self.new (spec.who_of side) }
         ensures notes { self.new.notes ≡ self.old.notes }
         ensures marks { self.new.marks ≡ self.old.marks }
+        ensures openings { self.new.openings ≡ self.old.openings }
         ensures said { self.new.said ≡ self.old.said }
+        ensures passed { self.new.passed ≡ self.old.passed }
         ensures sides { self.new.sides ≡ sides_failed side rule self.old.sides }
         ensures broken { (kept : List Event)
             → Holds self.old.events.session self.old.events.docs kept
@@ -286,7 +311,9 @@ impl Replay {
         ensures counted { Counted self.old self.new by }
         ensures notes { self.new.notes ≡ self.old.notes }
         ensures marks { self.new.marks ≡ self.old.marks }
+        ensures openings { self.new.openings ≡ self.old.openings }
         ensures said { self.new.said ≡ self.old.said }
+        ensures passed { self.new.passed ≡ self.old.passed }
         ensures sides { self.new.sides ≡ self.old.sides }
         ensures broken { self.new.broken ≡ (self.old.broken || breaks) }
         ensures offence { (before : List Noted) → Walks self.old before
@@ -299,8 +326,30 @@ impl Replay {
         offence
     }
 
+    /// Whether an offence of this message by this rule follows from a request that was passed over,
+    /// or from the broken frames of the other side.
+    fn message_follows(&self, side: Side, rule: u16, message: &Message) -> bool
+        ensures { (before : List Noted) (event : Event) → Walks self.now before
+            → IsMessageOf side (message_view message.now) event
+            → result ≡ (follows_passed self.now.events.docs.terms rule before event
+            || follows_bytes rule (events_of before) event) }
+    {
+        let passed = self.answers_passed(side, rule, message);
+        let late = self.sides.message_follows(side, rule);
+        passed || late
+    }
+
+    /// Whether a message of this side that breaks this rule answers a request that was passed over.
+    fn answers_passed(&self, side: Side, rule: u16, message: &Message) -> bool
+        ensures { result ≡ (rule == rules.RESPONSE_TO_NO_OPEN_REQUEST
+            && has_any self.now.passed (other_side side) (response_id (message_view message.now))) }
+    {
+        rule == rules::RESPONSE_TO_NO_OPEN_REQUEST && self.passed.answers(side, message)
+    }
+
     /// Whether an offence by this rule follows from an earlier one, where its event speaks of a
-    /// lost document or doesn't, and follows from bytes that failed or doesn't.
+    /// lost document or doesn't, and is late or isn't: follows from bytes that failed or from a
+    /// request that was passed over.
     fn follows(&self, rule: u16, on_lost: bool, late: bool) -> bool
         ensures { (before : List Noted) → Walks self.now before
             → result ≡ (wants_handshake rule && is_handshake_lost self.now.events.docs.terms before

@@ -39,6 +39,31 @@ block_passed enc bs column at left width h within is le =
           );
     }
 
+-- two more blocks
+pub pair_passed : (enc : Encoding) (bs : List ℕ) (column at left width : ℕ)
+    → IsPassed enc bs column at left → at + 64 ≤ length bs
+    → width ≡ sum_by (byte_units enc) (take 32 (drop at bs))
+    + sum_by (byte_units enc) (take 32 (drop (at + 32) bs)) → width ≤ left
+    → IsPassed enc bs column (at + 64) (left - width)
+pair_passed enc bs column at left width h within is le =
+    let a = sum_by (byte_units enc) (take 32 (drop at bs)) in
+    let b = sum_by (byte_units enc) (take 32 (drop (at + 32) bs)) in
+    let one = block_passed enc bs column at left a h (omega arith) refl (omega arith) in
+    let two = block_passed enc bs column (at + 32) (left - a) b one (omega arith) refl (omega arith)
+    in
+    let place : at + 64 ≡ at + 32 + 32 = omega arith in
+    record {
+      within = within;
+      left_is =
+          omega (
+            arith,
+            two.left_is,
+            ap (λ n. sum_by (byte_units enc) (take n bs)) place,
+            is,
+            le,
+          );
+    }
+
 -- a byte that goes on with a character brings nothing
 inside_byte : (enc : Encoding) (x : ℕ) → enc ≢ Utf8 → 128 ≤ x → x < 192 → byte_units enc x ≡ 0
 inside_byte Utf8 x wide low high = absurd (wide refl)

@@ -4,7 +4,8 @@ use Rattle.std.proofs.Common.{[], ◌∷◌, length, map, replicate, refl, sym, 
 use Rattle.std.proofs.Common.{w8}
 use Rattle.std.proofs.lemmas.Bool.Decides.{nat_tests}
 use Rattle.std.proofs.lemmas.List.Sums.{sum_by-cons}
-use Rattle.std.proofs.lemmas.Simd.{zip2_splat, zip2_splat_left, fold-sum, sum_fits}
+use Rattle.std.proofs.lemmas.Simd.{zip2_splat, zip2_splat_left, fold-sum, sum-zip2, sum_fits}
+use Rattle.std.proofs.lemmas.List.{length-map}
 use Rattle.std.specs.Int.Bits.{bit_or}
 use Rattle.std.specs.List.{sum_by}
 use Rattle.std.specs.Simd.Lanes.{zip2, top, sel_l, sum_l, fold_l, Each2, Steps}
@@ -129,3 +130,48 @@ pub lanes_fit : (f : ℕ → ℕ) (v lanes : List ℕ) → length v ≡ 32 → l
     → Steps (λ s x. Fits w8 (s + x)) (λ s x. s + x) 0 lanes
 lanes_fit f v lanes long is few =
     sum_fits w8 0 lanes (omega (arith, ap sum_l is, sum-map f v, few, long))
+
+-- the lanes of two vectors, each with at most 2, added
+added_fit : (f : ℕ → ℕ) → ((x : ℕ) → f x ≤ 2) → (v w : List ℕ)
+    → Each2 (λ a b. Fits w8 (a + b)) (map f v) (map f w)
+added_fit f small [] w = tt
+added_fit f small (x ∷ xs) [] = tt
+added_fit f small (x ∷ xs) (y ∷ ys) =
+    (record { fits = omega (arith, small x, small y) }, added_fit f small xs ys)
+
+pub both_utf16_fit : (v w a b : List ℕ) → a ≡ map (byte_units Utf16) v → b ≡ map (byte_units Utf16) w
+    → Each2 (λ a b. Fits w8 (a + b)) a b
+both_utf16_fit v w a b first second =
+    rw first (rw second (added_fit (byte_units Utf16) utf16_small v w))
+
+pub both_utf32_fit : (v w a b : List ℕ) → a ≡ map (byte_units Utf32) v → b ≡ map (byte_units Utf32) w
+    → Each2 (λ a b. Fits w8 (a + b)) a b
+both_utf32_fit v w a b first second =
+    rw first (rw second (added_fit (byte_units Utf32) utf32_small v w))
+
+-- what they sum up to
+sum_of_added : (f : ℕ → ℕ) (v w lanes : List ℕ) → length v ≡ length w
+    → lanes ≡ zip2 (λ a b. a + b) (map f v) (map f w) → sum_l lanes ≡ sum_by f v + sum_by f w
+sum_of_added f v w lanes same is =
+    let long : length (map f v) ≡ length (map f w) = length-map v f ∙ same ∙ sym (length-map w f) in
+    omega (arith, ap sum_l is, sum-zip2 (map f v) (map f w) long, sum-map f v, sum-map f w)
+
+pub sum_of_both : (f : ℕ → ℕ) (v w lanes : List ℕ) → length v ≡ 32 → length w ≡ 32
+    → lanes ≡ zip2 (λ a b. a + b) (map f v) (map f w)
+    → fold_l (λ s x. s + x) 0 lanes ≡ sum_by f v + sum_by f w
+sum_of_both f v w lanes first second is =
+    omega (arith, fold-sum 0 lanes, sum_of_added f v w lanes (first ∙ sym second) is)
+
+pub both_fit_in_sum : (f : ℕ → ℕ) (v w lanes : List ℕ) → length v ≡ 32 → length w ≡ 32
+    → lanes ≡ zip2 (λ a b. a + b) (map f v) (map f w)
+    → sum_by f v ≤ 2 * length v → sum_by f w ≤ 2 * length w
+    → Steps (λ s x. Fits w8 (s + x)) (λ s x. s + x) 0 lanes
+both_fit_in_sum f v w lanes first second is few more =
+    sum_fits w8 0 lanes (omega (
+      arith,
+      sum_of_added f v w lanes (first ∙ sym second) is,
+      few,
+      more,
+      first,
+      second,
+    ))

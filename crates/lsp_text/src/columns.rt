@@ -5,7 +5,7 @@ ghost use Rattle.std.specs.Str.{chars};
 ghost use Rattle.lsp_text.specs.Places.{units, units_of_char, place_in_line};
 ghost use Rattle.lsp_text.specs.Offsets.{IsOffset, IsSkipped, IsPassed};
 
-use crate::lanes::{is_continuation, units_in};
+use crate::lanes::{is_continuation, units_in, units_in_both};
 use lsp_types::Encoding;
 use std::simd::u8x32;
 
@@ -73,8 +73,9 @@ fn skip_blocks(line: &str, encoding: Encoding, column: u32) -> Skipped
 fn pass_blocks(bytes: &[u8], encoding: Encoding, column: u32) -> Skipped
     ensures { IsPassed encoding bytes.now column result.bytes result.left }
 {
-    let mut at = 0;
-    let mut left = column;
+    let passed = pass_pairs(bytes, encoding, column);
+    let mut at = passed.bytes;
+    let mut left = passed.left;
     while at + 32 <= bytes.len() {
         let width = units_in(u8x32::from_slice(&bytes[at..]), encoding);
         if left < width {
@@ -82,6 +83,25 @@ fn pass_blocks(bytes: &[u8], encoding: Encoding, column: u32) -> Skipped
         }
         left -= width;
         at += 32;
+    }
+    Skipped { bytes: at, left }
+}
+
+/// Whole pairs of blocks before a column.
+fn pass_pairs(bytes: &[u8], encoding: Encoding, column: u32) -> Skipped
+    ensures { IsPassed encoding bytes.now column result.bytes result.left }
+{
+    let mut at = 0;
+    let mut left = column;
+    while at + 64 <= bytes.len() {
+        let first = u8x32::from_slice(&bytes[at..]);
+        let second = u8x32::from_slice(&bytes[at + 32..]);
+        let width = units_in_both(first, second, encoding);
+        if left < width {
+            break;
+        }
+        left -= width;
+        at += 64;
     }
     Skipped { bytes: at, left }
 }

@@ -1,6 +1,6 @@
 //! Bytes of UTF-8 counted 32 at a time.
 
-ghost use Rattle.std.specs.Prelude.{◌≡◌, ◌<◌, ◌≤◌, ◌↔◌, length, take, map, count_by, nat_lt};
+ghost use Rattle.std.specs.Prelude.{◌≡◌, ◌<◌, ◌≤◌, ◌+◌, ◌↔◌, length, take, map, count_by, nat_lt};
 ghost use Rattle.std.specs.Prelude.{IsTrue};
 ghost use Rattle.std.specs.List.{sum_by};
 ghost use Rattle.lsp_text.specs.Offsets.{byte_units};
@@ -97,6 +97,25 @@ pub(crate) fn units_in(block: u8x32, encoding: Encoding) -> u32
         Encoding::Utf8 => 32,
         Encoding::Utf16 => utf16_starts(block).strict_reduce_sum() as u32,
         Encoding::Utf32 => starts(block).strict_reduce_sum() as u32,
+    }
+}
+
+/// The units that 64 bytes bring, in two halves: one sum over the lanes serves both.
+pub(crate) fn units_in_both(first: u8x32, second: u8x32, encoding: Encoding) -> u32
+    requires first { length first ≡ 32 }
+    requires second { length second ≡ 32 }
+    ensures { result ≡ sum_by (byte_units encoding) first + sum_by (byte_units encoding) second }
+{
+    match encoding {
+        Encoding::Utf8 => 64,
+        Encoding::Utf16 => {
+            let units = utf16_starts(first).strict_add(utf16_starts(second));
+            units.strict_reduce_sum() as u32
+        }
+        Encoding::Utf32 => {
+            let units = starts(first).strict_add(starts(second));
+            units.strict_reduce_sum() as u32
+        }
     }
 }
 

@@ -4,19 +4,25 @@ use Rattle.std.specs.Prelude.{◌≡◌, ℕ, List, [], ◌∷◌, ◌++◌, map
 use Rattle.std.specs.Prelude.{◌==◌, nat_le, if◌then◌else◌, Option, Some, None, is_some, is_none}
 use Rattle.std.specs.Prelude.{option_map, option_and_then, codes}
 use Rattle.std.specs.List.{AllZip, filter_map, list_any}
+use Rattle.std.specs.Option.{option_or}
+use Rattle.std.specs.Ordering.{int_eq}
 use Rattle.std.specs.Str.{bytes_eq}
 use Rattle.lsp_frame.specs.Bounds.{Bounds}
+use Rattle.lsp_rpc.specs.Ident.{Ident}
 use Rattle.lsp_rpc.specs.Message.{Message, request, notification, response}
+use Rattle.lsp_rpc.specs.Params.{required, uri_at}
 use Rattle.lsp_rpc.specs.Reading as content
 use Rattle.lsp_types.specs.declared.side.Side.{Side}
 use Rattle.lsp_types.specs.declared.side.Side.TheVariants.{Editor, Server}
 use Rattle.lsp_session.specs.Handshake.{is_done, is_empty, open_initializes}
-use Rattle.lsp_session.specs.Sent.{other_side, same_side}
+use Rattle.lsp_session.specs.Requests.{names}
+use Rattle.lsp_session.specs.Sent.{answered_from, other_side, request_of, response_id, same_side}
 use Rattle.lsp_text.specs.Edits.{Edit}
 use Rattle.lsp_docs.specs.Calls.{Call, opens, changes, closes, saves, shows, uri_of}
+use Rattle.lsp_docs.specs.Documents.{Version, held}
 use Rattle.lsp_docs.specs.Terms.{Terms}
 use Rattle.lsp_log.specs.Log.{Record}
-use Rattle.lsp_verdict.specs.Calls.{call_at}
+use Rattle.lsp_verdict.specs.Calls.{call_at, calls}
 use Rattle.lsp_verdict.specs.Event.{Event, message, fault, snapshot, sent_in}
 use Rattle.lsp_verdict.specs.LookBack.{first_of, each_of}
 use Rattle.lsp_verdict.specs.Placed as placed
@@ -44,6 +50,33 @@ rule_at terms before event = offence terms (kept_of terms before) event
 abbrev pub said_at : Terms → List Event → Event → Option Call
 said_at terms before event = call_at (kept_of terms before) event
 
+-- ---- what an event is noted as
+
+-- an event; and where its content is refused though it is a message, this message: its params do
+-- not have their shape
+pub record Noted : Type 0 where
+  pub event : Event
+  pub malformed : Option Message
+
+abbrev pub events_of : List Noted → List Event
+events_of notes = map (λ (n : Noted). n.event) notes
+
+-- the message that a content reads as, if it reads as one
+abbrev pub IsReading : List ℕ → Option Message → Type 0
+IsReading bytes (Some m) = content.Reads bytes m
+IsReading bytes None = (m : Message) → content.Reads bytes m → ⊥
+
+abbrev pub IsMalformed : Raw → Event → Option Message → Type 0
+IsMalformed (placed.content side bytes) (fault by rule) m = IsReading bytes m
+IsMalformed raw event m = m ≡ None
+
+abbrev pub IsNoted : Raw → Noted → Type 0
+IsNoted raw n = Reads raw n.event × IsMalformed raw n.event n.malformed
+
+-- the records are a session of these events
+abbrev pub IsNotedSession : Bounds → List Record → List Noted → Type 0
+IsNotedSession limits records notes = (raws : List Raw) × Placed limits records raws × AllZip IsNoted raws notes
+
 -- ---- a document is lost, and found again
 
 abbrev pub has_changes : Call → Bool
@@ -53,12 +86,23 @@ has_changes _ = false
 abbrev pub is_within : ℕ → ℕ → ℕ → Bool
 is_within least most rule = nat_le least rule && nat_le rule most
 
--- a call that offends by this rule leaves the held text another than the sender's: 602, 603 with changes, 604 to 608, 702
-abbrev pub loses : ℕ → Call → Bool
-loses rule call = rule == rules.DOCUMENT_NOT_OPEN ||
+-- what is held of the document that a call is about, after these calls
+abbrev pub held_in : Terms → List Call → Option Call → Option Version
+held_in terms made None = None
+held_in terms made (Some call) = held terms (uri_of call) made
+
+-- the call opens a document with another version or text than this one, which is held
+abbrev pub is_other : Call → Option Version → Bool
+is_other (opens uri number text) (Some v) = not (int_eq v.number number && bytes_eq v.text text)
+is_other call now = false
+
+-- a call that offends by this rule, where this is held of its document, leaves the held text another than the sender's: 601 with another version or text, 602, 603 with changes, 604 to 608, 702
+abbrev pub loses : ℕ → Option Version → Call → Bool
+loses rule now call = is_other call now && rule == rules.DOCUMENT_ALREADY_OPEN ||
+    (rule == rules.DOCUMENT_NOT_OPEN ||
     (rule == rules.VERSION_DOES_NOT_RISE && has_changes call ||
     (is_within rules.CHANGE_NOT_OF_KIND rules.SAVED_TEXT_DIFFERS rule ||
-    rule == rules.SNAPSHOT_DIFFERS))
+    rule == rules.SNAPSHOT_DIFFERS)))
 
 -- the call gives the whole text again
 abbrev pub renews : Call → Bool
@@ -68,15 +112,46 @@ renews (closes uri) = false
 renews (saves uri text) = false
 renews (shows uri number text) = false
 
--- whether a call leaves its document lost, where it says anything of that: it offends by this rule, or is kept
-abbrev pub left_lost : Option ℕ → Call → Option Bool
-left_lost (Some rule) call = if loses rule call then Some true else None
-left_lost None call = if renews call then Some false else None
+-- whether a call leaves its document lost, of which this is held, where it says anything of that: it offends by this rule, or is kept
+abbrev pub left_lost : Option ℕ → Option Version → Call → Option Bool
+left_lost (Some rule) now call = if loses rule now call then Some true else None
+left_lost None now call = if renews call then Some false else None
 
--- whether an event leaves the document of this URI lost
-abbrev pub lost_by : Terms → List ℕ → List Event → Event → Option Bool
-lost_by terms uri before event =
-    option_and_then (λ call. if bytes_eq uri (uri_of call) then left_lost (rule_at terms before event) call else None) (said_at terms before event)
+-- the notification opens a document or changes it
+abbrev pub brings_text : List ℕ → Bool
+brings_text method = bytes_eq method (codes "textDocument/didOpen")
+    || bytes_eq method (codes "textDocument/didChange")
+
+-- the document that a message opens or changes, whatever else its params have
+abbrev pub brought_by : Message → Option (List ℕ)
+brought_by (request id method params) = None
+brought_by (notification method params) =
+    if brings_text method then option_and_then (required (codes "textDocument") uri_at) params
+    else None
+brought_by (response id reply) = None
+
+-- whether the document of this URI is left lost where this one was to be brought a text, by a
+-- message whose params do not have their shape
+abbrev pub left_without : List ℕ → Option ℕ → Option (List ℕ) → Option Bool
+left_without uri rule None = None
+left_without uri rule (Some brought) = option_and_then (λ r.
+    if r == rules.BAD_METHOD_PARAMS && bytes_eq uri brought then Some true else None) rule
+
+-- whether an event leaves the document of this URI lost that offends by this rule, or is kept: it
+-- was to bring the text of a document, or says this about one of which this is held
+abbrev pub left_by : List ℕ → Option ℕ → Option (List ℕ) → Option Version → Option Call
+    → Option Bool
+left_by uri rule brought now said = option_or (left_without uri rule brought)
+    (option_and_then (λ call.
+    if bytes_eq uri (uri_of call) then left_lost rule now call else None) said)
+
+abbrev pub lost_by : Terms → List ℕ → List Noted → Noted → Option Bool
+lost_by terms uri before n =
+    left_by uri (rule_at terms (events_of before) n.event)
+    (option_and_then brought_by n.malformed)
+    (held_in terms (calls (kept_of terms (events_of before)))
+    (said_at terms (events_of before) n.event))
+    (said_at terms (events_of before) n.event)
 
 -- the last of these, or what stands where there is none
 abbrev pub last_or : {A : Type 0} → A → List A → A
@@ -85,22 +160,24 @@ last_or none (x ∷ xs) = last_or x xs
 
 -- **the document of this URI is lost after these events**: the last one that says anything about
 -- that left it so
-abbrev pub is_lost : Terms → List ℕ → List Event → Bool
+abbrev pub is_lost : Terms → List ℕ → List Noted → Bool
 is_lost terms uri before = last_or false (each_of (lost_by terms uri) before)
 
 -- ---- the handshake is lost
 
--- an event, and whether its content is a request `initialize` of the editor's, whatever its params
-pub record Noted : Type 0 where
-  pub event : Event
-  pub asks : Bool
+abbrev pub asks_handshake : Message → Bool
+asks_handshake (request id method params) = bytes_eq method (codes "initialize")
+asks_handshake (notification method params) = false
+asks_handshake (response id reply) = false
 
-abbrev pub events_of : List Noted → List Event
-events_of notes = map (λ (n : Noted). n.event) notes
+-- the message asks for the handshake
+abbrev pub asks : Option Message → Bool
+asks None = false
+asks (Some m) = asks_handshake m
 
 -- an `initialize` that does not have its shape, or an answer to one that is refused
 abbrev pub breaks_handshake : Bool → ℕ → Bool
-breaks_handshake asks rule = rule == rules.BAD_METHOD_PARAMS && asks
+breaks_handshake asked rule = rule == rules.BAD_METHOD_PARAMS && asked
     || is_within rules.BAD_INITIALIZE_RESULT rules.ENCODING_OUTSIDE_PROFILE rule
 
 -- after these kept events, what cannot be read may be the answer to an `initialize`: it is the
@@ -112,7 +189,7 @@ may_answer kept _ = false
 abbrev pub broken_by : Terms → List Noted → Noted → Option ℕ
 broken_by terms before n =
     option_and_then (λ rule.
-    if breaks_handshake n.asks rule || may_answer (kept_of terms (events_of before)) n.event
+    if breaks_handshake (asks n.malformed) rule || may_answer (kept_of terms (events_of before)) n.event
     then Some rule else None) (rule_at terms (events_of before) n.event)
 
 -- **the handshake is lost after these events**: an event of it was refused, and no answer has
@@ -157,6 +234,58 @@ follows_bytes rule before (fault side code) =
     nat_le rule rules.CHARSET_NOT_UTF_8 && is_unread side before
 follows_bytes rule before (snapshot uri number text) = false
 
+-- ---- a request is passed over
+
+-- the id of a request
+abbrev pub request_id : Message → Option Ident
+request_id m = option_map (λ asked. asked.0) (request_of m)
+
+-- the id of this side's request that a message of the sender is
+abbrev pub asked_from : Side → Side → Message → Option Ident
+asked_from side sender m = if same_side side sender then request_id m else None
+
+-- the id of this side's request that an event is, also where its params do not have their shape
+abbrev pub asked_by : Side → Event → Option Message → Option Ident
+asked_by side (message m) malformed = asked_from side m.side m.message
+asked_by side (fault by rule) malformed = option_and_then (asked_from side by) malformed
+asked_by side (snapshot uri number text) malformed = None
+
+-- the id of this side's request that an event answers
+abbrev pub answered_by : Side → Event → Option Ident
+answered_by side (message m) = answered_from side m.side m.message
+answered_by side (fault by rule) = None
+answered_by side (snapshot uri number text) = None
+
+-- what an event that offends by this rule does to the request with this id: it asks the one, which
+-- is passed over, or answers the other, so that no answer is left
+abbrev pub passes : Option Ident → Option Ident → Ident → ℕ → Option Bool
+passes asked answered id rule =
+    if names asked id then Some true
+    else (if names answered id && rule == rules.RESPONSE_TO_NO_OPEN_REQUEST then Some false
+    else None)
+
+abbrev pub passed_by : Terms → Side → Ident → List Noted → Noted → Option Bool
+passed_by terms side id before n =
+    option_and_then (passes (asked_by side n.event n.malformed) (answered_by side n.event) id)
+    (rule_at terms (events_of before) n.event)
+
+-- **a request of this side with this id was passed over**, and no answer to it has come yet
+abbrev pub is_passed : Terms → Side → Ident → List Noted → Bool
+is_passed terms side id before = last_or false (each_of (passed_by terms side id) before)
+
+abbrev pub is_any_passed : Terms → Side → Option Ident → List Noted → Bool
+is_any_passed terms side None before = false
+is_any_passed terms side (Some id) before = is_passed terms side id before
+
+-- **an offence of this event, by this rule, follows from a request that was passed over**: it is
+-- the answer to it
+abbrev pub follows_passed : Terms → ℕ → List Noted → Event → Bool
+follows_passed terms rule before (message m) =
+    rule == rules.RESPONSE_TO_NO_OPEN_REQUEST
+    && is_any_passed terms (other_side m.side) (response_id m.message) before
+follows_passed terms rule before (fault side code) = false
+follows_passed terms rule before (snapshot uri number text) = false
+
 -- ---- what follows
 
 -- the rules that are broken where there was no handshake: 301, 401, 402, 411, 412
@@ -170,7 +299,7 @@ abbrev pub wants_text : ℕ → Bool
 wants_text rule = is_within rules.DOCUMENT_NOT_OPEN rules.SAVED_TEXT_DIFFERS rule
     || rule == rules.SNAPSHOT_DIFFERS
 
-abbrev pub is_on_lost : Terms → List Event → Option Call → Bool
+abbrev pub is_on_lost : Terms → List Noted → Option Call → Bool
 is_on_lost terms before None = false
 is_on_lost terms before (Some call) = is_lost terms (uri_of call) before
 
@@ -179,8 +308,9 @@ abbrev pub follows : Terms → List Noted → Noted → ℕ → Bool
 follows terms before n rule =
     wants_handshake rule && is_handshake_lost terms before
     || (wants_text rule
-    && is_on_lost terms (events_of before) (said_at terms (events_of before) n.event)
-    || follows_bytes rule (events_of before) n.event)
+    && is_on_lost terms before (said_at terms (events_of before) n.event)
+    || (follows_passed terms rule before n.event
+    || follows_bytes rule (events_of before) n.event))
 
 -- ---- all offences
 
@@ -198,25 +328,3 @@ offence_at terms before n = option_map (offence_by terms before n) (rule_at term
 -- **all offences of a session**, in order
 abbrev pub offences : Terms → List Noted → List Offence
 offences terms notes = each_of (offence_at terms) notes
-
--- ---- what an event is noted as
-
-abbrev pub asks_handshake : Message → Bool
-asks_handshake (request id method params) = bytes_eq method (codes "initialize")
-asks_handshake (notification method params) = false
-asks_handshake (response id reply) = false
-
--- whether the content of an event is a request `initialize` of the editor's
-abbrev pub Asks : Raw → Bool → Type 0
-Asks (placed.content Editor bytes) true = (m : Message) × content.Reads bytes m × (asks_handshake m ≡ true)
-Asks (placed.content Editor bytes) false = (m : Message) → content.Reads bytes m → asks_handshake m ≡ false
-Asks (placed.content Server bytes) asks = asks ≡ false
-Asks (broken side rule) asks = asks ≡ false
-Asks (show number uri text) asks = asks ≡ false
-
-abbrev pub IsNoted : Raw → Noted → Type 0
-IsNoted raw n = Reads raw n.event × Asks raw n.asks
-
--- the records are a session of these events
-abbrev pub IsNotedSession : Bounds → List Record → List Noted → Type 0
-IsNotedSession limits records notes = (raws : List Raw) × Placed limits records raws × AllZip IsNoted raws notes

@@ -35,13 +35,16 @@ EndsAs no_document outcome = outcome ≡ NoDocument
 EndsAs too_few outcome = outcome ≡ TooFew
 EndsAs (refused v) outcome = (given : code.Verdict) × (outcome ≡ Judged given) × (verdict_view given ≡ v)
 
--- **what is due for the text of a URI after the editor's n-th message of a log**: the text that is held and nothing else, and how the run ends
-pub record IsText (limits : Bounds) (log : List ℕ) (n : ℕ) (uri out : List ℕ) (outcome : Outcome) : Type 0 where
+-- **what is due for a text**, where a log has one of these answers: the text that is held and
+-- nothing else, and how the run ends
+pub record IsText (Answers : List ℕ → TextAnswer → Type 0) (log out : List ℕ)
+    (outcome : Outcome) : Type 0 where
   pub answer : TextAnswer
-  pub answers : AnswersText limits log n uri answer
+  pub answers : Answers log answer
   pub written : out ≡ written_of answer
   pub ends : EndsAs answer outcome
 
 -- these bytes begin what is due for that text
-abbrev pub BeginsText : Bounds → List ℕ → ℕ → List ℕ → List ℕ → Type 0
-BeginsText limits log n uri front = (outcome : Outcome) × (left : List ℕ) × IsText limits log n uri (front ++ left) outcome
+abbrev pub BeginsText : (List ℕ → TextAnswer → Type 0) → List ℕ → List ℕ → Type 0
+BeginsText Answers log front =
+    (outcome : Outcome) × (left : List ℕ) × IsText Answers log (front ++ left) outcome

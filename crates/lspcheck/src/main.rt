@@ -16,8 +16,9 @@ use clap::Error;
 use clap::error::ErrorKind;
 pub use lsp_command::status_of;
 use lsp_command::{
-    BufferedInput, BufferedOutput, Hint, Request, Slip, TaskOutcome, hint_of, only_word, remark_of,
-    report_apart, request_of, run_through, status_of_task, status_of_words, uri_alone,
+    BufferedInput, BufferedOutput, Hint, Pace, Request, Slip, Supply, TaskOutcome, hint_of,
+    only_word, remark_of, report_apart, request_of, run_through, status_of_task, status_of_words,
+    uri_alone,
 };
 use lsp_judge::RunFault;
 use progress::{MakingWay, Progress, Watched};
@@ -70,10 +71,12 @@ fn run_on<R: Print + Eprint + AllocGlobal, I: Read + Drop>(
     progress: &Progress<'_, R>,
 ) -> Ended {
     let alloc = rt.alloc();
-    let Ok(mut input) = BufferedInput::new(alloc, Watched::new(progress, input)) else {
+    let supply = Supply::new();
+    let Ok(mut input) = BufferedInput::new(alloc, Watched::new(progress, input), &supply) else {
         return Ended::by(RunFault::Memory);
     };
-    let Ok(mut output) = BufferedOutput::new(alloc, MakingWay::new(progress, io::writer(rt))) else {
+    let output = MakingWay::new(progress, io::writer(rt));
+    let Ok(mut output) = BufferedOutput::new(alloc, output, Pace::of(&request.task, &supply)) else {
         return Ended::by(RunFault::Memory);
     };
     let limits = request.limits();

@@ -2,7 +2,7 @@
 ghost use Rattle.std.specs.Prelude.{◌≡◌, [], IfOk, IsOkAnd, true};
 ghost use Rattle.clap.specs.Words.{AddsSubcommand, app_of, shape_of};
 ghost use Rattle.lsp_command.specs.CommandLine.{AreModes, IsArg, IsCommandLine, Modes, check};
-ghost use Rattle.lsp_command.specs.CommandLine.{check_options, event};
+ghost use Rattle.lsp_command.specs.CommandLine.{check_options, event, text_options};
 ghost use Rattle.lsp_command.specs.CommandLine.{explain, file, flag, frames, mode, normal, number};
 ghost use Rattle.lsp_command.specs.CommandLine.{ignore_line_ends};
 ghost use Rattle.lsp_command.specs.CommandLine.{program, quiet, show, text, upgrade, uri};
@@ -181,15 +181,25 @@ fn show<'a>(alloc: Global) -> Result<Command<'a>, AllocError>
         .arg(log_file(alloc))
 }
 
-fn text<'a>(alloc: Global) -> Result<Command<'a>, AllocError>
-    ensures { IfOk result (λ command. shape_of command ≡ text) }
+/// The command with its own arguments and options, and without those that every command has.
+fn text_options<'a>(alloc: Global) -> Result<Command<'a>, AllocError>
+    ensures { IfOk result (λ command. shape_of command ≡ text_options) }
 {
     Command::new(alloc, "text")
         .about("Writes the text that the server should hold after a message of the editor")
         .arg(number(alloc, "The number of the editor's message, from 1"))?
         .arg(uri(alloc))?
-        .arg(quiet(alloc))?
-        .arg(log_file(alloc))
+        .arg(flag(
+            alloc,
+            "all",
+            "Skips each message that breaks a rule, as check --all does",
+        ))
+}
+
+fn text<'a>(alloc: Global) -> Result<Command<'a>, AllocError>
+    ensures { IfOk result (λ command. shape_of command ≡ text) }
+{
+    text_options(alloc)?.arg(quiet(alloc))?.arg(log_file(alloc))
 }
 
 fn event<'a>(alloc: Global) -> Result<Command<'a>, AllocError>

@@ -23,6 +23,8 @@ pub enum Task<'a> {
     /// To write the text of the document with this URI, as it is after the editor's message of this
     /// number.
     Text { number: NonZeroU64, uri: &'a str },
+    /// To write the same where each event that offends is skipped, as if it had not been sent.
+    TextAll { number: NonZeroU64, uri: &'a str },
     /// To write what the event of this number holds.
     Event { number: NonZeroU64 },
     /// To write the normal form of a log.

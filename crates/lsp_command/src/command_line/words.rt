@@ -5,6 +5,7 @@ ghost use Rattle.lsp_command.specs.CommandLine.{IsCommandLine};
 ghost use Rattle.lsp_command.specs.Words.{Asks, HasTask, IsFlag, NumberIn, Refuses, RequestIn};
 ghost use Rattle.lsp_command.specs.Words.{TaskIn, check_of, completeness_of, explain_of, file_of};
 ghost use Rattle.lsp_command.specs.Words.{line_ends_of, lines_of, listing_of, mode_of, rows_in};
+ghost use Rattle.lsp_command.specs.Words.{text_of};
 
 use crate::command_line::commands::command_line;
 use crate::command_line::task::{Request, Task};
@@ -73,6 +74,17 @@ fn explain_of<'a>(completeness: Completeness, all: bool) -> Task<'a>
     }
 }
 
+/// The text after a message, past each event that offends where the option for that is set.
+fn text_of<'a>(number: NonZeroU64, uri: &'a str, all: bool) -> Task<'a>
+    ensures { result ≡ text_of number uri.entry all }
+{
+    if all {
+        Task::TextAll { number, uri }
+    } else {
+        Task::Text { number, uri }
+    }
+}
+
 /// What the lines of events tell, where the option for long ones is set or not.
 fn lines_of(set: bool) -> Lines
     ensures { result ≡ lines_of set }
@@ -134,7 +146,7 @@ fn text_task<'a>(arguments: &ArgMatches<'a>) -> Option<Task<'a>>
 {
     let number = number_of(arguments)?;
     let uri = arguments.get_str("uri")?;
-    Some(Task::Text { number, uri })
+    Some(text_of(number, uri, is_set(arguments, "all")))
 }
 
 fn event_task<'a>(arguments: &ArgMatches<'_>) -> Option<Task<'a>>

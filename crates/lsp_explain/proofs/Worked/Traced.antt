@@ -1,6 +1,6 @@
 -- By which events it came, in worked sessions.
 use Rattle.std.proofs.Common.{◌≡◌, ℕ, ◌∷◌, [], List, ◌++◌, refl}
-use Rattle.std.specs.Prelude.{codes, negsuc, pos, Some, None}
+use Rattle.std.specs.Prelude.{codes, negsuc, pos, Some, None, true, false}
 use Rattle.std.specs.Float.Numeral.{scan_numeral}
 use Rattle.std.specs.Str.{chars}
 use Rattle.std.specs.Fmt.{digits}
@@ -9,6 +9,7 @@ use Rattle.json.specs.Lex.{punctuate, lex}
 use Rattle.json.specs.Text.{content}
 use Rattle.json.specs.Word.{word, after_number}
 use Rattle.json.specs.Print.{escape_byte}
+use Rattle.percent_encoding.specs.Percent.{percent_decode}
 use Rattle.serde_json.specs.Read.{number_of}
 use Rattle.lsp_types.specs.declared.line_ends.LineEnds.TheVariants.{Exact}
 use Rattle.lsp_docs.specs.Terms.{Terms}
@@ -21,6 +22,7 @@ use Rattle.lsp_explain.specs.Fact.{Fact, of_uri, holds, shows_version}
 use Rattle.lsp_explain.specs.Lines.{fact_lines}
 use Rattle.lsp_explain.specs.Traced.{traced, lack_traced}
 use Rattle.lsp_explain.specs.Twins.{twin}
+use Rattle.lsp_explain.specs.Unopened.{is_similar}
 
 -- what is said of an event that breaks this rule behind these, where this is said of it by itself
 abbrev with_events : ℕ → List Event → Event → List Fact → List ℕ
@@ -137,3 +139,31 @@ late_suspect : fact_lines (traced keeping
 unfolding value punctuate lex content word after_number number_of scan_numeral chars digits
     escape_byte
 late_suspect = refl
+
+-- ---- a document that is not open
+
+closed_before : with_events 602 (START ++ OPEN (codes "1") (codes "ab") ∷ CLOSE ∷ []) CLOSE []
+    ≡ codes "closed event 5\n"
+unfolding value punctuate lex content word after_number number_of scan_numeral chars digits
+    escape_byte percent_decode
+closed_before = refl
+
+not_opened : with_events 602 START (CHG (codes "2") (FULL (codes "x"))) [] ≡ codes "opened never\n"
+unfolding value punctuate lex content word after_number number_of scan_numeral chars digits
+    escape_byte percent_decode
+not_opened = refl
+
+spelled_otherwise : is_similar (codes "file:///c%3a/a.b/") (codes "file:///C:/A%2Eb") ≡ true
+unfolding percent_decode
+spelled_otherwise = refl
+
+another_name : is_similar (codes "file:///c:/a.b") (codes "file:///c:/a.c") ≡ false
+unfolding percent_decode
+another_name = refl
+
+as_long_as_may_be : is_similar (codes "x:y") (codes "x://////y") ≡ true
+unfolding percent_decode
+as_long_as_may_be = refl
+
+longer : is_similar (codes "x:y") (codes "x:///////y") ≡ false
+longer = refl

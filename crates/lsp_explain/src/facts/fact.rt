@@ -84,6 +84,12 @@ pub enum Fact {
     Asked(u64),
     /// The number of the event that led to the phase, from 1.
     Since(u64),
+    /// The number of the event that closed the document, from 1.
+    Closed(u64),
+    /// No message opened the document.
+    NeverOpened,
+    /// An open document with a similar URI, and the number of the event that opened it, from 1.
+    Similar { uri: String, event: u64 },
     /// The front of a content that is not a message.
     Begins(String),
     /// How many bytes of a content come before the first one that cannot stand there, all of them

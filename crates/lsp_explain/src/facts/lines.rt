@@ -10,7 +10,8 @@ ghost use Rattle.lsp_rpc.specs.View.{message_view, texts_view};
 ghost use Rattle.lsp_verdict.specs.Report.{encoding_name, line};
 ghost use Rattle.lsp_explain.specs.Fact.{fact_view, facts_view, has_kind, counts_in, differs_at};
 ghost use Rattle.lsp_explain.specs.Fact.{fails, in_phase, has_id, waits, waits_since, keeps};
-ghost use Rattle.lsp_explain.specs.Fact.{fits_in, in_line_ends, offers, opens_as};
+ghost use Rattle.lsp_explain.specs.Fact.{fits_in, in_line_ends, never_opened, offers, opens_as};
+ghost use Rattle.lsp_explain.specs.Fact.{similar_to};
 ghost use Rattle.lsp_explain.specs.Lines as spec;
 ghost use Rattle.lsp_explain.specs.Part.{part_view};
 
@@ -253,6 +254,23 @@ fn push_open(alloc: Global, lines: &mut String, id: &Id, event: u64) -> Result<(
     Ok(())
 }
 
+fn push_never_opened(lines: &mut String) -> Result<(), Memory>
+    ensures { OnOk result (string_bytes lines.new ≡ string_bytes lines.old
+        ++ spec.fact_line never_opened) }
+{
+    Ok(lines.push_str("opened never\n")?)
+}
+
+fn push_similar(alloc: Global, lines: &mut String, uri: &str, event: u64) -> Result<(), Memory>
+    ensures { OnOk result (string_bytes lines.new ≡ string_bytes lines.old
+        ++ spec.fact_line (similar_to uri.now event)) }
+{
+    lines.push_str("similar ")?;
+    push_quoted(alloc, lines, uri)?;
+    writeln!(lines, " event {event}")?;
+    Ok(())
+}
+
 fn push_versions(lines: &mut String, versions: &[i32]) -> Result<(), Memory>
     ensures { OnOk result (string_bytes lines.new ≡ string_bytes lines.old
         ++ spec.fact_line (keeps versions.now)) }
@@ -376,6 +394,9 @@ fn push_fact(alloc: Global, lines: &mut String, fact: &Fact) -> Result<(), Memor
         Fact::Answered(event) => push_cited(lines, "answered", *event),
         Fact::Asked(event) => push_cited(lines, "asked", *event),
         Fact::Since(event) => push_cited(lines, "since", *event),
+        Fact::Closed(event) => push_cited(lines, "closed", *event),
+        Fact::NeverOpened => push_never_opened(lines),
+        Fact::Similar { uri, event } => push_similar(alloc, lines, uri.as_str(), *event),
         Fact::Begins(text) => push_text(alloc, lines, "begins", text.as_str()),
         Fact::Breaks(place) => push_number(lines, "breaks", *place),
         Fact::Before(text) => push_text(alloc, lines, "before", text.as_str()),

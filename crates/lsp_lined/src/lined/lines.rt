@@ -1,7 +1,7 @@
 //! The lines of a text, and the count of the bytes lent from them.
 
 ghost use Rattle.std.specs.Prelude.{◌≡◌, ◌+◌, ◌<◌, ◌≤◌, ◌-◌, ◌^◌, ◌↔◌, None, length, take, drop};
-ghost use Rattle.std.specs.Prelude.{MatchOption, IfOk, OnOk, OnErr, IsTrue};
+ghost use Rattle.std.specs.Prelude.{MatchOption, IfSome, IfOk, OnOk, OnErr, IsTrue};
 ghost use Rattle.std.specs.List.{replace_range};
 ghost use Rattle.std.specs.Str.{chars, IsUtf8, IsCharBoundary};
 ghost use Rattle.std.specs.String.{string_bytes};
@@ -14,15 +14,15 @@ ghost use Rattle.lsp_lined.specs.Steps.{raised, line_bytes, line_number};
 ghost use Rattle.lsp_lined.specs.Ends.{IsNear};
 ghost use Rattle.lsp_lined.specs.Parts.{joined, CanReplace};
 ghost use Rattle.lsp_lined.specs.LentLines.{IsLentLine, IsHeldLine, IsEndOf, IsOffsetIn};
-ghost use Rattle.lsp_lined.specs.LentLines.{NoOffsetIn};
+ghost use Rattle.lsp_lined.specs.LentLines.{NoOffsetIn, IsFurther};
 
 use crate::chunk::{Chunk, chunks_in, replace_in_chunks};
 use crate::part::{
-    Part, line_end_in, offset_in, push_all, share_into, strip_all, sums_in, take_all,
+    Part, line_end_in, offset_in, push_all, rest_in, share_into, strip_all, sums_in, take_all,
     units_before_in,
 };
 use crate::sums::{Measure, Sums};
-use lsp_text::{LinesLeft, is_taken, offset_in_line, without_last_end};
+use lsp_text::{FirstLine, LinesLeft, is_taken, offset_in_line, without_last_end};
 use lsp_types::{Encoding, Position};
 use std::alloc::{AllocError, Global};
 use std::marker::Model;
@@ -160,6 +160,25 @@ impl Lines {
         }
         let end = line_end_in(&self.chunks, i);
         (end.at, end.after)
+    }
+
+    /// The place this many units after another on the same line, if it is in the same block and not
+    /// at its end. What is read of the line for it is not counted again.
+    pub(crate) fn further(&self, encoding: Encoding, place: usize, units: u32) -> Option<usize>
+        requires { IsCharBoundary self.now place }
+        ensures value { IfSome result (IsFurther encoding self.now place units) }
+        ensures utf8 { IsUtf8 self.now }
+    {
+        let rest = rest_in(&self.chunks, place);
+        let len = offset_in_line(rest, encoding, units)?;
+        if len == rest.len() {
+            return None;
+        }
+        let (front, _) = rest.split_at(len);
+        if FirstLine::of(front).is_some() {
+            return None;
+        }
+        Some(place + len)
     }
 
     /// The characters before a place.

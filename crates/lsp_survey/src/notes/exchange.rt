@@ -6,8 +6,10 @@ ghost use Rattle.lsp_rpc.specs.declared.message.Id.{Id as AnId};
 ghost use Rattle.lsp_survey.specs.Asking.{Reply, is_short, last_reply, most_replies, replied};
 ghost use Rattle.lsp_survey.specs.Asking.{reply_of};
 ghost use Rattle.lsp_survey.specs.LastOnes.{last_ones};
-ghost use Rattle.lsp_survey.specs.SessionNoting.{asked_in, given_view, replies_in, room_in};
+ghost use Rattle.lsp_survey.specs.SessionNoting.{asked_in, given_view, replies_in};
 
+use crate::notes::by_id::{forget, put};
+use crate::notes::last_ones::make_room;
 use indexmap::IndexMap;
 use lsp_rpc::{Id, Memory, copy_id, same_id};
 use std::alloc::Global;
@@ -100,26 +102,6 @@ fn is_short(id: &Id) -> bool
     }
 }
 
-/// Puts the event of a request.
-fn put(asked: &mut IndexMap<Id, u64>, id: &Id, event: u64) -> Result<(), Memory>
-    ensures { OnOk result ((k : AnId) → asked_in asked.new.entries (id_view k)
-        ≡ (if same_id (id_view id.now) (id_view k) then Some event else asked_in asked.old.entries
-        (id_view k))) }
-{
-    let key = copy_id(id)?;
-    asked.insert(key, event)?;
-    Ok(())
-}
-
-/// Takes the event of a request away.
-fn forget(asked: &mut IndexMap<Id, u64>, id: &Id)
-    ensures { (k : AnId) → asked_in asked.new.entries (id_view k)
-        ≡ (if same_id (id_view id.now) (id_view k) then None else asked_in asked.old.entries
-        (id_view k)) }
-{
-    let _ = asked.swap_remove(id);
-}
-
 /// Adds an answer after the others, of which the last ones stay.
 fn push(replies: &mut VecDeque<Given>, id: &Id, event: u64) -> Result<(), Memory>
     ensures { OnOk result ((given : List Reply)
@@ -128,19 +110,9 @@ fn push(replies: &mut VecDeque<Given>, id: &Id, event: u64) -> Result<(), Memory
         ≡ last_ones most_replies (given ++ replied event (id_view id.now) ∷ [])) }
 {
     let id = copy_id(id)?;
-    make_room(replies);
+    make_room(replies, MOST_REPLIES);
     replies.push_back(Given { id, event })?;
     Ok(())
-}
-
-/// Drops the oldest answer where no more are held.
-fn make_room(replies: &mut VecDeque<Given>)
-    ensures { replies.new.items ≡ room_in replies.old.items }
-{
-    if replies.len() < MOST_REPLIES {
-        return;
-    }
-    let _ = replies.pop_front();
 }
 
 /// The event of the last of these answers to a request with this id.

@@ -5,9 +5,9 @@ ghost use Rattle.std.specs.Prelude.{int_lt, not, option_map};
 ghost use Rattle.std.specs.List.{find};
 ghost use Rattle.std.specs.Map.{lookup};
 ghost use Rattle.std.specs.Ordering.{int_eq};
-ghost use Rattle.lsp_survey.specs.Marking.{above, is_set_to, last_shown, newer, newer_of};
-ghost use Rattle.lsp_survey.specs.Marking.{next_rank, rank_of, stepped, touches, unmarked};
-ghost use Rattle.lsp_survey.specs.Marking.{with_room};
+ghost use Rattle.lsp_survey.specs.Marking.{above, is_set_to, last_shown, most_setters, newer};
+ghost use Rattle.lsp_survey.specs.Marking.{newer_of, next_rank, rank_of, stepped, touches, unmarked};
+ghost use Rattle.lsp_survey.specs.LastOnes.{with_room};
 ghost use Rattle.lsp_survey.specs.Marks.{is_first_reached, mark_view, rest_of, waiting_in};
 
 use lsp_rpc::Memory;
@@ -165,7 +165,7 @@ fn next_rank(rank: u64) -> u64
 
 /// Drops the oldest message where no more are held.
 fn make_room(setters: &mut Vec<Setter>)
-    ensures { setters.new.items ≡ with_room setters.old.items }
+    ensures { setters.new.items ≡ with_room most_setters setters.old.items }
 {
     if setters.len() < MOST_SETTERS {
         return;

@@ -76,11 +76,14 @@ pub(crate) fn breaks_handshake(asks: bool, rule: u16) -> bool
     )
 }
 
-/// Whether what is said about a document, with changes or without, leaves the held text another
-/// than the sender's where it breaks the rule.
-pub(crate) fn loses(rule: u16, has_changes: bool) -> bool
-    ensures { result ≡ loses_by rule has_changes }
+/// Whether what is said about a document, which is opened again with another text or not, with
+/// changes or without, leaves the held text another than the sender's where it breaks the rule.
+pub(crate) fn loses(rule: u16, reopens: bool, has_changes: bool) -> bool
+    ensures { result ≡ loses_by rule reopens has_changes }
 {
+    if reopens {
+        return true;
+    }
     if rule == rules::DOCUMENT_NOT_OPEN {
         return true;
     }

@@ -1,20 +1,25 @@
 //! By which events requests were asked and answered, and which event led to the phase.
-ghost use Rattle.std.specs.Prelude.{◌≡◌, [], List, OnOk, unwrap_or};
+ghost use Rattle.std.specs.Prelude.{◌≡◌, [], List, OnOk, option_map, unwrap_or};
 ghost use Rattle.lsp_docs.specs.Terms.{Terms};
 ghost use Rattle.lsp_rpc.specs.Ident.{id_view};
 ghost use Rattle.lsp_rpc.specs.View.{message_view};
 ghost use Rattle.lsp_verdict.specs.Event.{Event};
-ghost use Rattle.lsp_survey.specs.Asking.{answered, asked, leads, numbered, same_phase, since};
+ghost use Rattle.lsp_survey.specs.Asking.{answered, asked, leads, numbered, same_phase, sents};
+ghost use Rattle.lsp_survey.specs.Asking.{since};
+ghost use Rattle.lsp_survey.specs.Misuses.{misused_views, misuses};
+ghost use Rattle.lsp_survey.specs.Remarks.{Remarked, abrupt_exit, older_encoding};
 ghost use Rattle.lsp_survey.specs.SessionNoting.{AreNotes, Exchanges};
 
 use crate::notes::exchange::Exchange;
+use crate::notes::misuses::Misused;
+use crate::notes::remarks::Remarks;
 use lsp_rpc::{Id, Memory, Message, Side};
 use lsp_session::Phase;
 use std::alloc::Global;
 
 /// By which events the requests of both sides were asked and answered, and which one led to the
 /// phase of the session. Of the answers to a side's requests the last 1,024 are held, where the id
-/// has at most 128 bytes.
+/// has at most 128 bytes. Also what is remarkable about the messages, though it breaks no rule.
 ///
 /// It stands for the events of a session of which those that offend are skipped.
 #[derive(Drop)]
@@ -23,6 +28,7 @@ pub struct SessionNotes {
     server: Exchange,
     phase: Phase,
     since: Option<u64>,
+    remarks: Remarks,
 }
 
 impl SessionNotes {
@@ -35,6 +41,7 @@ impl SessionNotes {
             server: Exchange::new(alloc),
             phase: Phase::Fresh,
             since: None,
+            remarks: Remarks::new(alloc),
         }
     }
 
@@ -71,8 +78,33 @@ impl SessionNotes {
         self.since
     }
 
+    /// The calls that LSP 3.17 has in another way than they were sent, of each method the first.
+    pub fn misuses(&self) -> &[Misused]
+        ensures { (terms : Terms) (events : List Event) → AreNotes terms self.now events
+            → misused_views result.now ≡ misuses (numbered terms events) }
+    {
+        self.remarks.misuses()
+    }
+
+    /// The number of the event of an `exit` without a `shutdown` before it, from 1.
+    pub fn abrupt_exit(&self) -> Option<u64>
+        ensures { (terms : Terms) (events : List Event) → AreNotes terms self.now events
+            → result ≡ abrupt_exit (numbered terms events) }
+    {
+        self.remarks.abrupt_exit()
+    }
+
+    /// The encoding that the answer to `initialize` names in its member `offsetEncoding`, which LSP
+    /// 3.17 does not have.
+    pub fn older_encoding(&self) -> Option<&str>
+        ensures { (terms : Terms) (events : List Event) → AreNotes terms self.now events
+            → option_map (λ s. s.now) result ≡ older_encoding (sents (numbered terms events)) }
+    {
+        self.remarks.older_encoding()
+    }
+
     /// Notes a message that is kept, the event of this number, after which the session is in this
-    /// phase.
+    /// phase, and the handshake is settled or is not.
     ///
     /// # Errors
     /// `Memory` where memory was refused; nothing is then known of the requests.
@@ -82,6 +114,7 @@ impl SessionNotes {
         side: Side,
         message: &Message,
         phase: Phase,
+        done: bool,
     ) -> Result<(), Memory>
         ensures editor { OnOk result
             (Exchanges Side.Editor event side
@@ -92,11 +125,16 @@ impl SessionNotes {
         ensures phase { self.new.phase ≡ phase }
         ensures since { self.new.since
             ≡ unwrap_or (leads event self.old.phase phase) self.old.since }
+        ensures remarks { OnOk result (Remarked event side (message_view message.now)
+            self.old.phase phase done self.old.remarks self.new.remarks) }
     {
-        if !is_same(self.phase, phase) {
+        let before = self.phase;
+        if !is_same(before, phase) {
             self.since = Some(event);
         }
         self.phase = phase;
+        self.remarks
+            .keep(event, side, message, before, phase, done)?;
         self.exchange(event, side, message)
     }
 
@@ -110,6 +148,7 @@ impl SessionNotes {
             (message_view message.now) self.old.server self.new.server) }
         ensures phase { self.new.phase ≡ self.old.phase }
         ensures since { self.new.since ≡ self.old.since }
+        ensures remarks { self.new.remarks ≡ self.old.remarks }
     {
         match message {
             Message::Request { id, .. } => match side {

@@ -1,5 +1,5 @@
 -- All offences of a session: which events are kept, and what is listed.
-use Rattle.std.specs.Prelude.{option_map, option_and_then, ◌&&◌, ◌||◌, not, is_some, if◌then◌else◌}
+use Rattle.std.specs.Prelude.{option_map, option_and_then, ◌&&◌, ◌||◌, ◌==◌, not, is_some, if◌then◌else◌}
 use Rattle.std.specs.Prelude.{nat_le}
 use Rattle.std.specs.List.{cons_option, filter_map, list_any}
 use Rattle.std.specs.Option.{option_or}
@@ -10,18 +10,23 @@ use Rattle.std.proofs.Math.Bool.{and-false}
 use Rattle.lsp_docs.specs.Calls.{Call, uri_of}
 use Rattle.lsp_docs.specs.Terms.{Terms}
 use Rattle.lsp_session.specs.Handshake.{is_done}
-use Rattle.lsp_session.specs.Sent.{other_side, same_side}
+use Rattle.lsp_rpc.specs.Ident.{Ident}
+use Rattle.lsp_session.specs.Sent.{other_side, response_id, same_side}
 use Rattle.lsp_types.specs.declared.rules.TheConstants as rules
 use Rattle.lsp_types.specs.declared.side.Side.{Side}
+use Rattle.lsp_verdict.specs.Calls.{calls}
 use Rattle.lsp_verdict.specs.Event.{Event, message, fault, snapshot, sent_in}
 use Rattle.lsp_verdict.specs.LookBack.{first_from, first_of, each_from, each_of}
 use Rattle.lsp_verdict.specs.OffenceLaws.{KeptOffendNowhere, kept_at, KeptAreOthers, AllAreKept, NothingListed, FirstListed, IsOffence, IsListed, ListedOffend}
 use Rattle.lsp_verdict.specs.Offences.{Noted, Offence, events_of, kept_after, kept_of, rule_at}
-use Rattle.lsp_verdict.specs.Offences.{said_at, renews, left_lost, lost_by, last_or, is_lost}
-use Rattle.lsp_verdict.specs.Offences.{breaks_handshake, may_answer, broken_by, is_handshake_lost}
+use Rattle.lsp_docs.specs.Documents.{Version}
+use Rattle.lsp_verdict.specs.Offences.{held_in, said_at, renews, left_lost, left_by, brought_by, lost_by}
+use Rattle.lsp_verdict.specs.Offences.{last_or, is_lost, asks, breaks_handshake, may_answer}
+use Rattle.lsp_verdict.specs.Offences.{broken_by, is_handshake_lost}
 use Rattle.lsp_verdict.specs.Offences.{is_frame_fault, has_broken, unread_by, is_unread}
 use Rattle.lsp_verdict.specs.Offences.{wants_other, follows_bytes, wants_handshake, wants_text}
-use Rattle.lsp_verdict.specs.Offences.{is_on_lost, follows}
+use Rattle.lsp_verdict.specs.Offences.{is_on_lost, asked_by, answered_by, passes, passed_by}
+use Rattle.lsp_verdict.specs.Offences.{is_passed, is_any_passed, follows_passed, follows}
 use Rattle.lsp_verdict.specs.Offences.{offence_by, offence_at, offences}
 use Rattle.lsp_verdict.specs.Verdict.{Verdict, offence, no_by, no_at, first_no}
 use Rattle.lsp_verdict.proofs.Finding.{nothing_from, nothing_at, map_none}
@@ -155,7 +160,7 @@ handshake_stands terms before clean =
     ap (λ (o : Option ℕ). is_some o && not (is_done (sent_in (kept_of terms (events_of before)))))
     (nothing_from (broken_by terms) [] before (λ front after n cut.
     ap (option_and_then (λ rule.
-    if breaks_handshake n.asks rule || may_answer (kept_of terms (events_of front)) n.event
+    if breaks_handshake (asks n.malformed) rule || may_answer (kept_of terms (events_of front)) n.event
     then Some rule else None))
     (clean_rule terms front after n
     (ap (λ (ns : List Noted). first_of (no_at terms) (events_of ns)) (sym cut) ∙ clean))))
@@ -166,13 +171,19 @@ not_lost : (renewed : Bool) → (if renewed then Some false else None) ≡ Some 
 not_lost true e = absurd cc
 not_lost false e = absurd cc
 
-kept_leaves : (uri : List ℕ) (o : Option Call) → option_and_then (λ call. if bytes_eq uri (uri_of call) then left_lost None call else None) o ≡ Some true → ⊥
-kept_leaves uri None e = absurd cc
-kept_leaves uri (Some call) e = by_uri (bytes_eq uri (uri_of call)) e
+kept_leaves : (uri : List ℕ) (now : Option Version) (o : Option Call) → option_and_then (λ call. if bytes_eq uri (uri_of call) then left_lost None now call else None) o ≡ Some true → ⊥
+kept_leaves uri now None e = absurd cc
+kept_leaves uri now (Some call) e = by_uri (bytes_eq uri (uri_of call)) e
   where
-    by_uri : (own : Bool) → (if own then left_lost None call else None) ≡ Some true → ⊥
+    by_uri : (own : Bool) → (if own then left_lost None now call else None) ≡ Some true → ⊥
     by_uri true h = not_lost (renews call) h
     by_uri false h = absurd cc
+
+-- an event that is kept does not leave a document lost
+never_lost : (uri : List ℕ) (brought : Option (List ℕ)) (now : Option Version)
+    (said : Option Call) → left_by uri None brought now said ≡ Some true → ⊥
+never_lost uri None now said e = kept_leaves uri now said e
+never_lost uri (Some brought) now said e = kept_leaves uri now said e
 
 last_false : (o : Option Bool) (xs : List Bool) → (o ≡ Some true → ⊥) → last_or false xs ≡ false → last_or false (cons_option o xs) ≡ false
 last_false None xs none rest = rest
@@ -185,19 +196,20 @@ none_lost f front (x ∷ xs) none =
     last_false (f front x) (each_from f (front ++ x ∷ []) xs) (none front xs x refl)
     (none_lost f (front ++ x ∷ []) xs (λ before after y cut. none before after y (sym (append_assoc front (x ∷ []) xs) ∙ cut)))
 
-clean_event : (terms : Terms) (before after : List Event) (e : Event) → first_of (no_at terms) (before ++ e ∷ after) ≡ None → rule_at terms before e ≡ None
-clean_event terms before after e clean =
-    let parts = or_none_parts (first_of (no_at terms) before) _ (sym (first_of-append (no_at terms) before (e ∷ after)) ∙ clean) in
-    ap (λ (es : List Event). offence terms es e) (all_are_kept terms before parts.0) ∙ no_rule terms before e (nothing_at (no_at terms) (before ++ e ∷ after) before after e clean refl)
-
-document_stands : (terms : Terms) (uri : List ℕ) (before : List Event) → first_of (no_at terms) before ≡ None → is_lost terms uri before ≡ false
+document_stands : (terms : Terms) (uri : List ℕ) (before : List Noted) → IsClean terms before
+    → is_lost terms uri before ≡ false
 document_stands terms uri before clean =
-    none_lost (lost_by terms uri) [] before (λ front after e cut lost.
-    let rule = clean_event terms front after e (ap (first_of (no_at terms)) (sym cut) ∙ clean) in
-    kept_leaves uri (said_at terms front e)
-    (ap (λ (o : Option ℕ). option_and_then (λ call. if bytes_eq uri (uri_of call) then left_lost o call else None) (said_at terms front e)) (sym rule) ∙ lost))
+    none_lost (lost_by terms uri) [] before (λ front after n cut lost.
+    let rule = clean_rule terms front after n
+    (ap (λ (ns : List Noted). first_of (no_at terms) (events_of ns)) (sym cut) ∙ clean) in
+    let brought = option_and_then brought_by n.malformed in
+    let said = said_at terms (events_of front) n.event in
+    let now = held_in terms (calls (kept_of terms (events_of front))) said in
+    never_lost uri brought now said
+    (ap (λ (o : Option ℕ). left_by uri o brought now said) (sym rule) ∙ lost))
 
-none_on_lost : (terms : Terms) (before : List Event) (o : Option Call) → first_of (no_at terms) before ≡ None → is_on_lost terms before o ≡ false
+none_on_lost : (terms : Terms) (before : List Noted) (o : Option Call) → IsClean terms before
+    → is_on_lost terms before o ≡ false
 none_on_lost terms before None clean = refl
 none_on_lost terms before (Some call) clean = document_stands terms (uri_of call) before clean
 
@@ -247,19 +259,48 @@ bytes_stand terms rule before (fault side code) clean =
     (none_unread terms side [] before clean) ∙ and-false (nat_le rule rules.CHARSET_NOT_UTF_8)
 bytes_stand terms rule before (snapshot uri n t) clean = refl
 
+-- ---- no request is passed over
+
+none_passed : (terms : Terms) (side : Side) (id : Ident) (before : List Noted)
+    → IsClean terms before → is_passed terms side id before ≡ false
+none_passed terms side id before clean =
+    none_lost (passed_by terms side id) [] before (λ front after n cut passed.
+    let none = ap (option_and_then
+    (passes (asked_by side n.event n.malformed) (answered_by side n.event) id))
+    (clean_rule terms front after n
+    (ap (λ (ns : List Noted). first_of (no_at terms) (events_of ns)) (sym cut) ∙ clean)) in
+    absurd (cc (sym passed ∙ none)))
+
+no_answer : (terms : Terms) (rule : ℕ) (before : List Noted) (e : Event) → IsClean terms before
+    → follows_passed terms rule before e ≡ false
+no_answer terms rule before (message m) clean =
+    ap (λ (b : Bool). rule == rules.RESPONSE_TO_NO_OPEN_REQUEST && b)
+    (by_id (response_id m.message)) ∙ and-false (rule == rules.RESPONSE_TO_NO_OPEN_REQUEST)
+  where
+    by_id : (o : Option Ident) → is_any_passed terms (other_side m.side) o before ≡ false
+    by_id None = refl
+    by_id (Some id) = none_passed terms (other_side m.side) id before clean
+no_answer terms rule before (fault side code) clean = refl
+no_answer terms rule before (snapshot uri n t) clean = refl
+
 follows_none : (terms : Terms) (before : List Noted) (n : Noted) (rule : ℕ) → IsClean terms before
     → follows terms before n rule ≡ false
 follows_none terms before n rule clean =
-    ap (λ (b : Bool). wants_handshake rule && b || (wants_text rule && on_lost || late))
-    (handshake_stands terms before clean)
-    ∙ ap (λ (b : Bool). b || (wants_text rule && on_lost || late)) (and-false (wants_handshake rule))
-    ∙ ap (λ (b : Bool). wants_text rule && b || late)
-    (none_on_lost terms (events_of before) (said_at terms (events_of before) n.event) clean)
-    ∙ ap (λ (b : Bool). b || late) (and-false (wants_text rule))
+    ap (λ (b : Bool). wants_handshake rule && b || (wants_text rule && on_lost
+    || (passed || late))) (handshake_stands terms before clean)
+    ∙ ap (λ (b : Bool). b || (wants_text rule && on_lost || (passed || late)))
+    (and-false (wants_handshake rule))
+    ∙ ap (λ (b : Bool). wants_text rule && b || (passed || late))
+    (none_on_lost terms before (said_at terms (events_of before) n.event) clean)
+    ∙ ap (λ (b : Bool). b || (passed || late)) (and-false (wants_text rule))
+    ∙ ap (λ (b : Bool). b || late) (no_answer terms rule before n.event clean)
     ∙ bytes_stand terms rule (events_of before) n.event clean
   where
     on_lost : Bool
-    on_lost = is_on_lost terms (events_of before) (said_at terms (events_of before) n.event)
+    on_lost = is_on_lost terms before (said_at terms (events_of before) n.event)
+
+    passed : Bool
+    passed = follows_passed terms rule before n.event
 
     late : Bool
     late = follows_bytes rule (events_of before) n.event

@@ -8,12 +8,13 @@ use Rattle.std.proofs.lemmas.List.{map-append}
 use Rattle.std.proofs.lemmas.List.Elements.{filter_map-append}
 use Rattle.std.proofs.lemmas.List.Folds.{list_any-append}
 use Rattle.lsp_types.specs.declared.side.Side.{Side}
+use Rattle.lsp_rpc.specs.Ident.{Ident}
 use Rattle.lsp_docs.specs.Terms.{Terms}
 use Rattle.lsp_verdict.specs.Event.{Event}
 use Rattle.lsp_verdict.specs.LookBack.{first_of, each_of}
 use Rattle.lsp_verdict.specs.Offences.{Noted, events_of, kept_of, rule_at, lost_by, last_or, is_lost}
 use Rattle.lsp_verdict.specs.Offences.{broken_by, offence_at, offences, is_frame_fault, has_broken}
-use Rattle.lsp_verdict.specs.Offences.{unread_by, is_unread}
+use Rattle.lsp_verdict.specs.Offences.{unread_by, is_unread, passed_by, is_passed}
 use Rattle.lsp_verdict.proofs.LookBackLemmas.{first_of-snoc, each_of-snoc}
 use Rattle.lsp_verdict.proofs.Offences.Offending.{kept_more}
 
@@ -35,8 +36,21 @@ last_behind none [] (Some x) = refl
 last_behind none (y ∷ xs) o = last_behind y xs o
 
 -- a document is lost as this event leaves it, or as it was
-pub is_lost-push : (terms : Terms) (uri : List ℕ) (events : List Event) (e : Event) → is_lost terms uri (events ++ e ∷ []) ≡ unwrap_or (lost_by terms uri events e) (is_lost terms uri events)
-is_lost-push terms uri events e = ap (last_or false) (each_of-snoc (lost_by terms uri) events e) ∙ last_behind false (each_of (lost_by terms uri) events) (lost_by terms uri events e)
+pub is_lost-push : (terms : Terms) (uri : List ℕ) (notes : List Noted) (n : Noted)
+    → is_lost terms uri (notes ++ n ∷ [])
+    ≡ unwrap_or (lost_by terms uri notes n) (is_lost terms uri notes)
+is_lost-push terms uri notes n =
+    ap (last_or false) (each_of-snoc (lost_by terms uri) notes n)
+    ∙ last_behind false (each_of (lost_by terms uri) notes) (lost_by terms uri notes n)
+
+-- a request is passed over as this event leaves it, or as it was
+pub is_passed-push : (terms : Terms) (side : Side) (id : Ident) (notes : List Noted) (n : Noted)
+    → is_passed terms side id (notes ++ n ∷ [])
+    ≡ unwrap_or (passed_by terms side id notes n) (is_passed terms side id notes)
+is_passed-push terms side id notes n =
+    ap (last_or false) (each_of-snoc (passed_by terms side id) notes n)
+    ∙ last_behind false (each_of (passed_by terms side id) notes)
+    (passed_by terms side id notes n)
 
 some_or : (a b : Option ℕ) → is_some (option_or a b) ≡ (is_some a || is_some b)
 some_or None b = refl

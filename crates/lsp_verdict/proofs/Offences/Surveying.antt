@@ -18,7 +18,8 @@ use Rattle.lsp_verdict.specs.Complete.{completed, IsVerdictBy}
 use Rattle.lsp_verdict.specs.Event.{Event, message, fault, snapshot, sent_in}
 use Rattle.lsp_verdict.specs.LookBack.{first_from}
 use Rattle.lsp_verdict.specs.OffenceLaws.{SurveyAgrees, SomeSurvey, OneSurvey}
-use Rattle.lsp_verdict.specs.Offences.{Noted, Offence, events_of, kept_of, asks_handshake, Asks, IsNoted, IsNotedSession}
+use Rattle.lsp_verdict.specs.Offences.{Noted, Offence, events_of, kept_of, IsReading, IsMalformed}
+use Rattle.lsp_verdict.specs.Offences.{IsNoted, IsNotedSession}
 use Rattle.lsp_verdict.specs.Outcome.{ending, IsVerdict, log_terms}
 use Rattle.lsp_verdict.specs.Placed.{Raw, content, broken, show, Placed, Reads, joined}
 use Rattle.lsp_verdict.specs.Survey.{ends_inside, rests_listed, lacks_listed, first_ends, ends_listed, by_itself, found_in, first_verdict, IsSurvey}
@@ -155,41 +156,54 @@ survey_agrees c limits sizes log found bad s v p is = agrees limits log c found 
 
 -- ---- what an event is noted as
 
-pub by_asking : (bytes : List ℕ) (m : Message) (b : Bool) → reading.Reads bytes m → asks_handshake m ≡ b → Asks (content Editor bytes) b
-by_asking bytes m true reads is = (m, reads, is)
-by_asking bytes m false reads is = λ other reads_too. ap asks_handshake (one_message bytes other m reads_too reads) ∙ is
+by_rule : (bytes : List ℕ) → ((m : Message) × reading.Reads bytes m) ⊎ ((r : ℕ) × BreaksRule bytes r)
+    → (o : Option Message) × IsReading bytes o
+by_rule bytes (inl (m, reads)) = (Some m, reads)
+by_rule bytes (inr (rule, breaks)) = (None, λ m reads. not_both bytes m rule reads breaks)
 
-pub some_asks : (raw : Raw) → (b : Bool) × Asks raw b
-some_asks (content Editor bytes) = by_reading (message_or_rule bytes)
-  where
-    by_reading : ((m : Message) × reading.Reads bytes m) ⊎ ((r : ℕ) × BreaksRule bytes r) → (b : Bool) × Asks (content Editor bytes) b
-    by_reading (inl (m, reads)) = (asks_handshake m, by_asking bytes m (asks_handshake m) reads refl)
-    by_reading (inr (rule, breaks)) = (false, λ m reads. absurd (not_both bytes m rule reads breaks))
-some_asks (content Server bytes) = (false, refl)
-some_asks (broken side rule) = (false, refl)
-some_asks (show n uri t) = (false, refl)
+one_reading : (bytes : List ℕ) (a b : Option Message) → IsReading bytes a → IsReading bytes b → a ≡ b
+one_reading bytes (Some m) (Some n) p q = ap (λ (x : Message). Some x) (one_message bytes m n p q)
+one_reading bytes None None p q = refl
+one_reading bytes (Some m) None p q = absurd (q m p)
+one_reading bytes None (Some n) p q = absurd (p n q)
 
-one_asks : (raw : Raw) (a b : Bool) → Asks raw a → Asks raw b → a ≡ b
-one_asks (content Editor bytes) true true p q = refl
-one_asks (content Editor bytes) false false p q = refl
-one_asks (content Editor bytes) true false p q = absurd (cc (sym p.2 ∙ q p.0 p.1))
-one_asks (content Editor bytes) false true p q = absurd (cc (sym q.2 ∙ p q.0 q.1))
-one_asks (content Server bytes) a b p q = p ∙ sym q
-one_asks (broken side rule) a b p q = p ∙ sym q
-one_asks (show n uri t) a b p q = p ∙ sym q
+some_malformed : (raw : Raw) (e : Event) → (o : Option Message) × IsMalformed raw e o
+some_malformed (content side bytes) (fault by rule) = by_rule bytes (message_or_rule bytes)
+some_malformed (content side bytes) (message m) = (None, refl)
+some_malformed (content side bytes) (snapshot uri n t) = (None, refl)
+some_malformed (broken side rule) e = (None, refl)
+some_malformed (show n uri t) e = (None, refl)
+
+one_malformed : (raw : Raw) (e : Event) (a b : Option Message) → IsMalformed raw e a
+    → IsMalformed raw e b → a ≡ b
+one_malformed (content side bytes) (fault by rule) a b p q = one_reading bytes a b p q
+one_malformed (content side bytes) (message m) a b p q = p ∙ sym q
+one_malformed (content side bytes) (snapshot uri n t) a b p q = p ∙ sym q
+one_malformed (broken side rule) e a b p q = p ∙ sym q
+one_malformed (show n uri t) e a b p q = p ∙ sym q
+
+pub some_note : (raw : Raw) → (n : Noted) × IsNoted raw n
+some_note raw =
+    let read = some_read raw in
+    let malformed = some_malformed raw read.0 in
+    (record { event = read.0; malformed = malformed.0 }, (read.1, malformed.1))
 
 pub some_notes : (raws : List Raw) → (notes : List Noted) × AllZip IsNoted raws notes
 some_notes [] = ([], tt)
 some_notes (raw ∷ raws) =
-    let read = some_read raw in
-    let asks = some_asks raw in
+    let first = some_note raw in
     let rest = some_notes raws in
-    (record { event = read.0; asks = asks.0 } ∷ rest.0, ((read.1, asks.1), rest.1))
+    (first.0 ∷ rest.0, (first.1, rest.1))
+
+abbrev noted : Event → Option Message → Noted
+noted e malformed = record { event = e; malformed = malformed }
 
 one_note : (raw : Raw) (m n : Noted) → IsNoted raw m → IsNoted raw n → m ≡ n
 one_note raw m n p q =
-    ap (λ (e : Event). let r : Noted = record { event = e; asks = m.asks } in r) (one_read raw m.event n.event p.0 q.0)
-    ∙ ap (λ (b : Bool). let r : Noted = record { event = n.event; asks = b } in r) (one_asks raw m.asks n.asks p.1 q.1)
+    let event = one_read raw m.event n.event p.0 q.0 in
+    ap (λ (e : Event). noted e m.malformed) event
+    ∙ ap (noted n.event) (one_malformed raw n.event m.malformed n.malformed
+    (subst (λ (e : Event). IsMalformed raw e m.malformed) event p.1) q.1)
 
 pub one_notes : (raws : List Raw) (ms ns : List Noted) → AllZip IsNoted raws ms → AllZip IsNoted raws ns → ms ≡ ns
 one_notes [] [] [] p q = refl

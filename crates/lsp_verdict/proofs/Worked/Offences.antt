@@ -1,6 +1,6 @@
 -- Worked sessions that offend more than once: all their offences, and which of these follow from an earlier one.
 use Rattle.std.proofs.Common.{◌≡◌, ℕ, ◌∷◌, [], List, ◌++◌, refl}
-use Rattle.std.specs.Prelude.{codes, map, Bool, true, false, Option, Some, None}
+use Rattle.std.specs.Prelude.{codes, map, Bool, true, false, Option, Some, None, option_and_then}
 use Rattle.std.specs.Float.Numeral.{scan_numeral}
 use Rattle.std.specs.Str.{chars}
 use Rattle.std.specs.Fmt.{digits}
@@ -9,7 +9,9 @@ use Rattle.json.specs.Lex.{punctuate, lex}
 use Rattle.json.specs.Text.{content}
 use Rattle.json.specs.Word.{word, after_number}
 use Rattle.json.specs.Print.{escape_byte}
-use Rattle.serde_json.specs.Read.{number_of}
+use Rattle.serde_json.specs.Read.{number_of, read}
+use Rattle.lsp_rpc.specs.Message.{Message}
+use Rattle.lsp_rpc.specs.Reading.{message_in, parts_of}
 use Rattle.lsp_log.specs.declared.fault.LogCode.{LogCode}
 use Rattle.lsp_log.specs.declared.fault.LogCode.TheVariants.{L4}
 use Rattle.lsp_types.specs.declared.side.Side.TheVariants.{Editor, Server}
@@ -21,11 +23,22 @@ use Rattle.lsp_verdict.specs.declared.completeness.Completeness.{Completeness}
 use Rattle.lsp_verdict.specs.declared.completeness.Completeness.TheVariants.{Ignored, Required}
 use Rattle.lsp_verdict.specs.declared.verdict.Who.{Who}
 use Rattle.lsp_verdict.specs.declared.verdict.Who.TheVariants as who
-use Rattle.lsp_verdict.proofs.Worked.Templates.{terms, A, A1, I1, N1, START, OPEN, CHG, REP, FULL, CLOSE, SAVE, REQ, RES, LOG, SH, EX, T}
+use Rattle.lsp_verdict.proofs.Worked.Templates.{terms, A, A1, E, S, I1, N1, START, OPEN, CHG, REP, FULL, CLOSE, SAVE, REQ, RES, LOG, SH, EX, T}
 
--- events none of which is an `initialize` that does not have its shape
+-- events none of which is a message whose params do not have their shape
 abbrev noted : List Event → List Noted
-noted events = map (λ (e : Event). let n : Noted = record { event = e; asks = false } in n) events
+noted events = map (λ (e : Event).
+    let n : Noted = record { event = e; malformed = None } in n) events
+
+abbrev message_of : List ℕ → Option Message
+message_of content = option_and_then (λ d. message_in (parts_of d)) (read content)
+
+-- an event of the editor's with this content, whose params do not have their shape
+abbrev malformed : List ℕ → Noted
+malformed content = record { event = E content; malformed = message_of content }
+
+abbrev bad_registration : List ℕ
+bad_registration = codes "{\"jsonrpc\":\"2.0\",\"id\":5,\"method\":\"client/registerCapability\"}"
 
 abbrev all_of : List Event → List Offence
 all_of events = offences terms (noted events)
@@ -64,6 +77,59 @@ nothing_lost : all_of (START ++ OPEN (codes "1") (codes "ab") ∷ CHG (codes "1"
 unfolding value punctuate lex content word after_number number_of scan_numeral chars
 nothing_lost = refl
 
+-- a document that is opened again with another text or version is lost, with the same it is not
+abbrev opened_again : List ℕ → List ℕ → List Event
+opened_again version text =
+    START ++ OPEN (codes "1") (codes "ab") ∷ OPEN version text ∷ T 1 (codes "c") ∷ []
+
+another_text : all_of (opened_again (codes "1") (codes "c"))
+    ≡ cause 601 who.Editor 4 5 ∷ after_it 702 who.Snapshot 1 6 ∷ []
+unfolding value punctuate lex content word after_number number_of scan_numeral chars
+another_text = refl
+
+another_version : all_of (opened_again (codes "2") (codes "ab"))
+    ≡ cause 601 who.Editor 4 5 ∷ after_it 702 who.Snapshot 1 6 ∷ []
+unfolding value punctuate lex content word after_number number_of scan_numeral chars
+another_version = refl
+
+the_same : all_of (opened_again (codes "1") (codes "ab"))
+    ≡ cause 601 who.Editor 4 5 ∷ cause 702 who.Snapshot 1 6 ∷ []
+unfolding value punctuate lex content word after_number number_of scan_numeral chars
+the_same = refl
+
+-- a message whose params do not have their shape loses the document that it was to open or to change
+abbrev on_document : List ℕ → List ℕ → Noted
+on_document method uri = malformed (codes "{\"jsonrpc\":\"2.0\",\"method\":\"textDocument/" ++ method
+    ++ codes "\",\"params\":{\"textDocument\":{\"uri\":\"file:///" ++ uri
+    ++ codes "\",\"version\":null},\"text\":1}}")
+
+abbrev malformed_on : List ℕ → List ℕ → List Offence
+malformed_on method uri = offences terms (noted (START ++ OPEN (codes "1") (codes "ab") ∷ [])
+    ++ on_document method uri ∷ noted (T 1 (codes "c") ∷ []))
+
+malformed_change : malformed_on (codes "didChange") (codes "a")
+    ≡ cause 209 who.Editor 4 5 ∷ after_it 702 who.Snapshot 1 6 ∷ []
+unfolding value punctuate lex content word after_number number_of scan_numeral chars
+malformed_change = refl
+
+malformed_save : malformed_on (codes "didSave") (codes "a")
+    ≡ cause 209 who.Editor 4 5 ∷ cause 702 who.Snapshot 1 6 ∷ []
+unfolding value punctuate lex content word after_number number_of scan_numeral chars
+malformed_save = refl
+
+of_another : malformed_on (codes "didChange") (codes "b")
+    ≡ cause 209 who.Editor 4 5 ∷ cause 702 who.Snapshot 1 6 ∷ []
+unfolding value punctuate lex content word after_number number_of scan_numeral chars
+of_another = refl
+
+malformed_open : offences terms (noted START
+    ++ on_document (codes "didOpen") (codes "a")
+    ∷ noted (CHG (codes "2") (FULL (codes "b")) ∷ OPEN (codes "3") (codes "c")
+    ∷ T 3 (codes "d") ∷ []))
+    ≡ cause 209 who.Editor 3 4 ∷ after_it 602 who.Editor 4 5 ∷ cause 702 who.Snapshot 1 7 ∷ []
+unfolding value punctuate lex content word after_number number_of scan_numeral chars
+malformed_open = refl
+
 -- changes of a document that was never opened; once it is, they are judged by themselves
 never_opened : all_of (START ++ CHG (codes "1") (FULL (codes "a")) ∷ CHG (codes "2") (FULL (codes "b")) ∷ OPEN (codes "3") (codes "c") ∷ CLOSE ∷ CLOSE ∷ [])
     ≡ cause 602 who.Editor 3 4 ∷ after_it 602 who.Editor 4 5 ∷ cause 602 who.Editor 7 8 ∷ []
@@ -79,21 +145,21 @@ unfolding value punctuate lex content word after_number number_of scan_numeral c
 refused_answer = refl
 
 -- an `initialize` without its shape, and another message of a bad shape: only behind the first is the handshake lost
-abbrev bad_initialize : Noted
-bad_initialize = record { event = fault Editor 209; asks = true }
-
-refused_initialize : offences terms (bad_initialize ∷ noted (REQ ∷ []))
+refused_initialize : offences terms
+    (malformed (codes "{\"jsonrpc\":\"2.0\",\"id\":1,\"method\":\"initialize\"}")
+    ∷ noted (REQ ∷ []))
     ≡ cause 209 who.Editor 1 1 ∷ after_it 401 who.Editor 2 2 ∷ []
 unfolding value punctuate lex content word after_number number_of scan_numeral chars
 refused_initialize = refl
 
-refused_otherwise : all_of (fault Editor 209 ∷ REQ ∷ [])
+refused_otherwise : offences terms
+    (on_document (codes "didOpen") (codes "a") ∷ noted (REQ ∷ []))
     ≡ cause 209 who.Editor 1 1 ∷ cause 401 who.Editor 2 2 ∷ []
 unfolding value punctuate lex content word after_number number_of scan_numeral chars
 refused_otherwise = refl
 
 -- a session without a handshake: each offence is one of its own
-no_handshake : all_of (REQ ∷ LOG ∷ RES (codes "7") ∷ [])
+no_handshake : all_of (REQ ∷ LOG ∷ RES (codes "8") ∷ [])
     ≡ cause 401 who.Editor 1 1 ∷ cause 411 who.Server 1 2 ∷ cause 301 who.Server 2 3 ∷ []
 unfolding value punctuate lex content word after_number number_of scan_numeral chars
 no_handshake = refl
@@ -134,6 +200,36 @@ right_again : all_of (START ++ fault Editor 201 ∷ REQ ∷ fault Editor 102 ∷
     ≡ cause 201 who.Editor 3 4 ∷ cause 102 who.Editor 5 6 ∷ []
 unfolding value punctuate lex content word after_number number_of scan_numeral chars
 right_again = refl
+
+-- ---- requests that are passed over
+
+-- the answer to one that offends follows from it; a second answer does not
+passed_over : all_of (REQ ∷ I1 ∷ A1 ∷ N1 ∷ RES (codes "7") ∷ RES (codes "7") ∷ [])
+    ≡ cause 401 who.Editor 1 1 ∷ after_it 301 who.Server 2 5 ∷ cause 301 who.Server 3 6 ∷ []
+unfolding value punctuate lex content word after_number number_of scan_numeral chars
+passed_over = refl
+
+-- of two requests with one id the second is passed over: its answer is the second one
+twice_asked : all_of (START ++ REQ ∷ REQ ∷ RES (codes "7") ∷ RES (codes "7") ∷ RES (codes "7") ∷ [])
+    ≡ cause 302 who.Editor 4 5 ∷ after_it 301 who.Server 3 7 ∷ cause 301 who.Server 4 8 ∷ []
+unfolding value punctuate lex content word after_number number_of scan_numeral chars
+twice_asked = refl
+
+-- an answer with another id is one by itself, and so is one by the side that asked
+answered_otherwise : all_of (START ++ REQ ∷ REQ ∷ RES (codes "8") ∷ [])
+    ≡ cause 302 who.Editor 4 5 ∷ cause 301 who.Server 2 6 ∷ []
+unfolding value punctuate lex content word after_number number_of scan_numeral chars
+answered_otherwise = refl
+
+-- a request whose params do not have their shape
+unshaped : offences terms (noted START
+    ++ record {
+      event = S bad_registration;
+      malformed = message_of bad_registration;
+    } ∷ noted (E (codes "{\"jsonrpc\":\"2.0\",\"id\":5,\"result\":null}") ∷ []))
+    ≡ cause 209 who.Server 2 4 ∷ after_it 301 who.Editor 3 5 ∷ []
+unfolding value punctuate lex content word after_number number_of scan_numeral chars
+unshaped = refl
 
 -- ---- how sessions end
 

@@ -133,6 +133,24 @@ returns-in-Text-clause-source_failures g c = run_source _ _ _ _ c.of_run-in-Text
 pub returns-in-Text-clause-sink_failures : goal.returns-in-Text-clause-sink_failures
 returns-in-Text-clause-sink_failures g c = run_sink _ _ _ _ c.of_run-in-Text.ensures c.run_text.ensures.text.counts.sink_failures
 
+pub returns-in-TextAll-clause-answers : goal.returns-in-TextAll-clause-answers
+returns-in-TextAll-clause-answers g c =
+    rw (c.in-TextAll.is, ← c.get-in-TextAll.ensures.value) (
+      c.run_text_all.result,
+      c.of_run-in-TextAll.ensures,
+      c.run_text_all.ensures.text,
+    )
+
+pub returns-in-TextAll-clause-source_failures : goal.returns-in-TextAll-clause-source_failures
+returns-in-TextAll-clause-source_failures g c =
+    let counts = c.run_text_all.ensures.text.counts in
+    run_source _ _ _ _ c.of_run-in-TextAll.ensures counts.source_failures
+
+pub returns-in-TextAll-clause-sink_failures : goal.returns-in-TextAll-clause-sink_failures
+returns-in-TextAll-clause-sink_failures g c =
+    let counts = c.run_text_all.ensures.text.counts in
+    run_sink _ _ _ _ c.of_run-in-TextAll.ensures counts.sink_failures
+
 pub returns-in-Event-clause-answers : goal.returns-in-Event-clause-answers
 returns-in-Event-clause-answers g c =
     rw (c.in-Event.is, ← c.get-in-Event.ensures.value) (

@@ -31,9 +31,10 @@ returns-in-Some g c = record {
       (notes_of inv.hs) [] inv.so_far) in
       let given = subst (GaveEvent limits c.next.new.self start now (raws_of inv.hs)
       (notes_of inv.hs) []) told.1 gave in
+      let plain = told.2 in
       told_first c.args.events.now.completeness limits c.next.new.self start now inv.hs told.0
-      c.in-Some.explanation given inv.so_far.are_noted
-      (told.2 limits start now inv.hs [] given);
+      plain.0 c.in-Some.explanation given inv.so_far.are_noted
+      (plain.1 limits start now inv.hs [] given) plain.2;
 }
 
 pub loop-heard-preserved : goal.loop-heard-preserved

@@ -77,3 +77,4 @@ returns-clause-ok g c = λ content events h holds.
     _ _ (c.in_ok-apply.ensures.accepted (calls events) holds.called)
     (c.in_ok-admit.ensures.admitted (sent_in events) holds.sent ∙ carries.1)
     (c.in_ok-apply.ensures.ok (calls events) holds.called)
+    (whole_left h.said h.whole left h.rest (sent_in events) (h.apart.read (sent_in events) holds.sent))

@@ -21,6 +21,7 @@ returns-in_ok-spoken-in-Content-clause-ok g c =
       reads = h.reads;
       is_heard = (h.reads.by, h.says, h.means);
       answers = tt;
+      whole = h.has_value;
       clean = h.clean;
       holds = h.holds;
       counted = λ all counts. c.add.ensures all (message h.sent)
@@ -50,6 +51,7 @@ returns-in_ok-answer-in-Snapshot-clause-ok g c =
       reads = refl;
       is_heard = (refl, refl, refl);
       answers = answer (calls events) holds.called;
+      whole = tt;
       clean = accepted (calls events) holds.called;
       holds = shown_holds c.args.self.now.session c.snapshot.new.self events uri at.version text
           holds.sent (stands (calls events) holds.called);

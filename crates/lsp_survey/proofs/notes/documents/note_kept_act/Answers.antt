@@ -1,5 +1,5 @@
 use Rattle.std.specs.Prelude.{string_bytes, chars, map}
-use Rattle.std.proofs.Common.{None, sym, refl, ◌∙◌}
+use Rattle.std.proofs.Common.{sym, refl, ◌∙◌}
 use Rattle.std.proofs.lemmas.Result.{on_ok_weaker}
 use Rattle.lsp_docs.specs.Calls.{opens, changes}
 use Rattle.lsp_rpc.specs.View.{changes_view}
@@ -33,4 +33,4 @@ returns-else-any_whole c =
     ∙ c.if-any_whole.false in
     rw c.in-DidChange.is (λ enc kind.
     let call = changes enc kind uri c.in-DidChange.version (map edit_of (changes_view items)) in
-    notes_stay None call c.args.notes.now.map.entries (kept_leaves call whole))
+    notes_stay call c.args.notes.now.map.entries (kept_leaves call whole))

@@ -19,10 +19,11 @@ returns-in-Ok-clause-heard c =
     c.hear.new.self.counts walks
     (c.number_next-number.ensures (events_of before) walks.counted) c.in-Ok.ensures.terms
     (λ i. (same i).session) (λ i. (same i).docs) (λ i. (same i).counts) c.keep.ensures.same.1
+    c.keep.ensures.same.2
     (c.in-Ok.ensures.ok kept walks.holds)
     (noted_after c.number_next-number.result c.in-Ok.kept (record old {
       events = c.hear.new.self;
-    }) old c.keep.new.self refl refl refl keeps.1)))
+    }) old c.keep.new.self refl refl refl refl refl keeps.1)))
     c.keep.ensures.keeps
 
 pub returns-in-Err-clause-heard : goal.returns-in-Err-clause-heard
@@ -35,7 +36,7 @@ returns-in-Err-clause-heard c =
     (λ given heard before walks.
     let kept = kept_of old.events.docs.terms (events_of before) in
     let still = still_walks old mid before walks same (c.in-Err.ensures.err kept walks.holds)
-    c.in-Err.ensures.uncounted refl refl refl refl refl in
+    c.in-Err.ensures.uncounted refl refl refl refl refl refl refl in
     let refused = subst (λ (t : Terms). IsRefused raw t before c.in-Err.refused) (sym same)
     (c.in-Err.ensures.rule kept walks.holds) in
     subst (λ (t : Terms). Hears raw t c.pass_over.new.self before given) same

@@ -7,7 +7,9 @@ returns-clause-walks c = record {
   counted = c.new.ensures.follows.counted;
   noted = λ uri. c.new-2.ensures uri;
   is_broken = refl;
-  marked = c.new-4.ensures c.new.result.docs.terms;
-  said = c.new-5.ensures c.new.result.docs.terms;
+  marked = c.new-5.ensures c.new.result.docs.terms;
+  opened = c.new-6.ensures c.new.result.docs.terms;
+  said = c.new-7.ensures c.new.result.docs.terms;
   sided = c.new-3.ensures;
+  passed = c.new-4.ensures;
 }

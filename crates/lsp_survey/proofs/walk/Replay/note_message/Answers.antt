@@ -1,17 +1,21 @@
 use Rattle.std.specs.Prelude.{unwrap_or}
-use Rattle.std.proofs.Common.{◌∙◌}
+use Rattle.std.proofs.Common.{◌∙◌, subst, sym}
+use Rattle.lsp_session.specs.Handshake.{is_done}
 use Rattle.lsp_survey.specs.Asking.{leads}
+use Rattle.lsp_survey.specs.Remarks.{Remarked}
+use Rattle.lsp_survey.proofs.RemarkSteps.{on_ok_three}
 use Rattle.lsp_survey.proofs.walk.Replay.note_message.Goals as goal
-use Rattle.lsp_docs.proofs.Faults.{on_ok_two}
 
 pub returns-clause-noted : goal.returns-clause-noted
 returns-clause-noted c =
-    on_ok_two c.keep.result
-    (λ editor server. (
+    on_ok_three c.keep.result
+    (λ editor server remarked. (
       c.in_ok-note_kept_act.ensures,
       c.in_ok-keep_act.ensures,
+      c.in_ok-keep_act-2.ensures,
       λ sents stands.
           let behind = c.phase-phase.ensures sents stands in
+          let done = c.is_done-done.ensures sents stands in
           record {
             editor = editor;
             server = server;
@@ -19,7 +23,8 @@ returns-clause-noted c =
             since_is = c.keep.ensures.since ∙ (λ i.
                 unwrap_or (leads c.args.number c.args.self.now.said.phase (behind i))
                 c.args.self.now.said.since);
+            remarked = rw (behind, done) at remarked;
           },
-      c.after_message.ensures,
+      c.after_message-self.ensures,
     ))
-    c.keep.ensures.editor c.keep.ensures.server
+    c.keep.ensures.editor c.keep.ensures.server c.keep.ensures.remarks

@@ -1,13 +1,17 @@
-use Rattle.std.specs.Prelude.{◌||◌}
+use Rattle.std.specs.Prelude.{List, Option, ℕ, option_map, string_bytes, ◌||◌}
 use Rattle.std.proofs.Common.{◌≡◌, ◌∙◌, false, None, Some, refl, sym, ap, subst}
-use Rattle.lsp_survey.specs.Notes.{AreAfter}
+use Rattle.lsp_survey.specs.Notes.{Leaves}
+use Rattle.lsp_rpc.specs.Ident.{Ident, id_view}
+use Rattle.lsp_survey.specs.Passed.{ArePassed, SetsAny}
 use Rattle.lsp_survey.specs.Sides.{sides_after}
+use Rattle.lsp_survey.specs.declared.notes.passed.Passed.{Passed}
+use Rattle.lsp_survey.proofs.PassedSteps.{content_passes}
 use Rattle.lsp_survey.specs.Walking.{offence_of}
 use Rattle.lsp_survey.specs.declared.notes.note.Notes.{Notes}
 use Rattle.lsp_verdict.specs.Given.{given_offence}
-use Rattle.lsp_verdict.specs.Offences.{breaks_handshake, events_of, follows_bytes, may_answer}
+use Rattle.lsp_verdict.specs.Event.{Event, fault}
+use Rattle.lsp_verdict.specs.Offences.{asks, breaks_handshake, events_of, follows_bytes, may_answer}
 use Rattle.lsp_verdict.specs.Verdict.{who_of}
-use Rattle.lsp_survey.proofs.Noting.{nothing_said}
 use Rattle.lsp_survey.proofs.walk.Replay.refuse_content.Goals as goal
 
 pub returns-clause-passes : goal.returns-clause-passes
@@ -15,21 +19,37 @@ returns-clause-passes c =
     let refused = c.refuse_fault-offence.ensures in
     let old = c.args.self.now in
     let rule = c.args.rule in
-    let asks = c.in_ok-asks.asks in (
-      asks,
-      c.in_ok-asks.ensures,
+    let read = c.in_ok.ensures in
+    let malformed = read.0 in
+    let meant = read.2 in (
+      malformed,
+      read.1,
       record {
         found = _;
         is_given = refl;
         is_such = (refl, c.in_ok-content.ensures.items);
         counted = refused.counted;
         is_broken = λ event kept is holds. refused.broken kept holds
-            ∙ ap (λ e. old.broken || (breaks_handshake asks rule || may_answer kept e)) (sym is);
+            ∙ ap (λ b. old.broken || (breaks_handshake b rule
+            || may_answer kept (fault c.args.side rule))) meant.asks
+            ∙ ap (λ e. old.broken || (breaks_handshake (asks malformed) rule
+            || may_answer kept e)) (sym is);
         sides = λ event is. refused.sides ∙ ap (λ e. sides_after e old.sides) (sym is);
-        noted = λ enc kind. subst (λ (w : Notes).
-            AreAfter (Some rule) None old.notes.map.entries w.map.entries) (sym refused.notes)
-            (nothing_said (Some rule) old.notes.map.entries);
+        noted = λ enc kind kept holds. subst (λ (brought : Option (List ℕ)).
+            Leaves (Some rule) brought None None old.notes.map.entries
+            c.note_malformed.new.notes.map.entries) meant.brings
+            (subst (λ (w : Notes). Leaves (Some rule) (option_map string_bytes c.in_ok.brings) None None
+            w.map.entries c.note_malformed.new.notes.map.entries) refused.notes
+            c.in_ok-note_malformed.ensures);
+        passed = λ event is. subst (λ (e : Event).
+            ArePassed (Some rule) e malformed old.passed c.note_asked.new.self) (sym is)
+            (content_passes c.args.side rule rule malformed old.passed c.note_asked.new.self
+            (subst (λ (o : Option Ident). SetsAny c.args.side o old.passed c.note_asked.new.self)
+            meant.asked (subst (λ (p : Passed). SetsAny c.args.side
+            (option_map id_view c.in_ok.asked) p c.note_asked.new.self) refused.passed
+            c.in_ok-note_asked.ensures)));
         marks = refused.marks;
+        openings = refused.openings;
         said = refused.said;
         offence = λ enc kind notes event is w. refused.offence notes w
             ∙ ap (λ e. given_offence (offence_of old.events.docs.terms notes (who_of c.args.side)

@@ -8,11 +8,16 @@ use Rattle.lsp_survey.proofs.SidesSteps.{fault_late}
 use Rattle.lsp_survey.proofs.walk.Replay.refuse_fault.Goals as goal
 
 pub returns-clause-counted : goal.returns-clause-counted
-returns-clause-counted c = rw c.who_of.ensures at c.refuse-offence.ensures.counted
+returns-clause-counted c =
+    let counted = rw c.who_of.ensures at c.refuse-offence.ensures.counted in record {
+      session = counted.session;
+      documents = counted.documents;
+      counts = counted.counts;
+    }
 
 pub returns-clause-sides : goal.returns-clause-sides
 returns-clause-sides c =
-    c.after_fault.ensures
+    c.after_fault-self.ensures
     ∙ ap (sides_failed c.args.side c.args.rule) c.refuse-offence.ensures.sides
 
 pub returns-clause-broken : goal.returns-clause-broken

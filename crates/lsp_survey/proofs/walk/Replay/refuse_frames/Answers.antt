@@ -1,6 +1,6 @@
 use Rattle.std.specs.Prelude.{◌||◌}
 use Rattle.std.proofs.Common.{◌≡◌, ◌∙◌, false, None, Some, refl, sym, ap, subst}
-use Rattle.lsp_survey.specs.Notes.{AreAfter}
+use Rattle.lsp_survey.specs.Notes.{Leaves}
 use Rattle.lsp_survey.specs.Sides.{sides_after}
 use Rattle.lsp_survey.specs.Walking.{offence_of}
 use Rattle.lsp_survey.specs.declared.notes.note.Notes.{Notes}
@@ -8,6 +8,7 @@ use Rattle.lsp_verdict.specs.Given.{given_offence}
 use Rattle.lsp_verdict.specs.Offences.{breaks_handshake, events_of, follows_bytes, may_answer}
 use Rattle.lsp_verdict.specs.Verdict.{who_of}
 use Rattle.lsp_survey.proofs.Noting.{nothing_said}
+use Rattle.lsp_survey.proofs.PassedSteps.{fault_passes}
 use Rattle.lsp_survey.proofs.walk.Replay.refuse_frames.Goals as goal
 
 pub returns-clause-passes : goal.returns-clause-passes
@@ -23,10 +24,12 @@ returns-clause-passes c =
       is_broken = λ event kept is holds. refused.broken kept holds
           ∙ ap (λ e. old.broken || (breaks_handshake false rule || may_answer kept e)) (sym is);
       sides = λ event is. refused.sides ∙ ap (λ e. sides_after e old.sides) (sym is);
-      noted = λ enc kind. subst (λ (w : Notes).
-          AreAfter (Some rule) None old.notes.map.entries w.map.entries) (sym refused.notes)
-          (nothing_said (Some rule) old.notes.map.entries);
+      noted = λ enc kind kept holds. subst (λ (w : Notes).
+          Leaves (Some rule) None None None old.notes.map.entries w.map.entries) (sym refused.notes)
+          (nothing_said (Some rule) None old.notes.map.entries);
+      passed = λ event is. fault_passes event c.args.side rule rule old.passed _ is refused.passed;
       marks = refused.marks;
+      openings = refused.openings;
       said = refused.said;
       offence = λ enc kind notes event is w. refused.offence notes w
           ∙ ap (λ e. given_offence (offence_of old.events.docs.terms notes (who_of c.args.side) rule

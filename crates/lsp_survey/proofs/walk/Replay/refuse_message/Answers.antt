@@ -1,15 +1,18 @@
 use Rattle.std.specs.Prelude.{◌&&◌, ◌||◌}
-use Rattle.std.proofs.Common.{◌≡◌, ◌∙◌, Some, refl, ap, subst}
+use Rattle.std.proofs.Common.{◌≡◌, ◌∙◌, Some, None, false, refl, sym, ap, subst}
 use Rattle.lsp_rpc.specs.View.{act_view, message_view}
-use Rattle.lsp_survey.specs.Notes.{AreAfter, asks_of}
+use Rattle.lsp_survey.specs.Notes.{Leaves}
+use Rattle.lsp_survey.specs.Passed.{Passes}
 use Rattle.lsp_survey.specs.Sides.{sides_read}
+use Rattle.lsp_survey.specs.declared.notes.passed.Passed.{Passed}
 use Rattle.lsp_survey.specs.declared.notes.note.Notes.{Notes}
-use Rattle.lsp_verdict.specs.Calls.{call_of}
+use Rattle.lsp_verdict.specs.Calls.{call_of, calls}
 use Rattle.lsp_verdict.specs.Given.{given_offence}
-use Rattle.lsp_verdict.specs.Offences.{breaks_handshake, events_of, is_handshake_lost}
+use Rattle.lsp_verdict.specs.Offences.{breaks_handshake, events_of, held_in, is_handshake_lost}
 use Rattle.lsp_verdict.specs.Offences.{wants_handshake, wants_text}
 use Rattle.lsp_verdict.specs.Verdict.{no_next, who_of}
-use Rattle.lsp_survey.proofs.SidesSteps.{message_after, message_answers, message_late}
+use Rattle.lsp_survey.proofs.PassedSteps.{message_passes}
+use Rattle.lsp_survey.proofs.SidesSteps.{message_after, message_answers}
 use Rattle.lsp_survey.proofs.walk.Replay.refuse_message.Goals as goal
 
 pub returns-clause-passes : goal.returns-clause-passes
@@ -18,7 +21,7 @@ returns-clause-passes c =
     let old = c.args.self.now in
     let side = c.args.side in
     let rule = c.args.rule in
-    let asks = asks_of side (message_view c.args.spoken.message) in
+    let said = message_view c.args.spoken.message in
     record {
       found = _;
       is_given = refl;
@@ -30,15 +33,21 @@ returns-clause-passes c =
       };
       is_broken = λ event kept is holds. refused.broken
           ∙ ap (λ b. old.broken || b) (c.breaks_handshake-breaks.ensures
-          ∙ ap (λ b. breaks_handshake b rule) c.asks_handshake.ensures
-          ∙ message_answers side (breaks_handshake asks rule) kept event is);
-      sides = λ event is. c.after_message.ensures ∙ ap (sides_read side) refused.sides
-          ∙ message_after side old.sides event is;
-      noted = λ enc kind. subst (λ (w : Notes).
-          AreAfter (Some rule) (call_of enc kind (act_view c.args.spoken.act)) w.map.entries
+          ∙ message_answers side (breaks_handshake false rule) kept said event is);
+      sides = λ event is. c.after_message-self.ensures ∙ ap (sides_read side) refused.sides
+          ∙ message_after side old.sides said event is;
+      passed = λ event is. message_passes side said event is rule old.passed
+          c.note.new.self (subst (λ (p : Passed). Passes rule side said p c.note.new.self)
+          refused.passed c.in_ok-note.ensures);
+      noted = λ enc kind kept holds.
+          let call = call_of enc kind (act_view c.args.spoken.act) in
+          let now = held_in old.events.docs.terms (calls kept) call in
+          subst (λ (w : Notes). Leaves (Some rule) None now call w.map.entries
           c.note_refused_act.new.notes.map.entries) refused.notes
-          (c.in_ok-note_refused_act.ensures enc kind);
+          (c.in_ok-note_refused_act.ensures enc kind now
+          (sym (c.reopens-reopens.ensures (calls kept) holds.called enc kind)));
       marks = refused.marks;
+      openings = refused.openings;
       said = refused.said;
       offence = λ enc kind notes event is walks.
           let lost = wants_handshake rule && is_handshake_lost old.events.docs.terms notes in
@@ -51,6 +60,5 @@ returns-clause-passes c =
           ∙ ap (λ on_lost. lost || (wants_text rule && on_lost || c.message_follows-late.result))
           (c.is_on_lost-on_lost.ensures enc kind)
           ∙ ap (λ late. lost || (wants_text rule && _ || late))
-          (c.message_follows-late.ensures
-          ∙ message_late rule side old.sides (events_of notes) walks.sided event is));
+          (c.message_follows-late.ensures notes event walks is));
     }

@@ -1,17 +1,22 @@
-use Rattle.std.specs.Prelude.{chars, ◌&&◌, ◌||◌}
-use Rattle.std.proofs.Common.{◌≡◌, Some, false, refl, sym, ap, subst, ◌∙◌, w32}
+use Rattle.std.specs.Prelude.{chars, unwrap_or, ◌&&◌, ◌||◌}
+use Rattle.std.proofs.Common.{◌≡◌, None, Some, false, refl, sym, ap, subst, ◌∙◌, w32}
 use Rattle.std.proofs.Math.Bool.{or-false}
 use Rattle.std.proofs.lemmas.Int.{to_z-of_z}
 use mir.Val.{SFits}
 use Rattle.lsp_docs.specs.Calls.{shows}
-use Rattle.lsp_survey.specs.Notes.{AreAfter}
+use Rattle.lsp_survey.specs.Notes.{Leaves, is_noted_lost}
+use Rattle.lsp_rpc.specs.Ident.{id_view}
+use Rattle.lsp_survey.specs.Passed.{has_passed}
 use Rattle.lsp_survey.specs.Sides.{sides_after}
 use Rattle.lsp_survey.specs.declared.notes.note.Note.{Note}
 use Rattle.lsp_survey.specs.declared.notes.note.Notes.{Notes}
+use Rattle.lsp_survey.specs.declared.notes.passed.Passed.{Passed}
 use Rattle.lsp_survey.specs.declared.offending.OffendingEvent.TheVariants.{Snapshot}
 use Rattle.lsp_verdict.specs.Given.{given_offence}
-use Rattle.lsp_verdict.specs.Offences.{breaks_handshake, events_of, follows_bytes}
-use Rattle.lsp_verdict.specs.Offences.{is_handshake_lost, may_answer, wants_handshake, wants_text}
+use Rattle.lsp_verdict.specs.Calls.{calls}
+use Rattle.lsp_verdict.specs.Offences.{breaks_handshake, events_of, follows_bytes, held_in}
+use Rattle.lsp_verdict.specs.Offences.{answered_by, asked_by, follows_passed, is_handshake_lost}
+use Rattle.lsp_verdict.specs.Offences.{may_answer, passes, wants_handshake, wants_text}
 use Rattle.lsp_verdict.specs.Verdict.{no_next}
 use Rattle.lsp_verdict.specs.declared.verdict.Who.TheVariants as who
 use Rattle.lsp_survey.proofs.walk.Replay.refuse_snapshot.Goals as goal
@@ -42,11 +47,17 @@ returns-clause-passes c =
           ∙ sym (or-false (breaks_handshake false rule))
           ∙ ap (λ e. breaks_handshake false rule || may_answer kept e) (sym is));
       sides = λ event is. refused.sides ∙ ap (λ e. sides_after e old.sides) (sym is);
-      noted = λ enc kind. subst (λ (w : Notes).
-          AreAfter (Some c.args.rule) (Some call) w.map.entries
+      noted = λ enc kind kept holds.
+          let now = held_in old.events.docs.terms (calls kept) (Some call) in
+          subst (λ (w : Notes). Leaves (Some c.args.rule) None now (Some call) w.map.entries
           c.note_refused.new.notes.map.entries) refused.notes
-          (c.in_ok-note_refused.ensures call refl refl);
+          (c.in_ok-note_refused.ensures call now refl refl refl);
+      passed = λ event is side k.
+          ap (λ (p : Passed). has_passed p side (id_view k)) refused.passed
+          ∙ ap (λ e. unwrap_or (passes (asked_by side e None) (answered_by side e) (id_view k) rule)
+          (has_passed old.passed side (id_view k))) (sym is);
       marks = refused.marks;
+      openings = refused.openings;
       said = refused.said;
       offence = λ enc kind notes event is walks.
           let lost = wants_handshake rule && is_handshake_lost old.events.docs.terms notes in
@@ -57,6 +68,7 @@ returns-clause-passes c =
           }))
           (c.follows-follows.ensures notes walks
           ∙ ap (λ on_lost. lost || (wants_text rule && on_lost || false)) is_lost
-          ∙ ap (λ e. lost || (wants_text rule && _ || follows_bytes rule (events_of notes) e))
-          (sym is));
+          ∙ ap (λ e. lost || (wants_text rule && is_noted_lost old.notes.map.entries (Some call)
+          || (follows_passed old.events.docs.terms rule notes e
+          || follows_bytes rule (events_of notes) e))) (sym is));
     }

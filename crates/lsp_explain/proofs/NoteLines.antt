@@ -1,0 +1,46 @@
+-- The lines of notes, one kind after another.
+use Rattle.std.specs.Prelude.{map}
+use Rattle.std.specs.List.{flat_map}
+use Rattle.std.proofs.Common.{◌≡◌, ◌+◌, ℕ, List, ◌++◌, length, length-append, refl, sym, ap, ◌∙◌}
+use Rattle.std.proofs.Common.{append_assoc}
+use Rattle.std.proofs.lemmas.List.{length-map}
+use Rattle.std.proofs.lemmas.List.Concat.{flat_map-append}
+use Rattle.std.proofs.lemmas.List.Folds.{flat_map-map}
+use Rattle.lsp_survey.specs.Misuses.{Misused}
+use Rattle.lsp_explain.specs.Remarks.{Remark, calls_wrongly, count_line, misuse_line, remark_line}
+use Rattle.lsp_explain.specs.Remarks.{remark_lines}
+
+abbrev lines : List Remark → List ℕ
+lines remarks = flat_map remark_line remarks
+
+-- the lines of some more after those of others
+more : (start old new : List ℕ) (remarks later : List Remark) → old ≡ start ++ lines remarks
+    → new ≡ old ++ lines later → new ≡ start ++ lines (remarks ++ later)
+more start old new remarks later before is =
+    is ∙ ap (λ w. w ++ lines later) before
+    ∙ append_assoc start (lines remarks) (lines later)
+    ∙ ap (λ w. start ++ w) (sym (flat_map-append remark_line remarks later))
+
+-- **the lines of all kinds, and how many they are**
+pub all_lines : (start one two three four five : List ℕ) (calls : List Misused)
+    (exits names little : List Remark) (count : ℕ)
+    → one ≡ start ++ flat_map misuse_line calls → two ≡ one ++ lines exits
+    → three ≡ two ++ lines names → four ≡ three ++ lines little → five ≡ four ++ count_line count
+    → count ≡ length calls + length exits + length names + length little
+    → five ≡ start ++ remark_lines (map calls_wrongly calls ++ exits ++ names ++ little)
+all_lines start one two three four five calls exits names little count e1 e2 e3 e4 e5 counted =
+    let wrong : List Remark = map calls_wrongly calls in
+    let first : one ≡ start ++ lines wrong =
+    e1 ∙ ap (λ w. start ++ w) (sym (flat_map-map remark_line calls_wrongly calls)) in
+    let second = more start one two wrong exits first e2 in
+    let third = more start two three (wrong ++ exits) names second e3 in
+    let fourth = more start three four (wrong ++ exits ++ names) little third e4 in
+    let all : List Remark = wrong ++ exits ++ names ++ little in
+    let size : length all ≡ length calls + length exits + length names + length little =
+    length-append (wrong ++ exits ++ names) little
+    ∙ ap (λ k. k + length little) (length-append (wrong ++ exits) names
+    ∙ ap (λ k. k + length names) (length-append wrong exits
+    ∙ ap (λ k. k + length exits) (length-map calls calls_wrongly))) in
+    e5 ∙ ap (λ w. w ++ count_line count) fourth
+    ∙ append_assoc start (lines all) (count_line count)
+    ∙ ap (λ k. start ++ (lines all ++ count_line k)) (counted ∙ sym size)

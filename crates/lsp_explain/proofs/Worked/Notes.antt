@@ -1,0 +1,113 @@
+-- The notes on worked sessions.
+use Rattle.std.proofs.Common.{◌≡◌, ℕ, ◌∷◌, [], List, ◌++◌, refl}
+use Rattle.std.specs.Prelude.{codes}
+use Rattle.std.specs.Float.Numeral.{scan_numeral}
+use Rattle.std.specs.Str.{chars}
+use Rattle.std.specs.Fmt.{digits}
+use Rattle.json.specs.Json.{value}
+use Rattle.json.specs.Lex.{punctuate, lex}
+use Rattle.json.specs.Text.{content}
+use Rattle.json.specs.Word.{word, after_number}
+use Rattle.json.specs.Print.{escape_byte}
+use Rattle.serde_json.specs.Read.{number_of}
+use Rattle.lsp_survey.specs.Asking.{numbered}
+use Rattle.lsp_verdict.specs.Event.{Event}
+use Rattle.lsp_verdict.specs.Verdict.{no, summary, yes}
+use Rattle.lsp_verdict.specs.declared.verdict.Who.TheVariants.{Editor}
+use Rattle.lsp_verdict.proofs.Worked.Templates.{terms, E, S, I1, N1, START, OPEN, REQ, SH, RN, EX, T}
+use Rattle.lsp_explain.specs.Remarks.{remark_lines, remarks_of}
+
+-- the notes after a No at what comes next, and after a Yes
+abbrev notes_before : List Event → List ℕ
+notes_before events = remark_lines (remarks_of (no 0 Editor 0 0) (numbered terms events))
+
+abbrev notes_after : List Event → List ℕ
+notes_after events = remark_lines (remarks_of (yes (summary terms events)) (numbered terms events))
+
+-- ---- calls
+
+abbrev NOTIFY : List ℕ → List ℕ
+NOTIFY name = codes "{\"jsonrpc\":\"2.0\",\"method\":\"" ++ name ++ codes "\"}"
+
+abbrev ASK : List ℕ → List ℕ
+ASK name = codes "{\"jsonrpc\":\"2.0\",\"id\":9,\"method\":\"" ++ name ++ codes "\"}"
+
+-- Kate's `shutdown`, and the `exit` after it
+shutdown_notified : notes_before (START ++ E (NOTIFY (codes "shutdown")) ∷ EX ∷ [])
+    ≡ codes "note as-notification \"shutdown\" event 4\n"
+    ++ codes "note exit-without-shutdown event 5\nnotes 2\n"
+unfolding value punctuate lex content word after_number number_of scan_numeral chars digits
+    escape_byte
+shutdown_notified = refl
+
+-- of a method the first is named, and of each side
+asked_and_told : notes_before (START ++ E (NOTIFY (codes "textDocument/hover"))
+    ∷ S (ASK (codes "textDocument/publishDiagnostics")) ∷ E (NOTIFY (codes "textDocument/hover"))
+    ∷ S (NOTIFY (codes "textDocument/didSave")) ∷ E (ASK (codes "workspace/configuration")) ∷ [])
+    ≡ codes "note as-notification \"textDocument/hover\" event 4\n"
+    ++ codes "note as-request \"textDocument/publishDiagnostics\" event 5\n"
+    ++ codes "note by-server \"textDocument/didSave\" event 7\n"
+    ++ codes "note by-editor \"workspace/configuration\" event 8\nnotes 4\n"
+unfolding value punctuate lex content word after_number number_of scan_numeral chars digits
+    escape_byte
+asked_and_told = refl
+
+-- a method that LSP 3.17 does not have, and one that both sides send
+others : notes_before (START ++ E (NOTIFY (codes "$/own")) ∷ S (ASK (codes "own/ask"))
+    ∷ S (NOTIFY (codes "$/progress")) ∷ REQ ∷ []) ≡ []
+unfolding value punctuate lex content word after_number number_of scan_numeral chars digits
+    escape_byte
+others = refl
+
+-- ---- `exit`
+
+stopped : notes_before (START ++ SH ∷ RN ∷ EX ∷ []) ≡ []
+unfolding value punctuate lex content word after_number number_of scan_numeral chars digits
+    escape_byte
+stopped = refl
+
+never_began : notes_before (EX ∷ []) ≡ codes "note exit-without-shutdown event 1\nnotes 1\n"
+unfolding value punctuate lex content word after_number number_of scan_numeral chars digits
+    escape_byte
+never_began = refl
+
+-- ---- the older `offsetEncoding`
+
+abbrev ANSWER : List ℕ → Event
+ANSWER name =
+    S (codes "{\"jsonrpc\":\"2.0\",\"id\":1,\"result\":{\"capabilities\":{},\"offsetEncoding\":"
+    ++ name ++ codes "}}")
+
+another : notes_before (I1 ∷ ANSWER (codes "\"utf-8\"") ∷ N1 ∷ [])
+    ≡ codes "note offset-encoding \"utf-8\"\nnotes 1\n"
+unfolding value punctuate lex content word after_number number_of scan_numeral chars digits
+    escape_byte
+another = refl
+
+the_agreed : notes_before (I1 ∷ ANSWER (codes "\"utf-16\"") ∷ N1 ∷ []) ≡ []
+unfolding value punctuate lex content word after_number number_of scan_numeral chars digits
+    escape_byte
+the_agreed = refl
+
+no_name : notes_before (I1 ∷ ANSWER (codes "null") ∷ N1 ∷ []) ≡ []
+unfolding value punctuate lex content word after_number number_of scan_numeral chars digits
+    escape_byte
+no_name = refl
+
+-- ---- snapshots
+
+nothing_shown : notes_after START ≡ codes "note nothing-compared\nnotes 1\n"
+unfolding value punctuate lex content word after_number number_of scan_numeral chars digits
+    escape_byte
+nothing_shown = refl
+
+only_waiting : notes_after (START ++ T 5 (codes "ab") ∷ [])
+    ≡ codes "note nothing-compared\nnotes 1\n"
+unfolding value punctuate lex content word after_number number_of scan_numeral chars digits
+    escape_byte
+only_waiting = refl
+
+one_compared : notes_after (START ++ OPEN (codes "1") (codes "ab") ∷ T 1 (codes "ab") ∷ []) ≡ []
+unfolding value punctuate lex content word after_number number_of scan_numeral chars digits
+    escape_byte
+one_compared = refl

@@ -1,0 +1,85 @@
+-- What is said about a document that is not open: how it was closed, and which documents with a
+-- similar URI are open.
+use Rattle.std.specs.Prelude.{ℕ, ◌*◌, List, [], ◌∷◌, ◌++◌, length, nat_lt, Bool, false, ◌&&◌}
+use Rattle.std.specs.Prelude.{not, ◌==◌}
+use Rattle.std.specs.Prelude.{if◌then◌else◌, Option, Some, None, is_some}
+use Rattle.std.specs.Char.{to_ascii_lowercase}
+use Rattle.std.specs.List.{flat_map}
+use Rattle.std.specs.Str.{bytes_eq}
+use Rattle.percent_encoding.specs.Percent.{percent_decode}
+use Rattle.lsp_docs.specs.Calls.{Call, uri_of}
+use Rattle.lsp_docs.specs.Documents.{held}
+use Rattle.lsp_docs.specs.Terms.{Terms}
+use Rattle.lsp_verdict.specs.Calls.{calls}
+use Rattle.lsp_verdict.specs.Event.{Event}
+use Rattle.lsp_verdict.specs.Offences.{kept_of}
+use Rattle.lsp_survey.specs.LastOnes.{last_ones}
+use Rattle.lsp_survey.specs.Openings.{OnDocument, closing_of, closings, last_on, most_openings}
+use Rattle.lsp_survey.specs.Openings.{openings}
+use Rattle.lsp_survey.specs.declared.notes.openings.Closing.{Closing}
+use Rattle.lsp_survey.specs.declared.notes.openings.Closing.TheVariants as closing
+use Rattle.lsp_explain.specs.Fact.{Fact, closed_by, never_opened, similar_to}
+use Rattle.lsp_types.specs.declared.rules.TheConstants as rules
+
+-- ---- URIs that differ in their spelling
+
+-- a byte, of a letter the small one; a slash is left out
+abbrev pub folded_byte : ℕ → List ℕ
+folded_byte b = if b == 47 then [] else to_ascii_lowercase b ∷ []
+
+-- what URIs have in common that differ in the case of ASCII letters, in percent-encoding (RFC 3986,
+-- section 2.1) and in slashes alone
+abbrev pub folded : List ℕ → List ℕ
+folded uri = flat_map folded_byte (percent_decode uri)
+
+abbrev pub is_long : ℕ → ℕ → Bool
+is_long size other = nat_lt (3 * size) other
+
+-- the other is at most three times as long, and differs in these alone
+abbrev pub is_similar : List ℕ → List ℕ → Bool
+is_similar uri other =
+    not (is_long (length uri) (length other)) && bytes_eq (folded uri) (folded other)
+
+-- ---- the documents that are open
+
+abbrev pub is_at : ℕ → Option ℕ → Bool
+is_at n None = false
+is_at n (Some m) = n == m
+
+-- the messages that opened documents last
+abbrev pub last_openings : Terms → List Event → List OnDocument
+last_openings terms before = last_ones most_openings (openings terms before)
+
+-- this one opened a document that is open, and none of them opened it later
+abbrev pub is_standing : Terms → List Event → OnDocument → Bool
+is_standing terms before on =
+    is_some (held terms on.uri (calls (kept_of terms before)))
+    && is_at on.event (last_on on.uri (last_openings terms before))
+
+abbrev pub similar_fact : Terms → List Event → List ℕ → OnDocument → List Fact
+similar_fact terms before uri on =
+    if is_similar uri on.uri && is_standing terms before on then similar_to on.uri on.event ∷ []
+    else []
+
+-- **the open documents of which the URI differs from this one in its spelling alone**, of those
+-- that were opened last
+abbrev pub similar_facts : Terms → List Event → List ℕ → List Fact
+similar_facts terms before uri =
+    flat_map (similar_fact terms before uri) (last_openings terms before)
+
+-- ---- 602
+
+abbrev pub closing_facts : Closing → List Fact
+closing_facts (closing.Last n) = closed_by n ∷ []
+closing_facts closing.Never = never_opened ∷ []
+closing_facts closing.Forgotten = []
+
+abbrev pub unopened_facts : Terms → List Event → List ℕ → List Fact
+unopened_facts terms before uri =
+    closing_facts (closing_of uri (closings terms before)) ++ similar_facts terms before uri
+
+-- **what is said about the document of a call that breaks this rule after these events**
+abbrev pub unopened_traced : Terms → List Event → ℕ → Option Call → List Fact
+unopened_traced terms before rule None = []
+unopened_traced terms before rule (Some call) =
+    if rule == rules.DOCUMENT_NOT_OPEN then unopened_facts terms before (uri_of call) else []

@@ -1,0 +1,167 @@
+//! The notes on a session, which change no verdict.
+ghost use Rattle.std.specs.Prelude.{◌≡◌, ◌++◌, ◌+◌, ℕ, List, Some, OnOk, IfOk, length, option_map};
+ghost use Rattle.std.specs.Prelude.{string_bytes};
+ghost use Rattle.std.specs.List.{flat_map};
+ghost use Rattle.lsp_survey.specs.Asking.{numbered};
+ghost use Rattle.lsp_survey.specs.Misuses.{misused_view, misused_views};
+ghost use Rattle.lsp_verdict.specs.Event.{Event};
+ghost use Rattle.lsp_verdict.specs.Given.{verdict_view};
+ghost use Rattle.lsp_verdict.specs.Report.{encoding_name};
+ghost use Rattle.lsp_explain.specs.Remarks as spec;
+ghost use Rattle.lsp_explain.specs.Remarks.{count_line, exit_remarks, misuse_line, name_remarks};
+ghost use Rattle.lsp_explain.specs.Remarks.{remark_line, remark_lines, remarks_of, uncompared};
+ghost use Rattle.lsp_explain.specs.Standing.{StandsAfter, terms_in};
+
+use lsp_rpc::{Encoding, Memory, push_quoted};
+use lsp_survey::{Misuse, Misused, SurveyReader};
+use lsp_verdict::{Summary, Verdict};
+use std::alloc::Global;
+use std::fmt::Write;
+
+/// Adds the notes on the messages that were heard, each on a line, and how many they are.
+///
+/// # Errors
+/// `Memory` where memory was refused.
+pub(crate) fn push_remarks(
+    alloc: Global,
+    lines: &mut String,
+    events: &SurveyReader,
+    verdict: &Verdict,
+) -> Result<(), Memory>
+    ensures { OnOk result ((before : List Event) → StandsAfter events.now before
+        → string_bytes lines.new ≡ string_bytes lines.old ++ remark_lines
+        (remarks_of (verdict_view verdict.now) (numbered (terms_in events.now) before))) }
+{
+    let notes = events.session_notes();
+    let misuses = notes.misuses();
+    let exit = notes.abrupt_exit();
+    let name = other_name(notes.older_encoding(), events.session().encoding());
+    push_misuses(alloc, lines, misuses)?;
+    let exits = push_exit(lines, exit)?;
+    let names = push_name(alloc, lines, name)?;
+    let uncompared = push_uncompared(lines, verdict)?;
+    push_count(lines, misuses.len() + exits + names + uncompared)
+}
+
+/// Adds the lines of calls that LSP 3.17 has in another way than they were sent.
+fn push_misuses(alloc: Global, lines: &mut String, misuses: &[Misused]) -> Result<(), Memory>
+    ensures { OnOk result (string_bytes lines.new
+        ≡ string_bytes lines.old ++ flat_map misuse_line (misused_views misuses.now)) }
+{
+    for misused in misuses {
+        push_misuse(alloc, lines, misused)?;
+    }
+    Ok(())
+}
+
+fn push_misuse(alloc: Global, lines: &mut String, misused: &Misused) -> Result<(), Memory>
+    ensures { OnOk result (string_bytes lines.new
+        ≡ string_bytes lines.old ++ misuse_line (misused_view misused.now)) }
+{
+    let name = misuse_name(misused.misuse);
+    let event = misused.event;
+    write!(lines, "note {name} ")?;
+    push_quoted(alloc, lines, misused.method.as_str())?;
+    writeln!(lines, " event {event}")?;
+    Ok(())
+}
+
+fn misuse_name(misuse: Misuse) -> &'static str
+    ensures { result.now ≡ spec.misuse_name misuse }
+{
+    match misuse {
+        Misuse::AsRequest => "as-request",
+        Misuse::AsNotification => "as-notification",
+        Misuse::ByEditor => "by-editor",
+        Misuse::ByServer => "by-server",
+    }
+}
+
+/// Adds the line of an `exit` without `shutdown`, the event of this number, if there is one; how
+/// many lines these are.
+fn push_exit(lines: &mut String, exit: Option<u64>) -> Result<usize, Memory>
+    ensures text { OnOk result (string_bytes lines.new
+        ≡ string_bytes lines.old ++ flat_map remark_line (exit_remarks exit)) }
+    ensures count { IfOk result (λ count. count ≡ length (exit_remarks exit)) }
+{
+    let Some(event) = exit else {
+        return Ok(0);
+    };
+    writeln!(lines, "note exit-without-shutdown event {event}")?;
+    Ok(1)
+}
+
+/// Adds the line of an encoding that is named in the older way, if there is one; how many lines
+/// these are.
+fn push_name(alloc: Global, lines: &mut String, name: Option<&str>) -> Result<usize, Memory>
+    ensures text { OnOk result (string_bytes lines.new ≡ string_bytes lines.old
+        ++ flat_map remark_line (name_remarks (option_map (λ s. s.now) name.entry))) }
+    ensures count { IfOk result
+        (λ count. count ≡ length (name_remarks (option_map (λ s. s.now) name.entry))) }
+{
+    let Some(name) = name else {
+        return Ok(0);
+    };
+    write!(lines, "note offset-encoding ")?;
+    push_quoted(alloc, lines, name)?;
+    writeln!(lines)?;
+    Ok(1)
+}
+
+/// Adds the line of a Yes where no snapshot was compared; how many lines these are.
+fn push_uncompared(lines: &mut String, verdict: &Verdict) -> Result<usize, Memory>
+    ensures text { OnOk result (string_bytes lines.new
+        ≡ string_bytes lines.old ++ flat_map remark_line (uncompared (verdict_view verdict.now))) }
+    ensures count { IfOk result
+        (λ count. count ≡ length (uncompared (verdict_view verdict.now))) }
+{
+    if !is_uncompared(verdict) {
+        return Ok(0);
+    }
+    writeln!(lines, "note nothing-compared")?;
+    Ok(1)
+}
+
+/// Whether it is a Yes, and no snapshot was compared.
+fn is_uncompared(verdict: &Verdict) -> bool
+    ensures { result ≡ spec.says_little (verdict_view verdict.now) }
+{
+    match verdict {
+        Verdict::Yes(summary) => summary.snapshots == summary.unmatched,
+        _ => false,
+    }
+}
+
+/// Adds how many notes there are, if there are any.
+fn push_count(lines: &mut String, count: usize) -> Result<(), Memory>
+    ensures { OnOk result (string_bytes lines.new ≡ string_bytes lines.old ++ count_line count) }
+{
+    if count == 0 {
+        return Ok(());
+    }
+    writeln!(lines, "notes {count}")?;
+    Ok(())
+}
+
+/// The name that was used in the older way, where it is not that of the agreed encoding.
+fn other_name<'a>(name: Option<&'a str>, agreed: Option<Encoding>) -> Option<&'a str>
+    ensures { option_map (λ s. s.now) result
+        ≡ spec.other_name (option_map (λ s. s.now) name.entry) agreed }
+{
+    let name = name?;
+    let agreed = agreed?;
+    if name == encoding_name(agreed) {
+        return None;
+    }
+    Some(name)
+}
+
+fn encoding_name(encoding: Encoding) -> &'static str
+    ensures { result.now ≡ encoding_name (Some encoding) }
+{
+    match encoding {
+        Encoding::Utf8 => "utf-8",
+        Encoding::Utf16 => "utf-16",
+        Encoding::Utf32 => "utf-32",
+    }
+}

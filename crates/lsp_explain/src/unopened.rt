@@ -1,0 +1,197 @@
+//! What is said about a document that is not open.
+ghost use Rattle.std.specs.Prelude.{◌≡◌, ◌++◌, List, IfOk, OnOk};
+ghost use Rattle.std.specs.List.{flat_map};
+ghost use Rattle.std.specs.Str.{bytes_eq};
+ghost use Rattle.lsp_rpc.specs.View.{act_view};
+ghost use Rattle.lsp_survey.specs.Openings.{on_view, ons_view};
+ghost use Rattle.lsp_verdict.specs.Event.{Event};
+ghost use Rattle.lsp_explain.specs.Fact.{facts_view};
+ghost use Rattle.lsp_explain.specs.Standing.{StandsAfter, terms_in};
+ghost use Rattle.lsp_explain.specs.Traced.{act_call};
+ghost use Rattle.lsp_explain.specs.Unopened as spec;
+
+use crate::facts::Fact;
+use lsp_rpc::{Act, Memory};
+use lsp_survey::{Closing, DocumentEvent, SurveyReader, uri_in};
+use lsp_types::rules;
+use percent_encoding::percent_decode;
+use std::alloc::Global;
+
+/// Adds to the facts on an act that breaks this rule, under 602, how the document of which it
+/// speaks was closed, and which documents with a similar URI are open. The reader stands for the
+/// events before it.
+pub(crate) fn trace_unopened(
+    alloc: Global,
+    facts: &mut Vec<Fact>,
+    events: &SurveyReader,
+    act: &Act,
+    rule: u16,
+) -> Result<(), Memory>
+    ensures { OnOk result ((before : List Event) → StandsAfter events.now before
+        → facts_view facts.new.items ≡ facts_view facts.old.items
+        ++ spec.unopened_traced (terms_in events.now) before rule
+        (act_call (terms_in events.now) before (act_view act.now))) }
+{
+    let Some(uri) = uri_in(act) else {
+        return Ok(());
+    };
+    if rule != rules::DOCUMENT_NOT_OPEN {
+        return Ok(());
+    }
+    push_unopened(alloc, facts, events, uri)
+}
+
+fn push_unopened(
+    alloc: Global,
+    facts: &mut Vec<Fact>,
+    events: &SurveyReader,
+    uri: &str,
+) -> Result<(), Memory>
+    ensures { OnOk result ((before : List Event) → StandsAfter events.now before
+        → facts_view facts.new.items ≡ facts_view facts.old.items
+        ++ spec.unopened_facts (terms_in events.now) before uri.now) }
+{
+    push_closing(facts, events.openings().closing(uri))?;
+    push_similar(alloc, facts, events, uri)
+}
+
+fn push_closing(facts: &mut Vec<Fact>, closing: Closing) -> Result<(), Memory>
+    ensures { OnOk result (facts_view facts.new.items ≡ facts_view facts.old.items
+        ++ spec.closing_facts closing) }
+{
+    match closing {
+        Closing::Last(event) => Ok(facts.push(Fact::Closed(event))?),
+        Closing::Never => Ok(facts.push(Fact::NeverOpened)?),
+        Closing::Forgotten => Ok(()),
+    }
+}
+
+/// Adds the open documents of which the URI differs from this one in its spelling alone.
+fn push_similar(
+    alloc: Global,
+    facts: &mut Vec<Fact>,
+    events: &SurveyReader,
+    uri: &str,
+) -> Result<(), Memory>
+    ensures { OnOk result ((before : List Event) → StandsAfter events.now before
+        → facts_view facts.new.items ≡ facts_view facts.old.items
+        ++ spec.similar_facts (terms_in events.now) before uri.now) }
+{
+    let (first, second) = events.openings().last_opened();
+    push_similar_of(alloc, facts, events, uri, first)?;
+    push_similar_of(alloc, facts, events, uri, second)
+}
+
+/// Adds those of them that these messages opened.
+fn push_similar_of(
+    alloc: Global,
+    facts: &mut Vec<Fact>,
+    events: &SurveyReader,
+    uri: &str,
+    opened: &[DocumentEvent],
+) -> Result<(), Memory>
+    ensures { OnOk result ((before : List Event) → StandsAfter events.now before
+        → facts_view facts.new.items ≡ facts_view facts.old.items
+        ++ flat_map (spec.similar_fact (terms_in events.now) before uri.now)
+        (ons_view opened.now)) }
+{
+    for on in opened {
+        push_similar_one(alloc, facts, events, uri, on)?;
+    }
+    Ok(())
+}
+
+fn push_similar_one(
+    alloc: Global,
+    facts: &mut Vec<Fact>,
+    events: &SurveyReader,
+    uri: &str,
+    on: &DocumentEvent,
+) -> Result<(), Memory>
+    ensures { OnOk result ((before : List Event) → StandsAfter events.now before
+        → facts_view facts.new.items ≡ facts_view facts.old.items
+        ++ spec.similar_fact (terms_in events.now) before uri.now (on_view on.now)) }
+{
+    if !is_similar(alloc, uri, on.uri.as_str())? {
+        return Ok(());
+    }
+    if !is_standing(events, on) {
+        return Ok(());
+    }
+    let uri = String::from_str(alloc, on.uri.as_str())?;
+    let event = on.event;
+    Ok(facts.push(Fact::Similar { uri, event })?)
+}
+
+/// Whether the document is open that this message opened, and none opened it later.
+fn is_standing(events: &SurveyReader, on: &DocumentEvent) -> bool
+    ensures { (before : List Event) → StandsAfter events.now before
+        → result ≡ spec.is_standing (terms_in events.now) before (on_view on.now) }
+{
+    let uri = on.uri.as_str();
+    events.docs().version_of(uri).is_some() && is_at(on.event, events.openings().opening(uri))
+}
+
+fn is_at(event: u64, other: Option<u64>) -> bool
+    ensures { result ≡ spec.is_at event other }
+{
+    match other {
+        Some(number) => event == number,
+        None => false,
+    }
+}
+
+/// Whether two URIs differ in their spelling alone, and the other is at most three times as long.
+fn is_similar(alloc: Global, uri: &str, other: &str) -> Result<bool, Memory>
+    ensures { IfOk result (λ similar. similar ≡ spec.is_similar uri.now other.now) }
+{
+    if is_long(uri.len(), other.len()) {
+        return Ok(false);
+    }
+    is_alike(alloc, uri, other)
+}
+
+/// Whether the other size is more than three times this one.
+fn is_long(size: usize, other: usize) -> bool
+    ensures { result ≡ spec.is_long size other }
+{
+    other > size.saturating_mul(3)
+}
+
+fn is_alike(alloc: Global, uri: &str, other: &str) -> Result<bool, Memory>
+    ensures { IfOk result (λ alike.
+        alike ≡ bytes_eq (spec.folded uri.now) (spec.folded other.now)) }
+{
+    let one = folded(alloc, uri)?;
+    let two = folded(alloc, other)?;
+    Ok(one == two)
+}
+
+/// A URI without what its spelling is free in: percent-encoding is decoded (RFC 3986, section 2.1),
+/// ASCII letters are small, and slashes are left out.
+fn folded(alloc: Global, uri: &str) -> Result<Vec<u8>, Memory>
+    ensures { IfOk result (λ folded. folded.items ≡ spec.folded uri.now) }
+{
+    let mut bytes = Vec::new(alloc);
+    percent_decode(uri.as_bytes()).append_to(&mut bytes)?;
+    fold(alloc, bytes.as_slice())
+}
+
+fn fold(alloc: Global, bytes: &[u8]) -> Result<Vec<u8>, Memory>
+    ensures { IfOk result (λ folded. folded.items ≡ flat_map spec.folded_byte bytes.now) }
+{
+    let mut folded = Vec::new(alloc);
+    for byte in bytes {
+        push_folded(&mut folded, *byte)?;
+    }
+    Ok(folded)
+}
+
+fn push_folded(folded: &mut Vec<u8>, byte: u8) -> Result<(), Memory>
+    ensures { OnOk result (folded.new.items ≡ folded.old.items ++ spec.folded_byte byte) }
+{
+    if byte == b'/' {
+        return Ok(());
+    }
+    Ok(folded.push(byte.to_ascii_lowercase())?)
+}

@@ -1,0 +1,80 @@
+//! What is answered for the text held after a message, and what is written for it.
+ghost use Rattle.std.specs.Prelude.{◌≡◌, List, IfOk};
+ghost use Rattle.lsp_docs.specs.Calls.{Call};
+ghost use Rattle.lsp_docs.specs.Documents.{held};
+ghost use Rattle.lsp_docs.specs.State.{Stands};
+ghost use Rattle.lsp_replay.specs.TextAnswers.{WritesAnswer, answer_view};
+ghost use Rattle.lsp_verdict.specs.Given.{verdict_view};
+ghost use Rattle.lsp_verdict.specs.Shown.{held_answer, missing_answer};
+
+use lsp_docs::Docs;
+use lsp_frame::{Sink, put_all};
+use lsp_rpc::Memory;
+use lsp_text::TextStore;
+use lsp_types::rules;
+use lsp_verdict::{Outcome, RunFault, Verdict};
+use std::alloc::Global;
+
+/// What is answered for the text that the server holds of a URI just after a message of the
+/// editor's.
+#[derive(Drop)]
+pub enum TextAnswer {
+    /// The text.
+    Text(String),
+    /// No document of the URI is open there.
+    NoDocument,
+    /// The editor sent fewer messages, and nothing else is wrong, apart from bytes at the end that
+    /// are not a whole frame.
+    TooFew,
+    /// An event offends, at that message or before it, or the log has a fault before it.
+    Refused(Verdict),
+}
+
+impl TextAnswer {
+    /// The text that is held of a URI.
+    pub fn held<S: TextStore>(
+        alloc: Global,
+        docs: &Docs<S>,
+        uri: &str,
+    ) -> Result<TextAnswer, Memory>
+        ensures { IfOk result (λ answer. (calls : List Call) → Stands docs.now calls
+            → answer_view answer ≡ held_answer (held docs.now.terms uri.now calls)) }
+    {
+        match docs.store_of(uri) {
+            Some(store) => Ok(TextAnswer::Text(store.to_text(alloc)?)),
+            None => Ok(TextAnswer::NoDocument),
+        }
+    }
+
+    /// What the verdict on a session says where the message is missing in it.
+    pub fn missing(verdict: Verdict) -> TextAnswer
+        ensures { answer_view result ≡ missing_answer (verdict_view verdict) }
+    {
+        match verdict {
+            Verdict::Yes(_) => TextAnswer::TooFew,
+            Verdict::No {
+                rule: rules::STREAM_ENDS_INSIDE_FRAME,
+                ..
+            } => TextAnswer::TooFew,
+            refusal => TextAnswer::Refused(refusal),
+        }
+    }
+
+    /// Writes the text, or nothing where there is none, and says how a run ends by that.
+    ///
+    /// # Errors
+    /// `Write` where the sink failed.
+    pub fn write<W: Sink>(self, writer: &mut W) -> Result<Outcome, RunFault>
+        ensures { WritesAnswer (answer_view self) (W.told writer.old) (W.told writer.new) result }
+    {
+        match self {
+            TextAnswer::Text(text) => {
+                put_all(writer, text.as_bytes())?;
+                Ok(Outcome::Done)
+            }
+            TextAnswer::NoDocument => Ok(Outcome::NoDocument),
+            TextAnswer::TooFew => Ok(Outcome::TooFew),
+            TextAnswer::Refused(verdict) => Ok(Outcome::Judged(verdict)),
+        }
+    }
+}

@@ -1,0 +1,91 @@
+-- Which calls LSP 3.17 has in another way than they were sent.
+use Rattle.std.specs.Prelude.{ℕ, List, [], ◌∷◌, ◌++◌, map, Bool, ◌||◌, if◌then◌else◌, Option, Some}
+use Rattle.std.specs.Prelude.{None, option_map, string_bytes}
+use Rattle.std.specs.List.{filter_map, list_any}
+use Rattle.std.specs.Str.{bytes_eq}
+use Rattle.lsp_rpc.specs.Message.{Message, request, notification, response}
+use Rattle.lsp_session.specs.Sent.{other_side}
+use Rattle.lsp_types.specs.declared.side.Side.{Side}
+use Rattle.lsp_types.specs.declared.side.Side.TheVariants.{Editor, Server}
+use Rattle.lsp_survey.specs.Asking.{Numbered}
+use Rattle.lsp_survey.specs.StandardMethods.{is_request, is_notification}
+use Rattle.lsp_survey.specs.declared.notes.misuses.Misuse.{Misuse}
+use Rattle.lsp_survey.specs.declared.notes.misuses.Misuse.TheVariants.{AsRequest, AsNotification}
+use Rattle.lsp_survey.specs.declared.notes.misuses.Misuse.TheVariants.{ByEditor, ByServer}
+use Rattle.lsp_survey.specs.declared.notes.misuses.Misused as code
+
+-- ---- a call
+
+abbrev pub by_side : Side → Misuse
+by_side Editor = ByEditor
+by_side Server = ByServer
+
+-- a call whose method the side sends so, or only the other one, or that is of the other kind
+abbrev pub misuse_by : Side → Misuse → Bool → Bool → Bool → Option Misuse
+misuse_by side kind of_the_side of_the_other of_the_kind =
+    if of_the_side then None
+    else (if of_the_other then Some (by_side side)
+    else (if of_the_kind then Some kind else None))
+
+abbrev pub request_misuse : Side → List ℕ → Option Misuse
+request_misuse side name =
+    misuse_by side AsRequest (is_request side name) (is_request (other_side side) name)
+    (is_notification Editor name || is_notification Server name)
+
+abbrev pub notification_misuse : Side → List ℕ → Option Misuse
+notification_misuse side name =
+    misuse_by side AsNotification (is_notification side name)
+    (is_notification (other_side side) name)
+    (is_request Editor name || is_request Server name)
+
+-- a call of this method, the event of this number, that was sent in another way than LSP 3.17 has
+-- it
+pub record Misused : Type 0 where
+  pub misuse : Misuse
+  pub method : List ℕ
+  pub number : ℕ
+
+abbrev pub misused : ℕ → List ℕ → Misuse → Misused
+misused n name misuse = record { misuse = misuse; method = name; number = n }
+
+-- the misuse that a message of the side is; of no method that LSP 3.17 does not have
+abbrev pub misuse_in : ℕ → Side → Message → Option Misused
+misuse_in n side (request id name params) = option_map (misused n name) (request_misuse side name)
+misuse_in n side (notification name params) =
+    option_map (misused n name) (notification_misuse side name)
+misuse_in n side (response id reply) = None
+
+abbrev pub misuse_at : Numbered → Option Misused
+misuse_at m = misuse_in m.number m.sent.side m.sent.message
+
+-- ---- all calls
+
+-- one of these has the method
+abbrev pub has_method : List ℕ → List Misused → Bool
+has_method name found = list_any (λ (x : Misused). bytes_eq x.method name) found
+
+-- after these one more, where its method is new
+abbrev pub with_misuse : List Misused → Option Misused → List Misused
+with_misuse found None = found
+with_misuse found (Some x) = if has_method x.method found then found else found ++ x ∷ []
+
+-- after those found, the first of these of each other method
+abbrev pub misuses_after : List Misused → List Misused → List Misused
+misuses_after found [] = found
+misuses_after found (x ∷ xs) = misuses_after (with_misuse found (Some x)) xs
+
+-- **the calls that LSP 3.17 has in another way than they were sent**, of each method the first
+abbrev pub misuses : List Numbered → List Misused
+misuses said = misuses_after [] (filter_map misuse_at said)
+
+-- ---- as they are held
+
+abbrev pub misused_view : code.Misused → Misused
+misused_view x = record {
+  misuse = x.misuse;
+  method = string_bytes x.method;
+  number = x.event;
+}
+
+abbrev pub misused_views : List code.Misused → List Misused
+misused_views found = map misused_view found

@@ -1,0 +1,114 @@
+-- Which documents were opened and closed last.
+use Rattle.std.specs.Prelude.{◌≡◌, ℕ, List, ◌++◌, map, length, nat_lt, reverse, Bool, true, false}
+use Rattle.std.specs.Prelude.{Option, Some, None, option_map, option_and_then, [], string_bytes}
+use Rattle.std.specs.List.{cons_option, find}
+use Rattle.std.specs.Str.{bytes_eq}
+use Rattle.lsp_docs.specs.Calls.{Call, opens, changes, closes, saves, shows}
+use Rattle.lsp_docs.specs.Terms.{Terms}
+use Rattle.lsp_verdict.specs.Event.{Event}
+use Rattle.lsp_verdict.specs.LookBack.{each_of}
+use Rattle.lsp_verdict.specs.Offences.{rule_at, said_at}
+use Rattle.lsp_survey.specs.LastOnes.{last_ones}
+use Rattle.lsp_survey.specs.Marking.{number_next}
+use Rattle.lsp_survey.specs.declared.notes.openings.Closing.{Closing}
+use Rattle.lsp_survey.specs.declared.notes.openings.Closing.TheVariants as closing
+use Rattle.lsp_survey.specs.declared.notes.openings.DocumentEvent.{DocumentEvent}
+use Rattle.lsp_survey.specs.declared.notes.openings.Openings.{Openings}
+
+-- ---- the kept messages that open and close documents
+
+-- a message about the document of this URI, and the number of its event
+pub record OnDocument : Type 0 where
+  pub uri : List ℕ
+  pub event : ℕ
+
+abbrev pub on_document : List ℕ → ℕ → OnDocument
+on_document uri n = record { uri = uri; event = n }
+
+-- the opening that a call is, by the event of this number
+abbrev pub opened_by : ℕ → Call → Option OnDocument
+opened_by n (opens uri number text) = Some (on_document uri n)
+opened_by n (changes enc kind uri number edits) = None
+opened_by n (closes uri) = None
+opened_by n (saves uri text) = None
+opened_by n (shows uri number text) = None
+
+-- the closing that it is
+abbrev pub closed_by : ℕ → Call → Option OnDocument
+closed_by n (opens uri number text) = None
+closed_by n (changes enc kind uri number edits) = None
+closed_by n (closes uri) = Some (on_document uri n)
+closed_by n (saves uri text) = None
+closed_by n (shows uri number text) = None
+
+-- what this makes of an event that offends by the rule or is kept, and says this of a document
+abbrev pub taken_by : (ℕ → Call → Option OnDocument) → ℕ → Option ℕ → Option Call
+    → Option OnDocument
+taken_by takes n (Some rule) said = None
+taken_by takes n None said = option_and_then (takes n) said
+
+abbrev pub taken_at : (ℕ → Call → Option OnDocument) → Terms → List Event → Event
+    → Option OnDocument
+taken_at takes terms before event =
+    taken_by takes (number_next before) (rule_at terms before event) (said_at terms before event)
+
+-- **the messages that are kept and open documents**, in order
+abbrev pub openings : Terms → List Event → List OnDocument
+openings terms events = each_of (taken_at opened_by terms) events
+
+-- **those that close documents**
+abbrev pub closings : Terms → List Event → List OnDocument
+closings terms events = each_of (taken_at closed_by terms) events
+
+-- how many of the last ones are looked at
+abbrev pub most_openings : ℕ
+most_openings = 64
+
+abbrev pub most_closings : ℕ
+most_closings = 1024
+
+-- ---- how a document was closed
+
+abbrev pub is_on : List ℕ → OnDocument → Bool
+is_on uri on = bytes_eq uri on.uri
+
+-- the event of the last of these on the document of this URI
+abbrev pub last_on : List ℕ → List OnDocument → Option ℕ
+last_on uri ons = option_map (λ (on : OnDocument). on.event) (find (is_on uri) (reverse ons))
+
+-- the event is known, or, where all closings are looked at, that there is none
+abbrev pub closing_by : Bool → Option ℕ → Closing
+closing_by all (Some n) = closing.Last n
+closing_by true None = closing.Never
+closing_by false None = closing.Forgotten
+
+-- **how the document of this URI was closed**, by the last of these closings
+abbrev pub closing_of : List ℕ → List OnDocument → Closing
+closing_of uri ons =
+    closing_by (nat_lt (length ons) most_closings) (last_on uri (last_ones most_closings ons))
+
+-- ---- what is held of them
+
+abbrev pub on_view : DocumentEvent → OnDocument
+on_view d = record { uri = string_bytes d.uri; event = d.event }
+
+abbrev pub ons_view : List DocumentEvent → List OnDocument
+ons_view held = map on_view held
+
+-- one more is held, or none
+abbrev pub Holds : ℕ → Option OnDocument → List DocumentEvent → List DocumentEvent → Type 0
+Holds most more old new =
+    (ons : List OnDocument) → ons_view old ≡ last_ones most ons
+    → ons_view new ≡ last_ones most (ons ++ cons_option more [])
+
+-- a message, the event of this number, that says this of a document
+pub record OpensBy (n : ℕ) (said : Option Call) (old new : Openings) : Type 0 where
+  pub opened : Holds most_openings (option_and_then (opened_by n) said) old.opened.items
+      new.opened.items
+  pub closed : Holds most_closings (option_and_then (closed_by n) said) old.closed.items
+      new.closed.items
+
+-- **the last ones of these events are held**
+pub record AreOpenings (terms : Terms) (o : Openings) (events : List Event) : Type 0 where
+  pub opened_are : ons_view o.opened.items ≡ last_ones most_openings (openings terms events)
+  pub closed_are : ons_view o.closed.items ≡ last_ones most_closings (closings terms events)

@@ -1,0 +1,149 @@
+//! Calls that LSP 3.17 has in another way than they were sent.
+ghost use Rattle.std.specs.Prelude.{◌≡◌, OnOk, option_map, string_bytes};
+ghost use Rattle.lsp_session.specs.Sent as sent;
+ghost use Rattle.std.specs.List.{list_any};
+ghost use Rattle.std.specs.Str.{bytes_eq};
+ghost use Rattle.lsp_rpc.specs.View.{message_view};
+ghost use Rattle.lsp_survey.specs.Misuses as spec;
+ghost use Rattle.lsp_survey.specs.Misuses.{has_method, misuse_in, misused, misused_views};
+ghost use Rattle.lsp_survey.specs.Misuses.{with_misuse};
+
+use crate::notes::standard_methods::{is_notification, is_request};
+use lsp_rpc::{Memory, Message, Side};
+
+/// In which other way than LSP 3.17 has it a call was sent.
+#[derive(Clone, Copy, Debug, PartialEq, Eq)]
+pub enum Misuse {
+    /// As a request, though its method is one of notifications.
+    AsRequest,
+    /// As a notification, though its method is one of requests.
+    AsNotification,
+    /// By the editor, though only the server sends such.
+    ByEditor,
+    /// By the server, though only the editor sends such.
+    ByServer,
+}
+
+/// A call that LSP 3.17 has in another way than it was sent.
+#[derive(Debug, Drop)]
+pub struct Misused {
+    pub misuse: Misuse,
+    pub method: String,
+    /// The number of its event, from 1, all events counted.
+    pub event: u64,
+}
+
+/// How a request of this method is misused where the side sends it.
+fn request_misuse(side: Side, name: &str) -> Option<Misuse>
+    ensures { result ≡ spec.request_misuse side name.now }
+{
+    if is_request(side, name) {
+        return None;
+    }
+    if is_request(other_side(side), name) {
+        return Some(by_side(side));
+    }
+    if is_notification(Side::Editor, name) || is_notification(Side::Server, name) {
+        return Some(Misuse::AsRequest);
+    }
+    None
+}
+
+/// How a notification of this method is misused where the side sends it.
+fn notification_misuse(side: Side, name: &str) -> Option<Misuse>
+    ensures { result ≡ spec.notification_misuse side name.now }
+{
+    if is_notification(side, name) {
+        return None;
+    }
+    if is_notification(other_side(side), name) {
+        return Some(by_side(side));
+    }
+    if is_request(Side::Editor, name) || is_request(Side::Server, name) {
+        return Some(Misuse::AsNotification);
+    }
+    None
+}
+
+fn other_side(side: Side) -> Side
+    ensures { result ≡ sent.other_side side }
+{
+    match side {
+        Side::Editor => Side::Server,
+        Side::Server => Side::Editor,
+    }
+}
+
+fn by_side(side: Side) -> Misuse
+    ensures { result ≡ spec.by_side side }
+{
+    match side {
+        Side::Editor => Misuse::ByEditor,
+        Side::Server => Misuse::ByServer,
+    }
+}
+
+/// Adds a message of the side, the event of this number, where it is a misuse of a method that none
+/// of those before has.
+pub(crate) fn note_misuse(
+    found: &mut Vec<Misused>,
+    event: u64,
+    side: Side,
+    message: &Message,
+) -> Result<(), Memory>
+    ensures { OnOk result (misused_views found.new.items
+        ≡ with_misuse (misused_views found.old.items)
+        (misuse_in event side (message_view message.now))) }
+{
+    match message {
+        Message::Request { method, .. } => {
+            let misuse = request_misuse(side, method.as_str());
+            note_call(found, event, misuse, method)
+        }
+        Message::Notification { method, .. } => {
+            let misuse = notification_misuse(side, method.as_str());
+            note_call(found, event, misuse, method)
+        }
+        Message::Response { .. } => Ok(()),
+    }
+}
+
+/// Adds a call, the event of this number, where it is misused so.
+fn note_call(
+    found: &mut Vec<Misused>,
+    event: u64,
+    misuse: Option<Misuse>,
+    method: &String,
+) -> Result<(), Memory>
+    ensures { OnOk result (misused_views found.new.items
+        ≡ with_misuse (misused_views found.old.items)
+        (option_map (misused event (string_bytes method.now)) misuse)) }
+{
+    let Some(misuse) = misuse else {
+        return Ok(());
+    };
+    if is_found(found.as_slice(), method.as_str()) {
+        return Ok(());
+    }
+    let method = method.clone()?;
+    found.push(Misused {
+        misuse,
+        method,
+        event,
+    })?;
+    Ok(())
+}
+
+/// Whether one of these calls has this method.
+fn is_found(found: &[Misused], method: &str) -> bool
+    ensures { result ≡ has_method method.now (misused_views found.now) }
+{
+    any_named(found, method)
+}
+
+fn any_named(found: &[Misused], method: &str) -> bool
+    ensures { result ≡ list_any
+        (λ one. bytes_eq (string_bytes one.method) method.now) found.now }
+{
+    found.iter().any(|one| one.method.as_str() == method)
+}

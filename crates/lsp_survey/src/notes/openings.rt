@@ -1,0 +1,158 @@
+//! Which documents were opened and closed last.
+ghost use Rattle.std.specs.Prelude.{◌≡◌, ◌++◌, ◌<◌, [], List, Some, OnOk};
+ghost use Rattle.lsp_docs.specs.Terms.{Terms};
+ghost use Rattle.lsp_rpc.specs.View.{act_view};
+ghost use Rattle.lsp_types.specs.declared.change.SyncKind.{SyncKind};
+ghost use Rattle.lsp_types.specs.declared.position.Encoding.{Encoding};
+ghost use Rattle.lsp_verdict.specs.Calls.{call_of};
+ghost use Rattle.lsp_verdict.specs.Event.{Event};
+ghost use Rattle.lsp_survey.specs.LastOnes.{last_ones};
+ghost use Rattle.lsp_survey.specs.Openings.{AreOpenings, Holds, OpensBy, closing_by, closing_of};
+ghost use Rattle.lsp_survey.specs.Openings.{closings, is_on, last_on, most_openings, on_document};
+ghost use Rattle.lsp_survey.specs.Openings.{on_view, ons_view, openings};
+
+use crate::notes::last_ones::make_room;
+use lsp_rpc::{Act, Memory};
+use std::alloc::Global;
+use std::collections::VecDeque;
+
+/// How many of the messages that opened documents are held at most.
+const MOST_OPENINGS: usize = 64;
+
+/// How many of the messages that closed documents are held at most.
+const MOST_CLOSINGS: usize = 1024;
+
+/// A message about a document.
+#[derive(Debug, Drop, PartialEq, Eq)]
+pub struct DocumentEvent {
+    /// The URI of the document.
+    pub uri: String,
+    /// The number of its event, from 1, all events counted.
+    pub event: u64,
+}
+
+/// Whether a document that is not open was closed, as far as that is known.
+#[derive(Clone, Copy, Debug, PartialEq, Eq)]
+pub enum Closing {
+    /// By the event of this number, from 1.
+    Last(u64),
+    /// No message closed it.
+    Never,
+    /// None of the last 1,024 messages that closed a document closed it.
+    Forgotten,
+}
+
+/// The last messages that opened documents, and the last ones that closed some.
+///
+/// It stands for the events of a session of which those that offend are skipped.
+#[derive(Drop)]
+pub struct Openings {
+    opened: VecDeque<DocumentEvent>,
+    closed: VecDeque<DocumentEvent>,
+}
+
+impl Openings {
+    /// Nothing was opened.
+    pub(crate) fn new(alloc: Global) -> Openings
+        ensures { (terms : Terms) → AreOpenings terms result [] }
+    {
+        Openings {
+            opened: VecDeque::new(alloc),
+            closed: VecDeque::new(alloc),
+        }
+    }
+
+    /// The last 64 messages that opened documents, in order, in two parts.
+    pub fn last_opened(&self) -> (&[DocumentEvent], &[DocumentEvent])
+        ensures { (terms : Terms) (events : List Event) → AreOpenings terms self.now events
+            → ons_view (result.0.now ++ result.1.now)
+            ≡ last_ones most_openings (openings terms events) }
+    {
+        self.opened.as_slices()
+    }
+
+    /// The number of the event that opened the document of this URI last, from 1, if it is among
+    /// the last 64 that opened one.
+    pub fn opening(&self, uri: &str) -> Option<u64>
+        ensures { (terms : Terms) (events : List Event) → AreOpenings terms self.now events
+            → result ≡ last_on uri.now (last_ones most_openings (openings terms events)) }
+    {
+        last_on(&self.opened, uri)
+    }
+
+    /// How the document of this URI was closed last.
+    pub fn closing(&self, uri: &str) -> Closing
+        ensures { (terms : Terms) (events : List Event) → AreOpenings terms self.now events
+            → result ≡ closing_of uri.now (closings terms events) }
+    {
+        closing_by(
+            self.closed.len() < MOST_CLOSINGS,
+            last_on(&self.closed, uri),
+        )
+    }
+
+    /// Takes over what a message that is kept, the event of this number, opens or closes.
+    ///
+    /// # Errors
+    /// `Memory` where memory was refused; nothing is then known of what is held.
+    pub(crate) fn keep_act(&mut self, event: u64, act: &Act) -> Result<(), Memory>
+        ensures { OnOk result ((enc : Encoding) (kind : SyncKind)
+            → OpensBy event (call_of enc kind (act_view act.now)) self.old self.new) }
+    {
+        match act {
+            Act::DidOpen { uri, .. } => push(&mut self.opened, MOST_OPENINGS, uri.as_str(), event),
+            Act::DidClose { uri } => push(&mut self.closed, MOST_CLOSINGS, uri.as_str(), event),
+            _ => Ok(()),
+        }
+    }
+}
+
+/// The event is known, or, where all closings are held, that there is none.
+fn closing_by(all: bool, last: Option<u64>) -> Closing
+    ensures { result ≡ closing_by all last }
+{
+    match last {
+        Some(event) => Closing::Last(event),
+        None if all => Closing::Never,
+        None => Closing::Forgotten,
+    }
+}
+
+/// The event of the last of these messages about the document of this URI.
+fn last_on(held: &VecDeque<DocumentEvent>, uri: &str) -> Option<u64>
+    ensures { result ≡ last_on uri.now (ons_view held.now.items) }
+{
+    let (first, second) = held.as_slices();
+    last_in(second, uri).or(last_in(first, uri))
+}
+
+/// The same of one part of them.
+fn last_in(held: &[DocumentEvent], uri: &str) -> Option<u64>
+    ensures { result ≡ last_on uri.now (ons_view held.now) }
+{
+    let last = held.iter().rev().find(|on| is_on(on, uri))?;
+    Some(last.event)
+}
+
+fn is_on(on: &DocumentEvent, uri: &str) -> bool
+    ensures { result ≡ is_on uri.now (on_view on.now) }
+{
+    uri == on.uri.as_str()
+}
+
+/// Adds a message after the others, of which the last ones stay.
+fn push(
+    held: &mut VecDeque<DocumentEvent>,
+    most: usize,
+    uri: &str,
+    event: u64,
+) -> Result<(), Memory>
+    requires { 0 < most }
+    ensures { OnOk result (Holds most (Some (on_document uri.now event)) held.old.items
+        held.new.items) }
+{
+    let uri = String::from_str(*held.allocator(), uri)?;
+    make_room(held, most);
+    held.push_back(DocumentEvent { uri, event })?;
+    Ok(())
+}

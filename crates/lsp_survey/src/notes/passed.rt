@@ -1,0 +1,121 @@
+//! Which requests were passed over, so that the answer to one meets none.
+ghost use Rattle.std.specs.Prelude.{◌≡◌, OnOk, Some, false, option_map, true};
+ghost use Rattle.lsp_rpc.specs.Ident.{id_view};
+ghost use Rattle.lsp_rpc.specs.Message.{Reply, response};
+ghost use Rattle.lsp_rpc.specs.View.{message_view};
+ghost use Rattle.lsp_rpc.specs.declared.message.Id.{Id as AnId};
+ghost use Rattle.lsp_session.specs.Sent.{other_side, response_id};
+ghost use Rattle.lsp_survey.specs.Passed.{Passes, Sets, SetsAny, has_any, has_passed};
+ghost use Rattle.lsp_types.specs.declared.side.Side.{Side as ASide};
+
+use crate::notes::by_id::{forget, put};
+use indexmap::IndexMap;
+use lsp_rpc::{Id, Memory, Message, Side};
+use lsp_types::rules;
+use std::alloc::Global;
+
+type Ids = IndexMap<Id, ()>;
+
+/// The ids of the requests of both sides that were passed over, since they offended, and that were
+/// not answered since.
+#[derive(Drop)]
+pub(crate) struct Passed {
+    editor: Ids,
+    server: Ids,
+}
+
+impl Passed {
+    /// None was.
+    pub(crate) fn new(alloc: Global) -> Passed
+        ensures { (side : ASide) (k : AnId) → has_passed result side (id_view k) ≡ false }
+    {
+        Passed {
+            editor: IndexMap::new(alloc),
+            server: IndexMap::new(alloc),
+        }
+    }
+
+    /// Whether a message of this side answers a request that was passed over.
+    pub(crate) fn answers(&self, side: Side, message: &Message) -> bool
+        ensures { result
+            ≡ has_any self.now (other_side side) (response_id (message_view message.now)) }
+    {
+        match message {
+            Message::Response { id: Some(id), .. } => self.has_other(side, id),
+            _ => false,
+        }
+    }
+
+    /// Notes that a message of this side breaks this rule.
+    ///
+    /// # Errors
+    /// `Memory` where memory was refused; nothing is then known of the requests.
+    pub(crate) fn note(&mut self, side: Side, rule: u16, message: &Message) -> Result<(), Memory>
+        ensures { OnOk result (Passes rule side (message_view message.now) self.old self.new) }
+    {
+        match message {
+            Message::Request { id, .. } => self.ask(side, id),
+            Message::Response { id: Some(id), .. } => {
+                self.answer(side, rule, id);
+                Ok(())
+            }
+            Message::Response { id: None, .. } => Ok(()),
+            Message::Notification { .. } => Ok(()),
+        }
+    }
+
+    /// Notes the request of this side with this id, if there is one.
+    ///
+    /// # Errors
+    /// `Memory` where memory was refused; nothing is then known of the requests.
+    pub(crate) fn note_asked(&mut self, side: Side, asked: Option<Id>) -> Result<(), Memory>
+        ensures { OnOk result (SetsAny side (option_map id_view asked) self.old self.new) }
+    {
+        match asked {
+            Some(id) => self.ask(side, &id),
+            None => Ok(()),
+        }
+    }
+
+    /// A request of this side is passed over.
+    fn ask(&mut self, side: Side, id: &Id) -> Result<(), Memory>
+        ensures { OnOk result (Sets side (id_view id.now) true self.old self.new) }
+    {
+        match side {
+            Side::Editor => put(&mut self.editor, id, ()),
+            Side::Server => put(&mut self.server, id, ()),
+        }
+    }
+
+    /// A response of this side breaks this rule: it answers a request of the other side that was
+    /// passed over, if it answers no open one.
+    fn answer(&mut self, side: Side, rule: u16, id: &Id)
+        ensures { (reply : Reply)
+            → Passes rule side (response (Some (id_view id.now)) reply) self.old self.new }
+    {
+        if rule != rules::RESPONSE_TO_NO_OPEN_REQUEST {
+            return;
+        }
+        self.forget_other(side, id);
+    }
+
+    /// This side answers such a request of the other.
+    fn forget_other(&mut self, side: Side, id: &Id)
+        ensures { Sets (other_side side) (id_view id.now) false self.old self.new }
+    {
+        match side {
+            Side::Editor => forget(&mut self.server, id),
+            Side::Server => forget(&mut self.editor, id),
+        }
+    }
+
+    /// Whether a request of the other side was passed over.
+    fn has_other(&self, side: Side, id: &Id) -> bool
+        ensures { result ≡ has_passed self.now (other_side side) (id_view id.now) }
+    {
+        match side {
+            Side::Editor => self.server.contains_key(id),
+            Side::Server => self.editor.contains_key(id),
+        }
+    }
+}
