@@ -27,4 +27,5 @@ pub mod DocumentRules
 pub mod Refused
 pub mod ShapedMembers
 pub mod SomeFacts
+pub mod Written
 pub mod OneFacts

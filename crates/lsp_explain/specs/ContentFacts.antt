@@ -2,6 +2,7 @@
 -- have the shape of their method (209).
 use Rattle.std.specs.Prelude.{ℕ, ◌-◌, ◌&&◌, ◌==◌, nat_lt, nat_le, List, [], ◌∷◌, ◌++◌, length, take}
 use Rattle.std.specs.Prelude.{drop, Bool, if◌then◌else◌, Option, Some, None, option_and_then}
+use Rattle.std.specs.Bool.{then_some}
 use Rattle.std.specs.List.{prefix_len}
 use Rattle.std.specs.Option.{option_or}
 use Rattle.lsp_explain.specs.Fact.{Fact, breaks, before, after}
@@ -16,8 +17,7 @@ use Rattle.lsp_types.specs.declared.rules.TheConstants as rules
 -- the first byte at which it is not UTF-8
 abbrev pub utf8_break : List ℕ → Option ℕ
 utf8_break content =
-    if nat_lt (length (text_front content)) (length content) then Some (length (text_front content))
-    else None
+    then_some (nat_lt (length (text_front content)) (length content)) (length (text_front content))
 
 -- how many bytes come before that place
 abbrev pub content_break : List ℕ → Option ℕ
@@ -56,8 +56,12 @@ break_facts content (Some n) = place_facts content n
 abbrev pub wrong_in : List ℕ → Option (List ℕ)
 wrong_in content = option_and_then wrong_member (content_message content)
 
+-- what is wrong with it, as far as the rule does not say it
+abbrev pub reason_facts : ℕ → List ℕ → List Fact
+reason_facts rule content =
+    if rule == rules.CONTENT_NOT_JSON then break_facts content (content_break content)
+    else (if rule == rules.BAD_METHOD_PARAMS then member_facts (wrong_in content) else [])
+
 -- **a content that breaks this rule**
 abbrev pub content_facts : ℕ → List ℕ → List Fact
-content_facts rule content = front_facts content
-    ++ (if rule == rules.CONTENT_NOT_JSON then break_facts content (content_break content)
-    else (if rule == rules.BAD_METHOD_PARAMS then member_facts (wrong_in content) else []))
+content_facts rule content = front_facts content ++ reason_facts rule content

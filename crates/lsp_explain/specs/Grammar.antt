@@ -3,6 +3,7 @@
 use Rattle.std.specs.Prelude.{ℕ, suc, ◌-◌, List, [], ◌∷◌, ◌++◌, length, take, Bool, true, false}
 use Rattle.std.specs.Prelude.{◌&&◌, ◌||◌, ◌==◌, nat_lt, nat_le, if◌then◌else◌, slice_get}
 use Rattle.std.specs.Prelude.{Option, Some, None, option_map}
+use Rattle.std.specs.Bool.{then_some}
 use Rattle.json.specs.Word.{is_space}
 use Rattle.lsp_explain.specs.declared.facts.grammar.Around.{Around}
 use Rattle.lsp_explain.specs.declared.facts.grammar.Around.TheVariants.{Array, Object, Key}
@@ -50,79 +51,73 @@ is_escape x =
 
 -- ---- within strings, words and numbers
 
-abbrev pub only_if : {X : Type 0} → Bool → X → Option X
-only_if test place = if test then Some place else None
-
-abbrev pub escape_at : Escape → Place
-escape_at spot = places.Escape spot
-
 abbrev pub after_backslash : ℕ → Option Place
 after_backslash x =
-    if x == 117 then Some (places.Escape escapes.Unit) else only_if (is_escape x) places.Text
+    if x == 117 then Some (places.Escape escapes.Unit) else then_some (is_escape x) places.Text
 
 abbrev pub in_unit : ℕ → Option Place
 in_unit x =
     if is_d x then Some (places.Escape escapes.AfterD)
-    else only_if (is_hex x) (places.Escape escapes.ThreeDigits)
+    else then_some (is_hex x) (places.Escape escapes.ThreeDigits)
 
 -- c to f would be a second half without the first
 abbrev pub after_d : ℕ → Option Place
 after_d x =
     if is_in 48 55 x then Some (places.Escape escapes.TwoDigits)
-    else only_if (is_8_to_b x) (places.Escape escapes.TwoOfHigh)
+    else then_some (is_8_to_b x) (places.Escape escapes.TwoOfHigh)
 
 abbrev pub in_escape : Escape → ℕ → Option Place
 in_escape escapes.AfterBackslash x = after_backslash x
 in_escape escapes.Unit x = in_unit x
 in_escape escapes.AfterD x = after_d x
-in_escape escapes.ThreeDigits x = only_if (is_hex x) (places.Escape escapes.TwoDigits)
-in_escape escapes.TwoDigits x = only_if (is_hex x) (places.Escape escapes.OneDigit)
-in_escape escapes.OneDigit x = only_if (is_hex x) places.Text
-in_escape escapes.TwoOfHigh x = only_if (is_hex x) (places.Escape escapes.OneOfHigh)
-in_escape escapes.OneOfHigh x = only_if (is_hex x) (places.Escape escapes.LowBackslash)
-in_escape escapes.LowBackslash x = only_if (x == 92) (places.Escape escapes.LowU)
-in_escape escapes.LowU x = only_if (x == 117) (places.Escape escapes.LowUnit)
-in_escape escapes.LowUnit x = only_if (is_d x) (places.Escape escapes.LowAfterD)
-in_escape escapes.LowAfterD x = only_if (is_c_to_f x) (places.Escape escapes.TwoDigits)
+in_escape escapes.ThreeDigits x = then_some (is_hex x) (places.Escape escapes.TwoDigits)
+in_escape escapes.TwoDigits x = then_some (is_hex x) (places.Escape escapes.OneDigit)
+in_escape escapes.OneDigit x = then_some (is_hex x) places.Text
+in_escape escapes.TwoOfHigh x = then_some (is_hex x) (places.Escape escapes.OneOfHigh)
+in_escape escapes.OneOfHigh x = then_some (is_hex x) (places.Escape escapes.LowBackslash)
+in_escape escapes.LowBackslash x = then_some (x == 92) (places.Escape escapes.LowU)
+in_escape escapes.LowU x = then_some (x == 117) (places.Escape escapes.LowUnit)
+in_escape escapes.LowUnit x = then_some (is_d x) (places.Escape escapes.LowAfterD)
+in_escape escapes.LowAfterD x = then_some (is_c_to_f x) (places.Escape escapes.TwoDigits)
 
 abbrev pub in_word : Word → ℕ → Option Place
-in_word words.Rue x = only_if (x == 114) (places.Word words.Ue)
-in_word words.Ue x = only_if (x == 117) (places.Word words.E)
-in_word words.E x = only_if (x == 101) (places.Gap gaps.AfterValue)
-in_word words.Alse x = only_if (x == 97) (places.Word words.Lse)
-in_word words.Lse x = only_if (x == 108) (places.Word words.Se)
-in_word words.Se x = only_if (x == 115) (places.Word words.E)
-in_word words.Ull x = only_if (x == 117) (places.Word words.Ll)
-in_word words.Ll x = only_if (x == 108) (places.Word words.L)
-in_word words.L x = only_if (x == 108) (places.Gap gaps.AfterValue)
+in_word words.Rue x = then_some (x == 114) (places.Word words.Ue)
+in_word words.Ue x = then_some (x == 117) (places.Word words.E)
+in_word words.E x = then_some (x == 101) (places.Gap gaps.AfterValue)
+in_word words.Alse x = then_some (x == 97) (places.Word words.Lse)
+in_word words.Lse x = then_some (x == 108) (places.Word words.Se)
+in_word words.Se x = then_some (x == 115) (places.Word words.E)
+in_word words.Ull x = then_some (x == 117) (places.Word words.Ll)
+in_word words.Ll x = then_some (x == 108) (places.Word words.L)
+in_word words.L x = then_some (x == 108) (places.Gap gaps.AfterValue)
 
 abbrev pub whole_part : ℕ → Option Number
-whole_part x = if x == 48 then Some numbers.AfterZero else only_if (is_digit x) numbers.Whole
+whole_part x = if x == 48 then Some numbers.AfterZero else then_some (is_digit x) numbers.Whole
 
 abbrev pub after_whole : ℕ → Option Number
-after_whole x = if x == 46 then Some numbers.AfterPoint else only_if (is_e x) numbers.AfterE
+after_whole x = if x == 46 then Some numbers.AfterPoint else then_some (is_e x) numbers.AfterE
 
 abbrev pub in_whole : ℕ → Option Number
 in_whole x = if is_digit x then Some numbers.Whole else after_whole x
 
 abbrev pub in_fraction : ℕ → Option Number
 in_fraction x =
-    if is_digit x then Some numbers.Fraction else only_if (is_e x) numbers.AfterE
+    if is_digit x then Some numbers.Fraction else then_some (is_e x) numbers.AfterE
 
 abbrev pub after_e : ℕ → Option Number
 after_e x =
-    if x == 43 || x == 45 then Some numbers.AfterSign else only_if (is_digit x) numbers.Exponent
+    if x == 43 || x == 45 then Some numbers.AfterSign else then_some (is_digit x) numbers.Exponent
 
 -- where the number goes on
 abbrev pub in_number : Number → ℕ → Option Number
 in_number numbers.AfterMinus x = whole_part x
 in_number numbers.AfterZero x = after_whole x
 in_number numbers.Whole x = in_whole x
-in_number numbers.AfterPoint x = only_if (is_digit x) numbers.Fraction
+in_number numbers.AfterPoint x = then_some (is_digit x) numbers.Fraction
 in_number numbers.Fraction x = in_fraction x
 in_number numbers.AfterE x = after_e x
-in_number numbers.AfterSign x = only_if (is_digit x) numbers.Exponent
-in_number numbers.Exponent x = only_if (is_digit x) numbers.Exponent
+in_number numbers.AfterSign x = then_some (is_digit x) numbers.Exponent
+in_number numbers.Exponent x = then_some (is_digit x) numbers.Exponent
 
 -- the number may end here
 abbrev pub may_end : Number → Bool
@@ -141,7 +136,7 @@ abbrev pub begin_word : ℕ → Option Place
 begin_word x =
     if x == 116 then Some (places.Word words.Rue)
     else (if x == 102 then Some (places.Word words.Alse)
-    else only_if (x == 110) (places.Word words.Ull))
+    else then_some (x == 110) (places.Word words.Ull))
 
 abbrev pub begin_number : ℕ → Option Place
 begin_number x =
@@ -157,7 +152,7 @@ abbrev pub begin_plain : ℕ → Option Place
 begin_plain x = if x == 34 then Some places.Text else or_word x (begin_number x)
 
 abbrev pub opens : Bool → Around → Gap → Option Move
-opens room around gap = only_if room (Open around (places.Gap gap))
+opens room around gap = then_some room (Open around (places.Gap gap))
 
 -- a value begins, where there is room for one more array or object or not
 abbrev pub begin_value : Bool → ℕ → Option Move
@@ -166,7 +161,7 @@ begin_value room x =
     else (if x == 123 then opens room Object gaps.FirstKey else option_map To (begin_plain x))
 
 abbrev pub begin_key : ℕ → Option Move
-begin_key x = only_if (x == 34) (Open Key places.Text)
+begin_key x = then_some (x == 34) (Open Key places.Text)
 
 abbrev pub after_comma : Option Around → Option Move
 after_comma None = None
@@ -177,8 +172,8 @@ after_comma (Some Key) = None
 -- what is open ends
 abbrev pub closes : Option Around → ℕ → Option Move
 closes None x = None
-closes (Some Array) x = only_if (x == 93) (Close (places.Gap gaps.AfterValue))
-closes (Some Object) x = only_if (x == 125) (Close (places.Gap gaps.AfterValue))
+closes (Some Array) x = then_some (x == 93) (Close (places.Gap gaps.AfterValue))
+closes (Some Object) x = then_some (x == 125) (Close (places.Gap gaps.AfterValue))
 closes (Some Key) x = None
 
 abbrev pub or_closes : Option Around → ℕ → Option Move → Option Move
@@ -189,7 +184,7 @@ abbrev pub after_value : Option Around → ℕ → Option Move
 after_value around x = if x == 44 then after_comma around else closes around x
 
 abbrev pub colon : ℕ → Option Move
-colon x = only_if (x == 58) (To (places.Gap gaps.Value))
+colon x = then_some (x == 58) (To (places.Gap gaps.Value))
 
 abbrev pub after_space : Gap → Option Around → Bool → ℕ → Option Move
 after_space gaps.Value around room x = begin_value room x
@@ -216,7 +211,7 @@ abbrev pub in_text : Option Around → ℕ → Option Move
 in_text around x =
     if x == 34 then Some (end_text around)
     else (if x == 92 then Some (To (places.Escape escapes.AfterBackslash))
-    else only_if (nat_le 32 x) (To places.Text))
+    else then_some (nat_le 32 x) (To places.Text))
 
 abbrev pub or_after : Number → Option Around → Bool → ℕ → Option Number → Option Move
 or_after number around room x None =

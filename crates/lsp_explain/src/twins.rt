@@ -34,13 +34,16 @@ fn number_of(alloc: Global, text: &str) -> Result<Option<Id>, Memory>
 fn written(alloc: Global, text: &str) -> Result<Option<i32>, Memory>
     ensures { IfOk result (λ number. number ≡ spec.written text.now) }
 {
-    let Ok(number) = text.parse::<i32>() else {
-        return Ok(None);
-    };
-    let again = format!(in alloc; "{number}")?;
-    if again.as_str() == text {
-        Ok(Some(number))
-    } else {
-        Ok(None)
+    match text.parse::<i32>() {
+        Ok(number) => if_same(alloc, number, text),
+        Err(_) => Ok(None),
     }
+}
+
+/// The number, if it is written like this text.
+fn if_same(alloc: Global, number: i32, text: &str) -> Result<Option<i32>, Memory>
+    ensures { IfOk result (λ found. found ≡ spec.if_same number text.now) }
+{
+    let again = format!(in alloc; "{number}")?;
+    Ok((again.as_str() == text).then_some(number))
 }

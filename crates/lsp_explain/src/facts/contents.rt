@@ -1,9 +1,10 @@
 //! Facts on contents that are not a message, and on messages whose params have another shape.
-ghost use Rattle.std.specs.Prelude.{◌≡◌, ◌≤◌, ◌-◌, ◌++◌, IfOk, IfSome, OnOk, length};
+ghost use Rattle.std.specs.Prelude.{◌≡◌, ◌≤◌, ◌-◌, IfOk, IfSome, length};
 ghost use Rattle.std.specs.List.{prefix_len};
 ghost use Rattle.lsp_explain.specs.ContentFacts as spec;
 ghost use Rattle.lsp_explain.specs.Fact.{facts_view};
 ghost use Rattle.lsp_explain.specs.Members.{Finds};
+ghost use Rattle.lsp_explain.specs.MessageFacts.{member_facts};
 
 use crate::facts::fact::Fact;
 use crate::facts::json::json_break;
@@ -26,15 +27,36 @@ pub fn content_facts(alloc: Global, content: &[u8], rule: u16) -> Result<Vec<Fac
     ensures { IfOk result (λ facts. facts_view facts.items ≡ spec.content_facts rule content.now) }
 {
     let mut facts = front_facts(alloc, content)?;
-    if rule == rules::CONTENT_NOT_JSON {
-        push_break(alloc, &mut facts, content)?;
-    } else if rule == rules::BAD_METHOD_PARAMS {
-        push_member(&mut facts, member_in(alloc, content)?)?;
-    }
+    let mut reason = reason_facts(alloc, content, rule)?;
+    facts.append(&mut reason)?;
     Ok(facts)
 }
 
-/// The member of the params that does not have its shape, of a content that is a message.
+fn reason_facts(alloc: Global, content: &[u8], rule: u16) -> Result<Vec<Fact>, Memory>
+    ensures { IfOk result (λ facts. facts_view facts.items ≡ spec.reason_facts rule content.now) }
+{
+    if rule == rules::CONTENT_NOT_JSON {
+        return break_facts(alloc, content);
+    }
+    if rule == rules::BAD_METHOD_PARAMS {
+        return member_facts(alloc, content);
+    }
+    Ok(Vec::new(alloc))
+}
+
+// ---- 209
+
+/// The member of the params that does not have its shape, if there is one.
+fn member_facts(alloc: Global, content: &[u8]) -> Result<Vec<Fact>, Memory>
+    ensures { IfOk result (λ facts. facts_view facts.items
+        ≡ member_facts (spec.wrong_in content.now)) }
+{
+    let found = member_in(alloc, content)?;
+    let mut facts = Vec::new(alloc);
+    push_member(&mut facts, found)?;
+    Ok(facts)
+}
+
 fn member_in(alloc: Global, content: &[u8]) -> Result<Option<String>, Memory>
     ensures { Finds result (spec.wrong_in content.now) }
 {
@@ -45,14 +67,16 @@ fn member_in(alloc: Global, content: &[u8]) -> Result<Option<String>, Memory>
     }
 }
 
-/// Adds where a content is no longer the front of a JSON text, and what is around that place.
-fn push_break(alloc: Global, facts: &mut Vec<Fact>, content: &[u8]) -> Result<(), Memory>
-    ensures { OnOk result (facts_view facts.new.items ≡ facts_view facts.old.items
-        ++ spec.break_facts content.now (spec.content_break content.now)) }
+// ---- 201
+
+/// Where a content is no longer the front of a JSON text, and what is around that place.
+fn break_facts(alloc: Global, content: &[u8]) -> Result<Vec<Fact>, Memory>
+    ensures { IfOk result (λ facts. facts_view facts.items
+        ≡ spec.break_facts content.now (spec.content_break content.now)) }
 {
     match content_break(alloc, content)? {
-        Some(place) => push_place(alloc, facts, content, place),
-        None => Ok(()),
+        Some(place) => place_facts(alloc, content, place),
+        None => Ok(Vec::new(alloc)),
     }
 }
 
@@ -66,29 +90,22 @@ fn content_break(alloc: Global, content: &[u8]) -> Result<Option<usize>, Memory>
     if let Some(place) = json_break(alloc, text)? {
         return Ok(Some(place));
     }
-    if text.len() < content.len() {
-        Ok(Some(text.len()))
-    } else {
-        Ok(None)
-    }
+    Ok((text.len() < content.len()).then_some(text.len()))
 }
 
-/// Adds this place, and what is before and after it.
-fn push_place(
-    alloc: Global,
-    facts: &mut Vec<Fact>,
-    content: &[u8],
-    place: usize,
-) -> Result<(), Memory>
+/// A place, and what is before and after it.
+fn place_facts(alloc: Global, content: &[u8], place: usize) -> Result<Vec<Fact>, Memory>
     requires { place ≤ length content.now }
-    ensures { OnOk result (facts_view facts.new.items
-        ≡ facts_view facts.old.items ++ spec.place_facts content.now place) }
+    ensures { IfOk result (λ facts. facts_view facts.items
+        ≡ spec.place_facts content.now place) }
 {
     let before = String::from_str(alloc, text_before(content, place))?;
     let after = String::from_str(alloc, shown(&content[place..], AROUND_BYTES))?;
+    let mut facts = Vec::new(alloc);
     facts.push(Fact::Breaks(place as u64))?;
     facts.push(Fact::Before(before))?;
-    Ok(facts.push(Fact::After(after))?)
+    facts.push(Fact::After(after))?;
+    Ok(facts)
 }
 
 /// The last bytes before a place, from the first whole character on.

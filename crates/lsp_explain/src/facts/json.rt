@@ -64,52 +64,27 @@ fn after_backslash(byte: u8) -> Option<Place>
     ensures { result ≡ spec.after_backslash byte }
 {
     if byte == b'u' {
-        Some(Place::Escape(Escape::Unit))
-    } else if is_escape(byte) {
-        Some(Place::Text)
-    } else {
-        None
+        return Some(Place::Escape(Escape::Unit));
     }
+    is_escape(byte).then_some(Place::Text)
 }
 
 fn in_unit(byte: u8) -> Option<Place>
     ensures { result ≡ spec.in_unit byte }
 {
     if is_d(byte) {
-        Some(Place::Escape(Escape::AfterD))
-    } else if is_hex(byte) {
-        Some(Place::Escape(Escape::ThreeDigits))
-    } else {
-        None
+        return Some(Place::Escape(Escape::AfterD));
     }
+    is_hex(byte).then_some(Place::Escape(Escape::ThreeDigits))
 }
 
 fn after_d(byte: u8) -> Option<Place>
     ensures { result ≡ spec.after_d byte }
 {
     if matches!(byte, b'0'..=b'7') {
-        Some(Place::Escape(Escape::TwoDigits))
-    } else if is_8_to_b(byte) {
-        Some(Place::Escape(Escape::TwoOfHigh))
-    } else {
-        None
+        return Some(Place::Escape(Escape::TwoDigits));
     }
-}
-
-fn escape_if(test: bool, spot: Escape) -> Option<Place>
-    ensures { result ≡ spec.only_if test (spec.escape_at spot) }
-{
-    if test {
-        Some(Place::Escape(spot))
-    } else {
-        None
-    }
-}
-
-fn text_if(test: bool) -> Option<Place>
-    ensures { result ≡ spec.only_if test Place.Text }
-{
-    if test { Some(Place::Text) } else { None }
+    is_8_to_b(byte).then_some(Place::Escape(Escape::TwoOfHigh))
 }
 
 fn in_escape(spot: Escape, byte: u8) -> Option<Place>
@@ -119,15 +94,15 @@ fn in_escape(spot: Escape, byte: u8) -> Option<Place>
         Escape::AfterBackslash => after_backslash(byte),
         Escape::Unit => in_unit(byte),
         Escape::AfterD => after_d(byte),
-        Escape::ThreeDigits => escape_if(is_hex(byte), Escape::TwoDigits),
-        Escape::TwoDigits => escape_if(is_hex(byte), Escape::OneDigit),
-        Escape::OneDigit => text_if(is_hex(byte)),
-        Escape::TwoOfHigh => escape_if(is_hex(byte), Escape::OneOfHigh),
-        Escape::OneOfHigh => escape_if(is_hex(byte), Escape::LowBackslash),
-        Escape::LowBackslash => escape_if(byte == b'\\', Escape::LowU),
-        Escape::LowU => escape_if(byte == b'u', Escape::LowUnit),
-        Escape::LowUnit => escape_if(is_d(byte), Escape::LowAfterD),
-        Escape::LowAfterD => escape_if(is_c_to_f(byte), Escape::TwoDigits),
+        Escape::ThreeDigits => is_hex(byte).then_some(Place::Escape(Escape::TwoDigits)),
+        Escape::TwoDigits => is_hex(byte).then_some(Place::Escape(Escape::OneDigit)),
+        Escape::OneDigit => is_hex(byte).then_some(Place::Text),
+        Escape::TwoOfHigh => is_hex(byte).then_some(Place::Escape(Escape::OneOfHigh)),
+        Escape::OneOfHigh => is_hex(byte).then_some(Place::Escape(Escape::LowBackslash)),
+        Escape::LowBackslash => (byte == b'\\').then_some(Place::Escape(Escape::LowU)),
+        Escape::LowU => (byte == b'u').then_some(Place::Escape(Escape::LowUnit)),
+        Escape::LowUnit => is_d(byte).then_some(Place::Escape(Escape::LowAfterD)),
+        Escape::LowAfterD => is_c_to_f(byte).then_some(Place::Escape(Escape::TwoDigits)),
     }
 }
 
@@ -154,35 +129,19 @@ fn in_text(around: Option<Around>, byte: u8) -> Option<Move>
 
 // ---- words
 
-fn word_if(test: bool, word: Word) -> Option<Place>
-    ensures { result ≡ spec.only_if test (Place.Word word) }
-{
-    if test { Some(Place::Word(word)) } else { None }
-}
-
-fn end_if(test: bool) -> Option<Place>
-    ensures { result ≡ spec.only_if test (Place.Gap Gap.AfterValue) }
-{
-    if test {
-        Some(Place::Gap(Gap::AfterValue))
-    } else {
-        None
-    }
-}
-
 fn in_word(word: Word, byte: u8) -> Option<Place>
     ensures { result ≡ spec.in_word word byte }
 {
     match word {
-        Word::Rue => word_if(byte == b'r', Word::Ue),
-        Word::Ue => word_if(byte == b'u', Word::E),
-        Word::E => end_if(byte == b'e'),
-        Word::Alse => word_if(byte == b'a', Word::Lse),
-        Word::Lse => word_if(byte == b'l', Word::Se),
-        Word::Se => word_if(byte == b's', Word::E),
-        Word::Ull => word_if(byte == b'u', Word::Ll),
-        Word::Ll => word_if(byte == b'l', Word::L),
-        Word::L => end_if(byte == b'l'),
+        Word::Rue => (byte == b'r').then_some(Place::Word(Word::Ue)),
+        Word::Ue => (byte == b'u').then_some(Place::Word(Word::E)),
+        Word::E => (byte == b'e').then_some(Place::Gap(Gap::AfterValue)),
+        Word::Alse => (byte == b'a').then_some(Place::Word(Word::Lse)),
+        Word::Lse => (byte == b'l').then_some(Place::Word(Word::Se)),
+        Word::Se => (byte == b's').then_some(Place::Word(Word::E)),
+        Word::Ull => (byte == b'u').then_some(Place::Word(Word::Ll)),
+        Word::Ll => (byte == b'l').then_some(Place::Word(Word::L)),
+        Word::L => (byte == b'l').then_some(Place::Gap(Gap::AfterValue)),
     }
 }
 
@@ -199,19 +158,13 @@ fn begin_word(byte: u8) -> Option<Place>
 
 // ---- numbers
 
-fn number_if(test: bool, number: Number) -> Option<Number>
-    ensures { result ≡ spec.only_if test number }
-{
-    if test { Some(number) } else { None }
-}
-
 fn whole_part(byte: u8) -> Option<Number>
     ensures { result ≡ spec.whole_part byte }
 {
     if byte == b'0' {
         return Some(Number::AfterZero);
     }
-    number_if(is_digit(byte), Number::Whole)
+    is_digit(byte).then_some(Number::Whole)
 }
 
 fn after_whole(byte: u8) -> Option<Number>
@@ -220,7 +173,7 @@ fn after_whole(byte: u8) -> Option<Number>
     if byte == b'.' {
         return Some(Number::AfterPoint);
     }
-    number_if(is_e(byte), Number::AfterE)
+    is_e(byte).then_some(Number::AfterE)
 }
 
 fn in_whole(byte: u8) -> Option<Number>
@@ -238,7 +191,7 @@ fn in_fraction(byte: u8) -> Option<Number>
     if is_digit(byte) {
         return Some(Number::Fraction);
     }
-    number_if(is_e(byte), Number::AfterE)
+    is_e(byte).then_some(Number::AfterE)
 }
 
 fn after_e(byte: u8) -> Option<Number>
@@ -247,7 +200,7 @@ fn after_e(byte: u8) -> Option<Number>
     if byte == b'+' || byte == b'-' {
         return Some(Number::AfterSign);
     }
-    number_if(is_digit(byte), Number::Exponent)
+    is_digit(byte).then_some(Number::Exponent)
 }
 
 /// Where the number goes on.
@@ -258,11 +211,11 @@ fn in_number(number: Number, byte: u8) -> Option<Number>
         Number::AfterMinus => whole_part(byte),
         Number::AfterZero => after_whole(byte),
         Number::Whole => in_whole(byte),
-        Number::AfterPoint => number_if(is_digit(byte), Number::Fraction),
+        Number::AfterPoint => is_digit(byte).then_some(Number::Fraction),
         Number::Fraction => in_fraction(byte),
         Number::AfterE => after_e(byte),
-        Number::AfterSign => number_if(is_digit(byte), Number::Exponent),
-        Number::Exponent => number_if(is_digit(byte), Number::Exponent),
+        Number::AfterSign => is_digit(byte).then_some(Number::Exponent),
+        Number::Exponent => is_digit(byte).then_some(Number::Exponent),
     }
 }
 
@@ -306,11 +259,7 @@ fn begin_plain(byte: u8) -> Option<Place>
 fn opens(room: bool, around: Around, gap: Gap) -> Option<Move>
     ensures { result ≡ spec.opens room around gap }
 {
-    if room {
-        Some(Move::Open(around, Place::Gap(gap)))
-    } else {
-        None
-    }
+    room.then_some(Move::Open(around, Place::Gap(gap)))
 }
 
 fn to(place: Option<Place>) -> Option<Move>
@@ -336,11 +285,7 @@ fn begin_value(room: bool, byte: u8) -> Option<Move>
 fn begin_key(byte: u8) -> Option<Move>
     ensures { result ≡ spec.begin_key byte }
 {
-    if byte == b'"' {
-        Some(Move::Open(Around::Key, Place::Text))
-    } else {
-        None
-    }
+    (byte == b'"').then_some(Move::Open(Around::Key, Place::Text))
 }
 
 fn after_comma(around: Option<Around>) -> Option<Move>
@@ -353,23 +298,13 @@ fn after_comma(around: Option<Around>) -> Option<Move>
     }
 }
 
-fn close_if(test: bool) -> Option<Move>
-    ensures { result ≡ spec.only_if test (Move.Close (Place.Gap Gap.AfterValue)) }
-{
-    if test {
-        Some(Move::Close(Place::Gap(Gap::AfterValue)))
-    } else {
-        None
-    }
-}
-
 /// What is open ends.
 fn closes(around: Option<Around>, byte: u8) -> Option<Move>
     ensures { result ≡ spec.closes around byte }
 {
     match around? {
-        Around::Array => close_if(byte == b']'),
-        Around::Object => close_if(byte == b'}'),
+        Around::Array => (byte == b']').then_some(Move::Close(Place::Gap(Gap::AfterValue))),
+        Around::Object => (byte == b'}').then_some(Move::Close(Place::Gap(Gap::AfterValue))),
         Around::Key => None,
     }
 }
@@ -396,11 +331,7 @@ fn after_value(around: Option<Around>, byte: u8) -> Option<Move>
 fn colon(byte: u8) -> Option<Move>
     ensures { result ≡ spec.colon byte }
 {
-    if byte == b':' {
-        Some(Move::To(Place::Gap(Gap::Value)))
-    } else {
-        None
-    }
+    (byte == b':').then_some(Move::To(Place::Gap(Gap::Value)))
 }
 
 fn after_space(gap: Gap, around: Option<Around>, room: bool, byte: u8) -> Option<Move>

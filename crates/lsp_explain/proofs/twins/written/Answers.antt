@@ -1,0 +1,18 @@
+use Rattle.std.specs.Prelude.{IfOk}
+use Rattle.std.proofs.Common.{◌≡◌, Option, sym, subst, w32}
+use Rattle.std.proofs.lemmas.Int.{to_z-of_z}
+use Rattle.std.specs.Prelude.{ℤ}
+use mir.Val.{SFits}
+use Rattle.lsp_explain.proofs.Written.{written_err, written_ok}
+use Rattle.lsp_explain.proofs.twins.written.Goals as goal
+
+pub returns-in-Ok : goal.returns-in-Ok
+returns-in-Ok c =
+    let parses = c.in-Ok.ensures.value.0 in
+    let fits : SFits w32 c.in-Ok.number = subst (SFits w32) (sym parses.1) parses.0.1 in
+    let told = simp to_z-of_z at c.if_same.ensures in
+    subst (λ (due : Option ℤ). IfOk c.if_same.result (λ found. found ≡ due))
+    (written_ok c.args.text.now c.in-Ok.number parses) told
+
+pub returns-in-Err : goal.returns-in-Err
+returns-in-Err c = written_err c.args.text.now c.in-Err.field-0 c.in-Err.ensures.value.0
