@@ -156,9 +156,9 @@ OFFENCES = [
     ),
     (
         BROKEN,
-        b"no 102 editor 1 event 1\nbad header line\nno 301 server 1 event 2\nresponse to no open request\n",
-        b"no 102 editor 1 event 1\nbad header line\nno 301 server 1 event 2\nresponse to no open request\n",
-        b"offences 2 following 0\n",
+        BROKEN_REPORT,
+        BROKEN_REPORT + b"no 301 server 1 event 2 follows\nresponse to no open request\n",
+        b"offences 2 following 1\n",
     ),
 ]
 
@@ -321,13 +321,8 @@ usually editor
         BROKEN_REPORT + rb'''event 1 editor 1
 begins "\r\n\r\n"
 usually editor
-no 301 server 1 event 2
-response to no open request
-event 2 server 1 result 2
-id 2
-usually server
 ''',
-        b"offences 2 following 0\n",
+        b"offences 2 following 1\n",
     ),
 ]
 

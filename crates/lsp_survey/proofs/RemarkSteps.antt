@@ -126,7 +126,7 @@ settled-push before (x ∷ h) m =
     ∙ ap (λ (l : List Sent). option_or (first_settled_from before (x ∷ h)) (settled_by l m))
     (append_assoc before (x ∷ []) h)
 
-older_by : Option Settled → Option (List ℕ)
+abbrev older_by : Option Settled → Option (List ℕ)
 older_by o = option_and_then (λ s. older_in s.value) o
 
 -- what is held before it, and after it
