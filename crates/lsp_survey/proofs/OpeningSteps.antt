@@ -142,40 +142,48 @@ shown_opened terms o before uri v text are kept =
 -- ---- two parts of what is held
 
 module _ (uri : List ℕ) where
+  abbrev events_on : List OnDocument → List (Option ℕ)
+  events_on ons = filter_map (event_on uri) ons
+
+  -- the event of this message, before these, where it is about the document
+  abbrev with_event : Bool → ℕ → List (Option ℕ) → List (Option ℕ)
+  with_event b n rest = cons_option (if b then Some (Some n) else None) rest
+
+  once : (x : Option ℕ) (n : ℕ) (o : Option ℕ)
+      → option_or x (Some n) ≡ option_or (option_or x (Some n)) o
+  once None n o = refl
+  once (Some m) n o = refl
+
   -- what comes later counts, where there is any
   later : (ons : List OnDocument) (o : Option ℕ)
-      → last_or o (filter_map (event_on uri) ons) ≡ option_or (last_on uri ons) o
+      → last_or o (events_on ons) ≡ option_or (last_or None (events_on ons)) o
   later [] o = refl
-  later (on ∷ ons) o = by_test (is_on uri on)
+  later (on ∷ ons) o = by_test (is_on uri on) (later ons)
     where
       rest : List (Option ℕ)
-      rest = filter_map (event_on uri) ons
-
-      once : (x : Option ℕ) → option_or x (Some on.event)
-          ≡ option_or (option_or x (Some on.event)) o
-      once None = refl
-      once (Some n) = refl
+      rest = events_on ons
 
       by_test : (b : Bool)
-          → last_or o (cons_option (if b then Some (Some on.event) else None) rest)
-          ≡ option_or (last_or None (cons_option (if b then Some (Some on.event) else None) rest)) o
-      by_test true = later ons (Some on.event) ∙ once (last_on uri ons)
-          ∙ ap (λ (x : Option ℕ). option_or x o) (sym (later ons (Some on.event)))
-      by_test false = later ons o
+          → ((p : Option ℕ) → last_or p rest ≡ option_or (last_or None rest) p)
+          → last_or o (with_event b on.event rest)
+          ≡ option_or (last_or None (with_event b on.event rest)) o
+      by_test true ih = ih (Some on.event) ∙ once (last_or None rest) on.event o
+          ∙ ap (λ (x : Option ℕ). option_or x o) (sym (ih (Some on.event)))
+      by_test false ih = ih o
 
   in_turn : (first second : List OnDocument) (o : Option ℕ)
-      → last_or o (filter_map (event_on uri) (first ++ second))
-      ≡ last_or (last_or o (filter_map (event_on uri) first)) (filter_map (event_on uri) second)
+      → last_or o (events_on (first ++ second))
+      ≡ last_or (last_or o (events_on first)) (events_on second)
   in_turn [] second o = refl
-  in_turn (on ∷ first) second o = by_test (is_on uri on)
+  in_turn (on ∷ first) second o = by_test (is_on uri on) (in_turn first second)
     where
       by_test : (b : Bool)
-          → last_or o (cons_option (if b then Some (Some on.event) else None)
-          (filter_map (event_on uri) (first ++ second)))
-          ≡ last_or (last_or o (cons_option (if b then Some (Some on.event) else None)
-          (filter_map (event_on uri) first))) (filter_map (event_on uri) second)
-      by_test true = in_turn first second (Some on.event)
-      by_test false = in_turn first second o
+          → ((p : Option ℕ) → last_or p (events_on (first ++ second))
+          ≡ last_or (last_or p (events_on first)) (events_on second))
+          → last_or o (with_event b on.event (events_on (first ++ second)))
+          ≡ last_or (last_or o (with_event b on.event (events_on first))) (events_on second)
+      by_test true ih = ih (Some on.event)
+      by_test false ih = ih o
 
   -- the last one in the second part, or else in the first
   pub last_on-append : (first second : List DocumentEvent)
