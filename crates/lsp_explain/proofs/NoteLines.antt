@@ -1,14 +1,14 @@
 -- The lines of notes, one kind after another.
-use Rattle.std.specs.Prelude.{map}
+use Rattle.std.specs.Prelude.{map, Option, Some, None, option_to_list}
 use Rattle.std.specs.List.{flat_map}
 use Rattle.std.proofs.Common.{◌≡◌, ◌+◌, ℕ, List, ◌++◌, length, length-append, refl, sym, ap, ◌∙◌}
-use Rattle.std.proofs.Common.{append_assoc}
+use Rattle.std.proofs.Common.{append-nil, append_assoc}
 use Rattle.std.proofs.lemmas.List.{length-map}
 use Rattle.std.proofs.lemmas.List.Concat.{flat_map-append}
 use Rattle.std.proofs.lemmas.List.Folds.{flat_map-map}
 use Rattle.lsp_survey.specs.Misuses.{Misused}
-use Rattle.lsp_explain.specs.Remarks.{Remark, calls_wrongly, count_line, misuse_line, remark_line}
-use Rattle.lsp_explain.specs.Remarks.{remark_lines}
+use Rattle.lsp_explain.specs.Remarks.{Remark, calls_wrongly, count_line, line_if, misuse_line}
+use Rattle.lsp_explain.specs.Remarks.{remark_line, remark_lines}
 
 abbrev lines : List Remark → List ℕ
 lines remarks = flat_map remark_line remarks
@@ -21,19 +21,29 @@ more start old new remarks later before is =
     ∙ append_assoc start (lines remarks) (lines later)
     ∙ ap (λ w. start ++ w) (sym (flat_map-append remark_line remarks later))
 
+-- the line of one
+if_line : (o : Option Remark) → line_if o ≡ lines (option_to_list o)
+if_line None = refl
+if_line (Some remark) = sym (append-nil (remark_line remark))
+
 -- **the lines of all kinds, and how many they are**
 pub all_lines : (start one two three four five : List ℕ) (calls : List Misused)
-    (exits names little : List Remark) (count : ℕ)
-    → one ≡ start ++ flat_map misuse_line calls → two ≡ one ++ lines exits
-    → three ≡ two ++ lines names → four ≡ three ++ lines little → five ≡ four ++ count_line count
-    → count ≡ length calls + length exits + length names + length little
-    → five ≡ start ++ remark_lines (map calls_wrongly calls ++ exits ++ names ++ little)
-all_lines start one two three four five calls exits names little count e1 e2 e3 e4 e5 counted =
+    (exit name : Option Remark) (little : List Remark) (count : ℕ)
+    → one ≡ start ++ flat_map misuse_line calls → two ≡ one ++ line_if exit
+    → three ≡ two ++ line_if name → four ≡ three ++ lines little → five ≡ four ++ count_line count
+    → count ≡ length calls + length (option_to_list exit) + length (option_to_list name)
+    + length little
+    → five ≡ start ++ remark_lines (map calls_wrongly calls ++ option_to_list exit
+    ++ option_to_list name ++ little)
+all_lines start one two three four five calls exit name little count e1 e2 e3 e4 e5 counted =
+    let exits : List Remark = option_to_list exit in
+    let names : List Remark = option_to_list name in
     let wrong : List Remark = map calls_wrongly calls in
     let first : one ≡ start ++ lines wrong =
     e1 ∙ ap (λ w. start ++ w) (sym (flat_map-map remark_line calls_wrongly calls)) in
-    let second = more start one two wrong exits first e2 in
-    let third = more start two three (wrong ++ exits) names second e3 in
+    let second = more start one two wrong exits first (e2 ∙ ap (λ w. one ++ w) (if_line exit)) in
+    let third = more start two three (wrong ++ exits) names second
+    (e3 ∙ ap (λ w. two ++ w) (if_line name)) in
     let fourth = more start three four (wrong ++ exits ++ names) little third e4 in
     let all : List Remark = wrong ++ exits ++ names ++ little in
     let size : length all ≡ length calls + length exits + length names + length little =

@@ -79,6 +79,11 @@ remark_line (names_another name) =
     line (codes "note" ∷ codes "offset-encoding" ∷ quoted name ∷ [])
 remark_line compares_nothing = line (codes "note" ∷ codes "nothing-compared" ∷ [])
 
+-- the line of one, if there is one
+abbrev pub line_if : Option Remark → List ℕ
+line_if None = []
+line_if (Some remark) = remark_line remark
+
 -- how many there are, if there are any
 abbrev pub count_line : ℕ → List ℕ
 count_line count = if count == 0 then [] else line (codes "notes" ∷ decimal count ∷ [])

@@ -1,5 +1,5 @@
 //! The notes on a session, which change no verdict.
-ghost use Rattle.std.specs.Prelude.{◌≡◌, ◌++◌, ◌+◌, ℕ, List, Some, OnOk, IfOk, length, option_map};
+ghost use Rattle.std.specs.Prelude.{◌≡◌, ◌++◌, List, Some, OnOk, IfOk, length, map, option_map};
 ghost use Rattle.std.specs.Prelude.{string_bytes};
 ghost use Rattle.std.specs.List.{flat_map};
 ghost use Rattle.lsp_survey.specs.Asking.{numbered};
@@ -8,13 +8,14 @@ ghost use Rattle.lsp_verdict.specs.Event.{Event};
 ghost use Rattle.lsp_verdict.specs.Given.{verdict_view};
 ghost use Rattle.lsp_verdict.specs.Report.{encoding_name};
 ghost use Rattle.lsp_explain.specs.Remarks as spec;
-ghost use Rattle.lsp_explain.specs.Remarks.{count_line, exit_remarks, misuse_line, name_remarks};
+ghost use Rattle.lsp_explain.specs.Remarks.{calls_wrongly, count_line, exit_remarks, exits_abruptly};
+ghost use Rattle.lsp_explain.specs.Remarks.{line_if, misuse_line, name_remarks, names_another};
 ghost use Rattle.lsp_explain.specs.Remarks.{remark_line, remark_lines, remarks_of, uncompared};
 ghost use Rattle.lsp_explain.specs.Standing.{StandsAfter, terms_in};
 
 use lsp_rpc::{Encoding, Memory, push_quoted};
 use lsp_survey::{Misuse, Misused, SurveyReader};
-use lsp_verdict::{Summary, Verdict};
+use lsp_verdict::Verdict;
 use std::alloc::Global;
 use std::fmt::Write;
 
@@ -33,9 +34,31 @@ pub(crate) fn push_remarks(
         (remarks_of (verdict_view verdict.now) (numbered (terms_in events.now) before))) }
 {
     let notes = events.session_notes();
-    let misuses = notes.misuses();
-    let exit = notes.abrupt_exit();
     let name = other_name(notes.older_encoding(), events.session().encoding());
+    push_all(
+        alloc,
+        lines,
+        notes.misuses(),
+        notes.abrupt_exit(),
+        name,
+        verdict,
+    )
+}
+
+/// Adds the lines of all kinds of notes, and how many they are.
+fn push_all(
+    alloc: Global,
+    lines: &mut String,
+    misuses: &[Misused],
+    exit: Option<u64>,
+    name: Option<&str>,
+    verdict: &Verdict,
+) -> Result<(), Memory>
+    ensures { OnOk result (string_bytes lines.new ≡ string_bytes lines.old
+        ++ remark_lines (map calls_wrongly (misused_views misuses.now) ++ exit_remarks exit
+        ++ name_remarks (option_map (λ s. s.now) name.entry)
+        ++ uncompared (verdict_view verdict.now))) }
+{
     push_misuses(alloc, lines, misuses)?;
     let exits = push_exit(lines, exit)?;
     let names = push_name(alloc, lines, name)?;
@@ -81,7 +104,7 @@ fn misuse_name(misuse: Misuse) -> &'static str
 /// many lines these are.
 fn push_exit(lines: &mut String, exit: Option<u64>) -> Result<usize, Memory>
     ensures text { OnOk result (string_bytes lines.new
-        ≡ string_bytes lines.old ++ flat_map remark_line (exit_remarks exit)) }
+        ≡ string_bytes lines.old ++ line_if (option_map exits_abruptly exit)) }
     ensures count { IfOk result (λ count. count ≡ length (exit_remarks exit)) }
 {
     let Some(event) = exit else {
@@ -95,7 +118,7 @@ fn push_exit(lines: &mut String, exit: Option<u64>) -> Result<usize, Memory>
 /// these are.
 fn push_name(alloc: Global, lines: &mut String, name: Option<&str>) -> Result<usize, Memory>
     ensures text { OnOk result (string_bytes lines.new ≡ string_bytes lines.old
-        ++ flat_map remark_line (name_remarks (option_map (λ s. s.now) name.entry))) }
+        ++ line_if (option_map names_another (option_map (λ s. s.now) name.entry))) }
     ensures count { IfOk result
         (λ count. count ≡ length (name_remarks (option_map (λ s. s.now) name.entry))) }
 {
