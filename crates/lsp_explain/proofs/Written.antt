@@ -61,14 +61,17 @@ written_err {E} s e parses =
   where
     value : ℤ
     value = signed_digits_value 10 s
+
     refused : Result ℤ E
     refused = Err e
+
     no_number : signed_decimal value ≡ s → (found : Option ℤ) → small value ≡ found → None ≡ found
     no_number same None is = refl
     no_number same (Some y) is =
         let fits : FitsSigned w32 value = small_fits value y is in
         absurd (err_is_not_ok e value (parse-signed_decimal w32 value s refused fits
         (omega (arith, fits.sfits)) (sym same) parses))
+
     by : (b : Bool) → Decides b (signed_decimal value ≡ s)
         → None ≡ option_and_then small (then_some b value)
     by false decides = refl
