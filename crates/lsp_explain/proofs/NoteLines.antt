@@ -6,9 +6,15 @@ use Rattle.std.proofs.Common.{append-nil, append_assoc}
 use Rattle.std.proofs.lemmas.List.{length-map}
 use Rattle.std.proofs.lemmas.List.Concat.{flat_map-append}
 use Rattle.std.proofs.lemmas.List.Folds.{flat_map-map}
-use Rattle.lsp_survey.specs.Misuses.{Misused}
-use Rattle.lsp_explain.specs.Remarks.{Remark, calls_wrongly, count_line, line_if, misuse_line}
-use Rattle.lsp_explain.specs.Remarks.{remark_line, remark_lines}
+use Rattle.lsp_survey.specs.Misuses.{Misused, misuses}
+use Rattle.lsp_session.specs.Negotiation.{encoding}
+use Rattle.lsp_survey.specs.Asking.{Numbered, sents}
+use Rattle.lsp_survey.specs.Remarks.{abrupt_exit, older_encoding}
+use Rattle.lsp_types.specs.declared.position.Encoding.{Encoding}
+use Rattle.lsp_verdict.specs.Verdict.{Verdict}
+use Rattle.lsp_explain.specs.Remarks.{Remark, calls_wrongly, count_line, exit_remarks, line_if}
+use Rattle.lsp_explain.specs.Remarks.{misuse_line, name_remarks, other_name, remark_line}
+use Rattle.lsp_explain.specs.Remarks.{remark_lines, remarks_of, uncompared}
 
 abbrev lines : List Remark → List ℕ
 lines remarks = flat_map remark_line remarks
@@ -54,3 +60,17 @@ all_lines start one two three four five calls exit name little count e1 e2 e3 e4
     e5 ∙ ap (λ w. w ++ count_line count) fourth
     ∙ append_assoc start (lines all) (count_line count)
     ∙ ap (λ k. start ++ (lines all ++ count_line k)) (counted ∙ sym size)
+
+-- ---- which notes there are
+
+-- **what is held of these messages gives the notes on them**
+pub remarks_are : (v : Verdict) (said : List Numbered) (calls : List Misused) (exit : Option ℕ)
+    (name older : Option (List ℕ)) (agreed : Option Encoding) → calls ≡ misuses said
+    → exit ≡ abrupt_exit said → name ≡ other_name older agreed
+    → older ≡ older_encoding (sents said) → agreed ≡ encoding (sents said)
+    → map calls_wrongly calls ++ exit_remarks exit ++ name_remarks name ++ uncompared v
+    ≡ remarks_of v said
+remarks_are v said calls exit name older agreed e1 e2 e3 e4 e5 =
+    let same : name ≡ other_name (older_encoding (sents said)) (encoding (sents said)) =
+    e3 ∙ (λ i. other_name (e4 i) (e5 i)) in
+    λ i. map calls_wrongly (e1 i) ++ exit_remarks (e2 i) ++ name_remarks (same i) ++ uncompared v
