@@ -37,8 +37,7 @@ use Rattle.lsp_verdict.specs.declared.verdict.Summary as code
 use Rattle.lsp_verdict.specs.declared.verdict.Verdict as code_verdict
 use Rattle.lsp_verdict.specs.declared.verdict.Verdict.TheVariants as verdicts
 use Rattle.lsp_log.specs.declared.fault.LogCode.{LogCode}
-use Rattle.lsp_verdict.proofs.Offences.Offending.{nothing_listed}
-use Rattle.lsp_verdict.proofs.Offences.Surveying.{no_frame_fault}
+use Rattle.lsp_verdict.proofs.Offences.Offending.{no_frame_fault, nothing_listed}
 use Rattle.lsp_verdict.proofs.RunReading.{read_map}
 use Rattle.lsp_explain.specs.Explained.{Heard, Breach, Explains, raws_of, notes_of, breaches}
 use Rattle.lsp_explain.specs.Explained.{Explained, before_first, end_explained, explanation}
