@@ -306,6 +306,7 @@ ALL_FACTS = [
         UNSHAKEN,
         UNSHAKEN_LINES + rb'''event 1 editor 1 request 1 "initialize"
 begins "{\"jsonrpc\":\"2.0\",\"id\":1,\"method\":\"initialize\",\"params\":[]}"
+member ""
 usually editor
 ''',
         b"offences 3 following 2\n",

@@ -38,11 +38,10 @@ small_fits (negsuc n) y is = by (nat_le n (2 ^ 31 - 1)) refl is
     by false in_range is = absurd (none-some y is)
 
 -- **a text that is read as a number**
-pub written_ok : {E : Type 0} (s : List ℕ) (z : ℤ) → (let r : Result ℤ E = Ok z in
-    ParsesSigned w32 10 s r) → if_same z s ≡ written s
-written_ok s z parses =
-    let fits : FitsSigned w32 z = subst (FitsSigned w32) (sym parses.1) parses.0.1 in
-    subst (λ y. if_same z s ≡ option_and_then small (if_same y s)) parses.1
+pub written_ok : (s : List ℕ) (z : ℤ) → FitsSigned w32 z → z ≡ signed_digits_value 10 s
+    → if_same z s ≡ written s
+written_ok s z fits is =
+    subst (λ y. if_same z s ≡ option_and_then small (if_same y s)) is
     (by (bytes_eq (signed_decimal z) s) (fits_small z fits))
   where
     by : (b : Bool) → small z ≡ Some z

@@ -12,7 +12,7 @@ returns-in-Ok c =
     let fits : SFits w32 c.in-Ok.number = subst (SFits w32) (sym parses.1) parses.0.1 in
     let told = simp to_z-of_z at c.if_same.ensures in
     subst (λ (due : Option ℤ). IfOk c.if_same.result (λ found. found ≡ due))
-    (written_ok c.args.text.now c.in-Ok.number parses) told
+    (written_ok c.args.text.now c.in-Ok.number fits parses.1) told
 
 pub returns-in-Err : goal.returns-in-Err
 returns-in-Err c = written_err c.args.text.now c.in-Err.field-0 c.in-Err.ensures.value.0
