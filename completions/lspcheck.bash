@@ -17,8 +17,8 @@ _lspcheck() {
     [[ $previous == "=" && $given == *" --as "* ]] && previous=--as
     case $command in
         "") options="--help --version -h -V" ;;
-        check) options="--complete --all --every --quiet --help -h" ;;
-        explain) options="--complete --all --quiet --help -h" ;;
+        check) options="--complete --all --every --ignore-line-ends --quiet --help -h" ;;
+        explain) options="--complete --all --ignore-line-ends --quiet --help -h" ;;
         show) options="--long --quiet --help -h" ;;
         text | event | normal | upgrade) options="--quiet --help -h" ;;
         frames) options="--as --quiet --help -h" ;;

@@ -35,7 +35,7 @@ def version(page):
 def options(text):
     """The long options that a text of help lists, each with its short form and its argument."""
     part = re.split(r"^Options:\n", text, flags=re.M)[1].split("\n\n")[0]
-    return re.findall(r"^ +(?:(-\w), )?(--[a-z]+)(?: <(\w+)>)?", part, re.M)
+    return re.findall(r"^ +(?:(-\w), )?(--[a-z-]+)(?: <(\w+)>)?", part, re.M)
 
 
 def statuses(text):

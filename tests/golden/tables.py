@@ -168,6 +168,11 @@ RUNS = {
     "explain-complete": ["explain", "--complete"],
     "explain-all": ["explain", "--all"],
     "explain-all-complete": ["explain", "--all", "--complete"],
+    "check-ends": ["check", "--ignore-line-ends"],
+    "complete-ends": ["check", "--complete", "--ignore-line-ends"],
+    "all-ends": ["check", "--all", "--ignore-line-ends"],
+    "explain-ends": ["explain", "--ignore-line-ends"],
+    "explain-all-ends": ["explain", "--all", "--ignore-line-ends"],
     "normal": ["normal"],
     "upgrade": ["upgrade"],
     **{mode: ["frames", "--as", mode] for mode in ["lengths", "kinds", "canonical"]},
@@ -299,6 +304,7 @@ def explained(outputs):
         word, *rest = line.split(" ")
         found |= {rest[0]} if word == "no" else {rest[1]} if line.startswith("bad log ") else {word}
         found |= {f"{word} whole"} if rest[1:] == ["whole"] else set()
+        found |= {line} if rest[:1] == ["option"] else set()
     return found
 
 

@@ -33,6 +33,20 @@ checked_file : found checked (codes "file") ≡ Some (codes "check", Some (codes
 unfolding clap_on_literals
 checked_file = refl
 
+-- line ends count, where nothing is said of them
+checked_ends : found checked (codes "ignore-line-ends") ≡ Some (codes "check", Some (codes "false"))
+unfolding clap_on_literals
+checked_ends = refl
+
+-- `lspcheck explain --ignore-line-ends a.log`
+abbrev explained : List Text
+explained = codes "lspcheck" ∷ codes "explain" ∷ codes "--ignore-line-ends" ∷ codes "a.log" ∷ []
+
+explained_ends : found explained (codes "ignore-line-ends")
+    ≡ Some (codes "explain", Some (codes "true"))
+unfolding clap_on_literals
+explained_ends = refl
+
 -- `lspcheck text 12 u`: standard input
 abbrev texted : List Text
 texted = codes "lspcheck" ∷ codes "text" ∷ codes "12" ∷ codes "u" ∷ []
@@ -48,6 +62,11 @@ texted_number = refl
 texted_file : found texted (codes "file") ≡ Some (codes "text", None)
 unfolding clap_on_literals
 texted_file = refl
+
+-- no option says whether line ends count
+texted_ends : found texted (codes "ignore-line-ends") ≡ Some (codes "text", None)
+unfolding clap_on_literals
+texted_ends = refl
 
 -- `lspcheck frames -`: by lengths, where nothing is said
 abbrev framed : List Text

@@ -22,6 +22,10 @@ flag name = record (new_rule name) { long = Some name; action = Some SetTrue }
 abbrev pub quiet : Rule
 quiet = flag (codes "quiet")
 
+-- whether line ends do not count
+abbrev pub ignore_line_ends : Rule
+ignore_line_ends = flag (codes "ignore-line-ends")
+
 -- an argument that may be left out
 abbrev pub argument : Text → Rule
 argument name = record (new_rule name) { value_names = 1 }
@@ -62,14 +66,15 @@ command name rules = record (new_shape name) { rules = rules }
 -- `check` with its own options alone
 abbrev pub check_options : Shape
 check_options = command (codes "check")
-    (flag (codes "complete") ∷ flag (codes "all") ∷ flag (codes "every") ∷ [])
+    (flag (codes "complete") ∷ flag (codes "all") ∷ flag (codes "every")
+    ∷ ignore_line_ends ∷ [])
 
 abbrev pub check : Shape
 check = command (codes "check") (check_options.rules ++ quiet ∷ file ∷ [])
 
 abbrev pub explain : Shape
 explain = command (codes "explain")
-    (flag (codes "complete") ∷ flag (codes "all") ∷ quiet ∷ file ∷ [])
+    (flag (codes "complete") ∷ flag (codes "all") ∷ ignore_line_ends ∷ quiet ∷ file ∷ [])
 
 abbrev pub show : Shape
 show = command (codes "show") (flag (codes "long") ∷ quiet ∷ file ∷ [])

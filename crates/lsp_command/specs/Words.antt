@@ -9,6 +9,9 @@ use Rattle.clap.specs.Matches.{found_of}
 use Rattle.clap.specs.declared.error.Error.{Error}
 use Rattle.clap.specs.declared.error.kind.ErrorKind.TheVariants.{MissingSubcommand}
 use Rattle.clap.specs.declared.parser.matches.ArgMatches.{ArgMatches}
+use Rattle.lsp_types.specs.declared.line_ends.LineEnds.{LineEnds}
+use Rattle.lsp_types.specs.declared.line_ends.LineEnds.TheVariants as ends
+use Rattle.lsp_frame.specs.Bounds.{Bounds, ignoring_line_ends, profile}
 use Rattle.lsp_verdict.specs.declared.completeness.Completeness.{Completeness}
 use Rattle.lsp_verdict.specs.declared.completeness.Completeness.TheVariants.{Ignored, Required}
 use Rattle.lsp_verdict.specs.declared.lines.Lines.{Lines}
@@ -65,6 +68,15 @@ abbrev pub lines_of : Bool → Lines
 lines_of true = Long
 lines_of false = Short
 
+abbrev pub line_ends_of : Bool → LineEnds
+line_ends_of true = ends.Ignored
+line_ends_of false = ends.Exact
+
+-- the limits of a run where line ends count, and where they do not
+abbrev pub limits_by : LineEnds → Bounds
+limits_by ends.Exact = profile
+limits_by ends.Ignored = ignoring_line_ends profile
+
 -- the session must be complete where the option for that is set, and offences are listed where an
 -- option for these is set
 pub record AsksCheck (rows : List Row) (completeness : Completeness) (listing : Option Listing) : Type 0 where
@@ -88,6 +100,11 @@ pub record AsksExplain (rows : List Row) (completeness : Completeness) (all : Bo
 -- the lines are long where the option for these is set
 abbrev pub AsksShow : List Row → Lines → Type 0
 AsksShow rows lines = (set : Bool) × IsFlag (one_of (codes "long") rows) set × (lines ≡ lines_of set)
+
+-- line ends do not count where the option for that is set
+abbrev pub AsksLineEnds : List Row → LineEnds → Type 0
+AsksLineEnds rows asked =
+    (set : Bool) × IsFlag (one_of (codes "ignore-line-ends") rows) set × (asked ≡ line_ends_of set)
 
 -- the words give this number, which 64 bits hold, and not 0
 pub record GivesNumber (rows : List Row) (number : ℕ) : Type 0 where
@@ -139,12 +156,13 @@ abbrev pub TaskIn : Text → List Row → Option Task → Type 0
 TaskIn name rows result =
     MatchOption result ((task : Task) → HasTask name rows task → ⊥) (HasTask name rows)
 
--- a command of this name asks for the request: its task, the file that it names, and whether no
--- progress is to be shown
+-- a command of this name asks for the request: its task, the file that it names, whether no
+-- progress is to be shown, and whether line ends count
 pub record AsksOf (name : Text) (rows : List Row) (request : Request) : Type 0 where
   pub task : HasTask name rows request.task
   pub file : option_map (λ path. path.now) request.file ≡ file_of (first_of (codes "file") rows)
   pub quiet : IsFlag (one_of (codes "quiet") rows) request.quiet
+  pub line_ends : AsksLineEnds rows request.line_ends
 
 abbrev pub AsksFor : Option (Text × List Row) → Request → Type 0
 AsksFor None request = ⊥

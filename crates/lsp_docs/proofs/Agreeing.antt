@@ -6,6 +6,8 @@ use Rattle.std.specs.Prelude.{ℤ, int_lt, not, is_some, nat_lt}
 use Rattle.std.specs.List.{list_any, list_all}
 use Rattle.std.specs.Ordering.{int_eq}
 use Rattle.std.specs.Str.{bytes_eq}
+use Rattle.lsp_types.specs.declared.line_ends.LineEnds.{LineEnds}
+use Rattle.lsp_text.specs.SameText.{SameText, compared, same_text}
 use Rattle.std.proofs.lemmas.Bool.{or_parts, cases_Bool}
 use Rattle.std.proofs.lemmas.Cmp.{int_eq_equiv}
 use Rattle.std.proofs.lemmas.List.Folds.{list_any-append}
@@ -30,16 +32,18 @@ use Rattle.lsp_docs.proofs.Past.{past-rises-to, was-held}
 -- where the held version is the snapshot's, the texts agree
 abbrev pub Agrees : Terms → Bytes → ℤ → Text → List Call → Type 0
 Agrees terms uri n t calls =
-    (v : Version) → held terms uri calls ≡ Some v → v.number ≡ n → v.text ≡ t
+    (v : Version) → held terms uri calls ≡ Some v → v.number ≡ n → SameText terms.line_ends v.text t
 
 second : (a b : Bool) → (a && not b) ≡ false → a ≡ true → b ≡ true
 second true true e p = refl
 second true false e p = absurd (true≢false e)
 second false b e p = absurd (true≢false (sym p))
 
-same-text : (v s : Version) → differs v s ≡ false → v.number ≡ s.number → v.text ≡ s.text
-same-text v s e same = (bytes_eq-Decides v.text s.text).0
-    (second (int_eq v.number s.number) (bytes_eq v.text s.text) e
+same-text : (ends : LineEnds) (v s : Version) → differs ends v s ≡ false → v.number ≡ s.number
+    → SameText ends v.text s.text
+same-text ends v s e same =
+    (bytes_eq-Decides (compared ends v.text) (compared ends s.text)).0
+    (second (int_eq v.number s.number) (same_text ends v.text s.text) e
     (ap (int_eq v.number) (sym same) ∙ int_eq_equiv.refl v.number))
 
 -- a snapshot that waits is among those that wait
@@ -64,13 +68,16 @@ in-waiting q terms all (d ∷ front) mid uri n t is e =
 -- a version that no waiting snapshot refutes has the text of one that waits for it
 comes-to : (terms : Terms) (front mid : List Call) (uri : Bytes) (n : ℤ) (t : Text) (v : Version)
     → waits terms (front ++ shows uri n t ∷ mid) uri n mid ≡ true
-    → version_rule (versions_of uri (waiting terms (front ++ shows uri n t ∷ mid))) v ≡ None
-    → v.number ≡ n → v.text ≡ t
+    → version_rule terms.line_ends
+    (versions_of uri (waiting terms (front ++ shows uri n t ∷ mid))) v ≡ None
+    → v.number ≡ n → SameText terms.line_ends v.text t
 comes-to terms front mid uri n t v is none same =
     let p = front ++ shows uri n t ∷ mid in
-    let quiet = (none_row (list_any (differs v) (versions_of uri (waiting terms p))) 702 None
-    none).0 in
-    same-text v (versioned n t) (in-waiting (differs v) terms p front mid uri n t is quiet) same
+    let ends = terms.line_ends in
+    let quiet =
+    (none_row (list_any (differs ends v) (versions_of uri (waiting terms p))) 702 None none).0 in
+    same-text ends v (versioned n t)
+    (in-waiting (differs ends v) terms p front mid uri n t is quiet) same
 
 ahead : (terms : Terms) (uri : Bytes) (n : ℤ) (mid p : List Call) (h : Option Version)
     → held terms uri p ≡ h → is_ahead n h ≡ true → list_any (is_close uri) mid ≡ false
@@ -102,7 +109,7 @@ module _ (terms : Terms) (front mid : List Call) (uri : Bytes) (n : ℤ) (t : Te
             let now : Some (versioned m s) ≡ Some v =
             sym (held-snoc terms uri here (opens u m s) ∙ rw (nothing, p) refl) ∙ is in
             let at = same_Some (versioned m s) v now in
-            sym (ap (λ w. w.text) at)
+            sym (ap (λ w. compared terms.line_ends w.text) at)
             ∙ comes-to terms front mid uri n t (versioned m s)
             (ahead terms uri n mid here None nothing refl open_still) quiet
             (ap (λ w. w.number) at ∙ number)
@@ -125,7 +132,7 @@ module _ (terms : Terms) (front mid : List Call) (uri : Bytes) (n : ℤ) (t : Te
             ap (λ r. versioned m (text_or parts.old.text r)) (sym parts.made)
             ∙ same_Some _ v now in
             let number_is = ap (λ w. w.number) at ∙ number in
-            sym (ap (λ w. w.text) at)
+            sym (ap (λ w. compared terms.line_ends w.text) at)
             ∙ comes-to terms front mid uri n t (versioned m parts.text)
             (ahead terms uri n mid here (Some parts.old) parts.is
             (ap (int_lt parts.old.number) (sym number_is) ∙ parts.rises) open_still)
@@ -155,38 +162,40 @@ follows terms front mid (c ∷ back) uri n t open_still stays h so_far =
     (subst (λ l. Agrees terms uri n t l) cut more))
 
 -- a snapshot that is accepted where its version is held or kept has the text of that version
-module _ (n : ℤ) (t : Text) (ks : List Version) (v : Version) (e : show_rule n t ks (Some v) ≡ None)
-  where
-    rows : ((list_all (is_after n) ks && int_lt n v.number) ≡ false)
-        × ((list_any (λ w. differs w (versioned n t)) ks || differs v (versioned n t)) ≡ false)
-    rows =
-        let late = none_row (list_all (is_after n) ks && int_lt n v.number) 701 _ e in (
-          late.0,
-          (none_row (list_any (λ w. differs w (versioned n t)) ks || differs v (versioned n t))
-              702 None late.1).0,
-        )
+module _ (ends : LineEnds) (n : ℤ) (t : Text) (ks : List Version) (v : Version)
+    (e : show_rule ends n t ks (Some v) ≡ None) where
+  rows : ((list_all (is_after n) ks && int_lt n v.number) ≡ false)
+      × ((list_any (λ w. differs ends w (versioned n t)) ks || differs ends v (versioned n t))
+      ≡ false)
+  rows =
+      let late = none_row (list_all (is_after n) ks && int_lt n v.number) 701 _ e in (
+        late.0,
+        (none_row (list_any (λ w. differs ends w (versioned n t)) ks
+            || differs ends v (versioned n t)) 702 None late.1).0,
+      )
 
-    pub shown : v.number ≡ n → v.text ≡ t
-    shown number = same-text v (versioned n t)
-        (or_parts (list_any (λ w. differs w (versioned n t)) ks) (differs v (versioned n t))
-        rows.1).1
-        number
+  parted : (list_any (λ w. differs ends w (versioned n t)) ks ≡ false)
+      × (differs ends v (versioned n t) ≡ false)
+  parted =
+      or_parts (list_any (λ w. differs ends w (versioned n t)) ks)
+      (differs ends v (versioned n t)) rows.1
 
-    pub shown-kept : (w : Version) → Among w ks → w.number ≡ n → w.text ≡ t
-    shown-kept w m number =
-        same-text w (versioned n t)
-        (among-none (λ x. differs x (versioned n t)) w ks
-        (or_parts (list_any (λ x. differs x (versioned n t)) ks) (differs v (versioned n t))
-        rows.1).0 m) number
+  pub shown : v.number ≡ n → SameText ends v.text t
+  shown number = same-text ends v (versioned n t) parted.1 number
 
-    -- and its version is not below each of these
-    pub shown-late : (w : Version) → list_all (is_after w.number) ks ≡ true
-        → int_lt w.number v.number ≡ true → w.number ≡ n → ⊥
-    shown-late w below less number =
-        let all : list_all (is_after n) ks ≡ true =
-        ap (λ m. list_all (is_after m) ks) (sym number) ∙ below in
-        let ahead : int_lt n v.number ≡ true = ap (λ m. int_lt m v.number) (sym number) ∙ less in
-        true≢false (sym (rw (all, ahead) refl) ∙ rows.0)
+  pub shown-kept : (w : Version) → Among w ks → w.number ≡ n → SameText ends w.text t
+  shown-kept w m number =
+      same-text ends w (versioned n t)
+      (among-none (λ x. differs ends x (versioned n t)) w ks parted.0 m) number
+
+  -- and its version is not below each of these
+  pub shown-late : (w : Version) → list_all (is_after w.number) ks ≡ true
+      → int_lt w.number v.number ≡ true → w.number ≡ n → ⊥
+  shown-late w below less number =
+      let all : list_all (is_after n) ks ≡ true =
+      ap (λ m. list_all (is_after m) ks) (sym number) ∙ below in
+      let ahead : int_lt n v.number ≡ true = ap (λ m. int_lt m v.number) (sym number) ∙ less in
+      true≢false (sym (rw (all, ahead) refl) ∙ rows.0)
 
 -- **What is held of an opening at a snapshot's version, at or behind the snapshot, is the
 -- snapshot's text.**
@@ -198,8 +207,9 @@ agrees-behind terms front back uri n t h stays =
     let start : Agrees terms uri n t (front ++ shows uri n t ∷ []) = λ v is number.
     let now = sym (held-snoc terms uri front (shows uri n t) ∙ unchanged (held terms uri front))
     ∙ is in
-    shown n t (kept terms uri front) v
-    (subst (λ o. show_rule n t (kept terms uri front) o ≡ None) now parts.1.0) number in
+    shown terms.line_ends n t (kept terms uri front) v
+    (subst (λ o. show_rule terms.line_ends n t (kept terms uri front) o ≡ None) now parts.1.0)
+    number in
     follows terms front [] back uri n t refl stays parts.1.1 start
 
 -- **And a snapshot of the same opening that is shown later has the text that was held at its
@@ -207,23 +217,25 @@ agrees-behind terms front back uri n t h stays =
 pub agrees-before : (terms : Terms) (before between : List Call) (uri : Bytes) (n : ℤ) (t : Text)
     (v : Version) → AreAccepted terms (before ++ between ++ shows uri n t ∷ [])
     → list_any (is_close uri) between ≡ false → held terms uri before ≡ Some v → v.number ≡ n
-    → v.text ≡ t
+    → SameText terms.line_ends v.text t
 agrees-before terms before between uri n t v h stays now number =
     let parts = accepted-split terms [] (before ++ between) (shows uri n t ∷ []) h in
     let later = accepted-split terms [] before between parts.0 in
     let r = risen terms uri before between v later.1 stays now in
     let ks = kept terms uri (before ++ between) in
-    let rule = subst (λ o. show_rule n t ks o ≡ None) r.held parts.1.0 in
+    let ends = terms.line_ends in
+    let rule = subst (λ o. show_rule ends n t ks o ≡ None) r.held parts.1.0 in
     elim (was-held terms uri before between v later.1 stays (inl now)) [
       | inl same ↦
           let is : v ≡ r.version = same_Some v r.version (sym same ∙ r.held) in
-          ap (λ w. w.text) is ∙ shown n t ks r.version rule (ap (λ w. w.number) (sym is) ∙ number)
+          ap (λ w. compared ends w.text) is
+          ∙ shown ends n t ks r.version rule (ap (λ w. w.number) (sym is) ∙ number)
       | inr m ↦
           let rising = past-rises-to terms uri (before ++ between) r.version parts.0 r.held in
           elim (among-last terms.kept (past terms uri (before ++ between)) (r.version ∷ []) v rising
           m) [
-            | inl k ↦ shown-kept n t ks r.version rule v k number
-            | inr below ↦ absurd (shown-late n t ks r.version rule v below
+            | inl k ↦ shown-kept ends n t ks r.version rule v k number
+            | inr below ↦ absurd (shown-late ends n t ks r.version rule v below
                 (among-below (past terms uri (before ++ between)) v r.version rising m) number)
           ]
     ]

@@ -9,6 +9,7 @@ use Rattle.std.specs.Str.{bytes_eq}
 use Rattle.std.proofs.lemmas.Bool.{or_parts, cases_Bool}
 use Rattle.std.proofs.lemmas.List.Folds.{list_any-append}
 use Rattle.std.proofs.lemmas.Option.{same_Some, none-some}
+use Rattle.lsp_text.specs.SameText.{SameText}
 use Rattle.lsp_docs.specs.Texts.{Text}
 use Rattle.lsp_docs.specs.Terms.{Terms}
 use Rattle.lsp_docs.specs.Calls.{Bytes, Call, opens, changes, closes, saves, shows, is_close}
@@ -353,11 +354,11 @@ pub bound-agrees : (terms : Terms) (before after front back : List Call) (uri : 
     (t : Text) (v : Version) → AreAccepted terms (before ++ after)
     → before ++ after ≡ front ++ shows uri n t ∷ back
     → binding uri front back ≡ standing uri before → held terms uri before ≡ Some v → v.number ≡ n
-    → v.text ≡ t
+    → SameText terms.line_ends v.text t
 bound-agrees terms before after front back uri n t v h e same now number =
     go (cuts before after front (shows uri n t) back e)
   where
-    go : Cuts before after front (shows uri n t) back → v.text ≡ t
+    go : Cuts before after front (shows uri n t) back → SameText terms.line_ends v.text t
     go (earlier mid p q) =
         let accepted = subst (AreAccepted terms) p (accepted-split terms [] before after h).0 in
         let held_here = ap (held terms uri) (sym p) ∙ now in

@@ -9,65 +9,74 @@ use Rattle.std.proofs.lemmas.List.{map-append}
 use Rattle.std.proofs.lemmas.List.Folds.{list_any-append}
 use Rattle.std.proofs.lemmas.Option.{none-some, same_Some}
 use Rattle.std.proofs.Math.Bool.{or-false, or-true}
+use Rattle.lsp_types.specs.declared.line_ends.LineEnds.{LineEnds}
+use Rattle.lsp_text.specs.SameText.{SameText, compared, same_text}
 use Rattle.lsp_docs.specs.Stored.{are_mixed, text_of, texts_of}
 use Rattle.lsp_docs.specs.Texts.{Text}
 use Rattle.lsp_docs.proofs.Words.{uri_flip, uri_is}
 
+-- texts that a comparison says are the same
+same_is : (ends : LineEnds) (a b : Text) → same_text ends a b ≡ true → SameText ends a b
+same_is ends a b h = uri_is (compared ends a) (compared ends b) h
+
 -- one of the texts is another than this one
-abbrev pub any_other : Text → List Text → Bool
-any_other text = list_any (λ t. not (bytes_eq text t))
+abbrev pub any_other : LineEnds → Text → List Text → Bool
+any_other ends text = list_any (λ t. not (same_text ends text t))
 
 -- which are others than the first, where the first is this one
-others : (text first : Text) (ts : List Text) → text ≡ first
-    → any_other text ts ≡ list_any (λ t. not (bytes_eq t first)) ts
-others text first [] is = refl
-others text first (t ∷ ts) is =
-    rw (others text first ts is)
-    (ap (λ b. not b || list_any (λ t. not (bytes_eq t first)) ts)
-    (uri_flip text t ∙ ap (bytes_eq t) is))
+others : (ends : LineEnds) (text first : Text) (ts : List Text) → SameText ends text first
+    → any_other ends text ts ≡ list_any (λ t. not (same_text ends t first)) ts
+others ends text first [] is = refl
+others ends text first (t ∷ ts) is =
+    rw (others ends text first ts is)
+    (ap (λ b. not b || list_any (λ t. not (same_text ends t first)) ts)
+    (uri_flip (compared ends text) (compared ends t) ∙ ap (bytes_eq (compared ends t)) is))
 
 -- where two differ, one is another than any text
-pub mixed_any : (text : Text) (ts : List Text) → are_mixed ts ≡ true → any_other text ts ≡ true
-mixed_any text [] mixed = absurd (true≢false (sym mixed))
-mixed_any text (first ∷ ts) mixed = elim (cases_Bool (bytes_eq text first)) [
-  | inl p ↦ rw p (others text first ts (uri_is text first p) ∙ mixed)
+pub mixed_any : (ends : LineEnds) (text : Text) (ts : List Text) → are_mixed ends ts ≡ true
+    → any_other ends text ts ≡ true
+mixed_any ends text [] mixed = absurd (true≢false (sym mixed))
+mixed_any ends text (first ∷ ts) mixed = elim (cases_Bool (same_text ends text first)) [
+  | inl p ↦ rw p (others ends text first ts (same_is ends text first p) ∙ mixed)
   | inr p ↦ rw p refl
 ]
 
 -- where none do, the first speaks for all
-pub alike_any : (text first : Text) (ts : List Text) → are_mixed (first ∷ ts) ≡ false
-    → not (bytes_eq text first) ≡ any_other text (first ∷ ts)
-alike_any text first ts alike = elim (cases_Bool (bytes_eq text first)) [
-  | inl p ↦ rw p (sym (others text first ts (uri_is text first p) ∙ alike))
+pub alike_any : (ends : LineEnds) (text first : Text) (ts : List Text)
+    → are_mixed ends (first ∷ ts) ≡ false
+    → not (same_text ends text first) ≡ any_other ends text (first ∷ ts)
+alike_any ends text first ts alike = elim (cases_Bool (same_text ends text first)) [
+  | inl p ↦ rw p (sym (others ends text first ts (same_is ends text first p) ∙ alike))
   | inr p ↦ rw p refl
 ]
 
 -- the same of the first that is kept
-pub alike-first : (text : Text) (ss : List (String Global)) (s : String Global)
-    → slice_get ss 0 ≡ Some s → are_mixed (texts_of ss) ≡ false
-    → not (bytes_eq text (text_of s)) ≡ any_other text (texts_of ss)
-alike-first text [] s there alike = absurd (none-some s there)
-alike-first text (first ∷ ss) s there alike =
-    ap (λ x. not (bytes_eq text (text_of x))) (sym (same_Some first s there))
-    ∙ alike_any text (text_of first) (texts_of ss) alike
+pub alike-first : (ends : LineEnds) (text : Text) (ss : List (String Global)) (s : String Global)
+    → slice_get ss 0 ≡ Some s → are_mixed ends (texts_of ss) ≡ false
+    → not (same_text ends text (text_of s)) ≡ any_other ends text (texts_of ss)
+alike-first ends text [] s there alike = absurd (none-some s there)
+alike-first ends text (first ∷ ss) s there alike =
+    ap (λ x. not (same_text ends text (text_of x))) (sym (same_Some first s there))
+    ∙ alike_any ends text (text_of first) (texts_of ss) alike
 
 -- one text more
-pub mixed-push : (ts : List Text) (text : Text) → are_mixed (ts ++ text ∷ []) ≡ any_other text ts
-mixed-push [] text = refl
-mixed-push (first ∷ ts) text =
-    let test : Text → Bool = λ t. not (bytes_eq t first) in
+pub mixed-push : (ends : LineEnds) (ts : List Text) (text : Text)
+    → are_mixed ends (ts ++ text ∷ []) ≡ any_other ends text ts
+mixed-push ends [] text = refl
+mixed-push ends (first ∷ ts) text =
+    let test : Text → Bool = λ t. not (same_text ends t first) in
     list_any-append test ts (text ∷ [])
-    ∙ elim (cases_Bool (bytes_eq text first)) [
+    ∙ elim (cases_Bool (same_text ends text first)) [
       | inl p ↦ rw p (or-false (list_any test ts)
-          ∙ sym (others text first ts (uri_is text first p)))
+          ∙ sym (others ends text first ts (same_is ends text first p)))
       | inr p ↦ rw p (or-true (list_any test ts))
     ]
 
 -- the same of those that are kept
-pub mixed-kept : (ss new : List (String Global)) (s : String Global) (bytes : List ℕ)
-    → bytes ≡ string_bytes s → new ≡ ss ++ s ∷ []
-    → any_other (chars bytes) (texts_of ss) ≡ are_mixed (texts_of new)
-mixed-kept ss new s bytes is more =
-    ap (λ b. any_other (chars b) (texts_of ss)) is
-    ∙ (sym (mixed-push (texts_of ss) (text_of s))
-    ∙ ap are_mixed (sym (ap texts_of more ∙ map-append text_of ss (s ∷ []))))
+pub mixed-kept : (ends : LineEnds) (ss new : List (String Global)) (s : String Global)
+    (bytes : List ℕ) → bytes ≡ string_bytes s → new ≡ ss ++ s ∷ []
+    → any_other ends (chars bytes) (texts_of ss) ≡ are_mixed ends (texts_of new)
+mixed-kept ends ss new s bytes is more =
+    ap (λ b. any_other ends (chars b) (texts_of ss)) is
+    ∙ (sym (mixed-push ends (texts_of ss) (text_of s))
+    ∙ ap (are_mixed ends) (sym (ap texts_of more ∙ map-append text_of ss (s ∷ []))))

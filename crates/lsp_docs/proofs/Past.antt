@@ -340,12 +340,14 @@ none_kept terms uri calls none =
     ap (λ m. last_of m (past terms uri calls)) none ∙ last-none (past terms uri calls)
 
 pub rule-none_kept : (terms : Terms) (calls : List Call) (uri : Bytes) (n : ℤ) (t : Text)
-    → terms.kept ≡ 0 → call_rule terms calls (shows uri n t) ≡ held_rule n t (held terms uri calls)
+    → terms.kept ≡ 0
+    → call_rule terms calls (shows uri n t) ≡ held_rule terms.line_ends n t (held terms uri calls)
 rule-none_kept terms calls uri n t none =
-    ap (λ ks. show_rule n t ks (held terms uri calls)) (none_kept terms uri calls none)
-    ∙ same (held terms uri calls)
+    ap (λ ks. show_rule terms.line_ends n t ks (held terms uri calls))
+    (none_kept terms uri calls none) ∙ same (held terms uri calls)
   where
-    same : (o : Option Version) → show_rule n t [] o ≡ held_rule n t o
+    same : (o : Option Version)
+        → show_rule terms.line_ends n t [] o ≡ held_rule terms.line_ends n t o
     same None = refl
     same (Some v) = refl
 

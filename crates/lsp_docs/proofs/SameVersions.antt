@@ -16,6 +16,8 @@ use Rattle.lsp_docs.specs.Terms.{Terms}
 use Rattle.lsp_docs.specs.Texts.{Text, byte_len}
 use Rattle.lsp_docs.specs.Calls.{Call, opens, changes, closes, saves, shows}
 use Rattle.lsp_docs.specs.Documents.{Version, versioned, is_at}
+use Rattle.lsp_types.specs.declared.line_ends.LineEnds.{LineEnds}
+use Rattle.lsp_text.specs.SameText.{same_text}
 use Rattle.lsp_docs.specs.Rules.{differs, version_rule, text_rule, change_rule, rule_of, first_row}
 use Rattle.lsp_docs.specs.Rules.{fits_kind}
 use Rattle.lsp_docs.specs.Snapshots.{texts_at}
@@ -112,16 +114,18 @@ pub order-texts : (n : ℤ) (vs ws : List Version) → SameOrder vs ws → texts
 order-texts n vs ws h = ap (map (λ (v : Version). v.text)) (h n)
 
 -- one of the version that has another text is one of its texts that is another
-pub differs-texts : (v : Version) (vs : List Version)
-    → list_any (differs v) vs ≡ list_any (λ t. not (bytes_eq v.text t)) (texts_at v.number vs)
-differs-texts v [] = refl
-differs-texts v (s ∷ vs) =
-    let other = not (bytes_eq v.text s.text) in
+pub differs-texts : (ends : LineEnds) (v : Version) (vs : List Version)
+    → list_any (differs ends v) vs
+    ≡ list_any (λ t. not (same_text ends v.text t)) (texts_at v.number vs)
+differs-texts ends v [] = refl
+differs-texts ends v (s ∷ vs) =
+    let other = not (same_text ends v.text s.text) in
     elim (cases_Bool (int_eq s.number v.number)) [
-      | inl k ↦ rw k (ap (λ b. (b && other) || list_any (differs v) vs)
-          (flipped v.number s.number true k) ∙ ap (λ b. other || b) (differs-texts v vs))
-      | inr k ↦ rw k (ap (λ b. (b && other) || list_any (differs v) vs)
-          (flipped v.number s.number false k) ∙ differs-texts v vs)
+      | inl k ↦ rw k (ap (λ b. (b && other) || list_any (differs ends v) vs)
+          (flipped v.number s.number true k)
+          ∙ ap (λ b. other || b) (differs-texts ends v vs))
+      | inr k ↦ rw k (ap (λ b. (b && other) || list_any (differs ends v) vs)
+          (flipped v.number s.number false k) ∙ differs-texts ends v vs)
     ]
   where
     flipped : (a b : ℤ) (c : Bool) → int_eq b a ≡ c → int_eq a b ≡ c
@@ -136,12 +140,14 @@ differs-texts v (s ∷ vs) =
 -- ---- rules
 
 module _ (vs ws : List Version) (h : SameVersions vs ws) where
-  version-same : (v : Version) → version_rule vs v ≡ version_rule ws v
-  version-same v = ap (λ b. if b then Some 702 else None) (same-any (differs v) vs ws h)
+  version-same : (ends : LineEnds) (v : Version) → version_rule ends vs v ≡ version_rule ends ws v
+  version-same ends v =
+      ap (λ b. if b then Some 702 else None) (same-any (differs ends v) vs ws h)
 
-  text-same : (n : ℤ) (r : Result Text ℕ) → text_rule vs n r ≡ text_rule ws n r
-  text-same n (Ok t) = version-same (versioned n t)
-  text-same n (Err rule) = refl
+  text-same : (ends : LineEnds) (n : ℤ) (r : Result Text ℕ)
+      → text_rule ends vs n r ≡ text_rule ends ws n r
+  text-same ends n (Ok t) = version-same ends (versioned n t)
+  text-same ends n (Err rule) = refl
 
   change-same : (terms : Terms) (enc : Encoding) (k : SyncKind) (n : ℤ) (cs : List Edit)
       (o : Option Version) → change_rule terms vs enc k n cs o ≡ change_rule terms ws enc k n cs o
@@ -150,7 +156,8 @@ module _ (vs ws : List Version) (h : SameVersions vs ws) where
       ap (λ r. first_row ((not (int_lt v.number n), Some 603) ∷ (
         not (fits_kind k cs),
         Some 604,
-      ) ∷ (true, r) ∷ [])) (text-same n (applied terms.limit enc v.text cs))
+      ) ∷ (true, r) ∷ []))
+      (text-same terms.line_ends n (applied terms.limit enc v.text cs))
 
   -- the order of the snapshots that wait doesn't matter to a rule
   pub rule-same : (terms : Terms) (o : Option Version) (ks : List Version) (c : Call)
@@ -159,7 +166,7 @@ module _ (vs ws : List Version) (h : SameVersions vs ws) where
       ap (λ r. first_row ((is_some o, Some 601) ∷ (
         nat_lt terms.limit (byte_len t),
         Some 607,
-      ) ∷ (true, r) ∷ [])) (version-same (versioned n t))
+      ) ∷ (true, r) ∷ [])) (version-same terms.line_ends (versioned n t))
   rule-same terms o ks (changes enc k u n cs) = change-same terms enc k n cs o
   rule-same terms o ks (closes u) = refl
   rule-same terms o ks (saves u t) = refl

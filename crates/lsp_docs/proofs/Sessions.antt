@@ -7,6 +7,7 @@ use Rattle.lsp_types.specs.declared.position.Encoding.{Encoding}
 use Rattle.lsp_types.specs.declared.position.Encoding.TheVariants.{Utf8, Utf16, Utf32}
 use Rattle.lsp_types.specs.declared.change.SyncKind.TheVariants.{Nothing, Full, Incremental}
 use Rattle.lsp_text.specs.Edits.{Edit}
+use Rattle.lsp_types.specs.declared.line_ends.LineEnds.TheVariants.{Exact, Ignored}
 use Rattle.lsp_docs.specs.Texts.{Text}
 use Rattle.lsp_docs.specs.Terms.{Terms}
 use Rattle.lsp_docs.specs.Calls.{Call, opens, changes, closes, saves, shows}
@@ -28,7 +29,7 @@ record Row : Type 0 where
 
 -- no version before the present one is kept
 abbrev limited : ℕ → Terms
-limited n = record { limit = n; kept = 0 }
+limited n = record { limit = n; kept = 0; line_ends = Exact }
 
 abbrev terms : Terms
 terms = limited 16777216
@@ -246,7 +247,7 @@ two_documents = refl
 -- ---- sixteen versions are kept
 
 abbrev keeping : Terms
-keeping = record { limit = 16777216; kept = 16 }
+keeping = record { limit = 16777216; kept = 16; line_ends = Exact }
 
 abbrev stepped : List Call
 stepped = opened 3 (codes "a") ∷ replaced 4 (codes "b") ∷ []

@@ -561,8 +561,8 @@ module _ (terms : Terms) (front back : List Call) (uri : Bytes) (n : ℤ) (t : T
       let r = risen terms uri (before ++ c ∷ []) mid now.version own.1 still now.is in
       let here : held terms uri front ≡ Some r.version = ap (held terms uri) q ∙ r.held in
       let ks = kept terms uri front in
-      let rule : show_rule n t ks (Some r.version) ≡ None =
-      subst (λ o. show_rule n t ks o ≡ None) here parts.1.0 in
+      let rule : show_rule terms.line_ends n t ks (Some r.version) ≡ None =
+      subst (λ o. show_rule terms.line_ends n t ks o ≡ None) here parts.1.0 in
       elim (subst (λ l. (held terms uri l ≡ Some now.version)
       ⊎ Among now.version (past terms uri l)) (sym q)
       (was-held terms uri (before ++ c ∷ []) mid now.version own.1 still (inl now.is))) [
@@ -575,8 +575,9 @@ module _ (terms : Terms) (front back : List Call) (uri : Bytes) (n : ℤ) (t : T
               | inl k ↦ has_kept ks (held terms uri front)
                   (among-any (is_at n) now.version ks k
                   (ap (λ m. int_eq m n) now.number ∙ int_eq_equiv.refl n))
-              | inr below ↦ absurd (shown-late n t ks r.version rule now.version below
-                  (among-below (past terms uri front) now.version r.version rising m) now.number)
+              | inr below ↦ absurd (shown-late terms.line_ends n t ks r.version rule now.version
+                  below (among-below (past terms uri front) now.version r.version rising m)
+                  now.number)
             ]
       ]
     where

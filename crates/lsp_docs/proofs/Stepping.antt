@@ -21,6 +21,8 @@ use Rattle.lsp_docs.specs.Documents.{Version, versioned, held, Held, documents, 
 use Rattle.lsp_docs.specs.Kept.{past, last_of, kept}
 use Rattle.lsp_docs.specs.Snapshots.{is_ahead, has_number, shown_entry, waiting, versions_of}
 use Rattle.lsp_docs.specs.Missed.{missed_at}
+use Rattle.lsp_types.specs.declared.line_ends.LineEnds.{LineEnds}
+use Rattle.lsp_text.specs.SameText.{same_text}
 use Rattle.lsp_docs.specs.Rules.{rule_of, call_rule, version_rule, text_rule, differs, fits_kind}
 use Rattle.lsp_docs.specs.Rules.{change_rule}
 use Rattle.lsp_docs.specs.State.{State, Waits, held_in, set_in, without, queue_of, reached}
@@ -72,8 +74,8 @@ answer-stands s calls u n h =
 
 -- ---- steps
 
-abbrev pub terms_in : ℕ → ℕ → Terms
-terms_in limit kept = record { limit = limit; kept = kept }
+abbrev pub terms_in : ℕ → ℕ → LineEnds → Terms
+terms_in limit kept ends = record { limit = limit; kept = kept; line_ends = ends }
 
 abbrev pub stated : Terms → List Held → List Kept → Waits → State
 stated terms hs ks w = record { terms = terms; documents = hs; kept = ks; waits = w }
@@ -372,17 +374,18 @@ early-rule terms ws enc k n cs (Some v) r e =
 -- a change that no early rule refuses is judged by its text
 pub late-rule : (terms : Terms) (ws : List Version) (enc : Encoding) (k : SyncKind) (n : ℤ)
     (cs : List Edit) (o : Option Version) → early_rule k n cs o ≡ None
-    → (is_some o ≡ true) × (change_rule terms ws enc k n cs o
-    ≡ text_rule ws n (applied terms.limit enc (text_in o) cs))
+    → (is_some o ≡ true)
+    × (change_rule terms ws enc k n cs o
+    ≡ text_rule terms.line_ends ws n (applied terms.limit enc (text_in o) cs))
 late-rule terms ws enc k n cs None e = absurd (let r : ℕ = 602 in none-some r (sym e))
 late-rule terms ws enc k n cs (Some v) e =
     let first = none_row (not (int_lt v.number n)) 603 _ e in
     let second = none_row (not (fits_kind k cs)) 604 _ first.1 in
     (refl, rw (first.0, second.0) refl)
 
-pub version-agrees : (ws : List Version) (v : Version) → list_any (differs v) ws ≡ false
-    → version_rule ws v ≡ None
-version-agrees ws v p = rw p refl
+pub version-agrees : (ends : LineEnds) (ws : List Version) (v : Version)
+    → list_any (differs ends v) ws ≡ false → version_rule ends ws v ≡ None
+version-agrees ends ws v p = rw p refl
 
 -- ---- rules of a close, a save and a snapshot
 
@@ -395,12 +398,14 @@ pub close-some : (terms : Terms) (o : Option Version) (ks ws : List Version) (u 
 close-some terms o ks ws u p = rw p refl
 
 pub save-differs : (terms : Terms) (o : Option Version) (ks ws : List Version) (u : Bytes)
-    (v : Version) (t : Text) → o ≡ Some v → bytes_eq v.text t ≡ false
+    (v : Version) (t : Text)
+    → o ≡ Some v → same_text terms.line_ends v.text t ≡ false
     → rule_of terms o ks ws (saves u (Some t)) ≡ Some 608
 save-differs terms o ks ws u v t is p = rw (is, p) refl
 
 pub save-same : (terms : Terms) (o : Option Version) (ks ws : List Version) (u : Bytes)
-    (v : Version) (t : Text) → o ≡ Some v → bytes_eq v.text t ≡ true
+    (v : Version) (t : Text)
+    → o ≡ Some v → same_text terms.line_ends v.text t ≡ true
     → rule_of terms o ks ws (saves u (Some t)) ≡ None
 save-same terms o ks ws u v t is p = rw (is, p) refl
 
@@ -425,15 +430,17 @@ eq_flip a b =
       ]
     ]
 
-not_differs : (n : ℤ) (t : Text) (ws : List Version) → list_any (λ w. int_eq w.number n) ws ≡ false
-    → list_any (differs (versioned n t)) ws ≡ false
-not_differs n t [] h = refl
-not_differs n t (w ∷ ws) h =
+not_differs : (ends : LineEnds) (n : ℤ) (t : Text) (ws : List Version)
+    → list_any (λ w. int_eq w.number n) ws ≡ false
+    → list_any (differs ends (versioned n t)) ws ≡ false
+not_differs ends n t [] h = refl
+not_differs ends n t (w ∷ ws) h =
     let parts = or_parts (int_eq w.number n) (list_any (λ w. int_eq w.number n) ws) h in
-    rw (eq_flip n w.number ∙ parts.0) (not_differs n t ws parts.1)
+    rw (eq_flip n w.number ∙ parts.0) (not_differs ends n t ws parts.1)
 
 -- no snapshot waits for the version: the text alone decides
-pub text-quiet : (ws : List Version) (n : ℤ) (r : Result Text ℕ) (t : Text) → r ≡ Ok t
-    → list_any (is_at n) ws ≡ false → text_rule ws n r ≡ None
-text-quiet ws n r t made h =
-    ap (text_rule ws n) made ∙ version-agrees ws (versioned n t) (not_differs n t ws h)
+pub text-quiet : (ends : LineEnds) (ws : List Version) (n : ℤ) (r : Result Text ℕ) (t : Text)
+    → r ≡ Ok t → list_any (is_at n) ws ≡ false → text_rule ends ws n r ≡ None
+text-quiet ends ws n r t made h =
+    ap (text_rule ends ws n) made
+    ∙ version-agrees ends ws (versioned n t) (not_differs ends n t ws h)

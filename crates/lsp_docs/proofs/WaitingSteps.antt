@@ -52,10 +52,11 @@ pub record Changes (terms : Terms) (ws : List Version) (enc : Encoding) (m : ℤ
   pub is : h ≡ Some old
   pub rises : int_lt old.number m ≡ true
   pub made : applied terms.limit enc old.text cs ≡ Ok text
-  pub agrees : version_rule ws (versioned m text) ≡ None
+  pub agrees : version_rule terms.line_ends ws (versioned m text) ≡ None
 
 text_made : (terms : Terms) (ws : List Version) (m : ℤ) (r : Result Text ℕ)
-    → text_rule ws m r ≡ None → (t : Text) × (r ≡ Ok t) × (version_rule ws (versioned m t) ≡ None)
+    → text_rule terms.line_ends ws m r ≡ None
+    → (t : Text) × (r ≡ Ok t) × (version_rule terms.line_ends ws (versioned m t) ≡ None)
 text_made terms ws m (Ok t) h = (t, refl, h)
 text_made terms ws m (Err rule) h = absurd (none-some rule (sym h))
 

@@ -2,6 +2,8 @@
 use Rattle.std.specs.Prelude.{◌≡◌, ℕ, ℤ, List, [], ◌∷◌, ◌++◌, int_lt, Bool, true, false, ◌&&◌, ◌||◌}
 use Rattle.std.specs.Prelude.{Option, Some, None, slice_get, option_to_list}
 use Rattle.std.specs.List.{list_any, list_all}
+use Rattle.lsp_types.specs.declared.line_ends.LineEnds.{LineEnds}
+use Rattle.lsp_text.specs.SameText.{SameText}
 use Rattle.lsp_docs.specs.Terms.{Terms}
 use Rattle.lsp_docs.specs.Texts.{Text}
 use Rattle.lsp_docs.specs.Calls.{Bytes, Call, shows, is_close, is_change}
@@ -24,25 +26,27 @@ pub record VersionsRise : Type 0 where
       → held terms uri calls ≡ Some v → held terms uri (calls ++ more) ≡ Some w
       → list_any (is_change uri) more ≡ false → v ≡ w
 
--- **Snapshots agree.** A held text is that of each snapshot of its version, shown before or after
--- it, with no close between.
+-- **Snapshots agree.** A held text is the same as that of each snapshot of its version, shown
+-- before or after it, with no close between.
 pub record SnapshotsAgree : Type 0 where
   pub earlier : (terms : Terms) (before between : List Call) (uri : Bytes) (n : ℤ) (t : Text)
       (v : Version) → AreAccepted terms (before ++ shows uri n t ∷ between)
       → list_any (is_close uri) between ≡ false
-      → held terms uri (before ++ shows uri n t ∷ between) ≡ Some v → v.number ≡ n → v.text ≡ t
+      → held terms uri (before ++ shows uri n t ∷ between) ≡ Some v → v.number ≡ n
+      → SameText terms.line_ends v.text t
   pub later : (terms : Terms) (before between : List Call) (uri : Bytes) (n : ℤ) (t : Text)
       (v : Version) → AreAccepted terms (before ++ between ++ shows uri n t ∷ [])
       → list_any (is_close uri) between ≡ false → held terms uri before ≡ Some v → v.number ≡ n
-      → v.text ≡ t
+      → SameText terms.line_ends v.text t
 
--- **After any of the calls, a held text is that of each snapshot that is bound to its opening and
--- shows its version**, wherever the snapshot is in the list.
+-- **After any of the calls, a held text is the same as that of each snapshot that is bound to its
+-- opening and shows its version**, wherever the snapshot is in the list.
 abbrev pub HeldIsShown : Type 0
 HeldIsShown = (terms : Terms) (before after front back : List Call) (uri : Bytes) (n : ℤ) (t : Text)
     (v : Version) → AreAccepted terms (before ++ after)
-    → before ++ after ≡ front ++ shows uri n t ∷ back → binding uri front back ≡ standing uri before
-    → held terms uri before ≡ Some v → v.number ≡ n → v.text ≡ t
+    → before ++ after ≡ front ++ shows uri n t ∷ back
+    → binding uri front back ≡ standing uri before → held terms uri before ≡ Some v → v.number ≡ n
+    → SameText terms.line_ends v.text t
 
 -- **Each open document is held**: what the list of the open documents has at a place is what is
 -- held of that URI, and no URI has two places.
@@ -68,12 +72,12 @@ pub record SettersCompare : Type 0 where
 
 -- what the held version alone refuses of a snapshot: 701 a greater version is held; 702 its version
 -- is held, with another text
-abbrev pub held_rule : ℤ → Text → Option Version → Option ℕ
-held_rule number t None = None
-held_rule number t (Some v) =
+abbrev pub held_rule : LineEnds → ℤ → Text → Option Version → Option ℕ
+held_rule ends number t None = None
+held_rule ends number t (Some v) =
     first_row (
     (int_lt number v.number, Some rules.LATE_SNAPSHOT)
-    ∷ (differs v (versioned number t), Some rules.SNAPSHOT_DIFFERS)
+    ∷ (differs ends v (versioned number t), Some rules.SNAPSHOT_DIFFERS)
     ∷ [])
 
 -- the version numbers strictly rise
@@ -90,7 +94,8 @@ KeptVersionsRise = (terms : Terms) (uri : Bytes) (calls : List Call) → AreAcce
 -- a later one.
 pub record NothingKept : Type 0 where
   pub rule : (terms : Terms) (calls : List Call) (uri : Bytes) (n : ℤ) (t : Text) → terms.kept ≡ 0
-      → call_rule terms calls (shows uri n t) ≡ held_rule n t (held terms uri calls)
+      → call_rule terms calls (shows uri n t)
+      ≡ held_rule terms.line_ends n t (held terms uri calls)
   pub compared : (terms : Terms) (front back : List Call) (uri : Bytes) (n : ℤ) → terms.kept ≡ 0
       → is_compared terms front uri n back
       ≡ (holds_number n (held terms uri front) || comes_to uri n back)

@@ -4,13 +4,14 @@ use Rattle.std.specs.Prelude.{not, if◌then◌else◌, Option, Some, None, is_s
 use Rattle.std.specs.Prelude.{Err, nat_lt}
 use Rattle.std.specs.List.{list_any, list_all}
 use Rattle.std.specs.Ordering.{int_eq}
-use Rattle.std.specs.Str.{bytes_eq}
+use Rattle.lsp_types.specs.declared.line_ends.LineEnds.{LineEnds}
 use Rattle.lsp_types.specs.declared.position.Encoding.{Encoding}
 use Rattle.lsp_types.specs.declared.change.SyncKind.{SyncKind}
 use Rattle.lsp_types.specs.declared.change.SyncKind.TheVariants.{Nothing, Full, Incremental}
 use Rattle.lsp_docs.specs.Terms.{Terms}
 use Rattle.lsp_docs.specs.Texts.{Text, byte_len}
 use Rattle.lsp_text.specs.Edits.{Edit, applied}
+use Rattle.lsp_text.specs.SameText.{same_text}
 use Rattle.lsp_docs.specs.Calls.{Call, opens, changes, closes, saves, shows, uri_of}
 use Rattle.lsp_docs.specs.Documents.{Version, versioned, is_after, held}
 use Rattle.lsp_docs.specs.Kept.{kept}
@@ -23,12 +24,13 @@ first_row [] = None
 first_row (row ∷ rows) = if row.0 then row.1 else first_row rows
 
 -- the snapshot is of this version, and has another text
-abbrev pub differs : Version → Version → Bool
-differs v s = int_eq v.number s.number && not (bytes_eq v.text s.text)
+abbrev pub differs : LineEnds → Version → Version → Bool
+differs ends v s = int_eq v.number s.number && not (same_text ends v.text s.text)
 
 -- 702: a snapshot that waits for this version has another text
-abbrev pub version_rule : List Version → Version → Option ℕ
-version_rule waits v = if list_any (differs v) waits then Some rules.SNAPSHOT_DIFFERS else None
+abbrev pub version_rule : LineEnds → List Version → Version → Option ℕ
+version_rule ends waits v = if list_any (differs ends v) waits
+    then Some rules.SNAPSHOT_DIFFERS else None
 
 -- the changes are of the agreed kind: under Full none has a span, under None there is no change
 abbrev pub fits_kind : SyncKind → List Edit → Bool
@@ -37,9 +39,9 @@ fits_kind Full cs = list_all (λ c. is_none c.span) cs
 fits_kind Incremental cs = true
 
 -- what refuses the changes, 605 to 607, or else 702
-abbrev pub text_rule : List Version → ℤ → Result Text ℕ → Option ℕ
-text_rule waits number (Err rule) = Some rule
-text_rule waits number (Ok t) = version_rule waits (versioned number t)
+abbrev pub text_rule : LineEnds → List Version → ℤ → Result Text ℕ → Option ℕ
+text_rule ends waits number (Err rule) = Some rule
+text_rule ends waits number (Ok t) = version_rule ends waits (versioned number t)
 
 -- `didChange`: 602 not open; 603 the version does not rise; 604 not of the agreed kind; else what
 -- its changes break of the held text
@@ -57,23 +59,25 @@ rule_of_change kind number cs broken (Some v) =
 abbrev pub change_rule : Terms → List Version → Encoding → SyncKind → ℤ → List Edit → Option Version
     → Option ℕ
 change_rule terms waits enc kind number cs h =
-    rule_of_change kind number cs (λ v. text_rule waits number (applied terms.limit enc v.text cs))
-    h
+    rule_of_change kind number cs
+    (λ v. text_rule terms.line_ends waits number (applied terms.limit enc v.text cs)) h
 
 -- `didSave`: 608 the document is open, and the saved text is another than the held one
-abbrev pub save_rule : Option Text → Option Version → Option ℕ
-save_rule (Some t) (Some v) = if bytes_eq v.text t then None else Some rules.SAVED_TEXT_DIFFERS
-save_rule _ _ = None
+abbrev pub save_rule : LineEnds → Option Text → Option Version → Option ℕ
+save_rule ends (Some t) (Some v) = if same_text ends v.text t
+    then None else Some rules.SAVED_TEXT_DIFFERS
+save_rule ends _ _ = None
 
 -- a snapshot: 701 its version is below each kept one and the held one; 702 a kept one or the held
 -- one is of its version, with another text
-abbrev pub show_rule : ℤ → Text → List Version → Option Version → Option ℕ
-show_rule number t kept None = None
-show_rule number t kept (Some v) =
+abbrev pub show_rule : LineEnds → ℤ → Text → List Version → Option Version → Option ℕ
+show_rule ends number t kept None = None
+show_rule ends number t kept (Some v) =
     first_row (
     (list_all (is_after number) kept && int_lt number v.number, Some rules.LATE_SNAPSHOT)
     ∷ (
-      list_any (λ w. differs w (versioned number t)) kept || differs v (versioned number t),
+      list_any (λ w. differs ends w (versioned number t)) kept
+          || differs ends v (versioned number t),
       Some rules.SNAPSHOT_DIFFERS,
     )
     ∷ [])
@@ -85,13 +89,13 @@ rule_of terms h kept waits (opens uri number t) =
     first_row (
     (is_some h, Some rules.DOCUMENT_ALREADY_OPEN)
     ∷ (nat_lt terms.limit (byte_len t), Some rules.DOCUMENT_OVER_LIMIT)
-    ∷ (true, version_rule waits (versioned number t))
+    ∷ (true, version_rule terms.line_ends waits (versioned number t))
     ∷ [])
 rule_of terms h kept waits (changes enc kind uri number cs) =
     change_rule terms waits enc kind number cs h
 rule_of terms h kept waits (closes uri) = if is_some h then None else Some rules.DOCUMENT_NOT_OPEN
-rule_of terms h kept waits (saves uri t) = save_rule t h
-rule_of terms h kept waits (shows uri number t) = show_rule number t kept h
+rule_of terms h kept waits (saves uri t) = save_rule terms.line_ends t h
+rule_of terms h kept waits (shows uri number t) = show_rule terms.line_ends number t kept h
 
 -- the least rule that a call breaks after these calls, or none
 abbrev pub call_rule : Terms → List Call → Call → Option ℕ

@@ -1,9 +1,12 @@
 -- Snapshots, apart from where their texts lie in memory.
-use Rattle.std.specs.Prelude.{ℕ, ℤ, ◌+◌, int_lt, not, Bool, false, if◌then◌else◌, List, [], ◌∷◌}
-use Rattle.std.specs.Prelude.{◌++◌, map, length, string_bytes, String}
+use Rattle.std.specs.Prelude.{◌≡◌, ℕ, ℤ, ◌+◌, int_lt, not, Bool, false, if◌then◌else◌, List, []}
+use Rattle.std.specs.Prelude.{◌∷◌, ◌++◌, map, length, string_bytes, String}
 use Rattle.std.specs.Global.{Global}
 use Rattle.std.specs.List.{list_any}
-use Rattle.std.specs.Str.{bytes_eq, chars}
+use Rattle.std.specs.Str.{chars}
+use Rattle.lsp_types.specs.declared.line_ends.LineEnds.{LineEnds}
+use Rattle.lsp_types.specs.declared.line_ends.LineEnds.TheVariants.{Exact, Ignored}
+use Rattle.lsp_text.specs.SameText.{same_text}
 use Rattle.lsp_docs.specs.Texts.{Text}
 use Rattle.lsp_docs.specs.Documents.{Version, versioned}
 use Rattle.lsp_docs.specs.State.{Queue}
@@ -15,9 +18,14 @@ abbrev pub texts_of : List (String Global) → List Text
 texts_of ss = map text_of ss
 
 -- one of the texts is another than the first
-abbrev pub are_mixed : List Text → Bool
-are_mixed [] = false
-are_mixed (first ∷ texts) = list_any (λ text. not (bytes_eq text first)) texts
+abbrev pub are_mixed : LineEnds → List Text → Bool
+are_mixed ends [] = false
+are_mixed ends (first ∷ texts) = list_any (λ text. not (same_text ends text first)) texts
+
+-- two of the texts differ, and two in more than their line ends
+pub record AreMixed (texts : List Text) (exactly in_lines : Bool) : Type 0 where
+  pub exact : exactly ≡ are_mixed Exact texts
+  pub lines : in_lines ≡ are_mixed Ignored texts
 
 -- the snapshots of a queue, which are kept as the texts of each version, the least first
 abbrev pub versions_in : List (ℤ × List Text) → List Version

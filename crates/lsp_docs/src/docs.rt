@@ -31,7 +31,7 @@ use crate::snapshot::Match;
 use crate::waiting::Waiting;
 use lsp_frame::{Format, Limits};
 use lsp_text::{TextStore, change_all};
-use lsp_types::{Change, Encoding, Memory, SyncKind, rules};
+use lsp_types::{Change, Encoding, LineEnds, Memory, SyncKind, rules};
 use std::alloc::Global;
 use std::marker::Model;
 
@@ -45,6 +45,7 @@ use std::marker::Model;
 pub struct Docs<S: TextStore> {
     limit: u64,
     kept: usize,
+    line_ends: LineEnds,
     documents: OpenDocuments<S>,
     waiting: Waiting,
 }
@@ -55,7 +56,7 @@ impl<S: TextStore> Model for Docs<S> {
     ghost Value = { State };
 
     ghost view = { λ d. record {
-      terms = record { limit = d.limit; kept = d.kept };
+      terms = record { limit = d.limit; kept = d.kept; line_ends = d.line_ends };
       documents = d.documents.held;
       kept = d.documents.kept;
       waits = d.waiting;
@@ -81,6 +82,7 @@ impl<S: TextStore> Docs<S> {
         Docs {
             limit: limits.document(),
             kept: kept_of(format),
+            line_ends: limits.line_ends(),
             documents: OpenDocuments::new(alloc),
             waiting: Waiting::new(alloc),
         }
@@ -142,6 +144,13 @@ impl<S: TextStore> Docs<S> {
         self.limit
     }
 
+    /// Whether texts are compared with their line ends.
+    pub fn line_ends(&self) -> LineEnds
+        ensures { result ≡ self.now.terms.line_ends }
+    {
+        self.line_ends
+    }
+
     /// The numbers of the versions that are kept of a URI before the held one, the oldest first;
     /// none where it is not open.
     pub fn kept_versions(&self, uri: &str) -> Result<Vec<i32>, Memory>
@@ -160,11 +169,11 @@ impl<S: TextStore> Docs<S> {
     pub fn other_of(&self, uri: &str, version: i32, text: &str) -> Option<&S>
         ensures { (calls : List Call) → Stands self.now calls
             → option_map (λ store. S.content store.now) result
-            ≡ other_than (versioned version (chars text.now)) (kept self.now.terms uri.now calls)
-            (held self.now.terms uri.now calls) }
+            ≡ other_than self.now.terms.line_ends (versioned version (chars text.now))
+            (kept self.now.terms uri.now calls) (held self.now.terms uri.now calls) }
     {
         match self.get(uri) {
-            Some(document) => document.other(version, text),
+            Some(document) => document.other(self.line_ends, version, text),
             None => None,
         }
     }
@@ -309,7 +318,7 @@ impl<S: TextStore> Docs<S> {
         let Some(document) = self.get(uri) else {
             return Ok(());
         };
-        if has_text(&document.held.store, text) {
+        if has_text(self.line_ends, &document.held.store, text) {
             Ok(())
         } else {
             Err(DocFault::Rule(rules::SAVED_TEXT_DIFFERS))
@@ -362,15 +371,15 @@ impl<S: TextStore> Docs<S> {
             (λ answer. answer ≡ answer_of version (kept_in uri.now self.now.kept)
             (held_in uri.now self.now.documents)) }
         ensures allowed { OnOk result
-            (show_rule version (chars text.now) (kept_in uri.now self.now.kept)
-            (held_in uri.now self.now.documents) ≡ None) }
+            (show_rule self.now.terms.line_ends version (chars text.now)
+            (kept_in uri.now self.now.kept) (held_in uri.now self.now.documents) ≡ None) }
         ensures rule { IfErr result
-            (Names (show_rule version (chars text.now) (kept_in uri.now self.now.kept)
-            (held_in uri.now self.now.documents))) }
+            (Names (show_rule self.now.terms.line_ends version (chars text.now)
+            (kept_in uri.now self.now.kept) (held_in uri.now self.now.documents))) }
         ensures rule_only { IfErr result IsRule }
     {
         match self.get(uri) {
-            Some(document) => document.judge(version, text),
+            Some(document) => document.judge(self.line_ends, version, text),
             None => Ok(Match::Waits),
         }
     }
@@ -402,22 +411,24 @@ impl<S: TextStore> Docs<S> {
 
     /// Whether a snapshot that waits for this version has another text than this one.
     fn contradicts(&self, uri: &str, version: i32, text: &str) -> bool
-        ensures { result ≡ list_any (differs (versioned version (chars text.now)))
+        ensures { result ≡ list_any
+            (differs self.now.terms.line_ends (versioned version (chars text.now)))
             (queue_of uri.now self.now.waits.queues) }
     {
         match self.waiting.texts(uri, version) {
-            Some(texts) => texts.any_is_not(text),
+            Some(texts) => texts.any_is_not(self.line_ends, text),
             None => false,
         }
     }
 
     /// Whether a snapshot that waits for this version has another text.
     fn refutes(&self, uri: &str, version: i32, store: &S) -> bool
-        ensures { result ≡ list_any (differs (versioned version (S.content store.now)))
+        ensures { result ≡ list_any
+            (differs self.now.terms.line_ends (versioned version (S.content store.now)))
             (queue_of uri.now self.now.waits.queues) }
     {
         match self.waiting.texts(uri, version) {
-            Some(texts) => texts.any_differs(store),
+            Some(texts) => texts.any_differs(self.line_ends, store),
             None => false,
         }
     }
@@ -457,10 +468,12 @@ impl<S: TextStore> Docs<S> {
         ensures ok { OnOk result
             (IsChanged self.old self.new uri.now version
             (changed_at self.old encoding uri.now (edits_of changes.now))) }
-        ensures allowed { OnOk result (text_rule (queue_of uri.now self.old.waits.queues) version
+        ensures allowed { OnOk result (text_rule self.old.terms.line_ends
+            (queue_of uri.now self.old.waits.queues) version
             (changed_at self.old encoding uri.now (edits_of changes.now)) ≡ None) }
         ensures rule { IfErr result
-            (Names (text_rule (queue_of uri.now self.old.waits.queues) version
+            (Names (text_rule self.old.terms.line_ends
+            (queue_of uri.now self.old.waits.queues) version
             (changed_at self.old encoding uri.now (edits_of changes.now)))) }
         ensures err { OnErr result (self.new ≡ self.old) }
     {
@@ -506,10 +519,12 @@ impl<S: TextStore> Docs<S> {
         ensures ok { OnOk result
             (IsChanged self.old self.new uri.now version
             (changed_at self.old encoding uri.now (edits_of changes.now))) }
-        ensures allowed { OnOk result (text_rule (queue_of uri.now self.old.waits.queues) version
+        ensures allowed { OnOk result (text_rule self.old.terms.line_ends
+            (queue_of uri.now self.old.waits.queues) version
             (changed_at self.old encoding uri.now (edits_of changes.now)) ≡ None) }
         ensures rule { IfErr result
-            (Names (text_rule (queue_of uri.now self.old.waits.queues) version
+            (Names (text_rule self.old.terms.line_ends
+            (queue_of uri.now self.old.waits.queues) version
             (changed_at self.old encoding uri.now (edits_of changes.now)))) }
         ensures err { OnErr result (self.new ≡ self.old) }
     {

@@ -15,7 +15,7 @@ use crate::history::History;
 use crate::revision::Revision;
 use crate::snapshot::Match;
 use lsp_text::TextStore;
-use lsp_types::rules;
+use lsp_types::{LineEnds, rules};
 use std::alloc::{AllocError, Global};
 
 /// The version that is held of a document, and those that are kept of what was held before.
@@ -56,44 +56,51 @@ impl<S: TextStore> Document<S> {
     }
 
     /// Judges a snapshot by what is held and kept.
-    pub(crate) fn judge(&self, version: i32, text: &str) -> Result<Match, DocFault>
+    pub(crate) fn judge(
+        &self,
+        line_ends: LineEnds,
+        version: i32,
+        text: &str,
+    ) -> Result<Match, DocFault>
         ensures answer { IfOk result
             (λ answer. answer ≡ answer_of version self.now.kept
             (Some (versioned self.now.held.version (S.content self.now.held.store)))) }
         ensures allowed { OnOk result
-            (show_rule version (chars text.now) self.now.kept
+            (show_rule line_ends version (chars text.now) self.now.kept
             (Some (versioned self.now.held.version (S.content self.now.held.store))) ≡ None) }
         ensures rule { IfErr result
-            (Names (show_rule version (chars text.now) self.now.kept
+            (Names (show_rule line_ends version (chars text.now) self.now.kept
             (Some (versioned self.now.held.version (S.content self.now.held.store))))) }
         ensures rule_only { IfErr result IsRule }
     {
-        match self.rule(version, text) {
+        match self.rule(line_ends, version, text) {
             Some(rule) => Err(DocFault::Rule(rule)),
             None => Ok(self.answer(version)),
         }
     }
 
     /// The text that is held or kept at a version, where it is another than this one.
-    pub(crate) fn other(&self, version: i32, text: &str) -> Option<&S>
+    pub(crate) fn other(&self, line_ends: LineEnds, version: i32, text: &str) -> Option<&S>
         ensures { option_map (λ store. S.content store.now) result
-            ≡ other_than (versioned version (chars text.now)) self.now.kept
+            ≡ other_than line_ends (versioned version (chars text.now)) self.now.kept
             (Some (versioned self.now.held.version (S.content self.now.held.store))) }
     {
-        match self.kept.other(version, text) {
+        match self.kept.other(line_ends, version, text) {
             Some(store) => Some(store),
-            None => self.held.other(version, text),
+            None => self.held.other(line_ends, version, text),
         }
     }
 
     /// The rule that a snapshot breaks.
-    fn rule(&self, version: i32, text: &str) -> Option<u16>
-        ensures { result ≡ show_rule version (chars text.now) self.now.kept
+    fn rule(&self, line_ends: LineEnds, version: i32, text: &str) -> Option<u16>
+        ensures { result ≡ show_rule line_ends version (chars text.now) self.now.kept
             (Some (versioned self.now.held.version (S.content self.now.held.store))) }
     {
         if self.kept.is_after(version) && version < self.held.version {
             Some(rules::LATE_SNAPSHOT)
-        } else if self.kept.any_differs(version, text) || self.held.differs(version, text) {
+        } else if self.kept.any_differs(line_ends, version, text)
+            || self.held.differs(line_ends, version, text)
+        {
             Some(rules::SNAPSHOT_DIFFERS)
         } else {
             None

@@ -11,6 +11,7 @@ ghost use Rattle.lsp_docs.specs.Others.{other_in, differs_from};
 
 use crate::revision::Revision;
 use lsp_text::TextStore;
+use lsp_types::LineEnds;
 use std::alloc::{AllocError, Global};
 use std::marker::Model;
 use std::mem;
@@ -55,18 +56,19 @@ impl<S: TextStore> History<S> {
     }
 
     /// Whether one is of this version and has another text.
-    pub(crate) fn any_differs(&self, version: i32, text: &str) -> bool
-        ensures { result ≡ list_any (λ w. differs w (versioned version (chars text.now))) self.now }
+    pub(crate) fn any_differs(&self, line_ends: LineEnds, version: i32, text: &str) -> bool
+        ensures { result ≡ list_any
+            (λ w. differs line_ends w (versioned version (chars text.now))) self.now }
     {
-        any_differs(self.revisions.as_slice(), version, text)
+        any_differs(self.revisions.as_slice(), line_ends, version, text)
     }
 
     /// The text of the one that is of this version and has another text.
-    pub(crate) fn other(&self, version: i32, text: &str) -> Option<&S>
+    pub(crate) fn other(&self, line_ends: LineEnds, version: i32, text: &str) -> Option<&S>
         ensures { option_map (λ store. S.content store.now) result
-            ≡ other_in (versioned version (chars text.now)) self.now }
+            ≡ other_in line_ends (versioned version (chars text.now)) self.now }
     {
-        first_other(self.revisions.as_slice(), version, text)
+        first_other(self.revisions.as_slice(), line_ends, version, text)
     }
 
     /// The numbers of the versions.
@@ -116,27 +118,35 @@ fn all_after<S: TextStore>(revisions: &[Revision<S>], version: i32) -> bool
 }
 
 /// Whether one is of this version and has another text.
-fn any_differs<S: TextStore>(revisions: &[Revision<S>], version: i32, text: &str) -> bool
+fn any_differs<S: TextStore>(
+    revisions: &[Revision<S>],
+    line_ends: LineEnds,
+    version: i32,
+    text: &str,
+) -> bool
     ensures { result ≡ list_any
-        (λ r. differs (versioned r.version (S.content r.store))
+        (λ r. differs line_ends (versioned r.version (S.content r.store))
         (versioned version (chars text.now))) revisions.now }
 {
-    revisions.iter().any(|r| r.differs(version, text))
+    revisions
+        .iter()
+        .any(|r| r.differs(line_ends, version, text))
 }
 
 /// The text of the first that is of this version and has another text.
 fn first_other<'a, S: TextStore>(
     revisions: &'a [Revision<S>],
+    line_ends: LineEnds,
     version: i32,
     text: &str,
 ) -> Option<&'a S>
     ensures { option_map (λ store. S.content store.now) result
         ≡ option_map (λ r. S.content r.store)
-        (find (λ r. differs_from (versioned version (chars text.now))
+        (find (λ r. differs_from line_ends (versioned version (chars text.now))
         (versioned r.version (S.content r.store))) revisions.now) }
 {
     for revision in revisions {
-        if revision.differs(version, text) {
+        if revision.differs(line_ends, version, text) {
             return Some(&revision.store);
         }
     }

@@ -1,8 +1,9 @@
 //! One version of a document.
 
 ghost use Rattle.std.specs.Prelude.{◌≡◌, Ok, [], ◌∷◌, option_map, IfErr, OnOk, OnErr};
-ghost use Rattle.std.specs.Str.{chars, bytes_eq};
+ghost use Rattle.std.specs.Str.{chars};
 ghost use Rattle.lsp_text.specs.Edits.{applied};
+ghost use Rattle.lsp_text.specs.SameText.{same_text};
 ghost use Rattle.lsp_text.specs.Changes.{edit_of};
 ghost use Rattle.lsp_docs.specs.Documents.{versioned};
 ghost use Rattle.lsp_docs.specs.Rules.{differs};
@@ -11,7 +12,7 @@ ghost use Rattle.lsp_docs.specs.Others.{other_in};
 
 use crate::fault::DocFault;
 use lsp_text::{TextStore, change};
-use lsp_types::{Change, Encoding};
+use lsp_types::{Change, Encoding, LineEnds};
 
 /// A text at its version.
 #[derive(Drop)]
@@ -51,20 +52,21 @@ impl<S: TextStore> Revision<S> {
     }
 
     /// Whether it is of this version and has another text.
-    pub(crate) fn differs(&self, version: i32, text: &str) -> bool
-        ensures { result ≡ differs (versioned self.now.version (S.content self.now.store))
+    pub(crate) fn differs(&self, line_ends: LineEnds, version: i32, text: &str) -> bool
+        ensures { result ≡ differs line_ends
+            (versioned self.now.version (S.content self.now.store))
             (versioned version (chars text.now)) }
     {
-        self.version == version && !has_text(&self.store, text)
+        self.version == version && !has_text(line_ends, &self.store, text)
     }
 
     /// Its text, where it is of this version and has another text.
-    pub(crate) fn other(&self, version: i32, text: &str) -> Option<&S>
+    pub(crate) fn other(&self, line_ends: LineEnds, version: i32, text: &str) -> Option<&S>
         ensures { option_map (λ store. S.content store.now) result
-            ≡ other_in (versioned version (chars text.now))
+            ≡ other_in line_ends (versioned version (chars text.now))
             (versioned self.now.version (S.content self.now.store) ∷ []) }
     {
-        if self.differs(version, text) {
+        if self.differs(line_ends, version, text) {
             Some(&self.store)
         } else {
             None
@@ -72,9 +74,12 @@ impl<S: TextStore> Revision<S> {
     }
 }
 
-/// Whether a store holds this text.
-pub(crate) fn has_text<S: TextStore>(store: &S, text: &str) -> bool
-    ensures { result ≡ bytes_eq (S.content store.now) (chars text.now) }
+/// Whether a store holds the same text.
+pub(crate) fn has_text<S: TextStore>(line_ends: LineEnds, store: &S, text: &str) -> bool
+    ensures { result ≡ same_text line_ends (S.content store.now) (chars text.now) }
 {
-    store.equals(text)
+    match line_ends {
+        LineEnds::Exact => store.equals(text),
+        LineEnds::Ignored => store.same_lines(text),
+    }
 }

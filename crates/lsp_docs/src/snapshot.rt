@@ -3,10 +3,13 @@
 ghost use Rattle.std.specs.Prelude.{◌≡◌, [], ◌++◌, ◌∷◌, length, not, string_bytes, IfOk, OnOk};
 ghost use Rattle.std.specs.Prelude.{OnErr};
 ghost use Rattle.std.specs.List.{list_any};
-ghost use Rattle.std.specs.Str.{chars, bytes_eq};
-ghost use Rattle.lsp_docs.specs.Stored.{text_of, texts_of};
+ghost use Rattle.std.specs.Str.{chars};
+ghost use Rattle.lsp_text.specs.SameText.{same_text};
+ghost use Rattle.lsp_docs.specs.Stored.{are_mixed, text_of, texts_of};
 
-use lsp_text::TextStore;
+use crate::revision::has_text;
+use lsp_text::{TextStore, same_lines};
+use lsp_types::LineEnds;
 use std::alloc::{AllocError, Global};
 use std::marker::Model;
 
@@ -27,18 +30,20 @@ pub(crate) struct Texts {
     texts: Vec<String>,
     /// Whether two of them differ. If so, one of them is another text than any given one.
     mixed: bool,
+    /// Whether two of them differ in more than their line ends.
+    mixed_lines: bool,
 }
 
 impl Model for Texts {
     ghost use Rattle.std.specs.Prelude.{◌≡◌, List};
     ghost use Rattle.lsp_docs.specs.Texts.{Text};
-    ghost use Rattle.lsp_docs.specs.Stored.{are_mixed, texts_of};
+    ghost use Rattle.lsp_docs.specs.Stored.{AreMixed, texts_of};
 
     ghost Value = { List Text };
 
     ghost view = { λ t. texts_of t.texts.items };
 
-    ghost invariant = { λ t. t.mixed ≡ are_mixed (texts_of t.texts.items) };
+    ghost invariant = { λ t. AreMixed (texts_of t.texts.items) t.mixed t.mixed_lines };
 }
 
 impl Texts {
@@ -51,6 +56,7 @@ impl Texts {
         Ok(Texts {
             texts,
             mixed: false,
+            mixed_lines: false,
         })
     }
 
@@ -59,9 +65,12 @@ impl Texts {
         ensures ok { OnOk result (self.new ≡ self.old ++ text_of text ∷ []) }
         ensures err { OnErr result (self.new ≡ self.old) }
     {
-        let mixed = self.any_is_not(text.as_str());
+        let added = text.as_str();
+        let mixed = self.any_is_not(LineEnds::Exact, added);
+        let mixed_lines = self.any_is_not(LineEnds::Ignored, added);
         self.texts.push(text)?;
         self.mixed = mixed;
+        self.mixed_lines = mixed_lines;
         Ok(())
     }
 
@@ -80,42 +89,56 @@ impl Texts {
     }
 
     /// Whether one is another text than the store has. At most one is compared.
-    pub(crate) fn any_differs<S: TextStore>(&self, store: &S) -> bool
-        ensures { result ≡ list_any (λ t. not (bytes_eq (S.content store.now) t)) self.now }
+    pub(crate) fn any_differs<S: TextStore>(&self, line_ends: LineEnds, store: &S) -> bool
+        ensures { result ≡ list_any (λ t. not (same_text line_ends (S.content store.now) t))
+            self.now }
     {
-        if self.mixed {
+        if self.are_mixed(line_ends) {
             return true;
         }
         match self.texts.first() {
-            Some(first) => is_other(first, store),
+            Some(first) => is_other(line_ends, first, store),
             None => false,
         }
     }
 
     /// Whether one is another text than this one. At most one is compared.
-    pub(crate) fn any_is_not(&self, text: &str) -> bool
-        ensures { result ≡ list_any (λ t. not (bytes_eq (chars text.now) t)) self.now }
+    pub(crate) fn any_is_not(&self, line_ends: LineEnds, text: &str) -> bool
+        ensures { result ≡ list_any (λ t. not (same_text line_ends (chars text.now) t)) self.now }
     {
-        if self.mixed {
+        if self.are_mixed(line_ends) {
             return true;
         }
         match self.texts.first() {
-            Some(first) => is_not(first, text),
+            Some(first) => is_not(line_ends, first, text),
             None => false,
+        }
+    }
+
+    /// Whether two of them are not the same.
+    fn are_mixed(&self, line_ends: LineEnds) -> bool
+        ensures { result ≡ are_mixed line_ends self.now }
+    {
+        match line_ends {
+            LineEnds::Exact => self.mixed,
+            LineEnds::Ignored => self.mixed_lines,
         }
     }
 }
 
 /// Whether it is another text than the store has.
-fn is_other<S: TextStore>(text: &String, store: &S) -> bool
-    ensures { result ≡ not (bytes_eq (S.content store.now) (text_of text.now)) }
+fn is_other<S: TextStore>(line_ends: LineEnds, text: &String, store: &S) -> bool
+    ensures { result ≡ not (same_text line_ends (S.content store.now) (text_of text.now)) }
 {
-    !store.equals(text.as_str())
+    !has_text(line_ends, store, text.as_str())
 }
 
 /// Whether it is another text than this one.
-fn is_not(other: &String, text: &str) -> bool
-    ensures { result ≡ not (bytes_eq (chars text.now) (text_of other.now)) }
+fn is_not(line_ends: LineEnds, other: &String, text: &str) -> bool
+    ensures { result ≡ not (same_text line_ends (chars text.now) (text_of other.now)) }
 {
-    other.as_str() != text
+    match line_ends {
+        LineEnds::Exact => other.as_str() != text,
+        LineEnds::Ignored => !same_lines(text, other.as_str()),
+    }
 }

@@ -6,14 +6,14 @@ use Rattle.lsp_text.specs.Difference.{DifferFirst, position_at, line_around}
 use Rattle.lsp_text.proofs.Differing.Differences.{one_place}
 use Rattle.lsp_docs.specs.Texts.{Text}
 use Rattle.lsp_explain.specs.Fact.{Fact, counts_in, differs_at}
-use Rattle.lsp_explain.specs.DocumentFacts.{AreApart, lines_apart}
+use Rattle.lsp_explain.specs.DocumentFacts.{AreOfDifference, lines_apart}
 use Rattle.lsp_explain.specs.Part.{Part}
 
 -- the facts on two texts that differ, each found by itself
 pub are_apart : (enc : Encoding) (a b : Text) (line : Part → Fact) (at : Position) (x y : Text)
     → DifferFirst a b (λ n. at ≡ position_at enc a n)
     → DifferFirst a b (λ n. x ≡ line_around a n) → DifferFirst a b (λ n. y ≡ line_around b n)
-    → AreApart enc a b line (counts_in enc ∷ differs_at at ∷ lines_apart x y line)
+    → AreOfDifference enc a b line (counts_in enc ∷ differs_at at ∷ lines_apart x y line)
 are_apart enc a b line at x y h k l =
     let n = h.0 in
     let held : x ≡ line_around a n = k.2 ∙ ap (line_around a) (one_place a b k.0 n k.1 h.1) in

@@ -9,7 +9,9 @@ use Rattle.lsp_types.specs.declared.position.Encoding.{Encoding}
 use Rattle.lsp_types.specs.declared.position.Encoding.TheVariants.{Utf8, Utf16}
 use Rattle.lsp_types.specs.declared.position.Span.{Span}
 use Rattle.lsp_text.specs.Edits.{Edit, limited, applied}
+use Rattle.lsp_types.specs.declared.line_ends.LineEnds.{LineEnds}
 use Rattle.lsp_text.specs.InsideCharacter.{LiesInside}
+use Rattle.lsp_text.specs.SameText.{compared}
 use Rattle.lsp_text.specs.Places.{units}
 use Rattle.lsp_text.specs.Sizes.{IsSizeWith}
 use Rattle.lsp_text.proofs.Differing.Differences.{one_place}
@@ -20,7 +22,12 @@ use Rattle.lsp_docs.specs.Kept.{kept as versions_kept}
 use Rattle.lsp_docs.specs.Snapshots.{waiting, versions_of}
 use Rattle.lsp_docs.specs.Terms.{Terms}
 use Rattle.lsp_docs.specs.Texts.{Text}
-use Rattle.lsp_explain.specs.DocumentFacts.{fits_fact, head_facts, line_length, first_length, stray, difference_facts, IsStray, IsTooLong, IsLongWithLine, IsReason, IsRefused, IsFailing, AreApart, IsRefuted, IsRefuting, IsRefutedText, AreOfOpening, AreOfChange, AreOfSave, AreOfSnapshot, AreDetails, AreFactsOf}
+use Rattle.lsp_explain.specs.DocumentFacts.{fits_fact, head_facts, line_length, first_length, stray}
+use Rattle.lsp_explain.specs.DocumentFacts.{difference_facts, ends_facts, IsStray, IsTooLong}
+use Rattle.lsp_explain.specs.DocumentFacts.{IsLongWithLine, IsReason, IsRefused, IsFailing}
+use Rattle.lsp_explain.specs.DocumentFacts.{AreApart, AreOfDifference, IsRefuted, IsRefuting}
+use Rattle.lsp_explain.specs.DocumentFacts.{IsRefutedText, AreOfOpening, AreOfChange, AreOfSave}
+use Rattle.lsp_explain.specs.DocumentFacts.{AreOfSnapshot, AreDetails, AreFactsOf}
 use Rattle.lsp_session.specs.Negotiation.{encoding}
 use Rattle.lsp_session.specs.Sent.{Sent}
 use Rattle.lsp_verdict.specs.Calls.{call_at, calls}
@@ -45,8 +52,18 @@ either one apart across other (inr p) (inr q) = other p q
 
 -- ---- texts that differ
 
-one_apart : (enc : Encoding) (t u : Text) (line : Part → Fact) (f g : List Fact) → AreApart enc t u line f → AreApart enc t u line g → f ≡ g
-one_apart enc t u line f g p q = p.2 ∙ ap (difference_facts enc t u line) (one_place t u p.0 q.0 p.1 q.1) ∙ sym q.2
+one_difference : (enc : Encoding) (t u : Text) (line : Part → Fact) (f g : List Fact)
+    → AreOfDifference enc t u line f → AreOfDifference enc t u line g → f ≡ g
+one_difference enc t u line f g p q =
+    p.2 ∙ ap (difference_facts enc t u line) (one_place t u p.0 q.0 p.1 q.1) ∙ sym q.2
+
+one_apart : (ends : LineEnds) (enc : Encoding) (t u : Text) (line : Part → Fact) (f g : List Fact)
+    → AreApart ends enc t u line f → AreApart ends enc t u line g → f ≡ g
+one_apart ends enc t u line f g p q =
+    p.are
+    ∙ ap (λ (l : List Fact). l ++ ends_facts t u)
+    (one_difference enc (compared ends t) (compared ends u) line p.place q.place p.at q.at)
+    ∙ sym q.are
 
 -- ---- a change that a rule refuses
 
@@ -135,31 +152,46 @@ module _ (limit : ℕ) (enc : Encoding) (t : Text) (cs : List Edit) (rule : ℕ)
 
 -- ---- a text that a snapshot refutes
 
-one_refuted : (enc : Encoding) (ws : List Version) (v : Version) (f g : List Fact) → IsRefuted enc ws v f → IsRefuted enc ws v g → f ≡ g
-one_refuted enc ws v f g p q =
+one_refuted : (ends : LineEnds) (enc : Encoding) (ws : List Version) (v : Version)
+    (f g : List Fact) → IsRefuted ends enc ws v f → IsRefuted ends enc ws v g → f ≡ g
+one_refuted ends enc ws v f g p q =
     let others : p.other ≡ q.other = same_Some p.other q.other (sym p.waiting ∙ q.waiting) in
-    one_apart enc v.text q.other in_editor f g (subst (λ u. AreApart enc v.text u in_editor f) others p.apart) q.apart
+    one_apart ends enc v.text q.other in_editor f g
+    (subst (λ u. AreApart ends enc v.text u in_editor f) others p.apart) q.apart
 
 -- ---- by what was called
 
-module _ (limit : ℕ) (enc : Encoding) (ws : List Version) (f g : List Fact) where
-  one_of_opening : (v : Version) (rule : ℕ) → AreOfOpening limit enc ws v rule f → AreOfOpening limit enc ws v rule g → f ≡ g
+module _ (terms : Terms) (enc : Encoding) (ws : List Version) (f g : List Fact) where
+  abbrev limit : ℕ
+  limit = terms.limit
+
+  abbrev ends : LineEnds
+  ends = terms.line_ends
+
+  one_of_opening : (v : Version) (rule : ℕ) → AreOfOpening terms enc ws v rule f
+      → AreOfOpening terms enc ws v rule g → f ≡ g
   one_of_opening v rule p q =
       either (λ a b. a.1 ∙ sym b.1) (λ a b. above g a.0 b) (λ a b. above f a.0 b)
-      (λ c d. either (λ a b. a.1 ∙ sym b.1) (λ a b. absurd (omega (arith, a.0, b.0))) (λ a b. absurd (omega (arith, a.0, b.0))) (λ a b. one_refuted enc ws v f g a.1 b.1) c d) p q
+      (λ c d. either (λ a b. a.1 ∙ sym b.1) (λ a b. absurd (omega (arith, a.0, b.0)))
+      (λ a b. absurd (omega (arith, a.0, b.0))) (λ a b. one_refuted ends enc ws v f g a.1 b.1) c
+      d) p q
     where
-      above : (h : List Fact) → rule ≡ 601 → ((rule ≡ 607) × (h ≡ would_have (units Utf8 v.text) ∷ may_have limit ∷ [])) ⊎ ((rule ≡ 702) × IsRefuted enc ws v h) → ⊥
+      above : (h : List Fact) → rule ≡ 601
+          → ((rule ≡ 607) × (h ≡ would_have (units Utf8 v.text) ∷ may_have limit ∷ []))
+          ⊎ ((rule ≡ 702) × IsRefuted ends enc ws v h) → ⊥
       above h is (inl a) = absurd (omega (arith, is, a.0))
       above h is (inr a) = absurd (omega (arith, is, a.0))
 
   module _ (kind : SyncKind) (number : ℤ) (cs : List Edit) (rule : ℕ) where
-    one_refuted_text : (t : Text) → IsRefutedText limit enc ws number t cs f → IsRefutedText limit enc ws number t cs g → f ≡ g
+    one_refuted_text : (t : Text) → IsRefutedText terms enc ws number t cs f
+        → IsRefutedText terms enc ws number t cs g → f ≡ g
     one_refuted_text t p q =
         let texts : p.text ≡ q.text = same_text p.text q.text (sym p.made ∙ q.made) in
-        one_refuted enc ws (versioned number q.text) f g (subst (λ u. IsRefuted enc ws (versioned number u) f) texts p.refuted) q.refuted
+        one_refuted ends enc ws (versioned number q.text) f g
+        (subst (λ u. IsRefuted ends enc ws (versioned number u) f) texts p.refuted) q.refuted
 
     abbrev Refuted : Text → List Fact → Type 0
-    Refuted t h = (rule ≡ 702) × IsRefutedText limit enc ws number t cs h
+    Refuted t h = (rule ≡ 702) × IsRefutedText terms enc ws number t cs h
 
     failing_rule : (t : Text) (h : List Fact) → IsFailing limit enc t cs rule h → (605 ≤ rule) × (rule ≤ 607)
     failing_rule t h p = reason_rule limit enc p.text p.edit rule p.refused.reason p.refused.says
@@ -172,7 +204,8 @@ module _ (limit : ℕ) (enc : Encoding) (ws : List Version) (f g : List Fact) wh
     later_rule t h k (inl p) = omega (arith, p.0)
     later_rule t h k (inr p) = omega (arith, last_rule t h p)
 
-    one_of_change : (o : Option Version) → AreOfChange limit enc kind ws number cs o rule f → AreOfChange limit enc kind ws number cs o rule g → f ≡ g
+    one_of_change : (o : Option Version) → AreOfChange terms enc kind ws number cs o rule f
+        → AreOfChange terms enc kind ws number cs o rule g → f ≡ g
     one_of_change None p q = p.1 ∙ sym q.1
     one_of_change (Some v) p q =
         either (λ a b. a.1 ∙ sym b.1) (λ a b. absurd (omega (arith, a.0, later_rule v.text g _ b))) (λ a b. absurd (omega (arith, a.0, later_rule v.text f _ b)))
@@ -180,27 +213,34 @@ module _ (limit : ℕ) (enc : Encoding) (ws : List Version) (f g : List Fact) wh
         (λ c d. either (λ a b. one_failing limit enc v.text cs rule f g a b) (λ a b. absurd (omega (arith, (failing_rule v.text f a).1, b.0))) (λ a b. absurd (omega (arith, (failing_rule v.text g a).1, b.0)))
         (λ a b. one_refuted_text v.text a.1 b.1) c d) c d) p q
 
-one_of_save : (enc : Encoding) (text : Option Text) (o : Option Version) (f g : List Fact) → AreOfSave enc text o f → AreOfSave enc text o g → f ≡ g
-one_of_save enc (Some t) (Some v) f g p q = one_apart enc v.text t saved_line f g p q
-one_of_save enc (Some t) None f g p q = p ∙ sym q
-one_of_save enc None o f g p q = p ∙ sym q
+one_of_save : (ends : LineEnds) (enc : Encoding) (text : Option Text) (o : Option Version)
+    (f g : List Fact) → AreOfSave ends enc text o f → AreOfSave ends enc text o g → f ≡ g
+one_of_save ends enc (Some t) (Some v) f g p q = one_apart ends enc v.text t saved_line f g p q
+one_of_save ends enc (Some t) None f g p q = p ∙ sym q
+one_of_save ends enc None o f g p q = p ∙ sym q
 
-one_of_snapshot : (enc : Encoding) (ks : List Version) (o : Option Version) (s : Version) (rule : ℕ) (f g : List Fact) → AreOfSnapshot enc ks o s rule f → AreOfSnapshot enc ks o s rule g → f ≡ g
-one_of_snapshot enc ks o s rule f g p q =
+one_of_snapshot : (ends : LineEnds) (enc : Encoding) (ks : List Version) (o : Option Version)
+    (s : Version) (rule : ℕ) (f g : List Fact) → AreOfSnapshot ends enc ks o s rule f
+    → AreOfSnapshot ends enc ks o s rule g → f ≡ g
+one_of_snapshot ends enc ks o s rule f g p q =
     either (λ a b. a.1 ∙ sym b.1) (λ a b. absurd (omega (arith, a.0, b.0))) (λ a b. absurd (omega (arith, a.0, b.0))) (λ a b. refuting a.1 b.1) p q
   where
-    refuting : IsRefuting enc ks o s f → IsRefuting enc ks o s g → f ≡ g
+    refuting : IsRefuting ends enc ks o s f → IsRefuting ends enc ks o s g → f ≡ g
     refuting a b =
         let texts : a.text ≡ b.text = same_Some a.text b.text (sym a.other ∙ b.other) in
-        one_apart enc b.text s.text in_editor f g (subst (λ u. AreApart enc u s.text in_editor f) texts a.apart) b.apart
+        one_apart ends enc b.text s.text in_editor f g
+        (subst (λ u. AreApart ends enc u s.text in_editor f) texts a.apart) b.apart
 
 module _ (terms : Terms) (enc : Encoding) (h : Option Version) (ks ws : List Version) (rule : ℕ) where
   one_details : (call : Call) (f g : List Fact) → AreDetails terms enc h ks ws call rule f → AreDetails terms enc h ks ws call rule g → f ≡ g
-  one_details (opens uri number text) f g p q = one_of_opening terms.limit enc ws f g (versioned number text) rule p q
-  one_details (changes agreed kind uri number edits) f g p q = one_of_change terms.limit agreed ws f g kind number edits rule h p q
+  one_details (opens uri number text) f g p q =
+      one_of_opening terms enc ws f g (versioned number text) rule p q
+  one_details (changes agreed kind uri number edits) f g p q =
+      one_of_change terms agreed ws f g kind number edits rule h p q
   one_details (closes uri) f g p q = p.1 ∙ sym q.1
-  one_details (saves uri text) f g p q = one_of_save enc text h f g p.1 q.1
-  one_details (shows uri number text) f g p q = one_of_snapshot enc ks h (versioned number text) rule f g p q
+  one_details (saves uri text) f g p q = one_of_save terms.line_ends enc text h f g p.1 q.1
+  one_details (shows uri number text) f g p q =
+      one_of_snapshot terms.line_ends enc ks h (versioned number text) rule f g p q
 
   pub one_facts_of : (call : Call) (f g : List Fact) → AreFactsOf terms enc h ks ws call rule f → AreFactsOf terms enc h ks ws call rule g → f ≡ g
   one_facts_of call f g p q = p.are ∙ ap (λ l. head_facts h call ++ l) (one_details call p.details q.details p.says q.says) ∙ sym q.are

@@ -6,6 +6,7 @@ use Rattle.std.specs.Result.{result_ok}
 use Rattle.std.proofs.lemmas.Option.{same_Some, slice_get-get_or}
 use Rattle.lsp_types.specs.declared.change.SyncKind.{SyncKind}
 use Rattle.lsp_types.specs.declared.position.Encoding.{Encoding}
+use Rattle.lsp_types.specs.declared.line_ends.LineEnds.{LineEnds}
 use Rattle.lsp_text.specs.Edits.{Edit, applied}
 use Rattle.lsp_docs.specs.Texts.{Text}
 use Rattle.lsp_docs.specs.Terms.{Terms}
@@ -17,38 +18,55 @@ use Rattle.lsp_explain.proofs.MadeChanges.{fails_some, makes_all}
 
 -- ---- one more snapshot
 
-module _ (t : Text) where
+module _ (ends : LineEnds) (t : Text) where
   -- the next one, where its text is another
   abbrev next : ℕ → Option Text → List ℕ
-  next n u = if is_other_at t u then n ∷ [] else []
+  next n u = if is_other_at ends t u then n ∷ [] else []
 
-  more : (ns : List ℕ) (us : List Text) (i n : ℕ) → slice_get ns i ≡ Some n → others_of t (take (suc i) ns) us ≡ others_of t (take i ns) us ++ next n (slice_get us i)
+  more : (ns : List ℕ) (us : List Text) (i n : ℕ) → slice_get ns i ≡ Some n
+      → others_of ends t (take (suc i) ns) us
+      ≡ others_of ends t (take i ns) us ++ next n (slice_get us i)
   more [] us i n h = absurd (cc)
   more (m ∷ ns) [] zero n h = refl
   more (m ∷ ns) (u ∷ us) zero n h =
       let same : m ≡ n = (let k : Some m ≡ Some n = h in cc) in
-      ap (λ (k : ℕ). if is_other t u then k ∷ [] else []) same
+      ap (λ (k : ℕ). if is_other ends t u then k ∷ [] else []) same
   more (m ∷ ns) [] (suc i) n h = refl
-  more (m ∷ ns) (u ∷ us) (suc i) n h = by_test (is_other t u) (more ns us i n h)
+  more (m ∷ ns) (u ∷ us) (suc i) n h = by_test (is_other ends t u) (more ns us i n h)
     where
-      by_test : (b : Bool) → others_of t (take (suc i) ns) us ≡ others_of t (take i ns) us ++ next n (slice_get us i)
-          → (if b then m ∷ others_of t (take (suc i) ns) us else others_of t (take (suc i) ns) us)
-          ≡ (if b then m ∷ others_of t (take i ns) us else others_of t (take i ns) us) ++ next n (slice_get us i)
+      by_test : (b : Bool) → others_of ends t (take (suc i) ns) us
+          ≡ others_of ends t (take i ns) us ++ next n (slice_get us i)
+          → (if b then m ∷ others_of ends t (take (suc i) ns) us else others_of ends t
+          (take (suc i) ns) us)
+          ≡ (if b then m ∷ others_of ends t (take i ns) us else others_of ends t (take i ns)
+          us) ++ next n (slice_get us i)
       by_test true e = ap (λ (l : List ℕ). m ∷ l) e
       by_test false e = e
 
-  others-more : (ns : List ℕ) (us : List Text) (i n : ℕ) → slice_get ns i ≡ Some n → others_of t (take (i + 1) ns) us ≡ others_of t (take i ns) us ++ next n (slice_get us i)
-  others-more ns us i n h = let e : i + 1 ≡ suc i = omega arith in ap (λ (k : ℕ). others_of t (take k ns) us) e ∙ more ns us i n h
+  others-more : (ns : List ℕ) (us : List Text) (i n : ℕ) → slice_get ns i ≡ Some n
+      → others_of ends t (take (i + 1) ns) us
+      ≡ others_of ends t (take i ns) us ++ next n (slice_get us i)
+  others-more ns us i n h =
+      let e : i + 1 ≡ suc i = omega arith in ap (λ (k : ℕ). others_of ends t (take k ns) us) e
+      ∙ more ns us i n h
 
-  pub others-there : (ns : List ℕ) (us : List Text) (i : ℕ) (xs : List ℕ) → i < length ns → is_other_at t (slice_get us i) ≡ true → xs ≡ others_of t (take i ns) us → xs ++ get_or ns i 0 ∷ [] ≡ others_of t (take (i + 1) ns) us
+  pub others-there : (ns : List ℕ) (us : List Text) (i : ℕ) (xs : List ℕ) → i < length ns
+      → is_other_at ends t (slice_get us i) ≡ true → xs ≡ others_of ends t (take i ns) us
+      → xs ++ get_or ns i 0 ∷ [] ≡ others_of ends t (take (i + 1) ns) us
   others-there ns us i xs lt other is =
       ap (λ (l : List ℕ). l ++ get_or ns i 0 ∷ []) is
-      ∙ sym (others-more ns us i (get_or ns i 0) (slice_get-get_or ns i 0 lt) ∙ ap (λ (b : Bool). others_of t (take i ns) us ++ (if b then get_or ns i 0 ∷ [] else [])) other)
+      ∙ sym (others-more ns us i (get_or ns i 0) (slice_get-get_or ns i 0 lt)
+      ∙ ap (λ (b : Bool). others_of ends t (take i ns) us ++ (if b then get_or ns i 0 ∷ [] else []))
+      other)
 
-  pub others-passed : (ns : List ℕ) (us : List Text) (i : ℕ) (xs : List ℕ) → i < length ns → is_other_at t (slice_get us i) ≡ false → xs ≡ others_of t (take i ns) us → xs ≡ others_of t (take (i + 1) ns) us
+  pub others-passed : (ns : List ℕ) (us : List Text) (i : ℕ) (xs : List ℕ) → i < length ns
+      → is_other_at ends t (slice_get us i) ≡ false → xs ≡ others_of ends t (take i ns) us
+      → xs ≡ others_of ends t (take (i + 1) ns) us
   others-passed ns us i xs lt same is =
       is
-      ∙ sym (others-more ns us i (get_or ns i 0) (slice_get-get_or ns i 0 lt) ∙ ap (λ (b : Bool). others_of t (take i ns) us ++ (if b then get_or ns i 0 ∷ [] else [])) same ∙ append-nil (others_of t (take i ns) us))
+      ∙ sym (others-more ns us i (get_or ns i 0) (slice_get-get_or ns i 0 lt)
+      ∙ ap (λ (b : Bool). others_of ends t (take i ns) us ++ (if b then get_or ns i 0 ∷ [] else []))
+      same ∙ append-nil (others_of ends t (take i ns) us))
 
 -- ---- the text that changes make
 
@@ -70,8 +88,10 @@ module _ (terms : Terms) (enc : Encoding) (cs : List Edit) (h : Option Version) 
 
 pub refuting_change : (terms : Terms) (calls : List Call) (enc : Encoding) (kind : SyncKind) (uri : List ℕ) (number : ℤ) (cs : List Edit) (ns : List ℕ) (call : Call) (made : Option Text) (others : List ℕ)
     → Some (changes enc kind uri number cs) ≡ Some call → made ≡ made_text terms enc cs (held terms uri calls)
-    → others ≡ unwrap_or (option_map (λ t. others_of t ns (waiting_texts terms calls uri number)) made) [] → others ≡ refuting terms calls call ns
+    → others ≡ unwrap_or (option_map (λ t. others_of terms.line_ends t ns
+    (waiting_texts terms calls uri number)) made) [] → others ≡ refuting terms calls call ns
 refuting_change terms calls enc kind uri number cs ns call made others is text are =
     are
-    ∙ ap (λ o. unwrap_or (option_map (λ t. others_of t ns (waiting_texts terms calls uri number)) o) []) text
+    ∙ ap (λ o. unwrap_or (option_map (λ t. others_of terms.line_ends t ns
+    (waiting_texts terms calls uri number)) o) []) text
     ∙ ap (λ x. refuting terms calls x ns) (same_Some (changes enc kind uri number cs) call is)

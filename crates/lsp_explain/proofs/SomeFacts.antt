@@ -2,7 +2,6 @@
 use Rattle.std.proofs.Common.{◌≡◌, ◌≢◌, ◌+◌, ◌≤◌, ℕ, suc, Bool, true, false, cond, List, [], ◌∷◌, ◌++◌, take, Option, Some, None, Result, Ok, Err, inl, inr, refl, sym, ap, subst, ◌∙◌, arith, true≢false}
 use Rattle.std.specs.Prelude.{ℤ, int_lt, nat_lt, not, is_some, slice_get, if◌then◌else◌, option_and_then, unwrap_or}
 use Rattle.std.specs.List.{list_any}
-use Rattle.std.specs.Str.{bytes_eq}
 use Rattle.std.proofs.lemmas.Bool.Decides.{nat_tests}
 use Rattle.std.proofs.lemmas.Slice.Eq.{bytes_eq-Decides}
 use Rattle.lsp_types.specs.declared.change.SyncKind.{SyncKind}
@@ -10,7 +9,9 @@ use Rattle.lsp_types.specs.declared.position.Encoding.{Encoding}
 use Rattle.lsp_types.specs.declared.position.Encoding.TheVariants.{Utf8, Utf16}
 use Rattle.lsp_types.specs.declared.position.Span.{Span}
 use Rattle.lsp_text.specs.Edits.{Edit, splice, limited, spliced, changed, and_then, applied}
+use Rattle.lsp_types.specs.declared.line_ends.LineEnds.{LineEnds}
 use Rattle.lsp_text.specs.InsideCharacter.{LiesInside}
+use Rattle.lsp_text.specs.SameText.{compared, same_text}
 use Rattle.lsp_text.specs.Places.{units, place_of}
 use Rattle.lsp_text.proofs.Differing.Differences.{one_difference}
 use Rattle.lsp_text.proofs.Differing.InsideCharacter.{positions_lie_inside}
@@ -21,7 +22,11 @@ use Rattle.lsp_docs.specs.Rules.{differs, version_rule, text_rule, change_rule, 
 use Rattle.lsp_docs.specs.Snapshots.{waiting, versions_of}
 use Rattle.lsp_docs.specs.Terms.{Terms}
 use Rattle.lsp_docs.specs.Texts.{Text, byte_len}
-use Rattle.lsp_explain.specs.DocumentFacts.{fits_fact, head_facts, first_length, line_length, kept_fact, kind_facts, difference_facts, stray, IsReason, IsFailing, AreApart, IsRefuted, AreOfOpening, AreOfChange, AreOfSnapshot, AreDetails, AreFactsOf}
+use Rattle.lsp_explain.specs.DocumentFacts.{fits_fact, head_facts, first_length, line_length}
+use Rattle.lsp_explain.specs.DocumentFacts.{kept_fact, kind_facts, difference_facts, ends_facts}
+use Rattle.lsp_explain.specs.DocumentFacts.{stray, IsReason, IsFailing, AreApart, IsRefuted}
+use Rattle.lsp_explain.specs.DocumentFacts.{AreOfOpening, AreOfChange, AreOfSnapshot, AreDetails}
+use Rattle.lsp_explain.specs.DocumentFacts.{AreFactsOf}
 use Rattle.lsp_session.specs.Negotiation.{encoding}
 use Rattle.lsp_session.specs.Sent.{Sent}
 use Rattle.lsp_verdict.specs.Calls.{call_at, calls}
@@ -34,7 +39,8 @@ use Rattle.lsp_explain.specs.Edges.{edges}
 use Rattle.lsp_explain.specs.Part.{Part}
 use Rattle.lsp_explain.specs.MessageFacts.{session_facts}
 use Rattle.lsp_explain.specs.Fact.{Fact, falls_inside, would_have, may_have, in_editor, saved_line, counts_in, fails}
-use Rattle.lsp_explain.proofs.DocumentRules.{other_apart, show_breaks, version_breaks, waiting_apart, waiting_some}
+use Rattle.lsp_explain.proofs.DocumentRules.{IsOther, other_apart, show_breaks, version_breaks}
+use Rattle.lsp_explain.proofs.DocumentRules.{waiting_apart, waiting_some}
 use Rattle.lsp_explain.proofs.Refusals.{first_stray, second_stray}
 use Rattle.lsp_explain.proofs.Refused.{breaks_call}
 
@@ -46,11 +52,21 @@ same_number a b e = cc
 
 -- ---- texts that differ
 
-pub some_apart : (enc : Encoding) (t u : Text) (line : Part → Fact) → t ≢ u → (facts : List Fact) × AreApart enc t u line facts
-some_apart enc t u line differ =
-    elim (one_difference t u) [
+pub some_apart : (ends : LineEnds) (enc : Encoding) (t u : Text) (line : Part → Fact)
+    → IsOther ends t u → (facts : List Fact) × AreApart ends enc t u line facts
+some_apart ends enc t u line differ =
+    let a = compared ends t in
+    let b = compared ends u in
+    elim (one_difference a b) [
       | inl same ↦ absurd (differ same.0)
-      | inr at ↦ (difference_facts enc t u line at.0, (at.0, at.1.first, refl))
+      | inr at ↦ (
+        difference_facts enc a b line at.0 ++ ends_facts t u,
+        record {
+          place = difference_facts enc a b line at.0;
+          at = (at.0, at.1.first, refl);
+          are = refl;
+        },
+      )
     ]
 
 -- ---- a change that a rule refuses
@@ -126,43 +142,62 @@ module _ (limit : ℕ) (enc : Encoding) (rule : ℕ) where
 
 -- ---- a text that a snapshot refutes
 
-some_refuted : (enc : Encoding) (ws : List Version) (v : Version) → list_any (differs v) ws ≡ true → (facts : List Fact) × IsRefuted enc ws v facts
-some_refuted enc ws v any =
-    let other = waiting_some v ws any in
-    let facts = some_apart enc v.text other.0 in_editor (waiting_apart v.text other.0 _ other.1) in
+some_refuted : (ends : LineEnds) (enc : Encoding) (ws : List Version) (v : Version)
+    → list_any (differs ends v) ws ≡ true → (facts : List Fact) × IsRefuted ends enc ws v facts
+some_refuted ends enc ws v any =
+    let other = waiting_some ends v ws any in
+    let facts =
+    some_apart ends enc v.text other.0 in_editor (waiting_apart ends v.text other.0 _ other.1) in
     (facts.0, record { other = other.0; waiting = other.1; apart = facts.1 })
 
 -- ---- by what was called
 
-module _ (limit : ℕ) (enc : Encoding) (ws : List Version) (v : Version) (rule : ℕ) where
-  some_of_opening : (b c : Bool) → (if b then Some 601 else (if c then Some 607 else (if true then version_rule ws v else None))) ≡ Some rule → (facts : List Fact) × AreOfOpening limit enc ws v rule facts
+module _ (terms : Terms) (enc : Encoding) (ws : List Version) (v : Version) (rule : ℕ) where
+  some_of_opening : (b c : Bool)
+      → (if b then Some 601
+      else (if c then Some 607 else (if true then version_rule terms.line_ends ws v else None)))
+      ≡ Some rule → (facts : List Fact) × AreOfOpening terms enc ws v rule facts
   some_of_opening true c e = ([], inl (sym (same_number 601 rule e), refl))
-  some_of_opening false true e = (would_have (byte_len v.text) ∷ may_have limit ∷ [], inr (inl (sym (same_number 607 rule e), refl)))
+  some_of_opening false true e = (
+    would_have (byte_len v.text) ∷ may_have terms.limit ∷ [],
+    inr (inl (sym (same_number 607 rule e), refl)),
+  )
   some_of_opening false false e =
-      let breaks = version_breaks (list_any (differs v) ws) rule e in
-      let refuted = some_refuted enc ws v breaks.1 in
+      let breaks = version_breaks (list_any (differs terms.line_ends v) ws) rule e in
+      let refuted = some_refuted terms.line_ends enc ws v breaks.1 in
       (refuted.0, inr (inr (breaks.0, refuted.1)))
 
-module _ (limit : ℕ) (enc : Encoding) (kind : SyncKind) (ws : List Version) (number : ℤ) (cs : List Edit) (rule : ℕ) where
-  by_text : (v : Version) (r : Result Text ℕ) → applied limit enc v.text cs ≡ r → text_rule ws number r ≡ Some rule → (facts : List Fact) × AreOfChange limit enc kind ws number cs (Some v) rule facts
+module _ (terms : Terms) (enc : Encoding) (kind : SyncKind) (ws : List Version) (number : ℤ)
+    (cs : List Edit) (rule : ℕ) where
+  by_text : (v : Version) (r : Result Text ℕ) → applied terms.limit enc v.text cs ≡ r
+      → text_rule terms.line_ends ws number r ≡ Some rule
+      → (facts : List Fact) × AreOfChange terms enc kind ws number cs (Some v) rule facts
   by_text v (Err own) is e =
-      let failing = some_failing limit enc rule v.text cs (is ∙ ap (λ (n : ℕ). let r : Result Text ℕ = Err n in r) (same_number own rule e)) in
+      let failing = some_failing terms.limit enc rule v.text cs
+      (is ∙ ap (λ (n : ℕ). let r : Result Text ℕ = Err n in r) (same_number own rule e)) in
       (failing.0, inr (inr (inl failing.1)))
   by_text v (Ok t) is e =
-      let breaks = version_breaks (list_any (differs (versioned number t)) ws) rule e in
-      let refuted = some_refuted enc ws (versioned number t) breaks.1 in
+      let s = versioned number t in
+      let breaks = version_breaks (list_any (differs terms.line_ends s) ws) rule e in
+      let refuted = some_refuted terms.line_ends enc ws s breaks.1 in
       (refuted.0, inr (inr (inr (breaks.0, record { text = t; made = is; refuted = refuted.1 }))))
 
-  by_rows : (v : Version) (b c : Bool) → (if b then Some 603 else (if c then Some 604 else (if true then text_rule ws number (applied limit enc v.text cs) else None))) ≡ Some rule
-      → (facts : List Fact) × AreOfChange limit enc kind ws number cs (Some v) rule facts
+  by_rows : (v : Version) (b c : Bool)
+      → (if b then Some 603 else (if c then Some 604 else (if true
+      then text_rule terms.line_ends ws number (applied terms.limit enc v.text cs) else None)))
+      ≡ Some rule → (facts : List Fact) × AreOfChange terms enc kind ws number cs (Some v) rule
+      facts
   by_rows v true c e = ([], inl (sym (same_number 603 rule e), refl))
-  by_rows v false true e = (kind_facts limit enc kind v.text cs, inr (inl (sym (same_number 604 rule e), refl)))
-  by_rows v false false e = by_text v (applied limit enc v.text cs) refl e
+  by_rows v false true e =
+      (kind_facts terms.limit enc kind v.text cs, inr (inl (sym (same_number 604 rule e), refl)))
+  by_rows v false false e = by_text v (applied terms.limit enc v.text cs) refl e
 
 some_of_change : (terms : Terms) (enc : Encoding) (kind : SyncKind) (ws : List Version) (number : ℤ) (cs : List Edit) (h : Option Version) (rule : ℕ) → change_rule terms ws enc kind number cs h ≡ Some rule
-    → (facts : List Fact) × AreOfChange terms.limit enc kind ws number cs h rule facts
+    → (facts : List Fact) × AreOfChange terms enc kind ws number cs h rule facts
 some_of_change terms enc kind ws number cs None rule e = ([], (sym (same_number 602 rule e), refl))
-some_of_change terms enc kind ws number cs (Some v) rule e = by_rows terms.limit enc kind ws number cs rule v (not (int_lt v.number number)) (not (fits_kind kind cs)) e
+some_of_change terms enc kind ws number cs (Some v) rule e =
+    by_rows terms enc kind ws number cs rule v (not (int_lt v.number number))
+    (not (fits_kind kind cs)) e
 
 close_breaks : (b : Bool) (rule : ℕ) → (if b then None else Some 602) ≡ Some rule → rule ≡ 602
 close_breaks true rule e = absurd (cc)
@@ -177,22 +212,30 @@ module _ (terms : Terms) (enc : Encoding) (h : Option Version) (ks ws : List Ver
   some_of_save uri None o e = absurd (cc)
   some_of_save uri (Some t) None e = absurd (cc)
   some_of_save uri (Some t) (Some v) e =
-      let breaks = save_breaks (bytes_eq v.text t) rule e in
-      let facts = some_apart enc v.text t saved_line (λ same. true≢false (sym ((bytes_eq-Decides v.text t).1 same) ∙ breaks.1)) in
+      let ends = terms.line_ends in
+      let breaks = save_breaks (same_text ends v.text t) rule e in
+      let facts = some_apart ends enc v.text t saved_line (λ same. true≢false
+      (sym ((bytes_eq-Decides (compared ends v.text) (compared ends t)).1 same) ∙ breaks.1)) in
       (facts.0, (breaks.0, facts.1))
 
-  some_of_snapshot : (number : ℤ) (text : Text) → rule_of terms h ks ws (shows [] number text) ≡ Some rule → (facts : List Fact) × AreOfSnapshot enc ks h (versioned number text) rule facts
+  some_of_snapshot : (number : ℤ) (text : Text)
+      → rule_of terms h ks ws (shows [] number text) ≡ Some rule
+      → (facts : List Fact) × AreOfSnapshot terms.line_ends enc ks h (versioned number text) rule
+      facts
   some_of_snapshot number text e =
-      elim (show_breaks number text ks h rule e) [
+      elim (show_breaks terms.line_ends number text ks h rule e) [
         | inl is ↦ (kept_fact ks, inl (is, refl))
         | inr is ↦ (
-            let facts = some_apart enc is.1 text in_editor (other_apart (versioned number text) ks h is.1 is.2) in
+            let facts = some_apart terms.line_ends enc is.1 text in_editor
+            (other_apart terms.line_ends (versioned number text) ks h is.1 is.2) in
             (facts.0, inr (is.0, record { text = is.1; other = is.2; apart = facts.1 }))
             )
       ]
 
   some_details : (call : Call) → rule_of terms h ks ws call ≡ Some rule → (facts : List Fact) × AreDetails terms enc h ks ws call rule facts
-  some_details (opens uri number text) e = some_of_opening terms.limit enc ws (versioned number text) rule (is_some h) (nat_lt terms.limit (byte_len text)) e
+  some_details (opens uri number text) e =
+      some_of_opening terms enc ws (versioned number text) rule (is_some h)
+      (nat_lt terms.limit (byte_len text)) e
   some_details (changes agreed kind uri number edits) e = some_of_change terms agreed kind ws number edits h rule e
   some_details (closes uri) e = ([], (close_breaks (is_some h) rule e, refl))
   some_details (saves uri text) e = some_of_save uri text h e

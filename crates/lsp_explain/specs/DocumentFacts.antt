@@ -8,11 +8,14 @@ use Rattle.lsp_types.specs.declared.position.Position.{Position}
 use Rattle.lsp_types.specs.declared.position.Span.{Span}
 use Rattle.lsp_types.specs.declared.change.SyncKind.{SyncKind}
 use Rattle.lsp_types.specs.declared.change.SyncKind.TheVariants.{Nothing, Full, Incremental}
+use Rattle.lsp_types.specs.declared.line_ends.LineEnds.{LineEnds}
+use Rattle.lsp_types.specs.declared.line_ends.LineEnds.TheVariants.{Ignored}
 use Rattle.lsp_text.specs.Lines.{Line, lines_of}
 use Rattle.lsp_text.specs.Places.{units, place_of}
 use Rattle.lsp_text.specs.Edits.{Edit, changed, applied}
 use Rattle.lsp_text.specs.Difference.{DifferFirst, line_around, position_at}
 use Rattle.lsp_text.specs.InsideCharacter.{LiesInside}
+use Rattle.lsp_text.specs.SameText.{compared, same_text}
 use Rattle.lsp_text.specs.Sizes.{IsSizeWith}
 use Rattle.lsp_docs.specs.Texts.{Text, byte_len}
 use Rattle.lsp_docs.specs.Terms.{Terms}
@@ -25,7 +28,7 @@ use Rattle.lsp_explain.specs.Fact.{Fact, of_uri, holds, sends, shows_version, ha
 use Rattle.lsp_explain.specs.Fact.{has_kind, counts_in, fails, line_has}
 use Rattle.lsp_explain.specs.Fact.{falls_inside, fits_in, would_have, may_have, differs_at}
 use Rattle.lsp_explain.specs.Fact.{by_messages}
-use Rattle.lsp_explain.specs.Fact.{in_editor, saved_line, keeps}
+use Rattle.lsp_explain.specs.Fact.{in_editor, in_line_ends, saved_line, keeps}
 use Rattle.lsp_explain.specs.Edges.{edges}
 use Rattle.lsp_explain.specs.Part.{Part, part_at, same_front}
 use Rattle.lsp_explain.specs.Refuting.{first_other}
@@ -163,77 +166,89 @@ difference_facts enc t other line n =
     counts_in enc ∷ differs_at (position_at enc t n)
     ∷ lines_apart (line_around t n) (line_around other n) line
 
-abbrev pub AreApart : Encoding → Text → Text → (Part → Fact) → List Fact → Type 0
-AreApart enc t other line facts =
+abbrev pub AreOfDifference : Encoding → Text → Text → (Part → Fact) → List Fact → Type 0
+AreOfDifference enc t other line facts =
     DifferFirst t other (λ n. facts ≡ difference_facts enc t other line n)
 
+-- that they differ in line ends alone, where they do
+abbrev pub ends_facts : Text → Text → List Fact
+ends_facts t other = if same_text Ignored t other then in_line_ends ∷ [] else []
+
+-- **two texts that are not the same**: where they first differ, as they are compared, and whether
+-- they differ in line ends alone
+pub record AreApart (ends : LineEnds) (enc : Encoding) (t other : Text) (line : Part → Fact)
+    (facts : List Fact) : Type 0 where
+  pub place : List Fact
+  pub at : AreOfDifference enc (compared ends t) (compared ends other) line place
+  pub are : facts ≡ place ++ ends_facts t other
+
 -- a snapshot that waits for this version has another text; of several, the first that came
-pub record IsRefuted (enc : Encoding) (waits : List Version) (v : Version)
+pub record IsRefuted (ends : LineEnds) (enc : Encoding) (waits : List Version) (v : Version)
     (facts : List Fact) : Type 0 where
   pub other : Text
-  pub waiting : first_other v.text (texts_at v.number waits) ≡ Some other
-  pub apart : AreApart enc v.text other in_editor facts
+  pub waiting : first_other ends v.text (texts_at v.number waits) ≡ Some other
+  pub apart : AreApart ends enc v.text other in_editor facts
 
 -- the text that is held or kept of the snapshot's version is another
-pub record IsRefuting (enc : Encoding) (kept : List Version) (h : Option Version) (s : Version)
-    (facts : List Fact) : Type 0 where
+pub record IsRefuting (ends : LineEnds) (enc : Encoding) (kept : List Version)
+    (h : Option Version) (s : Version) (facts : List Fact) : Type 0 where
   pub text : Text
-  pub other : other_than s kept h ≡ Some text
-  pub apart : AreApart enc text s.text in_editor facts
+  pub other : other_than ends s kept h ≡ Some text
+  pub apart : AreApart ends enc text s.text in_editor facts
 
 -- ---- by what was called
 
-abbrev pub AreOfOpening : ℕ → Encoding → List Version → Version → ℕ → List Fact → Type 0
-AreOfOpening limit enc waits v rule facts =
+abbrev pub AreOfOpening : Terms → Encoding → List Version → Version → ℕ → List Fact → Type 0
+AreOfOpening terms enc waits v rule facts =
     ((rule ≡ rules.DOCUMENT_ALREADY_OPEN) × (facts ≡ []))
     ⊎ (((rule ≡ rules.DOCUMENT_OVER_LIMIT)
-    × (facts ≡ would_have (byte_len v.text) ∷ may_have limit ∷ []))
-    ⊎ ((rule ≡ rules.SNAPSHOT_DIFFERS) × IsRefuted enc waits v facts))
+    × (facts ≡ would_have (byte_len v.text) ∷ may_have terms.limit ∷ []))
+    ⊎ ((rule ≡ rules.SNAPSHOT_DIFFERS) × IsRefuted terms.line_ends enc waits v facts))
 
 -- 702: the changes make a text that a waiting snapshot refutes
-pub record IsRefutedText (limit : ℕ) (enc : Encoding) (waits : List Version) (number : ℤ) (t : Text)
-    (cs : List Edit) (facts : List Fact) : Type 0 where
+pub record IsRefutedText (terms : Terms) (enc : Encoding) (waits : List Version) (number : ℤ)
+    (t : Text) (cs : List Edit) (facts : List Fact) : Type 0 where
   pub text : Text
-  pub made : applied limit enc t cs ≡ Ok text
-  pub refuted : IsRefuted enc waits (versioned number text) facts
+  pub made : applied terms.limit enc t cs ≡ Ok text
+  pub refuted : IsRefuted terms.line_ends enc waits (versioned number text) facts
 
-abbrev pub AreOfChange : ℕ → Encoding → SyncKind → List Version → ℤ → List Edit → Option Version → ℕ
-    → List Fact → Type 0
-AreOfChange limit enc kind waits number cs None rule facts =
+abbrev pub AreOfChange : Terms → Encoding → SyncKind → List Version → ℤ → List Edit → Option Version
+    → ℕ → List Fact → Type 0
+AreOfChange terms enc kind waits number cs None rule facts =
     (rule ≡ rules.DOCUMENT_NOT_OPEN) × (facts ≡ [])
-AreOfChange limit enc kind waits number cs (Some v) rule facts =
+AreOfChange terms enc kind waits number cs (Some v) rule facts =
     ((rule ≡ rules.VERSION_DOES_NOT_RISE) × (facts ≡ []))
-    ⊎ (((rule ≡ rules.CHANGE_NOT_OF_KIND) × (facts ≡ kind_facts limit enc kind v.text cs))
-    ⊎ (IsFailing limit enc v.text cs rule facts
-    ⊎ ((rule ≡ rules.SNAPSHOT_DIFFERS) × IsRefutedText limit enc waits number v.text cs facts)))
+    ⊎ (((rule ≡ rules.CHANGE_NOT_OF_KIND) × (facts ≡ kind_facts terms.limit enc kind v.text cs))
+    ⊎ (IsFailing terms.limit enc v.text cs rule facts
+    ⊎ ((rule ≡ rules.SNAPSHOT_DIFFERS) × IsRefutedText terms enc waits number v.text cs facts)))
 
-abbrev pub AreOfSave : Encoding → Option Text → Option Version → List Fact → Type 0
-AreOfSave enc (Some t) (Some v) facts = AreApart enc v.text t saved_line facts
-AreOfSave enc _ _ facts = facts ≡ []
+abbrev pub AreOfSave : LineEnds → Encoding → Option Text → Option Version → List Fact → Type 0
+AreOfSave ends enc (Some t) (Some v) facts = AreApart ends enc v.text t saved_line facts
+AreOfSave ends enc _ _ facts = facts ≡ []
 
 -- the versions that are kept, where there are any
 abbrev pub kept_fact : List Version → List Fact
 kept_fact [] = []
 kept_fact (v ∷ vs) = keeps (v.number ∷ map (λ (w : Version). w.number) vs) ∷ []
 
-abbrev pub AreOfSnapshot : Encoding → List Version → Option Version → Version → ℕ → List Fact
-    → Type 0
-AreOfSnapshot enc kept h s rule facts =
+abbrev pub AreOfSnapshot : LineEnds → Encoding → List Version → Option Version → Version → ℕ
+    → List Fact → Type 0
+AreOfSnapshot ends enc kept h s rule facts =
     ((rule ≡ rules.LATE_SNAPSHOT) × (facts ≡ kept_fact kept))
-    ⊎ ((rule ≡ rules.SNAPSHOT_DIFFERS) × IsRefuting enc kept h s facts)
+    ⊎ ((rule ≡ rules.SNAPSHOT_DIFFERS) × IsRefuting ends enc kept h s facts)
 
 abbrev pub AreDetails : Terms → Encoding → Option Version → List Version → List Version → Call → ℕ
     → List Fact → Type 0
 AreDetails terms enc h kept waits (opens uri number text) rule facts =
-    AreOfOpening terms.limit enc waits (versioned number text) rule facts
+    AreOfOpening terms enc waits (versioned number text) rule facts
 AreDetails terms enc h kept waits (changes agreed kind uri number edits) rule facts =
-    AreOfChange terms.limit agreed kind waits number edits h rule facts
+    AreOfChange terms agreed kind waits number edits h rule facts
 AreDetails terms enc h kept waits (closes uri) rule facts =
     (rule ≡ rules.DOCUMENT_NOT_OPEN) × (facts ≡ [])
 AreDetails terms enc h kept waits (saves uri text) rule facts =
-    (rule ≡ rules.SAVED_TEXT_DIFFERS) × AreOfSave enc text h facts
+    (rule ≡ rules.SAVED_TEXT_DIFFERS) × AreOfSave terms.line_ends enc text h facts
 AreDetails terms enc h kept waits (shows uri number text) rule facts =
-    AreOfSnapshot enc kept h (versioned number text) rule facts
+    AreOfSnapshot terms.line_ends enc kept h (versioned number text) rule facts
 
 -- ---- all facts
 

@@ -42,6 +42,8 @@ pub data Fact : Type 0 where
   by_messages : Part → Fact
   in_editor : Part → Fact
   saved_line : Part → Fact
+  -- that they differ in line ends alone
+  in_line_ends : Fact
   -- the versions that are kept in addition to the held one
   keeps : List ℤ → Fact
   -- the id of a message, null where there is none
@@ -92,6 +94,7 @@ fact_view (facts.At place) = differs_at place
 fact_view (facts.ByMessages line) = by_messages (part_view line)
 fact_view (facts.InEditor line) = in_editor (part_view line)
 fact_view (facts.SavedLine line) = saved_line (part_view line)
+fact_view facts.LineEnds = in_line_ends
 fact_view (facts.Kept numbers) = keeps numbers.items
 fact_view (facts.Id id) = has_id (option_map id_view id)
 fact_view (facts.Phase phase) = in_phase phase

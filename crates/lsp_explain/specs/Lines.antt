@@ -25,7 +25,7 @@ use Rattle.lsp_verdict.specs.declared.verdict.Who.{Who}
 use Rattle.lsp_explain.specs.Fact.{Fact, of_uri, holds, holds_by, sends, shows_version, has_changes}
 use Rattle.lsp_explain.specs.Fact.{has_kind, counts_in, fails, line_has}
 use Rattle.lsp_explain.specs.Fact.{falls_inside, fits_in, would_have, may_have, differs_at}
-use Rattle.lsp_explain.specs.Fact.{by_messages}
+use Rattle.lsp_explain.specs.Fact.{by_messages, in_line_ends}
 use Rattle.lsp_explain.specs.Fact.{in_editor, saved_line, keeps, has_id, in_phase, offers, picks}
 use Rattle.lsp_explain.specs.Fact.{registers, waits, waits_since, shown_by, equal_by, has_suspects}
 use Rattle.lsp_explain.specs.Fact.{suspects}
@@ -106,6 +106,7 @@ fact_line (differs_at place) = line (codes "at" ∷ decimal place.line ∷ decim
 fact_line (by_messages part) = part_line (codes "by-messages") part
 fact_line (in_editor part) = part_line (codes "in-editor") part
 fact_line (saved_line part) = part_line (codes "saved") part
+fact_line in_line_ends = line (codes "line-ends" ∷ codes "option" ∷ codes "--ignore-line-ends" ∷ [])
 fact_line (keeps numbers) =
     codes "kept" ++ flat_map (λ number. spaced (signed_decimal number)) numbers ++ 10 ∷ []
 fact_line (has_id id) = line (codes "id" ∷ response_id_text id ∷ [])

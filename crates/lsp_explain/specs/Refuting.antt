@@ -3,9 +3,10 @@ use Rattle.std.specs.Prelude.{ℕ, ℤ, List, [], ◌∷◌, Bool, false, not, i
 use Rattle.std.specs.Prelude.{option_and_then, option_map, unwrap_or}
 use Rattle.std.specs.List.{find}
 use Rattle.std.specs.Result.{result_ok}
-use Rattle.std.specs.Str.{bytes_eq}
+use Rattle.lsp_types.specs.declared.line_ends.LineEnds.{LineEnds}
 use Rattle.lsp_types.specs.declared.position.Encoding.{Encoding}
 use Rattle.lsp_text.specs.Edits.{Edit, applied}
+use Rattle.lsp_text.specs.SameText.{same_text}
 use Rattle.lsp_docs.specs.Texts.{Text}
 use Rattle.lsp_docs.specs.Terms.{Terms}
 use Rattle.lsp_docs.specs.Calls.{Bytes, Call, opens, changes, closes, saves, shows}
@@ -15,23 +16,24 @@ use Rattle.lsp_docs.specs.Snapshots.{texts_at, waiting, versions_of}
 -- ---- texts
 
 -- it is another text
-abbrev pub is_other : Text → Text → Bool
-is_other t u = not (bytes_eq t u)
+abbrev pub is_other : LineEnds → Text → Text → Bool
+is_other ends t u = not (same_text ends t u)
 
 -- there is one, and it is another text
-abbrev pub is_other_at : Text → Option Text → Bool
-is_other_at t u = unwrap_or (option_map (is_other t) u) false
+abbrev pub is_other_at : LineEnds → Text → Option Text → Bool
+is_other_at ends t u = unwrap_or (option_map (is_other ends t) u) false
 
 -- the first of these texts that is another one
-abbrev pub first_other : Text → List Text → Option Text
-first_other t us = find (is_other t) us
+abbrev pub first_other : LineEnds → Text → List Text → Option Text
+first_other ends t us = find (is_other ends t) us
 
 -- those of the snapshots with another text, where they are given by their events, and these are
 -- their texts in turn
-abbrev pub others_of : Text → List ℕ → List Text → List ℕ
-others_of t (n ∷ ns) (u ∷ us) = if is_other t u then n ∷ others_of t ns us else others_of t ns us
-others_of t (n ∷ ns) [] = []
-others_of t [] us = []
+abbrev pub others_of : LineEnds → Text → List ℕ → List Text → List ℕ
+others_of ends t (n ∷ ns) (u ∷ us) =
+    if is_other ends t u then n ∷ others_of ends t ns us else others_of ends t ns us
+others_of ends t (n ∷ ns) [] = []
+others_of ends t [] us = []
 
 -- ---- calls
 
@@ -48,9 +50,10 @@ waiting_texts terms before uri number = texts_at number (versions_of uri (waitin
 -- another text than it brings its document to**
 abbrev pub refuting : Terms → List Call → Call → List ℕ → List ℕ
 refuting terms before (opens uri number text) ns =
-    others_of text ns (waiting_texts terms before uri number)
+    others_of terms.line_ends text ns (waiting_texts terms before uri number)
 refuting terms before (changes enc kind uri number edits) ns =
-    unwrap_or (option_map (λ t. others_of t ns (waiting_texts terms before uri number))
+    unwrap_or
+    (option_map (λ t. others_of terms.line_ends t ns (waiting_texts terms before uri number))
     (made_text terms enc edits (held terms uri before))) []
 refuting terms before (closes uri) ns = []
 refuting terms before (saves uri text) ns = []

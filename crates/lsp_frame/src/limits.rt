@@ -1,8 +1,9 @@
 //! The limits of what is accepted. They are this project's own: the base protocol of LSP 3.17 sets
 //! none.
 ghost use Rattle.std.specs.Prelude.{◌≡◌, ◌≤◌, ◌↔◌, ◌^◌, IsSome, IfSome};
-ghost use Rattle.lsp_frame.specs.Bounds.{Bounds, IsInRange, profile};
+ghost use Rattle.lsp_frame.specs.Bounds.{Bounds, IsInRange, ignoring_line_ends, profile};
 
+use lsp_types::LineEnds;
 use std::marker::Model;
 
 const MOST_HEADER: u64 = 4096;
@@ -15,7 +16,8 @@ const MOST_DOCUMENT: u64 = 16 << 20;
 
 const MOST_LOG: u64 = 1 << 40;
 
-/// The greatest sizes, in bytes, that are accepted. Each is in a range of its own.
+/// The greatest sizes, in bytes, that are accepted, each in a range of its own, and whether texts
+/// are compared with their line ends.
 #[derive(Clone, Copy, Debug, PartialEq, Eq)]
 pub struct Limits {
     header: u64,
@@ -23,6 +25,7 @@ pub struct Limits {
     chunk: u64,
     document: u64,
     log: u64,
+    line_ends: LineEnds,
 }
 
 impl Model for Limits {
@@ -36,6 +39,7 @@ impl Model for Limits {
       chunk = a.chunk;
       document = a.document;
       log = a.log;
+      line_ends = a.line_ends;
     } };
 
     ghost invariant = { λ a. IsInRange (record {
@@ -44,6 +48,7 @@ impl Model for Limits {
       chunk = a.chunk;
       document = a.document;
       log = a.log;
+      line_ends = a.line_ends;
     }) };
 
     ghost inverse = { λ b. record {
@@ -52,11 +57,12 @@ impl Model for Limits {
       chunk = b.chunk;
       document = b.document;
       log = b.log;
+      line_ends = b.line_ends;
     } };
 }
 
 impl Limits {
-    /// The greatest of each: 4 KiB, 64 MiB, 1 MiB, 16 MiB and 1 TiB.
+    /// The greatest of each: 4 KiB, 64 MiB, 1 MiB, 16 MiB and 1 TiB. Line ends count.
     pub fn profile() -> Limits
         ensures { result ≡ profile }
     {
@@ -66,12 +72,13 @@ impl Limits {
             chunk: MOST_CHUNK,
             document: MOST_DOCUMENT,
             log: MOST_LOG,
+            line_ends: LineEnds::Exact,
         }
     }
 
     /// Limits of these sizes, or none where one is outside its range: `header` from 64, `content`
     /// and `chunk` from 1, `document` from 0 and `log` from 16, each up to that of
-    /// [`Limits::profile`].
+    /// [`Limits::profile`]. Line ends count.
     pub fn new(header: u64, content: u64, chunk: u64, document: u64, log: u64) -> Option<Limits>
         ensures some { IsSome result ↔ IsInRange (record {
           header = header;
@@ -79,6 +86,7 @@ impl Limits {
           chunk = chunk;
           document = document;
           log = log;
+          line_ends = LineEnds.Exact;
         }) }
         ensures value { IfSome result (λ limits. limits ≡ record {
           header = header;
@@ -86,6 +94,7 @@ impl Limits {
           chunk = chunk;
           document = document;
           log = log;
+          line_ends = LineEnds.Exact;
         }) }
     {
         if matches!(header, 64..=MOST_HEADER)
@@ -100,10 +109,28 @@ impl Limits {
                 chunk,
                 document,
                 log,
+                line_ends: LineEnds::Exact,
             })
         } else {
             None
         }
+    }
+
+    /// The same limits, where line ends do not count: texts are compared by their lines.
+    pub fn ignoring_line_ends(self) -> Limits
+        ensures { result ≡ ignoring_line_ends self }
+    {
+        Limits {
+            line_ends: LineEnds::Ignored,
+            ..self
+        }
+    }
+
+    /// Whether texts are compared with their line ends.
+    pub fn line_ends(&self) -> LineEnds
+        ensures { result ≡ self.now.line_ends }
+    {
+        self.line_ends
     }
 
     /// The greatest length of a header part, its end included.

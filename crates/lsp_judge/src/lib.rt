@@ -34,10 +34,11 @@ pub use lsp_verdict::{
     Completeness, Lines, Mode, OpenDocument, Outcome, RunFault, StreamFault, Summary, Verdict, Who,
     bad_log_means_fault, both_yes_agree, complete_means_ended, complete_means_fault,
     cuts_dont_matter, cuts_leave_verdict, ended_means_complete, events_are_streams, events_first,
-    handshake_in_turn, kept_means_yes, lack_is_named, no_names_the_first, offence_decides,
-    one_complete_verdict, one_session, one_text, one_upgrade, one_verdict, only_order_offends,
-    report_of, sessions_are_read, some_complete_verdict, some_final, some_session, some_upgrade,
-    some_verdict, stream_report, upgrade_keeps_yes, upgrade_stays, yes_means_kept,
+    exact_means_equal, handshake_in_turn, kept_means_yes, lack_is_named, no_names_the_first,
+    offence_decides, one_complete_verdict, one_session, one_text, one_upgrade, one_verdict,
+    only_order_offends, report_of, sessions_are_read, some_complete_verdict, some_final,
+    some_session, some_upgrade, some_verdict, stream_report, upgrade_keeps_yes, upgrade_stays,
+    yes_means_kept,
 };
 pub use show::{run_show, run_show_long};
 pub use show_laws::one_shown;

@@ -6,6 +6,10 @@ use Rattle.std.proofs.lemmas.Bool.{cases_lt, ne_eqb}
 use Rattle.std.proofs.lemmas.List.{append-nil}
 use Rattle.std.proofs.lemmas.Str.{encodes-chars, encode_ascii, encodes_same}
 use Rattle.std.proofs.lemmas.Str.{inside_one, length-encode, len_utf8_bounds}
+use Rattle.std.proofs.lemmas.Str.{chars_from_encodes, IsUtf8-string_bytes}
+use Rattle.std.proofs.Common.{IfOk, Result, Ok, Err, String, string_bytes}
+use Rattle.std.specs.Global.{Global}
+use Rattle.lsp_types.specs.declared.memory.Memory.{Memory}
 use Rattle.std.specs.Str.{chars, IsUtf8}
 use lib.Utf8.{encodes, encode}
 use Rattle.lsp_types.specs.declared.line_ends.LineEnds.TheVariants.{Ignored}
@@ -15,7 +19,7 @@ use Rattle.lsp_text.specs.declared.cut.FirstLine.{FirstLine}
 use Rattle.lsp_text.specs.SameText.{with_feeds, without_last_feed, is_nothing, compared, SameText}
 use Rattle.lsp_text.proofs.Cuts.{whole_parts}
 use Rattle.lsp_text.proofs.LineBytes.{starts_with_feed-chars, starts_with_feed-text}
-use Rattle.lsp_text.proofs.SameTexts.{with_feeds-front}
+use Rattle.lsp_text.proofs.SameTexts.{with_feeds-front, with_feeds-whole}
 
 -- ---- a character that is no ASCII
 
@@ -153,7 +157,7 @@ compared-encodes : (cs : List ℕ) → compared Ignored (encodes cs) ≡ encodes
 compared-encodes cs = ap without_last_feed (with_feeds-encodes cs)
     ∙ without_last-encodes (with_feeds cs)
 
-compared-chars : (bs : List ℕ) → IsUtf8 bs
+pub compared-chars : (bs : List ℕ) → IsUtf8 bs
     → compared Ignored bs ≡ encodes (compared Ignored (chars bs))
 compared-chars bs u = ap (compared Ignored) (sym (encodes-chars bs u)) ∙ compared-encodes (chars bs)
 
@@ -213,3 +217,29 @@ first_feeds bs f h =
     (ended_feeds f.end.now f.rest.now
     (end_bytes f.end.now f.rest.now h.end_utf8 h.rest_utf8 h.ended))
     ∙ sym (append_assoc f.text.now (10 ∷ []) (with_feeds f.rest.now))
+
+-- **A text is made line by line**: what is made of it so far, and what is left of it.
+pub feeds_after : (whole made rest : List ℕ) (f : FirstLine) → IsFirstLine rest f
+    → with_feeds whole ≡ made ++ with_feeds rest
+    → with_feeds whole ≡ ((made ++ f.text.now) ++ 10 ∷ []) ++ with_feeds f.rest.now
+feeds_after whole made rest f h so_far =
+    so_far ∙ ap (λ (x : List ℕ). made ++ x) (first_feeds rest f h)
+    ∙ sym (append_assoc made (f.text.now ++ 10 ∷ []) (with_feeds f.rest.now))
+    ∙ ap (λ (x : List ℕ). x ++ with_feeds f.rest.now)
+    (sym (append_assoc made f.text.now (10 ∷ [])))
+
+pub feeds_end : (whole made rest : List ℕ) → IsUtf8 rest → has_no_line_end (chars rest) ≡ true
+    → with_feeds whole ≡ made ++ with_feeds rest → made ++ rest ≡ with_feeds whole
+feeds_end whole made rest u none so_far =
+    ap (λ (x : List ℕ). made ++ x) (sym (with_feeds-whole rest (no_end-bytes rest u none)))
+    ∙ sym so_far
+
+-- what spells what is compared of a text has its characters
+pub spelled_lines : (text whole : List ℕ) (r : Result (String Global) Memory) → IsUtf8 text
+    → compared Ignored text ≡ with_feeds whole
+    → IfOk r (λ feeds. string_bytes feeds ≡ with_feeds whole)
+    → IfOk r (λ lines. chars (string_bytes lines) ≡ compared Ignored (chars text))
+spelled_lines text whole (Ok feeds) u cut h =
+    sym (chars_from_encodes (compared Ignored (chars text)) (string_bytes feeds)
+    (IsUtf8-string_bytes feeds) (sym (compared-chars text u) ∙ cut ∙ sym h))
+spelled_lines text whole (Err fault) u cut h = tt

@@ -34,5 +34,5 @@ pub use laws::{
 };
 pub use plain::Plain;
 pub use reading::{char_inside, line_at, size_with, width_of};
-pub use same::{LinesLeft, is_taken, same_lines, take_lines, without_last_end};
+pub use same::{LinesLeft, compared_lines, is_taken, same_lines, take_lines, without_last_end};
 pub use store::{Place, TextStore};

@@ -1,6 +1,7 @@
 //! Texts that are the same up to their line ends (LSP 3.17, "Text Documents").
 
 ghost use Rattle.std.specs.Prelude.{◌≡◌, ◌↔◌, ◌++◌, ◌∷◌, [], List, ℕ, true, IsTrue, MatchOption};
+ghost use Rattle.std.specs.Prelude.{IfOk, string_bytes};
 ghost use Rattle.std.specs.Str.{chars, IsUtf8};
 ghost use Rattle.lsp_types.specs.declared.line_ends.LineEnds.TheVariants.{Ignored};
 ghost use Rattle.lsp_text.specs.Lines.{has_no_line_end};
@@ -9,6 +10,8 @@ ghost use Rattle.lsp_text.specs.SameText.{BeginsOtherwise, EndsOtherwise, IsTake
 ghost use Rattle.lsp_text.specs.SameText.{StartsOtherwise};
 
 use crate::cut::FirstLine;
+use lsp_types::Memory;
+use std::alloc::Global;
 
 /// What is left of a text while lines are taken off its front, whatever ends they have there.
 #[derive(Clone, Copy)]
@@ -26,6 +29,32 @@ pub fn same_lines(held: &str, text: &str) -> bool
 {
     let whole = without_last_end(text);
     is_taken(take_lines(LinesLeft::Rest(whole), held), whole)
+}
+
+/// What is compared of a text where line ends do not count: its lines, with a LF between them.
+///
+/// # Errors
+/// `Memory` where memory was refused.
+pub fn compared_lines(alloc: Global, text: &str) -> Result<String, Memory>
+    ensures { IfOk result (λ lines.
+        chars (string_bytes lines) ≡ compared Ignored (chars text.now)) }
+{
+    with_feeds(alloc, without_last_end(text))
+}
+
+/// A text with a LF for each of its line ends.
+fn with_feeds(alloc: Global, text: &str) -> Result<String, Memory>
+    ensures { IfOk result (λ feeds. string_bytes feeds ≡ with_feeds text.now) }
+{
+    let mut feeds = String::new(alloc);
+    let mut rest = text;
+    while let Some(line) = FirstLine::of(rest) {
+        feeds.push_str(line.text)?;
+        feeds.push_str("\n")?;
+        rest = line.rest;
+    }
+    feeds.push_str(rest)?;
+    Ok(feeds)
 }
 
 /// A text without the line end at its end, if it has one there.

@@ -16,7 +16,9 @@ use Rattle.lsp_docs.specs.Rules.{change_rule, call_rule, AreAcceptedFrom, AreAcc
 use Rattle.lsp_docs.specs.Terms.{Terms}
 use Rattle.lsp_verdict.specs.Calls.{edit_of, call_of, call_at, calls}
 use Rattle.lsp_verdict.specs.Event.{Event, message, fault, snapshot, sent_in}
-use Rattle.lsp_verdict.specs.Kept.{NothingOffends, VersionsRise, SnapshotsAgree}
+use Rattle.lsp_verdict.specs.Kept.{NothingOffends, VersionsRise, SnapshotsAgree, ExactMeansEqual}
+use Rattle.lsp_types.specs.declared.line_ends.LineEnds.{LineEnds}
+use Rattle.lsp_text.specs.SameText.{SameText}
 use Rattle.lsp_verdict.specs.LookBack.{first_from, each_from}
 use Rattle.lsp_verdict.specs.Verdict.{no_by, no_at, first_no, offence, document_rule}
 use Rattle.lsp_verdict.proofs.Below.{bound-agrees}
@@ -67,3 +69,10 @@ versions_rise terms es clean before after m uri number cs cut means =
 pub snapshots_agree : (terms : Terms) (made : List Call) → AreAccepted terms made → SnapshotsAgree terms made
 snapshots_agree terms made accepted before after front back uri number text v whole cut is same binds =
     bound-agrees terms before after front back uri number text v (subst (AreAccepted terms) whole accepted) (sym whole ∙ cut) binds is same
+
+-- **Where line ends count, the same texts are equal.**
+pub exact_means_equal : ExactMeansEqual
+exact_means_equal terms made exact agree before after front back uri number text v whole cut is same
+    binds =
+    subst (λ (ends : LineEnds). SameText ends v.text text) exact
+    (agree before after front back uri number text v whole cut is same binds)

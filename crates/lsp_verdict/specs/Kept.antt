@@ -8,6 +8,8 @@ use Rattle.lsp_types.specs.declared.side.Side.TheVariants.{Editor, Server}
 use Rattle.lsp_session.specs.Lifecycle.{lifecycle_rule}
 use Rattle.lsp_session.specs.Requests.{answers}
 use Rattle.lsp_session.specs.Sent.{Sent, is_response}
+use Rattle.lsp_types.specs.declared.line_ends.LineEnds.TheVariants.{Exact}
+use Rattle.lsp_text.specs.SameText.{SameText}
 use Rattle.lsp_docs.specs.Binding.{standing, binding}
 use Rattle.lsp_docs.specs.Calls.{Call, shows}
 use Rattle.lsp_docs.specs.Documents.{Version, held}
@@ -70,12 +72,28 @@ VersionsRise terms events =
     (before after : List Event) (m : Sent) (uri : List ℕ) (number : ℤ) (changes : List Change) → events ≡ before ++ message m ∷ after → m.act ≡ did_change uri number changes
     → (v : Version) × (held terms uri (calls before) ≡ Some v) × (int_lt v.number number ≡ true)
 
--- **After every prefix, each held text equals every snapshot recorded for its opening and version**, be it recorded before the prefix ends or later.
+-- **After every prefix, each held text is the same as every snapshot recorded for its opening and
+-- version**, be it recorded before the prefix ends or later. Where line ends count, it equals them.
 abbrev pub SnapshotsAgree : Terms → List Call → Type 0
 SnapshotsAgree terms made =
     (before after front back : List Call) (uri : List ℕ) (number : ℤ) (text : List ℕ) (v : Version)
     → made ≡ before ++ after → made ≡ front ++ shows uri number text ∷ back
-    → held terms uri before ≡ Some v → v.number ≡ number → binding uri front back ≡ standing uri before → v.text ≡ text
+    → held terms uri before ≡ Some v → v.number ≡ number
+    → binding uri front back ≡ standing uri before → SameText terms.line_ends v.text text
+
+-- the same with equal texts
+abbrev pub SnapshotsEqual : Terms → List Call → Type 0
+SnapshotsEqual terms made =
+    (before after front back : List Call) (uri : List ℕ) (number : ℤ) (text : List ℕ) (v : Version)
+    → made ≡ before ++ after → made ≡ front ++ shows uri number text ∷ back
+    → held terms uri before ≡ Some v → v.number ≡ number
+    → binding uri front back ≡ standing uri before → v.text ≡ text
+
+-- **Where line ends count, each held text equals every snapshot.**
+abbrev pub ExactMeansEqual : Type 0
+ExactMeansEqual =
+    (terms : Terms) (made : List Call) → terms.line_ends ≡ Exact → SnapshotsAgree terms made
+    → SnapshotsEqual terms made
 
 -- ---- all of it
 

@@ -2,6 +2,7 @@
 ghost use Rattle.lsp_verdict.specs.FormatOne.{FormatOneKeepsReport, FormatOneKeepsVerdict};
 ghost use Rattle.lsp_verdict.specs.Headline.{BadLogMeansFault, KeptMeansYes, NoNamesTheFirst};
 ghost use Rattle.lsp_verdict.specs.Headline.{YesMeansKept};
+ghost use Rattle.lsp_verdict.specs.Kept.{ExactMeansEqual};
 ghost use Rattle.lsp_verdict.specs.Laws.{CutsDontMatter, CutsLeaveVerdict, EventsFirst};
 ghost use Rattle.lsp_verdict.specs.Laws.{OffenceDecides, OneSession, OneVerdict, SidesAreStreams};
 ghost use Rattle.lsp_verdict.specs.Laws.{SnapshotsAreShown, SomeFinal, SomeSession, SomeVerdict};
@@ -11,10 +12,17 @@ ghost use Rattle.lsp_verdict.specs.Upgraded.{UpgradeStays};
 
 /// Yes means: the log has no fault, both streams are complete frames, no message breaks the
 /// lifecycle, every response answers one earlier open request and none is answered twice, the
-/// versions of each open document rise, and after every prefix of the session each held text
-/// equals every snapshot that was recorded for its opening and version.
+/// versions of each open document rise, and after every prefix of the session each held text is
+/// the same as every snapshot that was recorded for its opening and version: it equals it where line
+/// ends count ([`exact_means_equal`]).
 pub fn yes_means_kept()
     ensures { YesMeansKept }
+{}
+
+/// Where line ends count, as in every run but one that is asked to ignore them, each held text
+/// equals every snapshot that was recorded for its opening and version.
+pub fn exact_means_equal()
+    ensures { ExactMeansEqual }
 {}
 
 /// The verdict is Yes if no event offends, the log has no fault, and both streams consist of

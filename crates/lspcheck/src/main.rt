@@ -19,7 +19,7 @@ use lsp_command::{
     BufferedInput, BufferedOutput, Hint, Request, Slip, TaskOutcome, hint_of, only_word, remark_of,
     report_apart, request_of, run_through, status_of_task, status_of_words, uri_alone,
 };
-use lsp_judge::{Limits, RunFault};
+use lsp_judge::RunFault;
 use progress::{MakingWay, Progress, Watched};
 use std::alloc::Global;
 use std::fs::OpenFile;
@@ -76,7 +76,7 @@ fn run_on<R: Print + Eprint + AllocGlobal, I: Read + Drop>(
     let Ok(mut output) = BufferedOutput::new(alloc, MakingWay::new(progress, io::writer(rt))) else {
         return Ended::by(RunFault::Memory);
     };
-    let limits = Limits::profile();
+    let limits = request.limits();
     let answer = run_through(alloc, request.task, &mut input, &mut output, limits);
     let advice = match answer {
         Err(RunFault::Read) => input.cause().map(Advice::Input),

@@ -2,9 +2,9 @@
 ghost use Rattle.std.specs.Prelude.{◌≡◌, [], IfOk, IsOkAnd, true};
 ghost use Rattle.clap.specs.Words.{AddsSubcommand, app_of, shape_of};
 ghost use Rattle.lsp_command.specs.CommandLine.{AreModes, IsArg, IsCommandLine, Modes, check};
-ghost use Rattle.lsp_command.specs.CommandLine.{event};
-ghost use Rattle.lsp_command.specs.CommandLine.{check_options};
+ghost use Rattle.lsp_command.specs.CommandLine.{check_options, event};
 ghost use Rattle.lsp_command.specs.CommandLine.{explain, file, flag, frames, mode, normal, number};
+ghost use Rattle.lsp_command.specs.CommandLine.{ignore_line_ends};
 ghost use Rattle.lsp_command.specs.CommandLine.{program, quiet, show, text, upgrade, uri};
 
 use clap::{Arg, ArgAction, Command, value_parser};
@@ -71,6 +71,17 @@ fn quiet<'a>(alloc: Global) -> Arg<'a>
     flag(alloc, "quiet", "Shows no progress on a terminal")
 }
 
+/// The option under which line ends do not count.
+fn ignore_line_ends<'a>(alloc: Global) -> Arg<'a>
+    ensures { IsArg ignore_line_ends result }
+{
+    flag(
+        alloc,
+        "ignore-line-ends",
+        "Compares texts line by line; neither line ends nor a last empty line count",
+    )
+}
+
 /// The argument that numbers a message or an event, from 1.
 fn number<'a>(alloc: Global, help: &'static str) -> Arg<'a>
     ensures { IsArg number result }
@@ -124,7 +135,8 @@ fn check_options<'a>(alloc: Global) -> Result<Command<'a>, AllocError>
             alloc,
             "every",
             "Lists every violation, consequences included",
-        ))
+        ))?
+        .arg(ignore_line_ends(alloc))
 }
 
 fn check<'a>(alloc: Global) -> Result<Command<'a>, AllocError>
@@ -150,6 +162,7 @@ fn explain<'a>(alloc: Global) -> Result<Command<'a>, AllocError>
             "all",
             "Explains every violation that check --all lists",
         ))?
+        .arg(ignore_line_ends(alloc))?
         .arg(quiet(alloc))?
         .arg(log_file(alloc))
 }

@@ -1,4 +1,9 @@
 //! What a command line can ask for.
+ghost use Rattle.std.specs.Prelude.{◌≡◌};
+ghost use Rattle.lsp_command.specs.Words.{limits_by};
+
+use lsp_frame::Limits;
+use lsp_types::LineEnds;
 use lsp_verdict::{Completeness, Lines, Listing, Mode};
 use std::num::NonZeroU64;
 
@@ -36,4 +41,18 @@ pub struct Request<'a> {
     pub file: Option<&'a str>,
     /// Whether no progress is shown.
     pub quiet: bool,
+    /// Whether the texts of snapshots and saves are compared with their line ends.
+    pub line_ends: LineEnds,
+}
+
+impl<'a> Request<'a> {
+    /// The limits of what is read: those of the profile, where line ends count or not.
+    pub fn limits(&self) -> Limits
+        ensures { result ≡ limits_by self.now.line_ends }
+    {
+        match self.line_ends {
+            LineEnds::Exact => Limits::profile(),
+            LineEnds::Ignored => Limits::profile().ignoring_line_ends(),
+        }
+    }
 }

@@ -4,12 +4,13 @@ ghost use Rattle.clap.specs.Words.{App, one_of, subcommand_rows_of};
 ghost use Rattle.lsp_command.specs.CommandLine.{IsCommandLine};
 ghost use Rattle.lsp_command.specs.Words.{Asks, HasTask, IsFlag, NumberIn, Refuses, RequestIn};
 ghost use Rattle.lsp_command.specs.Words.{TaskIn, check_of, completeness_of, explain_of, file_of};
-ghost use Rattle.lsp_command.specs.Words.{lines_of, listing_of, mode_of, rows_in};
+ghost use Rattle.lsp_command.specs.Words.{line_ends_of, lines_of, listing_of, mode_of, rows_in};
 
 use crate::command_line::commands::command_line;
 use crate::command_line::task::{Request, Task};
 use clap::error::ErrorKind;
 use clap::{ArgMatches, Error};
+use lsp_types::LineEnds;
 use lsp_verdict::{Completeness, Lines, Listing, Mode};
 use std::alloc::Global;
 use std::num::NonZeroU64;
@@ -77,6 +78,17 @@ fn lines_of(set: bool) -> Lines
     ensures { result ≡ lines_of set }
 {
     if set { Lines::Long } else { Lines::Short }
+}
+
+/// Whether line ends count, where the option for ignoring them is set or not.
+fn line_ends_of(set: bool) -> LineEnds
+    ensures { result ≡ line_ends_of set }
+{
+    if set {
+        LineEnds::Ignored
+    } else {
+        LineEnds::Exact
+    }
 }
 
 /// Whether this option is set.
@@ -173,7 +185,13 @@ fn request_in<'a>(matches: &ArgMatches<'a>) -> Option<Request<'a>>
     let task = task_of(name, arguments)?;
     let file = file_of(arguments.get_str("file"));
     let quiet = is_set(arguments, "quiet");
-    Some(Request { task, file, quiet })
+    let ignored = is_set(arguments, "ignore-line-ends");
+    Some(Request {
+        task,
+        file,
+        quiet,
+        line_ends: line_ends_of(ignored),
+    })
 }
 
 /// Reads the words of a command line, the program's name first.

@@ -5,11 +5,12 @@ use Rattle.lsp_types.specs.declared.position.Encoding.TheVariants.{Utf8, Utf16, 
 use Rattle.lsp_types.specs.declared.position.Position.{Position}
 use Rattle.lsp_types.specs.declared.position.Span.{Span}
 use Rattle.lsp_types.specs.declared.change.SyncKind.TheVariants.{Nothing, Full, Incremental}
+use Rattle.lsp_types.specs.declared.line_ends.LineEnds.TheVariants.{Exact, Ignored}
 use Rattle.lsp_text.specs.Edits.{Edit}
 use Rattle.lsp_docs.specs.Texts.{Text}
 use Rattle.lsp_docs.specs.Terms.{Terms}
 use Rattle.lsp_docs.specs.Calls.{Call, opens, changes, closes, saves, shows}
-use Rattle.lsp_explain.specs.Fact.{of_uri, holds, sends, shows_version, has_changes, has_kind, counts_in, fails, line_has, falls_inside, fits_in, would_have, may_have, differs_at, by_messages, in_editor, saved_line, keeps}
+use Rattle.lsp_explain.specs.Fact.{of_uri, holds, sends, shows_version, has_changes, has_kind, counts_in, fails, line_has, falls_inside, fits_in, would_have, may_have, differs_at, by_messages, in_editor, in_line_ends, saved_line, keeps}
 use Rattle.lsp_explain.specs.Part.{Part}
 use Rattle.lsp_explain.specs.DocumentFacts.{AreDocumentFacts}
 
@@ -31,7 +32,11 @@ edit span text = record { span = span; text = text }
 
 -- at most 20 bytes, and two versions are kept
 abbrev terms : Terms
-terms = record { limit = 20; kept = 2 }
+terms = record { limit = 20; kept = 2; line_ends = Exact }
+
+-- the same where line ends do not count
+abbrev by_lines : Terms
+by_lines = record { limit = 20; kept = 2; line_ends = Ignored }
 
 -- a smile, two units of UTF-16 and four bytes, in the second line
 abbrev smiling : Text
@@ -161,7 +166,56 @@ saved_other :
     AreDocumentFacts terms Utf16 opened (saves A (Some (codes "ab\nxy\n"))) 608
     (of_uri A ∷ holds (pos 1) ∷ counts_in Utf16 ∷ differs_at (at 1 1) ∷ by_messages (whole (120 ∷ 128512 ∷ codes "y\n")) ∷ saved_line (whole (codes "xy\n")) ∷ [])
 saved_other =
-    record { details = _; says = (refl, (4, record { before = refl; here = λ e. true≢false (ap (is_char 128512) e) }, refl)); are = refl }
+    record {
+      details = _;
+      says = (
+        refl,
+        record {
+          place = _;
+          at = (4, record { before = refl; here = λ e. true≢false (ap (is_char 128512) e) }, refl);
+          are = refl;
+        },
+      );
+      are = refl;
+    }
+
+-- a saved text differs in its line ends alone
+saved_ends : AreDocumentFacts terms Utf16 opened
+    (saves A (Some (codes "ab\r\nx" ++ 128512 ∷ codes "y"))) 608
+    (of_uri A ∷ holds (pos 1) ∷ counts_in Utf16 ∷ differs_at (at 0 2)
+    ∷ by_messages (whole (codes "ab\n")) ∷ saved_line (whole (codes "ab\r\n")) ∷ in_line_ends ∷ [])
+saved_ends =
+    record {
+      details = _;
+      says = (
+        refl,
+        record {
+          place = _;
+          at = (2, record { before = refl; here = λ e. true≢false (ap (is_char 10) e) }, refl);
+          are = refl;
+        },
+      );
+      are = refl;
+    }
+
+-- where line ends do not count, the texts first differ in the second line
+saved_line_differs : AreDocumentFacts by_lines Utf16 opened
+    (saves A (Some (codes "ab\r\nxy\r\n"))) 608
+    (of_uri A ∷ holds (pos 1) ∷ counts_in Utf16 ∷ differs_at (at 1 1)
+    ∷ by_messages (whole (120 ∷ 128512 ∷ codes "y")) ∷ saved_line (whole (codes "xy")) ∷ [])
+saved_line_differs =
+    record {
+      details = _;
+      says = (
+        refl,
+        record {
+          place = _;
+          at = (4, record { before = refl; here = λ e. true≢false (ap (is_char 128512) e) }, refl);
+          are = refl;
+        },
+      );
+      are = refl;
+    }
 
 abbrev edited : List Call
 edited =
@@ -179,7 +233,18 @@ kept_differs :
 kept_differs =
     record {
       details = _;
-      says = inr (refl, record { text = codes "q"; other = refl; apart = (0, record { before = refl; here = λ e. true≢false (ap (is_char 113) e) }, refl) });
+      says = inr (
+        refl,
+        record {
+          text = codes "q";
+          other = refl;
+          apart = record {
+            place = _;
+            at = (0, record { before = refl; here = λ e. true≢false (ap (is_char 113) e) }, refl);
+            are = refl;
+          };
+        },
+      );
       are = refl;
     }
 
@@ -190,6 +255,17 @@ refuted :
 refuted =
     record {
       details = _;
-      says = inr (inr (refl, record { other = codes "new"; waiting = refl; apart = (1, record { before = refl; here = λ e. true≢false (ap (is_char 111) e) }, refl) }));
+      says = inr (inr (
+        refl,
+        record {
+          other = codes "new";
+          waiting = refl;
+          apart = record {
+            place = _;
+            at = (1, record { before = refl; here = λ e. true≢false (ap (is_char 111) e) }, refl);
+            are = refl;
+          };
+        },
+      ));
       are = refl;
     }

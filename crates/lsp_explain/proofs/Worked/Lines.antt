@@ -24,6 +24,7 @@ use Rattle.lsp_explain.specs.Fact.{of_uri, holds, holds_by, sends, shows_version
 use Rattle.lsp_explain.specs.Fact.{has_kind, counts_in, fails, line_has, falls_inside, fits_in}
 use Rattle.lsp_explain.specs.Fact.{would_have}
 use Rattle.lsp_explain.specs.Fact.{may_have, differs_at, by_messages, in_editor, saved_line, keeps}
+use Rattle.lsp_explain.specs.Fact.{in_line_ends}
 use Rattle.lsp_explain.specs.Fact.{offers, in_record, shown_by, equal_by, answered_by, asked_by}
 use Rattle.lsp_explain.specs.Fact.{led_by, waits_since, has_suspects, suspects}
 use Rattle.lsp_explain.specs.Part.{Part}
@@ -57,6 +58,9 @@ of_a_difference : fact_lines (differs_at (at 10 4) ∷ by_messages (whole (codes
     ≡ codes "at 10 4\nby-messages \"int x;\\n\"\nin-editor \"int y;\\r\\n\"\nsaved \"\"\n"
 unfolding digits escape_byte encode
 of_a_difference = refl
+
+of_line_ends : fact_lines (in_line_ends ∷ []) ≡ codes "line-ends option --ignore-line-ends\n"
+of_line_ends = refl
 
 of_a_fit : fact_lines (fits_in (Utf8 ∷ Utf32 ∷ []) ∷ []) ≡ codes "fits utf-8 utf-32\n"
 of_a_fit = refl

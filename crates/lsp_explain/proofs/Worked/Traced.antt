@@ -10,6 +10,7 @@ use Rattle.json.specs.Text.{content}
 use Rattle.json.specs.Word.{word, after_number}
 use Rattle.json.specs.Print.{escape_byte}
 use Rattle.serde_json.specs.Read.{number_of}
+use Rattle.lsp_types.specs.declared.line_ends.LineEnds.TheVariants.{Exact}
 use Rattle.lsp_docs.specs.Terms.{Terms}
 use Rattle.lsp_survey.specs.Asking.{numbered}
 use Rattle.lsp_verdict.specs.Event.{Event}
@@ -96,7 +97,7 @@ opened_again = refl
 
 -- a late snapshot clears the versions up to its own, and one that differs ends with its own
 abbrev keeping : Terms
-keeping = record { limit = 16777216; kept = 16 }
+keeping = record { limit = 16777216; kept = 16; line_ends = Exact }
 
 late_suspect : fact_lines (traced keeping
     (START ++ OPEN (codes "1") (codes "ab") ∷ CHG (codes "2") (FULL (codes "ax")) ∷ CHG (codes "3")

@@ -156,7 +156,7 @@ fn of_opening<S: TextStore>(
 ) -> Result<FactList, Memory>
     ensures { IfOk result (λ facts. (calls : List Call) → Stands docs.now calls
         → call_rule docs.now.terms calls (opens uri.now version (chars text.now)) ≡ Some rule
-        → AreOfOpening docs.now.terms.limit encoding
+        → AreOfOpening docs.now.terms encoding
         (versions_of uri.now (waiting docs.now.terms calls))
         (versioned version (chars text.now)) rule facts) }
 {
@@ -182,15 +182,17 @@ fn refuted<S: TextStore>(
     text: &str,
 ) -> Result<FactList, Memory>
     ensures { IfOk result (λ facts. (calls : List Call) → Stands docs.now calls
-        → list_any (differs (versioned version (chars text.now)))
+        → list_any (differs docs.now.terms.line_ends (versioned version (chars text.now)))
         (versions_of uri.now (waiting docs.now.terms calls)) ≡ true
-        → IsRefuted encoding (versions_of uri.now (waiting docs.now.terms calls))
+        → IsRefuted docs.now.terms.line_ends encoding
+        (versions_of uri.now (waiting docs.now.terms calls))
         (versioned version (chars text.now)) facts) }
 {
-    let Some(other) = first_other(docs.waiting_texts(uri, version), text) else {
+    let line_ends = docs.line_ends();
+    let Some(other) = first_other(line_ends, docs.waiting_texts(uri, version), text) else {
         return Ok(FactList::new(alloc));
     };
-    let facts = difference(alloc, encoding, text, other, Against::Recorded)?;
+    let facts = difference(alloc, line_ends, encoding, text, other, Against::Recorded)?;
     Ok(facts)
 }
 
@@ -233,7 +235,7 @@ fn of_change<S: TextStore>(
     ensures { IfOk result (λ facts. (calls : List Call) → Stands docs.now calls
         → call_rule docs.now.terms calls
         (changes_by encoding kind uri.now version (edits_of changes.now)) ≡ Some rule
-        → AreOfChange docs.now.terms.limit encoding kind
+        → AreOfChange docs.now.terms encoding kind
         (versions_of uri.now (waiting docs.now.terms calls)) version (edits_of changes.now)
         (held docs.now.terms uri.now calls) rule facts) }
 {
@@ -309,13 +311,15 @@ fn of_save<S: TextStore>(
 ) -> Result<FactList, Memory>
     ensures { IfOk result (λ facts. (calls : List Call) (rule : ℕ) → Stands docs.now calls
         → call_rule docs.now.terms calls (saves uri.now (Some (chars text.now))) ≡ Some rule
-        → AreOfSave encoding (Some (chars text.now)) (held docs.now.terms uri.now calls) facts) }
+        → AreOfSave docs.now.terms.line_ends encoding (Some (chars text.now))
+        (held docs.now.terms uri.now calls) facts) }
 {
     let Some(store) = docs.store_of(uri) else {
         return Ok(FactList::new(alloc));
     };
     let held = store.to_text(alloc)?;
-    difference(alloc, encoding, held.as_str(), text, Against::Saved)
+    let ends = docs.line_ends();
+    difference(alloc, ends, encoding, held.as_str(), text, Against::Saved)
 }
 
 /// What is said about a snapshot under its rule.
@@ -330,7 +334,7 @@ fn of_snapshot<S: TextStore>(
 ) -> Result<FactList, Memory>
     ensures { IfOk result (λ facts. (calls : List Call) → Stands docs.now calls
         → call_rule docs.now.terms calls (shows uri.now version (chars text.now)) ≡ Some rule
-        → AreOfSnapshot encoding (kept docs.now.terms uri.now calls)
+        → AreOfSnapshot docs.now.terms.line_ends encoding (kept docs.now.terms uri.now calls)
         (held docs.now.terms uri.now calls) (versioned version (chars text.now)) rule facts) }
 {
     if rule == rules::LATE_SNAPSHOT {
@@ -340,7 +344,14 @@ fn of_snapshot<S: TextStore>(
         return Ok(FactList::new(alloc));
     };
     let held = store.to_text(alloc)?;
-    let facts = difference(alloc, encoding, held.as_str(), text, Against::Recorded)?;
+    let facts = difference(
+        alloc,
+        docs.line_ends(),
+        encoding,
+        held.as_str(),
+        text,
+        Against::Recorded,
+    )?;
     Ok(facts)
 }
 

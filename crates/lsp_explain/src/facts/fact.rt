@@ -47,6 +47,8 @@ pub enum Fact {
     InEditor(Excerpt),
     /// The same of the text that was saved.
     SavedLine(Excerpt),
+    /// The two texts differ in line ends alone.
+    LineEnds,
     /// The versions that are kept in addition to the held one.
     Kept(Vec<i32>),
     /// The id in the message. `None` where it is null.

@@ -4,12 +4,13 @@ ghost use Rattle.std.specs.Prelude.{◌≡◌, ◌<◌, ◌^◌, ◌+◌, [], �
 ghost use Rattle.std.specs.Str.{chars};
 ghost use Rattle.lsp_explain.specs.Fact.{of_uri, counts_in, fails};
 ghost use Rattle.lsp_explain.specs.Fact.{falls_inside, fact_view, facts_view};
-ghost use Rattle.lsp_explain.specs.DocumentFacts.{line_length, first_length, fits_fact};
+ghost use Rattle.lsp_explain.specs.DocumentFacts.{ends_facts, line_length, first_length};
+ghost use Rattle.lsp_explain.specs.DocumentFacts.{fits_fact};
 ghost use Rattle.lsp_explain.specs.Edges.{edges};
 
 use crate::facts::edges::edges;
 use crate::facts::fact::Fact;
-use lsp_text::{line_at, width_of};
+use lsp_text::{line_at, same_lines, width_of};
 use lsp_types::{Encoding, Memory, Position, Span};
 use std::alloc::Global;
 use std::marker::Model;
@@ -108,6 +109,18 @@ impl FactList {
             self.push(Fact::Fits(names))?;
         }
         Ok(())
+    }
+
+    /// Adds that two texts differ in line ends alone, where they do.
+    pub(crate) fn push_line_ends(&mut self, held: &str, other: &str) -> Result<(), Memory>
+        ensures { OnOk result (self.new ≡ self.old
+            ++ ends_facts (chars held.now) (chars other.now)) }
+    {
+        if same_lines(held, other) {
+            self.push(Fact::LineEnds)
+        } else {
+            Ok(())
+        }
     }
 
     /// Adds the length of the line of a position, where the text has that line.

@@ -10,7 +10,7 @@ ghost use Rattle.lsp_rpc.specs.View.{message_view, texts_view};
 ghost use Rattle.lsp_verdict.specs.Report.{encoding_name, line};
 ghost use Rattle.lsp_explain.specs.Fact.{fact_view, facts_view, has_kind, counts_in, differs_at};
 ghost use Rattle.lsp_explain.specs.Fact.{fails, in_phase, has_id, waits, waits_since, keeps};
-ghost use Rattle.lsp_explain.specs.Fact.{fits_in, offers};
+ghost use Rattle.lsp_explain.specs.Fact.{fits_in, in_line_ends, offers};
 ghost use Rattle.lsp_explain.specs.Lines as spec;
 ghost use Rattle.lsp_explain.specs.Part.{part_view};
 
@@ -158,6 +158,14 @@ fn push_place(lines: &mut String, place: Position) -> Result<(), Memory>
     let Position { line, column } = place;
     writeln!(lines, "at {line} {column}")?;
     Ok(())
+}
+
+/// Adds that two texts differ in line ends alone, and the option that ignores these.
+fn push_line_ends(lines: &mut String) -> Result<(), Memory>
+    ensures { OnOk result (string_bytes lines.new ≡ string_bytes lines.old
+        ++ spec.fact_line in_line_ends) }
+{
+    Ok(lines.push_str("line-ends option --ignore-line-ends\n")?)
 }
 
 fn push_position(lines: &mut String, position: Position) -> Result<(), Memory>
@@ -339,6 +347,7 @@ fn push_fact(alloc: Global, lines: &mut String, fact: &Fact) -> Result<(), Memor
         Fact::ByMessages(line) => push_part(alloc, lines, "by-messages", line),
         Fact::InEditor(line) => push_part(alloc, lines, "in-editor", line),
         Fact::SavedLine(line) => push_part(alloc, lines, "saved", line),
+        Fact::LineEnds => push_line_ends(lines),
         Fact::Kept(versions) => push_versions(lines, versions.as_slice()),
         Fact::Id(id) => push_message_id(alloc, lines, id.as_ref()),
         Fact::Phase(phase) => push_phase(lines, *phase),

@@ -15,8 +15,8 @@ ghost use Rattle.lsp_explain.specs.Refuting as spec;
 use crate::facts::making::{Made, make};
 use lsp_docs::Docs;
 use lsp_rpc::Act;
-use lsp_text::TextStore;
-use lsp_types::{Change, Encoding, Memory};
+use lsp_text::{TextStore, same_lines};
+use lsp_types::{Change, Encoding, LineEnds, Memory};
 use std::alloc::Global;
 
 /// Those of the snapshots that wait for the version of an act that have another text than it brings
@@ -40,7 +40,7 @@ pub fn refuting<S: TextStore>(
     match act {
         Act::DidOpen { uri, version, text } => {
             let texts = docs.waiting_texts(uri.as_str(), *version);
-            others(alloc, texts, text.as_str(), snapshots)
+            others(alloc, docs.line_ends(), texts, text.as_str(), snapshots)
         }
         Act::DidChange {
             uri,
@@ -52,7 +52,7 @@ pub fn refuting<S: TextStore>(
                 return Ok(Vec::new(alloc));
             };
             let texts = docs.waiting_texts(uri, *version);
-            let others = others(alloc, texts, text.as_str(), snapshots)?;
+            let others = others(alloc, docs.line_ends(), texts, text.as_str(), snapshots)?;
             Ok(others)
         }
         _ => Ok(Vec::new(alloc)),
@@ -87,16 +87,17 @@ fn made_text<S: TextStore>(
 /// their texts are in the same order.
 fn others(
     alloc: Global,
+    line_ends: LineEnds,
     texts: &[String],
     text: &str,
     snapshots: &[u64],
 ) -> Result<Vec<u64>, Memory>
     ensures { IfOk result (λ others. others.items
-        ≡ spec.others_of (chars text.now) snapshots.now (texts_of texts.now)) }
+        ≡ spec.others_of line_ends (chars text.now) snapshots.now (texts_of texts.now)) }
 {
     let mut others = Vec::new(alloc);
     for (index, event) in snapshots.iter().enumerate() {
-        if is_other_at(texts, index, text) {
+        if is_other_at(line_ends, texts, index, text) {
             others.push(*event)?;
         }
     }
@@ -104,22 +105,27 @@ fn others(
 }
 
 /// Whether there is a text at this place, and it is another one.
-fn is_other_at(texts: &[String], index: usize, text: &str) -> bool
-    ensures { result ≡ spec.is_other_at (chars text.now) (slice_get (texts_of texts.now) index) }
+fn is_other_at(line_ends: LineEnds, texts: &[String], index: usize, text: &str) -> bool
+    ensures { result ≡ spec.is_other_at line_ends (chars text.now)
+        (slice_get (texts_of texts.now) index) }
 {
     match texts.get(index) {
-        Some(other) => is_other(other, text),
+        Some(other) => is_other(line_ends, other, text),
         None => false,
     }
 }
 
 /// The first that is another text than this one.
-pub(crate) fn first_other<'a>(texts: &'a [String], text: &str) -> Option<&'a str>
+pub(crate) fn first_other<'a>(
+    line_ends: LineEnds,
+    texts: &'a [String],
+    text: &str,
+) -> Option<&'a str>
     ensures { option_map (λ t. chars t.now) result
-        ≡ spec.first_other (chars text.now) (texts_of texts.now) }
+        ≡ spec.first_other line_ends (chars text.now) (texts_of texts.now) }
 {
     for other in texts {
-        if is_other(other, text) {
+        if is_other(line_ends, other, text) {
             return Some(other.as_str());
         }
     }
@@ -127,8 +133,11 @@ pub(crate) fn first_other<'a>(texts: &'a [String], text: &str) -> Option<&'a str
 }
 
 /// Whether it is another text than this one.
-fn is_other(other: &String, text: &str) -> bool
-    ensures { result ≡ spec.is_other (chars text.now) (text_of other.now) }
+fn is_other(line_ends: LineEnds, other: &String, text: &str) -> bool
+    ensures { result ≡ spec.is_other line_ends (chars text.now) (text_of other.now) }
 {
-    other.as_str() != text
+    match line_ends {
+        LineEnds::Exact => other.as_str() != text,
+        LineEnds::Ignored => !same_lines(text, other.as_str()),
+    }
 }

@@ -53,13 +53,17 @@ events_pass t u before (e ∷ after) none from =
     let rest = subst (λ w. AreAcceptedFrom u w (each_from call_at (before ++ e ∷ []) after)) (sym (each_of-snoc call_at before e)) call.1 in
     ap (λ o. option_or o (first_from (no_at u) (before ++ e ∷ []) after)) here ∙ events_pass t u (before ++ e ∷ []) after parts.1 rest
 
-module _ (t u : Terms) (same : t.limit ≡ u.limit) (none_kept : t.kept ≡ 0) where
+module _ (t u : Terms) (same : t.limit ≡ u.limit) (ends : t.line_ends ≡ u.line_ends)
+    (none_kept : t.kept ≡ 0) where
   clean_passes : (es : List Event) → first_no t es ≡ None → first_no u es ≡ None
-  clean_passes es none = events_pass t u [] es none (calls_pass t u same none_kept [] (calls es) tt (calls_accepted t es none))
+  clean_passes es none = events_pass t u [] es none
+      (calls_pass t u same ends none_kept [] (calls es) tt (calls_accepted t es none))
 
   summary_same : (es : List Event) → first_no t es ≡ None → summary t es ≡ summary u es
   summary_same es none =
-      ap (λ (n : ℕ). record (summary t es) { unmatched = n }) (unmatched_same t u same none_kept (calls es) (calls_accepted t es none))
+      ap (λ (n : ℕ). record (summary t es) {
+        unmatched = n;
+      }) (unmatched_same t u same ends none_kept (calls es) (calls_accepted t es none))
       ∙ ap (λ d. record (summary t es) { unmatched = unmatched u (calls es); documents = map document_of d }) (documents_same t u same (calls es))
 
   yes_passes : (es : List Event) (end : Ending) (s : Summary) → verdict t es end ≡ yes s → verdict u es end ≡ yes s
@@ -71,11 +75,13 @@ module _ (t u : Terms) (same : t.limit ≡ u.limit) (none_kept : t.kept ≡ 0) w
 -- ---- in format 2
 
 clean_two : (limits : Bounds) (format : Format) (es : List Event) → first_no (terms_of limits format) es ≡ None → first_no (terms_of limits Two) es ≡ None
-clean_two limits One es none = clean_passes (terms_of limits One) (terms_of limits Two) refl refl es none
+clean_two limits One es none =
+    clean_passes (terms_of limits One) (terms_of limits Two) refl refl refl es none
 clean_two limits Two es none = none
 
 yes_two : (limits : Bounds) (format : Format) (es : List Event) (end : Ending) (s : Summary) → verdict (terms_of limits format) es end ≡ yes s → verdict (terms_of limits Two) es end ≡ yes s
-yes_two limits One es end s e = yes_passes (terms_of limits One) (terms_of limits Two) refl refl es end s e
+yes_two limits One es end s e =
+    yes_passes (terms_of limits One) (terms_of limits Two) refl refl refl es end s e
 yes_two limits Two es end s e = e
 
 accepted_two : (limits : Bounds) (format : Format) (records : List Record) → AreAccepted limits format records → AreAccepted limits Two records

@@ -11,6 +11,8 @@ use Rattle.std.proofs.Math.Bool.{and-false}
 use Rattle.lsp_types.specs.declared.position.Encoding.{Encoding}
 use Rattle.lsp_types.specs.declared.change.SyncKind.{SyncKind}
 use Rattle.lsp_text.specs.Edits.{Edit, applied}
+use Rattle.lsp_types.specs.declared.line_ends.LineEnds.{LineEnds}
+use Rattle.lsp_text.specs.SameText.{same_text}
 use Rattle.lsp_docs.specs.Calls.{Bytes, Call, opens, changes, closes, saves, shows, is_close}
 use Rattle.lsp_docs.specs.Documents.{Version, versioned, is_after, is_at, opening, text_or, revised, revised_by, held_since, held, as_held, held_entry, documents}
 use Rattle.lsp_docs.specs.Kept.{last_of, kept}
@@ -89,11 +91,15 @@ none_at (k ∷ ks) v n up late =
     let first = behind k.number v.number n (last_after k.number ks v parts.0) late in
     ap (λ b. b || list_any (is_at n) ks) first ∙ none_at ks v n parts.1 late
 
-none_differs : (ks : List Version) (n : ℤ) (text : Text) → list_any (is_at n) ks ≡ false → list_any (λ w. differs w (versioned n text)) ks ≡ false
-none_differs [] n text none = refl
-none_differs (k ∷ ks) n text none =
+none_differs : (ends : LineEnds) (ks : List Version) (n : ℤ) (text : Text)
+    → list_any (is_at n) ks ≡ false
+    → list_any (λ w. differs ends w (versioned n text)) ks ≡ false
+none_differs ends [] n text none = refl
+none_differs ends (k ∷ ks) n text none =
     let parts = or_parts (int_eq k.number n) (list_any (is_at n) ks) none in
-    ap (λ b. (b && not (bytes_eq k.text text)) || list_any (λ w. differs w (versioned n text)) ks) parts.0 ∙ none_differs ks n text parts.1
+    ap (λ b. (b && not (same_text ends k.text text))
+    || list_any (λ w. differs ends w (versioned n text)) ks) parts.0
+    ∙ none_differs ends ks n text parts.1
 
 rows_pass : (a b : Bool) → first_row ((a, Some 701) ∷ (b, Some 702) ∷ []) ≡ None → (a ≡ false) × (b ≡ false)
 rows_pass true b e = absurd cc
@@ -101,42 +107,72 @@ rows_pass false true e = absurd cc
 rows_pass false false e = (refl, refl)
 
 -- a snapshot that the held version alone lets pass
-shown_passes : (n : ℤ) (text : Text) (ks : List Version) (h : Option Version) → rises (ks ++ option_to_list h) ≡ true → held_rule n text h ≡ None → show_rule n text ks h ≡ None
-shown_passes n text ks None up none = refl
-shown_passes n text ks (Some v) up none =
-    let rows = rows_pass (int_lt n v.number) (differs v (versioned n text)) none in
+shown_passes : (ends : LineEnds) (n : ℤ) (text : Text) (ks : List Version) (h : Option Version)
+    → rises (ks ++ option_to_list h) ≡ true → held_rule ends n text h ≡ None
+    → show_rule ends n text ks h ≡ None
+shown_passes ends n text ks None up none = refl
+shown_passes ends n text ks (Some v) up none =
+    let own = differs ends v (versioned n text) in
+    let rows = rows_pass (int_lt n v.number) own none in
     let late : (list_all (is_after n) ks && int_lt n v.number) ≡ false = ap (λ b. list_all (is_after n) ks && b) rows.0 ∙ and-false (list_all (is_after n) ks) in
-    let other : (list_any (λ w. differs w (versioned n text)) ks || differs v (versioned n text)) ≡ false =
-    ap (λ b. b || differs v (versioned n text)) (none_differs ks n text (none_at ks v n up rows.0)) ∙ rows.1 in
-    ap (λ b. first_row ((b, Some 701) ∷ (list_any (λ w. differs w (versioned n text)) ks || differs v (versioned n text), Some 702) ∷ [])) late
+    let other : (list_any (λ w. differs ends w (versioned n text)) ks || own) ≡ false =
+    ap (λ b. b || own) (none_differs ends ks n text (none_at ks v n up rows.0)) ∙ rows.1 in
+    ap (λ b. first_row ((b, Some 701)
+    ∷ (list_any (λ w. differs ends w (versioned n text)) ks || own, Some 702) ∷ [])) late
     ∙ ap (λ b. first_row ((false, Some 701) ∷ (b, Some 702) ∷ [])) other
 
 -- is of no kept version
-shown_at : (n : ℤ) (text : Text) (ks : List Version) (h : Option Version) → rises (ks ++ option_to_list h) ≡ true → (h ≡ None → ks ≡ []) → held_rule n text h ≡ None → has_number n ks h ≡ holds_number n h
-shown_at n text ks None up empty none = ap (λ vs. list_any (is_at n) vs || false) (empty refl)
-shown_at n text ks (Some v) up empty none =
-    let rows = rows_pass (int_lt n v.number) (differs v (versioned n text)) none in
+shown_at : (ends : LineEnds) (n : ℤ) (text : Text) (ks : List Version) (h : Option Version)
+    → rises (ks ++ option_to_list h) ≡ true → (h ≡ None → ks ≡ [])
+    → held_rule ends n text h ≡ None → has_number n ks h ≡ holds_number n h
+shown_at ends n text ks None up empty none = ap (λ vs. list_any (is_at n) vs || false) (empty refl)
+shown_at ends n text ks (Some v) up empty none =
+    let rows = rows_pass (int_lt n v.number) (differs ends v (versioned n text)) none in
     ap (λ b. b || int_eq v.number n) (none_at ks v n up rows.0)
 
 -- ---- with nothing kept, and with more
 
-module _ (t u : Terms) (same : t.limit ≡ u.limit) (none_kept : t.kept ≡ 0) where
+module _ (t u : Terms) (same : t.limit ≡ u.limit) (ends : t.line_ends ≡ u.line_ends)
+    (none_kept : t.kept ≡ 0) where
   change_same : (ws : List Version) (enc : Encoding) (kind : SyncKind) (n : ℤ) (cs : List Edit) (h : Option Version) → change_rule t ws enc kind n cs h ≡ change_rule u ws enc kind n cs h
   change_same ws enc kind n cs None = refl
   change_same ws enc kind n cs (Some v) =
-      ap (λ l. first_row ((not (int_lt v.number n), Some 603) ∷ (not (fits_kind kind cs), Some 604) ∷ (true, text_rule ws n (applied l enc v.text cs)) ∷ [])) same
+      ap (λ e. first_row ((not (int_lt v.number n), Some 603) ∷ (not (fits_kind kind cs), Some 604)
+      ∷ (true, text_rule e ws n (applied t.limit enc v.text cs)) ∷ [])) ends
+      ∙ ap (λ l. first_row ((not (int_lt v.number n), Some 603) ∷ (
+        not (fits_kind kind cs),
+        Some 604,
+      )
+      ∷ (true, text_rule u.line_ends ws n (applied l enc v.text cs)) ∷ [])) same
 
   waits_same : (uri : Bytes) (before : List Call) → versions_of uri (waiting t before) ≡ versions_of uri (waiting u before)
   waits_same uri before = ap (versions_of uri) (waiting_same t u same before)
+
+  held_here : (uri : Bytes) (n : ℤ) (text : Text) (before : List Call)
+      → held_rule u.line_ends n text (held u uri before)
+      ≡ held_rule t.line_ends n text (held t uri before)
+  held_here uri n text before =
+      ap (λ x. held_rule x n text (held u uri before)) (sym ends)
+      ∙ ap (held_rule t.line_ends n text) (sym (held_same t u same uri before))
 
   -- a call that is accepted with nothing kept is accepted
   call_passes : (before : List Call) (c : Call) → AreAccepted u before → call_rule t before c ≡ None → call_rule u before c ≡ None
   call_passes before (opens uri n text) accepted e =
       sym (
-      ap (λ h. first_row ((is_some h, Some 601) ∷ (nat_lt t.limit (byte_len text), Some 607) ∷ (true, version_rule (versions_of uri (waiting t before)) (versioned n text)) ∷ [])) (held_same t u same uri before)
-      ∙ ap (λ l. first_row ((is_some (held u uri before), Some 601) ∷ (nat_lt l (byte_len text), Some 607) ∷ (true, version_rule (versions_of uri (waiting t before)) (versioned n text)) ∷ [])) same
-      ∙ ap (λ w. first_row ((is_some (held u uri before), Some 601) ∷ (nat_lt u.limit (byte_len text), Some 607) ∷ (true, version_rule w (versioned n text)) ∷ [])) (waits_same uri before))
+      ap (λ h. opening_rule t.line_ends t.limit h (versions_of uri (waiting t before)))
+      (held_same t u same uri before)
+      ∙ ap (λ l. opening_rule t.line_ends l here (versions_of uri (waiting t before))) same
+      ∙ ap (λ e. opening_rule e u.limit here (versions_of uri (waiting t before))) ends
+      ∙ ap (opening_rule u.line_ends u.limit here) (waits_same uri before))
       ∙ e
+    where
+      here : Option Version
+      here = held u uri before
+
+      opening_rule : LineEnds → ℕ → Option Version → List Version → Option ℕ
+      opening_rule ends limit h ws =
+          first_row ((is_some h, Some 601) ∷ (nat_lt limit (byte_len text), Some 607)
+          ∷ (true, version_rule ends ws (versioned n text)) ∷ [])
   call_passes before (changes enc kind uri n cs) accepted e =
       sym (
       ap (change_rule t (versions_of uri (waiting t before)) enc kind n cs) (held_same t u same uri before)
@@ -144,10 +180,13 @@ module _ (t u : Terms) (same : t.limit ≡ u.limit) (none_kept : t.kept ≡ 0) w
       ∙ ap (λ w. change_rule u w enc kind n cs (held u uri before)) (waits_same uri before))
       ∙ e
   call_passes before (closes uri) accepted e = ap (λ h. if is_some h then None else Some 602) (sym (held_same t u same uri before)) ∙ e
-  call_passes before (saves uri text) accepted e = ap (save_rule text) (sym (held_same t u same uri before)) ∙ e
+  call_passes before (saves uri text) accepted e =
+      ap (λ x. save_rule x text (held u uri before)) (sym ends)
+      ∙ (ap (save_rule t.line_ends text) (sym (held_same t u same uri before)) ∙ e)
   call_passes before (shows uri n text) accepted e =
-      shown_passes n text (kept u uri before) (held u uri before) (kept-rises u uri before accepted)
-      (ap (held_rule n text) (sym (held_same t u same uri before)) ∙ sym (rule-none_kept t before uri n text none_kept) ∙ e)
+      shown_passes u.line_ends n text (kept u uri before) (held u uri before)
+      (kept-rises u uri before accepted)
+      (held_here uri n text before ∙ sym (rule-none_kept t before uri n text none_kept) ∙ e)
 
   -- and so are all
   pub calls_pass : (before after : List Call) → AreAccepted u before → AreAcceptedFrom t before after → AreAcceptedFrom u before after
@@ -165,8 +204,12 @@ module _ (t u : Terms) (same : t.limit ≡ u.limit) (none_kept : t.kept ≡ 0) w
   entry_same before (closes uri) after accepted e = refl
   entry_same before (saves uri text) after accepted e = refl
   entry_same before (shows uri n text) after accepted e =
-      let held_here = ap (held_rule n text) (sym (held_same t u same uri before)) ∙ sym (rule-none_kept t before uri n text none_kept) ∙ e in
-      let here : has_number n (kept u uri before) (held u uri before) ≡ holds_number n (held u uri before) = shown_at n text (kept u uri before) (held u uri before) (kept-rises u uri before accepted) (none_past uri before) held_here in
+      let own =
+      held_here uri n text before ∙ sym (rule-none_kept t before uri n text none_kept) ∙ e in
+      let here : has_number n (kept u uri before) (held u uri before)
+      ≡ holds_number n (held u uri before) =
+      shown_at u.line_ends n text (kept u uri before) (held u uri before)
+      (kept-rises u uri before accepted) (none_past uri before) own in
       let compared : is_compared t before uri n after ≡ is_compared u before uri n after =
       compared-none_kept t before after uri n none_kept
       ∙ ap (λ h. holds_number n h || comes_to uri n after) (held_same t u same uri before)

@@ -15,6 +15,7 @@ use Rattle.lsp_types.specs.declared.position.Encoding.{Encoding}
 use Rattle.lsp_types.specs.declared.position.Encoding.TheVariants.{Utf16}
 use Rattle.lsp_types.specs.declared.change.SyncKind.{SyncKind}
 use Rattle.lsp_types.specs.declared.change.SyncKind.TheVariants.{Incremental}
+use Rattle.lsp_types.specs.declared.line_ends.LineEnds.TheVariants.{Exact}
 use Rattle.lsp_docs.specs.Terms.{Terms}
 use Rattle.lsp_verdict.specs.Shown.{TextAnswer, text_answer, up_to_editor}
 use Rattle.lsp_verdict.specs.Verdict.{Ending, Verdict, verdict, yes}
@@ -133,7 +134,7 @@ T version text = snapshot (codes "file:///a") (pos version) text
 
 -- format 1 with this limit
 abbrev pub limited : ℕ → Terms
-limited limit = record { limit = limit; kept = 0 }
+limited limit = record { limit = limit; kept = 0; line_ends = Exact }
 
 abbrev pub terms : Terms
 terms = limited 16777216

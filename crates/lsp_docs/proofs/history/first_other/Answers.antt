@@ -14,7 +14,8 @@ returns-then-differs g c =
     let told = simp to_z-of_z at c.differs.ensures in
     let none = simp to_z-of_z at c.loop-revision.invariant in
     sym (ap (option_map (λ r. g.S.TextStore.content r.store))
-    (find-here (λ r. differs_from (versioned c.args.version (chars c.args.text.now))
+    (find-here (λ r. differs_from c.args.line_ends
+    (versioned c.args.version (chars c.args.text.now))
     (versioned r.version (g.S.TextStore.content r.store))) c.args.revisions.now
     c.loop-revision.revision-index c.revision-item.result
     c.loop-revision-test.true c.revision-item.is none (sym told ∙ c.if-differs.true)))
@@ -24,7 +25,8 @@ loop-revision-preserved g c =
     let fits : SFits w32 c.args.version = c.ranges.version in
     let told = simp to_z-of_z at c.differs.ensures in
     let none = simp to_z-of_z at c.loop-revision.invariant in
-    simp to_z-of_z (find-more (λ r. differs_from (versioned c.args.version (chars c.args.text.now))
+    simp to_z-of_z (find-more (λ r. differs_from c.args.line_ends
+    (versioned c.args.version (chars c.args.text.now))
     (versioned r.version (g.S.TextStore.content r.store))) c.args.revisions.now
     c.loop-revision.revision-index
     c.revision-item.result c.loop-revision-test.true c.revision-item.is none

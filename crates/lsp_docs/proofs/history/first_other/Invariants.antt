@@ -7,6 +7,6 @@ use Rattle.lsp_docs.proofs.history.first_other.Given as goal
 
 abbrev pub invariant-loop-revision : goal.invariant-loop-revision
 invariant-loop-revision g l =
-    find (λ r. differs_from (versioned l.version (chars l.text))
+    find (λ r. differs_from l.line_ends (versioned l.version (chars l.text))
     (versioned r.version (g.S.TextStore.content r.store))) (take l.revision-index l.revisions)
     ≡ None

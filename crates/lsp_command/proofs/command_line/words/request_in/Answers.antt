@@ -18,10 +18,12 @@ returns c =
       task = c.in_ok-task.task;
       file = c.file_of-file.result;
       quiet = c.is_set-quiet.result;
+      line_ends = c.line_ends_of.result;
     } in
     let asked : AsksFor (Some (name, rows_in arguments)) request = record {
       task = c.in_ok-task.ensures;
       file = c.file_of-file.ensures ∙ ap file_of file;
       quiet = c.is_set-quiet.ensures;
+      line_ends = (c.is_set-ignored.result, c.is_set-ignored.ensures, c.line_ends_of.ensures);
     } in
     subst (λ (o : Option (Text × List Row)). AsksFor o request) (sym found) asked

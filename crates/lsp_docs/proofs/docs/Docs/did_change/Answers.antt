@@ -62,8 +62,9 @@ returns-clause-stands g c = λ calls h.
     let accepted = rule-stands s calls call h ∙ returns-clause-accepted g c calls h in
     let ok = simp to_z-of_z at c.in_ok-set_text.ensures.ok in
     let re = simp to_z-of_z at c.reach.ensures in
-    subst (λ w. Stands (stated (terms_in c.self.inside.limit c.self.inside.kept)
-    c.self.inside.documents.held c.self.inside.documents.kept w) (calls ++ call ∷ [])) (sym re)
+    subst (λ w. Stands (stated (terms_in c.self.inside.limit c.self.inside.kept
+    c.self.inside.line_ends) c.self.inside.documents.held c.self.inside.documents.kept w)
+    (calls ++ call ∷ [])) (sym re)
     (subst (λ x. Stands (stated x.terms x.documents x.kept (reached uri n x.waits))
     (calls ++ call ∷ [])) (sym (c.self.view_is ∙ ok.is))
     (Stands-changed s calls c.args.encoding c.args.kind uri n cs ok.text ok.kept accepted ok.made

@@ -55,11 +55,12 @@ returns-clause-stands g c = λ calls h.
     let same : KeepsSame s.kept c.insert.new.self.kept =
     subst (λ x. KeepsSame x.kept c.insert.new.self.kept) c.self.view_is
     c.in_ok-insert.ensures.kept in
-    subst (λ w. Stands (stated (terms_in c.self.inside.limit c.self.inside.kept)
-    c.insert.new.self.held c.insert.new.self.kept w) (calls ++ call ∷ [])) (sym re)
-    (subst (λ l. Stands (stated (terms_in c.self.inside.limit c.self.inside.kept) l
-    c.insert.new.self.kept (reached uri n c.self.inside.waiting)) (calls ++ call ∷ []))
-    (sym ins)
+    subst (λ w. Stands (stated (terms_in c.self.inside.limit c.self.inside.kept
+    c.self.inside.line_ends) c.insert.new.self.held c.insert.new.self.kept w)
+    (calls ++ call ∷ [])) (sym re)
+    (subst (λ l. Stands (stated (terms_in c.self.inside.limit c.self.inside.kept
+    c.self.inside.line_ends) l c.insert.new.self.kept (reached uri n c.self.inside.waiting))
+    (calls ++ call ∷ [])) (sym ins)
     (subst (λ x. Stands (stated x.terms (x.documents ++ record {
       uri = uri;
       version = versioned n content;

@@ -2,7 +2,8 @@ use Rattle.std.proofs.Common.{ℕ, ap, ◌∙◌, sym, List, Option, option_map,
 use Rattle.std.specs.Str.{chars}
 use Rattle.lsp_docs.specs.Calls.{saves}
 use Rattle.lsp_docs.specs.Documents.{versioned}
-use Rattle.lsp_docs.specs.State.{held_in, kept_in, queue_of, rule_at}
+use Rattle.lsp_text.specs.SameText.{same_text}
+use Rattle.lsp_docs.specs.State.{State, held_in, kept_in, queue_of, rule_at}
 use Rattle.lsp_docs.proofs.Stepping.{Stands-saved, rule-stands, save-differs, save-same}
 use Rattle.lsp_docs.proofs.Stepping.{save-no-text, save-closed}
 use Rattle.lsp_docs.proofs.docs.Docs.did_save.Goals as goal
@@ -49,7 +50,9 @@ returns-then-has_text-clause-accepted g c = λ calls h.
     sym (rule-stands s calls (saves uri (said c.args.text)) h)
     ∙ (ap (λ t. rule_at s (saves uri t)) (ap said c.in-Some.is)
     ∙ save-same s.terms (held_in uri s.documents) (kept_in uri s.kept) (queue_of uri s.waits.queues)
-    uri v (chars c.in-Some.text.now) there (sym c.has_text.ensures ∙ c.if-has_text.true))
+    uri v (chars c.in-Some.text.now) there
+    (ap (λ (x : State). same_text x.terms.line_ends v.text (chars c.in-Some.text.now))
+    (sym c.self.view_is) ∙ (sym c.has_text.ensures ∙ c.if-has_text.true)))
 
 pub returns-then-has_text-clause-stands : goal.returns-then-has_text-clause-stands
 returns-then-has_text-clause-stands g c = λ calls h.
@@ -71,4 +74,5 @@ returns-else-has_text-clause-rule g c = λ calls h.
     ∙ (ap (λ t. rule_at s (saves uri t)) (ap said c.in-Some.is)
     ∙ save-differs s.terms (held_in uri s.documents) (kept_in uri s.kept)
     (queue_of uri s.waits.queues) uri v (chars c.in-Some.text.now) there
-    (sym c.has_text.ensures ∙ c.if-has_text.false))
+    (ap (λ (x : State). same_text x.terms.line_ends v.text (chars c.in-Some.text.now))
+    (sym c.self.view_is) ∙ (sym c.has_text.ensures ∙ c.if-has_text.false)))

@@ -2,11 +2,11 @@ use Rattle.std.proofs.Common.{Bool, sym, ap, ◌∙◌, w32}
 use Rattle.std.specs.Prelude.{not}
 use Rattle.std.specs.List.{list_any}
 use Rattle.std.proofs.lemmas.Int.{to_z-of_z}
-use Rattle.std.specs.Str.{bytes_eq}
 use mir.Val.{SFits}
+use Rattle.lsp_text.specs.SameText.{same_text}
 use Rattle.lsp_docs.specs.Documents.{versioned}
 use Rattle.lsp_docs.specs.Rules.{differs}
-use Rattle.lsp_docs.specs.State.{queue_of}
+use Rattle.lsp_docs.specs.State.{State, queue_of}
 use Rattle.lsp_docs.specs.Texts.{Text}
 use Rattle.lsp_docs.proofs.SameVersions.{differs-texts}
 use Rattle.lsp_docs.proofs.docs.Docs.refutes.Goals as goal
@@ -17,12 +17,14 @@ returns-in-Some g c =
     let text = g.S.TextStore.content c.args.store.now in
     let v = versioned c.args.version text in
     let uri = c.args.uri.now in
-    let test : Text → Bool = λ t. not (bytes_eq text t) in
+    let ends = c.self.inside.line_ends in
+    let test : Text → Bool = λ t. not (same_text ends text t) in
     let told = simp to_z-of_z at c.in-Some.ensures in
     c.any_differs.ensures
     ∙ (ap (list_any test) told
-    ∙ (sym (differs-texts v (queue_of uri c.self.inside.waiting.queues))
-    ∙ ap (λ s. list_any (differs v) (queue_of uri s.waits.queues)) c.self.view_is))
+    ∙ (sym (differs-texts ends v (queue_of uri c.self.inside.waiting.queues))
+    ∙ ap (λ (s : State). list_any (differs s.terms.line_ends v) (queue_of uri s.waits.queues))
+    c.self.view_is))
 
 pub returns-in-None : goal.returns-in-None
 returns-in-None g c =
@@ -30,8 +32,10 @@ returns-in-None g c =
     let text = g.S.TextStore.content c.args.store.now in
     let v = versioned c.args.version text in
     let uri = c.args.uri.now in
-    let test : Text → Bool = λ t. not (bytes_eq text t) in
+    let ends = c.self.inside.line_ends in
+    let test : Text → Bool = λ t. not (same_text ends text t) in
     let told = simp to_z-of_z at c.in-None.ensures in
     ap (list_any test) told
-    ∙ (sym (differs-texts v (queue_of uri c.self.inside.waiting.queues))
-    ∙ ap (λ s. list_any (differs v) (queue_of uri s.waits.queues)) c.self.view_is)
+    ∙ (sym (differs-texts ends v (queue_of uri c.self.inside.waiting.queues))
+    ∙ ap (λ (s : State). list_any (differs s.terms.line_ends v) (queue_of uri s.waits.queues))
+    c.self.view_is)

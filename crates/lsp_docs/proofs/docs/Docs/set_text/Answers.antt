@@ -23,7 +23,7 @@ returns-then-not-is_due-clause-allowed g c =
     ∙ (sym due ∙ none) in
     let one : c.args.changes.now ≡ c.index-changes-0.result ∷ [] = grind (arith, common_steps) in
     on_ok_weaker c.change_held.result
-    (λ a. text-quiet (queue_of uri s.waits.queues) n
+    (λ a. text-quiet s.terms.line_ends (queue_of uri s.waits.queues) n
     (changed_at s c.args.encoding uri (edits_of c.args.changes.now)) a.text
     (ap (λ l. changed_at s c.args.encoding uri (edits_of l)) one ∙ a.made) quiet)
     c.change_held.ensures.ok

@@ -10,15 +10,15 @@ pub returns-in-Some : goal.returns-in-Some
 returns-in-Some g c =
     let fits : SFits w32 c.args.version = c.ranges.version in
     let told = simp to_z-of_z at c.in-Some.ensures in
-    sym (found-first (versioned c.args.version (chars c.args.text.now)) c.args.self.now.kept
-    (versioned c.args.self.now.held.version (g.S.TextStore.content c.args.self.now.held.store))
-    _ (sym told))
+    sym (found-first c.args.line_ends (versioned c.args.version (chars c.args.text.now))
+    c.args.self.now.kept (versioned c.args.self.now.held.version
+    (g.S.TextStore.content c.args.self.now.held.store)) _ (sym told))
 
 pub returns-in-None : goal.returns-in-None
 returns-in-None g c =
     let fits : SFits w32 c.args.version = c.ranges.version in
     let none = simp to_z-of_z at c.in-None.ensures in
     let told = simp to_z-of_z at c.other-in-None.ensures in
-    told ∙ sym (found-behind (versioned c.args.version (chars c.args.text.now)) c.args.self.now.kept
-    (versioned c.args.self.now.held.version (g.S.TextStore.content c.args.self.now.held.store))
-    (sym none))
+    told ∙ sym (found-behind c.args.line_ends (versioned c.args.version (chars c.args.text.now))
+    c.args.self.now.kept (versioned c.args.self.now.held.version
+    (g.S.TextStore.content c.args.self.now.held.store)) (sym none))

@@ -17,10 +17,12 @@ returns g c =
     let items = c.self.inside.revisions.items in
     told
     ∙ (ap (λ l. option_map (λ r. g.S.TextStore.content r.store)
-    (find (λ r. differs_from s (versioned r.version (g.S.TextStore.content r.store))) l))
-    c.as_slice.ensures.value
+    (find (λ r. differs_from c.args.line_ends s
+    (versioned r.version (g.S.TextStore.content r.store))) l)) c.as_slice.ensures.value
     ∙ (sym (ap (option_map (λ (v : Version). v.text))
-    (find-map (differs_from s) (λ r. versioned r.version (g.S.TextStore.content r.store)) items)
+    (find-map (differs_from c.args.line_ends s)
+    (λ r. versioned r.version (g.S.TextStore.content r.store)) items)
     ∙ map-twice (λ (v : Version). v.text) (λ r. versioned r.version (g.S.TextStore.content r.store))
-    (find (λ r. differs_from s (versioned r.version (g.S.TextStore.content r.store))) items))
-    ∙ ap (other_in s) c.self.view_is))
+    (find (λ r. differs_from c.args.line_ends s
+    (versioned r.version (g.S.TextStore.content r.store))) items))
+    ∙ ap (other_in c.args.line_ends s) c.self.view_is))

@@ -6,4 +6,5 @@ use Rattle.lsp_explain.specs.Refuting.{is_other}
 use Rattle.lsp_explain.proofs.facts.waiting.first_other.Given as goal
 
 abbrev pub invariant-loop-other : goal.invariant-loop-other
-invariant-loop-other l = find (λ t. is_other (chars l.text) (text_of t)) (take l.other-index l.texts) ≡ None
+invariant-loop-other l =
+    find (λ t. is_other l.line_ends (chars l.text) (text_of t)) (take l.other-index l.texts) ≡ None

@@ -14,13 +14,18 @@ loop-index-preserved c =
       | then-is_other_at+in_ok-push w ↦
           ap (λ v. v.items) w.others-is
           ∙ w.in_ok-push.ensures.items
-          ∙ others-there text c.args.snapshots.now texts c.loop-index.index c.loop-index.others.items c.loop-index-test.true (sym c.is_other_at.ensures ∙ w.if-is_other_at.true) c.loop-index.invariant
+          ∙ others-there c.args.line_ends text c.args.snapshots.now texts c.loop-index.index
+          c.loop-index.others.items c.loop-index-test.true
+          (sym c.is_other_at.ensures ∙ w.if-is_other_at.true) c.loop-index.invariant
       | else-is_other_at w ↦
           ap (λ v. v.items) w.others-is
-          ∙ others-passed text c.args.snapshots.now texts c.loop-index.index c.loop-index.others.items c.loop-index-test.true (sym c.is_other_at.ensures ∙ w.if-is_other_at.false) c.loop-index.invariant
+          ∙ others-passed c.args.line_ends text c.args.snapshots.now texts c.loop-index.index
+          c.loop-index.others.items c.loop-index-test.true
+          (sym c.is_other_at.ensures ∙ w.if-is_other_at.false) c.loop-index.invariant
     ]
 
 pub returns : goal.returns
 returns c =
     let texts = texts_of c.args.texts.now in
-    c.loop-index.invariant ∙ ap (λ l. others_of (chars c.args.text.now) l texts) (take_all c.loop-index.index c.args.snapshots.now (omega (arith, c.loop-index-test.false)))
+    c.loop-index.invariant ∙ ap (λ l. others_of c.args.line_ends (chars c.args.text.now) l texts)
+    (take_all c.loop-index.index c.args.snapshots.now (omega (arith, c.loop-index-test.false)))

@@ -5,4 +5,6 @@ use Rattle.lsp_explain.specs.Refuting.{others_of}
 use Rattle.lsp_explain.proofs.facts.waiting.others.Given as goal
 
 abbrev pub invariant-loop-index : goal.invariant-loop-index
-invariant-loop-index l = l.others.items ≡ others_of (chars l.text) (take l.index l.snapshots) (texts_of l.texts)
+invariant-loop-index l =
+    l.others.items ≡ others_of l.line_ends (chars l.text) (take l.index l.snapshots)
+    (texts_of l.texts)

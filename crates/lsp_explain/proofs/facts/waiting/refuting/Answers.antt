@@ -8,7 +8,7 @@ use Rattle.lsp_rpc.specs.View.{act_view}
 use Rattle.lsp_text.specs.Edits.{Edit}
 use Rattle.lsp_text.specs.Changes.{edits_of}
 use Rattle.lsp_docs.specs.Calls.{changes}
-use Rattle.lsp_docs.specs.Stored.{text_of}
+use Rattle.lsp_docs.specs.Stored.{text_of, texts_of}
 use Rattle.lsp_verdict.specs.Calls.{call_of}
 use Rattle.lsp_replay.proofs.Edits.{edits_seen}
 use Rattle.lsp_explain.specs.Refuting.{others_of, waiting_texts}
@@ -31,6 +31,7 @@ pub returns-in_ok-others-in-DidChange : goal.returns-in_ok-others-in-DidChange
 returns-in_ok-others-in-DidChange g c = λ kind calls call h e.
     let fits : SFits w32 c.in-DidChange.version = search rules in
     let enc = c.args.encoding in
+    let ends = c.args.docs.now.terms.line_ends in
     let number = c.in-DidChange.version in
     let uri = c.as_str-uri.result.now in
     let slice = c.as_slice.result.now in
@@ -41,5 +42,9 @@ returns-in_ok-others-in-DidChange g c = λ kind calls call h e.
     refuting_change c.args.docs.now.terms calls enc kind uri number (edits_of slice) c.args.snapshots.now call _ c.in_ok-others-in-DidChange.others.items
     (same ∙ (sym (ap (λ a. call_of enc kind (act_view a)) c.in-DidChange.is) ∙ e)) made
     (c.in_ok-others-in-DidChange.ensures
-    ∙ ap (λ us. others_of (chars c.as_str-in-DidChange.result.now) c.args.snapshots.now us) (waits calls h)
-    ∙ ap (λ bs. others_of (chars bs) c.args.snapshots.now (waiting_texts c.args.docs.now.terms calls uri number)) c.as_str-in-DidChange.ensures.value)
+    ∙ ap (λ x. others_of x (chars c.as_str-in-DidChange.result.now) c.args.snapshots.now
+    (texts_of c.waiting_texts-texts-in-DidChange.result.now)) c.line_ends-in-DidChange.ensures
+    ∙ ap (λ us. others_of ends (chars c.as_str-in-DidChange.result.now) c.args.snapshots.now us)
+    (waits calls h)
+    ∙ ap (λ bs. others_of ends (chars bs) c.args.snapshots.now
+    (waiting_texts c.args.docs.now.terms calls uri number)) c.as_str-in-DidChange.ensures.value)
