@@ -1,5 +1,5 @@
 -- Where two texts first differ, said once of several things.
-use Rattle.std.proofs.Common.{◌≡◌, ◌∷◌, ◌++◌, List, ap, ◌∙◌}
+use Rattle.std.proofs.Common.{◌≡◌, ◌≢◌, ◌∷◌, ◌++◌, List, ap, subst, ◌∙◌}
 use Rattle.lsp_types.specs.declared.position.Encoding.{Encoding}
 use Rattle.lsp_types.specs.declared.position.Position.{Position}
 use Rattle.lsp_text.specs.Difference.{DifferFirst, position_at, line_around}
@@ -19,3 +19,11 @@ are_apart enc a b line at x y h k l =
     let held : x ≡ line_around a n = k.2 ∙ ap (line_around a) (one_place a b k.0 n k.1 h.1) in
     let other : y ≡ line_around b n = l.2 ∙ ap (line_around b) (one_place a b l.0 n l.1 h.1) in
     (n, h.1, λ i. counts_in enc ∷ differs_at (h.2 i) ∷ lines_apart (held i) (other i) line)
+
+-- the same of texts that equal these
+pub apart_moved : (enc : Encoding) (line : Part → Fact) (facts : List Fact) (x y a b : Text)
+    → x ≡ a → y ≡ b → (x ≢ y → AreOfDifference enc x y line facts) → a ≢ b
+    → AreOfDifference enc a b line facts
+apart_moved enc line facts x y a b p q told =
+    subst (λ (v : Text). a ≢ v → AreOfDifference enc a v line facts) q
+    (subst (λ (u : Text). u ≢ y → AreOfDifference enc u y line facts) p told)

@@ -2,6 +2,8 @@
 
 ghost use Rattle.std.specs.Prelude.{◌≡◌, ◌<◌, ◌^◌, ◌+◌, [], ◌∷◌, ◌++◌, OnOk};
 ghost use Rattle.std.specs.Str.{chars};
+ghost use Rattle.lsp_types.specs.declared.line_ends.LineEnds.TheVariants.{Ignored};
+ghost use Rattle.lsp_text.specs.SameText.{same_text};
 ghost use Rattle.lsp_explain.specs.Fact.{of_uri, counts_in, fails};
 ghost use Rattle.lsp_explain.specs.Fact.{falls_inside, fact_view, facts_view};
 ghost use Rattle.lsp_explain.specs.DocumentFacts.{ends_facts, line_length, first_length};
@@ -116,11 +118,10 @@ impl FactList {
         ensures { OnOk result (self.new ≡ self.old
             ++ ends_facts (chars held.now) (chars other.now)) }
     {
-        if same_lines(held, other) {
-            self.push(Fact::LineEnds)
-        } else {
-            Ok(())
+        if are_same_lines(held, other) {
+            self.push(Fact::LineEnds)?;
         }
+        Ok(())
     }
 
     /// Adds the length of the line of a position, where the text has that line.
@@ -158,4 +159,11 @@ impl FactList {
     fn alloc(&self) -> Global {
         *self.facts.allocator()
     }
+}
+
+/// Whether two texts are the same up to their line ends.
+fn are_same_lines(held: &str, other: &str) -> bool
+    ensures { result ≡ same_text Ignored (chars held.now) (chars other.now) }
+{
+    same_lines(held, other)
 }
