@@ -1,6 +1,6 @@
 -- Calls that are accepted with no versions kept are accepted where some are, and come to the same.
 use Rattle.std.proofs.Common.{◌≡◌, ◌+◌, Bool, true, false, not, List, [], ◌∷◌, ◌++◌, Option, Some, None, refl, sym, ap, ◌∙◌, arith}
-use Rattle.std.specs.Prelude.{ℤ, int_lt, nat_lt, is_some, ◌&&◌, ◌||◌, if◌then◌else◌, option_to_list}
+use Rattle.std.specs.Prelude.{ℕ, ℤ, int_lt, nat_lt, is_some, ◌&&◌, ◌||◌, if◌then◌else◌, option_to_list}
 use Rattle.std.specs.List.{list_any, list_all}
 use Rattle.std.specs.Option.{option_or}
 use Rattle.std.specs.Ordering.{int_eq}
