@@ -16,7 +16,7 @@ pub record Part : Type 0 where
 abbrev pub text_of : String Global → Text
 text_of text = chars (string_bytes text)
 
-abbrev pub part_view : code.Part → Part
+abbrev pub part_view : code.Excerpt → Part
 part_view part = record { before = part.before; text = text_of part.text; after = part.after }
 
 -- how many characters are the same in two lines from the front
