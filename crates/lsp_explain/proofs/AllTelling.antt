@@ -172,7 +172,7 @@ never_told completeness limits start now told fault off = record {
 
 module _ (completeness : Completeness) (limits : Bounds) (e f : SurveyReader) (t : OffenceCount)
     (start mid now old between : Told)
-    (inv : IsTelling completeness limits e t start mid old between) (given : code_heard.Heard)
+    (inv : IsTelling completeness limits e t start mid old between) (given : code_heard.Judged)
     (gave : GaveBehind inv.so_far.records limits f start now (raws_of inv.hs) (notes_of inv.hs)
     inv.found given) (stays : f.walk.events.docs.terms ≡ e.walk.events.docs.terms) where
   abbrev here : Heard

@@ -58,7 +58,7 @@ TellsCause limits records terms hs h old new (Err faults.Memory) = new ≡ old
 TellsCause limits records terms hs h old new (Err faults.Read) = ⊥
 
 -- whatever was heard before it
-abbrev pub TellsHeard : SurveyReader → code_heard.Heard → Told → Told → Result (Unit {0}) RunFault
+abbrev pub TellsHeard : SurveyReader → code_heard.Judged → Told → Told → Result (Unit {0}) RunFault
     → Type 0
 TellsHeard e given old new result =
     (limits : Bounds) (start now : Told) (hs : List Heard) (prior : List Offence)
