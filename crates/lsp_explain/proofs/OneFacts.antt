@@ -170,7 +170,8 @@ module _ (terms : Terms) (enc : Encoding) (ws : List Version) (f g : List Fact) 
   one_of_opening v rule p q =
       either (λ a b. a.1 ∙ sym b.1) (λ a b. above g a.0 b) (λ a b. above f a.0 b)
       (λ c d. either (λ a b. a.1 ∙ sym b.1) (λ a b. absurd (omega (arith, a.0, b.0)))
-      (λ a b. absurd (omega (arith, a.0, b.0))) (λ a b. one_refuted terms.line_ends enc ws v f g a.1 b.1) c
+      (λ a b. absurd (omega (arith, a.0, b.0)))
+      (λ a b. one_refuted terms.line_ends enc ws v f g a.1 b.1) c
       d) p q
     where
       above : (h : List Fact) → rule ≡ 601
@@ -185,7 +186,8 @@ module _ (terms : Terms) (enc : Encoding) (ws : List Version) (f g : List Fact) 
     one_refuted_text t p q =
         let texts : p.text ≡ q.text = same_text p.text q.text (sym p.made ∙ q.made) in
         one_refuted terms.line_ends enc ws (versioned number q.text) f g
-        (subst (λ u. IsRefuted terms.line_ends enc ws (versioned number u) f) texts p.refuted) q.refuted
+        (subst (λ u. IsRefuted terms.line_ends enc ws (versioned number u) f) texts p.refuted)
+        q.refuted
 
     abbrev Refuted : Text → List Fact → Type 0
     Refuted t h = (rule ≡ 702) × IsRefutedText terms enc ws number t cs h
