@@ -9,8 +9,8 @@ ghost use Rattle.lsp_judge.specs.ShownLog.{IsPlace, Showed, Shows};
 
 use crate::contents::hear;
 use crate::event_reader::EventReader;
-use lsp_replay::{EventPlace, Heard, Next, write_event_line};
 use lsp_frame::{Limits, Sink, Source, put_all};
+use lsp_replay::{EventPlace, Heard, Next, write_event_line};
 use lsp_verdict::{
     Completeness, Counts, Lines, Outcome, RunFault, Verdict, Who, report_of, who_of,
 };
