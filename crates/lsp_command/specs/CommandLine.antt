@@ -72,9 +72,13 @@ check_options = command (codes "check")
 abbrev pub check : Shape
 check = command (codes "check") (check_options.rules ++ quiet ∷ file ∷ [])
 
+-- `explain` with its own options alone
+abbrev pub explain_options : Shape
+explain_options = command (codes "explain")
+    (flag (codes "complete") ∷ flag (codes "all") ∷ ignore_line_ends ∷ [])
+
 abbrev pub explain : Shape
-explain = command (codes "explain")
-    (flag (codes "complete") ∷ flag (codes "all") ∷ ignore_line_ends ∷ quiet ∷ file ∷ [])
+explain = command (codes "explain") (explain_options.rules ++ quiet ∷ file ∷ [])
 
 abbrev pub show : Shape
 show = command (codes "show") (flag (codes "long") ∷ quiet ∷ file ∷ [])

@@ -4,7 +4,7 @@ ghost use Rattle.clap.specs.Words.{AddsSubcommand, app_of, shape_of};
 ghost use Rattle.lsp_command.specs.CommandLine.{AreModes, IsArg, IsCommandLine, Modes, check};
 ghost use Rattle.lsp_command.specs.CommandLine.{check_options, event};
 ghost use Rattle.lsp_command.specs.CommandLine.{explain, file, flag, frames, mode, normal, number};
-ghost use Rattle.lsp_command.specs.CommandLine.{ignore_line_ends};
+ghost use Rattle.lsp_command.specs.CommandLine.{explain_options, ignore_line_ends};
 ghost use Rattle.lsp_command.specs.CommandLine.{program, quiet, show, text, upgrade, uri};
 
 use clap::{Arg, ArgAction, Command, value_parser};
@@ -147,8 +147,9 @@ fn check<'a>(alloc: Global) -> Result<Command<'a>, AllocError>
         .arg(log_file(alloc))
 }
 
-fn explain<'a>(alloc: Global) -> Result<Command<'a>, AllocError>
-    ensures { IfOk result (λ command. shape_of command ≡ explain) }
+/// The command with its own options, and without those that every command has.
+fn explain_options<'a>(alloc: Global) -> Result<Command<'a>, AllocError>
+    ensures { IfOk result (λ command. shape_of command ≡ explain_options) }
 {
     Command::new(alloc, "explain")
         .about("Judges a recorded session and explains a no")
@@ -162,7 +163,13 @@ fn explain<'a>(alloc: Global) -> Result<Command<'a>, AllocError>
             "all",
             "Explains every violation that check --all lists",
         ))?
-        .arg(ignore_line_ends(alloc))?
+        .arg(ignore_line_ends(alloc))
+}
+
+fn explain<'a>(alloc: Global) -> Result<Command<'a>, AllocError>
+    ensures { IfOk result (λ command. shape_of command ≡ explain) }
+{
+    explain_options(alloc)?
         .arg(quiet(alloc))?
         .arg(log_file(alloc))
 }
