@@ -17,7 +17,7 @@ mod fact;
 mod fact_list;
 mod faults;
 mod grammar;
-mod json;
+mod json_text;
 mod lines;
 mod making;
 mod members;

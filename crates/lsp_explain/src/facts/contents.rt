@@ -7,7 +7,7 @@ ghost use Rattle.lsp_explain.specs.Members.{Finds};
 ghost use Rattle.lsp_explain.specs.MessageFacts.{member_facts};
 
 use crate::facts::fact::Fact;
-use crate::facts::json::json_break;
+use crate::facts::json_text::json_break;
 use crate::facts::messages::{front_facts, push_member, shown, text_front};
 use crate::facts::params::wrong_member;
 use lsp_rpc::{Memory, RpcFault, read};
