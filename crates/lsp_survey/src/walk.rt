@@ -32,7 +32,7 @@ use crate::notes::{
 };
 use crate::offending::{FoundOffence, Judged, OffendingEvent};
 use lsp_frame::{Format, Limits};
-use lsp_lined::Lined;
+use lsp_text::Lined;
 use lsp_replay as replay;
 use lsp_replay::{Events, Refused};
 use lsp_rpc::{Memory, Message, Side, Spoken};

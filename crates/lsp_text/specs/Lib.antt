@@ -10,3 +10,12 @@ pub mod Difference
 pub mod Parting
 pub mod InsideCharacter
 pub mod Sizes
+pub mod Counted
+pub mod Steps
+pub mod Ends
+pub mod Sums
+pub mod Parts
+pub mod Blocks
+pub mod Chunks
+pub mod HeldLines
+pub mod LentLines

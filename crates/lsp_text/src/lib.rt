@@ -1,25 +1,33 @@
 //! Texts as lists of characters: the places that positions denote, and stores that are edited.
 //!
 //! [`TextStore`] says what a store of a text is, and [`change`] and [`change_all`] make the changes
-//! of a `textDocument/didChange` in any of them. [`Plain`] keeps a text in one `String`;
-//! `lsp_lined` has a store that keeps its lines. [`measure`] counts characters and units of UTF-16,
-//! [`first_difference`] tells where two texts first differ, and [`line_at`], [`width_of`],
-//! [`char_inside`] and [`size_with`] read a text by its lines and columns. A store of one's own
-//! cuts lines with [`FirstLine`] and finds columns with [`offset_in_line`].
+//! of a `textDocument/didChange` in any of them. [`Plain`] keeps a text in one `String`,
+//! [`Lined`] in blocks, so that an edit moves few bytes and copies share the rest. [`measure`] counts
+//! characters and units of UTF-16, [`first_difference`] tells where two texts first differ, and
+//! [`line_at`], [`width_of`], [`char_inside`] and [`size_with`] read a text by its lines and columns.
+//! A store of one's own cuts lines with [`FirstLine`] and finds columns with [`offset_in_line`].
 #![tactic(auto)]
 
+mod block;
 mod changes;
+mod chunk;
 mod columns;
 mod counts;
 mod cut;
 mod difference;
+mod edit;
+mod ends;
 mod fault;
 mod lanes;
 mod laws;
+mod lined;
+mod marks;
+mod part;
 mod plain;
 mod reading;
 mod same;
 mod store;
+mod sums;
 
 pub use changes::{change, change_all};
 pub use columns::offset_in_line;
@@ -32,6 +40,7 @@ pub use laws::{
     lines_are_the_cut, lines_of_joined, one_difference, places_are_denoted, places_have_positions,
     positions_denote_one_place, positions_lie_inside, same_by_lines, same_texts,
 };
+pub use lined::Lined;
 pub use plain::Plain;
 pub use reading::{char_inside, line_at, size_with, width_of};
 pub use same::{LinesLeft, compared_lines, is_taken, same_lines, take_lines, without_last_end};

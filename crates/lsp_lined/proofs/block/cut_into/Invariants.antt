@@ -1,9 +1,0 @@
-use Rattle.std.proofs.Common.{length}
-use Rattle.lsp_lined.proofs.CutPlaces.{IsCutSoFar}
-use Rattle.lsp_lined.proofs.block.cut_into.Given as goal
-
-abbrev pub invariant-loop-rest : goal.invariant-loop-rest
-invariant-loop-rest l = IsCutSoFar l.fn.blocks.items l.text l.rest l.blocks.items
-
-abbrev pub decreases-loop-rest : goal.decreases-loop-rest
-decreases-loop-rest l = length l.rest

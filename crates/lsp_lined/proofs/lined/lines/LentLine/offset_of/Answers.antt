@@ -1,8 +1,0 @@
-use Rattle.lsp_lined.proofs.LentPlaces.{near_in, plain_in}
-use Rattle.lsp_lined.proofs.lined.lines.LentLine.offset_of.Goals as goal
-
-pub returns-then-self : goal.returns-then-self
-returns-then-self c = plain_in c.args.encoding c.args.self.now c.args.column c.min.result c.requires c.if-self-len.false c.if-self.true c.min.ensures
-
-pub split_at-requires : goal.split_at-requires
-split_at-requires c = (near_in c.args.self.now c.requires c.if-self-len.false).boundary

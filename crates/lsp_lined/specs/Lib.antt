@@ -1,9 +1,0 @@
-pub mod Counted
-pub mod Steps
-pub mod Ends
-pub mod Sums
-pub mod Parts
-pub mod Blocks
-pub mod Chunks
-pub mod HeldLines
-pub mod LentLines

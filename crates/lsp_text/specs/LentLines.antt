@@ -1,0 +1,72 @@
+-- What a lent line stands for.
+use Rattle.std.specs.Prelude.{◌≡◌, ◌<◌, ◌≤◌, ◌-◌, ◌^◌, ℕ, true, List, ◌++◌, length, take, drop}
+use Rattle.std.specs.declared.option.Option.TheVariants.{None}
+use Rattle.std.specs.Str.{chars, IsCharBoundary}
+use Rattle.lsp_text.specs.Lines.{lines_of, line_at, text_of, has_no_line_end}
+use Rattle.lsp_types.specs.declared.position.Encoding.{Encoding}
+use Rattle.lsp_text.specs.Places.{units, place_in_line}
+use Rattle.lsp_text.specs.Offsets.{IsOffset, IsAtLine}
+use Rattle.lsp_text.specs.Ends.{IsNear}
+use Rattle.lsp_text.specs.Sums.{sums_of}
+use Rattle.lsp_text.specs.Parts.{joined, AreParts}
+use Rattle.lsp_text.specs.declared.lined.lines.LentLine.{LentLine}
+
+-- the bytes from one place up to another
+abbrev pub bytes_between : List ℕ → ℕ → ℕ → List ℕ
+bytes_between bs from to = take (to - from) (drop from bs)
+
+-- a place this many units after another, with no line end between the two
+pub record IsFurther (enc : Encoding) (bs : List ℕ) (place n after : ℕ) : Type 0 where
+  pub order : place ≤ after
+  pub boundary : IsCharBoundary bs after
+  pub whole : has_no_line_end (chars (bytes_between bs place after)) ≡ true
+  pub units_are : units enc (chars (bytes_between bs place after)) ≡ n
+
+-- the place that a column denotes in a line that begins at `start`, and that it denotes none
+pub record IsOffsetFrom (enc : Encoding) (bs : List ℕ) (start end column offset : ℕ) : Type 0 where
+  pub order : start ≤ offset
+  pub in_line : IsOffset enc (bytes_between bs start end) column (offset - start)
+
+abbrev pub NoOffsetFrom : Encoding → List ℕ → ℕ → ℕ → ℕ → Type 0
+NoOffsetFrom enc bs start end column =
+    place_in_line enc (chars (bytes_between bs start end)) column ≡ None
+
+-- a line is in the text of its chunks, whose sums are known, and some of it is near by
+pub record IsHeldLine (l : LentLine) : Type 0 where
+  pub parts : AreParts l.chunks.now
+  pub some : 0 < length l.chunks.now
+  pub fits : length (joined l.chunks.now) < 2 ^ 64
+  pub sums : l.sums ≡ sums_of (joined l.chunks.now)
+  pub order : l.start ≤ l.end
+  pub start : IsCharBoundary (joined l.chunks.now) l.start
+  pub end : IsCharBoundary (joined l.chunks.now) l.end
+  pub near : IsNear (drop l.start (joined l.chunks.now)) l.near.now l.is_plain
+
+abbrev pub IsOffsetIn : Encoding → LentLine → ℕ → ℕ → Type 0
+IsOffsetIn enc l column offset = IsOffsetFrom enc (joined l.chunks.now) l.start l.end column offset
+
+abbrev pub NoOffsetIn : Encoding → LentLine → ℕ → Type 0
+NoOffsetIn enc l column = NoOffsetFrom enc (joined l.chunks.now) l.start l.end column
+
+-- line `i` of a text: where it begins, where its end begins, where that ends, and the text in whose
+-- chunks it is
+pub record IsLentLine (bs : List ℕ) (i : ℕ) (l : LentLine) : Type 0 where
+  pub held : IsHeldLine l
+  pub text : joined l.chunks.now ≡ bs
+  pub number : i < length (lines_of (chars bs))
+  pub at : IsAtLine bs i l.start (drop l.start bs)
+  pub end_order : l.end ≤ l.after
+  pub after : IsCharBoundary bs l.after
+  pub line : line_at i (chars bs) ≡ record {
+    text = chars (bytes_between bs l.start l.end);
+    end = chars (bytes_between bs l.end l.after);
+  }
+
+-- where the end of line `i` begins, and where it ends
+pub record IsEndOf (bs : List ℕ) (i first last : ℕ) : Type 0 where
+  pub order : first ≤ last
+  pub end : IsCharBoundary bs first
+  pub after : IsCharBoundary bs last
+  pub end_is : (line_at i (chars bs)).end ≡ chars (bytes_between bs first last)
+  pub front : chars (take first bs)
+      ≡ text_of (take i (lines_of (chars bs))) ++ (line_at i (chars bs)).text

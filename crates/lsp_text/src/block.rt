@@ -1,0 +1,326 @@
+//! Blocks of a text, each a part that texts share.
+
+ghost use Rattle.std.specs.Prelude.{◌≡◌, ◌+◌, ◌-◌, ◌<◌, ◌≤◌, ◌^◌, ◌++◌, length, map, take, drop};
+ghost use Rattle.std.specs.Prelude.{None, false, MatchOption, IfSome, IfOk, OnOk, OnErr, EachIndex};
+ghost use Rattle.std.specs.Prelude.{slice_index};
+ghost use Rattle.std.specs.List.{replace_range};
+ghost use Rattle.std.specs.Str.{chars, IsUtf8, IsCharBoundary};
+ghost use Rattle.std.specs.String.{string_bytes};
+ghost use Rattle.lsp_text.specs.Places.{units, place_in_line};
+ghost use Rattle.lsp_text.specs.Offsets.{IsOffset};
+ghost use Rattle.lsp_text.specs.Ends.{ends_in, ends_with_return, moved_place, CanMove, IsLineEnd};
+ghost use Rattle.lsp_text.specs.Ends.{IsNear};
+ghost use Rattle.lsp_text.specs.Sums.{sums_of};
+ghost use Rattle.lsp_text.specs.SameText.{BeginsOtherwise, due, with_feeds};
+ghost use Rattle.lsp_text.specs.Parts.{CanReplace, IsReplacedOr, KeepsEnds};
+ghost use Rattle.lsp_text.specs.Parts.{IsCutInto, IsCutPlace};
+
+use crate::columns::offset_in_line;
+use crate::ends::{end_len_before, is_whole, move_places, places_of};
+use crate::part::{LineEnd, Part};
+use crate::reading::width_of;
+use crate::same::{LinesLeft, take_lines};
+use crate::sums::{Measure, Sums};
+use lsp_types::Encoding;
+use std::alloc::{AllocError, Global};
+use std::marker::Model;
+use std::rc::Rc;
+
+/// The bytes of a block that is cut from a text, at most.
+const FULL: usize = 2048;
+
+/// The bytes of a block, at most.
+const MOST: usize = 4096;
+
+/// A text, the places after its line ends, and its sums.
+#[derive(Drop)]
+struct BlockText {
+    text: String,
+    places: Vec<u16>,
+    sums: Sums,
+    alloc: Global,
+}
+
+/// A piece of a text, which texts share. It is one pointer, so that tables of blocks are short.
+#[derive(Drop)]
+pub(crate) struct Block {
+    text: Rc<BlockText>,
+}
+
+impl Model for Block {
+    ghost use Rattle.std.specs.Prelude.{List, ℕ};
+    ghost use Rattle.std.specs.String.{string_bytes};
+
+    ghost Value = { List ℕ };
+
+    ghost use Rattle.lsp_text.specs.Blocks.{IsBlock};
+
+    ghost view = { λ a. string_bytes a.text.value.text };
+
+    ghost invariant = { IsBlock };
+}
+
+impl Part for Block {
+    ghost text = { λ bytes. bytes };
+
+    fn sums(&self) -> Sums {
+        let held: &BlockText = &self.text;
+        held.sums
+    }
+
+    fn share(&self) -> Result<Block, AllocError> {
+        Ok(Block {
+            text: self.text.clone()?,
+        })
+    }
+
+    fn line_end(&self, n: u64) -> LineEnd<'_> {
+        let held: &BlockText = &self.text;
+        let text = held.text.as_str();
+        let after = held.places[n as usize] as usize;
+        let (_, rest) = text.split_at(after);
+        LineEnd {
+            at: after - end_len_before(text, after),
+            after,
+            rest,
+            is_plain: held.sums.chars == held.sums.bytes,
+        }
+    }
+
+    fn offset_of(&self, encoding: Encoding, column: u64) -> Option<usize> {
+        let held: &BlockText = &self.text;
+        if held.sums.by(Measure::Units(encoding)) <= column {
+            return Some(held.sums.bytes as usize);
+        }
+        if held.sums.chars == held.sums.bytes {
+            return Some(column as usize);
+        }
+        offset_in_line(self.as_str(), encoding, column as u32)
+    }
+
+    fn units_before(&self, encoding: Encoding, offset: usize) -> u64 {
+        let sums = self.sums();
+        if offset as u64 == sums.bytes {
+            return sums.by(Measure::Units(encoding));
+        }
+        if sums.chars == sums.bytes {
+            return offset as u64;
+        }
+        let (front, _) = self.as_str().split_at(offset);
+        width_of(front, encoding)
+    }
+
+    fn rest_of_block(&self, offset: usize) -> &str {
+        let (_, rest) = self.as_str().split_at(offset);
+        rest
+    }
+
+    fn replace(&mut self, from: usize, to: usize, inserted: &str) -> Result<bool, AllocError> {
+        if inserted.len() > MOST - self.as_str().len() {
+            return Ok(false);
+        }
+        let Some(sums) = kept_sums(self, from, to, inserted) else {
+            *self = self.rebuilt(from, to, inserted)?;
+            return Ok(true);
+        };
+        replace_shared(&mut self.text, from, to, inserted, sums)?;
+        Ok(true)
+    }
+
+    fn push_to(&self, out: &mut String) -> Result<(), AllocError> {
+        out.push_str(self.as_str())
+    }
+
+    fn strip<'a>(&self, whole: &'a str) -> Option<&'a str> {
+        whole.strip_prefix(self.as_str())
+    }
+
+    fn take_lines<'a>(&self, left: LinesLeft<'a>) -> Option<LinesLeft<'a>> {
+        take_lines(left, self.as_str())
+    }
+}
+
+impl Block {
+    /// A block of a text.
+    pub(crate) fn new(alloc: Global, text: &str) -> Result<Block, AllocError>
+        requires { length text.now ≤ MOST }
+        ensures { IfOk result (λ block. block ≡ text.now) }
+    {
+        let places = places_of(alloc, text)?;
+        let sums = Sums::of(text, places.len());
+        let held = BlockText {
+            text: String::from_str(alloc, text)?,
+            places,
+            sums,
+            alloc,
+        };
+        Ok(Block {
+            text: Rc::new(alloc, held)?,
+        })
+    }
+
+    /// Its text.
+    pub(crate) fn as_str(&self) -> &str
+        ensures { result.now ≡ self.now }
+    {
+        let held: &BlockText = &self.text;
+        held.text.as_str()
+    }
+
+    /// The same block with some bytes replaced by a text.
+    fn rebuilt(&self, from: usize, to: usize, text: &str) -> Result<Block, AllocError>
+        requires can { CanReplace self.now from to }
+        requires room { length self.now + length text.now ≤ MOST }
+        ensures { IfOk result (λ block. block ≡ replace_range self.now from to text.now) }
+    {
+        let held: &BlockText = &self.text;
+        let whole = spliced(held, from, to, text)?;
+        Block::new(held.alloc, whole.as_str())
+    }
+}
+
+/// The sums of a block where a text replaces some bytes, if no line end comes, goes, or
+/// is joined.
+fn kept_sums(block: &Block, from: usize, to: usize, text: &str) -> Option<Sums>
+    requires can { CanReplace block.now from to }
+    requires room { length block.now + length text.now ≤ MOST }
+    ensures { IfSome result (KeepsEnds block.now from to text.now) }
+{
+    let (front, _) = block.as_str().split_at(to);
+    let (front, removed) = front.split_at(from);
+    if is_return_last(front) || !is_whole(removed) || !is_whole(text) {
+        return None;
+    }
+    let sums = block.sums();
+    Some(sums.exchanged(Sums::of(removed, 0), Sums::of(text, 0)))
+}
+
+/// Whether the last byte of a text is a CR.
+fn is_return_last(text: &str) -> bool
+    ensures { result ≡ ends_with_return false text.now }
+{
+    let bytes = text.as_bytes();
+    bytes.len() > 0 && bytes[bytes.len() - 1] == b'\r'
+}
+
+/// Replaces some bytes of a text that others may hold too, in a text of its own,
+/// which has these sums then.
+fn replace_shared(
+    shared: &mut Rc<BlockText>,
+    from: usize,
+    to: usize,
+    text: &str,
+    sums: Sums,
+) -> Result<(), AllocError>
+    requires can { CanReplace (string_bytes shared.old.value.text) from to }
+    requires room { length (string_bytes shared.old.value.text) + length text.now ≤ MOST }
+    requires moves { EachIndex shared.old.value.places.items
+        (λ k. CanMove from (to - from) (length text.now)
+        (slice_index shared.old.value.places.items k)) }
+    ensures text { OnOk result (string_bytes shared.new.value.text
+        ≡ replace_range (string_bytes shared.old.value.text) from to text.now) }
+    ensures places { OnOk result (shared.new.value.places.items
+        ≡ map (moved_place from (to - from) (length text.now)) shared.old.value.places.items) }
+    ensures sums { OnOk result (shared.new.value.sums ≡ sums) }
+    ensures err_text { OnErr result (string_bytes shared.new.value.text
+        ≡ string_bytes shared.old.value.text) }
+    ensures err_places { OnErr result (shared.new.value.places.items
+        ≡ shared.old.value.places.items) }
+    ensures err_sums { OnErr result (shared.new.value.sums ≡ shared.old.value.sums) }
+{
+    let Some(own) = Rc::get_mut(shared) else {
+        return replace_copied(shared, from, to, text, sums);
+    };
+    own.text.replace_range(from..to, text)?;
+    move_places(
+        &mut own.places,
+        from as u16,
+        (to - from) as u16,
+        text.len() as u16,
+    );
+    own.sums = sums;
+    Ok(())
+}
+
+/// The same where others may hold the text: in a copy, which is made with the bytes replaced.
+fn replace_copied(
+    shared: &mut Rc<BlockText>,
+    from: usize,
+    to: usize,
+    text: &str,
+    sums: Sums,
+) -> Result<(), AllocError>
+    requires can { CanReplace (string_bytes shared.old.value.text) from to }
+    requires room { length (string_bytes shared.old.value.text) + length text.now ≤ MOST }
+    requires moves { EachIndex shared.old.value.places.items
+        (λ k. CanMove from (to - from) (length text.now)
+        (slice_index shared.old.value.places.items k)) }
+    ensures text { OnOk result (string_bytes shared.new.value.text
+        ≡ replace_range (string_bytes shared.old.value.text) from to text.now) }
+    ensures places { OnOk result (shared.new.value.places.items
+        ≡ map (moved_place from (to - from) (length text.now)) shared.old.value.places.items) }
+    ensures sums { OnOk result (shared.new.value.sums ≡ sums) }
+    ensures err { OnErr result (shared.new.value ≡ shared.old.value) }
+{
+    let held: &BlockText = shared;
+    let mut copy = BlockText {
+        text: spliced(held, from, to, text)?,
+        places: Vec::from_slice(held.alloc, &held.places)?,
+        sums,
+        alloc: held.alloc,
+    };
+    move_places(
+        &mut copy.places,
+        from as u16,
+        (to - from) as u16,
+        text.len() as u16,
+    );
+    *shared = Rc::new(copy.alloc, copy)?;
+    Ok(())
+}
+
+/// The text of a block with some bytes replaced by another, and room for as much as a block may
+/// hold: it grows in place, and copies that come and go as versions do take memory of one size.
+fn spliced(held: &BlockText, from: usize, to: usize, text: &str) -> Result<String, AllocError>
+    requires { CanReplace (string_bytes held.now.text) from to }
+    ensures { IfOk result (λ whole. string_bytes whole
+        ≡ replace_range (string_bytes held.now.text) from to text.now) }
+{
+    let old = held.text.as_str();
+    let (front, _) = old.split_at(from);
+    let (_, back) = old.split_at(to);
+    let mut whole = String::with_capacity(held.alloc, MOST)?;
+    whole.push_str(front)?;
+    whole.push_str(text)?;
+    whole.push_str(back)?;
+    Ok(whole)
+}
+
+/// Cuts a text into blocks after others.
+pub(crate) fn cut_into(alloc: Global, blocks: &mut Vec<Block>, text: &str) -> Result<(), AllocError>
+    ensures { OnOk result (IsCutInto blocks.old.items text.now blocks.new.items) }
+{
+    let mut rest = text;
+    while rest.len() > FULL {
+        let (block, tail) = rest.split_at(cut_place(rest));
+        blocks.push(Block::new(alloc, block)?)?;
+        rest = tail;
+    }
+    blocks.push(Block::new(alloc, rest)?)?;
+    Ok(())
+}
+
+/// A place in a long text, at no character's inside and not between CR and LF.
+fn cut_place(text: &str) -> usize
+    requires { 2048 < length text.now }
+    ensures most { result ≤ 2048 }
+    ensures place { IsCutPlace text.now result }
+{
+    let at = text.floor_char_boundary(FULL);
+    let bytes = text.as_bytes();
+    if bytes[at - 1] == b'\r' && bytes[at] == b'\n' {
+        at - 1
+    } else {
+        at
+    }
+}

@@ -1,0 +1,178 @@
+//! A text store that keeps a text in blocks with their sums, so that an edit moves few bytes and
+//! copies of the text share the rest.
+//!
+//! A text is cut into *blocks* of at most 4 KB, anywhere but inside a character or between CR and
+//! LF, and blocks are in *chunks*. Each block and each chunk knows its *sums*: its line ends,
+//! bytes, characters and units of UTF-16. A place is found by any of these: chunk by chunk, block
+//! by block, and then in one block, which also keeps the places after its line ends. Line `i`
+//! begins after line end `i - 1`. A long line goes over several blocks; beyond their sums, nothing is
+//! kept for it. An edit replaces bytes by others: in one block where it can, else in blocks
+//! cut again from the one before the edit to the one after it, so that a CR and a LF that it joins
+//! are in one block.
+//!
+//! The text `a`, 4,990 times `x`, LF, `b`, once a LF was put after the CR that followed the `a`:
+//!
+//! ```text
+//!   Lines         2 ends, 4995 bytes
+//!     |
+//!   Chunk         the sums of its blocks: 16 at first, at most 32
+//!     |-- Block   "a" CR LF "xx..x"   1 end, up to place 3        line 0, and where line 1 begins
+//!     |-- Block   "xx..x"             no end                      all of it in line 1
+//!     `-- Block   "xx..x" LF "b"      1 end                       where line 1 ends, and line 2
+//! ```
+
+pub(crate) mod lines;
+
+ghost use Rattle.std.specs.Prelude.{◌≡◌, ◌+◌, ◌*◌, ◌↔◌, length, IfOk, OnOk, OnErr, IfErr, IsTrue};
+ghost use Rattle.std.specs.Prelude.{MatchOption, None, Ok};
+ghost use Rattle.std.specs.Str.{chars};
+ghost use Rattle.std.specs.String.{string_bytes};
+ghost use Rattle.lsp_text.specs.Edits.{replaced, limited, IsFaultOf};
+ghost use Rattle.lsp_text.specs.Places.{place_of};
+ghost use Rattle.lsp_text.specs.Steps.{RisesWithin, touched};
+ghost use Rattle.lsp_text.specs.Offsets.{IsTextOffset};
+
+use crate::edit::edit;
+use crate::fault::TextFault;
+use crate::store::{Place, TextStore};
+use lines::{Lines, Steps};
+use lsp_types::{Encoding, Memory, Position, Span, rules};
+use std::alloc::Global;
+use std::marker::Model;
+
+/// A text in blocks with their sums, and a count of the bytes that its edits looked at and
+/// inserted. An edit is lent no lines but those of its span.
+#[derive(Drop)]
+pub struct Lined {
+    lines: Lines,
+    steps: Steps,
+}
+
+impl Model for Lined {
+    ghost use Rattle.std.specs.Str.{chars};
+    ghost use Rattle.lsp_text.specs.Counted.{Counted};
+
+    ghost Value = { Counted };
+
+    ghost view = { λ a. record { content = chars a.lines; steps = a.steps } };
+}
+
+impl Lined {
+    /// The bytes of held lines lent to edits, and the bytes inserted by them, up to 2^64 - 1. A new
+    /// store and a copy have none yet.
+    pub fn steps(&self) -> u64
+        ensures { result ≡ self.now.steps }
+    {
+        self.steps.count()
+    }
+}
+
+impl TextStore for Lined {
+    ghost content = { λ s. s.content };
+
+    fn from_text(alloc: Global, text: &str) -> Result<Lined, Memory>
+        ensures content { IfOk result (λ store. store.content ≡ chars text.now) }
+        ensures steps { IfOk result (λ store. store.steps ≡ 0) }
+    {
+        Ok(Lined {
+            lines: Lines::of(alloc, text)?,
+            steps: Steps::none(),
+        })
+    }
+
+    fn resolve(&self, encoding: Encoding, position: Position) -> Result<Place, TextFault> {
+        match offset_of(&self.lines, encoding, position) {
+            None => Err(TextFault::Rule(rules::POSITION_INSIDE_CHARACTER)),
+            Some(offset) => Ok(Place {
+                chars: self.lines.chars_before(offset),
+            }),
+        }
+    }
+
+    fn replace(
+        &mut self,
+        encoding: Encoding,
+        span: Span,
+        text: &str,
+        limit: u64,
+    ) -> Result<(), TextFault>
+        ensures ok { OnOk result (replaced encoding self.old.content span (chars text.now) limit
+            ≡ Ok self.new.content) }
+        ensures fault { IfErr result
+            (IsFaultOf (replaced encoding self.old.content span (chars text.now) limit)) }
+        ensures err { OnErr result (self.new.content ≡ self.old.content) }
+
+        // The steps rise by about what the edit has to touch.
+        ensures counted { OnOk result
+            (RisesWithin self.old.steps self.new.steps (length text.now)
+            (4 * touched self.old.content span (chars text.now))) }
+        ensures err_counted { OnErr result
+            (RisesWithin self.old.steps self.new.steps 0
+            (4 * touched self.old.content span (chars text.now))) }
+    {
+        edit(
+            &mut self.lines,
+            &mut self.steps,
+            encoding,
+            span,
+            text,
+            limit,
+        )
+    }
+
+    fn replace_all(&mut self, text: &str, limit: u64) -> Result<(), TextFault>
+        ensures ok { OnOk result (limited limit (chars text.now) ≡ Ok self.new.content) }
+        ensures fault { IfErr result (IsFaultOf (limited limit (chars text.now))) }
+        ensures err { OnErr result (self.new.content ≡ self.old.content) }
+        ensures steps { self.new.steps ≡ self.old.steps }
+    {
+        if limit < text.len() as u64 {
+            return Err(TextFault::Rule(rules::DOCUMENT_OVER_LIMIT));
+        }
+        self.lines.renew(text)?;
+        Ok(())
+    }
+
+    fn equals(&self, text: &str) -> bool {
+        self.lines.spell(text)
+    }
+
+    fn same_lines(&self, text: &str) -> bool {
+        self.lines.have(text)
+    }
+
+    fn to_text(&self, alloc: Global) -> Result<String, Memory> {
+        Ok(self.lines.to_text(alloc)?)
+    }
+
+    fn byte_len(&self) -> u64 {
+        self.lines.byte_len()
+    }
+
+    fn line_count(&self) -> u64 {
+        self.lines.count()
+    }
+
+    fn copy(&self, alloc: Global) -> Result<Lined, Memory>
+        ensures content { IfOk result (λ store. store.content ≡ self.now.content) }
+        ensures steps { IfOk result (λ store. store.steps ≡ 0) }
+    {
+        Ok(Lined {
+            lines: self.lines.copy(alloc)?,
+            steps: Steps::none(),
+        })
+    }
+}
+
+/// The bytes before a position, or `None` where it lies inside a character.
+fn offset_of(lines: &Lines, encoding: Encoding, position: Position) -> Option<usize>
+    ensures { MatchOption result (place_of encoding (chars lines.now) position ≡ None)
+        (IsTextOffset encoding lines.now position) }
+{
+    let number = lines.number_of(position);
+    let line = lines.peek(number);
+    if number < position.line as u64 {
+        return Some(lines.byte_len() as usize);
+    }
+    line.offset_of(encoding, position.column)
+}

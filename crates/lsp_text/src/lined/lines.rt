@@ -1,0 +1,359 @@
+//! The lines of a text, and the count of the bytes lent from them.
+
+ghost use Rattle.std.specs.Prelude.{◌≡◌, ◌+◌, ◌<◌, ◌≤◌, ◌-◌, ◌^◌, ◌↔◌, None, length, take, drop};
+ghost use Rattle.std.specs.Prelude.{MatchOption, IfSome, IfOk, OnOk, OnErr, IsTrue};
+ghost use Rattle.std.specs.List.{replace_range};
+ghost use Rattle.std.specs.Str.{chars, IsUtf8, IsCharBoundary};
+ghost use Rattle.std.specs.String.{string_bytes};
+ghost use Rattle.lsp_types.specs.declared.line_ends.LineEnds.TheVariants.{Ignored};
+ghost use Rattle.lsp_text.specs.Lines.{lines_of};
+ghost use Rattle.lsp_text.specs.SameText.{SameText};
+ghost use Rattle.lsp_text.specs.Places.{units};
+ghost use Rattle.lsp_text.specs.Offsets.{IsAtLine};
+ghost use Rattle.lsp_text.specs.Steps.{raised, line_bytes, line_number};
+ghost use Rattle.lsp_text.specs.Ends.{IsNear};
+ghost use Rattle.lsp_text.specs.Parts.{joined, CanReplace};
+ghost use Rattle.lsp_text.specs.LentLines.{IsLentLine, IsHeldLine, IsEndOf, IsOffsetIn};
+ghost use Rattle.lsp_text.specs.LentLines.{NoOffsetIn, IsFurther};
+
+use crate::chunk::{Chunk, chunks_in, replace_in_chunks};
+use crate::columns::offset_in_line;
+use crate::cut::FirstLine;
+use crate::part::{
+    Part, line_end_in, offset_in, push_all, rest_in, share_into, strip_all, sums_in, take_all,
+    units_before_in,
+};
+use crate::same::{LinesLeft, is_taken, without_last_end};
+use crate::sums::{Measure, Sums};
+use lsp_types::{Encoding, Position};
+use std::alloc::{AllocError, Global};
+use std::marker::Model;
+
+/// A text in chunks of blocks, and its sums.
+pub(crate) struct Lines {
+    alloc: Global,
+    chunks: Vec<Chunk>,
+    sums: Sums,
+}
+
+impl Model for Lines {
+    ghost use Rattle.std.specs.Prelude.{List, ℕ};
+    ghost use Rattle.lsp_text.specs.Parts.{joined};
+
+    ghost Value = { List ℕ };
+
+    ghost use Rattle.lsp_text.specs.HeldLines.{AreHeld};
+
+    ghost view = { λ a. joined a.chunks.items };
+
+    ghost invariant = { AreHeld };
+}
+
+impl Drop for Lines {
+    fn drop(self) {
+        let Lines {
+            alloc: _,
+            chunks: _,
+            sums: _,
+        } = self;
+    }
+}
+
+impl Lines {
+    /// The lines of a text.
+    pub(super) fn of(alloc: Global, text: &str) -> Result<Lines, AllocError>
+        ensures { IfOk result (λ lines. lines ≡ text.now) }
+    {
+        let chunks = chunks_in(alloc, text)?;
+        let sums = sums_in(&chunks);
+        Ok(Lines {
+            alloc,
+            chunks,
+            sums,
+        })
+    }
+
+    /// The same lines again.
+    pub(super) fn copy(&self, alloc: Global) -> Result<Lines, AllocError>
+        ensures { IfOk result (λ lines. lines ≡ self.now) }
+    {
+        let mut chunks = Vec::new(alloc);
+        share_into(&mut chunks, &self.chunks)?;
+        Ok(Lines {
+            alloc,
+            chunks,
+            sums: self.sums,
+        })
+    }
+
+    /// How many lines there are.
+    pub(crate) fn count(&self) -> u64
+        ensures { result ≡ length (lines_of (chars self.now)) }
+    {
+        self.sums.ends + 1
+    }
+
+    /// The bytes of the text.
+    pub(crate) fn byte_len(&self) -> u64
+        ensures value { result ≡ length self.now }
+        ensures utf8 { IsUtf8 self.now }
+    {
+        self.sums.bytes
+    }
+
+    /// The line that a position falls in, at most the last.
+    pub(crate) fn number_of(&self, position: Position) -> u64
+        ensures { result ≡ line_number (chars self.now) position }
+    {
+        (position.line as u64).min(self.sums.ends)
+    }
+
+    /// Lends a line and its end, and counts their bytes.
+    pub(crate) fn read(&self, i: u64, steps: &mut Steps) -> LentLine<'_>
+        requires { i < length (lines_of (chars self.now)) }
+        ensures value { IsLentLine self.now i result }
+        ensures counted { steps.new ≡ raised steps.old (line_bytes (chars self.now) i) }
+    {
+        let line = self.peek(i);
+        steps.add(line.len());
+        line
+    }
+
+    /// Lends a line and its end, uncounted.
+    pub(super) fn peek(&self, i: u64) -> LentLine<'_>
+        requires { i < length (lines_of (chars self.now)) }
+        ensures { IsLentLine self.now i result }
+    {
+        let chunks = self.chunks.as_slice();
+        if i == 0 {
+            return self.line_from(0, 0, "", true);
+        }
+        let before = line_end_in(chunks, i - 1);
+        self.line_from(i, before.after, before.rest, before.is_plain)
+    }
+
+    /// The same of a line that begins at a place, with what comes after the place in its block.
+    fn line_from<'a>(&'a self, i: u64, start: usize, near: &'a str, is_plain: bool) -> LentLine<'a>
+        requires number { i < length (lines_of (chars self.now)) }
+        requires at { IsAtLine self.now i start (drop start self.now) }
+        requires near { IsNear (drop start self.now) near.now is_plain }
+        ensures { IsLentLine self.now i result }
+    {
+        let (end, after) = self.end_of(i);
+        LentLine {
+            chunks: &self.chunks,
+            sums: self.sums,
+            start,
+            end,
+            after,
+            near,
+            is_plain,
+        }
+    }
+
+    /// Where the end of a line begins and where it ends.
+    fn end_of(&self, i: u64) -> (usize, usize)
+        requires { i < length (lines_of (chars self.now)) }
+        ensures { IsEndOf self.now i result.0 result.1 }
+    {
+        if i == self.sums.ends {
+            let len = self.sums.bytes as usize;
+            return (len, len);
+        }
+        let end = line_end_in(&self.chunks, i);
+        (end.at, end.after)
+    }
+
+    /// The place this many units after another on the same line, if it is in the same block and not
+    /// at its end. What is read of the line for it is not counted again.
+    pub(crate) fn further(&self, encoding: Encoding, place: usize, units: u32) -> Option<usize>
+        requires { IsCharBoundary self.now place }
+        ensures value { IfSome result (IsFurther encoding self.now place units) }
+        ensures utf8 { IsUtf8 self.now }
+    {
+        let rest = rest_in(&self.chunks, place);
+        let len = offset_in_line(rest, encoding, units)?;
+        if len == rest.len() {
+            return None;
+        }
+        let (front, _) = rest.split_at(len);
+        if FirstLine::of(front).is_some() {
+            return None;
+        }
+        Some(place + len)
+    }
+
+    /// The characters before a place.
+    pub(super) fn chars_before(&self, offset: usize) -> u64
+        requires { IsCharBoundary self.now offset }
+        ensures { result ≡ length (chars (take offset self.now)) }
+    {
+        units_before_in(&self.chunks, Encoding::Utf32, offset)
+    }
+
+    /// Whether the lines spell a text.
+    pub(super) fn spell(&self, text: &str) -> bool
+        ensures value { IsTrue result ↔ (self.now ≡ text.now) }
+        ensures utf8 { IsUtf8 self.now }
+    {
+        match strip_all(&self.chunks, text) {
+            Some(rest) => rest.is_empty(),
+            None => false,
+        }
+    }
+
+    /// Whether the lines are those of a text, whatever their ends.
+    pub(super) fn have(&self, text: &str) -> bool
+        ensures value { IsTrue result ↔ SameText Ignored self.now text.now }
+        ensures utf8 { IsUtf8 self.now }
+    {
+        let whole = without_last_end(text);
+        is_taken(take_all(&self.chunks, LinesLeft::Rest(whole)), whole)
+    }
+
+    /// The text of the lines, in a `String` of its own.
+    pub(super) fn to_text(&self, alloc: Global) -> Result<String, AllocError>
+        ensures { IfOk result (λ text. string_bytes text ≡ self.now) }
+    {
+        let mut text = String::with_capacity(alloc, self.sums.bytes as usize)?;
+        push_all(&self.chunks, &mut text)?;
+        Ok(text)
+    }
+
+    /// Makes these the lines of a text.
+    pub(super) fn renew(&mut self, text: &str) -> Result<(), AllocError>
+        ensures ok { OnOk result (self.new ≡ text.now) }
+        ensures err { OnErr result (self.new ≡ self.old) }
+    {
+        *self = Lines::of(self.alloc, text)?;
+        Ok(())
+    }
+
+    /// Replaces some bytes by a text.
+    pub(crate) fn replace(&mut self, from: usize, to: usize, text: &str) -> Result<(), AllocError>
+        requires { CanReplace self.old from to }
+        ensures ok { OnOk result (self.new ≡ replace_range self.old from to text.now) }
+        ensures err { OnErr result (self.new ≡ self.old) }
+    {
+        // No memory holds that many bytes.
+        if text.len() as u64 >= u64::MAX - self.sums.bytes {
+            return Err(AllocError);
+        }
+        self.sums = replace_in_chunks(self.alloc, &mut self.chunks, self.sums, from, to, text)?;
+        Ok(())
+    }
+}
+
+/// A line with its end that is lent: where it begins, where its end begins, and where that ends.
+/// Also the sums of the text, what comes after its start in the same block, and whether each
+/// of those characters has one byte.
+#[derive(Drop)]
+pub(crate) struct LentLine<'a> {
+    chunks: &'a [Chunk],
+    sums: Sums,
+    start: usize,
+    end: usize,
+    after: usize,
+    near: &'a str,
+    is_plain: bool,
+}
+
+impl<'a> LentLine<'a> {
+    /// The bytes of the line and its end.
+    pub(crate) fn len(&self) -> usize
+        requires { self.now.start ≤ self.now.after }
+        ensures { result ≡ self.now.after - self.now.start }
+    {
+        self.after - self.start
+    }
+
+    /// The bytes of the text before a column of the line, or `None` where it lies inside a
+    /// character.
+    pub(crate) fn offset_of(&self, encoding: Encoding, column: u32) -> Option<usize>
+        requires { IsHeldLine self.now }
+        ensures { MatchOption result (NoOffsetIn encoding self.now column)
+            (IsOffsetIn encoding self.now column) }
+    {
+        let len = self.end - self.start;
+        if self.near.len() < len {
+            return self.offset_of_far(encoding, column);
+        }
+        if self.is_plain {
+            return Some(self.start + len.min(column as usize));
+        }
+        let (line, _) = self.near.split_at(len);
+        let offset = offset_in_line(line, encoding, column)?;
+        Some(self.start + offset)
+    }
+
+    /// The same of a line that goes over several blocks.
+    fn offset_of_far(&self, encoding: Encoding, column: u32) -> Option<usize>
+        requires { IsHeldLine self.now }
+        ensures { MatchOption result (NoOffsetIn encoding self.now column)
+            (IsOffsetIn encoding self.now column) }
+    {
+        let before = self.units_before(encoding, self.start);
+        let through = self.units_before(encoding, self.end);
+        if through - before <= column as u64 {
+            return Some(self.end);
+        }
+        offset_in(self.chunks, encoding, before + column as u64)
+    }
+
+    /// The units of the text before a place.
+    fn units_before(&self, encoding: Encoding, place: usize) -> u64
+        requires line { IsHeldLine self.now }
+        requires place { IsCharBoundary (joined self.now.chunks.now) place }
+        ensures { result ≡ units encoding (chars (take place (joined self.now.chunks.now))) }
+    {
+        if place == 0 {
+            return 0;
+        }
+        if place as u64 == self.sums.bytes {
+            return self.sums.by(Measure::Units(encoding));
+        }
+        units_before_in(self.chunks, encoding, place)
+    }
+}
+
+/// The bytes lent to edits, and those that they inserted.
+pub(crate) struct Steps {
+    bytes: u64,
+}
+
+impl Model for Steps {
+    ghost use Rattle.std.specs.Prelude.{ℕ};
+
+    ghost Value = { ℕ };
+
+    ghost view = { λ a. a.bytes };
+}
+
+impl Drop for Steps {
+    fn drop(self) {
+        let Steps { bytes: _ } = self;
+    }
+}
+
+impl Steps {
+    /// No steps yet.
+    pub(super) fn none() -> Steps
+        ensures { result ≡ 0 }
+    {
+        Steps { bytes: 0 }
+    }
+
+    /// Counts bytes.
+    pub(crate) fn add(&mut self, bytes: usize)
+        ensures { self.new ≡ raised self.old bytes }
+    {
+        self.bytes = self.bytes.saturating_add(bytes as u64);
+    }
+
+    /// How many there are.
+    pub(crate) fn count(&self) -> u64
+        ensures { result ≡ self.now }
+    {
+        self.bytes
+    }
+}

@@ -1,0 +1,317 @@
+//! Parts of a text, one after another: the blocks of a chunk, and the chunks of a text.
+
+ghost use Rattle.std.specs.Prelude.{◌≡◌, ◌+◌, ◌-◌, ◌<◌, ◌≤◌, ◌^◌, ◌++◌, ℕ, List, length, take, map};
+ghost use Rattle.std.specs.Prelude.{drop, false, None, MatchOption, IfSome, IfOk, OnOk, OnErr};
+ghost use Rattle.std.specs.List.{replace_range};
+ghost use Rattle.std.specs.Str.{chars, IsUtf8, IsCharBoundary};
+ghost use Rattle.std.specs.String.{string_bytes};
+ghost use Rattle.lsp_text.specs.Places.{units, place_in_line};
+ghost use Rattle.lsp_text.specs.Offsets.{IsOffset};
+ghost use Rattle.lsp_text.specs.Ends.{ends_in, IsLineEnd, IsNear};
+ghost use Rattle.lsp_text.specs.Sums.{sums_of};
+ghost use Rattle.lsp_text.specs.SameText.{BeginsOtherwise, due, with_feeds};
+ghost use Rattle.lsp_text.specs.Parts.{joined, AreParts, CanReplace};
+ghost use Rattle.lsp_text.specs.Parts.{IsReplacedOr, CanReplaceIn, IsReplacedInOr, IsFound};
+ghost use Rattle.lsp_text.specs.Parts.{IsFoundBefore, IsSpot};
+
+use crate::same::LinesLeft;
+use crate::sums::{Measure, Sums};
+use lsp_types::Encoding;
+use std::alloc::AllocError;
+
+/// A line end of a text: the bytes before it, those up to after it, and the rest of its block.
+#[derive(Clone, Copy)]
+pub(crate) struct LineEnd<'a> {
+    pub(crate) at: usize,
+    pub(crate) after: usize,
+    pub(crate) rest: &'a str,
+    // Whether the block's characters have one byte each.
+    pub(crate) is_plain: bool,
+}
+
+/// A part of a text.
+pub(crate) trait Part: Drop {
+    /// Its bytes.
+    ghost text: { Self → List ℕ };
+
+    /// Its sums.
+    fn sums(&self) -> Sums
+        ensures sums { result ≡ sums_of (text self.now) }
+        ensures utf8 { IsUtf8 (text self.now) };
+
+    /// The same part, held by one more.
+    fn share(&self) -> Result<Self, AllocError>
+        ensures { IfOk result (λ part. part ≡ self.now) };
+
+    /// Its line end `n`, of which there are more.
+    fn line_end(&self, n: u64) -> LineEnd<'_>
+        requires { n < ends_in (text self.now) }
+        ensures { IsLineEnd (text self.now) n result };
+
+    /// The bytes before a column, as if the part were one line, or `None` where it lies inside a
+    /// character.
+    fn offset_of(&self, encoding: Encoding, column: u64) -> Option<usize>
+        ensures { MatchOption result (place_in_line encoding (chars (text self.now)) column ≡ None)
+            (IsOffset encoding (text self.now) column) };
+
+    /// The units before a place.
+    fn units_before(&self, encoding: Encoding, offset: usize) -> u64
+        requires { IsCharBoundary (text self.now) offset }
+        ensures { result ≡ units encoding (chars (take offset (text self.now))) };
+
+    /// What comes after a place in its block.
+    fn rest_of_block(&self, offset: usize) -> &str
+        requires { IsCharBoundary (text self.now) offset }
+        ensures { IsNear (drop offset (text self.now)) result.now false };
+
+    /// Replaces some bytes by a text, in a part of its own, if it has room. Answers
+    /// whether it did.
+    fn replace(&mut self, from: usize, to: usize, inserted: &str) -> Result<bool, AllocError>
+        requires can { CanReplace (text self.old) from to }
+        requires fits { length (replace_range (text self.old) from to inserted.now) < 2 ^ 64 }
+        ensures ok { IfOk result
+            (IsReplacedOr (text self.old) from to inserted.now (text self.new)) }
+        ensures err { OnErr result (text self.new ≡ text self.old) };
+
+    /// Writes its text after another.
+    fn push_to(&self, out: &mut String) -> Result<(), AllocError>
+        ensures { OnOk result (string_bytes out.new ≡ string_bytes out.old ++ text self.now) };
+
+    /// What comes after its text in one that begins with it.
+    fn strip<'a>(&self, whole: &'a str) -> Option<&'a str>
+        ensures { MatchOption result (BeginsOtherwise (text self.now) whole.now)
+            (λ rest. whole.now ≡ text self.now ++ rest.now) };
+
+    /// What is left of a text after the lines of this one, if it begins with them.
+    fn take_lines<'a>(&self, left: LinesLeft<'a>) -> Option<LinesLeft<'a>>
+        ensures { MatchOption result
+            (BeginsOtherwise (with_feeds (text self.now)) (due left.entry))
+            (λ next. due left.entry ≡ with_feeds (text self.now) ++ due next) };
+}
+
+/// A part in which a number of some measure falls: its index, the bytes before it, and what is left
+/// of the number.
+#[derive(Clone, Copy)]
+pub(crate) struct Found {
+    pub(crate) index: usize,
+    pub(crate) bytes: usize,
+    pub(crate) left: u64,
+}
+
+/// The part in which number `at` of a measure falls, or the last.
+pub(crate) fn find<T: Part>(parts: &[T], by: Measure, at: u64) -> Found
+    requires some { 0 < length parts.now }
+    requires fits { length (joined (map T.text parts.now)) < 2 ^ 64 }
+    ensures { IsFound (map T.text parts.now) by at result }
+{
+    let mut index = 0;
+    let mut bytes = 0;
+    let mut left = at;
+    while index + 1 < parts.len() {
+        let sums = parts[index].sums();
+        if left < sums.by(by) {
+            break;
+        }
+        left -= sums.by(by);
+        bytes += sums.bytes as usize;
+        index += 1;
+    }
+    Found { index, bytes, left }
+}
+
+/// The part that the byte before a place is in, and the place there.
+pub(crate) fn find_before<T: Part>(parts: &[T], place: usize) -> Found
+    requires some { 0 < length parts.now }
+    requires fits { length (joined (map T.text parts.now)) < 2 ^ 64 }
+    requires within { place ≤ length (joined (map T.text parts.now)) }
+    ensures { IsFoundBefore (map T.text parts.now) place result }
+{
+    let before = place.saturating_sub(1);
+    let found = find(parts, Measure::Units(Encoding::Utf8), before as u64);
+    Found {
+        index: found.index,
+        bytes: found.bytes,
+        left: found.left + (place - before) as u64,
+    }
+}
+
+/// The part that an edit stays in, and from where to where it goes there.
+#[derive(Clone, Copy)]
+pub(crate) struct Spot {
+    pub(crate) index: usize,
+    pub(crate) from: usize,
+    pub(crate) to: usize,
+}
+
+/// The part that an edit stays in, if it leaves the part's first and last bytes before and after
+/// others.
+pub(crate) fn spot_in<T: Part>(parts: &[T], from: usize, to: usize) -> Option<Spot>
+    requires some { 0 < length parts.now }
+    requires fits { length (joined (map T.text parts.now)) < 2 ^ 64 }
+    requires order { from ≤ to }
+    requires within { to ≤ length (joined (map T.text parts.now)) }
+    ensures { IfSome result (IsSpot (map T.text parts.now) from to) }
+{
+    let found = find_before(parts, from);
+    let first = found.left as usize;
+    let last = first + (to - from);
+    let len = parts[found.index].sums().bytes as usize;
+    if last > len || (last == len && found.index + 1 < parts.len()) {
+        return None;
+    }
+    Some(Spot {
+        index: found.index,
+        from: first,
+        to: last,
+    })
+}
+
+/// Replaces some bytes of one part by a text, if the edit stays in one that has room.
+/// Answers the new sums if it did.
+pub(crate) fn replace_in<T: Part>(
+    parts: &mut Vec<T>,
+    sums: Sums,
+    from: usize,
+    to: usize,
+    inserted: &str,
+) -> Result<Option<Sums>, AllocError>
+    requires { CanReplaceIn (map T.text parts.old.items) sums from to inserted.now }
+    ensures ok { IfOk result
+        (IsReplacedInOr (map T.text parts.old.items) from to inserted.now
+        (map T.text parts.new.items)) }
+    ensures err { OnErr result (map T.text parts.new.items ≡ map T.text parts.old.items) }
+{
+    let Some(spot) = spot_in(parts, from, to) else {
+        return Ok(None);
+    };
+    let old = parts[spot.index].sums();
+    if !parts[spot.index].replace(spot.from, spot.to, inserted)? {
+        return Ok(None);
+    }
+    let new = parts[spot.index].sums();
+    Ok(Some(sums.exchanged(old, new)))
+}
+
+/// The sums of parts.
+pub(crate) fn sums_in<T: Part>(parts: &[T]) -> Sums
+    requires parts { AreParts (map T.text parts.now) }
+    requires fits { length (joined (map T.text parts.now)) < 2 ^ 64 }
+    ensures { result ≡ sums_of (joined (map T.text parts.now)) }
+{
+    let mut sums = Sums {
+        ends: 0,
+        bytes: 0,
+        chars: 0,
+        utf16: 0,
+    };
+    for part in parts {
+        sums = sums.with(part.sums());
+    }
+    sums
+}
+
+/// Line end `n` of parts, of which there are more.
+pub(crate) fn line_end_in<T: Part>(parts: &[T], n: u64) -> LineEnd<'_>
+    requires parts { AreParts (map T.text parts.now) }
+    requires some { n < ends_in (joined (map T.text parts.now)) }
+    requires fits { length (joined (map T.text parts.now)) < 2 ^ 64 }
+    ensures { IsLineEnd (joined (map T.text parts.now)) n result }
+{
+    let found = find(parts, Measure::Ends, n);
+    let end = parts[found.index].line_end(found.left);
+    LineEnd {
+        at: found.bytes + end.at,
+        after: found.bytes + end.after,
+        rest: end.rest,
+        is_plain: end.is_plain,
+    }
+}
+
+/// The bytes before a column, as if the parts were one line, or `None` where it lies inside a
+/// character.
+pub(crate) fn offset_in<T: Part>(parts: &[T], encoding: Encoding, column: u64) -> Option<usize>
+    requires parts { AreParts (map T.text parts.now) }
+    requires some { 0 < length parts.now }
+    requires fits { length (joined (map T.text parts.now)) < 2 ^ 64 }
+    ensures { MatchOption result
+        (place_in_line encoding (chars (joined (map T.text parts.now))) column ≡ None)
+        (IsOffset encoding (joined (map T.text parts.now)) column) }
+{
+    let found = find(parts, Measure::Units(encoding), column);
+    let offset = parts[found.index].offset_of(encoding, found.left)?;
+    Some(found.bytes + offset)
+}
+
+/// The units before a place in parts.
+pub(crate) fn units_before_in<T: Part>(parts: &[T], encoding: Encoding, offset: usize) -> u64
+    requires parts { AreParts (map T.text parts.now) }
+    requires some { 0 < length parts.now }
+    requires fits { length (joined (map T.text parts.now)) < 2 ^ 64 }
+    requires boundary { IsCharBoundary (joined (map T.text parts.now)) offset }
+    ensures { result ≡ units encoding (chars (take offset (joined (map T.text parts.now)))) }
+{
+    let found = find(parts, Measure::Units(Encoding::Utf8), offset as u64);
+    let before = sums_in(&parts[..found.index]).by(Measure::Units(encoding));
+    before + parts[found.index].units_before(encoding, found.left as usize)
+}
+
+/// What comes after a place in its block.
+pub(crate) fn rest_in<T: Part>(parts: &[T], offset: usize) -> &str
+    requires parts { AreParts (map T.text parts.now) }
+    requires some { 0 < length parts.now }
+    requires fits { length (joined (map T.text parts.now)) < 2 ^ 64 }
+    requires boundary { IsCharBoundary (joined (map T.text parts.now)) offset }
+    ensures { IsNear (drop offset (joined (map T.text parts.now))) result.now false }
+{
+    let found = find(parts, Measure::Units(Encoding::Utf8), offset as u64);
+    parts[found.index].rest_of_block(found.left as usize)
+}
+
+/// Writes parts after a text.
+pub(crate) fn push_all<T: Part>(parts: &[T], out: &mut String) -> Result<(), AllocError>
+    ensures { OnOk result (string_bytes out.new ≡ string_bytes out.old
+        ++ joined (map T.text parts.now)) }
+{
+    for part in parts {
+        part.push_to(out)?;
+    }
+    Ok(())
+}
+
+/// What comes after parts in a text that begins with them.
+pub(crate) fn strip_all<'a, T: Part>(parts: &[T], whole: &'a str) -> Option<&'a str>
+    requires { AreParts (map T.text parts.now) }
+    ensures { MatchOption result (BeginsOtherwise (joined (map T.text parts.now)) whole.now)
+        (λ rest. whole.now ≡ joined (map T.text parts.now) ++ rest.now) }
+{
+    let mut rest = whole;
+    for part in parts {
+        rest = part.strip(rest)?;
+    }
+    Some(rest)
+}
+
+/// What is left of a text after the lines of parts, if it begins with them.
+pub(crate) fn take_all<'a, T: Part>(parts: &[T], left: LinesLeft<'a>) -> Option<LinesLeft<'a>>
+    requires { AreParts (map T.text parts.now) }
+    ensures { MatchOption result
+        (BeginsOtherwise (with_feeds (joined (map T.text parts.now))) (due left.entry))
+        (λ next. due left.entry ≡ with_feeds (joined (map T.text parts.now)) ++ due next) }
+{
+    let mut ahead = left;
+    for part in parts {
+        ahead = part.take_lines(ahead)?;
+    }
+    Some(ahead)
+}
+
+/// Puts the same parts after others, each held by one more.
+pub(crate) fn share_into<T: Part>(to: &mut Vec<T>, parts: &[T]) -> Result<(), AllocError>
+    ensures { OnOk result (to.new.items ≡ to.old.items ++ parts.now) }
+{
+    to.reserve(parts.len())?;
+    for part in parts {
+        to.push_reserved(part.share()?);
+    }
+    Ok(())
+}
