@@ -20,7 +20,7 @@ use Rattle.lsp_explain.specs.AllExplained.{is_cause, causes, cause_lines}
 use Rattle.lsp_explain.specs.AllSteps.{cause_at, AreSaid}
 use Rattle.lsp_explain.specs.Explained.{Heard, Breach, Explained, Explains, notes_of, breach}
 use Rattle.lsp_explain.specs.Explained.{breach_at, breaches}
-use Rattle.lsp_explain.specs.FlawFacts.{Rests}
+use Rattle.lsp_facts.specs.FlawFacts.{Rests}
 use Rattle.lsp_explain.specs.RunSteps.{RestsBehind, Tells}
 use Rattle.lsp_explain.specs.declared.run.Explanation.{Explanation}
 

@@ -54,8 +54,8 @@ use Rattle.lsp_explain.specs.AllExplained.{AreAllSaid, IsAllExplained, BeginsAll
 use Rattle.lsp_explain.specs.AllSteps.{AllTold, PartTold, CausesTold, ends_said}
 use Rattle.lsp_explain.specs.Explained.{Heard, Explained, Explains, raws_of, notes_of}
 use Rattle.lsp_explain.specs.Explained.{end_explained, flaw_lines}
-use Rattle.lsp_explain.specs.Fact.{Fact}
-use Rattle.lsp_explain.specs.FlawFacts.{Rests}
+use Rattle.lsp_facts.specs.Fact.{Fact}
+use Rattle.lsp_facts.specs.FlawFacts.{Rests}
 use Rattle.lsp_explain.specs.RunSteps.{RestsBehind, flaw_held, rests_held, summary_behind}
 use Rattle.lsp_explain.specs.Standing.{terms_in}
 use Rattle.lsp_explain.proofs.AllCauses.{said_under}

@@ -18,7 +18,7 @@ use Rattle.lsp_explain.specs.AllExplained.{causes, is_cause}
 use Rattle.lsp_explain.specs.Explained.{Heard, Breach, Explained, Explains, notes_of, breaches}
 use Rattle.lsp_explain.specs.Explained.{end_explained}
 use Rattle.lsp_explain.specs.ExplainLaws.{CausesAreExplained, FirstIsVerdict}
-use Rattle.lsp_explain.specs.FlawFacts.{Rests}
+use Rattle.lsp_facts.specs.FlawFacts.{Rests}
 use Rattle.lsp_explain.proofs.AllEnding.{survey_in_all}
 use Rattle.lsp_explain.proofs.Explaining.{offence_of, offences_are}
 

@@ -32,7 +32,7 @@ use Rattle.lsp_verdict.proofs.Sessions.{some_placed}
 use Rattle.lsp_explain.specs.AllExplained.{causes, cause_lines, AreFirstSaid, BeginsAllExplained}
 use Rattle.lsp_explain.specs.AllSteps.{AreSaid, PartTold, TellsCause, cause_at}
 use Rattle.lsp_explain.specs.Explained.{Heard, Breach, Explained, Explains, raws_of, notes_of}
-use Rattle.lsp_explain.specs.FlawFacts.{Rests}
+use Rattle.lsp_facts.specs.FlawFacts.{Rests}
 use Rattle.lsp_explain.specs.RunSteps.{RestsBehind}
 use Rattle.lsp_explain.specs.Standing.{terms_in}
 use Rattle.lsp_explain.proofs.AllCauses.{causes-push, said_behind, said_under, zip_append}

@@ -43,7 +43,7 @@ use Rattle.lsp_explain.specs.Explained.{Heard, Breach, Explains, raws_of, notes_
 use Rattle.lsp_explain.specs.Explained.{Explained, before_first, end_explained, explanation}
 use Rattle.lsp_explain.specs.Explained.{flaw_lines, said_before, said_of, IsExplained}
 use Rattle.lsp_explain.specs.Explained.{IsExplanation}
-use Rattle.lsp_explain.specs.FlawFacts.{Rests, rest_of, flaw_facts, log_facts}
+use Rattle.lsp_facts.specs.FlawFacts.{Rests, rest_of, flaw_facts, log_facts}
 use Rattle.lsp_explain.specs.Remarks.{remark_lines, remarks_of}
 use Rattle.lsp_explain.specs.RunSteps.{AddsNotes, IsSound, flaw_held, rests_held, summary_behind}
 use Rattle.lsp_explain.specs.Standing.{StandsAfter, terms_in}

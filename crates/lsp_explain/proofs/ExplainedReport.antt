@@ -7,7 +7,7 @@ use Rattle.lsp_verdict.specs.Survey.{first_verdict}
 use Rattle.lsp_verdict.specs.Verdict.{Summary, Verdict, yes, no, bad_log}
 use Rattle.lsp_explain.specs.ExplainLaws.{BeginsWithReport, YesIsReport}
 use Rattle.lsp_explain.specs.Explained.{explanation, flaw_lines, said_before, said_of}
-use Rattle.lsp_explain.specs.Fact.{Fact}
+use Rattle.lsp_facts.specs.Fact.{Fact}
 use Rattle.lsp_explain.specs.Remarks.{remark_lines, remarks_of}
 
 pub begins_with_report : BeginsWithReport

@@ -21,8 +21,8 @@ use Rattle.lsp_verdict.proofs.Below.{some_stream}
 use Rattle.lsp_explain.specs.Explained.{Heard, Breach, Explained, Explains, raws_of, notes_of}
 use Rattle.lsp_explain.specs.Explained.{before_first, breach, breach_at, breaches, said_before}
 use Rattle.lsp_explain.specs.Explained.{IsExplained}
-use Rattle.lsp_explain.specs.Fact.{Fact}
-use Rattle.lsp_explain.specs.FlawFacts.{Rests, log_facts}
+use Rattle.lsp_facts.specs.Fact.{Fact}
+use Rattle.lsp_facts.specs.FlawFacts.{Rests, log_facts}
 use Rattle.lsp_explain.specs.RunSteps.{RestsBehind}
 use Rattle.lsp_explain.proofs.Explaining.{Hears, hears, offence_of, offences_are, breaches-first}
 use Rattle.lsp_explain.proofs.Explaining.{raws-append, noted-append}

@@ -11,7 +11,7 @@ use Rattle.lsp_verdict.proofs.Completing.{some_complete_verdict}
 use Rattle.lsp_verdict.proofs.Logs.{some_verdict}
 use Rattle.lsp_verdict.proofs.Offences.Surveying.{survey_agrees}
 use Rattle.lsp_explain.specs.Explained.{Explained, raws_of, notes_of, IsExplained, IsExplanation}
-use Rattle.lsp_explain.specs.Fact.{Fact}
+use Rattle.lsp_facts.specs.Fact.{Fact}
 
 -- the survey that is explained
 pub survey_in : (completeness : Completeness) (limits : Bounds) (log : List ℕ)

@@ -4,7 +4,6 @@ pub mod Explaining
 pub mod FirstOffence
 pub mod Judged
 pub mod SaidFacts
-pub mod Spoken
 pub mod Standing
 pub mod Telling
 pub mod ToldFirst
@@ -15,17 +14,5 @@ pub mod AllTelling
 pub mod AllEnding
 pub mod AllLaws
 pub mod OneExplanation
-pub mod Differing
-pub mod Naming
 pub mod NoteLines
-pub mod Offers
-pub mod MadeChanges
-pub mod Refusals
-pub mod AtEdges
-pub mod OtherTexts
-pub mod DocumentRules
-pub mod Refused
-pub mod ShapedMembers
-pub mod SomeFacts
 pub mod Written
-pub mod OneFacts

@@ -24,10 +24,10 @@ use Rattle.lsp_verdict.proofs.Offences.Surveying.{one_notes, some_note}
 use Rattle.lsp_verdict.proofs.Outcomes.{one_rest}
 use Rattle.lsp_verdict.proofs.PlacedLemmas.{one_placed}
 use Rattle.lsp_verdict.proofs.Sessions.{some_placed}
-use Rattle.lsp_explain.specs.Fact.{Fact}
-use Rattle.lsp_explain.specs.FlawFacts.{Rests, log_facts}
-use Rattle.lsp_explain.proofs.OneFacts.{one_facts}
-use Rattle.lsp_explain.proofs.SomeFacts.{some_facts}
+use Rattle.lsp_facts.specs.Fact.{Fact}
+use Rattle.lsp_facts.specs.FlawFacts.{Rests, log_facts}
+use Rattle.lsp_facts.proofs.OneFacts.{one_facts}
+use Rattle.lsp_facts.proofs.SomeFacts.{some_facts}
 use Rattle.lsp_explain.specs.AllExplained.{all_explanation, causes, is_cause, IsAllExplained}
 use Rattle.lsp_explain.specs.Explained.{Heard, Breach, Explained, Explains, breach, breach_at}
 use Rattle.lsp_explain.specs.Explained.{event_of}

@@ -14,17 +14,17 @@ use Rattle.lsp_verdict.specs.Offences.{kept_of, rule_at}
 use Rattle.lsp_verdict.specs.Placed.{Raw, content, broken, show, Reads}
 use Rattle.lsp_verdict.specs.declared.verdict.Who.{Who}
 use Rattle.lsp_verdict.proofs.OneEvent.{one_event}
-use Rattle.lsp_explain.specs.EventFacts.{AreCallFacts, AreFacts, AreMessageFacts}
-use Rattle.lsp_explain.specs.Fact.{Fact}
-use Rattle.lsp_explain.specs.FlawFacts.{Rests, rest_of, frame_facts}
-use Rattle.lsp_explain.specs.Lines.{bare_event, content_event, content_message, event_line}
-use Rattle.lsp_explain.specs.Lines.{message_event}
-use Rattle.lsp_explain.proofs.Naming.{message_named}
-use Rattle.lsp_explain.specs.ContentFacts.{content_facts}
-use Rattle.lsp_explain.specs.MessageFacts.{front_facts}
+use Rattle.lsp_facts.specs.EventFacts.{AreCallFacts, AreFacts, AreMessageFacts}
+use Rattle.lsp_facts.specs.Fact.{Fact}
+use Rattle.lsp_facts.specs.FlawFacts.{Rests, rest_of, frame_facts}
+use Rattle.lsp_facts.specs.Lines.{bare_event, content_event, content_message, event_line}
+use Rattle.lsp_facts.specs.Lines.{message_event}
+use Rattle.lsp_facts.proofs.Naming.{message_named}
+use Rattle.lsp_facts.specs.ContentFacts.{content_facts}
+use Rattle.lsp_facts.specs.MessageFacts.{front_facts}
 use Rattle.lsp_explain.specs.RunSteps.{ShowsFault}
 use Rattle.lsp_explain.specs.Traced.{AreTraced}
-use Rattle.lsp_explain.proofs.Spoken.{same_line}
+use Rattle.lsp_facts.proofs.Spoken.{same_line}
 
 module _ (terms : Terms) (before : List Event) (rule : ℕ) where
   abbrev kept : List Event

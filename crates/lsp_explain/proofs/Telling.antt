@@ -26,10 +26,10 @@ use Rattle.lsp_verdict.specs.Verdict.{no, whose}
 use Rattle.lsp_verdict.specs.declared.verdict.Who.{Who}
 use Rattle.lsp_verdict.proofs.ExactCounts.{capped_is}
 use Rattle.lsp_explain.specs.Explained.{Heard, Explained, raws_of, notes_of}
-use Rattle.lsp_explain.specs.EventFacts.{AreFacts}
-use Rattle.lsp_explain.specs.Fact.{Fact}
-use Rattle.lsp_explain.specs.FlawFacts.{Rests, rest_of}
-use Rattle.lsp_explain.specs.Lines.{detail_lines, event_line}
+use Rattle.lsp_facts.specs.EventFacts.{AreFacts}
+use Rattle.lsp_facts.specs.Fact.{Fact}
+use Rattle.lsp_facts.specs.FlawFacts.{Rests, rest_of}
+use Rattle.lsp_facts.specs.Lines.{detail_lines, event_line}
 use Rattle.lsp_explain.specs.RunSteps.{RestsBehind, ShowsFault, Tells, side_of}
 use Rattle.lsp_explain.specs.Standing.{StandsAfter, terms_in}
 use Rattle.lsp_explain.specs.Traced.{AreTraced}

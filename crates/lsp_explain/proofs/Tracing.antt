@@ -13,13 +13,13 @@ use Rattle.lsp_types.specs.declared.side.Side.{Side}
 use Rattle.lsp_verdict.specs.Event.{Event, message}
 use Rattle.lsp_survey.specs.Asking.{numbered}
 use Rattle.lsp_survey.specs.Marking.{Step, agreed, recent}
-use Rattle.lsp_explain.specs.Fact.{Fact, fact_view, shown_by}
-use Rattle.lsp_explain.specs.declared.facts.fact.Fact as code
-use Rattle.lsp_explain.specs.MessageFacts.{id_in}
+use Rattle.lsp_facts.specs.Fact.{Fact, fact_view, shown_by}
+use Rattle.lsp_facts.specs.declared.fact.Fact as code
+use Rattle.lsp_facts.specs.MessageFacts.{id_in}
 use Rattle.lsp_explain.specs.Traced.{act_call, apart_facts, brought, document_traced, held_by}
 use Rattle.lsp_explain.specs.Traced.{message_traced, session_trace, traced, with_setter}
 use Rattle.lsp_explain.specs.declared.suspects.Until.{Until}
-use Rattle.lsp_explain.proofs.Spoken.{id_in-outline}
+use Rattle.lsp_facts.proofs.Spoken.{id_in-outline}
 
 module _ (terms : Terms) (before : List Event) (rule : ℕ) (plain : List Fact) where
   -- what is added, where the rule is one on messages or not

@@ -1,8 +1,3 @@
 -- Worked rows, each checked by computing it.
 pub mod Traced
 pub mod Notes
-pub mod Messages
-pub mod Contents
-pub mod Flaws
-pub mod Lines
-pub mod Documents

@@ -28,7 +28,7 @@ use Rattle.lsp_explain.specs.AllExplained.{is_cause, causes, cause_lines, all_cl
 use Rattle.lsp_explain.specs.AllExplained.{IsAllExplained, BeginsAllExplained}
 use Rattle.lsp_explain.specs.Explained.{Heard, Breach, Explained, Explains, breach_at, raws_of}
 use Rattle.lsp_explain.specs.Explained.{notes_of, end_explained}
-use Rattle.lsp_explain.specs.FlawFacts.{Rests}
+use Rattle.lsp_facts.specs.FlawFacts.{Rests}
 use Rattle.lsp_explain.specs.RunSteps.{IsSound, RestsBehind, flaw_held, rests_held, summary_behind}
 use Rattle.lsp_explain.specs.Standing.{StandsAfter, terms_in}
 use Rattle.lsp_explain.specs.declared.run.Explanation.{Explanation}

@@ -11,7 +11,7 @@ use Rattle.lsp_verdict.specs.declared.completeness.Completeness.{Completeness}
 use Rattle.lsp_explain.specs.AllExplained.{AreAllSaid, IsAllExplained}
 use Rattle.lsp_explain.specs.Explained.{Explained, Heard, noted_explanation, said_before}
 use Rattle.lsp_explain.specs.Explained.{IsExplanation}
-use Rattle.lsp_explain.specs.Fact.{Fact}
+use Rattle.lsp_facts.specs.Fact.{Fact}
 use Rattle.lsp_explain.specs.Remarks.{remark_lines, remarks_of}
 
 -- **An explanation begins with the report of the verdict.**

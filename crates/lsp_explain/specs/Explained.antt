@@ -18,10 +18,10 @@ use Rattle.lsp_verdict.specs.Survey.{found_in, ends_listed, first_verdict}
 use Rattle.lsp_verdict.specs.Verdict.{Verdict, yes, no, bad_log, Summary, summary, bad_log_of}
 use Rattle.lsp_verdict.specs.Verdict.{no_by}
 use Rattle.lsp_verdict.specs.declared.completeness.Completeness.{Completeness}
-use Rattle.lsp_explain.specs.EventFacts.{AreFacts}
-use Rattle.lsp_explain.specs.Fact.{Fact}
-use Rattle.lsp_explain.specs.FlawFacts.{Rests, rest_of, side_by, unfinished_facts, log_facts}
-use Rattle.lsp_explain.specs.Lines.{detail_lines, event_line, end_event}
+use Rattle.lsp_facts.specs.EventFacts.{AreFacts}
+use Rattle.lsp_facts.specs.Fact.{Fact}
+use Rattle.lsp_facts.specs.FlawFacts.{Rests, rest_of, side_by, unfinished_facts, log_facts}
+use Rattle.lsp_facts.specs.Lines.{detail_lines, event_line, end_event}
 use Rattle.lsp_explain.specs.Remarks.{remark_lines, remarks_of}
 use Rattle.lsp_explain.specs.Traced.{AreTraced, lack_traced}
 use Rattle.lsp_survey.specs.Asking.{Numbered, numbered}

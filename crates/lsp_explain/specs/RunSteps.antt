@@ -32,8 +32,8 @@ use Rattle.lsp_verdict.specs.declared.verdict.Summary as code
 use Rattle.lsp_verdict.specs.declared.verdict.Verdict.TheVariants as verdicts
 use Rattle.lsp_explain.specs.Explained.{Heard, Explained, Explains, breach, raws_of, notes_of}
 use Rattle.lsp_explain.specs.Explained.{said_of, IsExplanation}
-use Rattle.lsp_explain.specs.Fact.{Fact}
-use Rattle.lsp_explain.specs.FlawFacts.{Rests, rest_of, flaw_facts}
+use Rattle.lsp_facts.specs.Fact.{Fact}
+use Rattle.lsp_facts.specs.FlawFacts.{Rests, rest_of, flaw_facts}
 use Rattle.lsp_explain.specs.Remarks.{remark_lines, remarks_of}
 use Rattle.lsp_explain.specs.Standing.{StandsAfter, terms_in}
 use Rattle.lsp_explain.specs.declared.run.Explanation.{Explanation}

@@ -7,7 +7,7 @@ use Rattle.lsp_docs.specs.Calls.{Call, opens, changes, closes, saves, shows}
 use Rattle.lsp_survey.specs.Marking.{next_rank, rank_or}
 use Rattle.lsp_survey.specs.declared.notes.mark.Setter.{Setter}
 use Rattle.lsp_survey.specs.declared.notes.mark.Shown.{Shown}
-use Rattle.lsp_explain.specs.Fact.{Fact, has_suspects, suspects}
+use Rattle.lsp_facts.specs.Fact.{Fact, has_suspects, suspects}
 use Rattle.lsp_explain.specs.declared.suspects.Until.{Until}
 use Rattle.lsp_explain.specs.declared.suspects.Until.TheVariants as until
 

@@ -24,10 +24,10 @@ use Rattle.lsp_survey.specs.Marking.{Step, agreed, last_setter, number_next, rec
 use Rattle.lsp_survey.specs.Marking.{waiting_for}
 use Rattle.lsp_survey.specs.declared.notes.mark.Setter.{Setter}
 use Rattle.lsp_survey.specs.declared.notes.mark.Shown.{Shown}
-use Rattle.lsp_explain.specs.Fact.{Fact, holds, waits, waits_since, holds_by, shown_by, equal_by}
-use Rattle.lsp_explain.specs.Fact.{answered_by, asked_by, led_by, in_phase, opens_as}
-use Rattle.lsp_explain.specs.MessageFacts.{id_in}
-use Rattle.lsp_explain.specs.Refuting.{refuting}
+use Rattle.lsp_facts.specs.Fact.{Fact, holds, waits, waits_since, holds_by, shown_by, equal_by}
+use Rattle.lsp_facts.specs.Fact.{answered_by, asked_by, led_by, in_phase, opens_as}
+use Rattle.lsp_facts.specs.MessageFacts.{id_in}
+use Rattle.lsp_facts.specs.Refuting.{refuting}
 use Rattle.lsp_types.specs.declared.rules.TheConstants as rules
 use Rattle.lsp_explain.specs.Suspects.{suspect_facts, until_of}
 use Rattle.lsp_explain.specs.Unopened.{unopened_traced}

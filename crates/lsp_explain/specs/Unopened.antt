@@ -18,7 +18,7 @@ use Rattle.lsp_survey.specs.Openings.{OnDocument, closing_of, closings, last_on,
 use Rattle.lsp_survey.specs.Openings.{openings}
 use Rattle.lsp_survey.specs.declared.notes.openings.Closing.{Closing}
 use Rattle.lsp_survey.specs.declared.notes.openings.Closing.TheVariants as closing
-use Rattle.lsp_explain.specs.Fact.{Fact, closed_by, never_opened, similar_to}
+use Rattle.lsp_facts.specs.Fact.{Fact, closed_by, never_opened, similar_to}
 use Rattle.lsp_types.specs.declared.rules.TheConstants as rules
 
 -- ---- URIs that differ in their spelling

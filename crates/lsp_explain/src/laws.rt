@@ -3,7 +3,6 @@ ghost use Rattle.lsp_explain.specs.ExplainLaws.{BeginsWithReport, CausesAreExpla
 ghost use Rattle.lsp_explain.specs.ExplainLaws.{FirstIsVerdict, OneExplanation};
 ghost use Rattle.lsp_explain.specs.ExplainLaws.{OneExplanationOfAll, SomeExplanation};
 ghost use Rattle.lsp_explain.specs.ExplainLaws.{SomeExplanationOfAll, YesIsReport};
-ghost use Rattle.lsp_explain.specs.MemberLaws.{BadParamsHaveMember, BadResultHasMember};
 
 /// An explanation begins with the report of the verdict.
 pub fn explanation_begins_with_report()
@@ -43,14 +42,4 @@ pub fn some_explanation_of_all()
 /// And one only.
 pub fn one_explanation_of_all()
     ensures { OneExplanationOfAll }
-{}
-
-/// Of a message whose params do not have the shape of its method, a member is named.
-pub fn bad_params_have_a_member()
-    ensures { BadParamsHaveMember }
-{}
-
-/// Of a result of `initialize`, a member is named just where it does not have its shape.
-pub fn bad_result_has_a_member()
-    ensures { BadResultHasMember }
 {}

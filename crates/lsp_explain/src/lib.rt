@@ -2,11 +2,10 @@
 //! is wrong.
 //!
 //! [`run_explain`] reads a log and explains the verdict on it, and [`run_explain_all`] all that is
-//! wrong with it. What is said about an offence are the facts of the module `facts`, with the
-//! earlier events that brought it.
+//! wrong with it. What is said about an offence are the facts of `lsp_facts`, whose public
+//! names are exported again here, with the earlier events that brought it.
 #![tactic(auto)]
 
-mod facts;
 mod laws;
 mod offence_facts;
 mod remarks;
@@ -17,14 +16,14 @@ mod trace;
 mod twins;
 mod unopened;
 
-pub use facts::{
-    Fact, act_facts, content_facts, flaw_facts, frame_facts, session_facts, snapshot_facts,
-    unfinished_facts,
-};
 pub use laws::{
-    all_explained_are_causes, bad_params_have_a_member, bad_result_has_a_member,
-    explanation_begins_with_report, explanation_of_yes_is_report, first_explained_is_verdict,
-    one_explanation, one_explanation_of_all, some_explanation, some_explanation_of_all,
+    all_explained_are_causes, explanation_begins_with_report, explanation_of_yes_is_report,
+    first_explained_is_verdict, one_explanation, one_explanation_of_all, some_explanation,
+    some_explanation_of_all,
+};
+pub use lsp_facts::{
+    Fact, act_facts, bad_params_have_a_member, bad_result_has_a_member, content_facts, flaw_facts,
+    frame_facts, session_facts, snapshot_facts, unfinished_facts,
 };
 pub use run::run_explain;
 pub use run_all::run_explain_all;

@@ -11,19 +11,19 @@ ghost use Rattle.lsp_verdict.specs.Placed.{Raw, Reads};
 ghost use Rattle.lsp_verdict.specs.Verdict.{no};
 ghost use Rattle.lsp_verdict.specs.declared.verdict.Who.{Who};
 ghost use Rattle.lsp_explain.specs.Explained.{end_explained, end_facts, said_of};
-ghost use Rattle.lsp_explain.specs.EventFacts.{AreFacts};
-ghost use Rattle.lsp_explain.specs.Fact.{Fact as SpecFact, facts_view};
-ghost use Rattle.lsp_explain.specs.FlawFacts.{Rests, rest_of, side_by};
-ghost use Rattle.lsp_explain.specs.Lines.{detail_lines, event_line};
+ghost use Rattle.lsp_facts.specs.EventFacts.{AreFacts};
+ghost use Rattle.lsp_facts.specs.Fact.{Fact as SpecFact, facts_view};
+ghost use Rattle.lsp_facts.specs.FlawFacts.{Rests, rest_of, side_by};
+ghost use Rattle.lsp_facts.specs.Lines.{detail_lines, event_line};
 ghost use Rattle.lsp_explain.specs.RunSteps.{ShowsFault};
 ghost use Rattle.lsp_explain.specs.Standing.{StandsAfter, terms_in};
 ghost use Rattle.lsp_explain.specs.Traced.{AreTraced};
 
-use crate::facts::{
+use crate::trace::{lack_traced, message_traced, shown_traced};
+use lsp_facts::{
     Fact, content_facts, frame_facts, push_bare_event, push_content_event, push_details,
     push_end_event, push_message_event, unfinished_facts, usual,
 };
-use crate::trace::{lack_traced, message_traced, shown_traced};
 use lsp_rpc::Memory;
 use lsp_survey::{FoundOffence, OffendingEvent, SurveyReader};
 use lsp_types::rules;

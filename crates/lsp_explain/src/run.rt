@@ -16,16 +16,16 @@ ghost use Rattle.lsp_verdict.specs.RunIo.{OfRead, GaveAtMost, source_failures, s
 ghost use Rattle.lsp_verdict.specs.Survey.{first_verdict};
 ghost use Rattle.lsp_explain.specs.Explained.{BeginsExplanation, IsExplanation, end_explained};
 ghost use Rattle.lsp_explain.specs.Explained.{flaw_lines, said_of};
-ghost use Rattle.lsp_explain.specs.FlawFacts.{Rests, flaw_facts, rest_of, side_by};
-ghost use Rattle.lsp_explain.specs.Lines.{fact_lines, usual_line};
+ghost use Rattle.lsp_facts.specs.FlawFacts.{Rests, flaw_facts, rest_of, side_by};
+ghost use Rattle.lsp_facts.specs.Lines.{fact_lines, usual_line};
 ghost use Rattle.lsp_explain.specs.RunSteps.{AddsNotes, EndsWhole, ExplainsLog, IsSound, TellsEnd};
 ghost use Rattle.lsp_explain.specs.RunSteps.{TellsFirst, TellsOf, flaw_held, side_of};
 ghost use Rattle.lsp_explain.specs.RunSteps.{summary_behind};
 ghost use Rattle.lsp_explain.specs.Standing.{StandsAfter, terms_in};
 
-use crate::facts::{flaw_facts, push_details};
 use crate::offence_facts::{push_end, push_said};
 use crate::remarks::push_remarks;
+use lsp_facts::{flaw_facts, push_details};
 use lsp_frame::{Limits, Sink, Source, put_all};
 use lsp_rpc::{Memory, Side};
 use lsp_survey::{FoundOffence, Judged, NextJudged, OffendingEvent, SurveyEnd, SurveyReader};

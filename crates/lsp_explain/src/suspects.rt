@@ -2,10 +2,10 @@
 ghost use Rattle.std.specs.Prelude.{◌≡◌, ◌≤◌, ◌++◌, ◌∷◌, [], OnOk, length};
 ghost use Rattle.std.specs.List.{prefix_len};
 ghost use Rattle.lsp_survey.specs.Marking.{rank_or};
-ghost use Rattle.lsp_explain.specs.Fact.{facts_view};
+ghost use Rattle.lsp_facts.specs.Fact.{facts_view};
 ghost use Rattle.lsp_explain.specs.Suspects as spec;
 
-use crate::facts::Fact;
+use lsp_facts::Fact;
 use lsp_rpc::Memory;
 use lsp_survey::{Setter, Shown};
 

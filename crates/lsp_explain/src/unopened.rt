@@ -5,12 +5,12 @@ ghost use Rattle.std.specs.Str.{bytes_eq};
 ghost use Rattle.lsp_rpc.specs.View.{act_view};
 ghost use Rattle.lsp_survey.specs.Openings.{on_view, ons_view};
 ghost use Rattle.lsp_verdict.specs.Event.{Event};
-ghost use Rattle.lsp_explain.specs.Fact.{facts_view};
+ghost use Rattle.lsp_facts.specs.Fact.{facts_view};
 ghost use Rattle.lsp_explain.specs.Standing.{StandsAfter, terms_in};
 ghost use Rattle.lsp_explain.specs.Traced.{act_call};
 ghost use Rattle.lsp_explain.specs.Unopened as spec;
 
-use crate::facts::Fact;
+use lsp_facts::Fact;
 use lsp_rpc::{Act, Memory};
 use lsp_survey::{Closing, DocumentEvent, SurveyReader, uri_in};
 use lsp_types::rules;

@@ -18,8 +18,8 @@ use Rattle.lsp_survey.specs.Asking.{numbered}
 use Rattle.lsp_verdict.specs.Event.{Event}
 use Rattle.lsp_verdict.proofs.Worked.Templates.{terms, I1, N1, START, OPEN, CHG, FULL, CLOSE, REQ}
 use Rattle.lsp_verdict.proofs.Worked.Templates.{RES, ERR, T}
-use Rattle.lsp_explain.specs.Fact.{Fact, of_uri, holds, shows_version}
-use Rattle.lsp_explain.specs.Lines.{fact_lines}
+use Rattle.lsp_facts.specs.Fact.{Fact, of_uri, holds, shows_version}
+use Rattle.lsp_facts.specs.Lines.{fact_lines}
 use Rattle.lsp_explain.specs.Traced.{traced, lack_traced}
 use Rattle.lsp_explain.specs.Twins.{twin}
 use Rattle.lsp_explain.specs.Unopened.{is_similar}

@@ -4,13 +4,13 @@ use Rattle.std.proofs.lemmas.Int.{to_z-of_z}
 use mir.Val.{SFits}
 use Rattle.lsp_docs.specs.Calls.{shows}
 use Rattle.lsp_verdict.specs.Event.{snapshot}
-use Rattle.lsp_explain.specs.EventFacts.{AreCallFacts}
+use Rattle.lsp_facts.specs.EventFacts.{AreCallFacts}
 use Rattle.lsp_explain.specs.Traced.{AreTraced}
 use Rattle.std.proofs.lemmas.Result.{IfOk-weaker}
 use Rattle.lsp_survey.specs.Walking.{IsOffending}
 use Rattle.lsp_verdict.specs.Offences.{kept_of, rule_at}
-use Rattle.lsp_explain.specs.Fact.{facts_view}
-use Rattle.lsp_explain.specs.ContentFacts.{content_facts}
+use Rattle.lsp_facts.specs.Fact.{facts_view}
+use Rattle.lsp_facts.specs.ContentFacts.{content_facts}
 use Rattle.lsp_explain.specs.RunSteps.{ShowsFault}
 use Rattle.lsp_explain.specs.Standing.{terms_in}
 use Rattle.lsp_explain.proofs.SaidFacts.{facts_said}

@@ -3,8 +3,8 @@ use Rattle.std.proofs.lemmas.Result.{IfOk-weaker}
 use Rattle.lsp_survey.specs.Asking.{numbered}
 use Rattle.lsp_verdict.specs.Verdict.{no}
 use Rattle.lsp_explain.specs.Explained.{end_facts}
-use Rattle.lsp_explain.specs.Fact.{facts_view}
-use Rattle.lsp_explain.specs.Lines.{detail_lines, end_event, fact_lines, usual_line}
+use Rattle.lsp_facts.specs.Fact.{facts_view}
+use Rattle.lsp_facts.specs.Lines.{detail_lines, end_event, fact_lines, usual_line}
 use Rattle.lsp_explain.specs.Standing.{terms_in}
 use Rattle.lsp_explain.proofs.offence_facts.push_end.Goals as goal
 

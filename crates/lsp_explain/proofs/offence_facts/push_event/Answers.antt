@@ -1,6 +1,6 @@
 use Rattle.std.proofs.Common.{◌∙◌, ◌++◌, ap, subst, string_bytes}
 use Rattle.std.proofs.lemmas.Result.{IfOk-weaker}
-use Rattle.lsp_explain.specs.Lines.{content_event, content_message}
+use Rattle.lsp_facts.specs.Lines.{content_event, content_message}
 use Rattle.lsp_survey.specs.Walking.{IsOffending}
 use Rattle.lsp_explain.proofs.SaidFacts.{line_said}
 use Rattle.lsp_explain.proofs.offence_facts.push_event.Goals as goal

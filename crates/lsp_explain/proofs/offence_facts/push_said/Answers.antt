@@ -2,8 +2,8 @@ use Rattle.std.proofs.Common.{◌∙◌, ◌++◌, List, ℕ, ap, string_bytes, 
 use Rattle.std.proofs.lemmas.Result.{IfOk-weaker}
 use Rattle.lsp_verdict.specs.Given.{offence_view}
 use Rattle.lsp_verdict.specs.Offences.{kept_of}
-use Rattle.lsp_explain.specs.Fact.{facts_view}
-use Rattle.lsp_explain.specs.Lines.{detail_lines, event_line, fact_lines, usual_line}
+use Rattle.lsp_facts.specs.Fact.{facts_view}
+use Rattle.lsp_facts.specs.Lines.{detail_lines, event_line, fact_lines, usual_line}
 use Rattle.lsp_explain.specs.Standing.{terms_in}
 use Rattle.lsp_explain.proofs.offence_facts.push_said.Goals as goal
 

@@ -2,7 +2,7 @@ use Rattle.std.proofs.Common.{sym, ap, ◌∙◌}
 use Rattle.std.proofs.lemmas.Result.{IfOk-weaker}
 use Rattle.lsp_explain.specs.Explained.{notes_of}
 use Rattle.lsp_replay.specs.Streams.{decoder_of}
-use Rattle.lsp_explain.specs.FlawFacts.{side_by}
+use Rattle.lsp_facts.specs.FlawFacts.{side_by}
 use Rattle.lsp_explain.specs.RunSteps.{rests_held}
 use Rattle.lsp_explain.proofs.EndOfLog.{ends_sound, ends_told, held_rest, first_some, first_none}
 use Rattle.lsp_explain.proofs.EndOfLog.{if_ok_both}

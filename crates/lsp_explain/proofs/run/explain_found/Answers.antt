@@ -1,7 +1,7 @@
 use Rattle.std.proofs.Common.{ap, subst, sym, ◌∙◌, ◌++◌, string_bytes}
 use Rattle.lsp_verdict.specs.Given.{offence_view}
 use Rattle.lsp_verdict.specs.Report.{report}
-use Rattle.lsp_explain.specs.Lines.{detail_lines, event_line}
+use Rattle.lsp_facts.specs.Lines.{detail_lines, event_line}
 use Rattle.lsp_survey.specs.Reads.{IsBroken, ShowsFront}
 use Rattle.lsp_explain.proofs.Telling.{SeenOf, tells}
 use Rattle.lsp_explain.proofs.run.explain_found.Goals as goal

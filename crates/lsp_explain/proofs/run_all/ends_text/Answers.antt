@@ -7,7 +7,7 @@ use Rattle.lsp_survey.specs.Reported.{IsTally}
 use Rattle.lsp_replay.specs.Streams.{decoder_of}
 use Rattle.lsp_survey.proofs.Reporting.{tally_more}
 use Rattle.lsp_verdict.specs.Given.{offence_view}
-use Rattle.lsp_explain.specs.FlawFacts.{side_by}
+use Rattle.lsp_facts.specs.FlawFacts.{side_by}
 use Rattle.lsp_explain.specs.RunSteps.{rests_held}
 use Rattle.lsp_explain.specs.Standing.{terms_in}
 use Rattle.lsp_explain.proofs.AllEnding.{text_more}

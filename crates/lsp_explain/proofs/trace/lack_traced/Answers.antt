@@ -9,7 +9,7 @@ use Rattle.lsp_survey.specs.Asking.{numbered, sents, since}
 use Rattle.lsp_survey.specs.SessionNoting.{AreNotes}
 use Rattle.lsp_survey.specs.declared.notes.session_notes.SessionNotes.{SessionNotes}
 use Rattle.lsp_survey.proofs.SessionSteps.{sents-numbered}
-use Rattle.lsp_explain.specs.Fact.{Fact, facts_view, fact_view, in_phase, led_by}
+use Rattle.lsp_facts.specs.Fact.{Fact, facts_view, fact_view, in_phase, led_by}
 use Rattle.lsp_explain.specs.Standing.{terms_in}
 use Rattle.lsp_explain.specs.Traced.{number_facts, waiting_by}
 use Rattle.lsp_explain.proofs.trace.lack_traced.Goals as goal

@@ -1,7 +1,7 @@
 use Rattle.std.proofs.Common.{◌∙◌}
 use Rattle.lsp_rpc.specs.View.{act_view, message_view}
 use Rattle.lsp_verdict.specs.Offences.{kept_of}
-use Rattle.lsp_explain.specs.Fact.{facts_view}
+use Rattle.lsp_facts.specs.Fact.{facts_view}
 use Rattle.lsp_explain.specs.Standing.{terms_in}
 use Rattle.lsp_explain.proofs.Tracing.{same_traced}
 use Rattle.lsp_explain.proofs.trace.message_traced.Goals as goal

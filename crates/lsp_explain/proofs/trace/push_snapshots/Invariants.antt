@@ -1,5 +1,5 @@
 use Rattle.std.proofs.Common.{◌≡◌, ◌++◌, map, take}
-use Rattle.lsp_explain.specs.Fact.{facts_view, shown_by}
+use Rattle.lsp_facts.specs.Fact.{facts_view, shown_by}
 use Rattle.lsp_explain.proofs.trace.push_snapshots.Given as goal
 
 abbrev pub invariant-loop-event : goal.invariant-loop-event

@@ -3,7 +3,7 @@ use Rattle.lsp_docs.specs.Terms.{Terms}
 use Rattle.lsp_verdict.specs.Event.{Event}
 use Rattle.lsp_survey.specs.Asking.{numbered}
 use Rattle.lsp_survey.specs.SessionNoting.{AreNotes}
-use Rattle.lsp_explain.specs.Fact.{facts_view}
+use Rattle.lsp_facts.specs.Fact.{facts_view}
 use Rattle.lsp_explain.specs.Traced.{waiting_by}
 use Rattle.lsp_explain.proofs.trace.requests.Given as goal
 

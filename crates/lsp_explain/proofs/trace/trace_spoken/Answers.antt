@@ -3,7 +3,7 @@ use Rattle.std.proofs.lemmas.Result.{on_ok_weaker}
 use Rattle.lsp_survey.specs.SessionNoting.{AreNotes}
 use Rattle.lsp_survey.specs.declared.notes.session_notes.SessionNotes.{SessionNotes}
 use Rattle.lsp_rpc.specs.View.{act_view, message_view}
-use Rattle.lsp_explain.specs.Fact.{facts_view}
+use Rattle.lsp_facts.specs.Fact.{facts_view}
 use Rattle.lsp_explain.specs.Standing.{terms_in}
 use Rattle.lsp_explain.proofs.Tracing.{added_to_messages}
 use Rattle.lsp_explain.proofs.trace.trace_spoken.Goals as goal

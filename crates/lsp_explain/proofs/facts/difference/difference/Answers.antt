@@ -1,8 +1,0 @@
-use Rattle.lsp_explain.proofs.facts.difference.difference.Goals as goal
-
-pub returns : goal.returns
-returns c = λ apart. record {
-  place = c.in_ok-facts.facts;
-  at = c.in_ok-facts.ensures apart;
-  are = c.in_ok-push_line_ends.ensures;
-}

@@ -1,0 +1,14 @@
+pub mod Spoken
+pub mod Differing
+pub mod Naming
+pub mod Offers
+pub mod MadeChanges
+pub mod Refusals
+pub mod AtEdges
+pub mod OtherTexts
+pub mod DocumentRules
+pub mod Refused
+pub mod ShapedMembers
+pub mod SomeFacts
+pub mod OneFacts
+pub mod Worked

@@ -1,0 +1,262 @@
+-- The facts on an event are the same, however they are found.
+use Rattle.std.proofs.Common.{◌≡◌, ◌⊎◌, ◌+◌, ◌<◌, ◌≤◌, ℕ, zero, suc, Bool, true, false, cond, List, [], ◌∷◌, ◌++◌, take, Option, Some, None, Result, Ok, Err, inl, inr, refl, sym, ap, subst, ◌∙◌, arith}
+use Rattle.std.specs.Prelude.{ℤ, nat_lt, slice_get, unwrap_or}
+use Rattle.std.proofs.lemmas.Bool.{cases_lt}
+use Rattle.std.proofs.lemmas.Bool.Decides.{nat_tests}
+use Rattle.std.proofs.lemmas.Option.{same_Some}
+use Rattle.lsp_types.specs.declared.change.SyncKind.{SyncKind}
+use Rattle.lsp_types.specs.declared.position.Encoding.{Encoding}
+use Rattle.lsp_types.specs.declared.position.Encoding.TheVariants.{Utf8, Utf16}
+use Rattle.lsp_types.specs.declared.position.Span.{Span}
+use Rattle.lsp_text.specs.Edits.{Edit, limited, applied}
+use Rattle.lsp_types.specs.declared.line_ends.LineEnds.{LineEnds}
+use Rattle.lsp_text.specs.InsideCharacter.{LiesInside}
+use Rattle.lsp_text.specs.SameText.{compared}
+use Rattle.lsp_text.specs.Places.{units}
+use Rattle.lsp_text.specs.Sizes.{IsSizeWith}
+use Rattle.lsp_text.proofs.Differing.Differences.{one_place}
+use Rattle.lsp_text.proofs.Differing.InsideCharacter.{positions_lie_inside}
+use Rattle.lsp_docs.specs.Calls.{Call, opens, changes, closes, saves, shows, uri_of}
+use Rattle.lsp_docs.specs.Documents.{Version, versioned, held}
+use Rattle.lsp_docs.specs.Kept.{kept as versions_kept}
+use Rattle.lsp_docs.specs.Snapshots.{waiting, versions_of}
+use Rattle.lsp_docs.specs.Terms.{Terms}
+use Rattle.lsp_docs.specs.Texts.{Text}
+use Rattle.lsp_facts.specs.DocumentFacts.{fits_fact, head_facts, line_length, first_length, stray}
+use Rattle.lsp_facts.specs.DocumentFacts.{difference_facts, ends_facts, IsStray, IsTooLong}
+use Rattle.lsp_facts.specs.DocumentFacts.{IsLongWithLine, IsReason, IsRefused, IsFailing}
+use Rattle.lsp_facts.specs.DocumentFacts.{AreApart, AreOfDifference, IsRefuted, IsRefuting}
+use Rattle.lsp_facts.specs.DocumentFacts.{IsRefutedText, AreOfOpening, AreOfChange, AreOfSave}
+use Rattle.lsp_facts.specs.DocumentFacts.{AreOfSnapshot, AreDetails, AreFactsOf}
+use Rattle.lsp_session.specs.Negotiation.{encoding}
+use Rattle.lsp_session.specs.Sent.{Sent}
+use Rattle.lsp_verdict.specs.Calls.{call_at, calls}
+use Rattle.lsp_verdict.specs.Event.{Event, message, fault, snapshot, sent_in}
+use Rattle.lsp_verdict.specs.Placed.{Raw}
+use Rattle.lsp_facts.specs.EventFacts.{AreCallFacts, AreFactsBy, AreFacts}
+use Rattle.lsp_facts.specs.FlawFacts.{Rests}
+use Rattle.lsp_facts.specs.Edges.{edges}
+use Rattle.lsp_facts.specs.Part.{Part}
+use Rattle.lsp_facts.specs.Fact.{Fact, falls_inside, would_have, may_have, in_editor, saved_line, counts_in, fails}
+use Rattle.lsp_facts.proofs.MadeChanges.{fails_there}
+
+same_text : (t u : Text) → (let r : Result Text ℕ = Ok t in r) ≡ Ok u → t ≡ u
+same_text t u e = cc
+
+-- of one of two, where both cannot be
+either : {A B A' B' R : Type 0} → (A → A' → R) → (A → B' → ⊥) → (A' → B → ⊥) → (B → B' → R) → A ⊎ B → A' ⊎ B' → R
+either one apart across other (inl p) (inl q) = one p q
+either one apart across other (inl p) (inr q) = absurd (apart p q)
+either one apart across other (inr p) (inl q) = absurd (across q p)
+either one apart across other (inr p) (inr q) = other p q
+
+-- ---- texts that differ
+
+one_difference : (enc : Encoding) (t u : Text) (line : Part → Fact) (f g : List Fact)
+    → AreOfDifference enc t u line f → AreOfDifference enc t u line g → f ≡ g
+one_difference enc t u line f g p q =
+    p.2 ∙ ap (difference_facts enc t u line) (one_place t u p.0 q.0 p.1 q.1) ∙ sym q.2
+
+one_apart : (ends : LineEnds) (enc : Encoding) (t u : Text) (line : Part → Fact) (f g : List Fact)
+    → AreApart ends enc t u line f → AreApart ends enc t u line g → f ≡ g
+one_apart ends enc t u line f g p q =
+    p.are
+    ∙ ap (λ (l : List Fact). l ++ ends_facts t u)
+    (one_difference enc (compared ends t) (compared ends u) line p.place q.place p.at q.at)
+    ∙ sym q.are
+
+-- ---- a change that a rule refuses
+
+within : (limit : ℕ) (t : Text) → units Utf8 t ≤ limit → limited limit t ≡ Ok t
+within limit t le = let fits : nat_lt limit (units Utf8 t) ≡ false = grind (arith, nat_tests) in ap (λ b. cond b (Err 607) (Ok t)) fits
+
+one_size : (enc : Encoding) (t : Text) (span : Option Span) (x : Text) (m n : ℕ) → IsSizeWith enc t span x m → IsSizeWith enc t span x n → m ≡ n
+one_size enc t span x m n p q =
+    let first : limited (m + n) p.made ≡ Ok p.made = within (m + n) p.made (omega (arith, p.size)) in
+    let second : limited (m + n) q.made ≡ Ok q.made = within (m + n) q.made (omega (arith, q.size)) in
+    let same : p.made ≡ q.made = same_text p.made q.made (sym first ∙ sym (p.change (m + n)) ∙ q.change (m + n) ∙ second) in
+    p.size ∙ ap (units Utf8) same ∙ sym q.size
+
+module _ (limit : ℕ) (enc : Encoding) (t : Text) where
+  one_stray : (span : Option Span) (f g : List Fact) → IsStray enc t span f → IsStray enc t span g → f ≡ g
+  one_stray span f g p q =
+      let spans : p.of ≡ q.of = same_Some p.of q.of (sym p.there ∙ q.there) in
+      let at : LiesInside enc t (stray enc t q.of) p.char = subst (λ s. LiesInside enc t (stray enc t s) p.char) spans p.lies in
+      p.are
+      ∙ ap (λ s. line_length enc t (stray enc t s) ++ falls_inside (p.char ∷ []) ∷ fits_fact
+      (edges t (stray enc t s))) spans
+      ∙ ap (λ c. line_length enc t (stray enc t q.of) ++ falls_inside (c ∷ []) ∷ fits_fact
+      (edges t (stray enc t q.of))) (positions_lie_inside.once enc t (stray enc t q.of) p.char q.char at q.lies)
+      ∙ sym q.are
+
+  one_too_long : (edit : Edit) (f g : List Fact) → IsTooLong limit enc t edit f → IsTooLong limit enc t edit g → f ≡ g
+  one_too_long edit f g p q = p.are ∙ ap (λ n. would_have n ∷ may_have limit ∷ []) (one_size enc t edit.span edit.text p.size q.size p.would q.would) ∙ sym q.are
+
+  one_long : (edit : Edit) (f g : List Fact) → IsLongWithLine limit enc t edit f → IsLongWithLine limit enc t edit g → f ≡ g
+  one_long edit f g p q = p.are ∙ ap (λ l. first_length enc t edit.span ++ l) (one_too_long edit p.sizes q.sizes p.long q.long) ∙ sym q.are
+
+  one_reason : (edit : Edit) (rule : ℕ) (f g : List Fact) → IsReason limit enc t edit rule f → IsReason limit enc t edit rule g → f ≡ g
+  one_reason edit rule f g p q =
+      either (λ a b. one_stray edit.span f g a.1 b.1) (λ a b. not_605 g a.0 b) (λ a b. not_605 f a.0 b)
+      (λ c d. either (λ a b. a.1 ∙ sym b.1) (λ a b. absurd (omega (arith, a.0, b.0))) (λ a b. absurd (omega (arith, a.0, b.0))) (λ a b. one_long edit f g a.1 b.1) c d) p q
+    where
+      not_605 : (h : List Fact) → rule ≡ 605 → ((rule ≡ 606) × (h ≡ first_length enc t edit.span)) ⊎ ((rule ≡ 607) × IsLongWithLine limit enc t edit h) → ⊥
+      not_605 h is (inl a) = absurd (omega (arith, is, a.0))
+      not_605 h is (inr a) = absurd (omega (arith, is, a.0))
+
+  reason_rule : (edit : Edit) (rule : ℕ) (f : List Fact) → IsReason limit enc t edit rule f → (605 ≤ rule) × (rule ≤ 607)
+  reason_rule edit rule f (inl p) = (omega (arith, p.0), omega (arith, p.0))
+  reason_rule edit rule f (inr (inl p)) = (omega (arith, p.0), omega (arith, p.0))
+  reason_rule edit rule f (inr (inr p)) = (omega (arith, p.0), omega (arith, p.0))
+
+  one_refused : (n : ℕ) (edit : Edit) (rule : ℕ) (f g : List Fact) → IsRefused limit enc t n edit rule f → IsRefused limit enc t n edit rule g → f ≡ g
+  one_refused n edit rule f g p q = p.are ∙ ap (λ l. counts_in enc ∷ fails (n + 1) edit.span ∷ l) (one_reason edit rule p.reason q.reason p.says q.says) ∙ sym q.are
+
+-- ---- the first that fails
+
+take_front : (n m : ℕ) (cs : List Edit) → n < m → take n (take m cs) ≡ take n cs
+take_front n zero cs lt = absurd (omega arith)
+take_front zero (suc m) [] lt = refl
+take_front zero (suc m) (c ∷ cs) lt = refl
+take_front (suc n) (suc m) [] lt = refl
+take_front (suc n) (suc m) (c ∷ cs) lt = ap (λ l. c ∷ l) (take_front n m cs (omega arith))
+
+front_has : (n m : ℕ) (cs : List Edit) → n < m → slice_get (take m cs) n ≡ slice_get cs n
+front_has n zero cs lt = absurd (omega arith)
+front_has n (suc m) [] lt = refl
+front_has zero (suc m) (c ∷ cs) lt = refl
+front_has (suc n) (suc m) (c ∷ cs) lt = front_has n m cs (omega arith)
+
+module _ (limit : ℕ) (enc : Encoding) (t : Text) (cs : List Edit) (rule : ℕ) (f g : List Fact) where
+  none_before : (h k : List Fact) (p : IsFailing limit enc t cs rule h) (q : IsFailing limit enc t cs rule k) → p.n < q.n → ⊥
+  none_before h k p q lt =
+      let fails : applied limit enc t (take q.n cs) ≡ Err rule =
+      fails_there limit enc t (take q.n cs) p.n p.text p.edit rule (ap (applied limit enc t) (take_front p.n q.n cs lt) ∙ p.made) (front_has p.n q.n cs lt ∙ p.here) p.failed in
+      let both : (let r : Result Text ℕ = Err rule in r) ≡ Ok q.text = sym fails ∙ q.made in
+      absurd (cc)
+
+  same_place : (p : IsFailing limit enc t cs rule f) (q : IsFailing limit enc t cs rule g) → p.n ≡ q.n
+  same_place p q =
+      elim (cases_lt p.n q.n) [
+        | inl lt ↦ absurd (none_before f g p q lt)
+        | inr le ↦ elim (cases_lt q.n p.n) [ inl lt ↦ absurd (none_before g f q p lt) | inr ge ↦ omega arith ]
+      ]
+
+  one_failing : IsFailing limit enc t cs rule f → IsFailing limit enc t cs rule g → f ≡ g
+  one_failing p q =
+      let at = same_place p q in
+      let texts : p.text ≡ q.text = same_text p.text q.text (sym p.made ∙ ap (λ n. applied limit enc t (take n cs)) at ∙ q.made) in
+      let edits : p.edit ≡ q.edit = same_Some p.edit q.edit (sym p.here ∙ ap (slice_get cs) at ∙ q.here) in
+      one_refused limit enc q.text q.n q.edit rule f g
+      (subst (λ n. IsRefused limit enc q.text n q.edit rule f) at (subst (λ e. IsRefused limit enc q.text p.n e rule f) edits (subst (λ u. IsRefused limit enc u p.n p.edit rule f) texts p.refused))) q.refused
+
+-- ---- a text that a snapshot refutes
+
+one_refuted : (ends : LineEnds) (enc : Encoding) (ws : List Version) (v : Version)
+    (f g : List Fact) → IsRefuted ends enc ws v f → IsRefuted ends enc ws v g → f ≡ g
+one_refuted ends enc ws v f g p q =
+    let others : p.other ≡ q.other = same_Some p.other q.other (sym p.waiting ∙ q.waiting) in
+    one_apart ends enc v.text q.other in_editor f g
+    (subst (λ u. AreApart ends enc v.text u in_editor f) others p.apart) q.apart
+
+-- ---- by what was called
+
+module _ (terms : Terms) (enc : Encoding) (ws : List Version) (f g : List Fact) where
+  abbrev limit : ℕ
+  limit = terms.limit
+
+  one_of_opening : (v : Version) (rule : ℕ) → AreOfOpening terms enc ws v rule f
+      → AreOfOpening terms enc ws v rule g → f ≡ g
+  one_of_opening v rule p q =
+      either (λ a b. a.1 ∙ sym b.1) (λ a b. above g a.0 b) (λ a b. above f a.0 b)
+      (λ c d. either (λ a b. a.1 ∙ sym b.1) (λ a b. absurd (omega (arith, a.0, b.0)))
+      (λ a b. absurd (omega (arith, a.0, b.0)))
+      (λ a b. one_refuted terms.line_ends enc ws v f g a.1 b.1) c
+      d) p q
+    where
+      above : (h : List Fact) → rule ≡ 601
+          → ((rule ≡ 607) × (h ≡ would_have (units Utf8 v.text) ∷ may_have limit ∷ []))
+          ⊎ ((rule ≡ 702) × IsRefuted terms.line_ends enc ws v h) → ⊥
+      above h is (inl a) = absurd (omega (arith, is, a.0))
+      above h is (inr a) = absurd (omega (arith, is, a.0))
+
+  module _ (kind : SyncKind) (number : ℤ) (cs : List Edit) (rule : ℕ) where
+    one_refuted_text : (t : Text) → IsRefutedText terms enc ws number t cs f
+        → IsRefutedText terms enc ws number t cs g → f ≡ g
+    one_refuted_text t p q =
+        let texts : p.text ≡ q.text = same_text p.text q.text (sym p.made ∙ q.made) in
+        one_refuted terms.line_ends enc ws (versioned number q.text) f g
+        (subst (λ u. IsRefuted terms.line_ends enc ws (versioned number u) f) texts p.refuted)
+        q.refuted
+
+    abbrev Refuted : Text → List Fact → Type 0
+    Refuted t h = (rule ≡ 702) × IsRefutedText terms enc ws number t cs h
+
+    failing_rule : (t : Text) (h : List Fact) → IsFailing limit enc t cs rule h → (605 ≤ rule) × (rule ≤ 607)
+    failing_rule t h p = reason_rule limit enc p.text p.edit rule p.refused.reason p.refused.says
+
+    last_rule : (t : Text) (h : List Fact) → IsFailing limit enc t cs rule h ⊎ Refuted t h → 605 ≤ rule
+    last_rule t h (inl p) = (failing_rule t h p).0
+    last_rule t h (inr p) = omega (arith, p.0)
+
+    later_rule : (t : Text) (h k : List Fact) → ((rule ≡ 604) × (h ≡ k)) ⊎ (IsFailing limit enc t cs rule h ⊎ Refuted t h) → 604 ≤ rule
+    later_rule t h k (inl p) = omega (arith, p.0)
+    later_rule t h k (inr p) = omega (arith, last_rule t h p)
+
+    one_of_change : (o : Option Version) → AreOfChange terms enc kind ws number cs o rule f
+        → AreOfChange terms enc kind ws number cs o rule g → f ≡ g
+    one_of_change None p q = p.1 ∙ sym q.1
+    one_of_change (Some v) p q =
+        either (λ a b. a.1 ∙ sym b.1) (λ a b. absurd (omega (arith, a.0, later_rule v.text g _ b))) (λ a b. absurd (omega (arith, a.0, later_rule v.text f _ b)))
+        (λ c d. either (λ a b. a.1 ∙ sym b.1) (λ a b. absurd (omega (arith, a.0, last_rule v.text g b))) (λ a b. absurd (omega (arith, a.0, last_rule v.text f b)))
+        (λ c d. either (λ a b. one_failing limit enc v.text cs rule f g a b) (λ a b. absurd (omega (arith, (failing_rule v.text f a).1, b.0))) (λ a b. absurd (omega (arith, (failing_rule v.text g a).1, b.0)))
+        (λ a b. one_refuted_text v.text a.1 b.1) c d) c d) p q
+
+one_of_save : (ends : LineEnds) (enc : Encoding) (text : Option Text) (o : Option Version)
+    (f g : List Fact) → AreOfSave ends enc text o f → AreOfSave ends enc text o g → f ≡ g
+one_of_save ends enc (Some t) (Some v) f g p q = one_apart ends enc v.text t saved_line f g p q
+one_of_save ends enc (Some t) None f g p q = p ∙ sym q
+one_of_save ends enc None o f g p q = p ∙ sym q
+
+one_of_snapshot : (ends : LineEnds) (enc : Encoding) (ks : List Version) (o : Option Version)
+    (s : Version) (rule : ℕ) (f g : List Fact) → AreOfSnapshot ends enc ks o s rule f
+    → AreOfSnapshot ends enc ks o s rule g → f ≡ g
+one_of_snapshot ends enc ks o s rule f g p q =
+    either (λ a b. a.1 ∙ sym b.1) (λ a b. absurd (omega (arith, a.0, b.0))) (λ a b. absurd (omega (arith, a.0, b.0))) (λ a b. refuting a.1 b.1) p q
+  where
+    refuting : IsRefuting ends enc ks o s f → IsRefuting ends enc ks o s g → f ≡ g
+    refuting a b =
+        let texts : a.text ≡ b.text = same_Some a.text b.text (sym a.other ∙ b.other) in
+        one_apart ends enc b.text s.text in_editor f g
+        (subst (λ u. AreApart ends enc u s.text in_editor f) texts a.apart) b.apart
+
+module _ (terms : Terms) (enc : Encoding) (h : Option Version) (ks ws : List Version) (rule : ℕ) where
+  one_details : (call : Call) (f g : List Fact) → AreDetails terms enc h ks ws call rule f → AreDetails terms enc h ks ws call rule g → f ≡ g
+  one_details (opens uri number text) f g p q =
+      one_of_opening terms enc ws f g (versioned number text) rule p q
+  one_details (changes agreed kind uri number edits) f g p q =
+      one_of_change terms agreed ws f g kind number edits rule h p q
+  one_details (closes uri) f g p q = p.1 ∙ sym q.1
+  one_details (saves uri text) f g p q = one_of_save terms.line_ends enc text h f g p.1 q.1
+  one_details (shows uri number text) f g p q =
+      one_of_snapshot terms.line_ends enc ks h (versioned number text) rule f g p q
+
+  pub one_facts_of : (call : Call) (f g : List Fact) → AreFactsOf terms enc h ks ws call rule f → AreFactsOf terms enc h ks ws call rule g → f ≡ g
+  one_facts_of call f g p q = p.are ∙ ap (λ l. head_facts h call ++ l) (one_details call p.details q.details p.says q.says) ∙ sym q.are
+
+-- ---- any event
+
+module _ (terms : Terms) (kept : List Event) (rule : ℕ) (f g : List Fact) where
+  one_call_facts : (said : Option Call) → AreCallFacts terms kept rule said f → AreCallFacts terms kept rule said g → f ≡ g
+  one_call_facts None p q = p ∙ sym q
+  one_call_facts (Some call) p q =
+      one_facts_of terms (unwrap_or (encoding (sent_in kept)) Utf16) (held terms (uri_of call) (calls kept)) (versions_kept terms (uri_of call) (calls kept)) (versions_of (uri_of call) (waiting terms (calls kept))) rule call f g p q
+
+  one_message_facts : (m : Sent) (b : Bool) → AreFactsBy b terms kept m rule f → AreFactsBy b terms kept m rule g → f ≡ g
+  one_message_facts m true p q = p ∙ sym q
+  one_message_facts m false p q = one_call_facts (call_at kept (message m)) p q
+
+  pub one_facts : (rests : Rests) (raw : Raw) (event : Event) → AreFacts rests terms kept raw event rule f → AreFacts rests terms kept raw event rule g → f ≡ g
+  one_facts rests raw (fault side number) p q = p ∙ sym q
+  one_facts rests raw (message m) p q = one_message_facts m (nat_lt rule 601) p q
+  one_facts rests raw (snapshot uri number text) p q = one_call_facts (call_at kept (snapshot uri number text)) p q

@@ -1,0 +1,97 @@
+-- The snapshots that refute a text, as they are looked for.
+use Rattle.std.proofs.Common.{◌≡◌, ◌<◌, ◌≤◌, ◌+◌, ℕ, zero, suc, Bool, true, false, List, [], ◌∷◌, ◌++◌, length, take, get_or, append-nil, Option, Some, None, Result, Ok, Err, refl, sym, ap, ◌∙◌, arith}
+use Rattle.std.specs.Prelude.{ℤ, slice_get, if◌then◌else◌, unwrap_or}
+use Rattle.std.specs.Option.{option_map}
+use Rattle.std.specs.Result.{result_ok}
+use Rattle.std.proofs.lemmas.Option.{same_Some, slice_get-get_or}
+use Rattle.lsp_types.specs.declared.change.SyncKind.{SyncKind}
+use Rattle.lsp_types.specs.declared.position.Encoding.{Encoding}
+use Rattle.lsp_types.specs.declared.line_ends.LineEnds.{LineEnds}
+use Rattle.lsp_text.specs.Edits.{Edit, applied}
+use Rattle.lsp_docs.specs.Texts.{Text}
+use Rattle.lsp_docs.specs.Terms.{Terms}
+use Rattle.lsp_docs.specs.Calls.{Call, changes}
+use Rattle.lsp_docs.specs.Documents.{Version, held}
+use Rattle.lsp_facts.specs.Making.{IsMade}
+use Rattle.lsp_facts.specs.Refuting.{is_other, is_other_at, others_of, made_text, refuting, waiting_texts}
+use Rattle.lsp_facts.proofs.MadeChanges.{fails_some, makes_all}
+
+-- ---- one more snapshot
+
+module _ (ends : LineEnds) (t : Text) where
+  -- the next one, where its text is another
+  abbrev next : ℕ → Option Text → List ℕ
+  next n u = if is_other_at ends t u then n ∷ [] else []
+
+  more : (ns : List ℕ) (us : List Text) (i n : ℕ) → slice_get ns i ≡ Some n
+      → others_of ends t (take (suc i) ns) us
+      ≡ others_of ends t (take i ns) us ++ next n (slice_get us i)
+  more [] us i n h = absurd (cc)
+  more (m ∷ ns) [] zero n h = refl
+  more (m ∷ ns) (u ∷ us) zero n h =
+      let same : m ≡ n = (let k : Some m ≡ Some n = h in cc) in
+      ap (λ (k : ℕ). if is_other ends t u then k ∷ [] else []) same
+  more (m ∷ ns) [] (suc i) n h = refl
+  more (m ∷ ns) (u ∷ us) (suc i) n h = by_test (is_other ends t u) (more ns us i n h)
+    where
+      by_test : (b : Bool) → others_of ends t (take (suc i) ns) us
+          ≡ others_of ends t (take i ns) us ++ next n (slice_get us i)
+          → (if b then m ∷ others_of ends t (take (suc i) ns) us else others_of ends t
+          (take (suc i) ns) us)
+          ≡ (if b then m ∷ others_of ends t (take i ns) us else others_of ends t (take i ns)
+          us) ++ next n (slice_get us i)
+      by_test true e = ap (λ (l : List ℕ). m ∷ l) e
+      by_test false e = e
+
+  others-more : (ns : List ℕ) (us : List Text) (i n : ℕ) → slice_get ns i ≡ Some n
+      → others_of ends t (take (i + 1) ns) us
+      ≡ others_of ends t (take i ns) us ++ next n (slice_get us i)
+  others-more ns us i n h =
+      let e : i + 1 ≡ suc i = omega arith in ap (λ (k : ℕ). others_of ends t (take k ns) us) e
+      ∙ more ns us i n h
+
+  pub others-there : (ns : List ℕ) (us : List Text) (i : ℕ) (xs : List ℕ) → i < length ns
+      → is_other_at ends t (slice_get us i) ≡ true → xs ≡ others_of ends t (take i ns) us
+      → xs ++ get_or ns i 0 ∷ [] ≡ others_of ends t (take (i + 1) ns) us
+  others-there ns us i xs lt other is =
+      ap (λ (l : List ℕ). l ++ get_or ns i 0 ∷ []) is
+      ∙ sym (others-more ns us i (get_or ns i 0) (slice_get-get_or ns i 0 lt)
+      ∙ ap (λ (b : Bool). others_of ends t (take i ns) us ++ (if b then get_or ns i 0 ∷ [] else []))
+      other)
+
+  pub others-passed : (ns : List ℕ) (us : List Text) (i : ℕ) (xs : List ℕ) → i < length ns
+      → is_other_at ends t (slice_get us i) ≡ false → xs ≡ others_of ends t (take i ns) us
+      → xs ≡ others_of ends t (take (i + 1) ns) us
+  others-passed ns us i xs lt same is =
+      is
+      ∙ sym (others-more ns us i (get_or ns i 0) (slice_get-get_or ns i 0 lt)
+      ∙ ap (λ (b : Bool). others_of ends t (take i ns) us ++ (if b then get_or ns i 0 ∷ [] else []))
+      same ∙ append-nil (others_of ends t (take i ns) us))
+
+-- ---- the text that changes make
+
+of_held : (terms : Terms) (enc : Encoding) (cs : List Edit) (h : Option Version) (t : Text) (r : Result Text ℕ) → Some t ≡ option_map (λ (v : Version). v.text) h → applied terms.limit enc t cs ≡ r
+    → made_text terms enc cs h ≡ result_ok r
+of_held terms enc cs None t r holds e = absurd (cc)
+of_held terms enc cs (Some v) t r holds e =
+    let same : v.text ≡ t = (let k : Some t ≡ Some v.text = holds in cc) in
+    ap (λ (x : Text). result_ok (applied terms.limit enc x cs)) same ∙ ap result_ok e
+
+module _ (terms : Terms) (enc : Encoding) (cs : List Edit) (h : Option Version) (t : Text) (n : ℕ) (text : Text) (holds : Some t ≡ option_map (λ (v : Version). v.text) h) (made : IsMade terms.limit enc t cs n text) where
+  pub all_make : length cs ≤ n → Some text ≡ made_text terms enc cs h
+  all_make le = sym (of_held terms enc cs h t (Ok text) holds (makes_all terms.limit enc t cs n text made le))
+
+  pub one_fails : n < length cs → None ≡ made_text terms enc cs h
+  one_fails lt = let fails = fails_some terms.limit enc t cs n text made lt in sym (of_held terms enc cs h t (Err fails.0) holds fails.1)
+
+-- ---- what refutes a change
+
+pub refuting_change : (terms : Terms) (calls : List Call) (enc : Encoding) (kind : SyncKind) (uri : List ℕ) (number : ℤ) (cs : List Edit) (ns : List ℕ) (call : Call) (made : Option Text) (others : List ℕ)
+    → Some (changes enc kind uri number cs) ≡ Some call → made ≡ made_text terms enc cs (held terms uri calls)
+    → others ≡ unwrap_or (option_map (λ t. others_of terms.line_ends t ns
+    (waiting_texts terms calls uri number)) made) [] → others ≡ refuting terms calls call ns
+refuting_change terms calls enc kind uri number cs ns call made others is text are =
+    are
+    ∙ ap (λ o. unwrap_or (option_map (λ t. others_of terms.line_ends t ns
+    (waiting_texts terms calls uri number)) o) []) text
+    ∙ ap (λ x. refuting terms calls x ns) (same_Some (changes enc kind uri number cs) call is)

@@ -1,0 +1,8 @@
+use Rattle.lsp_facts.proofs.difference.difference.Goals as goal
+
+pub returns : goal.returns
+returns c = λ apart. record {
+  place = c.in_ok-facts.facts;
+  at = c.in_ok-facts.ensures apart;
+  are = c.in_ok-push_line_ends.ensures;
+}

@@ -1,0 +1,267 @@
+-- The facts on a call that breaks a rule on documents: 601 to 608, 701, 702.
+use Rattle.std.specs.Prelude.{◌≡◌, ◌⊎◌, ◌+◌, ℕ, ℤ, List, [], ◌∷◌, ◌++◌, length, take, map}
+use Rattle.std.specs.Prelude.{slice_get, Bool, true, false, is_some, is_none, if◌then◌else◌, Option}
+use Rattle.std.specs.Prelude.{Some, None, option_map, option_to_list, Result, Ok, Err}
+use Rattle.std.specs.List.{prefix_len}
+use Rattle.lsp_types.specs.declared.position.Encoding.{Encoding}
+use Rattle.lsp_types.specs.declared.position.Position.{Position}
+use Rattle.lsp_types.specs.declared.position.Span.{Span}
+use Rattle.lsp_types.specs.declared.change.SyncKind.{SyncKind}
+use Rattle.lsp_types.specs.declared.change.SyncKind.TheVariants.{Nothing, Full, Incremental}
+use Rattle.lsp_types.specs.declared.line_ends.LineEnds.{LineEnds}
+use Rattle.lsp_types.specs.declared.line_ends.LineEnds.TheVariants.{Ignored}
+use Rattle.lsp_text.specs.Lines.{Line, lines_of}
+use Rattle.lsp_text.specs.Places.{units, place_of}
+use Rattle.lsp_text.specs.Edits.{Edit, changed, applied}
+use Rattle.lsp_text.specs.Difference.{DifferFirst, line_around, position_at}
+use Rattle.lsp_text.specs.InsideCharacter.{LiesInside}
+use Rattle.lsp_text.specs.SameText.{compared, same_text}
+use Rattle.lsp_text.specs.Sizes.{IsSizeWith}
+use Rattle.lsp_docs.specs.Texts.{Text, byte_len}
+use Rattle.lsp_docs.specs.Terms.{Terms}
+use Rattle.lsp_docs.specs.Calls.{Call, opens, changes, closes, saves, shows, uri_of}
+use Rattle.lsp_docs.specs.Documents.{Version, versioned, held}
+use Rattle.lsp_docs.specs.Kept.{kept}
+use Rattle.lsp_docs.specs.Snapshots.{texts_at, waiting, versions_of}
+use Rattle.lsp_docs.specs.Others.{other_than}
+use Rattle.lsp_facts.specs.Fact.{Fact, of_uri, holds, sends, shows_version, has_changes}
+use Rattle.lsp_facts.specs.Fact.{has_kind, counts_in, fails, line_has}
+use Rattle.lsp_facts.specs.Fact.{falls_inside, fits_in, would_have, may_have, differs_at}
+use Rattle.lsp_facts.specs.Fact.{by_messages}
+use Rattle.lsp_facts.specs.Fact.{in_editor, in_line_ends, saved_line, keeps}
+use Rattle.lsp_facts.specs.Edges.{edges}
+use Rattle.lsp_facts.specs.Part.{Part, part_at, same_front}
+use Rattle.lsp_facts.specs.Refuting.{first_other}
+use Rattle.lsp_types.specs.declared.rules.TheConstants as rules
+
+-- ---- what is said under each rule
+
+-- the version that is held, where the URI is open
+abbrev pub held_fact : Option Version → List Fact
+held_fact None = []
+held_fact (Some v) = holds v.number ∷ []
+
+-- the version that was sent, and how many changes; or that of a snapshot
+abbrev pub sent_facts : Call → List Fact
+sent_facts (opens uri number text) = sends number ∷ []
+sent_facts (changes enc kind uri number edits) = sends number ∷ has_changes (length edits) ∷ []
+sent_facts (closes uri) = []
+sent_facts (saves uri text) = []
+sent_facts (shows uri number text) = shows_version number ∷ []
+
+abbrev pub head_facts : Option Version → Call → List Fact
+head_facts h call = of_uri (uri_of call) ∷ (held_fact h ++ sent_facts call)
+
+-- ---- lines of a text
+
+-- the units of the line of a position, its line end not counted, where the text has that line
+abbrev pub line_length : Encoding → Text → Position → List Fact
+line_length enc t p = option_to_list (option_map (λ (l : Line). line_has (units enc l.text))
+    (slice_get (lines_of t) p.line))
+
+-- the same of the first position of a span, where there is one
+abbrev pub first_length : Encoding → Text → Option Span → List Fact
+first_length enc t None = []
+first_length enc t (Some span) = line_length enc t span.first
+
+-- ---- 604: changes of another kind than agreed
+
+-- under Full no change has a span, and under None there is no change
+abbrev pub fits : SyncKind → Edit → Bool
+fits Nothing edit = false
+fits Full edit = is_none edit.span
+fits Incremental edit = true
+
+-- how many changes come before the first that is not of the kind
+abbrev pub fitting : SyncKind → List Edit → ℕ
+fitting kind cs = prefix_len (fits kind) cs
+
+-- the length of the line in the text that the changes before it make, unless one of them is refused
+abbrev pub made_length : Encoding → Option Span → Result Text ℕ → List Fact
+made_length enc span (Ok t) = first_length enc t span
+made_length enc span (Err rule) = []
+
+-- change n, from 0, where there is such
+abbrev pub misfit_facts : ℕ → Encoding → Text → List Edit → ℕ → Option Edit → List Fact
+misfit_facts limit enc t cs n None = []
+misfit_facts limit enc t cs n (Some edit) =
+    counts_in enc ∷ fails (n + 1) edit.span ∷ made_length enc edit.span
+    (applied limit enc t (take n cs))
+
+abbrev pub kind_facts : ℕ → Encoding → SyncKind → Text → List Edit → List Fact
+kind_facts limit enc kind t cs =
+    has_kind kind ∷ misfit_facts limit enc t cs (fitting kind cs) (slice_get cs (fitting kind cs))
+
+-- ---- 605 to 607: a change that fails
+
+-- the position of a span that lies inside a character: the first, unless that denotes a place
+abbrev pub stray : Encoding → Text → Span → Position
+stray enc t span = if is_some (place_of enc t span.first) then span.second else span.first
+
+-- the encodings in which a column fits, where there are any
+abbrev pub fits_fact : List Encoding → List Fact
+fits_fact [] = []
+fits_fact (enc ∷ encs) = fits_in (enc ∷ encs) ∷ []
+
+-- 605: the line of that position, the character, and the encodings in which it would fit
+pub record IsStray (enc : Encoding) (t : Text) (span : Option Span) (facts : List Fact) : Type 0
+  where
+    pub of : Span
+    pub there : span ≡ Some of
+    pub char : ℕ
+    pub lies : LiesInside enc t (stray enc t of) char
+    pub are : facts ≡ line_length enc t (stray enc t of)
+        ++ falls_inside (char ∷ []) ∷ fits_fact (edges t (stray enc t of))
+
+-- 607: the bytes that the text would have, and how many it may have
+pub record IsTooLong (limit : ℕ) (enc : Encoding) (t : Text) (edit : Edit)
+    (facts : List Fact) : Type 0 where
+  pub size : ℕ
+  pub would : IsSizeWith enc t edit.span edit.text size
+  pub are : facts ≡ would_have size ∷ may_have limit ∷ []
+
+-- with the length of the line in which the span begins
+pub record IsLongWithLine (limit : ℕ) (enc : Encoding) (t : Text) (edit : Edit)
+    (facts : List Fact) : Type 0 where
+  pub sizes : List Fact
+  pub long : IsTooLong limit enc t edit sizes
+  pub are : facts ≡ first_length enc t edit.span ++ sizes
+
+-- why this rule refuses a change of the text `t`
+abbrev pub IsReason : ℕ → Encoding → Text → Edit → ℕ → List Fact → Type 0
+IsReason limit enc t edit rule facts =
+    ((rule ≡ rules.POSITION_INSIDE_CHARACTER) × IsStray enc t edit.span facts)
+    ⊎ (((rule ≡ rules.RANGE_REVERSED) × (facts ≡ first_length enc t edit.span))
+    ⊎ ((rule ≡ rules.DOCUMENT_OVER_LIMIT) × IsLongWithLine limit enc t edit facts))
+
+-- change n, from 0, and why this rule refuses it
+pub record IsRefused (limit : ℕ) (enc : Encoding) (t : Text) (n : ℕ) (edit : Edit) (rule : ℕ)
+    (facts : List Fact) : Type 0 where
+  pub reason : List Fact
+  pub says : IsReason limit enc t edit rule reason
+  pub are : facts ≡ counts_in enc ∷ fails (n + 1) edit.span ∷ reason
+
+-- the first change that fails, by this rule, on the text that those before it make
+pub record IsFailing (limit : ℕ) (enc : Encoding) (t : Text) (cs : List Edit) (rule : ℕ)
+    (facts : List Fact) : Type 0 where
+  pub n : ℕ
+  pub text : Text
+  pub made : applied limit enc t (take n cs) ≡ Ok text
+  pub edit : Edit
+  pub here : slice_get cs n ≡ Some edit
+  pub failed : changed enc text edit.span edit.text limit ≡ Err rule
+  pub refused : IsRefused limit enc text n edit rule facts
+
+-- ---- 608 and 702: texts that differ
+
+-- two lines, of long ones the parts around the first character that differs in them
+abbrev pub lines_apart : Text → Text → (Part → Fact) → List Fact
+lines_apart held other line =
+    by_messages (part_at (same_front held other) held)
+    ∷ line (part_at (same_front held other) other) ∷ []
+
+-- where they first differ, and the line of each there
+abbrev pub difference_facts : Encoding → Text → Text → (Part → Fact) → ℕ → List Fact
+difference_facts enc t other line n =
+    counts_in enc ∷ differs_at (position_at enc t n)
+    ∷ lines_apart (line_around t n) (line_around other n) line
+
+abbrev pub AreOfDifference : Encoding → Text → Text → (Part → Fact) → List Fact → Type 0
+AreOfDifference enc t other line facts =
+    DifferFirst t other (λ n. facts ≡ difference_facts enc t other line n)
+
+-- that they differ in line ends alone, where they do
+abbrev pub ends_facts : Text → Text → List Fact
+ends_facts t other = if same_text Ignored t other then in_line_ends ∷ [] else []
+
+-- **two texts that are not the same**: where they first differ, as they are compared, and whether
+-- they differ in line ends alone
+pub record AreApart (ends : LineEnds) (enc : Encoding) (t other : Text) (line : Part → Fact)
+    (facts : List Fact) : Type 0 where
+  pub place : List Fact
+  pub at : AreOfDifference enc (compared ends t) (compared ends other) line place
+  pub are : facts ≡ place ++ ends_facts t other
+
+-- a snapshot that waits for this version has another text; of several, the first that came
+pub record IsRefuted (ends : LineEnds) (enc : Encoding) (waits : List Version) (v : Version)
+    (facts : List Fact) : Type 0 where
+  pub other : Text
+  pub waiting : first_other ends v.text (texts_at v.number waits) ≡ Some other
+  pub apart : AreApart ends enc v.text other in_editor facts
+
+-- the text that is held or kept of the snapshot's version is another
+pub record IsRefuting (ends : LineEnds) (enc : Encoding) (kept : List Version)
+    (h : Option Version) (s : Version) (facts : List Fact) : Type 0 where
+  pub text : Text
+  pub other : other_than ends s kept h ≡ Some text
+  pub apart : AreApart ends enc text s.text in_editor facts
+
+-- ---- by what was called
+
+abbrev pub AreOfOpening : Terms → Encoding → List Version → Version → ℕ → List Fact → Type 0
+AreOfOpening terms enc waits v rule facts =
+    ((rule ≡ rules.DOCUMENT_ALREADY_OPEN) × (facts ≡ []))
+    ⊎ (((rule ≡ rules.DOCUMENT_OVER_LIMIT)
+    × (facts ≡ would_have (byte_len v.text) ∷ may_have terms.limit ∷ []))
+    ⊎ ((rule ≡ rules.SNAPSHOT_DIFFERS) × IsRefuted terms.line_ends enc waits v facts))
+
+-- 702: the changes make a text that a waiting snapshot refutes
+pub record IsRefutedText (terms : Terms) (enc : Encoding) (waits : List Version) (number : ℤ)
+    (t : Text) (cs : List Edit) (facts : List Fact) : Type 0 where
+  pub text : Text
+  pub made : applied terms.limit enc t cs ≡ Ok text
+  pub refuted : IsRefuted terms.line_ends enc waits (versioned number text) facts
+
+abbrev pub AreOfChange : Terms → Encoding → SyncKind → List Version → ℤ → List Edit → Option Version
+    → ℕ → List Fact → Type 0
+AreOfChange terms enc kind waits number cs None rule facts =
+    (rule ≡ rules.DOCUMENT_NOT_OPEN) × (facts ≡ [])
+AreOfChange terms enc kind waits number cs (Some v) rule facts =
+    ((rule ≡ rules.VERSION_DOES_NOT_RISE) × (facts ≡ []))
+    ⊎ (((rule ≡ rules.CHANGE_NOT_OF_KIND) × (facts ≡ kind_facts terms.limit enc kind v.text cs))
+    ⊎ (IsFailing terms.limit enc v.text cs rule facts
+    ⊎ ((rule ≡ rules.SNAPSHOT_DIFFERS) × IsRefutedText terms enc waits number v.text cs facts)))
+
+abbrev pub AreOfSave : LineEnds → Encoding → Option Text → Option Version → List Fact → Type 0
+AreOfSave ends enc (Some t) (Some v) facts = AreApart ends enc v.text t saved_line facts
+AreOfSave ends enc _ _ facts = facts ≡ []
+
+-- the versions that are kept, where there are any
+abbrev pub kept_fact : List Version → List Fact
+kept_fact [] = []
+kept_fact (v ∷ vs) = keeps (v.number ∷ map (λ (w : Version). w.number) vs) ∷ []
+
+abbrev pub AreOfSnapshot : LineEnds → Encoding → List Version → Option Version → Version → ℕ
+    → List Fact → Type 0
+AreOfSnapshot ends enc kept h s rule facts =
+    ((rule ≡ rules.LATE_SNAPSHOT) × (facts ≡ kept_fact kept))
+    ⊎ ((rule ≡ rules.SNAPSHOT_DIFFERS) × IsRefuting ends enc kept h s facts)
+
+abbrev pub AreDetails : Terms → Encoding → Option Version → List Version → List Version → Call → ℕ
+    → List Fact → Type 0
+AreDetails terms enc h kept waits (opens uri number text) rule facts =
+    AreOfOpening terms enc waits (versioned number text) rule facts
+AreDetails terms enc h kept waits (changes agreed kind uri number edits) rule facts =
+    AreOfChange terms agreed kind waits number edits h rule facts
+AreDetails terms enc h kept waits (closes uri) rule facts =
+    (rule ≡ rules.DOCUMENT_NOT_OPEN) × (facts ≡ [])
+AreDetails terms enc h kept waits (saves uri text) rule facts =
+    (rule ≡ rules.SAVED_TEXT_DIFFERS) × AreOfSave terms.line_ends enc text h facts
+AreDetails terms enc h kept waits (shows uri number text) rule facts =
+    AreOfSnapshot terms.line_ends enc kept h (versioned number text) rule facts
+
+-- ---- all facts
+
+-- the facts on a call that breaks this rule, where this is held of its URI, these versions are kept
+-- and these snapshots wait. Columns count units of the encoding
+pub record AreFactsOf (terms : Terms) (enc : Encoding) (h : Option Version)
+    (kept waits : List Version) (call : Call) (rule : ℕ) (facts : List Fact) : Type 0 where
+  pub details : List Fact
+  pub says : AreDetails terms enc h kept waits call rule details
+  pub are : facts ≡ head_facts h call ++ details
+
+-- **the facts on a call that breaks this rule after these calls**
+abbrev pub AreDocumentFacts : Terms → Encoding → List Call → Call → ℕ → List Fact → Type 0
+AreDocumentFacts terms enc before call rule facts =
+    AreFactsOf terms enc (held terms (uri_of call) before) (kept terms (uri_of call) before)
+    (versions_of (uri_of call) (waiting terms before)) call rule facts

@@ -1,0 +1,152 @@
+//! Facts on contents that are not a message, and on messages whose params have another shape.
+ghost use Rattle.std.specs.Prelude.{◌≡◌, ◌≤◌, ◌-◌, IfOk, IfSome, length};
+ghost use Rattle.std.specs.List.{prefix_len};
+ghost use Rattle.lsp_facts.specs.ContentFacts as spec;
+ghost use Rattle.lsp_facts.specs.Fact.{facts_view};
+ghost use Rattle.lsp_facts.specs.Members.{Finds};
+ghost use Rattle.lsp_facts.specs.MessageFacts.{member_facts};
+
+use crate::fact::Fact;
+use crate::json_text::json_break;
+use crate::messages::{front_facts, push_member, shown, text_front};
+use crate::params::wrong_member;
+use lsp_rpc::{Memory, RpcFault, read};
+use lsp_types::rules;
+use std::alloc::Global;
+
+/// How many bytes are shown before the place where a content breaks, and how many after it.
+const AROUND_BYTES: usize = 32;
+
+/// What is said about a content that breaks this rule, 201 to 209: how it begins, as far as that is
+/// UTF-8; under 201 where it is no longer the front of a JSON text, and what is before and after
+/// that place; under 209 the member of its params that does not have its shape.
+///
+/// # Errors
+/// `Memory` where memory was refused.
+pub fn content_facts(alloc: Global, content: &[u8], rule: u16) -> Result<Vec<Fact>, Memory>
+    ensures { IfOk result (λ facts. facts_view facts.items ≡ spec.content_facts rule content.now) }
+{
+    let mut facts = front_facts(alloc, content)?;
+    let mut reason = reason_facts(alloc, content, rule)?;
+    facts.append(&mut reason)?;
+    Ok(facts)
+}
+
+fn reason_facts(alloc: Global, content: &[u8], rule: u16) -> Result<Vec<Fact>, Memory>
+    ensures { IfOk result (λ facts. facts_view facts.items ≡ spec.reason_facts rule content.now) }
+{
+    if rule == rules::CONTENT_NOT_JSON {
+        return break_facts(alloc, content);
+    }
+    if rule == rules::BAD_METHOD_PARAMS {
+        return member_facts(alloc, content);
+    }
+    Ok(Vec::new(alloc))
+}
+
+// ---- 209
+
+/// The member of the params that does not have its shape, if there is one.
+fn member_facts(alloc: Global, content: &[u8]) -> Result<Vec<Fact>, Memory>
+    ensures { IfOk result (λ facts. facts_view facts.items
+        ≡ member_facts (spec.wrong_in content.now)) }
+{
+    let found = member_in(alloc, content)?;
+    let mut facts = Vec::new(alloc);
+    push_member(&mut facts, found)?;
+    Ok(facts)
+}
+
+fn member_in(alloc: Global, content: &[u8]) -> Result<Option<String>, Memory>
+    ensures { Finds result (spec.wrong_in content.now) }
+{
+    match read(alloc, content) {
+        Ok(message) => wrong_member(alloc, &message),
+        Err(RpcFault::Rule(_)) => Ok(None),
+        Err(RpcFault::Memory) => Err(Memory),
+    }
+}
+
+// ---- 201
+
+/// Where a content is no longer the front of a JSON text, and what is around that place.
+fn break_facts(alloc: Global, content: &[u8]) -> Result<Vec<Fact>, Memory>
+    ensures { IfOk result (λ facts. facts_view facts.items
+        ≡ spec.break_facts content.now (spec.content_break content.now)) }
+{
+    match content_break(alloc, content)? {
+        Some(place) => place_facts(alloc, content, place),
+        None => Ok(Vec::new(alloc)),
+    }
+}
+
+/// How many bytes of a content come before the first one that cannot stand there in a JSON text of
+/// UTF-8; all if it ends too early.
+fn content_break(alloc: Global, content: &[u8]) -> Result<Option<usize>, Memory>
+    ensures place { IfOk result (λ place. place ≡ spec.content_break content.now) }
+    ensures within { IfOk result (λ place. IfSome place (λ n. n ≤ length content.now)) }
+{
+    let text = text_front(content).as_bytes();
+    if let Some(place) = json_break(alloc, text)? {
+        return Ok(Some(place));
+    }
+    Ok((text.len() < content.len()).then_some(text.len()))
+}
+
+/// A place, and what is before and after it.
+fn place_facts(alloc: Global, content: &[u8], place: usize) -> Result<Vec<Fact>, Memory>
+    requires { place ≤ length content.now }
+    ensures { IfOk result (λ facts. facts_view facts.items
+        ≡ spec.place_facts content.now place) }
+{
+    let before = String::from_str(alloc, text_before(content, place))?;
+    let after = String::from_str(alloc, shown(&content[place..], AROUND_BYTES))?;
+    let mut facts = Vec::new(alloc);
+    facts.push(Fact::Breaks(place as u64))?;
+    facts.push(Fact::Before(before))?;
+    facts.push(Fact::After(after))?;
+    Ok(facts)
+}
+
+/// The last bytes before a place, from the first whole character on.
+fn text_before(content: &[u8], place: usize) -> &str
+    requires { place ≤ length content.now }
+    ensures { result.now
+        ≡ spec.from_character (spec.part content.now (place - spec.around_bytes) place) }
+{
+    from_character(part(content, place.saturating_sub(AROUND_BYTES), place))
+}
+
+/// The bytes between two places.
+fn part(bytes: &[u8], from: usize, end: usize) -> &[u8]
+    requires order { from ≤ end }
+    requires within { end ≤ length bytes.now }
+    ensures { result.now ≡ spec.part bytes.now from end }
+{
+    &bytes[from..end]
+}
+
+/// Some bytes from the first whole character on.
+fn from_character(bytes: &[u8]) -> &str
+    ensures { result.now ≡ spec.from_character bytes.now }
+{
+    text_front(&bytes[continuation_len(bytes)..])
+}
+
+/// How many bytes in front are no first byte of a character.
+fn continuation_len(bytes: &[u8]) -> usize
+    ensures value { result ≡ prefix_len spec.is_continuation bytes.now }
+    ensures bound { result ≤ length bytes.now }
+{
+    bytes
+        .iter()
+        .take_while(|byte| is_continuation(**byte))
+        .count()
+}
+
+/// Whether it is no first byte of a character.
+fn is_continuation(byte: u8) -> bool
+    ensures { result ≡ spec.is_continuation byte }
+{
+    matches!(byte, 128..=191)
+}

@@ -1,0 +1,118 @@
+//! Facts on two texts that differ.
+
+ghost use Rattle.std.specs.Prelude.{◌≡◌, ◌≢◌, IfOk};
+ghost use Rattle.std.specs.Str.{chars};
+ghost use Rattle.lsp_types.specs.declared.line_ends.LineEnds.TheVariants.{Ignored};
+ghost use Rattle.lsp_text.specs.SameText.{SameText, compared};
+ghost use Rattle.lsp_facts.specs.DocumentFacts.{AreApart, AreOfDifference};
+ghost use Rattle.lsp_facts.specs.Comparing.{line_fact};
+ghost use Rattle.lsp_facts.specs.Fact.{fact_view};
+ghost use Rattle.lsp_facts.specs.Part.{part_view};
+
+use crate::fact::Fact;
+use crate::fact_list::FactList;
+use crate::part::{Excerpt, part_at, same_front};
+use lsp_text::{compared_lines, first_difference};
+use lsp_types::{Encoding, LineEnds, Memory};
+use std::alloc::Global;
+
+/// What a held text is compared with.
+#[derive(Clone, Copy, Debug, PartialEq, Eq)]
+pub(crate) enum Against {
+    /// The text of a snapshot.
+    Recorded,
+    /// A text that was saved.
+    Saved,
+}
+
+/// Where a held text and another one first differ, as they are compared, the line of each there,
+/// and whether they differ in line ends alone.
+pub(crate) fn difference(
+    alloc: Global,
+    line_ends: LineEnds,
+    encoding: Encoding,
+    held: &str,
+    other: &str,
+    against: Against,
+) -> Result<FactList, Memory>
+    ensures { IfOk result (λ facts. (SameText line_ends (chars held.now) (chars other.now) → ⊥)
+        → AreApart line_ends encoding (chars held.now) (chars other.now)
+        (line_fact against) facts) }
+{
+    let mut facts = place(alloc, line_ends, encoding, held, other, against)?;
+    facts.push_line_ends(held, other)?;
+    Ok(facts)
+}
+
+/// Where two texts first differ, as they are compared, and the line of each there.
+fn place(
+    alloc: Global,
+    line_ends: LineEnds,
+    encoding: Encoding,
+    held: &str,
+    other: &str,
+    against: Against,
+) -> Result<FactList, Memory>
+    ensures { IfOk result (λ facts. (SameText line_ends (chars held.now) (chars other.now) → ⊥)
+        → AreOfDifference encoding (compared line_ends (chars held.now))
+        (compared line_ends (chars other.now)) (line_fact against) facts) }
+{
+    match line_ends {
+        LineEnds::Exact => at_difference(alloc, encoding, held, other, against),
+        LineEnds::Ignored => by_lines(alloc, encoding, held, other, against),
+    }
+}
+
+/// The same of two texts where line ends do not count: each is shown with a LF.
+fn by_lines(
+    alloc: Global,
+    encoding: Encoding,
+    held: &str,
+    other: &str,
+    against: Against,
+) -> Result<FactList, Memory>
+    ensures { IfOk result (λ facts.
+        (SameText Ignored (chars held.now) (chars other.now) → ⊥)
+        → AreOfDifference encoding (compared Ignored (chars held.now))
+        (compared Ignored (chars other.now)) (line_fact against) facts) }
+{
+    let held = compared_lines(alloc, held)?;
+    let other = compared_lines(alloc, other)?;
+    let facts = at_difference(alloc, encoding, held.as_str(), other.as_str(), against)?;
+    Ok(facts)
+}
+
+/// Where two texts first differ, and the line of each there; of a long one the part around the
+/// first character that differs in the two lines.
+fn at_difference(
+    alloc: Global,
+    encoding: Encoding,
+    held: &str,
+    other: &str,
+    against: Against,
+) -> Result<FactList, Memory>
+    ensures { IfOk result (λ facts. chars held.now ≢ chars other.now
+        → AreOfDifference encoding (chars held.now) (chars other.now)
+        (line_fact against) facts) }
+{
+    let mut facts = FactList::new(alloc);
+    let Some(found) = first_difference(held, other, encoding) else {
+        return Ok(facts);
+    };
+    facts.push(Fact::Encoding(encoding))?;
+    facts.push(Fact::At(found.at))?;
+    let same = same_front(found.held, found.other);
+    facts.push(Fact::ByMessages(part_at(alloc, found.held, same)?))?;
+    facts.push(line_fact(against, part_at(alloc, found.other, same)?))?;
+    Ok(facts)
+}
+
+/// A line of the other text.
+fn line_fact(against: Against, line: Excerpt) -> Fact
+    ensures { fact_view result ≡ line_fact against (part_view line) }
+{
+    match against {
+        Against::Recorded => Fact::InEditor(line),
+        Against::Saved => Fact::SavedLine(line),
+    }
+}

@@ -1,0 +1,369 @@
+//! Facts on calls that break a rule on documents.
+
+ghost use Rattle.std.specs.Prelude.{◌≡◌, ◌∷◌, ℕ, List, true, Some, IfOk};
+ghost use Rattle.std.specs.List.{list_any};
+ghost use Rattle.std.specs.Str.{chars};
+ghost use Rattle.lsp_rpc.specs.View.{act_view};
+ghost use Rattle.lsp_text.specs.Changes.{edits_of};
+ghost use Rattle.lsp_docs.specs.Calls.{Call, opens, changes as changes_by, closes, saves, shows};
+ghost use Rattle.lsp_docs.specs.Documents.{versioned, held};
+ghost use Rattle.lsp_docs.specs.Kept.{kept};
+ghost use Rattle.lsp_docs.specs.Snapshots.{waiting, versions_of};
+ghost use Rattle.lsp_docs.specs.Rules.{differs, call_rule};
+ghost use Rattle.lsp_docs.specs.State.{Stands};
+ghost use Rattle.lsp_verdict.specs.Calls.{call_of};
+ghost use Rattle.lsp_facts.specs.Fact.{of_uri, facts_view};
+ghost use Rattle.lsp_facts.specs.DocumentFacts.{held_fact, kept_fact, IsRefuted, AreOfOpening};
+ghost use Rattle.lsp_facts.specs.DocumentFacts.{AreOfChange, AreOfSave, AreOfSnapshot};
+ghost use Rattle.lsp_facts.specs.DocumentFacts.{AreDocumentFacts};
+
+use crate::difference::{Against, difference};
+use crate::fact::Fact;
+use crate::fact_list::FactList;
+use crate::making::make;
+use crate::refused_change::{misfit, refused};
+use crate::waiting::first_other;
+use lsp_docs::Docs;
+use lsp_rpc::Act;
+use lsp_text::TextStore;
+use lsp_types::{Change, Encoding, Memory, SyncKind, rules};
+use std::alloc::Global;
+
+/// What is said about an act of the editor's that breaks this rule on documents, under what was
+/// agreed. The documents are those before the act, which was refused.
+pub fn act_facts<S: TextStore>(
+    alloc: Global,
+    docs: &Docs<S>,
+    encoding: Encoding,
+    kind: SyncKind,
+    act: &Act,
+    rule: u16,
+) -> Result<Vec<Fact>, Memory>
+    ensures { IfOk result (λ facts. (calls : List Call) (call : Call) → Stands docs.now calls
+        → call_of encoding kind (act_view act.now) ≡ Some call
+        → call_rule docs.now.terms calls call ≡ Some rule
+        → AreDocumentFacts docs.now.terms encoding calls call rule (facts_view facts.items)) }
+{
+    match act {
+        Act::DidOpen { uri, version, text } => {
+            let version = *version;
+            opening(
+                alloc,
+                docs,
+                encoding,
+                uri.as_str(),
+                version,
+                text.as_str(),
+                rule,
+            )
+        }
+        Act::DidChange {
+            uri,
+            version,
+            changes,
+        } => {
+            let version = *version;
+            let changes = changes.as_slice();
+            let facts = changing(
+                alloc,
+                docs,
+                encoding,
+                kind,
+                uri.as_str(),
+                version,
+                changes,
+                rule,
+            )?;
+            Ok(facts)
+        }
+        Act::DidClose { uri } => closing(alloc, docs, encoding, uri.as_str()),
+        Act::DidSave { uri, text } => {
+            let Some(text) = text else {
+                return Ok(Vec::new(alloc));
+            };
+            let facts = saving(alloc, docs, encoding, uri.as_str(), text.as_str())?;
+            Ok(facts)
+        }
+        _ => Ok(Vec::new(alloc)),
+    }
+}
+
+/// What is said about a snapshot that breaks this rule, under the encoding that was agreed. The
+/// documents are those before the snapshot, which was refused.
+pub fn snapshot_facts<S: TextStore>(
+    alloc: Global,
+    docs: &Docs<S>,
+    encoding: Encoding,
+    uri: &str,
+    version: i32,
+    text: &str,
+    rule: u16,
+) -> Result<Vec<Fact>, Memory>
+    ensures { IfOk result (λ facts. (calls : List Call) → Stands docs.now calls
+        → call_rule docs.now.terms calls (shows uri.now version (chars text.now)) ≡ Some rule
+        → AreDocumentFacts docs.now.terms encoding calls
+        (shows uri.now version (chars text.now)) rule (facts_view facts.items)) }
+{
+    let mut facts = head(alloc, docs, uri)?;
+    facts.push(Fact::Version(version))?;
+    facts.append(of_snapshot(alloc, docs, encoding, uri, version, text, rule)?)?;
+    Ok(facts.into_facts())
+}
+
+/// The URI, and the version that is held of it.
+fn head<S: TextStore>(alloc: Global, docs: &Docs<S>, uri: &str) -> Result<FactList, Memory>
+    ensures { IfOk result (λ facts. (calls : List Call) → Stands docs.now calls
+        → facts ≡ of_uri uri.now ∷ held_fact (held docs.now.terms uri.now calls)) }
+{
+    let mut facts = FactList::new(alloc);
+    facts.push_uri(uri)?;
+    if let Some(version) = docs.version_of(uri) {
+        facts.push(Fact::Held(version))?;
+    }
+    Ok(facts)
+}
+
+/// What is said about an opening.
+fn opening<S: TextStore>(
+    alloc: Global,
+    docs: &Docs<S>,
+    encoding: Encoding,
+    uri: &str,
+    version: i32,
+    text: &str,
+    rule: u16,
+) -> Result<Vec<Fact>, Memory>
+    ensures { IfOk result (λ facts. (calls : List Call) → Stands docs.now calls
+        → call_rule docs.now.terms calls (opens uri.now version (chars text.now)) ≡ Some rule
+        → AreDocumentFacts docs.now.terms encoding calls
+        (opens uri.now version (chars text.now)) rule (facts_view facts.items)) }
+{
+    let mut facts = head(alloc, docs, uri)?;
+    facts.push(Fact::Sent(version))?;
+    facts.append(of_opening(alloc, docs, encoding, uri, version, text, rule)?)?;
+    Ok(facts.into_facts())
+}
+
+/// What is said about an opening under its rule.
+fn of_opening<S: TextStore>(
+    alloc: Global,
+    docs: &Docs<S>,
+    encoding: Encoding,
+    uri: &str,
+    version: i32,
+    text: &str,
+    rule: u16,
+) -> Result<FactList, Memory>
+    ensures { IfOk result (λ facts. (calls : List Call) → Stands docs.now calls
+        → call_rule docs.now.terms calls (opens uri.now version (chars text.now)) ≡ Some rule
+        → AreOfOpening docs.now.terms encoding
+        (versions_of uri.now (waiting docs.now.terms calls))
+        (versioned version (chars text.now)) rule facts) }
+{
+    let mut facts = FactList::new(alloc);
+    if rule == rules::DOCUMENT_OVER_LIMIT {
+        facts.push(Fact::Bytes(text.len() as u64))?;
+        facts.push(Fact::Limit(docs.limit()))?;
+        return Ok(facts);
+    }
+    if rule == rules::SNAPSHOT_DIFFERS {
+        return refuted(alloc, docs, encoding, uri, version, text);
+    }
+    Ok(facts)
+}
+
+/// What is said about a text that a waiting snapshot of its version refutes.
+fn refuted<S: TextStore>(
+    alloc: Global,
+    docs: &Docs<S>,
+    encoding: Encoding,
+    uri: &str,
+    version: i32,
+    text: &str,
+) -> Result<FactList, Memory>
+    ensures { IfOk result (λ facts. (calls : List Call) → Stands docs.now calls
+        → list_any (differs docs.now.terms.line_ends (versioned version (chars text.now)))
+        (versions_of uri.now (waiting docs.now.terms calls)) ≡ true
+        → IsRefuted docs.now.terms.line_ends encoding
+        (versions_of uri.now (waiting docs.now.terms calls))
+        (versioned version (chars text.now)) facts) }
+{
+    let line_ends = docs.line_ends();
+    let Some(other) = first_other(line_ends, docs.waiting_texts(uri, version), text) else {
+        return Ok(FactList::new(alloc));
+    };
+    let facts = difference(alloc, line_ends, encoding, text, other, Against::Recorded)?;
+    Ok(facts)
+}
+
+/// What is said about a change.
+fn changing<S: TextStore>(
+    alloc: Global,
+    docs: &Docs<S>,
+    encoding: Encoding,
+    kind: SyncKind,
+    uri: &str,
+    version: i32,
+    changes: &[Change],
+    rule: u16,
+) -> Result<Vec<Fact>, Memory>
+    ensures { IfOk result (λ facts. (calls : List Call) → Stands docs.now calls
+        → call_rule docs.now.terms calls
+        (changes_by encoding kind uri.now version (edits_of changes.now)) ≡ Some rule
+        → AreDocumentFacts docs.now.terms encoding calls
+        (changes_by encoding kind uri.now version (edits_of changes.now)) rule
+        (facts_view facts.items)) }
+{
+    let mut facts = head(alloc, docs, uri)?;
+    facts.push(Fact::Sent(version))?;
+    facts.push(Fact::Changes(changes.len() as u64))?;
+    facts.append(of_change(alloc, docs, encoding, kind, uri, version, changes, rule)?)?;
+    Ok(facts.into_facts())
+}
+
+/// What is said about a change under its rule.
+fn of_change<S: TextStore>(
+    alloc: Global,
+    docs: &Docs<S>,
+    encoding: Encoding,
+    kind: SyncKind,
+    uri: &str,
+    version: i32,
+    changes: &[Change],
+    rule: u16,
+) -> Result<FactList, Memory>
+    ensures { IfOk result (λ facts. (calls : List Call) → Stands docs.now calls
+        → call_rule docs.now.terms calls
+        (changes_by encoding kind uri.now version (edits_of changes.now)) ≡ Some rule
+        → AreOfChange docs.now.terms encoding kind
+        (versions_of uri.now (waiting docs.now.terms calls)) version (edits_of changes.now)
+        (held docs.now.terms uri.now calls) rule facts) }
+{
+    let Some(store) = docs.store_of(uri) else {
+        return Ok(FactList::new(alloc));
+    };
+    if rule == rules::VERSION_DOES_NOT_RISE {
+        return Ok(FactList::new(alloc));
+    }
+    if rule == rules::CHANGE_NOT_OF_KIND {
+        return misfit(alloc, store, encoding, kind, changes, docs.limit());
+    }
+    let made = make(alloc, store, encoding, changes, docs.limit())?;
+    let text = made.text.as_str();
+    let count = made.count;
+    if count < changes.len() {
+        let facts = refused(
+            alloc,
+            encoding,
+            text,
+            count,
+            &changes[count],
+            rule,
+            docs.limit(),
+        )?;
+        return Ok(facts);
+    }
+    let facts = refuted(alloc, docs, encoding, uri, version, text)?;
+    Ok(facts)
+}
+
+/// What is said about a close.
+fn closing<S: TextStore>(
+    alloc: Global,
+    docs: &Docs<S>,
+    encoding: Encoding,
+    uri: &str,
+) -> Result<Vec<Fact>, Memory>
+    ensures { IfOk result (λ facts. (calls : List Call) (rule : ℕ) → Stands docs.now calls
+        → call_rule docs.now.terms calls (closes uri.now) ≡ Some rule
+        → AreDocumentFacts docs.now.terms encoding calls (closes uri.now) rule
+        (facts_view facts.items)) }
+{
+    let facts = head(alloc, docs, uri)?;
+    Ok(facts.into_facts())
+}
+
+/// What is said about a save with a text.
+fn saving<S: TextStore>(
+    alloc: Global,
+    docs: &Docs<S>,
+    encoding: Encoding,
+    uri: &str,
+    text: &str,
+) -> Result<Vec<Fact>, Memory>
+    ensures { IfOk result (λ facts. (calls : List Call) (rule : ℕ) → Stands docs.now calls
+        → call_rule docs.now.terms calls (saves uri.now (Some (chars text.now))) ≡ Some rule
+        → AreDocumentFacts docs.now.terms encoding calls
+        (saves uri.now (Some (chars text.now))) rule (facts_view facts.items)) }
+{
+    let mut facts = head(alloc, docs, uri)?;
+    facts.append(of_save(alloc, docs, encoding, uri, text)?)?;
+    Ok(facts.into_facts())
+}
+
+/// What is said about a saved text that is not the held one.
+fn of_save<S: TextStore>(
+    alloc: Global,
+    docs: &Docs<S>,
+    encoding: Encoding,
+    uri: &str,
+    text: &str,
+) -> Result<FactList, Memory>
+    ensures { IfOk result (λ facts. (calls : List Call) (rule : ℕ) → Stands docs.now calls
+        → call_rule docs.now.terms calls (saves uri.now (Some (chars text.now))) ≡ Some rule
+        → AreOfSave docs.now.terms.line_ends encoding (Some (chars text.now))
+        (held docs.now.terms uri.now calls) facts) }
+{
+    let Some(store) = docs.store_of(uri) else {
+        return Ok(FactList::new(alloc));
+    };
+    let held = store.to_text(alloc)?;
+    let ends = docs.line_ends();
+    difference(alloc, ends, encoding, held.as_str(), text, Against::Saved)
+}
+
+/// What is said about a snapshot under its rule.
+fn of_snapshot<S: TextStore>(
+    alloc: Global,
+    docs: &Docs<S>,
+    encoding: Encoding,
+    uri: &str,
+    version: i32,
+    text: &str,
+    rule: u16,
+) -> Result<FactList, Memory>
+    ensures { IfOk result (λ facts. (calls : List Call) → Stands docs.now calls
+        → call_rule docs.now.terms calls (shows uri.now version (chars text.now)) ≡ Some rule
+        → AreOfSnapshot docs.now.terms.line_ends encoding (kept docs.now.terms uri.now calls)
+        (held docs.now.terms uri.now calls) (versioned version (chars text.now)) rule facts) }
+{
+    if rule == rules::LATE_SNAPSHOT {
+        return kept_facts(alloc, docs, uri);
+    }
+    let Some(store) = docs.other_of(uri, version, text) else {
+        return Ok(FactList::new(alloc));
+    };
+    let held = store.to_text(alloc)?;
+    let facts = difference(
+        alloc,
+        docs.line_ends(),
+        encoding,
+        held.as_str(),
+        text,
+        Against::Recorded,
+    )?;
+    Ok(facts)
+}
+
+/// The versions that are kept of a URI, where there are any.
+fn kept_facts<S: TextStore>(alloc: Global, docs: &Docs<S>, uri: &str) -> Result<FactList, Memory>
+    ensures { IfOk result (λ facts. (calls : List Call) → Stands docs.now calls
+        → facts ≡ kept_fact (kept docs.now.terms uri.now calls)) }
+{
+    let mut facts = FactList::new(alloc);
+    let numbers = docs.kept_versions(uri)?;
+    if numbers.len() > 0 {
+        facts.push(Fact::Kept(numbers))?;
+    }
+    Ok(facts)
+}

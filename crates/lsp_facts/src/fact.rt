@@ -1,0 +1,111 @@
+//! What an explanation says.
+use crate::part::Excerpt;
+use lsp_rpc::Id;
+use lsp_session::Phase;
+use lsp_types::{Encoding, Position, Span, SyncKind};
+
+/// One thing that an explanation says about an offence. Lines and columns are counted from 0,
+/// columns in units of the encoding that the session agreed on.
+#[derive(Debug, Drop, PartialEq, Eq)]
+pub enum Fact {
+    /// The document of which the message or the snapshot speaks, as it writes its URI.
+    Uri(String),
+    /// The version that is held of it.
+    Held(i32),
+    /// The same, and the number of the event that set it, from 1.
+    HeldBy { version: i32, event: u64 },
+    /// The version in the message.
+    Sent(i32),
+    /// The version of the snapshot.
+    Version(i32),
+    /// How many changes the message has.
+    Changes(u64),
+    /// How changes are sent, as agreed (LSP 3.17, TextDocumentSyncKind).
+    Sync(SyncKind),
+    /// The encoding in which columns and lengths are counted (LSP 3.17, PositionEncodingKind).
+    Encoding(Encoding),
+    /// The change that fails, from 1, and its span, if it has one (LSP 3.17,
+    /// TextDocumentContentChangeEvent).
+    Change { which: u64, span: Option<Span> },
+    /// The units of a line of the text that this change meets, its line end not counted.
+    Length(u64),
+    /// The character into which a column falls.
+    Inside(String),
+    /// The other encodings in which the column lies at the edge of a character (LSP 3.17,
+    /// PositionEncodingKind).
+    Fits(Vec<Encoding>),
+    /// The bytes of UTF-8 that the text would have.
+    Bytes(u64),
+    /// The most bytes of UTF-8 that a text may have.
+    Limit(u64),
+    /// Where the text that the messages make and the editor's own first differ.
+    At(Position),
+    /// The line of the text that the messages make there, its line end included; of a long one the
+    /// part around the first character that differs in the two lines.
+    ByMessages(Excerpt),
+    /// The same of the text of a snapshot.
+    InEditor(Excerpt),
+    /// The same of the text that was saved.
+    SavedLine(Excerpt),
+    /// The two texts differ in line ends alone.
+    LineEnds,
+    /// The versions that are kept in addition to the held one.
+    Kept(Vec<i32>),
+    /// The id in the message. `None` where it is null.
+    Id(Option<Id>),
+    /// How far the session has come.
+    Phase(Phase),
+    /// The encodings that the open `initialize` offers (LSP 3.17, ClientCapabilities): the first
+    /// ones, and how many more there are.
+    Offered { names: Vec<String>, more: u64 },
+    /// The encoding that the result of `initialize` picks (LSP 3.17, ServerCapabilities).
+    Picked(String),
+    /// A method of text synchronisation that is to be registered (LSP 3.17, "Register Capability").
+    Registers(String),
+    /// A request of the editor's that waits for its response.
+    Request { id: Id, method: String },
+    /// The same, and the number of the event that asked it, from 1.
+    RequestBy { id: Id, method: String, event: u64 },
+    /// The number of the event of a snapshot that has another text, from 1.
+    Snapshot(u64),
+    /// The greatest version since the document was opened of which a snapshot was found equal, and
+    /// the number of the event of the last such snapshot, from 1.
+    Equal { version: i32, event: u64 },
+    /// How many messages can have made the texts differ.
+    Suspects(u64),
+    /// The version that one of them set, and the number of its event, from 1.
+    Suspect { version: i32, event: u64 },
+    /// The id of an open request that differs in its type alone, and the number of the event that
+    /// asked it, from 1.
+    Open { id: Id, event: u64 },
+    /// The number of the event that answered a request of this id, from 1.
+    Answered(u64),
+    /// The number of the event that asked the open request of this id, from 1.
+    Asked(u64),
+    /// The number of the event that led to the phase, from 1.
+    Since(u64),
+    /// The number of the event that closed the document, from 1.
+    Closed(u64),
+    /// No message opened the document.
+    NeverOpened,
+    /// An open document with a similar URI, and the number of the event that opened it, from 1.
+    Similar { uri: String, event: u64 },
+    /// The front of a content that is not a message.
+    Begins(String),
+    /// How many bytes of a content come before the first one that cannot stand there, all of them
+    /// if it ends too early (RFC 8259).
+    Breaks(u64),
+    /// What comes before that place.
+    Before(String),
+    /// What comes after it.
+    After(String),
+    /// The member of the params or of the result that does not have its shape, as a JSON pointer
+    /// (RFC 6901) from there.
+    Member(String),
+    /// The number of a record of the log, from 1; 0 for the first line.
+    Record(u64),
+    /// How many bytes of the log come before it.
+    Byte(u64),
+    /// The line that stands there, or its front, as far as it is UTF-8.
+    Found(String),
+}

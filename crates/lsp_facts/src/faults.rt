@@ -1,0 +1,49 @@
+//! Facts on streams of frames and on logs that have a fault.
+ghost use Rattle.std.specs.Prelude.{◌≡◌, IfOk};
+ghost use Rattle.lsp_facts.specs.Fact.{facts_view};
+ghost use Rattle.lsp_facts.specs.FlawFacts as spec;
+
+use crate::fact::Fact;
+use crate::messages::{front_facts, text_front};
+use lsp_frame::header_front;
+use lsp_rpc::Memory;
+use std::alloc::Global;
+
+/// What is said about a stream that has a fault of its frames, 101 to 106: how the header part
+/// begins that has it, of the bytes after the last whole frame.
+///
+/// # Errors
+/// `Memory` where memory was refused.
+pub fn frame_facts(alloc: Global, rest: &[u8]) -> Result<Vec<Fact>, Memory>
+    ensures { IfOk result (λ facts. facts_view facts.items ≡ spec.frame_facts rest.now) }
+{
+    front_facts(alloc, header_front(rest))
+}
+
+/// What is said about a stream that ends inside a frame, 107: how that begins, of the bytes after
+/// the last whole one.
+///
+/// # Errors
+/// `Memory` where memory was refused.
+pub fn unfinished_facts(alloc: Global, rest: &[u8]) -> Result<Vec<Fact>, Memory>
+    ensures { IfOk result (λ facts. facts_view facts.items ≡ spec.unfinished_facts rest.now) }
+{
+    front_facts(alloc, rest)
+}
+
+/// What is said about a log that has a fault: the number of its record, from 1, and 0 for the first
+/// line, how many bytes come before it, and the line that is there, as far as it is UTF-8.
+///
+/// # Errors
+/// `Memory` where memory was refused.
+pub fn flaw_facts(alloc: Global, number: u64, place: u64, line: &[u8]) -> Result<Vec<Fact>, Memory>
+    ensures { IfOk result (λ facts. facts_view facts.items
+        ≡ spec.flaw_facts number place line.now) }
+{
+    let found = String::from_str(alloc, text_front(line))?;
+    let mut facts = Vec::new(alloc);
+    facts.push(Fact::Record(number))?;
+    facts.push(Fact::Byte(place))?;
+    facts.push(Fact::Found(found))?;
+    Ok(facts)
+}

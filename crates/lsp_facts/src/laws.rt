@@ -1,0 +1,12 @@
+//! Laws of the facts.
+ghost use Rattle.lsp_facts.specs.MemberLaws.{BadParamsHaveMember, BadResultHasMember};
+
+/// Of a message whose params do not have the shape of its method, a member is named.
+pub fn bad_params_have_a_member()
+    ensures { BadParamsHaveMember }
+{}
+
+/// Of a result of `initialize`, a member is named just where it does not have its shape.
+pub fn bad_result_has_a_member()
+    ensures { BadResultHasMember }
+{}

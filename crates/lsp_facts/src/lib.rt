@@ -1,0 +1,45 @@
+//! Facts on an event that offends, read off the events before it, and the line of each. No run
+//! reads a log here, and nothing is written to a sink.
+//!
+//! A [`Fact`] is one thing that an explanation says. Of a message [`message_facts`] says them, of a
+//! snapshot [`shown_facts`]: by their rules [`session_facts`], or [`act_facts`] and
+//! [`snapshot_facts`], which say what is wrong with a call on a document. [`content_facts`] are on
+//! a content that is not a message or has params of another shape, [`frame_facts`] and
+//! [`unfinished_facts`] on a stream whose frames have a fault or an end inside one, [`flaw_facts`]
+//! on a log that has a fault. [`refuting`] finds the snapshots whose texts refute a call.
+//! [`push_details`] writes the lines of facts, and `write_event` the line that names an event.
+#![tactic(auto)]
+
+mod contents;
+mod difference;
+mod documents;
+mod edges;
+mod fact;
+mod fact_list;
+mod faults;
+mod grammar;
+mod json_text;
+mod laws;
+mod lines;
+mod making;
+mod members;
+mod messages;
+mod offending;
+mod params;
+mod part;
+mod plain;
+mod refused_change;
+mod waiting;
+
+pub use contents::content_facts;
+pub use documents::{act_facts, snapshot_facts};
+pub use fact::Fact;
+pub use faults::{flaw_facts, frame_facts, unfinished_facts};
+pub use laws::{bad_params_have_a_member, bad_result_has_a_member};
+pub use lines::{
+    push_bare_event, push_content_event, push_details, push_end_event, push_message_event, usual,
+};
+pub use messages::{id_in, session_facts};
+pub use offending::{message_facts, shown_facts};
+pub use part::Excerpt;
+pub use waiting::refuting;

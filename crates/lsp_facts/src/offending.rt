@@ -1,0 +1,69 @@
+//! Facts on the events that offend.
+ghost use Rattle.std.specs.Prelude.{◌≡◌, ℕ, List, Some, IfOk, chars};
+ghost use Rattle.lsp_docs.specs.Calls.{shows};
+ghost use Rattle.lsp_replay.specs.Standing.{Holds, RefusesMessage};
+ghost use Rattle.lsp_rpc.specs.View.{act_view, message_view};
+ghost use Rattle.lsp_verdict.specs.Event.{Event, snapshot};
+ghost use Rattle.lsp_verdict.specs.Verdict.{offence};
+ghost use Rattle.lsp_facts.specs.EventFacts.{AreCallFacts, AreMessageFacts};
+ghost use Rattle.lsp_facts.specs.Fact.{facts_view};
+
+use crate::documents::{act_facts, snapshot_facts};
+use crate::fact::Fact;
+use crate::messages::session_facts;
+use lsp_docs::Docs;
+use lsp_rpc::{Encoding, Memory, Side, Spoken, SyncKind};
+use lsp_session::Session;
+use lsp_text::TextStore;
+use lsp_types::rules;
+use std::alloc::Global;
+
+/// What is said about a message of a side that offends by this rule, 301 to 702. Session and
+/// documents hold the kept events before it.
+///
+/// # Errors
+/// `Memory` where memory was refused.
+pub fn message_facts<S: TextStore>(
+    alloc: Global,
+    session: &Session,
+    docs: &Docs<S>,
+    side: Side,
+    spoken: &Spoken,
+    rule: u16,
+) -> Result<Vec<Fact>, Memory>
+    ensures { IfOk result (λ facts. (content : List ℕ) (kept : List Event)
+        → Holds session.now docs.now kept
+        → (refused : RefusesMessage side content (message_view spoken.now.message)
+        (act_view spoken.now.act) docs.now.terms kept rule)
+        → AreMessageFacts docs.now.terms kept refused.sent rule (facts_view facts.items)) }
+{
+    if rule < rules::FIRST_ON_DOCUMENTS {
+        return session_facts(alloc, session, side, &spoken.message, &spoken.act, rule);
+    }
+    let encoding = session.encoding().unwrap_or(Encoding::Utf16);
+    let kind = session.sync_kind().unwrap_or(SyncKind::Nothing);
+    act_facts(alloc, docs, encoding, kind, &spoken.act, rule)
+}
+
+/// What is said about a snapshot that offends by this rule. Session and documents hold the kept
+/// events before it.
+///
+/// # Errors
+/// `Memory` where memory was refused.
+pub fn shown_facts<S: TextStore>(
+    alloc: Global,
+    session: &Session,
+    docs: &Docs<S>,
+    version: i32,
+    uri: &str,
+    text: &str,
+    rule: u16,
+) -> Result<Vec<Fact>, Memory>
+    ensures { IfOk result (λ facts. (kept : List Event) → Holds session.now docs.now kept
+        → offence docs.now.terms kept (snapshot uri.now version (chars text.now)) ≡ Some rule
+        → AreCallFacts docs.now.terms kept rule (Some (shows uri.now version (chars text.now)))
+        (facts_view facts.items)) }
+{
+    let encoding = session.encoding().unwrap_or(Encoding::Utf16);
+    snapshot_facts(alloc, docs, encoding, uri, version, text, rule)
+}

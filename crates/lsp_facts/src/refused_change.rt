@@ -1,0 +1,191 @@
+//! Facts on a change that is not of the agreed kind, or that fails.
+
+ghost use Rattle.std.specs.Prelude.{◌≡◌, ◌<◌, ◌^◌, ◌+◌, length, slice_get, Err, IfOk};
+ghost use Rattle.std.specs.List.{prefix_len};
+ghost use Rattle.std.specs.Str.{chars};
+ghost use Rattle.std.specs.String.{string_bytes};
+ghost use Rattle.lsp_text.specs.Edits.{changed};
+ghost use Rattle.lsp_text.specs.Changes.{edit_of, edits_of};
+ghost use Rattle.lsp_facts.specs.DocumentFacts.{fits, misfit_facts, kind_facts, stray, IsStray};
+ghost use Rattle.lsp_facts.specs.DocumentFacts.{IsTooLong, IsReason, IsRefused};
+ghost use Rattle.lsp_facts.specs.Making.{HasStray};
+ghost use Rattle.lsp_types.specs.declared.rules.TheConstants as rules;
+
+use crate::fact::Fact;
+use crate::fact_list::FactList;
+use crate::making::make;
+use lsp_text::{TextStore, char_inside, size_with};
+use lsp_types::{Change, Encoding, Memory, Position, Span, SyncKind, rules};
+use std::alloc::Global;
+
+/// The facts on changes of another kind than agreed: the kind, and the first change that is not of
+/// it.
+pub(crate) fn misfit<S: TextStore>(
+    alloc: Global,
+    store: &S,
+    encoding: Encoding,
+    kind: SyncKind,
+    changes: &[Change],
+    limit: u64,
+) -> Result<FactList, Memory>
+    ensures { IfOk result (λ facts. facts
+        ≡ kind_facts limit encoding kind (S.content store.now) (edits_of changes.now)) }
+{
+    let mut facts = FactList::new(alloc);
+    facts.push(Fact::Sync(kind))?;
+    let count = count_fitting(kind, changes);
+    if changes.len() <= count {
+        return Ok(facts);
+    }
+    facts.append(misfit_at(alloc, store, encoding, changes, count, limit)?)?;
+    Ok(facts)
+}
+
+/// The facts on the change after this many others, which is not of the kind: its span, and the
+/// length of the line in which that begins, where the changes before it can be made.
+fn misfit_at<S: TextStore>(
+    alloc: Global,
+    store: &S,
+    encoding: Encoding,
+    changes: &[Change],
+    count: usize,
+    limit: u64,
+) -> Result<FactList, Memory>
+    requires { count < length changes.now }
+    ensures { IfOk result (λ facts. facts
+        ≡ misfit_facts limit encoding (S.content store.now) (edits_of changes.now) count
+        (slice_get (edits_of changes.now) count)) }
+{
+    let mut facts = FactList::new(alloc);
+    let span = changes[count].span;
+    facts.push_change(encoding, count, span)?;
+    let made = make(alloc, store, encoding, &changes[..count], limit)?;
+    if made.count < count {
+        return Ok(facts);
+    }
+    facts.push_first_length(made.text.as_str(), encoding, span)?;
+    Ok(facts)
+}
+
+/// How many changes come before the first that is not of the kind.
+fn count_fitting(kind: SyncKind, changes: &[Change]) -> usize
+    ensures { result ≡ prefix_len (λ change. fits kind (edit_of change)) changes.now }
+{
+    changes
+        .iter()
+        .take_while(|change| fits_kind(kind, change))
+        .count()
+}
+
+/// Whether a change is of the kind.
+fn fits_kind(kind: SyncKind, change: &Change) -> bool
+    ensures { result ≡ fits kind (edit_of change.now) }
+{
+    match kind {
+        SyncKind::Nothing => false,
+        SyncKind::Full => change.span.is_none(),
+        SyncKind::Incremental => true,
+    }
+}
+
+/// The facts on the change after this many others that this rule refuses, on the text that those
+/// made.
+pub(crate) fn refused(
+    alloc: Global,
+    encoding: Encoding,
+    text: &str,
+    count: usize,
+    change: &Change,
+    rule: u16,
+    limit: u64,
+) -> Result<FactList, Memory>
+    requires { count + 1 < 2 ^ 64 }
+    ensures { IfOk result (λ facts. changed encoding (chars text.now) change.now.span
+        (chars (string_bytes change.now.text)) limit ≡ Err rule
+        → IsRefused limit encoding (chars text.now) count (edit_of change.now) rule facts) }
+{
+    let mut facts = FactList::new(alloc);
+    facts.push_change(encoding, count, change.span)?;
+    facts.append(reason(alloc, encoding, text, change, rule, limit)?)?;
+    Ok(facts)
+}
+
+/// Why this rule refuses a change of a text.
+fn reason(
+    alloc: Global,
+    encoding: Encoding,
+    text: &str,
+    change: &Change,
+    rule: u16,
+    limit: u64,
+) -> Result<FactList, Memory>
+    ensures { IfOk result (λ facts. changed encoding (chars text.now) change.now.span
+        (chars (string_bytes change.now.text)) limit ≡ Err rule
+        → IsReason limit encoding (chars text.now) (edit_of change.now) rule facts) }
+{
+    if rule == rules::POSITION_INSIDE_CHARACTER {
+        return stray_facts(alloc, encoding, text, change.span);
+    }
+    let mut facts = FactList::new(alloc);
+    facts.push_first_length(text, encoding, change.span)?;
+    if rule == rules::DOCUMENT_OVER_LIMIT {
+        facts.append(size_facts(alloc, encoding, text, change, limit)?)?;
+    }
+    Ok(facts)
+}
+
+/// The line of the position of a span that lies inside a character, that character, and the other
+/// encodings in which the position lies at an edge.
+fn stray_facts(
+    alloc: Global,
+    encoding: Encoding,
+    text: &str,
+    span: Option<Span>,
+) -> Result<FactList, Memory>
+    ensures { IfOk result (λ facts. HasStray encoding (chars text.now) span
+        → IsStray encoding (chars text.now) span facts) }
+{
+    let mut facts = FactList::new(alloc);
+    let Some(span) = span else {
+        return Ok(facts);
+    };
+    let position = stray_of(text, encoding, span);
+    facts.push_length(text, encoding, position)?;
+    let Some(c) = char_inside(text, encoding, position) else {
+        return Ok(facts);
+    };
+    facts.push_inside(c)?;
+    facts.push_fits(text, position)?;
+    Ok(facts)
+}
+
+/// The position of a span that lies inside a character: the first, unless that denotes a place.
+fn stray_of(text: &str, encoding: Encoding, span: Span) -> Position
+    ensures { result ≡ stray encoding (chars text.now) span }
+{
+    match char_inside(text, encoding, span.first) {
+        Some(_) => span.first,
+        None => span.second,
+    }
+}
+
+/// The bytes of UTF-8 that a text would have with a change, and how many it may have.
+fn size_facts(
+    alloc: Global,
+    encoding: Encoding,
+    text: &str,
+    change: &Change,
+    limit: u64,
+) -> Result<FactList, Memory>
+    ensures { IfOk result (λ facts. changed encoding (chars text.now) change.now.span
+        (chars (string_bytes change.now.text)) limit ≡ Err rules.DOCUMENT_OVER_LIMIT
+        → IsTooLong limit encoding (chars text.now) (edit_of change.now) facts) }
+{
+    let mut facts = FactList::new(alloc);
+    let Some(size) = size_with(text, encoding, change.span, change.text.as_str()) else {
+        return Ok(facts);
+    };
+    facts.push(Fact::Bytes(size))?;
+    facts.push(Fact::Limit(limit))?;
+    Ok(facts)
+}
