@@ -19,7 +19,7 @@ _lspcheck() {
         "") options="--help --version -h -V" ;;
         check) options="--complete --all --every --ignore-line-ends --quiet --help -h" ;;
         explain) options="--complete --all --ignore-line-ends --quiet --help -h" ;;
-        show) options="--long --quiet --help -h" ;;
+        show) options="--all --long --quiet --help -h" ;;
         text) options="--all --quiet --help -h" ;;
         event | normal | upgrade) options="--quiet --help -h" ;;
         frames) options="--as --quiet --help -h" ;;

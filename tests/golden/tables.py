@@ -164,6 +164,8 @@ RUNS = {
     "all-complete": ["check", "--all", "--complete"],
     "show": ["show"],
     "long": ["show", "--long"],
+    "show-all": ["show", "--all"],
+    "long-all": ["show", "--all", "--long"],
     "explain": ["explain"],
     "explain-complete": ["explain", "--complete"],
     "explain-all": ["explain", "--all"],

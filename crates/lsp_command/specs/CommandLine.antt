@@ -81,7 +81,7 @@ abbrev pub explain : Shape
 explain = command (codes "explain") (explain_options.rules ++ quiet ∷ file ∷ [])
 
 abbrev pub show : Shape
-show = command (codes "show") (flag (codes "long") ∷ quiet ∷ file ∷ [])
+show = command (codes "show") (flag (codes "all") ∷ flag (codes "long") ∷ quiet ∷ file ∷ [])
 
 -- `text` with its own arguments and options alone
 abbrev pub text_options : Shape

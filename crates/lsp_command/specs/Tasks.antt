@@ -18,6 +18,7 @@ use Rattle.lsp_replay.specs.StreamRun.{IsRun, BeginsRun}
 use Rattle.lsp_replay.specs.TextAnswers.{WritesText}
 use Rattle.lsp_explain.specs.AllExplained.{ExplainsAll}
 use Rattle.lsp_explain.specs.Explained.{IsExplanation, BeginsExplanation}
+use Rattle.lsp_survey.specs.AllShown.{ShowsAll}
 use Rattle.lsp_survey.specs.KeptText.{AnswersKept}
 use Rattle.lsp_survey.specs.Reported.{SurveysLog}
 use Rattle.lsp_verdict.specs.declared.completeness.Completeness.{Completeness}
@@ -35,8 +36,8 @@ use Rattle.lsp_command.specs.Ended.{of_event, of_run}
 use Rattle.lsp_command.specs.declared.task_outcome.TaskOutcome.{TaskOutcome}
 use Rattle.lsp_command.specs.declared.command_line.task.Task.{Task}
 use Rattle.lsp_command.specs.declared.command_line.task.Task.TheVariants.{Check, Survey, Explain}
-use Rattle.lsp_command.specs.declared.command_line.task.Task.TheVariants.{ExplainAll, Show, Text}
-use Rattle.lsp_command.specs.declared.command_line.task.Task.TheVariants.{TextAll, Event}
+use Rattle.lsp_command.specs.declared.command_line.task.Task.TheVariants.{ExplainAll, Show, ShowAll}
+use Rattle.lsp_command.specs.declared.command_line.task.Task.TheVariants.{Text, TextAll, Event}
 use Rattle.lsp_command.specs.declared.command_line.task.Task.TheVariants.{Normal, Upgrade, Frames}
 
 -- `explain`: the verdict on the log read, whose session must be complete or not, and what explains
@@ -84,6 +85,7 @@ Answers limits (Explain completeness) p result = EndsRun (Explained completeness
 Answers limits (ExplainAll completeness) p result =
     EndsRun (ExplainsAll completeness limits p) result
 Answers limits (Show lines) p result = EndsRun (Showed lines limits p) result
+Answers limits (ShowAll lines) p result = EndsRun (ShowsAll lines limits p) result
 Answers limits (Text number uri) p result = EndsRun
     (WritesText limits p (λ log. AnswersText limits log (non_zero_u64_get number) uri.now)) result
 Answers limits (TextAll number uri) p result = EndsRun

@@ -98,9 +98,16 @@ pub record AsksExplain (rows : List Row) (completeness : Completeness) (all : Bo
   pub all_is : IsFlag (one_of (codes "all") rows) all
   pub completeness_is : completeness ≡ completeness_of complete
 
--- the lines are long where the option for these is set
-abbrev pub AsksShow : List Row → Lines → Type 0
-AsksShow rows lines = (set : Bool) × IsFlag (one_of (codes "long") rows) set × (lines ≡ lines_of set)
+-- the lines are long where the option for these is set, and each event that offends is skipped where
+-- the option for that is set
+pub record AsksShow (rows : List Row) (lines : Lines) (all : Bool) : Type 0 where
+  pub long : Bool
+  pub long_is : IsFlag (one_of (codes "long") rows) long
+  pub all_is : IsFlag (one_of (codes "all") rows) all
+  pub lines_is : lines ≡ lines_of long
+
+abbrev pub show_of : Lines → Bool → Task
+show_of lines all = if all then tasks.ShowAll lines else tasks.Show lines
 
 -- line ends do not count where the option for that is set
 abbrev pub AsksLineEnds : List Row → LineEnds → Type 0
@@ -139,6 +146,7 @@ command_of (tasks.Survey completeness listing) = codes "check"
 command_of (tasks.Explain completeness) = codes "explain"
 command_of (tasks.ExplainAll completeness) = codes "explain"
 command_of (tasks.Show lines) = codes "show"
+command_of (tasks.ShowAll lines) = codes "show"
 command_of (tasks.Text number uri) = codes "text"
 command_of (tasks.TextAll number uri) = codes "text"
 command_of (tasks.Event number) = codes "event"
@@ -152,7 +160,8 @@ HasArguments rows (tasks.Check completeness) = AsksCheck rows completeness None
 HasArguments rows (tasks.Survey completeness listing) = AsksCheck rows completeness (Some listing)
 HasArguments rows (tasks.Explain completeness) = AsksExplain rows completeness false
 HasArguments rows (tasks.ExplainAll completeness) = AsksExplain rows completeness true
-HasArguments rows (tasks.Show lines) = AsksShow rows lines
+HasArguments rows (tasks.Show lines) = AsksShow rows lines false
+HasArguments rows (tasks.ShowAll lines) = AsksShow rows lines true
 HasArguments rows (tasks.Text number uri) = AsksText rows number uri false
 HasArguments rows (tasks.TextAll number uri) = AsksText rows number uri true
 HasArguments rows (tasks.Event number) = GivesNumber rows (non_zero_u64_get number)

@@ -46,7 +46,7 @@ impl<'a> Pace<'a> {
     pub fn of(task: &Task<'_>, supply: &'a Supply) -> Pace<'a> {
         match task {
             Task::Survey(..) | Task::ExplainAll(_) => Pace::EachPut,
-            Task::Show(_) => Pace::UsedUp(supply),
+            Task::Show(_) | Task::ShowAll(_) => Pace::UsedUp(supply),
             _ => Pace::Gathered,
         }
     }

@@ -15,7 +15,7 @@ use lsp_judge::{
     Completeness, Lines, RunFault, run_check, run_check_complete, run_event, run_frames,
     run_normal, run_show, run_show_long, run_text, run_upgrade,
 };
-use lsp_survey::{run_survey, run_text_all};
+use lsp_survey::{run_show_all, run_survey, run_text_all};
 use std::alloc::Global;
 use std::io::{Read, Write};
 
@@ -59,6 +59,7 @@ pub fn run_task<R: Source, W: Sink>(
         }
         Task::Show(Lines::Short) => of_run(run_show(alloc, source, sink, limits)),
         Task::Show(Lines::Long) => of_run(run_show_long(alloc, source, sink, limits)),
+        Task::ShowAll(lines) => of_run(run_show_all(alloc, source, sink, limits, lines)),
         Task::Text { number, uri } => {
             of_run(run_text(alloc, source, sink, limits, number.get(), uri))
         }

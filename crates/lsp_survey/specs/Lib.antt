@@ -16,3 +16,4 @@ pub mod Ending
 pub mod Reads
 pub mod Reported
 pub mod KeptText
+pub mod AllShown

@@ -16,6 +16,7 @@ mod offence_count;
 mod offending;
 mod run;
 mod session_end;
+mod show;
 mod survey_reader;
 mod text;
 mod walk;
@@ -28,5 +29,6 @@ pub use notes::{
 pub use offence_count::OffenceCount;
 pub use offending::{FoundOffence, Judged, OffendingEvent};
 pub use run::run_survey;
+pub use show::run_show_all;
 pub use survey_reader::{NextJudged, SurveyEnd, SurveyReader};
 pub use text::run_text_all;

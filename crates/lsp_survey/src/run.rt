@@ -127,7 +127,7 @@ fn list_events<R: Source, W: Sink>(
 }
 
 /// Lists the offence that an event is, if it is one.
-fn list_heard<W: Sink>(
+pub(crate) fn list_heard<W: Sink>(
     alloc: Global,
     writer: &mut W,
     listing: Listing,
@@ -202,7 +202,7 @@ fn list_each<W: Sink>(
 }
 
 /// Lists the end of a log after the offences of its events, and closes the report.
-fn close<W: Sink>(
+pub(crate) fn close<W: Sink>(
     alloc: Global,
     events: &SurveyReader,
     writer: &mut W,

@@ -20,13 +20,13 @@ use crate::offending::Judged;
 use crate::session_end::ends;
 use crate::walk::Replay;
 use lsp_docs::Docs;
-use lsp_frame::{Format, Limits, Source};
+use lsp_frame::{Format, Limits, Sink, Source};
 use lsp_text::Lined;
 use lsp_replay as replay;
 use lsp_replay::{LogEvents, summary_of};
 use lsp_rpc::{Memory, Side};
 use lsp_session::Session;
-use lsp_verdict::{Completeness, Offence, RunFault, Verdict};
+use lsp_verdict::{Completeness, Lines, Offence, RunFault, Verdict};
 use std::alloc::Global;
 
 /// Reads the events of a log one by one, past each that offends, up to its end.
@@ -124,6 +124,29 @@ impl SurveyReader {
         match self.log.next(reader) {
             Err(fault) => Err(fault),
             Ok(replay::Next::Event(raw)) => Ok(NextJudged::Event(self.walk.hear(self.alloc, raw)?)),
+            Ok(replay::Next::End(end)) => Ok(NextJudged::End(self.end(end)?)),
+        }
+    }
+
+    /// Hears the next event of the log, and writes its line where it is kept; or gives the log's
+    /// end, after which there is none.
+    ///
+    /// # Errors
+    /// `Read` where the source failed, `Write` where the sink did, and `Memory` where memory was
+    /// refused.
+    pub(crate) fn show_next<R: Source, W: Sink>(
+        &mut self,
+        reader: &mut R,
+        writer: &mut W,
+        line: &mut String,
+        lines: Lines,
+    ) -> Result<NextJudged, RunFault> {
+        match self.log.next(reader) {
+            Err(fault) => Err(fault),
+            Ok(replay::Next::Event(raw)) => {
+                let judged = self.walk.show(self.alloc, raw, writer, line, lines)?;
+                Ok(NextJudged::Event(judged))
+            }
             Ok(replay::Next::End(end)) => Ok(NextJudged::End(self.end(end)?)),
         }
     }

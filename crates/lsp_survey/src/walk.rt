@@ -31,13 +31,13 @@ use crate::notes::{
     wants_handshake, wants_text,
 };
 use crate::offending::{FoundOffence, Judged, OffendingEvent};
-use lsp_frame::{Format, Limits};
+use lsp_frame::{Format, Limits, Sink};
 use lsp_text::Lined;
 use lsp_replay as replay;
-use lsp_replay::{Events, Refused};
+use lsp_replay::{EventPlace, Events, Refused, write_event_line};
 use lsp_rpc::{Memory, Message, Side, Spoken};
 use lsp_types::rules;
-use lsp_verdict::{Completeness, Counts, Offence, Raw, Who, who_of};
+use lsp_verdict::{Completeness, Counts, Lines, Offence, Raw, RunFault, Who, who_of};
 use std::alloc::Global;
 
 /// The result of the events of a session, where each that offends is skipped.
@@ -89,6 +89,27 @@ impl Replay {
         match self.events.hear(raw) {
             Ok(kept) => self.keep(number, kept),
             Err(refused) => self.pass_over(alloc, raw, refused),
+        }
+    }
+
+    /// Hears the next event, and writes its line where it is kept.
+    pub(crate) fn show<W: Sink>(
+        &mut self,
+        alloc: Global,
+        raw: Raw<'_>,
+        writer: &mut W,
+        line: &mut String,
+        lines: Lines,
+    ) -> Result<Judged, RunFault> {
+        let number = number_next(&self.events.counts);
+        match self.events.hear(raw) {
+            Ok(kept) => {
+                self.note(number, &kept)?;
+                let place = EventPlace::of(&self.events.counts, &kept);
+                write_event_line(alloc, writer, line, lines, place, kept)?;
+                Ok(Judged::Kept)
+            }
+            Err(refused) => Ok(self.pass_over(alloc, raw, refused)?),
         }
     }
 

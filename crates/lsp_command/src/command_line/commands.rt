@@ -181,6 +181,11 @@ fn show<'a>(alloc: Global) -> Result<Command<'a>, AllocError>
         .about("Lists the events of a recorded session, then reports the verdict")
         .arg(flag(
             alloc,
+            "all",
+            "Goes on after each message that breaks a rule, and reports every one",
+        ))?
+        .arg(flag(
+            alloc,
             "long",
             "Adds each side's own numbers, and the URI and version of documents",
         ))?

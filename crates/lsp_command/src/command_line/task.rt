@@ -20,6 +20,8 @@ pub enum Task<'a> {
     ExplainAll(Completeness),
     /// To list the events of a recorded session by short or long lines, and to judge it.
     Show(Lines),
+    /// To list all events, by short or long lines, with the offences in their places.
+    ShowAll(Lines),
     /// To write the text of the document with this URI, as it is after the editor's message of this
     /// number.
     Text { number: NonZeroU64, uri: &'a str },

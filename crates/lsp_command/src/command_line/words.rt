@@ -5,7 +5,7 @@ ghost use Rattle.lsp_command.specs.CommandLine.{IsCommandLine};
 ghost use Rattle.lsp_command.specs.Words.{Asks, HasTask, IsFlag, NumberIn, Refuses, RequestIn};
 ghost use Rattle.lsp_command.specs.Words.{TaskIn, check_of, completeness_of, explain_of, file_of};
 ghost use Rattle.lsp_command.specs.Words.{line_ends_of, lines_of, listing_of, mode_of, rows_in};
-ghost use Rattle.lsp_command.specs.Words.{text_of};
+ghost use Rattle.lsp_command.specs.Words.{show_of, text_of};
 
 use crate::command_line::commands::command_line;
 use crate::command_line::task::{Request, Task};
@@ -85,6 +85,17 @@ fn text_of<'a>(number: NonZeroU64, uri: &'a str, all: bool) -> Task<'a>
     }
 }
 
+/// The events by these lines, past each that offends where the option for that is set.
+fn show_of<'a>(lines: Lines, all: bool) -> Task<'a>
+    ensures { result ≡ show_of lines all }
+{
+    if all {
+        Task::ShowAll(lines)
+    } else {
+        Task::Show(lines)
+    }
+}
+
 /// What the lines of events tell, where the option for long ones is set or not.
 fn lines_of(set: bool) -> Lines
     ensures { result ≡ lines_of set }
@@ -138,7 +149,10 @@ fn explain_task<'a>(arguments: &ArgMatches<'_>) -> Task<'a>
 fn show_task<'a>(arguments: &ArgMatches<'_>) -> Task<'a>
     ensures { HasTask (codes "show") (rows_in arguments.now) result }
 {
-    Task::Show(lines_of(is_set(arguments, "long")))
+    show_of(
+        lines_of(is_set(arguments, "long")),
+        is_set(arguments, "all"),
+    )
 }
 
 fn text_task<'a>(arguments: &ArgMatches<'a>) -> Option<Task<'a>>
