@@ -31,7 +31,7 @@ pub use events::Events;
 pub use fault::Refused;
 pub use frames::run_frames;
 pub use heard::{EventPlace, Heard};
-pub use lines::write_event_line;
+pub use lines::{fill_event_line, write_event_line};
 pub use log_events::{End, LogEvents, Next};
 pub use normal::run_normal;
 pub use normal_laws::{

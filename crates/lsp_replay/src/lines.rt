@@ -180,8 +180,11 @@ fn fill_snapshot_line(
     Ok(text.push_str("\n")?)
 }
 
-/// Makes the text the line of an event.
-fn fill_event_line(
+/// Makes the text the line of an event, short or long.
+///
+/// # Errors
+/// `Memory` where memory was refused: what the text holds then is free.
+pub fn fill_event_line(
     alloc: Global,
     text: &mut String,
     lines: Lines,

@@ -43,7 +43,7 @@ use Rattle.lsp_verdict.proofs.RunReading.{read_map}
 -- ---- one answer
 
 -- the records of a log have one list of events
-same_notes : (limits : Bounds) (rs us : List Record) (ms ns : List Noted) → rs ≡ us
+pub same_notes : (limits : Bounds) (rs us : List Record) (ms ns : List Noted) → rs ≡ us
     → IsNotedSession limits rs ms → IsNotedSession limits us ns → ms ≡ ns
 same_notes limits rs us ms ns same p q =
     let raws : p.0 ≡ q.0 = one_placed limits [] [] us p.0 q.0

@@ -20,3 +20,4 @@ pub mod Reading
 pub mod LogEnds
 pub mod Reporting
 pub mod KeptTexts
+pub mod Showing

@@ -233,22 +233,32 @@ nothing_heard limits e start now (records, due, reads) terms walks = record {
   lists = refl;
 }
 
--- the log could not be opened
-pub unopened : (completeness : Completeness) (limits : Bounds) (start now : Told) (fault : RunFault)
-    → BreaksOff limits start now fault → BrokeOff completeness limits start now [] fault
-unopened completeness limits start now fault off = record {
-  of_read = read_map limits start now (λ log. Unit {0}) (BeginsSurvey completeness limits [])
-      (λ log u.
-      let l = some_log limits log in
-      let raws = some_placed limits [] [] l.1 in
-      begins completeness limits l.0 l.1 [] [] [] tt refl log (record {
+-- each log is of some format, and no event is heard of it
+pub none_given : (limits : Bounds) (log : List ℕ)
+    → (format : Option Format) × (records : List Record) × HasGiven limits format records [] log
+none_given limits log =
+    let l = some_log limits log in
+    let raws = some_placed limits [] [] l.1 in (
+      l.0,
+      l.1,
+      record {
         records = l.1;
         log_fault = l.2;
         later = raws.0;
         is_log = l.3;
         goes = ([], sym (append-nil l.1));
         placed = raws.1;
-      })) off.of_read;
+      },
+    )
+
+-- the log could not be opened
+pub unopened : (completeness : Completeness) (limits : Bounds) (start now : Told) (fault : RunFault)
+    → BreaksOff limits start now fault → BrokeOff completeness limits start now [] fault
+unopened completeness limits start now fault off = record {
+  of_read = read_map limits start now (λ log. Unit {0}) (BeginsSurvey completeness limits [])
+      (λ log u.
+      let (format, records, has) = none_given limits log in
+      begins completeness limits format records [] [] [] tt refl log has) off.of_read;
   failures = off.failures;
   unwritten = off.unwritten;
 }
@@ -364,7 +374,7 @@ module _ (limits : Bounds) (e : SurveyReader) (start mid now : Told) (past : Lis
         )
 
     -- **one more was heard**, of these records or of more
-    pub event_given : (f : SurveyReader) (raw : lent.Raw) (given : Judged)
+    unfoldable pub event_given : (f : SurveyReader) (raw : lent.Raw) (given : Judged)
         → NextIs e.log f.log mid now (Ok (next.Event raw))
         → f.walk.events.docs.terms ≡ e.walk.events.docs.terms
         → (Walks e.walk notes → Hears (raw_view raw) e.walk.events.docs.terms f.walk notes given)

@@ -14,7 +14,7 @@ use Rattle.lsp_frame.proofs.Telling.{took_then}
 use Rattle.lsp_frame.proofs.Writing.{stopped_before, stopped_then, wrote_nothing, wrote_then}
 use Rattle.lsp_survey.specs.Reads.{BeginsSurvey, SoFar, BrokeOff}
 use Rattle.lsp_survey.specs.Reported.{is_every, IsReported, BeginsReported, lines_of, closing}
-use Rattle.lsp_survey.specs.Reported.{IsTally, AllReported, PartReported}
+use Rattle.lsp_survey.specs.Reported.{Closes, IsTally, PartWritten, Reports, end_lines}
 use Rattle.lsp_verdict.specs.declared.listing.Listing.{Listing}
 use Rattle.lsp_verdict.specs.declared.listing.Listing.TheVariants.{Causes, Every}
 use Rattle.lsp_survey.specs.declared.survey_reader.SurveyReader.{SurveyReader}
@@ -22,7 +22,7 @@ use Rattle.lsp_survey.specs.declared.offence_count.OffenceCount.{OffenceCount}
 use Rattle.lsp_verdict.specs.Given.{offence_view, verdict_view}
 use Rattle.lsp_verdict.specs.Offences.{Noted, Offence}
 use Rattle.lsp_verdict.specs.Placed.{Raw}
-use Rattle.lsp_verdict.specs.RunIo.{OfRead, Tells, TellsSome}
+use Rattle.lsp_verdict.specs.RunIo.{OfRead, Tells, TellsSome, WroteSome, failures_after}
 use Rattle.lsp_verdict.specs.RunIo.{sink_failures_after}
 use Rattle.lsp_verdict.specs.Survey.{IsSurvey, all_report, bad_lines, first_verdict, found_line}
 use Rattle.lsp_verdict.specs.Survey.{offence_lines, shown_of}
@@ -131,185 +131,156 @@ pub wrote_none : (listing : Listing) (t : Told) → Wrote t t (lines_of listing 
 wrote_none Every t = wrote_nothing t
 wrote_none Causes t = wrote_nothing t
 
+module _ (limits : Bounds) (Begins : List ℕ → List ℕ → Type 0) (start now old mid new : Told)
+    (front : List ℕ) (wrote : Wrote old mid front) where
+  -- reading broke off after this was written
+  pub broke_part : (fault : RunFault) → OfRead limits start now (λ log. Begins log front)
+      → now.failures ≡ failures_after fault start.failures → (fault ≡ faults.Write → ⊥)
+      → PartWritten limits Begins start now old mid fault
+  broke_part fault begins failures unwritten = record {
+    out = front;
+    took = wrote.took;
+    due = begins;
+    source = failures;
+    sink = by_sink old mid fault wrote.failures unwritten;
+  }
+
+  -- not all of what is due next was written
+  pub failed_part : (more : List ℕ) (fault : RunFault) → ((out left : List ℕ)
+      → front ++ more ≡ out ++ left → OfRead limits start now (λ log. Begins log out))
+      → now.failures ≡ start.failures → TellsSome mid new more (Err fault)
+      → PartWritten limits Begins start now old new fault
+  failed_part more faults.Write begins failures told = record {
+    out = front ++ told.front;
+    took = took_then old mid new front told.front wrote.took told.took;
+    due = begins (front ++ told.front) told.back
+        (ap (λ l. front ++ l) told.whole ∙ sym (append_assoc front told.front told.back));
+    source = failures;
+    sink = told.failures ∙ ap after_failure wrote.failures;
+  }
+  failed_part more faults.Memory begins failures told = record {
+    out = front ++ told.front;
+    took = took_then old mid new front told.front wrote.took told.wrote.took;
+    due = begins (front ++ told.front) told.back
+        (ap (λ l. front ++ l) told.whole ∙ sym (append_assoc front told.front told.back));
+    source = failures;
+    sink = told.wrote.failures ∙ wrote.failures;
+  }
+  failed_part more faults.Read begins failures told = absurd told
+
+-- where nothing is written, a front is
+pub tells_some : (old new : Told) (bytes : List ℕ) (fault : RunFault)
+    → Tells old new bytes (Err fault) → TellsSome old new bytes (Err fault)
+tells_some old new bytes faults.Write told = told
+tells_some old new bytes faults.Memory told = record {
+  front = [];
+  back = bytes;
+  whole = refl;
+  wrote = subst (λ (t : Told). Wrote old t []) (sym told) (wrote_nothing old);
+}
+tells_some old new bytes faults.Read told = absurd told
+
+-- a front of these bytes begins more
+pub some_before : (old new : Told) (xs ys : List ℕ) (fault : RunFault)
+    → TellsSome old new xs (Err fault) → TellsSome old new (xs ++ ys) (Err fault)
+some_before old new xs ys faults.Write told = stopped_before old new xs ys told
+some_before old new xs ys faults.Memory told = record {
+  front = told.front;
+  back = told.back ++ ys;
+  whole = ap (λ l. l ++ ys) told.whole ∙ append_assoc told.front told.back ys;
+  wrote = told.wrote;
+}
+some_before old new xs ys faults.Read told = absurd told
+
+-- the lines of more offences were written
+pub more_wrote : (listing : Listing) (old mid new : Told) (found more : List Offence)
+    → Wrote old mid (lines_of listing found) → Wrote mid new (lines_of listing more)
+    → Wrote old new (lines_of listing (found ++ more))
+more_wrote listing old mid new found more wrote lines =
+    subst (Wrote old new) (sym (lines_append listing found more))
+    (wrote_then old mid new (lines_of listing found) (lines_of listing more) wrote lines)
+
 module _ (completeness : Completeness) (limits : Bounds) (listing : Listing)
     (start now old mid new : Told) (found : List Offence)
     (wrote : Wrote old mid (lines_of listing found)) where
+  abbrev Begins : List ℕ → List ℕ → Type 0
+  Begins = BeginsReported completeness limits listing
+
   -- the log was not read to its end
   pub broke_listing : (fault : RunFault) → BrokeOff completeness limits start now found fault
-      → PartReported completeness limits listing start now old mid fault
-  broke_listing fault broke = record {
-    out = lines_of listing found;
-    took = wrote.took;
-    due = read_map limits start now (BeginsSurvey completeness limits found)
-        (λ log. BeginsReported completeness limits listing log (lines_of listing found))
-        (begins_at completeness limits listing found (lines_of listing found) []
-        (sym (append-nil (lines_of listing found)))) broke.of_read;
-    source = broke.failures;
-    sink = by_sink old mid fault wrote.failures broke.unwritten;
-  }
+      → PartWritten limits Begins start now old mid fault
+  broke_listing fault broke =
+      broke_part limits Begins start now old mid mid (lines_of listing found) wrote fault
+      (read_map limits start now (BeginsSurvey completeness limits found)
+      (λ log. Begins log (lines_of listing found))
+      (begins_at completeness limits listing found (lines_of listing found) []
+      (sym (append-nil (lines_of listing found)))) broke.of_read) broke.failures broke.unwritten
 
-  -- its lines were written
-  pub more_wrote : (more : List Offence) → Wrote mid new (lines_of listing more)
-      → Wrote old new (lines_of listing (found ++ more))
-  more_wrote more lines = subst (Wrote old new) (sym (lines_append listing found more))
-      (wrote_then old mid new (lines_of listing found) (lines_of listing more) wrote lines)
-
-  -- or not all
+  -- the lines of more offences were not all written
   pub lines_failed : (more : List Offence) (fault : RunFault)
       → OfRead limits start now (BeginsSurvey completeness limits (found ++ more))
       → now.failures ≡ start.failures → Tells mid new (lines_of listing more) (Err fault)
-      → PartReported completeness limits listing start now old new fault
-  lines_failed more faults.Write begins failures told =
-      let due : lines_of listing (found ++ more)
-      ≡ (lines_of listing found ++ told.front) ++ told.back =
-      lines_append listing found more ∙ ap (λ l. lines_of listing found ++ l) told.whole
-      ∙ sym (append_assoc (lines_of listing found) told.front told.back) in
-      record {
-        out = lines_of listing found ++ told.front;
-        took = took_then old mid new (lines_of listing found) told.front wrote.took told.took;
-        due = read_map limits start now (BeginsSurvey completeness limits (found ++ more))
-            (λ log. BeginsReported completeness limits listing log
-            (lines_of listing found ++ told.front))
-            (begins_at completeness limits listing (found ++ more)
-            (lines_of listing found ++ told.front) told.back due) begins;
-        source = failures;
-        sink = told.failures ∙ ap after_failure wrote.failures;
-      }
-  lines_failed more faults.Memory begins failures told = record {
-    out = lines_of listing found;
-    took = subst (λ (t : Told). Took old t (lines_of listing found)) (sym told) wrote.took;
-    due = read_map limits start now (BeginsSurvey completeness limits (found ++ more))
-        (λ log. BeginsReported completeness limits listing log (lines_of listing found))
-        (begins_at completeness limits listing (found ++ more) (lines_of listing found)
-        (lines_of listing more) (lines_append listing found more)) begins;
-    source = failures;
-    sink = ap (λ (t : Told). t.failures) told ∙ wrote.failures;
-  }
-  lines_failed more faults.Read begins failures told = absurd told
-
-  -- the same of several offences
-  pub some_failed : (more : List Offence) (fault : RunFault)
-      → OfRead limits start now (BeginsSurvey completeness limits (found ++ more))
-      → now.failures ≡ start.failures → TellsSome mid new (lines_of listing more) (Err fault)
-      → PartReported completeness limits listing start now old new fault
-  some_failed more faults.Write begins failures told =
-      lines_failed more faults.Write begins failures told
-  some_failed more faults.Memory begins failures told =
-      let due : lines_of listing (found ++ more)
-      ≡ (lines_of listing found ++ told.front) ++ told.back =
-      lines_append listing found more ∙ ap (λ l. lines_of listing found ++ l) told.whole
-      ∙ sym (append_assoc (lines_of listing found) told.front told.back) in
-      record {
-        out = lines_of listing found ++ told.front;
-        took = took_then old mid new (lines_of listing found) told.front wrote.took told.wrote.took;
-        due = read_map limits start now (BeginsSurvey completeness limits (found ++ more))
-            (λ log. BeginsReported completeness limits listing log
-            (lines_of listing found ++ told.front))
-            (begins_at completeness limits listing (found ++ more)
-            (lines_of listing found ++ told.front) told.back due) begins;
-        source = failures;
-        sink = told.wrote.failures ∙ wrote.failures;
-      }
-  some_failed more faults.Read begins failures told = absurd told
+      → PartWritten limits Begins start now old new fault
+  lines_failed more fault begins failures told =
+      failed_part limits Begins start now old mid new (lines_of listing found) wrote
+      (lines_of listing more) fault
+      (λ out left whole. read_map limits start now
+      (BeginsSurvey completeness limits (found ++ more)) (λ log. Begins log out)
+      (begins_at completeness limits listing (found ++ more) out left
+      (lines_append listing found more ∙ whole)) begins) failures
+      (tells_some mid new (lines_of listing more) fault told)
 
 -- ---- the end
 
--- a survey begins with itself
-whole_begins : (completeness : Completeness) (limits : Bounds) (found : List Offence)
-    (bad : Option Verdict) (s : Summary) (log : List ℕ)
-    → IsSurvey completeness limits log found bad s → BeginsSurvey completeness limits found log
-whole_begins completeness limits found bad s log is = (
-  [],
-  bad,
-  s,
-  subst (λ (l : List Offence). IsSurvey completeness limits log l bad s)
-      (sym (append-nil found)) is,
-)
-
-pub ended_begins : (completeness : Completeness) (limits : Bounds) (start now : Told)
-    (found : List Offence) (bad : Option Verdict) (s : Summary)
-    → OfRead limits start now (λ log. IsSurvey completeness limits log found bad s)
-    → OfRead limits start now (BeginsSurvey completeness limits found)
-ended_begins completeness limits start now found bad s is =
-    read_map limits start now (λ log. IsSurvey completeness limits log found bad s)
-    (BeginsSurvey completeness limits found)
-    (λ log p. whole_begins completeness limits found bad s log p) is
-
+-- the report is whole, or a front of it is
 module _ (completeness : Completeness) (limits : Bounds) (listing : Listing)
-    (start now old mid new : Told) (found : List Offence) (bad : Option Verdict) (s : Summary)
-    (is : OfRead limits start now (λ log. IsSurvey completeness limits log found bad s))
+    (start now old mid new : Told) (found ends : List Offence) (bad : Option Verdict) (s : Summary)
+    (is : OfRead limits start now (λ log. IsSurvey completeness limits log (found ++ ends) bad s))
     (failures : now.failures ≡ start.failures)
     (wrote : Wrote old mid (lines_of listing found)) where
-  -- all was written
-  pub closed : (v : Verdict) (text : List ℕ) → text ≡ closing found bad s
-      → v ≡ first_verdict found bad s → Wrote mid new text
-      → AllReported completeness limits listing start now old new v
-  closed v text text_is v_is last = record {
-    out = lines_of listing found ++ text;
-    wrote = wrote_then old mid new (lines_of listing found) text wrote last;
-    due = read_map limits start now (λ log. IsSurvey completeness limits log found bad s)
-        (λ log. IsReported completeness limits listing log v (lines_of listing found ++ text))
+  abbrev all : List Offence
+  all = found ++ ends
+
+  whole_is : all_report (is_every listing) all bad s
+      ≡ lines_of listing found ++ end_lines listing found ends bad s
+  whole_is = report_is listing all bad s
+      ∙ ap (λ l. l ++ closing all bad s) (lines_append listing found ends)
+      ∙ append_assoc (lines_of listing found) (lines_of listing ends) (closing all bad s)
+
+  pub reported : (result : Result verdicts.Verdict RunFault)
+      → Closes listing found ends bad s mid new result
+      → Reports completeness limits listing start now old new result
+  reported (Ok v) (last, is_first) = record {
+    out = lines_of listing found ++ end_lines listing found ends bad s;
+    wrote = wrote_then old mid new (lines_of listing found) (end_lines listing found ends bad s)
+        wrote last;
+    due = read_map limits start now (λ log. IsSurvey completeness limits log all bad s)
+        (λ log. IsReported completeness limits listing log (verdict_view v)
+        (lines_of listing found ++ end_lines listing found ends bad s))
         (λ log p. record {
-          found = found;
+          found = all;
           bad = bad;
           s = s;
           survey = p;
-          written = ap (λ l. lines_of listing found ++ l) text_is
-              ∙ sym (report_is listing found bad s);
-          comes_to = v_is;
+          written = sym whole_is;
+          comes_to = is_first;
         }) is;
     failures = failures;
   }
-
-  -- the closing lines were not
-  pub close_failed : (text : List ℕ) → text ≡ closing found bad s → Stopped mid new text
-      → PartReported completeness limits listing start now old new faults.Write
-  close_failed text text_is stopped = record {
-    out = lines_of listing found ++ stopped.front;
-    took = took_then old mid new (lines_of listing found) stopped.front wrote.took stopped.took;
-    due = read_map limits start now (λ log. IsSurvey completeness limits log found bad s)
-        (λ log. BeginsReported completeness limits listing log
-        (lines_of listing found ++ stopped.front))
-        (λ log p. (
-          first_verdict found bad s,
-          stopped.back,
-          record {
-            found = found;
-            bad = bad;
-            s = s;
-            survey = p;
-            written = append_assoc (lines_of listing found) stopped.front stopped.back
-                ∙ ap (λ l. lines_of listing found ++ l) (sym stopped.whole ∙ text_is)
-                ∙ sym (report_is listing found bad s);
-            comes_to = refl;
-          },
-        )) is;
-    source = failures;
-    sink = stopped.failures ∙ ap after_failure wrote.failures;
-  }
-
-  -- memory was refused for them
-  pub close_refused : PartReported completeness limits listing start now old mid faults.Memory
-  close_refused = record {
-    out = lines_of listing found;
-    took = wrote.took;
-    due = read_map limits start now (λ log. IsSurvey completeness limits log found bad s)
-        (λ log. BeginsReported completeness limits listing log (lines_of listing found))
-        (λ log p. (
-          first_verdict found bad s,
-          closing found bad s,
-          record {
-            found = found;
-            bad = bad;
-            s = s;
-            survey = p;
-            written = sym (report_is listing found bad s);
-            comes_to = refl;
-          },
-        )) is;
-    source = failures;
-    sink = wrote.failures;
-  }
+  reported (Err fault) told =
+      failed_part limits (BeginsReported completeness limits listing) start now old mid new
+      (lines_of listing found) wrote (end_lines listing found ends bad s) fault
+      (λ out left whole. read_map limits start now
+      (λ log. IsSurvey completeness limits log all bad s)
+      (λ log. BeginsReported completeness limits listing log out)
+      (λ log p. (first_verdict all bad s, left, record {
+        found = all;
+        bad = bad;
+        s = s;
+        survey = p;
+        written = sym (whole_is ∙ whole);
+        comes_to = refl;
+      })) is) failures told
 
 -- ---- the tally
 

@@ -1,44 +1,88 @@
--- What `show --all` writes: in the order of the events, a line for each that is kept and the two
--- lines of each that offends; and then what `check --every` writes at its end.
-use Rattle.std.specs.Prelude.{◌≡◌, ℕ, List, ◌++◌, Option, map, option_map, Result}
+-- What is due where all events of a log are shown, and what the steps of the run write.
+use Rattle.std.specs.Prelude.{◌≡◌, ℕ, List, [], ◌∷◌, ◌++◌, map, Bool, true, false, Option, option_map}
+use Rattle.std.specs.Prelude.{Some, None, Result, Ok, Err, filter}
 use Rattle.std.specs.List.{flat_map}
 use Rattle.std.specs.Option.{option_or}
 use Rattle.lsp_docs.specs.Terms.{Terms}
-use Rattle.lsp_frame.specs.Bounds.{Bounds}
-use Rattle.lsp_survey.specs.Reported.{closing}
+use Rattle.lsp_frame.specs.Bounds.{Bounds, IsInRange}
+use Rattle.lsp_frame.specs.Sink.{Wrote}
+use Rattle.lsp_frame.specs.Told.{Told}
+use Rattle.lsp_frame.specs.declared.format.Format.{Format}
+use Rattle.lsp_log.specs.Log.{Record}
+use Rattle.lsp_replay.specs.LogEvents.{HasGiven}
+use Rattle.lsp_survey.specs.Reads.{BrokeOff, Ended, GaveEvent}
+use Rattle.lsp_survey.specs.Reported.{IsReported, IsTally, PartWritten, WritesReport, closing}
+use Rattle.lsp_survey.specs.Reported.{lines_of}
+use Rattle.lsp_survey.specs.Walking.{IsLine}
+use Rattle.lsp_survey.specs.declared.offence_count.OffenceCount.{OffenceCount}
+use Rattle.lsp_survey.specs.declared.offending.Judged.{Judged}
+use Rattle.lsp_survey.specs.declared.offending.Judged.TheVariants as heard
+use Rattle.lsp_survey.specs.declared.survey_reader.NextJudged.{NextJudged}
+use Rattle.lsp_survey.specs.declared.survey_reader.NextJudged.TheVariants as next
+use Rattle.lsp_survey.specs.declared.survey_reader.SurveyEnd.{SurveyEnd}
+use Rattle.lsp_survey.specs.declared.survey_reader.SurveyReader.{SurveyReader}
+use Rattle.lsp_verdict.specs.Given.{offence_view}
 use Rattle.lsp_verdict.specs.LookBack.{each_of}
 use Rattle.lsp_verdict.specs.Offences.{Noted, Offence, events_of, offence_at}
 use Rattle.lsp_verdict.specs.Outcome.{IsVerdict, ending, log_terms}
+use Rattle.lsp_verdict.specs.Placed.{Raw}
 use Rattle.lsp_verdict.specs.Ports.{Ports}
+use Rattle.lsp_verdict.specs.RunIo.{OfRead}
 use Rattle.lsp_verdict.specs.Runs.{Judges}
 use Rattle.lsp_verdict.specs.Shown.{line_at}
 use Rattle.lsp_verdict.specs.Survey.{IsSurvey, by_itself, ends_listed, first_verdict, offence_lines}
-use Rattle.lsp_verdict.specs.Verdict.{Summary, Verdict}
+use Rattle.lsp_verdict.specs.Verdict.{Ending, Summary, Verdict}
+use Rattle.lsp_verdict.specs.declared.completeness.Completeness.{Completeness}
 use Rattle.lsp_verdict.specs.declared.completeness.Completeness.TheVariants.{Ignored}
 use Rattle.lsp_verdict.specs.declared.lines.Lines.{Lines}
+use Rattle.lsp_verdict.specs.declared.listing.Listing.TheVariants.{Every}
 use Rattle.lsp_verdict.specs.declared.outcome.Outcome.{Outcome}
 use Rattle.lsp_verdict.specs.declared.outcome.RunFault.{RunFault}
+use Rattle.lsp_verdict.specs.declared.verdict.Verdict as code
 
--- what is shown of an event after these: the lines of its offence, or its own line
-abbrev pub shown_at : Lines → Terms → List Noted → Noted → Option (List ℕ)
+-- ---- a log
+
+-- a piece of what is shown: the line of an event that is kept, or an offence
+pub data Piece : Type 0 where
+  kept_line : List ℕ → Piece
+  offending : Offence → Piece
+
+abbrev pub piece_bytes : Piece → List ℕ
+piece_bytes (kept_line line) = line
+piece_bytes (offending o) = offence_lines o
+
+abbrev pub bytes_of : List Piece → List ℕ
+bytes_of pieces = flat_map piece_bytes pieces
+
+abbrev pub is_offending : Piece → Bool
+is_offending (kept_line line) = false
+is_offending (offending o) = true
+
+-- what is shown of an event after these: its offence, or its line
+abbrev pub shown_at : Lines → Terms → List Noted → Noted → Option Piece
 shown_at lines terms before n =
-    option_or (option_map offence_lines (offence_at terms before n))
-    (line_at lines (events_of before) n.event)
+    option_or (option_map offending (offence_at terms before n))
+    (option_map kept_line (line_at lines (events_of before) n.event))
 
-abbrev pub events_shown : Lines → Terms → List Noted → List ℕ
-events_shown lines terms notes = flat_map (λ shown. shown) (each_of (shown_at lines terms) notes)
+abbrev pub events_shown : Lines → Terms → List Noted → List Piece
+events_shown lines terms notes = each_of (shown_at lines terms) notes
 
--- **these bytes show all events of a log**, and this is the verdict on it
+-- **all that is shown of a session**: its events, and then how it ends
+abbrev pub shown_in : Lines → Terms → List Noted → Ending → List Piece
+shown_in lines terms notes end =
+    events_shown lines terms notes
+    ++ map (λ v. offending (by_itself v)) (ends_listed Ignored terms (events_of notes) end)
+
+-- **these bytes show all events of a log**, and this is the verdict on it: each that is kept by its
+-- line, each that offends by its offence, and then the end of the report
 pub record IsAllShown (lines : Lines) (limits : Bounds) (log : List ℕ) (v : Verdict)
     (out : List ℕ) : Type 0 where
   pub found : List Offence
   pub bad : Option Verdict
   pub s : Summary
   pub survey : IsSurvey Ignored limits log found bad s
-  pub written : out ≡ events_shown lines (log_terms limits survey.format) survey.notes
-      ++ flat_map offence_lines (map by_itself (ends_listed Ignored
-      (log_terms limits survey.format) (events_of survey.notes)
-      (ending survey.log_fault survey.editor survey.server))) ++ closing found bad s
+  pub written : out ≡ bytes_of (shown_in lines (log_terms limits survey.format) survey.notes
+      (ending survey.log_fault survey.editor survey.server)) ++ closing found bad s
   pub comes_to : v ≡ first_verdict found bad s
 
 -- these bytes begin what shows them
@@ -51,3 +95,76 @@ abbrev pub ShowsAll : Lines → Bounds → Ports → Result Outcome RunFault →
 ShowsAll lines limits io result =
     Judges limits io (IsVerdict limits) (IsAllShown lines limits) (BeginsAllShown lines limits)
     result
+
+-- ---- laws
+
+-- **One verdict is shown of a log, and with lines of one kind one output.**
+abbrev pub OneAllShown : Type 0
+OneAllShown = (lines : Lines) (limits : Bounds) → IsInRange limits
+    → (log : List ℕ) (v w : Verdict) (out other : List ℕ) → IsAllShown lines limits log v out
+    → IsAllShown lines limits log w other → (v ≡ w) × (out ≡ other)
+
+-- these bytes show kept events and offences, and the others these offences alone
+abbrev pub LeavesOutLines : List ℕ → List ℕ → Type 0
+LeavesOutLines out other =
+    (pieces : List Piece) × (last : List ℕ) × (out ≡ bytes_of pieces ++ last)
+    × (other ≡ bytes_of (filter is_offending pieces) ++ last)
+
+-- **Without the lines of the kept events, it is the report of every offence**, with its verdict.
+abbrev pub ShowsReport : Type 0
+ShowsReport = (lines : Lines) (limits : Bounds) → IsInRange limits
+    → (log : List ℕ) (v w : Verdict) (out other : List ℕ) → IsAllShown lines limits log v out
+    → IsReported Ignored limits Every log w other → (v ≡ w) × LeavesOutLines out other
+
+-- ---- the next event
+
+-- one more event was heard, and this is its line where it is kept; or the log has ended
+abbrev pub GivesLine : Lines → Completeness → Bounds → SurveyReader → Told → Told → List Raw
+    → List Noted → List Offence → List ℕ → NextJudged → Type 0
+GivesLine lines completeness limits e start now past before found text (next.Event given) =
+    (gave : GaveEvent limits e start now past before found given)
+    × IsLine lines (events_of before) gave.n.event given text
+GivesLine lines completeness limits e start now past before found text (next.End end) =
+    Ended completeness limits e start now past before found end
+
+-- or reading broke off, of a log of this format that has these records first
+abbrev pub PullsLine : Lines → Option Format → List Record → Completeness → Bounds → SurveyReader
+    → Told → Told → List Raw → List Noted → List Offence → List ℕ → Result NextJudged RunFault
+    → Type 0
+PullsLine lines format front completeness limits e start now past before found text (Ok given) =
+    GivesLine lines completeness limits e start now past before found text given
+PullsLine lines format front completeness limits e start now past before found text (Err fault) =
+    BrokeOff completeness limits start now found fault
+    × OfRead limits start now (HasGiven limits format front past)
+
+-- what is written of an event: this line where it is kept, or its offence
+abbrev pub lines_by : List ℕ → Judged → List ℕ
+lines_by text heard.Kept = text
+lines_by text (heard.Offence found) = lines_of Every (offence_view found.offence ∷ [])
+
+-- ---- the run
+
+-- the events were shown up to the log's end
+pub record ShownToEnd (lines : Lines) (limits : Bounds) (e : SurveyReader) (t : OffenceCount)
+    (start now old new : Told) (end : SurveyEnd) : Type 0 where
+  pub past : List Raw
+  pub notes : List Noted
+  pub found : List Offence
+  pub ended : Ended Ignored limits e start now past notes found end
+  pub tally : IsTally t found
+  pub wrote : Wrote old new (bytes_of (events_shown lines e.walk.events.docs.terms notes))
+
+-- all events of the log read were shown, with the verdict on it; or what was written begins that
+abbrev pub ShowsLog : Lines → Bounds → Told → Told → Told → Told → Result code.Verdict RunFault
+    → Type 0
+ShowsLog lines limits start now old new result =
+    WritesReport limits (IsAllShown lines limits) (BeginsAllShown lines limits) start now old new
+    result
+
+-- the events were shown up to the log's end, or what was written begins what is due
+abbrev pub ShowsToEnd : Lines → Bounds → SurveyReader → OffenceCount → Told → Told → Told → Told
+    → Result SurveyEnd RunFault → Type 0
+ShowsToEnd lines limits e t start now old new (Ok end) =
+    ShownToEnd lines limits e t start now old new end
+ShowsToEnd lines limits e t start now old new (Err fault) =
+    PartWritten limits (BeginsAllShown lines limits) start now old new fault

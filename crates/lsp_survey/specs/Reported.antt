@@ -18,7 +18,7 @@ use Rattle.lsp_verdict.specs.Offences.{Noted, Offence}
 use Rattle.lsp_verdict.specs.Placed.{Raw}
 use Rattle.lsp_verdict.specs.Ports.{Ports}
 use Rattle.lsp_verdict.specs.Runs.{Judges}
-use Rattle.lsp_verdict.specs.RunIo.{OfRead, failures_after, sink_failures_after}
+use Rattle.lsp_verdict.specs.RunIo.{OfRead, TellsSome, failures_after, sink_failures_after}
 use Rattle.lsp_verdict.specs.Survey.{IsSurvey, all_report, bad_lines, first_verdict, found_line}
 use Rattle.lsp_verdict.specs.Survey.{offence_lines, shown_of}
 use Rattle.lsp_verdict.specs.Report.{report}
@@ -77,29 +77,36 @@ pub record IsTally (t : OffenceCount) (found : List Offence) : Type 0 where
   pub all : t.found ≡ capped (length found)
   pub following : t.following ≡ capped (length (filter (λ (o : Offence). o.follows) found))
 
--- the report of the log read was written, with the verdict on it
-pub record AllReported (completeness : Completeness) (limits : Bounds) (listing : Listing)
+-- what is due for the log read and this verdict was written
+pub record AllWritten (limits : Bounds) (IsDue : List ℕ → Verdict → List ℕ → Type 0)
     (start now old new : Told) (v : Verdict) : Type 0 where
   pub out : List ℕ
   pub wrote : Wrote old new out
-  pub due : OfRead limits start now (λ log. IsReported completeness limits listing log v out)
+  pub due : OfRead limits start now (λ log. IsDue log v out)
   pub failures : now.failures ≡ start.failures
 
--- this was written of it, and then a fault met
-pub record PartReported (completeness : Completeness) (limits : Bounds) (listing : Listing)
+-- this was written, which begins what is due for it, and then a fault met
+pub record PartWritten (limits : Bounds) (Begins : List ℕ → List ℕ → Type 0)
     (start now old new : Told) (fault : RunFault) : Type 0 where
   pub out : List ℕ
   pub took : Took old new out
-  pub due : OfRead limits start now (λ log. BeginsReported completeness limits listing log out)
+  pub due : OfRead limits start now (λ log. Begins log out)
   pub source : now.failures ≡ failures_after fault start.failures
   pub sink : new.failures ≡ sink_failures_after fault old.failures
 
+abbrev pub WritesReport : Bounds → (List ℕ → Verdict → List ℕ → Type 0)
+    → (List ℕ → List ℕ → Type 0) → Told → Told → Told → Told → Result code.Verdict RunFault
+    → Type 0
+WritesReport limits IsDue Begins start now old new (Ok v) =
+    AllWritten limits IsDue start now old new (verdict_view v)
+WritesReport limits IsDue Begins start now old new (Err fault) =
+    PartWritten limits Begins start now old new fault
+
 abbrev pub Reports : Completeness → Bounds → Listing → Told → Told → Told → Told
     → Result code.Verdict RunFault → Type 0
-Reports completeness limits listing start now old new (Ok v) =
-    AllReported completeness limits listing start now old new (verdict_view v)
-Reports completeness limits listing start now old new (Err fault) =
-    PartReported completeness limits listing start now old new fault
+Reports completeness limits listing start now old new result =
+    WritesReport limits (IsReported completeness limits listing)
+    (BeginsReported completeness limits listing) start now old new result
 
 -- the offences of the events were listed up to the log's end
 pub record Listed (completeness : Completeness) (limits : Bounds) (listing : Listing)
@@ -118,4 +125,18 @@ abbrev pub Lists : Completeness → Bounds → Listing → SurveyReader → Offe
 Lists completeness limits listing e t start now old new (Ok end) =
     Listed completeness limits listing e t start now old new end
 Lists completeness limits listing e t start now old new (Err fault) =
-    PartReported completeness limits listing start now old new fault
+    PartWritten limits (BeginsReported completeness limits listing) start now old new fault
+
+-- what comes after the offences of the events: these of the end are listed, and the report is
+-- closed
+abbrev pub end_lines : Listing → List Offence → List Offence → Option Verdict → Summary → List ℕ
+end_lines listing found ends bad s = lines_of listing ends ++ closing (found ++ ends) bad s
+
+-- it is written, with this verdict; or a front of it
+abbrev pub Closes : Listing → List Offence → List Offence → Option Verdict → Summary → Told → Told
+    → Result code.Verdict RunFault → Type 0
+Closes listing found ends bad s old new (Ok v) =
+    Wrote old new (end_lines listing found ends bad s)
+    × (verdict_view v ≡ first_verdict (found ++ ends) bad s)
+Closes listing found ends bad s old new (Err fault) =
+    TellsSome old new (end_lines listing found ends bad s) (Err fault)

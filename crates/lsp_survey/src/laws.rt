@@ -1,7 +1,18 @@
 //! Laws of what is due for a log, each the contract of a function that does nothing.
+ghost use Rattle.lsp_survey.specs.AllShown.{OneAllShown, ShowsReport};
 ghost use Rattle.lsp_survey.specs.KeptText.{OneKeptText};
 
 /// A log has one answer for the text after a message, past each event that offends.
 pub fn one_kept_text()
     ensures { OneKeptText }
+{}
+
+/// All events of a log are shown in one way, by lines of one kind.
+pub fn one_all_shown()
+    ensures { OneAllShown }
+{}
+
+/// Without the lines of the kept events, what shows all events is the report of every offence.
+pub fn all_shown_is_report()
+    ensures { ShowsReport }
 {}

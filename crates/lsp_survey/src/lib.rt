@@ -21,7 +21,7 @@ mod survey_reader;
 mod text;
 mod walk;
 
-pub use laws::one_kept_text;
+pub use laws::{all_shown_is_report, one_all_shown, one_kept_text};
 pub use lsp_verdict::Listing;
 pub use notes::{
     Closing, DocumentEvent, Marks, Misuse, Misused, Openings, SessionNotes, Setter, Shown, uri_in,

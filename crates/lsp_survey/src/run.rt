@@ -5,11 +5,12 @@ ghost use Rattle.std.specs.Prelude.{IfOk, OnOk};
 ghost use Rattle.lsp_replay.specs.Standing.{Follows};
 ghost use Rattle.lsp_frame.specs.Bounds.{Bounds, IsInRange};
 ghost use Rattle.lsp_frame.specs.Told.{Told};
-ghost use Rattle.lsp_survey.specs.Reads.{IsFresh, SoFar, found_in};
-ghost use Rattle.lsp_survey.specs.Reported.{IsTally, Listed, Lists, SurveysLog};
+ghost use Rattle.lsp_survey.specs.Reads.{Ended, IsFresh, SoFar, found_in};
+ghost use Rattle.lsp_survey.specs.Reported.{Closes, IsTally, Lists, SurveysLog};
 ghost use Rattle.lsp_survey.specs.Reported.{Reports, closing, is_every, lines_of};
 ghost use Rattle.lsp_verdict.specs.Given.{as_given, offence_view, verdict_view};
 ghost use Rattle.lsp_verdict.specs.Offences.{Noted, Offence as SpecOffence, events_of};
+ghost use Rattle.lsp_verdict.specs.Placed.{Raw};
 ghost use Rattle.lsp_verdict.specs.Report.{line};
 ghost use Rattle.lsp_verdict.specs.RunIo.{Tells, TellsSome};
 ghost use Rattle.lsp_verdict.specs.Survey.{bad_lines, first_verdict};
@@ -127,7 +128,7 @@ fn list_events<R: Source, W: Sink>(
 }
 
 /// Lists the offence that an event is, if it is one.
-pub(crate) fn list_heard<W: Sink>(
+fn list_heard<W: Sink>(
     alloc: Global,
     writer: &mut W,
     listing: Listing,
@@ -151,7 +152,7 @@ pub(crate) fn list_heard<W: Sink>(
 
 /// Counts an offence, and writes its lines where it is listed.
 #[inline(never)]
-fn list<W: Sink>(
+pub(crate) fn list<W: Sink>(
     alloc: Global,
     writer: &mut W,
     listing: Listing,
@@ -210,10 +211,14 @@ pub(crate) fn close<W: Sink>(
     tally: &mut OffenceCount,
     end: SurveyEnd,
 ) -> Result<Verdict, RunFault>
-    ensures { (completeness : Completeness) (limits : Bounds) (start now old : Told)
-        → Listed completeness limits listing events.now tally.old start now old
-        (W.told writer.old) end
-        → Reports completeness limits listing start now old (W.told writer.new) result }
+    ensures { (completeness : Completeness) (limits : Bounds) (start now : Told) (past : List Raw)
+        (notes : List Noted) (found : List SpecOffence)
+        → Ended completeness limits events.now start now past notes found end
+        → IsTally tally.old found
+        → Closes listing found (map offence_view end.listed.items)
+        (option_map verdict_view end.bad)
+        (summary events.now.walk.events.docs.terms (events_of notes))
+        (W.told writer.old) (W.told writer.new) result }
 {
     list_each(alloc, writer, listing, tally, end.listed.as_slice())?;
     let closing = closing_of(alloc, events, tally, end.bad)?;

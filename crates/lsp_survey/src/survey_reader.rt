@@ -1,5 +1,5 @@
 //! The events of a log, heard one by one past each that offends, up to its end.
-ghost use Rattle.std.specs.Prelude.{◌≡◌, [], List, IfOk, IfErr, OnErr, option_map};
+ghost use Rattle.std.specs.Prelude.{◌≡◌, [], List, IfOk, IfErr, OnErr, option_map, string_bytes};
 ghost use Rattle.lsp_replay.specs.Standing.{Follows};
 ghost use Rattle.lsp_frame.specs.Bounds.{Bounds};
 ghost use Rattle.lsp_frame.specs.Told.{Told};
@@ -14,13 +14,14 @@ ghost use Rattle.lsp_verdict.specs.Survey.{first_verdict};
 ghost use Rattle.lsp_verdict.specs.Verdict.{summary, yes};
 ghost use Rattle.lsp_survey.specs.Reads.{EndIs, EndsAre, GivesBehind, IsBroken, Pulls, ShowsFront};
 ghost use Rattle.lsp_survey.specs.Reads.{SoFar};
+ghost use Rattle.lsp_survey.specs.AllShown.{PullsLine};
 
 use crate::notes::{Marks, Openings, SessionNotes};
 use crate::offending::Judged;
 use crate::session_end::ends;
 use crate::walk::Replay;
 use lsp_docs::Docs;
-use lsp_frame::{Format, Limits, Sink, Source};
+use lsp_frame::{Format, Limits, Source};
 use lsp_text::Lined;
 use lsp_replay as replay;
 use lsp_replay::{LogEvents, summary_of};
@@ -128,23 +129,29 @@ impl SurveyReader {
         }
     }
 
-    /// Hears the next event of the log, and writes its line where it is kept; or gives the log's
-    /// end, after which there is none.
+    /// Hears the next event as [`next`](SurveyReader::next) does, and makes the text the line of one
+    /// that is kept.
     ///
     /// # Errors
-    /// `Read` where the source failed, `Write` where the sink did, and `Memory` where memory was
-    /// refused.
-    pub(crate) fn show_next<R: Source, W: Sink>(
+    /// Those of `next`.
+    pub(crate) fn show_next<R: Source>(
         &mut self,
         reader: &mut R,
-        writer: &mut W,
         line: &mut String,
         lines: Lines,
-    ) -> Result<NextJudged, RunFault> {
+    ) -> Result<NextJudged, RunFault>
+        ensures completeness { self.new.completeness ≡ self.old.completeness }
+        ensures terms { self.new.walk.events.docs.terms ≡ self.old.walk.events.docs.terms }
+        ensures answer { (limits : Bounds) (start : Told) (past : List Raw) (before : List Noted)
+            (found : List SpecOffence)
+            → (so : SoFar limits self.old start (R.told reader.old) past before found)
+            → PullsLine lines self.old.log.log.format so.records self.old.completeness limits
+            self.new start (R.told reader.new) past before found (string_bytes line.new) result }
+    {
         match self.log.next(reader) {
             Err(fault) => Err(fault),
             Ok(replay::Next::Event(raw)) => {
-                let judged = self.walk.show(self.alloc, raw, writer, line, lines)?;
+                let judged = self.walk.show(self.alloc, raw, line, lines)?;
                 Ok(NextJudged::Event(judged))
             }
             Ok(replay::Next::End(end)) => Ok(NextJudged::End(self.end(end)?)),

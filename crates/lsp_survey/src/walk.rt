@@ -1,8 +1,9 @@
 //! The events of a session, of which those that offend are skipped.
 ghost use Rattle.std.specs.Prelude.{◌≡◌, ◌&&◌, ◌||◌, [], Bool, List, None, Some, false, IfOk, OnOk};
-ghost use Rattle.std.specs.Prelude.{Option, chars, ℕ, ◌==◌};
+ghost use Rattle.std.specs.Prelude.{Option, chars, ℕ, ◌==◌, ◌++◌, ◌∷◌, ◌<◌, ◌^◌, length, string_bytes};
 ghost use Rattle.lsp_docs.specs.Calls.{shows};
 ghost use Rattle.lsp_docs.specs.Terms.{terms_of};
+ghost use Rattle.lsp_replay.specs.Lines.{IsHeard};
 ghost use Rattle.lsp_replay.specs.Standing.{Holds};
 ghost use Rattle.lsp_rpc.specs.Message.{Message as AMessage};
 ghost use Rattle.lsp_rpc.specs.View.{act_view, message_view};
@@ -13,6 +14,7 @@ ghost use Rattle.lsp_verdict.specs.Given.{given_offence, offence_view};
 ghost use Rattle.lsp_verdict.specs.Offences.{IsReading, Noted, breaks_handshake, events_of};
 ghost use Rattle.lsp_verdict.specs.Offences.{follows_bytes, is_handshake_lost, may_answer};
 ghost use Rattle.lsp_verdict.specs.Offences.{follows_passed, wants_handshake, wants_text};
+ghost use Rattle.lsp_verdict.specs.Placed.{Reads};
 ghost use Rattle.lsp_verdict.specs.Verdict as spec;
 ghost use Rattle.lsp_survey.specs.Marking.{number_next};
 ghost use Rattle.lsp_session.specs.Sent.{other_side, response_id};
@@ -21,8 +23,8 @@ ghost use Rattle.lsp_survey.specs.Sides.{sides_failed};
 ghost use Rattle.lsp_types.specs.declared.rules.TheConstants as rules;
 ghost use Rattle.lsp_verdict.specs.Lent.{raw_view};
 ghost use Rattle.lsp_survey.specs.Ending.{lack_by};
-ghost use Rattle.lsp_survey.specs.Walking.{Counted, Hears, IsMessageOf, IsRefused, IsShown};
-ghost use Rattle.lsp_survey.specs.Walking.{IsUnread, NotesKept, NotesMessage, PassesOver, Walks};
+ghost use Rattle.lsp_survey.specs.Walking.{Counted, Hears, IsLine, IsMessageOf, IsOffence, IsRefused};
+ghost use Rattle.lsp_survey.specs.Walking.{IsShown, IsUnread, NotesKept, NotesMessage, PassesOver, Walks};
 ghost use Rattle.lsp_survey.specs.Walking.{offence_of};
 
 use crate::notes::{
@@ -31,13 +33,13 @@ use crate::notes::{
     wants_handshake, wants_text,
 };
 use crate::offending::{FoundOffence, Judged, OffendingEvent};
-use lsp_frame::{Format, Limits, Sink};
+use lsp_frame::{Format, Limits};
 use lsp_text::Lined;
 use lsp_replay as replay;
-use lsp_replay::{EventPlace, Events, Refused, write_event_line};
+use lsp_replay::{EventPlace, Events, Refused, fill_event_line};
 use lsp_rpc::{Memory, Message, Side, Spoken};
 use lsp_types::rules;
-use lsp_verdict::{Completeness, Counts, Lines, Offence, Raw, RunFault, Who, who_of};
+use lsp_verdict::{Completeness, Counts, Lines, Offence, Raw, Who, who_of};
 use std::alloc::Global;
 
 /// The result of the events of a session, where each that offends is skipped.
@@ -92,24 +94,27 @@ impl Replay {
         }
     }
 
-    /// Hears the next event, and writes its line where it is kept.
-    pub(crate) fn show<W: Sink>(
+    /// Hears the next event as [`hear`](Replay::hear) does, and makes the text the line of one that
+    /// is kept.
+    pub(crate) fn show(
         &mut self,
         alloc: Global,
         raw: Raw<'_>,
-        writer: &mut W,
         line: &mut String,
         lines: Lines,
-    ) -> Result<Judged, RunFault> {
+    ) -> Result<Judged, Memory>
+        ensures terms { self.new.events.docs.terms ≡ self.old.events.docs.terms }
+        ensures heard { IfOk result (λ heard. (before : List Noted) → Walks self.old before
+            → Hears (raw_view raw.entry) self.old.events.docs.terms self.new before heard) }
+        ensures line { IfOk result (λ heard. (before : List Noted) (event : Event)
+            → Walks self.old before → Reads (raw_view raw.entry) event
+            → length (events_of before ++ event ∷ []) < 2 ^ 64
+            → IsLine lines (events_of before) event heard (string_bytes line.new)) }
+    {
         let number = number_next(&self.events.counts);
         match self.events.hear(raw) {
-            Ok(kept) => {
-                self.note(number, &kept)?;
-                let place = EventPlace::of(&self.events.counts, &kept);
-                write_event_line(alloc, writer, line, lines, place, kept)?;
-                Ok(Judged::Kept)
-            }
-            Err(refused) => Ok(self.pass_over(alloc, raw, refused)?),
+            Ok(kept) => self.keep_shown(alloc, number, kept, line, lines),
+            Err(refused) => self.pass_over(alloc, raw, refused),
         }
     }
 
@@ -133,6 +138,34 @@ impl Replay {
     {
         let noted = self.note(number, &kept);
         drop(kept);
+        noted?;
+        Ok(Judged::Kept)
+    }
+
+    /// Takes over the event of this number, which was heard and is kept, and makes the text its
+    /// line.
+    fn keep_shown(
+        &mut self,
+        alloc: Global,
+        number: u64,
+        kept: replay::Heard<'_>,
+        line: &mut String,
+        lines: Lines,
+    ) -> Result<Judged, Memory>
+        ensures same { (self.new.events ≡ self.old.events) × (self.new.broken ≡ self.old.broken)
+            × (self.new.passed ≡ self.old.passed) }
+        ensures keeps { IfOk result (λ heard. (heard ≡ Judged.Kept)
+            × NotesKept number kept.entry self.old self.new) }
+        ensures line { IfOk result (λ heard. (before : List Event) (event : Event)
+            → AreCounts self.old.events.counts (before ++ event ∷ [])
+            → IsHeard event kept.entry → length (before ++ event ∷ []) < 2 ^ 64
+            → IsLine lines before event heard (string_bytes line.new)) }
+    {
+        let place = EventPlace::of(&self.events.counts, &kept);
+        let filled = fill_event_line(alloc, line, lines, place, &kept);
+        let noted = self.note(number, &kept);
+        drop(kept);
+        filled?;
         noted?;
         Ok(Judged::Kept)
     }
@@ -177,6 +210,7 @@ impl Replay {
     #[inline(never)]
     fn pass_over(&mut self, alloc: Global, raw: Raw<'_>, refused: Refused) -> Result<Judged, Memory>
         ensures terms { self.new.events.docs.terms ≡ self.old.events.docs.terms }
+        ensures offends { IfOk result IsOffence }
         ensures heard { IfOk result (λ heard. (before : List Noted) → Walks self.old before
             → IsRefused (raw_view raw.entry) self.old.events.docs.terms before refused
             → Hears (raw_view raw.entry) self.old.events.docs.terms self.new before heard) }
@@ -191,6 +225,7 @@ impl Replay {
     /// Skips the event that breaks this rule, and of which no message is known.
     fn refuse_raw(&mut self, alloc: Global, rule: u16, raw: Raw<'_>) -> Result<Judged, Memory>
         ensures terms { self.new.events.docs.terms ≡ self.old.events.docs.terms }
+        ensures offends { IfOk result IsOffence }
         ensures heard { IfOk result (λ heard. (before : List Noted) → Walks self.old before
             → IsRefused (raw_view raw.entry) self.old.events.docs.terms before (Refused.Rule rule)
             → Hears (raw_view raw.entry) self.old.events.docs.terms self.new before heard) }
@@ -207,6 +242,7 @@ impl Replay {
     /// Skips a fault of the frames of a side.
     fn refuse_frames(&mut self, side: Side, rule: u16) -> Judged
         ensures terms { self.new.events.docs.terms ≡ self.old.events.docs.terms }
+        ensures offends { IsOffence result }
         ensures passes { PassesOver self.old self.new (spec.who_of side) rule None
             (λ enc kind. None) (λ event. event ≡ fault side rule)
             (λ what. what ≡ OffendingEvent.Frames side) result }
@@ -221,6 +257,7 @@ impl Replay {
     /// Skips a message that offends by this rule.
     fn refuse_message(&mut self, side: Side, rule: u16, spoken: Spoken) -> Result<Judged, Memory>
         ensures terms { self.new.events.docs.terms ≡ self.old.events.docs.terms }
+        ensures offends { IfOk result IsOffence }
         ensures passes { IfOk result
             (PassesOver self.old self.new (spec.who_of side) rule None
             (λ enc kind. call_of enc kind (act_view spoken.act))
@@ -250,6 +287,7 @@ impl Replay {
         content: &[u8],
     ) -> Result<Judged, Memory>
         ensures terms { self.new.events.docs.terms ≡ self.old.events.docs.terms }
+        ensures offends { IfOk result IsOffence }
         ensures passes { IfOk result
             (λ heard. (malformed : Option AMessage) × IsReading content.now malformed
             × PassesOver self.old self.new (spec.who_of side) rule malformed
@@ -281,6 +319,7 @@ impl Replay {
         text: &str,
     ) -> Result<Judged, Memory>
         ensures terms { self.new.events.docs.terms ≡ self.old.events.docs.terms }
+        ensures offends { IfOk result IsOffence }
         ensures passes { IfOk result (PassesOver self.old self.new Who.Snapshot rule None
             (λ enc kind. Some (shows uri.now version (chars text.now)))
             (λ event. event ≡ snapshot uri.now version (chars text.now))

@@ -48,8 +48,6 @@ loop-heard-smaller g c =
 pub loop-heard-preserved : goal.loop-heard-preserved
 loop-heard-preserved g c = λ limits start so.
     let inv = c.loop-heard.invariant limits start so in
-    let k = c.args.events.now.completeness in
-    let now = g.R.Source.told c.next.new.reader in
     let gave = rw c.in-Event.is at (c.in_ok-heard.ensures.answer limits start inv.past inv.notes
     inv.found inv.so_far) in
     let listed = c.in_ok-list_heard-in-Event.ensures in
@@ -60,9 +58,9 @@ loop-heard-preserved g c = λ limits start so.
       so_far = gave.so_far;
       same = c.in_ok-heard.ensures.completeness ∙ inv.same;
       tally = listed.tally inv.found inv.tally;
-      wrote = more_wrote k limits c.args.listing start now (g.W.Sink.told c.args.writer.now)
+      wrote = more_wrote c.args.listing (g.W.Sink.told c.args.writer.now)
           (g.W.Sink.told c.loop-heard.writer) (g.W.Sink.told c.list_heard.new.writer) inv.found
-          inv.wrote (found_in c.in-Event.heard) listed.tells;
+          (found_in c.in-Event.heard) inv.wrote listed.tells;
     }
 
 pub returns-in_err-list_heard-in-Event : goal.returns-in_err-list_heard-in-Event
