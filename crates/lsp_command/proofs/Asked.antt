@@ -11,9 +11,10 @@ use Rattle.clap.specs.Words.{ReadsOne, Row, Text, one_of, one_text, rows_of}
 use Rattle.clap.specs.declared.parser.matches.Found.{Found}
 use Rattle.clap.proofs.WalkLemmas.{one_text-rows}
 use Rattle.lsp_verdict.specs.declared.completeness.Completeness.{Completeness}
-use Rattle.lsp_command.specs.Words.{AsksCheck, AsksExplain, AsksText, GivesNumber, HasTask, IsFlag}
-use Rattle.lsp_command.specs.Words.{NumberIn, check_of, completeness_of, explain_of, listing_of}
-use Rattle.lsp_command.specs.Words.{text_of}
+use Rattle.lsp_verdict.specs.declared.lines.Lines.{Lines}
+use Rattle.lsp_command.specs.Words.{AsksCheck, AsksExplain, AsksShow, AsksText, GivesNumber}
+use Rattle.lsp_command.specs.Words.{HasTask, IsFlag, NumberIn, check_of, completeness_of}
+use Rattle.lsp_command.specs.Words.{explain_of, listing_of, show_of, text_of}
 use Rattle.lsp_command.specs.declared.command_line.task.Task.{Task}
 use Rattle.lsp_command.specs.declared.command_line.task.Task.TheVariants as tasks
 
@@ -98,6 +99,11 @@ pub asks_explain : (rows : List Row) (complete all : Bool) → IsFlag (one_of (c
 asks_explain rows complete true a b = record { command = refl; arguments = asked_explain rows complete true a b }
 asks_explain rows complete false a b = record { command = refl; arguments = asked_explain rows complete false a b }
 
+pub asks_show : (rows : List Row) (lines : Lines) (all : Bool) → AsksShow rows lines all
+    → HasTask (codes "show") rows (show_of lines all)
+asks_show rows lines true asked = record { command = refl; arguments = asked }
+asks_show rows lines false asked = record { command = refl; arguments = asked }
+
 pub asks_text : (rows : List Row) (number : NonZeroU64) (uri : Bor Text) (all : Bool)
     → AsksText rows number uri all → HasTask (codes "text") rows (text_of number uri all)
 asks_text rows number uri true asked = record { command = refl; arguments = asked }
@@ -115,6 +121,7 @@ no_text rows none (tasks.Survey a b) h = apart _ _ refl h.command
 no_text rows none (tasks.Explain a) h = apart _ _ refl h.command
 no_text rows none (tasks.ExplainAll a) h = apart _ _ refl h.command
 no_text rows none (tasks.Show a) h = apart _ _ refl h.command
+no_text rows none (tasks.ShowAll a) h = apart _ _ refl h.command
 no_text rows none (tasks.Text number uri) h = none number uri false h.arguments
 no_text rows none (tasks.TextAll number uri) h = none number uri true h.arguments
 no_text rows none (tasks.Event number) h = apart _ _ refl h.command
@@ -128,6 +135,7 @@ no_event rows none (tasks.Survey a b) h = apart _ _ refl h.command
 no_event rows none (tasks.Explain a) h = apart _ _ refl h.command
 no_event rows none (tasks.ExplainAll a) h = apart _ _ refl h.command
 no_event rows none (tasks.Show a) h = apart _ _ refl h.command
+no_event rows none (tasks.ShowAll a) h = apart _ _ refl h.command
 no_event rows none (tasks.Text number uri) h = apart _ _ refl h.command
 no_event rows none (tasks.TextAll number uri) h = apart _ _ refl h.command
 no_event rows none (tasks.Event number) h = none (non_zero_u64_get number) h.arguments

@@ -1,5 +1,5 @@
 -- Whether the editor's n-th message was heard: the last event is it, or it has still to come.
-use Rattle.std.proofs.Common.{◌≡◌, ◌+◌, ◌<◌, ◌≤◌, ℕ, Bool, true, false, List, [], ◌∷◌, ◌++◌, length}
+use Rattle.std.proofs.Common.{◌≡◌, ◌<◌, ◌≤◌, ℕ, Bool, true, false, List, [], ◌∷◌, ◌++◌, length}
 use Rattle.std.proofs.Common.{Some, refl, sym, ap, ◌∙◌, arith}
 use Rattle.std.specs.Prelude.{filter, if◌then◌else◌}
 use Rattle.lsp_types.specs.declared.side.Side.TheVariants.{Editor}

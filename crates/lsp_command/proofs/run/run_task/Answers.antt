@@ -119,6 +119,24 @@ returns-in-Show-Long-clause-source_failures g c = run_source _ _ _ _ c.of_run-in
 pub returns-in-Show-Long-clause-sink_failures : goal.returns-in-Show-Long-clause-sink_failures
 returns-in-Show-Long-clause-sink_failures g c = run_sink _ _ _ _ c.of_run-in-Show-Long.ensures c.run_show_long.ensures.showed.counts.sink_failures
 
+pub returns-in-ShowAll-clause-answers : goal.returns-in-ShowAll-clause-answers
+returns-in-ShowAll-clause-answers g c =
+    rw c.in-ShowAll.is (
+      c.run_show_all.result,
+      c.of_run-in-ShowAll.ensures,
+      c.run_show_all.ensures.shown,
+    )
+
+pub returns-in-ShowAll-clause-source_failures : goal.returns-in-ShowAll-clause-source_failures
+returns-in-ShowAll-clause-source_failures g c =
+    run_source _ _ _ _ c.of_run-in-ShowAll.ensures
+    c.run_show_all.ensures.shown.counts.source_failures
+
+pub returns-in-ShowAll-clause-sink_failures : goal.returns-in-ShowAll-clause-sink_failures
+returns-in-ShowAll-clause-sink_failures g c =
+    run_sink _ _ _ _ c.of_run-in-ShowAll.ensures
+    c.run_show_all.ensures.shown.counts.sink_failures
+
 pub returns-in-Text-clause-answers : goal.returns-in-Text-clause-answers
 returns-in-Text-clause-answers g c =
     rw (c.in-Text.is, ← c.get.ensures.value) (
