@@ -65,7 +65,7 @@ same_length [] (n ∷ notes) all = absurd all
 same_length (r ∷ raws) [] all = absurd all
 same_length (r ∷ raws) (n ∷ notes) all = omega (arith, same_length raws notes all.1)
 
-noted_push : (raws : List Raw) (notes : List Noted) (raw : Raw) (n : Noted)
+pub noted_push : (raws : List Raw) (notes : List Noted) (raw : Raw) (n : Noted)
     → AllZip IsNoted raws notes → IsNoted raw n
     → AllZip IsNoted (raws ++ raw ∷ []) (notes ++ n ∷ [])
 noted_push raws notes raw n all is = join_notes raws (raw ∷ []) notes (n ∷ []) all (is, tt)
