@@ -2,5 +2,4 @@
 pub mod Messages
 pub mod Contents
 pub mod Flaws
-pub mod Lines
 pub mod Documents
