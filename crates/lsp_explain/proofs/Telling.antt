@@ -7,7 +7,7 @@ use Rattle.lsp_frame.specs.Told.{Told}
 use Rattle.lsp_log.specs.Log.{Record}
 use Rattle.lsp_types.specs.declared.side.Side.{Side}
 use Rattle.lsp_types.specs.declared.side.Side.TheVariants.{Editor, Server}
-use Rattle.lsp_survey.specs.Places.{place_of}
+use Rattle.lsp_replay.specs.Places.{place_of}
 use Rattle.lsp_survey.specs.Reads.{SoFar, Finds, GaveEvent, HasEnded, IsBroken, ShowsFront}
 use Rattle.lsp_survey.specs.Reads.{found_in}
 use Rattle.lsp_survey.specs.Walking.{IsOffending}

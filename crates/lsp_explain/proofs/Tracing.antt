@@ -13,8 +13,8 @@ use Rattle.lsp_types.specs.declared.side.Side.{Side}
 use Rattle.lsp_verdict.specs.Event.{Event, message}
 use Rattle.lsp_survey.specs.Asking.{numbered}
 use Rattle.lsp_survey.specs.Marking.{Step, agreed, recent}
-use Rattle.lsp_survey.specs.Places.{place_of}
-use Rattle.lsp_survey.specs.declared.notes.place.Place.{Place}
+use Rattle.lsp_replay.specs.Places.{place_of}
+use Rattle.lsp_replay.specs.declared.heard.EventPlace.{EventPlace}
 use Rattle.lsp_facts.specs.Fact.{Fact, fact_view, shown_by}
 use Rattle.lsp_facts.specs.declared.fact.Fact as code
 use Rattle.lsp_facts.specs.MessageFacts.{id_in}
@@ -23,7 +23,7 @@ use Rattle.lsp_explain.specs.Traced.{message_traced, session_trace, traced, with
 use Rattle.lsp_explain.specs.declared.suspects.Until.{Until}
 use Rattle.lsp_facts.proofs.Spoken.{id_in-outline}
 
-module _ (terms : Terms) (before : List Event) (place : Place) (rule : ℕ) (plain : List Fact) where
+module _ (terms : Terms) (before : List Event) (place : EventPlace) (rule : ℕ) (plain : List Fact) where
   -- what is added, where the rule is one on messages or not
   abbrev added : Bool → Side → Message → Act → List Fact
   added b side said act = if b then plain ++ session_trace rule (numbered terms before) side
@@ -45,7 +45,7 @@ module _ (terms : Terms) (before : List Event) (place : Place) (rule : ℕ) (pla
       ids : id_in said ≡ id_in m.message
       ids = id_in-outline said ∙ sym (ap id_in same) ∙ sym (id_in-outline m.message)
 
-      at : Place → Bool → Side → Message → Act → List Fact
+      at : EventPlace → Bool → Side → Message → Act → List Fact
       at p b side said act = if b then plain ++ session_trace rule (numbered terms before) side
           (id_in said) else message_traced terms before p rule (act_call terms before act) plain
 
@@ -56,7 +56,7 @@ module _ (terms : Terms) (before : List Event) (place : Place) (rule : ℕ) (pla
           (act_call terms before (sym means i)) plain
 
 -- the second fact gives way to the same with the event that set the version
-pub second_set : (p : Place) (facts : List code.Fact) (taken put : code.Fact)
+pub second_set : (p : EventPlace) (facts : List code.Fact) (taken put : code.Fact)
     (left now : List code.Fact) → 2 ≤ length facts → taken ≡ get_or facts 1 taken
     → fact_view put ≡ held_by p (fact_view taken) → left ≡ remove facts 1
     → now ≡ insert left 1 put
@@ -69,14 +69,14 @@ second_set p (first ∷ second ∷ facts) taken put left now long at is without 
     (is ∙ ap (λ (f : code.Fact). held_by p (fact_view f)) at)
 
 -- where there is no second fact, they stay
-pub short_stays : (p : Place) (facts : List code.Fact) → length facts < 2
+pub short_stays : (p : EventPlace) (facts : List code.Fact) → length facts < 2
     → map fact_view facts ≡ with_setter (Some p) (map fact_view facts)
 short_stays p [] short = refl
 short_stays p (first ∷ []) short = refl
 short_stays p (first ∷ second ∷ facts) short = absurd (omega arith)
 
 -- under another rule than 702 no snapshot that differs is named
-pub names_no_texts : (done : List Step) (ps qs : List Place) (until : Until) (rule : ℕ)
+pub names_no_texts : (done : List Step) (ps qs : List EventPlace) (until : Until) (rule : ℕ)
     (plain : List Fact) → (rule ≡ 702 → ⊥)
     → document_traced done ps until rule plain ≡ document_traced done qs until rule plain
 names_no_texts done ps qs until rule plain other =

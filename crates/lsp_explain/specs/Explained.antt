@@ -26,7 +26,7 @@ use Rattle.lsp_facts.specs.Lines.{detail_lines, event_line, end_event}
 use Rattle.lsp_explain.specs.Remarks.{remark_lines, remarks_of}
 use Rattle.lsp_explain.specs.Traced.{AreTraced, lack_traced}
 use Rattle.lsp_survey.specs.Asking.{Numbered, numbered}
-use Rattle.lsp_survey.specs.declared.notes.place.Place.{Place}
+use Rattle.lsp_replay.specs.declared.heard.EventPlace.{EventPlace}
 use Rattle.lsp_types.specs.declared.rules.TheConstants as rules
 
 -- ---- an event that offends
@@ -62,7 +62,7 @@ breaches terms heard = each_of (breach_at terms) heard
 -- ---- what is said about it
 
 -- the place of the event of an offence, as it is given
-abbrev pub place_in : code.Offence → Place
+abbrev pub place_in : code.Offence → EventPlace
 place_in o = record { event = o.event; who = o.who; number = o.number }
 
 -- the line of the event of a No

@@ -12,7 +12,7 @@ use Rattle.lsp_survey.specs.declared.notes.misuses.Misuse.{Misuse}
 use Rattle.lsp_survey.specs.declared.notes.misuses.Misuse.TheVariants.{AsRequest, AsNotification}
 use Rattle.lsp_survey.specs.declared.notes.misuses.Misuse.TheVariants.{ByEditor, ByServer}
 use Rattle.lsp_types.specs.declared.position.Encoding.{Encoding}
-use Rattle.lsp_survey.specs.declared.notes.place.Place.{Place}
+use Rattle.lsp_replay.specs.declared.heard.EventPlace.{EventPlace}
 use Rattle.lsp_facts.specs.Lines.{place_words}
 use Rattle.lsp_verdict.specs.Report.{encoding_name, line}
 use Rattle.lsp_verdict.specs.Verdict.{Verdict, yes, no, bad_log}
@@ -22,7 +22,7 @@ use Rattle.lsp_verdict.specs.Verdict.{Verdict, yes, no, bad_log}
 -- snapshot was compared
 pub data Remark : Type 0 where
   calls_wrongly : Misused → Remark
-  exits_abruptly : Place → Remark
+  exits_abruptly : EventPlace → Remark
   names_another : List ℕ → Remark
   compares_nothing : Remark
 
@@ -47,7 +47,7 @@ says_little (bad_log at code) = false
 abbrev pub uncompared : Verdict → List Remark
 uncompared v = if says_little v then compares_nothing ∷ [] else []
 
-abbrev pub exit_remarks : Option Place → List Remark
+abbrev pub exit_remarks : Option EventPlace → List Remark
 exit_remarks exit = option_to_list (option_map exits_abruptly exit)
 
 abbrev pub name_remarks : Option (List ℕ) → List Remark

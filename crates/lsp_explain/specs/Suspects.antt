@@ -7,14 +7,14 @@ use Rattle.lsp_docs.specs.Calls.{Call, opens, changes, closes, saves, shows}
 use Rattle.lsp_survey.specs.Marking.{next_rank, rank_or}
 use Rattle.lsp_survey.specs.declared.notes.mark.Setter.{Setter}
 use Rattle.lsp_survey.specs.declared.notes.mark.Shown.{Shown}
-use Rattle.lsp_survey.specs.declared.notes.place.Place.{Place}
+use Rattle.lsp_replay.specs.declared.heard.EventPlace.{EventPlace}
 use Rattle.lsp_facts.specs.Fact.{Fact, has_suspects, suspects}
 use Rattle.lsp_explain.specs.declared.suspects.Until.{Until}
 use Rattle.lsp_explain.specs.declared.suspects.Until.TheVariants as until
 
 -- by which message the text came about that differs, where a call has this place: the last one that
 -- set a version, the one that set the version of a snapshot, or the call itself
-abbrev pub until_of : Place → Call → Until
+abbrev pub until_of : EventPlace → Call → Until
 until_of p (opens uri number text) = until.Message p number
 until_of p (changes enc kind uri number edits) = until.Message p number
 until_of p (closes uri) = until.Held

@@ -22,10 +22,10 @@ use Rattle.lsp_verdict.specs.Offences.{is_within, kept_of, said_at}
 use Rattle.lsp_survey.specs.Asking.{Numbered, answered, asked, numbered, sents, since}
 use Rattle.lsp_survey.specs.Marking.{Step, agreed, last_setter, recent, steps}
 use Rattle.lsp_survey.specs.Marking.{waiting_for}
-use Rattle.lsp_survey.specs.Places.{place_of}
+use Rattle.lsp_replay.specs.Places.{place_of}
 use Rattle.lsp_survey.specs.declared.notes.mark.Setter.{Setter}
 use Rattle.lsp_survey.specs.declared.notes.mark.Shown.{Shown}
-use Rattle.lsp_survey.specs.declared.notes.place.Place.{Place}
+use Rattle.lsp_replay.specs.declared.heard.EventPlace.{EventPlace}
 use Rattle.lsp_facts.specs.Fact.{Fact, holds, waits, waits_since, holds_by, shown_by, equal_by}
 use Rattle.lsp_facts.specs.Fact.{answered_by, asked_by, led_by, in_phase, opens_as}
 use Rattle.lsp_facts.specs.MessageFacts.{id_in}
@@ -37,18 +37,18 @@ use Rattle.lsp_explain.specs.Twins.{twin}
 use Rattle.lsp_explain.specs.declared.suspects.Until.{Until}
 
 -- a fact on an event, where there is one
-abbrev pub place_facts : (Place → Fact) → Option Place → List Fact
+abbrev pub place_facts : (EventPlace → Fact) → Option EventPlace → List Fact
 place_facts says p = option_to_list (option_map says p)
 
 -- ---- documents
 
 -- the version that is held, with the event that set it; another fact as it is
-abbrev pub held_by : Place → Fact → Fact
+abbrev pub held_by : EventPlace → Fact → Fact
 held_by p (holds number) = holds_by number p
 held_by p fact = fact
 
 -- so the second fact, which says the version
-abbrev pub with_setter : Option Place → List Fact → List Fact
+abbrev pub with_setter : Option EventPlace → List Fact → List Fact
 with_setter (Some p) (uri ∷ held ∷ facts) = uri ∷ held_by p held ∷ facts
 with_setter brought facts = facts
 
@@ -58,7 +58,7 @@ equal_facts (Some shown) = equal_by shown.version shown.place ∷ []
 
 -- the snapshots that differ from the text of a call after these, by their places: of those that
 -- wait for its version the ones with another text, or it is one itself, of this place
-abbrev pub differing : Terms → List Call → List Step → Place → Call → List Place
+abbrev pub differing : Terms → List Call → List Step → EventPlace → Call → List EventPlace
 differing terms before done p (opens uri number text) =
     refuting terms before (opens uri number text) (waiting_for number done)
 differing terms before done p (changes enc kind uri number edits) =
@@ -72,16 +72,16 @@ abbrev pub apart_facts : Option Shown → Until → List Setter → List Fact
 apart_facts equal until done = equal_facts equal ++ suspect_facts equal until done
 
 -- 702: these snapshots; and with 608 this
-abbrev pub texts_traced : List Place → List Fact → ℕ → List Fact
+abbrev pub texts_traced : List EventPlace → List Fact → ℕ → List Fact
 texts_traced snapshots apart rule =
     if rule == rules.SNAPSHOT_DIFFERS then map shown_by snapshots ++ apart
     else (if rule == rules.SAVED_TEXT_DIFFERS then apart else [])
 
 -- the event that set the held version, where these set the last ones
-abbrev pub brought : List Setter → Option Place
+abbrev pub brought : List Setter → Option EventPlace
 brought done = option_map (λ (s : Setter). s.place) (last_setter done)
 
-abbrev pub document_traced : List Step → List Place → Until → ℕ → List Fact → List Fact
+abbrev pub document_traced : List Step → List EventPlace → Until → ℕ → List Fact → List Fact
 document_traced done snapshots until rule plain =
     with_setter (brought (recent done)) plain
     ++ texts_traced snapshots (apart_facts (agreed done) until (recent done)) rule
@@ -93,7 +93,7 @@ act_call terms before act =
     (unwrap_or (sync_kind (sent_in (kept_of terms before))) Nothing) act
 
 -- the facts on a call, the event of this place, that breaks this rule after these events
-abbrev pub call_traced : Terms → List Event → Place → ℕ → Option Call → List Fact → List Fact
+abbrev pub call_traced : Terms → List Event → EventPlace → ℕ → Option Call → List Fact → List Fact
 call_traced terms before p rule None plain = plain
 call_traced terms before p rule (Some call) plain =
     document_traced (steps terms (uri_of call) before)
@@ -101,7 +101,7 @@ call_traced terms before p rule (Some call) plain =
     (until_of p call) rule plain
 
 -- the same of a message, with what is said about a document that is not open
-abbrev pub message_traced : Terms → List Event → Place → ℕ → Option Call → List Fact → List Fact
+abbrev pub message_traced : Terms → List Event → EventPlace → ℕ → Option Call → List Fact → List Fact
 message_traced terms before p rule said plain =
     call_traced terms before p rule said plain ++ unopened_traced terms before rule said
 
@@ -155,7 +155,7 @@ AreTraced AreSaid terms before event rule facts =
 -- ---- sessions that lack something
 
 -- a request of the editor's that waits, and the event that asked it
-abbrev pub request_by : Entry → Option Place → Fact
+abbrev pub request_by : Entry → Option EventPlace → Fact
 request_by e None = waits e.id e.method
 request_by e (Some p) = waits_since e.id e.method p
 

@@ -18,7 +18,7 @@ use Rattle.lsp_survey.specs.Openings.{OnDocument, closing_of, closings, last_on,
 use Rattle.lsp_survey.specs.Openings.{openings}
 use Rattle.lsp_survey.specs.declared.notes.openings.Closing.{Closing}
 use Rattle.lsp_survey.specs.declared.notes.openings.Closing.TheVariants as closing
-use Rattle.lsp_survey.specs.declared.notes.place.Place.{Place}
+use Rattle.lsp_replay.specs.declared.heard.EventPlace.{EventPlace}
 use Rattle.lsp_facts.specs.Fact.{Fact, closed_by, never_opened, similar_to}
 use Rattle.lsp_types.specs.declared.rules.TheConstants as rules
 
@@ -43,7 +43,7 @@ is_similar uri other =
 
 -- ---- the documents that are open
 
-abbrev pub is_at : Place → Option Place → Bool
+abbrev pub is_at : EventPlace → Option EventPlace → Bool
 is_at p None = false
 is_at p (Some other) = p.event == other.event
 

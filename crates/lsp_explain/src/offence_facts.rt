@@ -2,7 +2,7 @@
 ghost use Rattle.std.specs.Prelude.{◌≡◌, ◌++◌, ℕ, List, Some, IfOk, OnOk, string_bytes};
 ghost use Rattle.lsp_docs.specs.Terms.{Terms};
 ghost use Rattle.lsp_survey.specs.Asking.{numbered};
-ghost use Rattle.lsp_survey.specs.Places.{place_of};
+ghost use Rattle.lsp_replay.specs.Places.{place_of};
 ghost use Rattle.lsp_survey.specs.Walking.{IsOffending};
 ghost use Rattle.lsp_verdict.specs.Event.{Event};
 ghost use Rattle.lsp_verdict.specs.Given.{offence_view};
@@ -24,8 +24,9 @@ use lsp_facts::{
     Fact, content_facts, frame_facts, push_bare_event, push_content_event, push_details,
     push_end_event, push_message_event, unfinished_facts, usual,
 };
+use lsp_replay::EventPlace;
 use lsp_rpc::Memory;
-use lsp_survey::{FoundOffence, OffendingEvent, Place, SurveyReader};
+use lsp_survey::{FoundOffence, OffendingEvent, SurveyReader};
 use lsp_types::rules;
 use lsp_verdict::Offence;
 use std::alloc::Global;
@@ -37,7 +38,7 @@ fn facts_of(
     events: &SurveyReader,
     rest: &[u8],
     offending: &OffendingEvent,
-    place: Place,
+    place: EventPlace,
     rule: u16,
 ) -> Result<Vec<Fact>, Memory>
     ensures { IfOk result (λ facts. (raw : Raw) (event : Event) (before : List Event)
@@ -100,10 +101,10 @@ fn push_event(
 }
 
 /// The place of the event of an offence.
-fn place_in(offence: &Offence) -> Place
+fn place_in(offence: &Offence) -> EventPlace
     ensures { result ≡ place_in offence.now }
 {
-    Place {
+    EventPlace {
         event: offence.event,
         who: offence.who,
         number: offence.number,

@@ -13,8 +13,9 @@ ghost use Rattle.lsp_explain.specs.Remarks.{line_if, misuse_line, name_remarks, 
 ghost use Rattle.lsp_explain.specs.Remarks.{remark_line, remark_lines, remarks_of, uncompared};
 ghost use Rattle.lsp_explain.specs.Standing.{StandsAfter, terms_in};
 
+use lsp_replay::EventPlace;
 use lsp_rpc::{Encoding, Memory, push_quoted};
-use lsp_survey::{Misuse, Misused, Place, SurveyReader};
+use lsp_survey::{Misuse, Misused, SurveyReader};
 use lsp_verdict::{Verdict, who_name};
 use std::alloc::Global;
 use std::fmt::Write;
@@ -50,7 +51,7 @@ fn push_all(
     alloc: Global,
     lines: &mut String,
     misuses: &[Misused],
-    exit: Option<Place>,
+    exit: Option<EventPlace>,
     name: Option<&str>,
     verdict: &Verdict,
 ) -> Result<(), Memory>
@@ -82,7 +83,7 @@ fn push_misuse(alloc: Global, lines: &mut String, misused: &Misused) -> Result<(
         ≡ string_bytes lines.old ++ misuse_line (misused_view misused.now)) }
 {
     let name = misuse_name(misused.misuse);
-    let Place { event, who, number } = misused.place;
+    let EventPlace { event, who, number } = misused.place;
     let who = who_name(who);
     write!(lines, "note {name} ")?;
     push_quoted(alloc, lines, misused.method.as_str())?;
@@ -103,12 +104,12 @@ fn misuse_name(misuse: Misuse) -> &'static str
 
 /// Adds the line of an `exit` without `shutdown`, the event of this place, if there is one; how
 /// many lines these are.
-fn push_exit(lines: &mut String, exit: Option<Place>) -> Result<usize, Memory>
+fn push_exit(lines: &mut String, exit: Option<EventPlace>) -> Result<usize, Memory>
     ensures text { OnOk result (string_bytes lines.new
         ≡ string_bytes lines.old ++ line_if (option_map exits_abruptly exit)) }
     ensures count { IfOk result (λ count. count ≡ length (exit_remarks exit)) }
 {
-    let Some(Place { event, who, number }) = exit else {
+    let Some(EventPlace { event, who, number }) = exit else {
         return Ok(0);
     };
     let name = who_name(who);

@@ -6,8 +6,9 @@ ghost use Rattle.lsp_facts.specs.Fact.{facts_view};
 ghost use Rattle.lsp_explain.specs.Suspects as spec;
 
 use lsp_facts::Fact;
+use lsp_replay::EventPlace;
 use lsp_rpc::Memory;
-use lsp_survey::{Place, Setter, Shown};
+use lsp_survey::{Setter, Shown};
 
 /// By which message the text came about that differs.
 #[derive(Clone, Copy, Debug, PartialEq, Eq)]
@@ -17,7 +18,7 @@ pub(crate) enum Until {
     /// The one that set the version of a snapshot.
     Version(i32),
     /// The message itself that offends, the event of this place, which would set this version.
-    Message { place: Place, version: i32 },
+    Message { place: EventPlace, version: i32 },
 }
 
 /// Adds how many messages can have made texts differ, and each of them that is among those that set

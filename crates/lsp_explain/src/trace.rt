@@ -17,7 +17,7 @@ ghost use Rattle.lsp_verdict.specs.declared.verdict.Who.{Who};
 ghost use Rattle.lsp_survey.specs.Asking.{answered, asked, numbered};
 ghost use Rattle.lsp_survey.specs.Marking.{steps, waiting_for};
 ghost use Rattle.lsp_survey.specs.Marks.{AreMarks};
-ghost use Rattle.lsp_survey.specs.Places.{place_next};
+ghost use Rattle.lsp_replay.specs.Places.{place_next};
 ghost use Rattle.lsp_survey.specs.SessionNoting.{AreNotes};
 ghost use Rattle.lsp_facts.specs.EventFacts.{AreCallFacts, AreMessageFacts};
 ghost use Rattle.lsp_facts.specs.Fact.{answered_by, asked_by, fact_view, facts_view, led_by};
@@ -33,9 +33,10 @@ use crate::suspects::{Until, push_suspects};
 use crate::twins::twin_of;
 use crate::unopened::trace_unopened;
 use lsp_facts::{Fact, id_in, message_facts, refuting, shown_facts};
+use lsp_replay::EventPlace;
 use lsp_rpc::{Act, Encoding, Id, Memory, Message, Side, Spoken, copy_id};
 use lsp_session::{OpenRequest, Pending};
-use lsp_survey::{Marks, Place, SessionNotes, Setter, Shown, SurveyReader};
+use lsp_survey::{Marks, SessionNotes, Setter, Shown, SurveyReader};
 use lsp_types::rules;
 use std::alloc::Global;
 
@@ -44,7 +45,7 @@ use std::alloc::Global;
 pub(crate) fn message_traced(
     alloc: Global,
     events: &SurveyReader,
-    place: Place,
+    place: EventPlace,
     side: Side,
     spoken: &Spoken,
     rule: u16,
@@ -69,7 +70,7 @@ pub(crate) fn message_traced(
 pub(crate) fn shown_traced(
     alloc: Global,
     events: &SurveyReader,
-    place: Place,
+    place: EventPlace,
     version: i32,
     uri: &str,
     text: &str,
@@ -97,7 +98,7 @@ fn trace_spoken(
     alloc: Global,
     facts: &mut Vec<Fact>,
     events: &SurveyReader,
-    place: Place,
+    place: EventPlace,
     side: Side,
     spoken: &Spoken,
     rule: u16,
@@ -126,7 +127,7 @@ fn trace_act(
     alloc: Global,
     facts: &mut Vec<Fact>,
     events: &SurveyReader,
-    place: Place,
+    place: EventPlace,
     act: &Act,
     rule: u16,
 ) -> Result<(), Memory>
@@ -172,7 +173,7 @@ fn trace_text(
     alloc: Global,
     facts: &mut Vec<Fact>,
     events: &SurveyReader,
-    place: Place,
+    place: EventPlace,
     act: &Act,
     uri: &str,
     version: i32,
@@ -213,7 +214,7 @@ fn trace_held(facts: &mut Vec<Fact>, marks: &Marks, uri: &str, rule: u16) -> Res
 fn trace_snapshot(
     facts: &mut Vec<Fact>,
     marks: &Marks,
-    place: Place,
+    place: EventPlace,
     version: i32,
     uri: &str,
     rule: u16,
@@ -296,7 +297,7 @@ fn push_open(facts: &mut Vec<Fact>, said: &SessionNotes, side: Side, id: Id) -> 
 }
 
 /// The event that answered a request of this side with the id of a message last.
-fn answered(said: &SessionNotes, side: Side, message: &Message) -> Option<Place>
+fn answered(said: &SessionNotes, side: Side, message: &Message) -> Option<EventPlace>
     ensures { (terms : Terms) (before : List Event) → AreNotes terms said.now before
         → result ≡ option_and_then
         (λ id. answered side id (numbered terms before)) (id_in (message_view message.now)) }
@@ -308,7 +309,7 @@ fn answered(said: &SessionNotes, side: Side, message: &Message) -> Option<Place>
 }
 
 /// The event that asked the open request of this side with the id of a message.
-fn asked(said: &SessionNotes, side: Side, message: &Message) -> Option<Place>
+fn asked(said: &SessionNotes, side: Side, message: &Message) -> Option<EventPlace>
     ensures { (terms : Terms) (before : List Event) → AreNotes terms said.now before
         → result ≡ option_and_then
         (λ id. asked side id (numbered terms before)) (id_in (message_view message.now)) }
@@ -333,7 +334,7 @@ fn trace_document(
     facts: &mut Vec<Fact>,
     marks: &Marks,
     uri: &str,
-    snapshots: &[Place],
+    snapshots: &[EventPlace],
     until: Until,
     rule: u16,
 ) -> Result<(), Memory>
@@ -349,7 +350,7 @@ fn trace_document(
 }
 
 /// The place of the last of these messages, which set the held version.
-fn last_place(setters: &[Setter]) -> Option<Place>
+fn last_place(setters: &[Setter]) -> Option<EventPlace>
     ensures { result ≡ spec.brought setters.now }
 {
     match setters.last() {
@@ -359,7 +360,7 @@ fn last_place(setters: &[Setter]) -> Option<Place>
 }
 
 /// Adds the event that set the held version to that fact.
-fn put_setter(facts: &mut Vec<Fact>, brought: Option<Place>) -> Result<(), Memory>
+fn put_setter(facts: &mut Vec<Fact>, brought: Option<EventPlace>) -> Result<(), Memory>
     ensures { OnOk result (facts_view facts.new.items
         ≡ spec.with_setter brought (facts_view facts.old.items)) }
 {
@@ -373,7 +374,7 @@ fn put_setter(facts: &mut Vec<Fact>, brought: Option<Place>) -> Result<(), Memor
 }
 
 /// Adds the event that set the held version, if the second fact is that version.
-fn set_second(facts: &mut Vec<Fact>, place: Place) -> Result<(), Memory>
+fn set_second(facts: &mut Vec<Fact>, place: EventPlace) -> Result<(), Memory>
     requires { 2 ≤ vec_len facts.old }
     ensures { OnOk result (facts_view facts.new.items
         ≡ spec.with_setter (Some place) (facts_view facts.old.items)) }
@@ -383,7 +384,7 @@ fn set_second(facts: &mut Vec<Fact>, place: Place) -> Result<(), Memory>
 }
 
 /// The version that is held, with the event that set it; another fact as it is.
-fn held_by(fact: Fact, place: Place) -> Fact
+fn held_by(fact: Fact, place: EventPlace) -> Fact
     ensures { fact_view result ≡ spec.held_by place (fact_view fact) }
 {
     if let Fact::Held(version) = fact {
@@ -398,7 +399,7 @@ fn push_texts(
     facts: &mut Vec<Fact>,
     equal: Option<Shown>,
     setters: &[Setter],
-    snapshots: &[Place],
+    snapshots: &[EventPlace],
     until: Until,
     rule: u16,
 ) -> Result<(), Memory>
@@ -429,7 +430,7 @@ fn push_apart(
     push_suspects(facts, equal, until, setters)
 }
 
-fn push_snapshots(facts: &mut Vec<Fact>, snapshots: &[Place]) -> Result<(), Memory>
+fn push_snapshots(facts: &mut Vec<Fact>, snapshots: &[EventPlace]) -> Result<(), Memory>
     ensures { OnOk result (facts_view facts.new.items ≡ facts_view facts.old.items
         ++ map shown_by snapshots.now) }
 {
@@ -449,7 +450,7 @@ fn push_equal(facts: &mut Vec<Fact>, equal: Option<Shown>) -> Result<(), Memory>
     Ok(facts.push(Fact::Equal { version, place })?)
 }
 
-fn push_answered(facts: &mut Vec<Fact>, place: Option<Place>) -> Result<(), Memory>
+fn push_answered(facts: &mut Vec<Fact>, place: Option<EventPlace>) -> Result<(), Memory>
     ensures { OnOk result (facts_view facts.new.items ≡ facts_view facts.old.items
         ++ spec.place_facts answered_by place) }
 {
@@ -459,7 +460,7 @@ fn push_answered(facts: &mut Vec<Fact>, place: Option<Place>) -> Result<(), Memo
     Ok(facts.push(Fact::Answered(place))?)
 }
 
-fn push_asked(facts: &mut Vec<Fact>, place: Option<Place>) -> Result<(), Memory>
+fn push_asked(facts: &mut Vec<Fact>, place: Option<EventPlace>) -> Result<(), Memory>
     ensures { OnOk result (facts_view facts.new.items ≡ facts_view facts.old.items
         ++ spec.place_facts asked_by place) }
 {
@@ -469,7 +470,7 @@ fn push_asked(facts: &mut Vec<Fact>, place: Option<Place>) -> Result<(), Memory>
     Ok(facts.push(Fact::Asked(place))?)
 }
 
-fn push_since(facts: &mut Vec<Fact>, place: Option<Place>) -> Result<(), Memory>
+fn push_since(facts: &mut Vec<Fact>, place: Option<EventPlace>) -> Result<(), Memory>
     ensures { OnOk result (facts_view facts.new.items ≡ facts_view facts.old.items
         ++ spec.place_facts led_by place) }
 {

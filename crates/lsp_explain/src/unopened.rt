@@ -11,8 +11,9 @@ ghost use Rattle.lsp_explain.specs.Traced.{act_call};
 ghost use Rattle.lsp_explain.specs.Unopened as spec;
 
 use lsp_facts::Fact;
+use lsp_replay::EventPlace;
 use lsp_rpc::{Act, Memory};
-use lsp_survey::{Closing, DocumentEvent, Place, SurveyReader, uri_in};
+use lsp_survey::{Closing, DocumentEvent, SurveyReader, uri_in};
 use lsp_types::rules;
 use percent_encoding::percent_decode;
 use std::alloc::Global;
@@ -132,7 +133,7 @@ fn is_standing(events: &SurveyReader, on: &DocumentEvent) -> bool
     events.docs().version_of(uri).is_some() && is_at(on.place, events.openings().opening(uri))
 }
 
-fn is_at(place: Place, other: Option<Place>) -> bool
+fn is_at(place: EventPlace, other: Option<EventPlace>) -> bool
     ensures { result ≡ spec.is_at place other }
 {
     match other {

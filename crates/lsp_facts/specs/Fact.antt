@@ -9,7 +9,7 @@ use Rattle.lsp_types.specs.declared.position.Span.{Span}
 use Rattle.lsp_rpc.specs.Ident.{Ident, id_view}
 use Rattle.lsp_rpc.specs.View.{texts_view}
 use Rattle.lsp_session.specs.declared.phase.Phase.{Phase}
-use Rattle.lsp_survey.specs.declared.notes.place.Place.{Place}
+use Rattle.lsp_replay.specs.declared.heard.EventPlace.{EventPlace}
 use Rattle.lsp_facts.specs.Part.{Part, part_view}
 use Rattle.lsp_facts.specs.declared.fact.Fact as fact
 use Rattle.lsp_facts.specs.declared.fact.Fact.TheVariants as facts
@@ -20,7 +20,7 @@ pub data Fact : Type 0 where
   -- event that set it, the one that was sent, and that of a snapshot
   of_uri : List ℕ → Fact
   holds : ℤ → Fact
-  holds_by : ℤ → Place → Fact
+  holds_by : ℤ → EventPlace → Fact
   sends : ℤ → Fact
   shows_version : ℤ → Fact
   -- how many changes there are, how they are sent, and the one that fails, from 1
@@ -57,25 +57,25 @@ pub data Fact : Type 0 where
   registers : List ℕ → Fact
   -- a request that waits, with its method
   waits : Ident → List ℕ → Fact
-  waits_since : Ident → List ℕ → Place → Fact
+  waits_since : Ident → List ℕ → EventPlace → Fact
   -- the place of a snapshot that differs, and the greatest version that was found equal, with the
   -- place of its snapshot
-  shown_by : Place → Fact
-  equal_by : ℤ → Place → Fact
+  shown_by : EventPlace → Fact
+  equal_by : ℤ → EventPlace → Fact
   -- how many messages can have made texts differ, and one of them, by its version and its place
   has_suspects : ℕ → Fact
-  suspects : ℤ → Place → Fact
+  suspects : ℤ → EventPlace → Fact
   -- the open request whose id is the same but for its type, with the event that asked it
-  opens_as : Ident → Place → Fact
+  opens_as : Ident → EventPlace → Fact
   -- the event that answered a request, that asked one, and that led to the phase
-  answered_by : Place → Fact
-  asked_by : Place → Fact
-  led_by : Place → Fact
+  answered_by : EventPlace → Fact
+  asked_by : EventPlace → Fact
+  led_by : EventPlace → Fact
   -- the event that closed a document, that none opened it, and an open document with a similar URI,
   -- with the event that opened it
-  closed_by : Place → Fact
+  closed_by : EventPlace → Fact
   never_opened : Fact
-  similar_to : List ℕ → Place → Fact
+  similar_to : List ℕ → EventPlace → Fact
   -- the front of a content
   begins : List ℕ → Fact
   -- how many bytes of it come before the place where it breaks, and what is before and after that

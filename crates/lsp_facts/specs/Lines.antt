@@ -17,7 +17,7 @@ use Rattle.lsp_rpc.specs.Reading.{broken_rule, message_in, parts_of}
 use Rattle.lsp_rpc.specs.Words.{id_text, response_id_text, words_of}
 use Rattle.lsp_session.specs.declared.phase.Phase.{Phase}
 use Rattle.lsp_session.specs.declared.phase.Phase.TheVariants as phases
-use Rattle.lsp_survey.specs.declared.notes.place.Place.{Place}
+use Rattle.lsp_replay.specs.declared.heard.EventPlace.{EventPlace}
 use Rattle.lsp_verdict.specs.Placed.{Raw, content, broken, show}
 use Rattle.lsp_verdict.specs.Offences.{is_within}
 use Rattle.lsp_verdict.specs.Report.{line, who_name, encoding_name, kind_name}
@@ -78,16 +78,16 @@ part_line key part =
     else cut_line key part
 
 -- an event: its number, whose it is, and its number among theirs
-abbrev pub place_words : Place → List (List ℕ)
+abbrev pub place_words : EventPlace → List (List ℕ)
 place_words place =
     codes "event" ∷ decimal place.event ∷ who_name place.who ∷ decimal place.number ∷ []
 
 -- an event that is cited
-abbrev pub cited : List ℕ → Place → List ℕ
+abbrev pub cited : List ℕ → EventPlace → List ℕ
 cited key place = line (key ∷ place_words place)
 
 -- a version, and the event that brought it
-abbrev pub version_by : List ℕ → ℤ → Place → List ℕ
+abbrev pub version_by : List ℕ → ℤ → EventPlace → List ℕ
 version_by key number place = line (key ∷ signed_decimal number ∷ place_words place)
 
 -- ---- facts

@@ -12,7 +12,7 @@ use Rattle.lsp_docs.specs.Terms.{Terms}
 use Rattle.lsp_docs.specs.Calls.{Bytes, Call, opens, changes, closes, saves, shows}
 use Rattle.lsp_docs.specs.Documents.{Version, held}
 use Rattle.lsp_docs.specs.Snapshots.{texts_at, waiting, versions_of}
-use Rattle.lsp_survey.specs.declared.notes.place.Place.{Place}
+use Rattle.lsp_replay.specs.declared.heard.EventPlace.{EventPlace}
 
 -- ---- texts
 
@@ -30,7 +30,7 @@ first_other ends t us = find (is_other ends t) us
 
 -- those of the snapshots with another text, where they are given by their places, and these are
 -- their texts in turn
-abbrev pub others_of : LineEnds → Text → List Place → List Text → List Place
+abbrev pub others_of : LineEnds → Text → List EventPlace → List Text → List EventPlace
 others_of ends t (p ∷ ps) (u ∷ us) =
     if is_other ends t u then p ∷ others_of ends t ps us else others_of ends t ps us
 others_of ends t (p ∷ ps) [] = []
@@ -49,7 +49,7 @@ waiting_texts terms before uri number = texts_at number (versions_of uri (waitin
 
 -- **those of the snapshots that wait for the version of a call, given by their places, that have
 -- another text than it brings its document to**
-abbrev pub refuting : Terms → List Call → Call → List Place → List Place
+abbrev pub refuting : Terms → List Call → Call → List EventPlace → List EventPlace
 refuting terms before (opens uri number text) ps =
     others_of terms.line_ends text ps (waiting_texts terms before uri number)
 refuting terms before (changes enc kind uri number edits) ps =

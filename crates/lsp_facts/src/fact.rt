@@ -1,8 +1,8 @@
 //! What an explanation says.
 use crate::part::Excerpt;
+use lsp_replay::EventPlace;
 use lsp_rpc::Id;
 use lsp_session::Phase;
-use lsp_survey::Place;
 use lsp_types::{Encoding, Position, Span, SyncKind};
 
 /// One thing that an explanation says about an offence. Lines and columns are counted from 0,
@@ -17,7 +17,7 @@ pub enum Fact {
     /// The same, and the event that set it.
     HeldBy {
         version: i32,
-        place: Place,
+        place: EventPlace,
     },
     /// The version in the message.
     Sent(i32),
@@ -82,42 +82,42 @@ pub enum Fact {
     RequestBy {
         id: Id,
         method: String,
-        place: Place,
+        place: EventPlace,
     },
     /// A snapshot that has another text.
-    Snapshot(Place),
+    Snapshot(EventPlace),
     /// The greatest version since the document was opened of which a snapshot was found equal, and
     /// the last such snapshot.
     Equal {
         version: i32,
-        place: Place,
+        place: EventPlace,
     },
     /// How many messages can have made the texts differ.
     Suspects(u64),
     /// The version that one of them set, and its event.
     Suspect {
         version: i32,
-        place: Place,
+        place: EventPlace,
     },
     /// The id of an open request that differs in its type alone, and the event that asked it.
     Open {
         id: Id,
-        place: Place,
+        place: EventPlace,
     },
     /// The event that answered a request of this id.
-    Answered(Place),
+    Answered(EventPlace),
     /// The event that asked the open request of this id.
-    Asked(Place),
+    Asked(EventPlace),
     /// The event that led to the phase.
-    Since(Place),
+    Since(EventPlace),
     /// The event that closed the document.
-    Closed(Place),
+    Closed(EventPlace),
     /// No message opened the document.
     NeverOpened,
     /// An open document with a similar URI, and the event that opened it.
     Similar {
         uri: String,
-        place: Place,
+        place: EventPlace,
     },
     /// The front of a content that is not a message.
     Begins(String),

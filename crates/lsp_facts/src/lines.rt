@@ -17,9 +17,9 @@ ghost use Rattle.lsp_facts.specs.Part.{part_view};
 
 use crate::fact::Fact;
 use crate::part::Excerpt;
+use lsp_replay::EventPlace;
 use lsp_rpc::{Id, Memory, Message, RpcFault, push_id, push_quoted, read, words_of};
 use lsp_session::Phase;
-use lsp_survey::Place;
 use lsp_types::{Encoding, Position, Span, SyncKind, rules};
 use lsp_verdict::{Who, kind_name, who_name};
 use std::alloc::Global;
@@ -136,22 +136,22 @@ fn push_encoding(lines: &mut String, encoding: Encoding) -> Result<(), Memory>
 }
 
 /// Adds a key and an earlier event.
-fn push_cited(lines: &mut String, key: &str, place: Place) -> Result<(), Memory>
+fn push_cited(lines: &mut String, key: &str, place: EventPlace) -> Result<(), Memory>
     ensures { OnOk result (string_bytes lines.new
         ≡ string_bytes lines.old ++ spec.cited key.now place) }
 {
-    let Place { event, who, number } = place;
+    let EventPlace { event, who, number } = place;
     let name = who_name(who);
     writeln!(lines, "{key} event {event} {name} {number}")?;
     Ok(())
 }
 
 /// Adds a key, a version, and the event that brought it.
-fn push_version_by(lines: &mut String, key: &str, version: i32, place: Place) -> Result<(), Memory>
+fn push_version_by(lines: &mut String, key: &str, version: i32, place: EventPlace) -> Result<(), Memory>
     ensures { OnOk result (string_bytes lines.new ≡ string_bytes lines.old
         ++ spec.version_by key.now version place) }
 {
-    let Place { event, who, number } = place;
+    let EventPlace { event, who, number } = place;
     let name = who_name(who);
     writeln!(lines, "{key} {version} event {event} {name} {number}")?;
     Ok(())
@@ -235,7 +235,7 @@ fn push_request_by(
     lines: &mut String,
     id: &Id,
     method: &str,
-    place: Place,
+    place: EventPlace,
 ) -> Result<(), Memory>
     ensures { OnOk result (string_bytes lines.new
         ≡ string_bytes lines.old
@@ -245,19 +245,19 @@ fn push_request_by(
     push_id(alloc, lines, id)?;
     lines.push_str(" ")?;
     push_quoted(alloc, lines, method)?;
-    let Place { event, who, number } = place;
+    let EventPlace { event, who, number } = place;
     let name = who_name(who);
     writeln!(lines, " event {event} {name} {number}")?;
     Ok(())
 }
 
-fn push_open(alloc: Global, lines: &mut String, id: &Id, place: Place) -> Result<(), Memory>
+fn push_open(alloc: Global, lines: &mut String, id: &Id, place: EventPlace) -> Result<(), Memory>
     ensures { OnOk result (string_bytes lines.new ≡ string_bytes lines.old
         ++ spec.fact_line (opens_as (id_view id.now) place)) }
 {
     lines.push_str("open ")?;
     push_id(alloc, lines, id)?;
-    let Place { event, who, number } = place;
+    let EventPlace { event, who, number } = place;
     let name = who_name(who);
     writeln!(lines, " event {event} {name} {number}")?;
     Ok(())
@@ -270,13 +270,13 @@ fn push_never_opened(lines: &mut String) -> Result<(), Memory>
     Ok(lines.push_str("opened never\n")?)
 }
 
-fn push_similar(alloc: Global, lines: &mut String, uri: &str, place: Place) -> Result<(), Memory>
+fn push_similar(alloc: Global, lines: &mut String, uri: &str, place: EventPlace) -> Result<(), Memory>
     ensures { OnOk result (string_bytes lines.new ≡ string_bytes lines.old
         ++ spec.fact_line (similar_to uri.now place)) }
 {
     lines.push_str("similar ")?;
     push_quoted(alloc, lines, uri)?;
-    let Place { event, who, number } = place;
+    let EventPlace { event, who, number } = place;
     let name = who_name(who);
     writeln!(lines, " event {event} {name} {number}")?;
     Ok(())

@@ -14,8 +14,8 @@ ghost use Rattle.lsp_facts.specs.Refuting as spec;
 
 use crate::making::{Made, make};
 use lsp_docs::Docs;
+use lsp_replay::EventPlace;
 use lsp_rpc::Act;
-use lsp_survey::Place;
 use lsp_text::{TextStore, same_lines};
 use lsp_types::{Change, Encoding, LineEnds, Memory};
 use std::alloc::Global;
@@ -31,8 +31,8 @@ pub fn refuting<S: TextStore>(
     docs: &Docs<S>,
     encoding: Encoding,
     act: &Act,
-    snapshots: &[Place],
-) -> Result<Vec<Place>, Memory>
+    snapshots: &[EventPlace],
+) -> Result<Vec<EventPlace>, Memory>
     ensures { IfOk result (λ others. (kind : SyncKind) (calls : List Call) (call : Call)
         → Stands docs.now calls
         → call_of encoding kind (act_view act.now) ≡ Some call
@@ -91,8 +91,8 @@ fn others(
     line_ends: LineEnds,
     texts: &[String],
     text: &str,
-    snapshots: &[Place],
-) -> Result<Vec<Place>, Memory>
+    snapshots: &[EventPlace],
+) -> Result<Vec<EventPlace>, Memory>
     ensures { IfOk result (λ others. others.items
         ≡ spec.others_of line_ends (chars text.now) snapshots.now (texts_of texts.now)) }
 {

@@ -32,14 +32,14 @@ use Rattle.lsp_survey.specs.declared.notes.marks.Marks.{Marks}
 use Rattle.lsp_survey.specs.declared.notes.note.Notes.{Notes}
 use Rattle.lsp_survey.specs.declared.notes.openings.Openings.{Openings}
 use Rattle.lsp_survey.specs.declared.notes.passed.Passed.{Passed}
-use Rattle.lsp_survey.specs.declared.notes.place.Place.{Place}
+use Rattle.lsp_replay.specs.declared.heard.EventPlace.{EventPlace}
 use Rattle.lsp_survey.specs.declared.notes.session_notes.SessionNotes.{SessionNotes}
 use Rattle.lsp_survey.specs.declared.notes.sides.Sides.{Sides}
 use Rattle.lsp_survey.specs.Notes.{AreAfter, note_in}
 use Rattle.lsp_survey.specs.Walking.{Walks, WalksBy, IsRefused, IsShown, IsUnread, PassesOver}
 use Rattle.lsp_survey.specs.Walking.{IsMessageOf, IsOffending, Hears, NotesKept, NotesMessage}
 use Rattle.lsp_survey.specs.Walking.{NotesSnapshot, who_heard}
-use Rattle.lsp_survey.specs.Places.{place_next, place_of}
+use Rattle.lsp_replay.specs.Places.{place_next, place_of}
 use Rattle.lsp_survey.specs.Passed.{has_passed}
 use Rattle.lsp_survey.specs.Sides.{sides_read}
 use Rattle.lsp_survey.specs.declared.offending.Judged.{Judged}
@@ -95,7 +95,7 @@ module _ (old new : Replay) (notes : List Noted) (walks : Walks old notes)
       let kind = unwrap_or (sync_kind (sent_in before)) Nothing in
       let more : before ++ message sent ∷ [] ≡ kept_of terms (events ++ message sent ∷ []) =
       sym (kept-push terms events (message sent) clean) in
-      let place : Place = place_next events (who_of by) in
+      let place : EventPlace = place_next events (who_of by) in
       let is_place : place ≡ place_of events (message sent) =
       ap (λ (s : Side). place_next events (who_of s)) (sym is_by) in
       let told : SaysOn place by said
@@ -184,7 +184,7 @@ module _ (old new : Replay) (notes : List Noted) (walks : Walks old notes)
       noted
 
 -- what was noted before is all that matters
-pub noted_after : (place : Place) (given : lent.Heard) (mid old new : Replay) → mid.notes ≡ old.notes
+pub noted_after : (place : EventPlace) (given : lent.Heard) (mid old new : Replay) → mid.notes ≡ old.notes
     → mid.marks ≡ old.marks → mid.openings ≡ old.openings → mid.said ≡ old.said
     → mid.sides ≡ old.sides → NotesKept place given mid new → NotesKept place given old new
 noted_after place (kept.Message side spoken) mid old new notes marks openings said sides noted =

@@ -25,11 +25,11 @@ use Rattle.lsp_verdict.specs.Offences.{kept_of, rule_at, said_at}
 use Rattle.lsp_survey.specs.ByUri.{held_by}
 use Rattle.lsp_survey.specs.Marking.{Step, touches, closed, shown_step, Marked, marked, unmarked}
 use Rattle.lsp_survey.specs.Marking.{stepped, steps, step_at, step_by, step_of}
-use Rattle.lsp_survey.specs.Places.{place_of}
+use Rattle.lsp_replay.specs.Places.{place_of}
 use Rattle.lsp_survey.specs.Marks.{AreMarks, DoneBy, ShownBy, StepsOn, mark_view, marked_in}
 use Rattle.lsp_survey.specs.declared.notes.mark.Mark.{Mark}
 use Rattle.lsp_survey.specs.declared.notes.mark.Touch.TheVariants.{Reached, Compared, Awaited}
-use Rattle.lsp_survey.specs.declared.notes.place.Place.{Place}
+use Rattle.lsp_replay.specs.declared.heard.EventPlace.{EventPlace}
 use Rattle.lsp_survey.proofs.Marking.{marked-push, steps-push}
 use Rattle.lsp_survey.proofs.Putting.{PutsUnder}
 
@@ -151,7 +151,7 @@ step_done terms old new before e call step uri are kept said own does sets u =
     by_test false = are u ∙ ap marked (sym (append-nil (steps terms u before)))
 
 -- **a message that is kept**
-pub act_done : (terms : Terms) (old new : Entries) (before : List Event) (m : Sent) (p : Place)
+pub act_done : (terms : Terms) (old new : Entries) (before : List Event) (m : Sent) (p : EventPlace)
     → AreMarks terms old before → rule_at terms before (message m) ≡ None → p ≡ place_of before (message m)
     → ((enc : Encoding) (kind : SyncKind) → DoneBy p (call_of enc kind m.act) old new)
     → AreMarks terms new (before ++ message m ∷ [])
@@ -170,11 +170,11 @@ act_done terms old new before m p are kept number done =
         (sym is) (unsaid_leaves terms old before (message m) are kept says)
     by_call (Some (opens uri v text)) says is =
         step_done terms old new before (message m) (opens uri v text) (touches Reached p v) uri
-        are kept says refl (ap (λ (k : Place). Some (touches Reached k v)) (sym number)) is
+        are kept says refl (ap (λ (k : EventPlace). Some (touches Reached k v)) (sym number)) is
     by_call (Some (changes e k uri v edits)) says is =
         step_done terms old new before (message m) (changes e k uri v edits) (touches Reached p v)
         uri
-        are kept says refl (ap (λ (k : Place). Some (touches Reached k v)) (sym number)) is
+        are kept says refl (ap (λ (k : EventPlace). Some (touches Reached k v)) (sym number)) is
     by_call (Some (closes uri)) says is =
         step_done terms old new before (message m) (closes uri) closed uri are kept says refl refl
         is
@@ -185,7 +185,7 @@ act_done terms old new before m p are kept number done =
 
 -- **a snapshot that is kept**
 pub shown_done : (terms : Terms) (old new : Entries) (before : List Event) (uri : List ℕ) (v : ℤ)
-    (text : List ℕ) (p : Place) (answer : Match) → AreMarks terms old before
+    (text : List ℕ) (p : EventPlace) (answer : Match) → AreMarks terms old before
     → rule_at terms before (snapshot uri v text) ≡ None
     → p ≡ place_of before (snapshot uri v text)
     → answer ≡ answer_of v (kept terms uri (calls (kept_of terms before)))
@@ -202,12 +202,12 @@ shown_done terms old new before uri v text p answer are passes number answers do
         step_done terms old new before (snapshot uri v text) (shows uri v text)
         (touches Compared p v) uri are passes refl refl
         (ap (shown_step (place_of before (snapshot uri v text)) v) (sym is)
-        ∙ ap (λ (k : Place). Some (touches Compared k v)) (sym number)) did
+        ∙ ap (λ (k : EventPlace). Some (touches Compared k v)) (sym number)) did
     by_answer Waits is did =
         step_done terms old new before (snapshot uri v text) (shows uri v text)
         (touches Awaited p v) uri are passes refl refl
         (ap (shown_step (place_of before (snapshot uri v text)) v) (sym is)
-        ∙ ap (λ (k : Place). Some (touches Awaited k v)) (sym number)) did
+        ∙ ap (λ (k : EventPlace). Some (touches Awaited k v)) (sym number)) did
     by_answer Missed is did =
         subst (λ (es : Entries). AreMarks terms es (before ++ snapshot uri v text ∷ [])) (sym did)
         (nothing_done terms old before (snapshot uri v text) (shows uri v text) are passes refl

@@ -25,7 +25,7 @@ use Rattle.lsp_survey.specs.declared.notes.mark.Setter.{Setter}
 use Rattle.lsp_survey.specs.declared.notes.mark.Shown.{Shown}
 use Rattle.lsp_survey.specs.declared.notes.mark.Touch.{Touch}
 use Rattle.lsp_survey.specs.declared.notes.mark.Touch.TheVariants.{Reached, Compared, Awaited}
-use Rattle.lsp_survey.specs.declared.notes.place.Place.{Place}
+use Rattle.lsp_replay.specs.declared.heard.EventPlace.{EventPlace}
 use Rattle.lsp_survey.proofs.LastOnes.{last_behind_all}
 
 -- ---- the messages that set versions
@@ -57,7 +57,7 @@ standing-closed (s ∷ done) =
     cut : Bool → List Step
     cut b = if b then standing (done ++ closed ∷ []) else s ∷ (done ++ closed ∷ [])
 
-standing-touch : (done : List Step) (touch : Touch) (p : Place) (own : ℤ)
+standing-touch : (done : List Step) (touch : Touch) (p : EventPlace) (own : ℤ)
     → standing (done ++ touches touch p own ∷ []) ≡ standing done ++ touches touch p own ∷ []
 standing-touch [] touch p own = refl
 standing-touch (s ∷ done) touch p own =
@@ -80,14 +80,14 @@ standing-touch (s ∷ done) touch p own =
     by_cut false = refl
 
 -- those that an opening had, with one step more
-setters_with : (done : List Step) (touch : Touch) (p : Place) (own : ℤ)
+setters_with : (done : List Step) (touch : Touch) (p : EventPlace) (own : ℤ)
     → setters (done ++ touches touch p own ∷ [])
     ≡ setters done ++ cons_option (setter_at (standing done) (touches touch p own)) []
 setters_with done touch p own =
     ap (each_of setter_at) (standing-touch done touch p own)
     ∙ each_of-snoc setter_at (standing done) (touches touch p own)
 
-recent-kept : (done : List Step) (touch : Touch) (p : Place) (own : ℤ)
+recent-kept : (done : List Step) (touch : Touch) (p : EventPlace) (own : ℤ)
     → setter_at (standing done) (touches touch p own) ≡ None
     → recent (done ++ touches touch p own ∷ []) ≡ recent done
 recent-kept done touch p own none =
@@ -96,18 +96,18 @@ recent-kept done touch p own none =
     ∙ append-nil (setters done))
 
 -- how many there are
-count-more : (xs : List Step) (p : Place) (own : ℤ)
+count-more : (xs : List Step) (p : EventPlace) (own : ℤ)
     → length (filter sets (xs ++ touches Reached p own ∷ [])) ≡ length (filter sets xs) + 1
 count-more xs p own =
     ap length (filter-append sets xs (touches Reached p own ∷ []))
     ∙ length-append (filter sets xs) (touches Reached p own ∷ [])
 
-rank-more : (xs : List Step) (p : Place) (own : ℤ)
+rank-more : (xs : List Step) (p : EventPlace) (own : ℤ)
     → rank_after (xs ++ touches Reached p own ∷ []) ≡ next_rank (rank_after xs)
 rank-more xs p own =
     ap capped (count-more xs p own) ∙ sym (capped-add (length (filter sets xs)) 1)
 
-rank-same : (done : List Step) (touch : Touch) (p : Place) (own : ℤ)
+rank-same : (done : List Step) (touch : Touch) (p : EventPlace) (own : ℤ)
     → sets (touches touch p own) ≡ false
     → rank_after (standing (done ++ touches touch p own ∷ [])) ≡ rank_after (standing done)
 rank-same done touch p own none =
@@ -119,7 +119,7 @@ rank-same done touch p own none =
     ∙ append-nil (filter sets (standing done)))
 
 -- one more sets a version
-recent-more : (done : List Step) (p : Place) (own : ℤ)
+recent-more : (done : List Step) (p : EventPlace) (own : ℤ)
     → recent (done ++ touches Reached p own ∷ [])
     ≡ with_room most_setters (recent done) ++ record {
       place = p;
@@ -226,11 +226,11 @@ entry_more : (number : ℤ) (s : Step) (later : List Step) (step : Step)
     ≡ (if ends_waiting number step then [] else waiting_entry number s later)
 entry_more number s later step = by_step s
   where
-    none : (b : Bool) → ◌≡◌ {A = List Place} [] (if b then [] else [])
+    none : (b : Bool) → ◌≡◌ {A = List EventPlace} [] (if b then [] else [])
     none true = refl
     none false = refl
 
-    by_tests : (a b e : Bool) (p : Place)
+    by_tests : (a b e : Bool) (p : EventPlace)
         → (if not (a || (b || false)) && e then p ∷ [] else [])
         ≡ (if b then [] else (if not a && e then p ∷ [] else []))
     by_tests true true e p = refl
@@ -261,8 +261,8 @@ waiting_for-push number [] step =
     by_test true = refl
     by_test false = refl
 waiting_for-push number (s ∷ done) step =
-    ap (λ (l : List Place). l ++ waiting_for number (done ++ step ∷ [])) (entry_more number s done step)
-    ∙ ap (λ (l : List Place). (if ends_waiting number step then [] else waiting_entry number s
+    ap (λ (l : List EventPlace). l ++ waiting_for number (done ++ step ∷ [])) (entry_more number s done step)
+    ∙ ap (λ (l : List EventPlace). (if ends_waiting number step then [] else waiting_entry number s
     done) ++ l) (waiting_for-push number done step)
     ∙ by_test (ends_waiting number step)
   where
@@ -276,7 +276,7 @@ waiting_for-push number (s ∷ done) step =
         (waiting_entry number step []))
 
 -- those of a greater version wait on
-waits_above : (own number : ℤ) (waiting : List Place)
+waits_above : (own number : ℤ) (waiting : List EventPlace)
     → (if not (int_lt own number) then [] else waiting) ++ []
     ≡ (if int_lt own number then waiting else [])
 waits_above own number waiting = by_test (int_lt own number)

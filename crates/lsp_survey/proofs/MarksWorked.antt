@@ -8,10 +8,10 @@ use Rattle.lsp_survey.specs.Openings.{OnDocument, on_document, closing_of}
 use Rattle.lsp_survey.specs.declared.notes.mark.Setter.{Setter}
 use Rattle.lsp_survey.specs.declared.notes.mark.Touch.TheVariants.{Reached, Compared, Awaited}
 use Rattle.lsp_survey.specs.declared.notes.openings.Closing.TheVariants as closing
-use Rattle.lsp_survey.specs.declared.notes.place.Place.{Place}
+use Rattle.lsp_replay.specs.declared.heard.EventPlace.{EventPlace}
 use Rattle.lsp_verdict.specs.declared.verdict.Who.TheVariants.{Editor}
 
-abbrev at : ℕ → Place
+abbrev at : ℕ → EventPlace
 at n = record { event = n; who = Editor; number = n }
 
 -- two snapshots wait for version 5, one of them since before the opening

@@ -22,13 +22,13 @@ use Rattle.lsp_survey.specs.LastOnes.{last_ones}
 use Rattle.lsp_survey.specs.Openings.{AreOpenings, Holds, OnDocument, OpensBy, closed_by, ons_view}
 use Rattle.lsp_survey.specs.Openings.{event_on, is_on, last_on, most_closings, most_openings}
 use Rattle.lsp_survey.specs.Openings.{on_view, opened_by, taken_at, taken_by}
-use Rattle.lsp_survey.specs.Places.{place_of}
+use Rattle.lsp_replay.specs.Places.{place_of}
 use Rattle.lsp_survey.specs.declared.notes.openings.DocumentEvent.{DocumentEvent}
 use Rattle.lsp_survey.specs.declared.notes.openings.Openings.{Openings}
-use Rattle.lsp_survey.specs.declared.notes.place.Place.{Place}
+use Rattle.lsp_replay.specs.declared.heard.EventPlace.{EventPlace}
 
 abbrev Takes : Type 0
-Takes = Place → Call → Option OnDocument
+Takes = EventPlace → Call → Option OnDocument
 
 -- ---- one list
 
@@ -94,15 +94,15 @@ refused_openings terms o before e rule are is = record {
 
 -- what is taken of one that is kept
 kept_takes : (takes : Takes) (terms : Terms) (before : List Event) (e : Event) (said : Option Call)
-    (p : Place) → rule_at terms before e ≡ None → said_at terms before e ≡ said
+    (p : EventPlace) → rule_at terms before e ≡ None → said_at terms before e ≡ said
     → p ≡ place_of before e → taken_at takes terms before e ≡ option_and_then (takes p) said
 kept_takes takes terms before e said p kept says number =
     ap (λ (o : Option ℕ). taken_by takes (place_of before e) o (said_at terms before e)) kept
     ∙ ap (option_and_then (takes (place_of before e))) says
-    ∙ ap (λ (k : Place). option_and_then (takes k) said) (sym number)
+    ∙ ap (λ (k : EventPlace). option_and_then (takes k) said) (sym number)
 
 -- **a message that is kept**
-pub act_opened : (terms : Terms) (old new : Openings) (before : List Event) (m : Sent) (p : Place)
+pub act_opened : (terms : Terms) (old new : Openings) (before : List Event) (m : Sent) (p : EventPlace)
     → AreOpenings terms old before → rule_at terms before (message m) ≡ None
     → p ≡ place_of before (message m)
     → ((enc : Encoding) (kind : SyncKind) → OpensBy p (call_of enc kind m.act) old new)
@@ -143,43 +143,43 @@ shown_opened terms o before uri v text are kept =
 -- ---- two parts of what is held
 
 module _ (uri : List ℕ) where
-  abbrev events_on : List OnDocument → List (Option Place)
+  abbrev events_on : List OnDocument → List (Option EventPlace)
   events_on ons = filter_map (event_on uri) ons
 
   -- the event of this message, before these, where it is about the document
-  abbrev with_event : Bool → Place → List (Option Place) → List (Option Place)
+  abbrev with_event : Bool → EventPlace → List (Option EventPlace) → List (Option EventPlace)
   with_event b n rest = cons_option (if b then Some (Some n) else None) rest
 
-  once : (x : Option Place) (n : Place) (o : Option Place)
+  once : (x : Option EventPlace) (n : EventPlace) (o : Option EventPlace)
       → option_or x (Some n) ≡ option_or (option_or x (Some n)) o
   once None n o = refl
   once (Some m) n o = refl
 
   -- what comes later counts, where there is any
-  later : (ons : List OnDocument) (o : Option Place)
+  later : (ons : List OnDocument) (o : Option EventPlace)
       → last_or o (events_on ons) ≡ option_or (last_or None (events_on ons)) o
   later [] o = refl
   later (on ∷ ons) o = by_test (is_on uri on) (later ons)
     where
-      rest : List (Option Place)
+      rest : List (Option EventPlace)
       rest = events_on ons
 
       by_test : (b : Bool)
-          → ((p : Option Place) → last_or p rest ≡ option_or (last_or None rest) p)
+          → ((p : Option EventPlace) → last_or p rest ≡ option_or (last_or None rest) p)
           → last_or o (with_event b on.place rest)
           ≡ option_or (last_or None (with_event b on.place rest)) o
       by_test true ih = ih (Some on.place) ∙ once (last_or None rest) on.place o
-          ∙ ap (λ (x : Option Place). option_or x o) (sym (ih (Some on.place)))
+          ∙ ap (λ (x : Option EventPlace). option_or x o) (sym (ih (Some on.place)))
       by_test false ih = ih o
 
-  in_turn : (first second : List OnDocument) (o : Option Place)
+  in_turn : (first second : List OnDocument) (o : Option EventPlace)
       → last_or o (events_on (first ++ second))
       ≡ last_or (last_or o (events_on first)) (events_on second)
   in_turn [] second o = refl
   in_turn (on ∷ first) second o = by_test (is_on uri on) (in_turn first second)
     where
       by_test : (b : Bool)
-          → ((p : Option Place) → last_or p (events_on (first ++ second))
+          → ((p : Option EventPlace) → last_or p (events_on (first ++ second))
           ≡ last_or (last_or p (events_on first)) (events_on second))
           → last_or o (with_event b on.place (events_on (first ++ second)))
           ≡ last_or (last_or o (with_event b on.place (events_on first))) (events_on second)

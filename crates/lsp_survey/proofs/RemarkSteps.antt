@@ -31,7 +31,7 @@ use Rattle.lsp_survey.specs.Misuses.{Misused, has_method, misuse_at, misuse_in, 
 use Rattle.lsp_survey.specs.Misuses.{misuses, misuses_after, with_misuse}
 use Rattle.lsp_survey.specs.Remarks.{AreRemarks, Remarked, abrupt, abrupt_by, older_encoding}
 use Rattle.lsp_survey.specs.Remarks.{older_held, older_in, older_of}
-use Rattle.lsp_survey.specs.declared.notes.place.Place.{Place}
+use Rattle.lsp_replay.specs.declared.heard.EventPlace.{EventPlace}
 use Rattle.lsp_survey.specs.declared.notes.misuses.Misused as code
 use Rattle.lsp_survey.specs.declared.notes.remarks.Remarks.{Remarks}
 
@@ -54,7 +54,7 @@ held_named name [] = refl
 held_named name (x ∷ xs) =
     ap (λ b. bytes_eq (string_bytes x.method) name || b) (held_named name xs)
 
-misuse-outline : (p : Place) (side : Side) (m : Message)
+misuse-outline : (p : EventPlace) (side : Side) (m : Message)
     → misuse_in p side m ≡ misuse_in p side (outline m)
 misuse-outline p side (request own method params) = refl
 misuse-outline p side (notification method params) = refl
@@ -77,7 +77,7 @@ misuses-push said m =
     by_one None = ap (misuses_after []) (append-nil (filter_map misuse_at said))
     by_one (Some x) = misuses_after-push [] (filter_map misuse_at said) x
 
-misuse_more : (p : Place) (m : Sent) (said : Message) (before : List Numbered)
+misuse_more : (p : EventPlace) (m : Sent) (said : Message) (before : List Numbered)
     (old new : List Misused) → outline m.message ≡ outline said → old ≡ misuses before
     → new ≡ with_misuse old (misuse_in p m.side said)
     → new ≡ misuses (before ++ numbered_as p m ∷ [])
@@ -143,7 +143,7 @@ older_more None (Some s) said old new has are more =
 -- ---- one message more
 
 -- **what is held stands for it too**
-pub remarked : (p : Place) (m : Sent) (said : Message) (before : List Numbered) (old new : Remarks)
+pub remarked : (p : EventPlace) (m : Sent) (said : Message) (before : List Numbered) (old new : Remarks)
     → outline m.message ≡ outline said
     → (open_initializes (sents before) ≡ []) ⊎ (said ≡ without_params m.message)
     → AreRemarks old before

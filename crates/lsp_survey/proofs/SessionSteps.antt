@@ -25,18 +25,18 @@ use Rattle.lsp_survey.specs.Asking.{Numbered, Reply, numbered_as, numbered_by, n
 use Rattle.lsp_survey.specs.Asking.{numbered, sents, asks, asks_by, reply_by, reply_of, replies}
 use Rattle.lsp_survey.specs.Asking.{most_replies, leads, leads_by}
 use Rattle.lsp_survey.specs.LastOnes.{last_ones}
-use Rattle.lsp_survey.specs.Places.{place_of}
+use Rattle.lsp_replay.specs.Places.{place_of}
 use Rattle.lsp_survey.specs.Remarks.{Remarked}
 use Rattle.lsp_survey.specs.SessionNoting.{asked_in, Exchanges, IsExchange, SaysOn, SessionStands}
 use Rattle.lsp_survey.specs.SessionNoting.{AreNotes}
 use Rattle.lsp_survey.specs.declared.notes.exchange.Exchange.{Exchange}
-use Rattle.lsp_survey.specs.declared.notes.place.Place.{Place}
+use Rattle.lsp_replay.specs.declared.heard.EventPlace.{EventPlace}
 use Rattle.lsp_survey.specs.declared.notes.session_notes.SessionNotes.{SessionNotes}
 use Rattle.lsp_survey.proofs.RemarkSteps.{filter_map-snoc, remarked}
 
 -- ---- the kept messages
 
-sent_more : (p : Place) (rule : Option ℕ) (e : Event) (kept : List Event) (said : List Numbered)
+sent_more : (p : EventPlace) (rule : Option ℕ) (e : Event) (kept : List Event) (said : List Numbered)
     → sent_in kept ≡ sents said
     → sent_in (cons_option (if is_some rule then None else Some e) kept)
     ≡ sents (cons_option (numbered_by p rule (sent_of e)) said)
@@ -64,7 +64,7 @@ sents-numbered terms events =
 
 -- ---- what a message says of requests, apart from its params and its result
 
-asks-outline : (side : Side) (id : Ident) (p : Place) (sender : Side) (m : Message)
+asks-outline : (side : Side) (id : Ident) (p : EventPlace) (sender : Side) (m : Message)
     → asks side id p sender m ≡ asks side id p sender (outline m)
 asks-outline side id p sender (request own method params) = refl
 asks-outline side id p sender (notification method params) = refl
@@ -84,7 +84,7 @@ as_list : {A : Type 0} (o : Option A) → option_to_list o ≡ cons_option o []
 as_list None = refl
 as_list (Some x) = refl
 
-module _ (side : Side) (p : Place) (m : Sent) (said : Message) (same : outline m.message ≡ outline said)
+module _ (side : Side) (p : EventPlace) (m : Sent) (said : Message) (same : outline m.message ≡ outline said)
   where
     same_asks : (id : Ident) → asks side id p m.side said ≡ asks side id p m.side m.message
     same_asks id = asks-outline side id p m.side said ∙ sym (ap (asks side id p m.side) same)
@@ -100,7 +100,7 @@ module _ (side : Side) (p : Place) (m : Sent) (said : Message) (same : outline m
     exchanged old new before is more = record {
       asked_is = λ k.
           more.asked k
-          ∙ ap (λ (o : Option (Option Place)). unwrap_or o (asked_in old.asked.entries (id_view k)))
+          ∙ ap (λ (o : Option (Option EventPlace)). unwrap_or o (asked_in old.asked.entries (id_view k)))
           (same_asks (id_view k))
           ∙ ap (unwrap_or (asks side (id_view k) p m.side m.message)) (is.asked_is k)
           ∙ sym (ap (last_or None) (filter_map-snoc (asks_by side (id_view k)) before
@@ -164,7 +164,7 @@ other_unsaid terms s before e are is =
 
 -- **a message that is kept**
 pub message_noted : (terms : Terms) (old new : SessionNotes) (before : List Event) (m : Sent)
-    (said : Message) (p : Place) → AreNotes terms old before → rule_at terms before (message m) ≡ None
+    (said : Message) (p : EventPlace) → AreNotes terms old before → rule_at terms before (message m) ≡ None
     → p ≡ place_of before (message m) → outline m.message ≡ outline said
     → HasValue (kept_of terms before) said m.message
     → SaysOn p m.side said (sent_in (kept_of terms (before ++ message m ∷ []))) old new
@@ -192,7 +192,7 @@ message_noted terms old new before m said p are kept number same has_value says 
         numbered-push terms before (message m)
         ∙ ap (λ (o : Option ℕ). ms ++ cons_option (numbered_by (place_of before (message m)) o (Some m)) [])
         kept
-        ∙ ap (λ (k : Place). ms ++ numbered_as k m ∷ []) (sym number)
+        ∙ ap (λ (k : EventPlace). ms ++ numbered_as k m ∷ []) (sym number)
 
     sents_behind : List Sent
     sents_behind = sents (ms ++ numbered_as p m ∷ [])

@@ -7,10 +7,10 @@ use Rattle.std.proofs.lemmas.Int.{ints}
 use Rattle.std.proofs.Common.{◌≡◌, true, false, List, Option, Some, None, Vec, refl, sym, ◌∙◌}
 use Rattle.std.proofs.Common.{arith, true≢false}
 use Rattle.lsp_survey.specs.Marks.{waiting_in}
-use Rattle.lsp_survey.specs.declared.notes.place.Place.{Place}
+use Rattle.lsp_replay.specs.declared.heard.EventPlace.{EventPlace}
 
 abbrev Entries : Type 0
-Entries = List (ℤ × Vec Place Global)
+Entries = List (ℤ × Vec EventPlace Global)
 
 -- ---- the least ones are dropped
 
@@ -29,7 +29,7 @@ pub none_reached : (version least : ℤ) (es : Entries) → not (int_lt version 
 none_reached version least es reached lower number less =
     by_look (lookup (int_eq number) es) (lower number)
   where
-    by_look : (o : Option (Vec Place Global)) → (IsSome o → is_gt (int_cmp least number) ≡ false)
+    by_look : (o : Option (Vec EventPlace Global)) → (IsSome o → is_gt (int_cmp least number) ≡ false)
         → o ≡ None
     by_look None h = refl
     by_look (Some v) h = absurd (true≢false

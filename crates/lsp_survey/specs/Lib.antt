@@ -1,7 +1,6 @@
 pub mod ByUri
 pub mod Notes
 pub mod LastOnes
-pub mod Places
 pub mod Asking
 pub mod Marking
 pub mod Marks

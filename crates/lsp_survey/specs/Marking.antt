@@ -20,28 +20,28 @@ use Rattle.lsp_verdict.specs.Event.{Event}
 use Rattle.lsp_verdict.specs.LookBack.{each_of}
 use Rattle.lsp_verdict.specs.Offences.{kept_of, rule_at, said_at}
 use Rattle.lsp_survey.specs.LastOnes.{last_ones, with_room}
-use Rattle.lsp_survey.specs.Places.{place_of}
+use Rattle.lsp_replay.specs.Places.{place_of}
 use Rattle.lsp_survey.specs.declared.notes.mark.Setter.{Setter}
 use Rattle.lsp_survey.specs.declared.notes.mark.Shown.{Shown}
 use Rattle.lsp_survey.specs.declared.notes.mark.Touch.{Touch}
 use Rattle.lsp_survey.specs.declared.notes.mark.Touch.TheVariants.{Reached, Compared, Awaited}
-use Rattle.lsp_survey.specs.declared.notes.place.Place.{Place}
+use Rattle.lsp_replay.specs.declared.heard.EventPlace.{EventPlace}
 
 -- ---- what a kept event does to a document
 
 -- it touches it, by the event of this place and at this version; or it closes it
 pub data Step : Type 0 where
-  touches : Touch → Place → ℤ → Step
+  touches : Touch → EventPlace → ℤ → Step
   closed : Step
 
 -- a snapshot of this version, as it was answered
-abbrev pub shown_step : Place → ℤ → Match → Option Step
+abbrev pub shown_step : EventPlace → ℤ → Match → Option Step
 shown_step p number Equal = Some (touches Compared p number)
 shown_step p number Waits = Some (touches Awaited p number)
 shown_step p number Missed = None
 
 -- what a call does, by the event of this place, after these calls
-abbrev pub step_of : Terms → Place → List Call → Call → Option Step
+abbrev pub step_of : Terms → EventPlace → List Call → Call → Option Step
 step_of terms p before (opens uri number text) = Some (touches Reached p number)
 step_of terms p before (changes enc kind uri number edits) = Some (touches Reached p number)
 step_of terms p before (closes uri) = Some closed
@@ -51,7 +51,7 @@ step_of terms p before (shows uri number text) =
 
 -- what the event of this place does to the document of this URI, where it offends by the rule or is
 -- kept, and says this of a document
-abbrev pub step_by : Terms → List ℕ → List Event → Place → Option ℕ → Option Call → Option Step
+abbrev pub step_by : Terms → List ℕ → List Event → EventPlace → Option ℕ → Option Call → Option Step
 step_by terms uri before p (Some rule) said = None
 step_by terms uri before p None said =
     option_and_then (λ call. if bytes_eq uri (uri_of call) then step_of terms p
@@ -142,7 +142,7 @@ ends_waiting number (touches Compared p own) = false
 ends_waiting number (touches Awaited p own) = false
 ends_waiting number closed = true
 
-abbrev pub waiting_entry : ℤ → Step → List Step → List Place
+abbrev pub waiting_entry : ℤ → Step → List Step → List EventPlace
 waiting_entry number (touches Reached p own) later = []
 waiting_entry number (touches Compared p own) later = []
 waiting_entry number (touches Awaited p own) later =
@@ -150,18 +150,18 @@ waiting_entry number (touches Awaited p own) later =
 waiting_entry number closed later = []
 
 -- **the snapshots that wait for this version**, by their places
-abbrev pub waiting_for : ℤ → List Step → List Place
+abbrev pub waiting_for : ℤ → List Step → List EventPlace
 waiting_for number [] = []
 waiting_for number (step ∷ later) = waiting_entry number step later ++ waiting_for number later
 
 -- ---- the equal snapshot of the greatest version
 
 -- the snapshot of this place, of the version of this rank
-abbrev pub shown_at : ℤ → ℕ → Place → Shown
+abbrev pub shown_at : ℤ → ℕ → EventPlace → Shown
 shown_at number rank p = record { place = p; version = number; rank = rank }
 
 -- the last of these snapshots of this version
-abbrev pub last_shown : ℤ → ℕ → List Place → Option Shown
+abbrev pub last_shown : ℤ → ℕ → List EventPlace → Option Shown
 last_shown number rank places =
     option_map (shown_at number rank) (slice_get places (length places - 1))
 
@@ -203,7 +203,7 @@ pub record Marked : Type 0 where
   pub setters : List Setter
   pub rank : ℕ
   pub agreed : Option Shown
-  pub waiting : ℤ → List Place
+  pub waiting : ℤ → List EventPlace
 
 abbrev pub marked : List Step → Marked
 marked done = record {
@@ -217,7 +217,7 @@ abbrev pub unmarked : Marked
 unmarked = record { setters = []; rank = 0; agreed = None; waiting = λ number. [] }
 
 -- those of a greater version than this wait on
-abbrev pub above : ℤ → (ℤ → List Place) → ℤ → List Place
+abbrev pub above : ℤ → (ℤ → List EventPlace) → ℤ → List EventPlace
 above own waiting number = if int_lt own number then waiting number else []
 
 abbrev pub next_rank : ℕ → ℕ

@@ -16,14 +16,14 @@ use Rattle.lsp_survey.specs.Marking.{Step, touches, closed, Marked, marked, unma
 use Rattle.lsp_survey.specs.Marking.{steps}
 use Rattle.lsp_survey.specs.declared.notes.mark.Mark.{Mark}
 use Rattle.lsp_survey.specs.declared.notes.mark.Touch.TheVariants.{Reached, Compared, Awaited}
-use Rattle.lsp_survey.specs.declared.notes.place.Place.{Place}
+use Rattle.lsp_replay.specs.declared.heard.EventPlace.{EventPlace}
 
 -- the places of the snapshots of a version
-abbrev pub places_in : Option (Vec Place Global) → List Place
+abbrev pub places_in : Option (Vec EventPlace Global) → List EventPlace
 places_in None = []
 places_in (Some v) = v.items
 
-abbrev pub waiting_in : List (ℤ × Vec Place Global) → ℤ → List Place
+abbrev pub waiting_in : List (ℤ × Vec EventPlace Global) → ℤ → List EventPlace
 waiting_in es number = places_in (lookup (int_eq number) es)
 
 abbrev pub mark_view : Mark → Marked
@@ -35,11 +35,11 @@ mark_view m = record {
 }
 
 -- the least version is reached by this one
-abbrev pub is_first_reached : ℤ → List (ℤ × Vec Place Global) → Bool
+abbrev pub is_first_reached : ℤ → List (ℤ × Vec EventPlace Global) → Bool
 is_first_reached number [] = false
 is_first_reached number (e ∷ es) = not (int_lt number e.0)
 
-abbrev pub rest_of : List (ℤ × Vec Place Global) → List (ℤ × Vec Place Global)
+abbrev pub rest_of : List (ℤ × Vec EventPlace Global) → List (ℤ × Vec EventPlace Global)
 rest_of [] = []
 rest_of (e ∷ es) = es
 
@@ -55,7 +55,7 @@ StepsOn uri step old new =
     marked_in old u)
 
 -- a message, the event of this place, that says this of a document
-abbrev pub DoneBy : Place → Option Call → List (String Global × Mark) → List (String Global × Mark)
+abbrev pub DoneBy : EventPlace → Option Call → List (String Global × Mark) → List (String Global × Mark)
     → Type 0
 DoneBy p None old new = new ≡ old
 DoneBy p (Some (opens uri number text)) old new = StepsOn uri (touches Reached p number) old new
@@ -66,7 +66,7 @@ DoneBy p (Some (saves uri text)) old new = new ≡ old
 DoneBy p (Some (shows uri number text)) old new = ⊥
 
 -- a snapshot of the URI and a version, the event of this place, that is answered so
-abbrev pub ShownBy : Place → List ℕ → ℤ → Match → List (String Global × Mark)
+abbrev pub ShownBy : EventPlace → List ℕ → ℤ → Match → List (String Global × Mark)
     → List (String Global × Mark) → Type 0
 ShownBy p uri number Equal old new = StepsOn uri (touches Compared p number) old new
 ShownBy p uri number Waits old new = StepsOn uri (touches Awaited p number) old new

@@ -9,7 +9,7 @@ use Rattle.lsp_types.specs.declared.side.Side.{Side}
 use Rattle.lsp_types.specs.declared.side.Side.TheVariants.{Editor, Server}
 use Rattle.lsp_survey.specs.Asking.{Numbered}
 use Rattle.lsp_survey.specs.StandardMethods.{is_request, is_notification}
-use Rattle.lsp_survey.specs.declared.notes.place.Place.{Place}
+use Rattle.lsp_replay.specs.declared.heard.EventPlace.{EventPlace}
 use Rattle.lsp_survey.specs.declared.notes.misuses.Misuse.{Misuse}
 use Rattle.lsp_survey.specs.declared.notes.misuses.Misuse.TheVariants.{AsRequest, AsNotification}
 use Rattle.lsp_survey.specs.declared.notes.misuses.Misuse.TheVariants.{ByEditor, ByServer}
@@ -44,13 +44,13 @@ notification_misuse side name =
 pub record Misused : Type 0 where
   pub misuse : Misuse
   pub method : List ℕ
-  pub place : Place
+  pub place : EventPlace
 
-abbrev pub misused : Place → List ℕ → Misuse → Misused
+abbrev pub misused : EventPlace → List ℕ → Misuse → Misused
 misused p name misuse = record { misuse = misuse; method = name; place = p }
 
 -- the misuse that a message of the side is; of no method that LSP 3.17 does not have
-abbrev pub misuse_in : Place → Side → Message → Option Misused
+abbrev pub misuse_in : EventPlace → Side → Message → Option Misused
 misuse_in p side (request id name params) = option_map (misused p name) (request_misuse side name)
 misuse_in p side (notification name params) =
     option_map (misused p name) (notification_misuse side name)

@@ -15,7 +15,7 @@ use Rattle.lsp_verdict.specs.LookBack.{each_of}
 use Rattle.lsp_verdict.specs.Offences.{last_or}
 use Rattle.lsp_survey.specs.Asking.{Numbered, same_phase, sents}
 use Rattle.lsp_survey.specs.Misuses.{misuse_in, misused_views, misuses, with_misuse}
-use Rattle.lsp_survey.specs.declared.notes.place.Place.{Place}
+use Rattle.lsp_replay.specs.declared.heard.EventPlace.{EventPlace}
 use Rattle.lsp_survey.specs.declared.notes.remarks.Remarks.{Remarks}
 
 -- ---- `exit` without `shutdown`
@@ -26,14 +26,14 @@ is_abrupt before after =
     same_phase after Exited && not (same_phase before Exited || same_phase before Stopping)
 
 -- the message of this place leads from one phase to the other
-abbrev pub abrupt : Place → Phase → Phase → Option (Option Place)
+abbrev pub abrupt : EventPlace → Phase → Phase → Option (Option EventPlace)
 abrupt p before after = if is_abrupt before after then Some (Some p) else None
 
-abbrev pub abrupt_by : List Numbered → Numbered → Option (Option Place)
+abbrev pub abrupt_by : List Numbered → Numbered → Option (Option EventPlace)
 abrupt_by before m = abrupt m.place (phase (sents before)) (phase (sents (before ++ m ∷ [])))
 
 -- **the event of the `exit` without a `shutdown` before it**
-abbrev pub abrupt_exit : List Numbered → Option Place
+abbrev pub abrupt_exit : List Numbered → Option EventPlace
 abrupt_exit said = last_or None (each_of abrupt_by said)
 
 -- ---- the encoding that was agreed in an older way
@@ -65,7 +65,7 @@ pub record AreRemarks (r : Remarks) (said : List Numbered) : Type 0 where
 
 -- one more message of the sender, the event of this place, before and after which the session is
 -- in these phases, and after which the handshake is settled or is not
-pub record Remarked (p : Place) (sender : Side) (m : Message) (before after : Phase) (done : Bool)
+pub record Remarked (p : EventPlace) (sender : Side) (m : Message) (before after : Phase) (done : Bool)
     (old new : Remarks) : Type 0 where
   pub misuses_are : misused_views new.misuses.items
       ≡ with_misuse (misused_views old.misuses.items) (misuse_in p sender m)

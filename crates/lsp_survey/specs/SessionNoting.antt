@@ -17,7 +17,7 @@ use Rattle.lsp_survey.specs.LastOnes.{last_ones}
 use Rattle.lsp_survey.specs.Remarks.{AreRemarks, Remarked}
 use Rattle.lsp_survey.specs.declared.notes.exchange.Exchange.{Exchange}
 use Rattle.lsp_survey.specs.declared.notes.exchange.Given.{Given}
-use Rattle.lsp_survey.specs.declared.notes.place.Place.{Place}
+use Rattle.lsp_replay.specs.declared.heard.EventPlace.{EventPlace}
 use Rattle.lsp_survey.specs.declared.notes.session_notes.SessionNotes.{SessionNotes}
 
 -- ---- the requests of one side
@@ -33,7 +33,7 @@ abbrev pub replies_in : Exchange → List Reply
 replies_in e = map given_view e.replies.items
 
 -- one more message of the sender, the event of this place
-pub record Exchanges (side : Side) (p : Place) (sender : Side) (m : Message) (old new : Exchange) : Type
+pub record Exchanges (side : Side) (p : EventPlace) (sender : Side) (m : Message) (old new : Exchange) : Type
     0 where
   pub asked : (k : Id) → asked_in new.asked.entries (id_view k)
       ≡ unwrap_or (asks side (id_view k) p sender m) (asked_in old.asked.entries (id_view k))
@@ -57,7 +57,7 @@ pub record SessionStands (s : SessionNotes) (said : List Numbered) : Type 0 wher
   pub remarks_are : AreRemarks s.remarks said
 
 -- one more message of the sender, the event of this place, with which the session has these
-pub record SaysOn (p : Place) (sender : Side) (m : Message) (behind : List Sent)
+pub record SaysOn (p : EventPlace) (sender : Side) (m : Message) (behind : List Sent)
     (old new : SessionNotes) : Type 0 where
   pub editor : Exchanges Editor p sender m old.editor new.editor
   pub server : Exchanges Server p sender m old.server new.server

@@ -22,7 +22,7 @@ use Rattle.lsp_survey.specs.SessionNoting.{AreNotes, SaysOn}
 use Rattle.lsp_survey.specs.Notes.{note_in, note_of, AreAfter, Leaves, is_noted_lost}
 use Rattle.lsp_survey.specs.Passed.{ArePassed, has_passed}
 use Rattle.lsp_survey.specs.Sides.{sides_after, sides_of, sides_read}
-use Rattle.lsp_survey.specs.declared.notes.place.Place.{Place}
+use Rattle.lsp_replay.specs.declared.heard.EventPlace.{EventPlace}
 use Rattle.lsp_survey.specs.declared.offending.FoundOffence.{FoundOffence}
 use Rattle.lsp_survey.specs.declared.offending.Judged.{Judged}
 use Rattle.lsp_survey.specs.declared.offending.Judged.TheVariants as heard
@@ -75,7 +75,7 @@ abbrev pub IsRefused : Raw → Terms → List Noted → Refused → Type 0
 IsRefused raw terms before refused = Refuses raw terms (kept_of terms (events_of before)) refused
 
 -- a message of the side that is kept, the event of this place, was noted
-abbrev pub NotesMessage : Place → Side → Message → Act → Replay → Replay → Type 0
+abbrev pub NotesMessage : EventPlace → Side → Message → Act → Replay → Replay → Type 0
 NotesMessage place side said act old new =
     ((enc : Encoding) (kind : SyncKind)
     → AreAfter (call_of enc kind act) old.notes.map.entries new.notes.map.entries)
@@ -88,7 +88,7 @@ NotesMessage place side said act old new =
     × (new.sides ≡ sides_read side old.sides)
 
 -- a snapshot that is kept, the event of this place, was noted as it was answered
-abbrev pub NotesSnapshot : Place → List ℕ → ℤ → Match → Replay → Replay → Type 0
+abbrev pub NotesSnapshot : EventPlace → List ℕ → ℤ → Match → Replay → Replay → Type 0
 NotesSnapshot place uri version answer old new =
     (new.notes ≡ old.notes)
     × ShownBy place uri version answer old.marks.map.entries new.marks.map.entries
@@ -102,7 +102,7 @@ who_heard (kept.Message side spoken) = who_of side
 who_heard (kept.Snapshot version uri text answer) = who.Snapshot
 
 -- the event that is kept, of this place, was noted
-abbrev pub NotesKept : Place → events.Heard → Replay → Replay → Type 0
+abbrev pub NotesKept : EventPlace → events.Heard → Replay → Replay → Type 0
 NotesKept place (kept.Message side spoken) old new =
     NotesMessage place side (message_view spoken.message) (act_view spoken.act) old new
 NotesKept place (kept.Snapshot version uri text answer) old new =

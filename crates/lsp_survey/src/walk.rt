@@ -14,7 +14,7 @@ ghost use Rattle.lsp_verdict.specs.Offences.{IsReading, Noted, breaks_handshake,
 ghost use Rattle.lsp_verdict.specs.Offences.{follows_bytes, is_handshake_lost, may_answer};
 ghost use Rattle.lsp_verdict.specs.Offences.{follows_passed, wants_handshake, wants_text};
 ghost use Rattle.lsp_verdict.specs.Verdict as spec;
-ghost use Rattle.lsp_survey.specs.Places.{place_next};
+ghost use Rattle.lsp_replay.specs.Places.{place_next};
 ghost use Rattle.lsp_session.specs.Sent.{other_side, response_id};
 ghost use Rattle.lsp_survey.specs.Passed.{has_any};
 ghost use Rattle.lsp_survey.specs.Sides.{sides_failed};
@@ -26,7 +26,7 @@ ghost use Rattle.lsp_survey.specs.Walking.{IsUnread, NotesKept, NotesMessage, Pa
 ghost use Rattle.lsp_survey.specs.Walking.{offence_of, who_heard};
 
 use crate::notes::{
-    Malformed, Marks, Notes, Openings, Passed, Place, SessionNotes, Sides, breaks_handshake,
+    Malformed, Marks, Notes, Openings, Passed, EventPlace, SessionNotes, Sides, breaks_handshake,
     is_on_lost, meant_again, note_kept_act, note_malformed, note_refused, note_refused_act,
     reopens, wants_handshake, wants_text,
 };
@@ -111,7 +111,7 @@ impl Replay {
             × ((events : List Event) → AreCounts counts.now events
             → NotesKept (place_next events (who_heard kept.entry)) kept.entry self.old self.new)) }
     {
-        let place = Place::next(counts, who_heard(&kept));
+        let place = EventPlace::next(counts, who_heard(&kept));
         let noted = self.note(place, &kept);
         drop(kept);
         noted?;
@@ -119,7 +119,7 @@ impl Replay {
     }
 
     /// Notes the event of this place, which was heard and is kept.
-    fn note(&mut self, place: Place, kept: &replay::Heard<'_>) -> Result<(), Memory>
+    fn note(&mut self, place: EventPlace, kept: &replay::Heard<'_>) -> Result<(), Memory>
         ensures same { (self.new.events ≡ self.old.events) × (self.new.broken ≡ self.old.broken)
             × (self.new.passed ≡ self.old.passed) }
         ensures noted { OnOk result (NotesKept place kept.now self.old self.new) }
@@ -139,7 +139,7 @@ impl Replay {
     }
 
     /// Notes the message of this place, which was heard and is kept.
-    fn note_message(&mut self, place: Place, side: Side, spoken: &Spoken) -> Result<(), Memory>
+    fn note_message(&mut self, place: EventPlace, side: Side, spoken: &Spoken) -> Result<(), Memory>
         ensures same { (self.new.events ≡ self.old.events) × (self.new.broken ≡ self.old.broken)
             × (self.new.passed ≡ self.old.passed) }
         ensures noted { OnOk result (NotesMessage place side (message_view spoken.now.message)

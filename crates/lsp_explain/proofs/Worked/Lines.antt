@@ -28,7 +28,7 @@ use Rattle.lsp_facts.specs.Fact.{in_line_ends}
 use Rattle.lsp_facts.specs.Fact.{offers, in_record, shown_by, equal_by, answered_by, asked_by}
 use Rattle.lsp_facts.specs.Fact.{led_by, waits_since, has_suspects, suspects, closed_by}
 use Rattle.lsp_facts.specs.Fact.{never_opened, similar_to}
-use Rattle.lsp_survey.specs.declared.notes.place.Place.{Place}
+use Rattle.lsp_replay.specs.declared.heard.EventPlace.{EventPlace}
 use Rattle.lsp_facts.specs.Part.{Part}
 use Rattle.lsp_facts.specs.Lines.{fact_lines, end_event, event_line, usual}
 
@@ -79,13 +79,13 @@ unfolding digits escape_byte
 of_lists = refl
 
 -- the editor's messages of these events are numbered so
-abbrev by_editor : ℕ → ℕ → Place
+abbrev by_editor : ℕ → ℕ → EventPlace
 by_editor event number = record { event = event; who = who.Editor; number = number }
 
-abbrev by_server : ℕ → ℕ → Place
+abbrev by_server : ℕ → ℕ → EventPlace
 by_server event number = record { event = event; who = who.Server; number = number }
 
-abbrev by_recorder : ℕ → ℕ → Place
+abbrev by_recorder : ℕ → ℕ → EventPlace
 by_recorder event number = record { event = event; who = who.Snapshot; number = number }
 
 of_earlier_events : fact_lines (holds_by (pos 3) (by_editor 12 5) ∷ shows_version (negsuc 0)

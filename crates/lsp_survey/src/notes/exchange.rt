@@ -10,8 +10,8 @@ ghost use Rattle.lsp_survey.specs.SessionNoting.{asked_in, given_view, replies_i
 
 use crate::notes::by_id::{forget, put};
 use crate::notes::last_ones::make_room;
-use crate::notes::place::Place;
 use indexmap::IndexMap;
+use lsp_replay::EventPlace;
 use lsp_rpc::{Id, Memory, copy_id, same_id};
 use std::alloc::Global;
 use std::collections::VecDeque;
@@ -26,14 +26,14 @@ const MOST_ID: usize = 128;
 #[derive(Drop)]
 pub(crate) struct Given {
     id: Id,
-    place: Place,
+    place: EventPlace,
 }
 
 /// The requests of one side: the places of those that are open, and of the last answers to those
 /// with a short id.
 #[derive(Drop)]
 pub(crate) struct Exchange {
-    asked: IndexMap<Id, Place>,
+    asked: IndexMap<Id, EventPlace>,
     replies: VecDeque<Given>,
 }
 
@@ -50,14 +50,14 @@ impl Exchange {
     }
 
     /// The place of the open request with this id.
-    pub(crate) fn asked(&self, id: &Id) -> Option<Place>
+    pub(crate) fn asked(&self, id: &Id) -> Option<EventPlace>
         ensures { result ≡ asked_in self.now.asked.entries (id_view id.now) }
     {
         self.asked.get(id).copied()
     }
 
     /// The place of the last answer that is held to a request with this id.
-    pub(crate) fn answered(&self, id: &Id) -> Option<Place>
+    pub(crate) fn answered(&self, id: &Id) -> Option<EventPlace>
         ensures { result ≡ last_reply (id_view id.now) (replies_in self.now) }
     {
         let (first, second) = self.replies.as_slices();
@@ -65,7 +65,7 @@ impl Exchange {
     }
 
     /// The event of this place asks a request.
-    pub(crate) fn ask(&mut self, id: &Id, place: Place) -> Result<(), Memory>
+    pub(crate) fn ask(&mut self, id: &Id, place: EventPlace) -> Result<(), Memory>
         ensures asked { OnOk result ((k : AnId) → asked_in self.new.asked.entries (id_view k)
             ≡ (if same_id (id_view id.now)
             (id_view k) then Some place else asked_in self.old.asked.entries (id_view k))) }
@@ -75,7 +75,7 @@ impl Exchange {
     }
 
     /// The event of this place answers a request.
-    pub(crate) fn answer(&mut self, id: &Id, place: Place) -> Result<(), Memory>
+    pub(crate) fn answer(&mut self, id: &Id, place: EventPlace) -> Result<(), Memory>
         ensures asked { (k : AnId) → asked_in self.new.asked.entries (id_view k)
             ≡ (if same_id (id_view id.now)
             (id_view k) then None else asked_in self.old.asked.entries (id_view k)) }
@@ -104,7 +104,7 @@ fn is_short(id: &Id) -> bool
 }
 
 /// Adds an answer after the others, of which the last ones stay.
-fn push(replies: &mut VecDeque<Given>, id: &Id, place: Place) -> Result<(), Memory>
+fn push(replies: &mut VecDeque<Given>, id: &Id, place: EventPlace) -> Result<(), Memory>
     ensures { OnOk result ((given : List Reply)
         → map given_view replies.old.items ≡ last_ones most_replies given
         → map given_view replies.new.items
@@ -117,7 +117,7 @@ fn push(replies: &mut VecDeque<Given>, id: &Id, place: Place) -> Result<(), Memo
 }
 
 /// The place of the last of these answers to a request with this id.
-fn last_in(replies: &[Given], id: &Id) -> Option<Place>
+fn last_in(replies: &[Given], id: &Id) -> Option<EventPlace>
     ensures { result ≡ last_reply (id_view id.now) (map given_view replies.now) }
 {
     let mut last = None;

@@ -10,7 +10,7 @@ ghost use Rattle.lsp_survey.specs.Marking.{newer_of, next_rank, rank_of, stepped
 ghost use Rattle.lsp_survey.specs.LastOnes.{with_room};
 ghost use Rattle.lsp_survey.specs.Marks.{is_first_reached, mark_view, rest_of, waiting_in};
 
-use crate::notes::place::Place;
+use lsp_replay::EventPlace;
 use lsp_rpc::Memory;
 use std::alloc::Global;
 use std::collections::BTreeMap;
@@ -23,7 +23,7 @@ const MOST_SETTERS: usize = 17;
 #[derive(Clone, Copy, Debug, PartialEq, Eq)]
 pub struct Setter {
     /// The place of its event.
-    pub place: Place,
+    pub place: EventPlace,
     /// The version that it set.
     pub version: i32,
     /// Which version of its opening that is, from 1 for the one of the `didOpen`.
@@ -34,7 +34,7 @@ pub struct Setter {
 #[derive(Clone, Copy, Debug, PartialEq, Eq)]
 pub struct Shown {
     /// The place of its event.
-    pub place: Place,
+    pub place: EventPlace,
     /// The version of which it is.
     pub version: i32,
     /// Which version of its opening that is, from 1 for the one of the `didOpen`; 0 where it was
@@ -54,7 +54,7 @@ pub(crate) enum Touch {
 }
 
 /// The places of the snapshots that wait, by version.
-type WaitMap = BTreeMap<i32, Vec<Place>>;
+type WaitMap = BTreeMap<i32, Vec<EventPlace>>;
 
 /// What is marked of a document.
 #[derive(Drop)]
@@ -93,7 +93,7 @@ impl Mark {
     }
 
     /// The places of the snapshots that wait for a version.
-    pub(crate) fn waiting(&self, version: i32) -> &[Place]
+    pub(crate) fn waiting(&self, version: i32) -> &[EventPlace]
         ensures { result.now ≡ (mark_view self.now).waiting version }
     {
         match self.waiting.get(&version) {
@@ -107,7 +107,7 @@ impl Mark {
         &mut self,
         alloc: Global,
         touch: Touch,
-        place: Place,
+        place: EventPlace,
         version: i32,
     ) -> Result<(), Memory>
         ensures { OnOk result (mark_view self.new
@@ -124,7 +124,7 @@ impl Mark {
     }
 
     /// Marks that the event of this place brings the document to this version.
-    fn reach(&mut self, place: Place, version: i32) -> Result<(), Memory>
+    fn reach(&mut self, place: EventPlace, version: i32) -> Result<(), Memory>
         ensures { OnOk result (mark_view self.new
             ≡ stepped (touches Touch.Reached place version) (mark_view self.old)) }
     {
@@ -143,7 +143,7 @@ impl Mark {
     }
 
     /// Marks that the event of this place is an equal snapshot of this version.
-    fn compare(&mut self, place: Place, version: i32)
+    fn compare(&mut self, place: EventPlace, version: i32)
         ensures { mark_view self.new
             ≡ stepped (touches Touch.Compared place version) (mark_view self.old) }
     {
@@ -234,7 +234,7 @@ fn newer(earlier: Shown, later: Shown) -> Shown
 }
 
 /// Adds a snapshot of a version after its others.
-fn add(waiting: &mut WaitMap, alloc: Global, version: i32, place: Place) -> Result<(), Memory>
+fn add(waiting: &mut WaitMap, alloc: Global, version: i32, place: EventPlace) -> Result<(), Memory>
     ensures { OnOk result ((number : ℤ) → waiting_in waiting.new.entries number
         ≡ waiting_in waiting.old.entries number
         ++ (if int_eq version number then place ∷ [] else [])) }

@@ -11,9 +11,9 @@ ghost use Rattle.lsp_survey.specs.Marking.{waiting_for};
 ghost use Rattle.lsp_survey.specs.Marks.{AreMarks, DoneBy, ShownBy, StepsOn, marked_in};
 
 use crate::notes::mark::{Mark, Setter, Shown, Touch};
-use crate::notes::place::Place;
 use indexmap::IndexMap;
 use lsp_docs::Match;
+use lsp_replay::EventPlace;
 use lsp_rpc::{Act, Memory};
 use std::alloc::Global;
 
@@ -64,7 +64,7 @@ impl Marks {
     }
 
     /// The places of the snapshots of a URI that wait for this version, in order.
-    pub fn waiting(&self, uri: &str, version: i32) -> &[Place]
+    pub fn waiting(&self, uri: &str, version: i32) -> &[EventPlace]
         ensures { (terms : Terms) (events : List Event) → AreMarks terms self.now.map.entries events
             → result.now ≡ waiting_for version (steps terms uri.now events) }
     {
@@ -78,7 +78,7 @@ impl Marks {
     ///
     /// # Errors
     /// `Memory` where memory was refused; nothing is then known of the marks.
-    pub(crate) fn keep_act(&mut self, place: Place, act: &Act) -> Result<(), Memory>
+    pub(crate) fn keep_act(&mut self, place: EventPlace, act: &Act) -> Result<(), Memory>
         ensures { OnOk result ((enc : Encoding) (kind : SyncKind)
             → DoneBy place (call_of enc kind
             (act_view act.now)) self.old.map.entries self.new.map.entries) }
@@ -104,7 +104,7 @@ impl Marks {
     /// `Memory` where memory was refused; nothing is then known of the marks.
     pub(crate) fn keep_snapshot(
         &mut self,
-        place: Place,
+        place: EventPlace,
         uri: &str,
         version: i32,
         answer: Match,
@@ -125,7 +125,7 @@ fn touch(
     map: &mut MarkMap,
     uri: &str,
     touch: Touch,
-    place: Place,
+    place: EventPlace,
     version: i32,
 ) -> Result<(), Memory>
     ensures { OnOk result (StepsOn uri.now
@@ -143,7 +143,7 @@ fn touch_first(
     map: &mut MarkMap,
     uri: &str,
     touch: Touch,
-    place: Place,
+    place: EventPlace,
     version: i32,
 ) -> Result<(), Memory>
     requires { marked_in map.old.entries uri.now ≡ unmarked }

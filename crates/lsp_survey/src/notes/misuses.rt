@@ -8,8 +8,8 @@ ghost use Rattle.lsp_survey.specs.Misuses as spec;
 ghost use Rattle.lsp_survey.specs.Misuses.{has_method, misuse_in, misused, misused_views};
 ghost use Rattle.lsp_survey.specs.Misuses.{with_misuse};
 
-use crate::notes::place::Place;
 use crate::notes::standard_methods::{is_notification, is_request};
+use lsp_replay::EventPlace;
 use lsp_rpc::{Memory, Message, Side};
 
 /// In which other way than LSP 3.17 has it a call was sent.
@@ -31,7 +31,7 @@ pub struct Misused {
     pub misuse: Misuse,
     pub method: String,
     /// The place of its event.
-    pub place: Place,
+    pub place: EventPlace,
 }
 
 /// How a request of this method is misused where the side sends it.
@@ -88,7 +88,7 @@ fn by_side(side: Side) -> Misuse
 /// of those before has.
 pub(crate) fn note_misuse(
     found: &mut Vec<Misused>,
-    place: Place,
+    place: EventPlace,
     side: Side,
     message: &Message,
 ) -> Result<(), Memory>
@@ -112,7 +112,7 @@ pub(crate) fn note_misuse(
 /// Adds a call, the event of this place, where it is misused so.
 fn note_call(
     found: &mut Vec<Misused>,
-    place: Place,
+    place: EventPlace,
     misuse: Option<Misuse>,
     method: &String,
 ) -> Result<(), Memory>

@@ -12,7 +12,7 @@ ghost use Rattle.lsp_survey.specs.Openings.{closings, is_on, last_on, most_openi
 ghost use Rattle.lsp_survey.specs.Openings.{on_view, ons_view, openings};
 
 use crate::notes::last_ones::make_room;
-use crate::notes::place::Place;
+use lsp_replay::EventPlace;
 use lsp_rpc::{Act, Memory};
 use std::alloc::Global;
 use std::collections::VecDeque;
@@ -29,14 +29,14 @@ pub struct DocumentEvent {
     /// The URI of the document.
     pub uri: String,
     /// The place of its event.
-    pub place: Place,
+    pub place: EventPlace,
 }
 
 /// Whether a document that is not open was closed, as far as that is known.
 #[derive(Clone, Copy, Debug, PartialEq, Eq)]
 pub enum Closing {
     /// By the event of this place.
-    Last(Place),
+    Last(EventPlace),
     /// No message closed it.
     Never,
     /// None of the last 1,024 messages that closed a document closed it.
@@ -74,7 +74,7 @@ impl Openings {
 
     /// The place of the event that opened the document of this URI last, if it is among the last 64
     /// that opened one.
-    pub fn opening(&self, uri: &str) -> Option<Place>
+    pub fn opening(&self, uri: &str) -> Option<EventPlace>
         ensures { (terms : Terms) (events : List Event) → AreOpenings terms self.now events
             → result ≡ last_on uri.now (last_ones most_openings (openings terms events)) }
     {
@@ -96,7 +96,7 @@ impl Openings {
     ///
     /// # Errors
     /// `Memory` where memory was refused; nothing is then known of what is held.
-    pub(crate) fn keep_act(&mut self, place: Place, act: &Act) -> Result<(), Memory>
+    pub(crate) fn keep_act(&mut self, place: EventPlace, act: &Act) -> Result<(), Memory>
         ensures { OnOk result ((enc : Encoding) (kind : SyncKind)
             → OpensBy place (call_of enc kind (act_view act.now)) self.old self.new) }
     {
@@ -109,7 +109,7 @@ impl Openings {
 }
 
 /// The event is known, or, where all closings are held, that there is none.
-fn closing_by(all: bool, last: Option<Place>) -> Closing
+fn closing_by(all: bool, last: Option<EventPlace>) -> Closing
     ensures { result ≡ closing_by all last }
 {
     match last {
@@ -120,7 +120,7 @@ fn closing_by(all: bool, last: Option<Place>) -> Closing
 }
 
 /// The place of the last of these messages about the document of this URI.
-fn last_on(held: &VecDeque<DocumentEvent>, uri: &str) -> Option<Place>
+fn last_on(held: &VecDeque<DocumentEvent>, uri: &str) -> Option<EventPlace>
     ensures { result ≡ last_on uri.now (ons_view held.now.items) }
 {
     let (first, second) = held.as_slices();
@@ -128,7 +128,7 @@ fn last_on(held: &VecDeque<DocumentEvent>, uri: &str) -> Option<Place>
 }
 
 /// The same of one part of them.
-fn last_in(held: &[DocumentEvent], uri: &str) -> Option<Place>
+fn last_in(held: &[DocumentEvent], uri: &str) -> Option<EventPlace>
     ensures { result ≡ last_on uri.now (ons_view held.now) }
 {
     let mut last = None;
@@ -151,7 +151,7 @@ fn push(
     held: &mut VecDeque<DocumentEvent>,
     most: usize,
     uri: &str,
-    place: Place,
+    place: EventPlace,
 ) -> Result<(), Memory>
     requires { 0 < most }
     ensures { OnOk result (Holds most (Some (on_document uri.now place)) held.old.items

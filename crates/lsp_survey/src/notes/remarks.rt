@@ -7,7 +7,7 @@ ghost use Rattle.lsp_survey.specs.Remarks as spec;
 ghost use Rattle.lsp_survey.specs.Remarks.{AreRemarks, Remarked, older_held, older_of};
 
 use crate::notes::misuses::{Misused, note_misuse};
-use crate::notes::place::Place;
+use lsp_replay::EventPlace;
 use lsp_rpc::{Answer, Memory, Message, Side};
 use lsp_session::Phase;
 use serde_json::Value;
@@ -19,7 +19,7 @@ use std::alloc::Global;
 #[derive(Drop)]
 pub(crate) struct Remarks {
     misuses: Vec<Misused>,
-    abrupt_exit: Option<Place>,
+    abrupt_exit: Option<EventPlace>,
     is_done: bool,
     older_encoding: Option<String>,
 }
@@ -45,7 +45,7 @@ impl Remarks {
     }
 
     /// The place of the event of an `exit` without a `shutdown` before it.
-    pub(crate) fn abrupt_exit(&self) -> Option<Place>
+    pub(crate) fn abrupt_exit(&self) -> Option<EventPlace>
         ensures { result ≡ self.now.abrupt_exit }
     {
         self.abrupt_exit
@@ -65,7 +65,7 @@ impl Remarks {
     /// `Memory` where memory was refused.
     pub(crate) fn keep(
         &mut self,
-        place: Place,
+        place: EventPlace,
         side: Side,
         message: &Message,
         before: Phase,

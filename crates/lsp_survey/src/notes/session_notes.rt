@@ -12,8 +12,8 @@ ghost use Rattle.lsp_survey.specs.SessionNoting.{AreNotes, Exchanges};
 
 use crate::notes::exchange::Exchange;
 use crate::notes::misuses::Misused;
-use crate::notes::place::Place;
 use crate::notes::remarks::Remarks;
+use lsp_replay::EventPlace;
 use lsp_rpc::{Id, Memory, Message, Side};
 use lsp_session::Phase;
 use std::alloc::Global;
@@ -28,7 +28,7 @@ pub struct SessionNotes {
     editor: Exchange,
     server: Exchange,
     phase: Phase,
-    since: Option<Place>,
+    since: Option<EventPlace>,
     remarks: Remarks,
 }
 
@@ -47,7 +47,7 @@ impl SessionNotes {
     }
 
     /// The place of the event that asked the open request of this side with this id.
-    pub fn asked(&self, side: Side, id: &Id) -> Option<Place>
+    pub fn asked(&self, side: Side, id: &Id) -> Option<EventPlace>
         ensures { (terms : Terms) (events : List Event) → AreNotes terms self.now events
             → result ≡ asked side (id_view id.now) (numbered terms events) }
     {
@@ -60,7 +60,7 @@ impl SessionNotes {
     /// The place of the event that answered a request of this side with this id last,
     /// where it is among the last 1,024 answers to requests of this side, and the id has at most
     /// 128 bytes.
-    pub fn answered(&self, side: Side, id: &Id) -> Option<Place>
+    pub fn answered(&self, side: Side, id: &Id) -> Option<EventPlace>
         ensures { (terms : Terms) (events : List Event) → AreNotes terms self.now events
             → result ≡ answered side (id_view id.now) (numbered terms events) }
     {
@@ -72,7 +72,7 @@ impl SessionNotes {
 
     /// The place of the event that led to the phase of the session; none where it is that of the
     /// start.
-    pub fn since(&self) -> Option<Place>
+    pub fn since(&self) -> Option<EventPlace>
         ensures { (terms : Terms) (events : List Event) → AreNotes terms self.now events
             → result ≡ since (numbered terms events) }
     {
@@ -88,7 +88,7 @@ impl SessionNotes {
     }
 
     /// The place of the event of an `exit` without a `shutdown` before it.
-    pub fn abrupt_exit(&self) -> Option<Place>
+    pub fn abrupt_exit(&self) -> Option<EventPlace>
         ensures { (terms : Terms) (events : List Event) → AreNotes terms self.now events
             → result ≡ abrupt_exit (numbered terms events) }
     {
@@ -111,7 +111,7 @@ impl SessionNotes {
     /// `Memory` where memory was refused; nothing is then known of the requests.
     pub(crate) fn keep(
         &mut self,
-        place: Place,
+        place: EventPlace,
         side: Side,
         message: &Message,
         phase: Phase,
@@ -140,7 +140,7 @@ impl SessionNotes {
     }
 
     /// Notes what a message asks or answers.
-    fn exchange(&mut self, place: Place, side: Side, message: &Message) -> Result<(), Memory>
+    fn exchange(&mut self, place: EventPlace, side: Side, message: &Message) -> Result<(), Memory>
         ensures editor { OnOk result
             (Exchanges Side.Editor place side
             (message_view message.now) self.old.editor self.new.editor) }

@@ -13,7 +13,7 @@ use Rattle.lsp_facts.specs.Fact.{facts_view}
 use Rattle.lsp_facts.specs.ContentFacts.{content_facts}
 use Rattle.lsp_explain.specs.RunSteps.{ShowsFault}
 use Rattle.lsp_explain.specs.Standing.{terms_in}
-use Rattle.lsp_survey.specs.Places.{place_next}
+use Rattle.lsp_replay.specs.Places.{place_next}
 use Rattle.lsp_explain.proofs.SaidFacts.{facts_said, whose_message, whose_snapshot}
 use Rattle.lsp_explain.proofs.offence_facts.facts_of.Goals as goal
 

@@ -7,7 +7,7 @@ use Rattle.lsp_verdict.specs.Event.{sent_in}
 use Rattle.lsp_verdict.specs.Offences.{kept_of}
 use Rattle.lsp_survey.specs.Asking.{numbered, sents, since}
 use Rattle.lsp_survey.specs.SessionNoting.{AreNotes}
-use Rattle.lsp_survey.specs.declared.notes.place.Place.{Place}
+use Rattle.lsp_replay.specs.declared.heard.EventPlace.{EventPlace}
 use Rattle.lsp_survey.specs.declared.notes.session_notes.SessionNotes.{SessionNotes}
 use Rattle.lsp_survey.proofs.SessionSteps.{sents-numbered}
 use Rattle.lsp_facts.specs.Fact.{Fact, facts_view, fact_view, in_phase, led_by}
@@ -30,7 +30,7 @@ returns c = λ before stands.
     ∙ ap (map (waiting_by said)) (c.pending.ensures (sents said) sent) in
     let phase = c.phase.ensures (sents said) sent in
     c.in_ok-push_since.ensures
-    ∙ ap (λ (o : Option Place). facts_view c.push.new.self.items ++ place_facts led_by o)
+    ∙ ap (λ (o : Option EventPlace). facts_view c.push.new.self.items ++ place_facts led_by o)
     (c.since.ensures terms before noted)
     ∙ ap (λ (l : List Fact). l ++ place_facts led_by (since said))
     (ap facts_view c.in_ok-push.ensures.items ∙ map-append fact_view c.in_ok-facts.facts.items _

@@ -1,5 +1,5 @@
 use Rattle.std.proofs.Common.{◌∙◌, ap, sym}
-use Rattle.lsp_survey.specs.Places.{place_next}
+use Rattle.lsp_replay.specs.Places.{place_next}
 use Rattle.lsp_verdict.specs.Verdict.{who_of}
 use Rattle.lsp_rpc.specs.View.{act_view, message_view}
 use Rattle.lsp_verdict.specs.Offences.{kept_of}

@@ -15,7 +15,7 @@ use Rattle.lsp_verdict.specs.Offences.{kept_of}
 use Rattle.lsp_survey.specs.Marking.{steps, waiting_for}
 use Rattle.lsp_survey.specs.Marks.{AreMarks}
 use Rattle.lsp_survey.specs.declared.notes.marks.Marks.{Marks}
-use Rattle.lsp_survey.specs.declared.notes.place.Place.{Place}
+use Rattle.lsp_replay.specs.declared.heard.EventPlace.{EventPlace}
 use Rattle.lsp_facts.specs.Fact.{facts_view}
 use Rattle.lsp_facts.specs.Refuting.{refuting}
 use Rattle.lsp_explain.specs.Standing.{terms_in}
@@ -62,7 +62,7 @@ returns c =
     let found = c.in_ok-snapshots.ensures kind (calls kept) call called
     (ap (λ e. call_of e kind (act_view c.args.act.now)) agreed ∙ is) in
     says terms before marked
-    ∙ ap (λ (ns : List Place). document_traced (steps terms uri before) ns until c.args.rule
+    ∙ ap (λ (ns : List EventPlace). document_traced (steps terms uri before) ns until c.args.rule
     (facts_view c.args.facts.now.items))
     (c.as_slice.ensures.value ∙ found
     ∙ ap (λ d. refuting d.terms (calls kept) call c.waiting-waiting.result.now) c.docs.ensures

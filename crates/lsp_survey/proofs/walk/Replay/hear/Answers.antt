@@ -3,7 +3,7 @@ use Rattle.std.proofs.lemmas.Result.{IfOk-weaker}
 use Rattle.lsp_docs.specs.Terms.{Terms}
 use Rattle.lsp_verdict.specs.Lent.{raw_view}
 use Rattle.lsp_verdict.specs.Offences.{events_of, kept_of}
-use Rattle.lsp_survey.specs.Places.{place_next}
+use Rattle.lsp_replay.specs.Places.{place_next}
 use Rattle.lsp_survey.specs.Walking.{Hears, IsRefused, who_heard}
 use Rattle.lsp_survey.proofs.Hearing.{kept_heard, noted_after, still_walks}
 use Rattle.lsp_survey.proofs.walk.Replay.hear.Goals as goal
