@@ -1,6 +1,13 @@
 //! Events that were heard, and where they stand.
+ghost use Rattle.std.specs.Prelude.{◌≡◌, List, [], ◌∷◌, ◌++◌};
+ghost use Rattle.lsp_replay.specs.Lines.{IsHeard, IsPlace};
+ghost use Rattle.lsp_verdict.specs.Counting.{AreCounts};
+ghost use Rattle.lsp_verdict.specs.Event.{Event};
+ghost use Rattle.lsp_verdict.specs.Verdict as spec;
+
 use lsp_docs::Match;
 use lsp_rpc::{Side, Spoken};
+use lsp_verdict::{Counts, Who, who_of};
 
 /// An event that was heard and doesn't offend. The texts of a snapshot are lent.
 #[derive(Drop)]
@@ -26,4 +33,28 @@ pub struct EventPlace {
     pub number: u64,
     /// Its number among all events, from 1.
     pub event: u64,
+}
+
+impl EventPlace {
+    /// Where the event stands that was heard last, after which the counts are these.
+    pub fn of(counts: &Counts, heard: &Heard<'_>) -> EventPlace
+        ensures { (before : List Event) (event : Event)
+            → AreCounts counts.now (before ++ event ∷ [])
+            → IsHeard event heard.now → IsPlace before event result }
+    {
+        EventPlace {
+            number: counts.of(whose(heard)),
+            event: counts.all,
+        }
+    }
+}
+
+/// Whose an event is.
+fn whose(heard: &Heard<'_>) -> Who
+    ensures { (event : Event) → IsHeard event heard.now → result ≡ spec.whose event }
+{
+    match heard {
+        Heard::Message { side, spoken: _ } => who_of(*side),
+        Heard::Snapshot { .. } => Who::Snapshot,
+    }
 }
