@@ -147,7 +147,12 @@ fn push_cited(lines: &mut String, key: &str, place: EventPlace) -> Result<(), Me
 }
 
 /// Adds a key, a version, and the event that brought it.
-fn push_version_by(lines: &mut String, key: &str, version: i32, place: EventPlace) -> Result<(), Memory>
+fn push_version_by(
+    lines: &mut String,
+    key: &str,
+    version: i32,
+    place: EventPlace,
+) -> Result<(), Memory>
     ensures { OnOk result (string_bytes lines.new ≡ string_bytes lines.old
         ++ spec.version_by key.now version place) }
 {
@@ -270,7 +275,12 @@ fn push_never_opened(lines: &mut String) -> Result<(), Memory>
     Ok(lines.push_str("opened never\n")?)
 }
 
-fn push_similar(alloc: Global, lines: &mut String, uri: &str, place: EventPlace) -> Result<(), Memory>
+fn push_similar(
+    alloc: Global,
+    lines: &mut String,
+    uri: &str,
+    place: EventPlace,
+) -> Result<(), Memory>
     ensures { OnOk result (string_bytes lines.new ≡ string_bytes lines.old
         ++ spec.fact_line (similar_to uri.now place)) }
 {

@@ -38,8 +38,8 @@ use Rattle.lsp_survey.specs.declared.notes.sides.Sides.{Sides}
 use Rattle.lsp_survey.specs.Notes.{AreAfter, note_in}
 use Rattle.lsp_survey.specs.Walking.{Walks, WalksBy, IsRefused, IsShown, IsUnread, PassesOver}
 use Rattle.lsp_survey.specs.Walking.{IsMessageOf, IsOffending, Hears, NotesKept, NotesMessage}
-use Rattle.lsp_survey.specs.Walking.{NotesSnapshot, who_heard}
-use Rattle.lsp_replay.specs.Places.{place_next, place_of}
+use Rattle.lsp_survey.specs.Walking.{NotesSnapshot}
+use Rattle.lsp_replay.specs.Places.{place_of}
 use Rattle.lsp_survey.specs.Passed.{has_passed}
 use Rattle.lsp_survey.specs.Sides.{sides_read}
 use Rattle.lsp_survey.specs.declared.offending.Judged.{Judged}
@@ -87,7 +87,7 @@ module _ (old new : Replay) (notes : List Noted) (walks : Walks old notes)
       → rule_at terms events (message sent) ≡ None
       → Holds new.events.session new.events.docs (before ++ message sent ∷ [])
       → AreCounts new.events.counts (events ++ message sent ∷ [])
-      → NotesMessage (place_next events (who_of by)) by said act old new
+      → NotesMessage (place_of events (message sent)) by said act old new
       → Hears (content side bytes) terms new notes heard.Kept
   message_heard side by bytes sent said act reads is_by says has_value means clean holds counted
       noted =
@@ -95,9 +95,7 @@ module _ (old new : Replay) (notes : List Noted) (walks : Walks old notes)
       let kind = unwrap_or (sync_kind (sent_in before)) Nothing in
       let more : before ++ message sent ∷ [] ≡ kept_of terms (events ++ message sent ∷ []) =
       sym (kept-push terms events (message sent) clean) in
-      let place : EventPlace = place_next events (who_of by) in
-      let is_place : place ≡ place_of events (message sent) =
-      ap (λ (s : Side). place_next events (who_of s)) (sym is_by) in
+      let place : EventPlace = place_of events (message sent) in
       let told : SaysOn place by said
       (sent_in (kept_of terms (events ++ message sent ∷ []))) old.said new.said =
       subst (λ (es : List Event). SaysOn place by said (sent_in es) old.said new.said) more
@@ -109,13 +107,13 @@ module _ (old new : Replay) (notes : List Noted) (walks : Walks old notes)
       (noted.4 ∙ ap (λ (s : Side). sides_read s old.sides) (sym is_by)) is_passed
       (noted.0 enc kind)
       (act_done terms old.marks.map.entries new.marks.map.entries events sent place walks.marked
-      clean is_place
+      clean refl
       (λ e k. subst (λ (a : Act). DoneBy place (call_of e k a) old.marks.map.entries
       new.marks.map.entries) (sym means) (noted.1 e k)))
-      (act_opened terms old.openings new.openings events sent place walks.opened clean is_place
+      (act_opened terms old.openings new.openings events sent place walks.opened clean refl
       (λ e k. subst (λ (a : Act). OpensBy place (call_of e k a) old.openings new.openings)
       (sym means) (noted.2 e k)))
-      (message_noted terms old.said new.said events sent said place walks.said clean is_place says
+      (message_noted terms old.said new.said events sent said place walks.said clean refl says
       has_value
       (subst (λ (s : Side). SaysOn place s said
       (sent_in (kept_of terms (events ++ message sent ∷ []))) old.said new.said)
@@ -128,7 +126,7 @@ module _ (old new : Replay) (notes : List Noted) (walks : Walks old notes)
       → AreCounts new.events.counts (events ++ snapshot uri version text ∷ [])
       → answer ≡ answer_of version (kept_versions terms uri (calls before))
       (held terms uri (calls before))
-      → NotesSnapshot (place_next events who.Snapshot) uri version answer old new
+      → NotesSnapshot (place_of events (snapshot uri version text)) uri version answer old new
       → Hears raw terms new notes heard.Kept
   snapshot_heard raw uri text version answer reads whole clean holds counted answers noted =
       let call : Call = shows uri version text in
@@ -138,7 +136,7 @@ module _ (old new : Replay) (notes : List Noted) (walks : Walks old notes)
       (subst (λ (w : Notes). AreAfter (Some call) old.notes.map.entries w.map.entries)
       (sym noted.0) (notes_stay call old.notes.map.entries refl))
       (shown_done terms old.marks.map.entries new.marks.map.entries events uri version text
-      (place_next events who.Snapshot) answer walks.marked clean refl answers noted.1)
+      (place_of events n.event) answer walks.marked clean refl answers noted.1)
       (shown_opened terms new.openings events uri version text
       (subst (λ (o : Openings). AreOpenings terms o events) (sym noted.2) walks.opened) clean)
       (other_unsaid terms new.said events n.event
@@ -149,7 +147,7 @@ module _ (old new : Replay) (notes : List Noted) (walks : Walks old notes)
       → offence terms before event ≡ None
       → Holds new.events.session new.events.docs (before ++ event ∷ [])
       → AreCounts new.events.counts (events ++ event ∷ [])
-      → NotesKept (place_next events (who_heard given)) given old new
+      → NotesKept (place_of events event) given old new
       → Hears raw terms new notes heard.Kept
   by_event (content side bytes) (kept.Message by spoken) (message sent) reads is answers whole clean
       holds counted noted =
@@ -220,7 +218,8 @@ pub kept_heard : (raw : Raw) (old new : Replay) (notes : List Noted)
     → new.broken ≡ old.broken → new.passed ≡ old.passed
     → Keeps raw old.events.docs.terms old.events.counts given m d c
     (kept_of old.events.docs.terms (events_of notes))
-    → NotesKept (place_next (events_of notes) (who_heard given)) given old new
+    → ((event : Event) → AreCounts c (events_of notes ++ event ∷ []) → IsHeard event given
+    → NotesKept (place_of (events_of notes) event) given old new)
     → Hears raw old.events.docs.terms new notes heard.Kept
 kept_heard raw old new notes given m d c walks terms_are same_m same_d same_c
     is_broken is_passed k noted =
@@ -232,7 +231,7 @@ kept_heard raw old new notes given m d c walks terms_are same_m same_d same_c
     (subst (λ (w : session.State). Holds w new.events.docs (before ++ k.event ∷ [])) (sym same_m)
     (subst (λ (w : docs.State). Holds m w (before ++ k.event ∷ [])) (sym same_d) k.holds))
     (subst (λ (w : Counts). AreCounts w (events ++ k.event ∷ [])) (sym same_c)
-    (k.counted events walks.counted)) noted
+    (k.counted events walks.counted)) (noted k.event (k.counted events walks.counted) k.is_heard)
 
 -- ---- an event that offends
 

@@ -44,9 +44,8 @@ use Rattle.lsp_verdict.specs.Offences.{brought_by, events_of, follows_bytes, is_
 use Rattle.lsp_verdict.specs.Offences.{follows_passed, is_passed, may_answer, offence_by, rule_at}
 use Rattle.lsp_verdict.specs.Offences.{wants_handshake, wants_text}
 use Rattle.lsp_verdict.specs.Placed.{Raw, content, broken, show}
-use Rattle.lsp_verdict.specs.Verdict.{no_next, who_of, whose}
+use Rattle.lsp_verdict.specs.Verdict.{no_next, whose}
 use Rattle.lsp_verdict.specs.declared.verdict.Who.{Who}
-use Rattle.lsp_verdict.specs.declared.verdict.Who.TheVariants as who
 
 -- ---- what is held
 
@@ -95,11 +94,6 @@ NotesSnapshot place uri version answer old new =
     × (new.openings ≡ old.openings)
     × (new.said ≡ old.said)
     × (new.sides ≡ old.sides)
-
--- whose event was heard
-abbrev pub who_heard : events.Heard → Who
-who_heard (kept.Message side spoken) = who_of side
-who_heard (kept.Snapshot version uri text answer) = who.Snapshot
 
 -- the event that is kept, of this place, was noted
 abbrev pub NotesKept : EventPlace → events.Heard → Replay → Replay → Type 0

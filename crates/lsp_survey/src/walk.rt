@@ -14,7 +14,8 @@ ghost use Rattle.lsp_verdict.specs.Offences.{IsReading, Noted, breaks_handshake,
 ghost use Rattle.lsp_verdict.specs.Offences.{follows_bytes, is_handshake_lost, may_answer};
 ghost use Rattle.lsp_verdict.specs.Offences.{follows_passed, wants_handshake, wants_text};
 ghost use Rattle.lsp_verdict.specs.Verdict as spec;
-ghost use Rattle.lsp_replay.specs.Places.{place_next};
+ghost use Rattle.lsp_replay.specs.Lines.{IsHeard};
+ghost use Rattle.lsp_replay.specs.Places.{place_of};
 ghost use Rattle.lsp_session.specs.Sent.{other_side, response_id};
 ghost use Rattle.lsp_survey.specs.Passed.{has_any};
 ghost use Rattle.lsp_survey.specs.Sides.{sides_failed};
@@ -23,21 +24,21 @@ ghost use Rattle.lsp_verdict.specs.Lent.{raw_view};
 ghost use Rattle.lsp_survey.specs.Ending.{lack_by};
 ghost use Rattle.lsp_survey.specs.Walking.{Counted, Hears, IsMessageOf, IsRefused, IsShown};
 ghost use Rattle.lsp_survey.specs.Walking.{IsUnread, NotesKept, NotesMessage, PassesOver, Walks};
-ghost use Rattle.lsp_survey.specs.Walking.{offence_of, who_heard};
+ghost use Rattle.lsp_survey.specs.Walking.{offence_of};
 
 use crate::notes::{
-    Malformed, Marks, Notes, Openings, Passed, EventPlace, SessionNotes, Sides, breaks_handshake,
-    is_on_lost, meant_again, note_kept_act, note_malformed, note_refused, note_refused_act,
-    reopens, wants_handshake, wants_text,
+    Malformed, Marks, Notes, Openings, Passed, SessionNotes, Sides, breaks_handshake, is_on_lost,
+    meant_again, note_kept_act, note_malformed, note_refused, note_refused_act, reopens,
+    wants_handshake, wants_text,
 };
 use crate::offending::{FoundOffence, Judged, OffendingEvent};
 use lsp_frame::{Format, Limits};
-use lsp_text::Lined;
 use lsp_replay as replay;
-use lsp_replay::{Events, Refused};
+use lsp_replay::{EventPlace, Events, Refused};
 use lsp_rpc::{Memory, Message, Side, Spoken};
+use lsp_text::Lined;
 use lsp_types::rules;
-use lsp_verdict::{Completeness, Counts, Offence, Raw, Who, who_of};
+use lsp_verdict::{Completeness, Offence, Raw, Who, who_of};
 use std::alloc::Global;
 
 /// The result of the events of a session, where each that offends is skipped.
@@ -85,9 +86,8 @@ impl Replay {
         ensures heard { IfOk result (λ heard. (before : List Noted) → Walks self.old before
             → Hears (raw_view raw.entry) self.old.events.docs.terms self.new before heard) }
     {
-        let counts = self.events.counts;
         match self.events.hear(raw) {
-            Ok(kept) => self.keep(&counts, kept),
+            Ok(kept) => self.keep(kept),
             Err(refused) => self.pass_over(alloc, raw, refused),
         }
     }
@@ -103,15 +103,16 @@ impl Replay {
         }
     }
 
-    /// Takes over the event after those of these counts, which was heard and is kept.
-    fn keep(&mut self, counts: &Counts, kept: replay::Heard<'_>) -> Result<Judged, Memory>
+    /// Takes over the event that was heard last and is kept.
+    fn keep(&mut self, kept: replay::Heard<'_>) -> Result<Judged, Memory>
         ensures same { (self.new.events ≡ self.old.events) × (self.new.broken ≡ self.old.broken)
             × (self.new.passed ≡ self.old.passed) }
         ensures keeps { IfOk result (λ heard. (heard ≡ Judged.Kept)
-            × ((events : List Event) → AreCounts counts.now events
-            → NotesKept (place_next events (who_heard kept.entry)) kept.entry self.old self.new)) }
+            × ((before : List Event) (event : Event)
+            → AreCounts self.old.events.counts (before ++ event ∷ []) → IsHeard event kept.entry
+            → NotesKept (place_of before event) kept.entry self.old self.new)) }
     {
-        let place = EventPlace::next(counts, who_heard(&kept));
+        let place = EventPlace::of(&self.events.counts, &kept);
         let noted = self.note(place, &kept);
         drop(kept);
         noted?;
@@ -393,15 +394,5 @@ impl Replay {
             Side::Editor => false,
             Side::Server => self.events.session.awaits_initialize(),
         }
-    }
-}
-
-/// Whose event was heard.
-fn who_heard(heard: &replay::Heard<'_>) -> Who
-    ensures { result ≡ who_heard heard.now }
-{
-    match heard {
-        replay::Heard::Message { side, .. } => who_of(*side),
-        replay::Heard::Snapshot { .. } => Who::Snapshot,
     }
 }

@@ -3,8 +3,8 @@ use Rattle.std.proofs.lemmas.Result.{IfOk-weaker}
 use Rattle.lsp_docs.specs.Terms.{Terms}
 use Rattle.lsp_verdict.specs.Lent.{raw_view}
 use Rattle.lsp_verdict.specs.Offences.{events_of, kept_of}
-use Rattle.lsp_replay.specs.Places.{place_next}
-use Rattle.lsp_survey.specs.Walking.{Hears, IsRefused, who_heard}
+use Rattle.lsp_replay.specs.Places.{place_of}
+use Rattle.lsp_survey.specs.Walking.{Hears, IsRefused}
 use Rattle.lsp_survey.proofs.Hearing.{kept_heard, noted_after, still_walks}
 use Rattle.lsp_survey.proofs.walk.Replay.hear.Goals as goal
 
@@ -21,10 +21,11 @@ returns-in-Ok-clause-heard c =
     (λ i. (same i).session) (λ i. (same i).docs) (λ i. (same i).counts) c.keep.ensures.same.1
     c.keep.ensures.same.2
     (c.in-Ok.ensures.ok kept walks.holds)
-    (noted_after (place_next (events_of before) (who_heard c.in-Ok.kept)) c.in-Ok.kept (record old {
+    (λ event counted heard.
+    noted_after (place_of (events_of before) event) c.in-Ok.kept (record old {
       events = c.hear.new.self;
     }) old c.keep.new.self refl refl refl refl refl
-    (keeps.1 (events_of before) walks.counted))))
+    (keeps.1 (events_of before) event counted heard))))
     c.keep.ensures.keeps
 
 pub returns-in-Err-clause-heard : goal.returns-in-Err-clause-heard
