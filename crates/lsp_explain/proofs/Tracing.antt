@@ -23,7 +23,8 @@ use Rattle.lsp_explain.specs.Traced.{message_traced, session_trace, traced, with
 use Rattle.lsp_explain.specs.declared.suspects.Until.{Until}
 use Rattle.lsp_facts.proofs.Spoken.{id_in-outline}
 
-module _ (terms : Terms) (before : List Event) (place : EventPlace) (rule : ℕ) (plain : List Fact) where
+module _ (terms : Terms) (before : List Event) (place : EventPlace) (rule : ℕ)
+    (plain : List Fact) where
   -- what is added, where the rule is one on messages or not
   abbrev added : Bool → Side → Message → Act → List Fact
   added b side said act = if b then plain ++ session_trace rule (numbered terms before) side

@@ -101,7 +101,8 @@ call_traced terms before p rule (Some call) plain =
     (until_of p call) rule plain
 
 -- the same of a message, with what is said about a document that is not open
-abbrev pub message_traced : Terms → List Event → EventPlace → ℕ → Option Call → List Fact → List Fact
+abbrev pub message_traced : Terms → List Event → EventPlace → ℕ → Option Call → List Fact
+    → List Fact
 message_traced terms before p rule said plain =
     call_traced terms before p rule said plain ++ unopened_traced terms before rule said
 

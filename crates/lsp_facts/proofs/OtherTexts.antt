@@ -44,14 +44,16 @@ module _ (ends : LineEnds) (t : Text) where
       by_test true e = ap (λ (l : List EventPlace). m ∷ l) e
       by_test false e = e
 
-  others-more : (ns : List EventPlace) (us : List Text) (i : ℕ) (n : EventPlace) → slice_get ns i ≡ Some n
+  others-more : (ns : List EventPlace) (us : List Text) (i : ℕ) (n : EventPlace)
+      → slice_get ns i ≡ Some n
       → others_of ends t (take (i + 1) ns) us
       ≡ others_of ends t (take i ns) us ++ next n (slice_get us i)
   others-more ns us i n h =
       let e : i + 1 ≡ suc i = omega arith in ap (λ (k : ℕ). others_of ends t (take k ns) us) e
       ∙ more ns us i n h
 
-  pub others-there : (ns : List EventPlace) (us : List Text) (i : ℕ) (d : EventPlace) (xs : List EventPlace) → i < length ns
+  pub others-there : (ns : List EventPlace) (us : List Text) (i : ℕ) (d : EventPlace)
+      (xs : List EventPlace) → i < length ns
       → is_other_at ends t (slice_get us i) ≡ true → xs ≡ others_of ends t (take i ns) us
       → xs ++ get_or ns i d ∷ [] ≡ others_of ends t (take (i + 1) ns) us
   others-there ns us i d xs lt other is =
@@ -60,7 +62,8 @@ module _ (ends : LineEnds) (t : Text) where
       ∙ ap (λ (b : Bool). others_of ends t (take i ns) us ++ (if b then get_or ns i d ∷ [] else []))
       other)
 
-  pub others-passed : (ns : List EventPlace) (us : List Text) (i : ℕ) (d : EventPlace) (xs : List EventPlace) → i < length ns
+  pub others-passed : (ns : List EventPlace) (us : List Text) (i : ℕ) (d : EventPlace)
+      (xs : List EventPlace) → i < length ns
       → is_other_at ends t (slice_get us i) ≡ false → xs ≡ others_of ends t (take i ns) us
       → xs ≡ others_of ends t (take (i + 1) ns) us
   others-passed ns us i d xs lt same is =
@@ -87,7 +90,9 @@ module _ (terms : Terms) (enc : Encoding) (cs : List Edit) (h : Option Version) 
 
 -- ---- what refutes a change
 
-pub refuting_change : (terms : Terms) (calls : List Call) (enc : Encoding) (kind : SyncKind) (uri : List ℕ) (number : ℤ) (cs : List Edit) (ns : List EventPlace) (call : Call) (made : Option Text) (others : List EventPlace)
+pub refuting_change : (terms : Terms) (calls : List Call) (enc : Encoding) (kind : SyncKind)
+    (uri : List ℕ) (number : ℤ) (cs : List Edit) (ns : List EventPlace) (call : Call)
+    (made : Option Text) (others : List EventPlace)
     → Some (changes enc kind uri number cs) ≡ Some call → made ≡ made_text terms enc cs (held terms uri calls)
     → others ≡ unwrap_or (option_map (λ t. others_of terms.line_ends t ns
     (waiting_texts terms calls uri number)) made) [] → others ≡ refuting terms calls call ns

@@ -2,4 +2,5 @@
 pub mod Messages
 pub mod Contents
 pub mod Flaws
+pub mod Lines
 pub mod Documents

@@ -182,7 +182,8 @@ module _ (old new : Replay) (notes : List Noted) (walks : Walks old notes)
       noted
 
 -- what was noted before is all that matters
-pub noted_after : (place : EventPlace) (given : lent.Heard) (mid old new : Replay) → mid.notes ≡ old.notes
+pub noted_after : (place : EventPlace) (given : lent.Heard) (mid old new : Replay)
+    → mid.notes ≡ old.notes
     → mid.marks ≡ old.marks → mid.openings ≡ old.openings → mid.said ≡ old.said
     → mid.sides ≡ old.sides → NotesKept place given mid new → NotesKept place given old new
 noted_after place (kept.Message side spoken) mid old new notes marks openings said sides noted =

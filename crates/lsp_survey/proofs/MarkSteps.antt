@@ -86,7 +86,8 @@ pub refused_leaves : (terms : Terms) (es : Entries) (before : List Event) (e : E
     → AreMarks terms es (before ++ e ∷ [])
 refused_leaves terms es before e rule are is =
     none_done terms es before e are
-    (λ uri. ap (λ (o : Option ℕ). step_by terms uri before (place_of before e) o (said_at terms before e)) is)
+    (λ uri. ap (λ (o : Option ℕ). step_by terms uri before (place_of before e) o
+    (said_at terms before e)) is)
 
 -- so they are what the events before it left
 pub refused_marks : (terms : Terms) (es : Entries) (before : List Event) (e : Event) (rule : ℕ)
@@ -104,7 +105,8 @@ pub unsaid_leaves : (terms : Terms) (es : Entries) (before : List Event) (e : Ev
     → AreMarks terms es before → rule_at terms before e ≡ None → said_at terms before e ≡ None
     → AreMarks terms es (before ++ e ∷ [])
 unsaid_leaves terms es before e are kept said = none_done terms es before e are
-    (λ uri. ap (λ (o : Option ℕ). step_by terms uri before (place_of before e) o (said_at terms before e)) kept
+    (λ uri. ap (λ (o : Option ℕ). step_by terms uri before (place_of before e) o
+    (said_at terms before e)) kept
     ∙ ap (step_by terms uri before (place_of before e) None) said)
 
 -- of one that is kept, what a call does to its document
@@ -114,7 +116,8 @@ said_step : (terms : Terms) (before : List Event) (e : Event) (call : Call)
     ≡ (if bytes_eq u (uri_of call) then step_of terms (place_of before e)
     (calls (kept_of terms before)) call else None)
 said_step terms before e call kept said u =
-    ap (λ (o : Option ℕ). step_by terms u before (place_of before e) o (said_at terms before e)) kept
+    ap (λ (o : Option ℕ). step_by terms u before (place_of before e) o (said_at terms before e))
+    kept
     ∙ ap (step_by terms u before (place_of before e) None) said
 
 pub nothing_done : (terms : Terms) (es : Entries) (before : List Event) (e : Event) (call : Call)
@@ -152,7 +155,8 @@ step_done terms old new before e call step uri are kept said own does sets u =
 
 -- **a message that is kept**
 pub act_done : (terms : Terms) (old new : Entries) (before : List Event) (m : Sent) (p : EventPlace)
-    → AreMarks terms old before → rule_at terms before (message m) ≡ None → p ≡ place_of before (message m)
+    → AreMarks terms old before → rule_at terms before (message m) ≡ None
+    → p ≡ place_of before (message m)
     → ((enc : Encoding) (kind : SyncKind) → DoneBy p (call_of enc kind m.act) old new)
     → AreMarks terms new (before ++ message m ∷ [])
 act_done terms old new before m p are kept number done =

@@ -261,7 +261,8 @@ waiting_for-push number [] step =
     by_test true = refl
     by_test false = refl
 waiting_for-push number (s ∷ done) step =
-    ap (λ (l : List EventPlace). l ++ waiting_for number (done ++ step ∷ [])) (entry_more number s done step)
+    ap (λ (l : List EventPlace). l ++ waiting_for number (done ++ step ∷ []))
+    (entry_more number s done step)
     ∙ ap (λ (l : List EventPlace). (if ends_waiting number step then [] else waiting_entry number s
     done) ++ l) (waiting_for-push number done step)
     ∙ by_test (ends_waiting number step)

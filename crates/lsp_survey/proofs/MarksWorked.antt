@@ -75,7 +75,8 @@ none_set : recent (reached ++ closed ∷ []) ≡ []
 none_set = refl
 
 -- the versions of the next opening count from 1
-set_anew : recent (reached ++ closed ∷ touches Reached (at 9) (pos 5) ∷ []) ≡ set_by 9 (pos 5) 1 ∷ []
+set_anew : recent (reached ++ closed ∷ touches Reached (at 9) (pos 5) ∷ [])
+    ≡ set_by 9 (pos 5) 1 ∷ []
 set_anew = refl
 
 again : agreed (reached ++ closed ∷ touches Reached (at 9) (pos 5) ∷ []) ≡ None
@@ -83,7 +84,8 @@ again = refl
 
 -- of two answers with one id the later counts, and one that is too old does not
 abbrev answers : List Reply
-answers = replied (at 3) (number (pos 1)) ∷ replied (at 5) (number (pos 2)) ∷ replied (at 7) (number (pos 1)) ∷ []
+answers = replied (at 3) (number (pos 1)) ∷ replied (at 5) (number (pos 2)) ∷ replied (at 7)
+    (number (pos 1)) ∷ []
 
 the_later : last_reply (number (pos 1)) answers ≡ Some (at 7)
 the_later = refl
@@ -93,7 +95,8 @@ too_old = refl
 
 -- of two messages that closed a document the later counts
 abbrev closings : List OnDocument
-closings = on_document (97 ∷ []) (at 5) ∷ on_document (98 ∷ []) (at 7) ∷ on_document (97 ∷ []) (at 9) ∷ []
+closings = on_document (97 ∷ []) (at 5) ∷ on_document (98 ∷ []) (at 7) ∷ on_document (97 ∷ [])
+    (at 9) ∷ []
 
 closed_last : closing_of (97 ∷ []) closings ≡ closing.Last (at 9)
 closed_last = refl

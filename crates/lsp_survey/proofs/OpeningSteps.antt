@@ -102,7 +102,8 @@ kept_takes takes terms before e said p kept says number =
     ∙ ap (λ (k : EventPlace). option_and_then (takes k) said) (sym number)
 
 -- **a message that is kept**
-pub act_opened : (terms : Terms) (old new : Openings) (before : List Event) (m : Sent) (p : EventPlace)
+pub act_opened : (terms : Terms) (old new : Openings) (before : List Event) (m : Sent)
+    (p : EventPlace)
     → AreOpenings terms old before → rule_at terms before (message m) ≡ None
     → p ≡ place_of before (message m)
     → ((enc : Encoding) (kind : SyncKind) → OpensBy p (call_of enc kind m.act) old new)
@@ -133,7 +134,8 @@ shown_opened terms o before uri v text are kept =
     none_opened terms o before (snapshot uri v text) are (taken opened_by refl)
     (taken closed_by refl)
   where
-    taken : (takes : Takes) → takes (place_of before (snapshot uri v text)) (shows uri v text) ≡ None
+    taken : (takes : Takes) → takes (place_of before (snapshot uri v text)) (shows uri v text)
+        ≡ None
         → taken_at takes terms before (snapshot uri v text) ≡ None
     taken takes none =
         kept_takes takes terms before (snapshot uri v text) (Some (shows uri v text))

@@ -143,7 +143,8 @@ older_more None (Some s) said old new has are more =
 -- ---- one message more
 
 -- **what is held stands for it too**
-pub remarked : (p : EventPlace) (m : Sent) (said : Message) (before : List Numbered) (old new : Remarks)
+pub remarked : (p : EventPlace) (m : Sent) (said : Message) (before : List Numbered)
+    (old new : Remarks)
     → outline m.message ≡ outline said
     → (open_initializes (sents before) ≡ []) ⊎ (said ≡ without_params m.message)
     → AreRemarks old before

@@ -36,7 +36,8 @@ use Rattle.lsp_survey.proofs.RemarkSteps.{filter_map-snoc, remarked}
 
 -- ---- the kept messages
 
-sent_more : (p : EventPlace) (rule : Option ℕ) (e : Event) (kept : List Event) (said : List Numbered)
+sent_more : (p : EventPlace) (rule : Option ℕ) (e : Event) (kept : List Event)
+    (said : List Numbered)
     → sent_in kept ≡ sents said
     → sent_in (cons_option (if is_some rule then None else Some e) kept)
     ≡ sents (cons_option (numbered_by p rule (sent_of e)) said)
@@ -84,7 +85,8 @@ as_list : {A : Type 0} (o : Option A) → option_to_list o ≡ cons_option o []
 as_list None = refl
 as_list (Some x) = refl
 
-module _ (side : Side) (p : EventPlace) (m : Sent) (said : Message) (same : outline m.message ≡ outline said)
+module _ (side : Side) (p : EventPlace) (m : Sent) (said : Message)
+    (same : outline m.message ≡ outline said)
   where
     same_asks : (id : Ident) → asks side id p m.side said ≡ asks side id p m.side m.message
     same_asks id = asks-outline side id p m.side said ∙ sym (ap (asks side id p m.side) same)
@@ -100,7 +102,8 @@ module _ (side : Side) (p : EventPlace) (m : Sent) (said : Message) (same : outl
     exchanged old new before is more = record {
       asked_is = λ k.
           more.asked k
-          ∙ ap (λ (o : Option (Option EventPlace)). unwrap_or o (asked_in old.asked.entries (id_view k)))
+          ∙ ap (λ (o : Option (Option EventPlace)).
+          unwrap_or o (asked_in old.asked.entries (id_view k)))
           (same_asks (id_view k))
           ∙ ap (unwrap_or (asks side (id_view k) p m.side m.message)) (is.asked_is k)
           ∙ sym (ap (last_or None) (filter_map-snoc (asks_by side (id_view k)) before
@@ -164,7 +167,8 @@ other_unsaid terms s before e are is =
 
 -- **a message that is kept**
 pub message_noted : (terms : Terms) (old new : SessionNotes) (before : List Event) (m : Sent)
-    (said : Message) (p : EventPlace) → AreNotes terms old before → rule_at terms before (message m) ≡ None
+    (said : Message) (p : EventPlace) → AreNotes terms old before
+    → rule_at terms before (message m) ≡ None
     → p ≡ place_of before (message m) → outline m.message ≡ outline said
     → HasValue (kept_of terms before) said m.message
     → SaysOn p m.side said (sent_in (kept_of terms (before ++ message m ∷ []))) old new
@@ -190,7 +194,8 @@ message_noted terms old new before m said p are kept number same has_value says 
     whole : numbered terms (before ++ message m ∷ []) ≡ ms ++ numbered_as p m ∷ []
     whole =
         numbered-push terms before (message m)
-        ∙ ap (λ (o : Option ℕ). ms ++ cons_option (numbered_by (place_of before (message m)) o (Some m)) [])
+        ∙ ap (λ (o : Option ℕ). ms ++ cons_option
+        (numbered_by (place_of before (message m)) o (Some m)) [])
         kept
         ∙ ap (λ (k : EventPlace). ms ++ numbered_as k m ∷ []) (sym number)
 

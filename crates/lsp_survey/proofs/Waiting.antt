@@ -29,7 +29,8 @@ pub none_reached : (version least : ℤ) (es : Entries) → not (int_lt version 
 none_reached version least es reached lower number less =
     by_look (lookup (int_eq number) es) (lower number)
   where
-    by_look : (o : Option (Vec EventPlace Global)) → (IsSome o → is_gt (int_cmp least number) ≡ false)
+    by_look : (o : Option (Vec EventPlace Global))
+        → (IsSome o → is_gt (int_cmp least number) ≡ false)
         → o ≡ None
     by_look None h = refl
     by_look (Some v) h = absurd (true≢false

@@ -55,7 +55,8 @@ StepsOn uri step old new =
     marked_in old u)
 
 -- a message, the event of this place, that says this of a document
-abbrev pub DoneBy : EventPlace → Option Call → List (String Global × Mark) → List (String Global × Mark)
+abbrev pub DoneBy : EventPlace → Option Call → List (String Global × Mark)
+    → List (String Global × Mark)
     → Type 0
 DoneBy p None old new = new ≡ old
 DoneBy p (Some (opens uri number text)) old new = StepsOn uri (touches Reached p number) old new

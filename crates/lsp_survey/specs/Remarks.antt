@@ -65,7 +65,8 @@ pub record AreRemarks (r : Remarks) (said : List Numbered) : Type 0 where
 
 -- one more message of the sender, the event of this place, before and after which the session is
 -- in these phases, and after which the handshake is settled or is not
-pub record Remarked (p : EventPlace) (sender : Side) (m : Message) (before after : Phase) (done : Bool)
+pub record Remarked (p : EventPlace) (sender : Side) (m : Message) (before after : Phase)
+    (done : Bool)
     (old new : Remarks) : Type 0 where
   pub misuses_are : misused_views new.misuses.items
       ≡ with_misuse (misused_views old.misuses.items) (misuse_in p sender m)

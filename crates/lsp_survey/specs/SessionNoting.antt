@@ -33,7 +33,8 @@ abbrev pub replies_in : Exchange → List Reply
 replies_in e = map given_view e.replies.items
 
 -- one more message of the sender, the event of this place
-pub record Exchanges (side : Side) (p : EventPlace) (sender : Side) (m : Message) (old new : Exchange) : Type
+pub record Exchanges (side : Side) (p : EventPlace) (sender : Side) (m : Message)
+    (old new : Exchange) : Type
     0 where
   pub asked : (k : Id) → asked_in new.asked.entries (id_view k)
       ≡ unwrap_or (asks side (id_view k) p sender m) (asked_in old.asked.entries (id_view k))

@@ -56,7 +56,7 @@ passed_over = refl
 
 -- an open request whose id is of another type
 other_type : with_events 301 (START ++ REQ ∷ []) (RES (codes "\"7\"")) []
-    ≡ codes "open 7 event 4\n"
+    ≡ codes "open 7 event 4 editor 3\n"
 unfolding value punctuate lex content word after_number number_of scan_numeral chars digits
     escape_byte
 other_type = refl
@@ -100,7 +100,8 @@ unfolding value punctuate lex content word after_number number_of scan_numeral c
 refused_handshake = refl
 
 unanswered : fact_lines (lack_traced (numbered terms (START ++ REQ ∷ [])))
-    ≡ codes "request 7 \"textDocument/hover\" event 4 editor 3\nphase ready\nsince event 3 editor 2\n"
+    ≡ codes "request 7 \"textDocument/hover\" event 4 editor 3\nphase ready\n"
+    ++ codes "since event 3 editor 2\n"
 unfolding value punctuate lex content word after_number number_of scan_numeral chars digits
     escape_byte
 unanswered = refl
@@ -110,8 +111,8 @@ unanswered = refl
 snapshot_differs : with_events 702
     (START ++ OPEN (codes "1") (codes "ab") ∷ T 1 (codes "ab") ∷ CHG (codes "2")
     (FULL (codes "abc")) ∷ []) (T 2 (codes "abd")) (of_uri [] ∷ holds (pos 2) ∷ shows_version (pos 2) ∷ [])
-    ≡ codes "uri \"\"\nheld 2 event 6 editor 4\nversion 2\nsnapshot event 7 snapshot 2\nequal 1 event 5 snapshot 1\n"
-    ++ codes "suspects 1\nsuspect 2 event 6 editor 4\n"
+    ≡ codes "uri \"\"\nheld 2 event 6 editor 4\nversion 2\nsnapshot event 7 snapshot 2\n"
+    ++ codes "equal 1 event 5 snapshot 1\nsuspects 1\nsuspect 2 event 6 editor 4\n"
 unfolding value punctuate lex content word after_number number_of scan_numeral chars digits
     escape_byte
 snapshot_differs = refl
@@ -134,8 +135,8 @@ late_suspect : fact_lines (traced keeping
     (START ++ OPEN (codes "1") (codes "ab") ∷ CHG (codes "2") (FULL (codes "ax")) ∷ CHG (codes "3")
     (FULL (codes "axy")) ∷ T 1 (codes "ab") ∷ []) (T 2 (codes "ay")) 702
     (of_uri [] ∷ holds (pos 3) ∷ shows_version (pos 2) ∷ []))
-    ≡ codes "uri \"\"\nheld 3 event 6 editor 5\nversion 2\nsnapshot event 8 snapshot 2\nequal 1 event 7 snapshot 1\n"
-    ++ codes "suspects 1\nsuspect 2 event 5 editor 4\n"
+    ≡ codes "uri \"\"\nheld 3 event 6 editor 5\nversion 2\nsnapshot event 8 snapshot 2\n"
+    ++ codes "equal 1 event 7 snapshot 1\nsuspects 1\nsuspect 2 event 5 editor 4\n"
 unfolding value punctuate lex content word after_number number_of scan_numeral chars digits
     escape_byte
 late_suspect = refl
