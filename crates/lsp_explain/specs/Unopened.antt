@@ -18,6 +18,7 @@ use Rattle.lsp_survey.specs.Openings.{OnDocument, closing_of, closings, last_on,
 use Rattle.lsp_survey.specs.Openings.{openings}
 use Rattle.lsp_survey.specs.declared.notes.openings.Closing.{Closing}
 use Rattle.lsp_survey.specs.declared.notes.openings.Closing.TheVariants as closing
+use Rattle.lsp_replay.specs.declared.heard.EventPlace.{EventPlace}
 use Rattle.lsp_facts.specs.Fact.{Fact, closed_by, never_opened, similar_to}
 use Rattle.lsp_types.specs.declared.rules.TheConstants as rules
 
@@ -42,9 +43,9 @@ is_similar uri other =
 
 -- ---- the documents that are open
 
-abbrev pub is_at : ℕ → Option ℕ → Bool
-is_at n None = false
-is_at n (Some m) = n == m
+abbrev pub is_at : EventPlace → Option EventPlace → Bool
+is_at p None = false
+is_at p (Some other) = p.event == other.event
 
 -- the messages that opened documents last
 abbrev pub last_openings : Terms → List Event → List OnDocument
@@ -54,11 +55,11 @@ last_openings terms before = last_ones most_openings (openings terms before)
 abbrev pub is_standing : Terms → List Event → OnDocument → Bool
 is_standing terms before on =
     is_some (held terms on.uri (calls (kept_of terms before)))
-    && is_at on.event (last_on on.uri (last_openings terms before))
+    && is_at on.place (last_on on.uri (last_openings terms before))
 
 abbrev pub similar_fact : Terms → List Event → List ℕ → OnDocument → List Fact
 similar_fact terms before uri on =
-    if is_similar uri on.uri && is_standing terms before on then similar_to on.uri on.event ∷ []
+    if is_similar uri on.uri && is_standing terms before on then similar_to on.uri on.place ∷ []
     else []
 
 -- **the open documents of which the URI differs from this one in its spelling alone**, of those
@@ -70,7 +71,7 @@ similar_facts terms before uri =
 -- ---- 602
 
 abbrev pub closing_facts : Closing → List Fact
-closing_facts (closing.Last n) = closed_by n ∷ []
+closing_facts (closing.Last p) = closed_by p ∷ []
 closing_facts closing.Never = never_opened ∷ []
 closing_facts closing.Forgotten = []
 

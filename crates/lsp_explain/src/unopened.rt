@@ -11,6 +11,7 @@ ghost use Rattle.lsp_explain.specs.Traced.{act_call};
 ghost use Rattle.lsp_explain.specs.Unopened as spec;
 
 use lsp_facts::Fact;
+use lsp_replay::EventPlace;
 use lsp_rpc::{Act, Memory};
 use lsp_survey::{Closing, DocumentEvent, SurveyReader, uri_in};
 use lsp_types::rules;
@@ -60,7 +61,7 @@ fn push_closing(facts: &mut Vec<Fact>, closing: Closing) -> Result<(), Memory>
         ++ spec.closing_facts closing) }
 {
     match closing {
-        Closing::Last(event) => Ok(facts.push(Fact::Closed(event))?),
+        Closing::Last(place) => Ok(facts.push(Fact::Closed(place))?),
         Closing::Never => Ok(facts.push(Fact::NeverOpened)?),
         Closing::Forgotten => Ok(()),
     }
@@ -119,8 +120,8 @@ fn push_similar_one(
         return Ok(());
     }
     let uri = String::from_str(alloc, on.uri.as_str())?;
-    let event = on.event;
-    Ok(facts.push(Fact::Similar { uri, event })?)
+    let place = on.place;
+    Ok(facts.push(Fact::Similar { uri, place })?)
 }
 
 /// Whether the document is open that this message opened, and none opened it later.
@@ -129,14 +130,14 @@ fn is_standing(events: &SurveyReader, on: &DocumentEvent) -> bool
         → result ≡ spec.is_standing (terms_in events.now) before (on_view on.now) }
 {
     let uri = on.uri.as_str();
-    events.docs().version_of(uri).is_some() && is_at(on.event, events.openings().opening(uri))
+    events.docs().version_of(uri).is_some() && is_at(on.place, events.openings().opening(uri))
 }
 
-fn is_at(event: u64, other: Option<u64>) -> bool
-    ensures { result ≡ spec.is_at event other }
+fn is_at(place: EventPlace, other: Option<EventPlace>) -> bool
+    ensures { result ≡ spec.is_at place other }
 {
     match other {
-        Some(number) => event == number,
+        Some(other) => place.event == other.event,
         None => false,
     }
 }
