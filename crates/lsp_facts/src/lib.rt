@@ -6,8 +6,8 @@
 //! [`snapshot_facts`], which say what is wrong with a call on a document. [`content_facts`] are on
 //! a content that is not a message or has params of another shape, [`frame_facts`] and
 //! [`unfinished_facts`] on a stream whose frames have a fault or an end inside one, [`flaw_facts`]
-//! on a log that has a fault. [`refuting`] finds the snapshots whose texts refute a call.
-//! [`push_details`] writes the lines of facts, and `write_event` the line that names an event.
+//! on a log that has a fault. [`refuting`] finds the snapshots whose texts refute a call, and
+//! [`message_texts`] and [`shown_texts`] give two whole texts that differ. [`push_details`] writes the lines of facts, and `write_event` the line that names an event.
 #![tactic(auto)]
 
 mod contents;
@@ -29,6 +29,7 @@ mod params;
 mod part;
 mod plain;
 mod refused_change;
+mod two_texts;
 mod waiting;
 
 pub use contents::content_facts;
@@ -42,4 +43,5 @@ pub use lines::{
 pub use messages::{id_in, session_facts};
 pub use offending::{message_facts, shown_facts};
 pub use part::Excerpt;
+pub use two_texts::{TwoTexts, message_texts, shown_texts};
 pub use waiting::refuting;

@@ -62,7 +62,7 @@ pub fn refuting<S: TextStore>(
 
 /// The held text with the changes made, where the document is open and each of them can be
 /// made.
-fn made_text<S: TextStore>(
+pub(crate) fn made_text<S: TextStore>(
     alloc: Global,
     docs: &Docs<S>,
     encoding: Encoding,
