@@ -3,16 +3,14 @@
 use Rattle.std.specs.Prelude.{ℕ, ◌*◌, List, [], ◌∷◌, ◌++◌, length, nat_lt, Bool, false, ◌&&◌}
 use Rattle.std.specs.Prelude.{not, ◌==◌}
 use Rattle.std.specs.Prelude.{if◌then◌else◌, Option, Some, None, is_some}
-use Rattle.std.specs.Char.{to_ascii_lowercase}
 use Rattle.std.specs.List.{flat_map}
-use Rattle.std.specs.Str.{bytes_eq}
-use Rattle.percent_encoding.specs.Percent.{percent_decode}
 use Rattle.lsp_docs.specs.Calls.{Call, uri_of}
 use Rattle.lsp_docs.specs.Documents.{held}
 use Rattle.lsp_docs.specs.Terms.{Terms}
 use Rattle.lsp_verdict.specs.Calls.{calls}
 use Rattle.lsp_verdict.specs.Event.{Event}
 use Rattle.lsp_verdict.specs.Offences.{kept_of}
+use Rattle.lsp_verdict.specs.Spelling.{is_alike}
 use Rattle.lsp_survey.specs.LastOnes.{last_ones}
 use Rattle.lsp_survey.specs.Openings.{OnDocument, closing_of, closings, last_on, most_openings}
 use Rattle.lsp_survey.specs.Openings.{openings}
@@ -24,22 +22,13 @@ use Rattle.lsp_types.specs.declared.rules.TheConstants as rules
 
 -- ---- URIs that differ in their spelling
 
--- a byte, of a letter the small one; a slash is left out
-abbrev pub folded_byte : ℕ → List ℕ
-folded_byte b = if b == 47 then [] else to_ascii_lowercase b ∷ []
-
--- what URIs have in common that differ in the case of ASCII letters, in percent-encoding (RFC 3986,
--- section 2.1) and in slashes alone
-abbrev pub folded : List ℕ → List ℕ
-folded uri = flat_map folded_byte (percent_decode uri)
-
 abbrev pub is_long : ℕ → ℕ → Bool
 is_long size other = nat_lt (3 * size) other
 
 -- the other is at most three times as long, and differs in these alone
 abbrev pub is_similar : List ℕ → List ℕ → Bool
 is_similar uri other =
-    not (is_long (length uri) (length other)) && bytes_eq (folded uri) (folded other)
+    not (is_long (length uri) (length other)) && is_alike uri other
 
 -- ---- the documents that are open
 

@@ -1,10 +1,10 @@
 //! What is said about a document that is not open.
 ghost use Rattle.std.specs.Prelude.{◌≡◌, ◌++◌, List, IfOk, OnOk};
 ghost use Rattle.std.specs.List.{flat_map};
-ghost use Rattle.std.specs.Str.{bytes_eq};
 ghost use Rattle.lsp_rpc.specs.View.{act_view};
 ghost use Rattle.lsp_survey.specs.Openings.{on_view, ons_view};
 ghost use Rattle.lsp_verdict.specs.Event.{Event};
+ghost use Rattle.lsp_verdict.specs.Spelling.{is_alike};
 ghost use Rattle.lsp_facts.specs.Fact.{facts_view};
 ghost use Rattle.lsp_explain.specs.Standing.{StandsAfter, terms_in};
 ghost use Rattle.lsp_explain.specs.Traced.{act_call};
@@ -13,9 +13,8 @@ ghost use Rattle.lsp_explain.specs.Unopened as spec;
 use lsp_facts::Fact;
 use lsp_replay::EventPlace;
 use lsp_rpc::{Act, Memory};
-use lsp_survey::{Closing, DocumentEvent, SurveyReader, uri_in};
+use lsp_survey::{Closing, DocumentEvent, SurveyReader, folded, uri_in};
 use lsp_types::rules;
-use percent_encoding::percent_decode;
 use std::alloc::Global;
 
 /// Adds to the facts on an act that breaks this rule, under 602, how the document of which it
@@ -161,38 +160,9 @@ fn is_long(size: usize, other: usize) -> bool
 
 fn is_alike(alloc: Global, uri: &str, other: &str) -> Result<bool, Memory>
     ensures { IfOk result (λ alike.
-        alike ≡ bytes_eq (spec.folded uri.now) (spec.folded other.now)) }
+        alike ≡ is_alike uri.now other.now) }
 {
     let one = folded(alloc, uri)?;
     let two = folded(alloc, other)?;
     Ok(one == two)
-}
-
-/// A URI without what its spelling is free in: percent-encoding is decoded (RFC 3986, section 2.1),
-/// ASCII letters are small, and slashes are left out.
-fn folded(alloc: Global, uri: &str) -> Result<Vec<u8>, Memory>
-    ensures { IfOk result (λ folded. folded.items ≡ spec.folded uri.now) }
-{
-    let mut bytes = Vec::new(alloc);
-    percent_decode(uri.as_bytes()).append_to(&mut bytes)?;
-    fold(alloc, bytes.as_slice())
-}
-
-fn fold(alloc: Global, bytes: &[u8]) -> Result<Vec<u8>, Memory>
-    ensures { IfOk result (λ folded. folded.items ≡ flat_map spec.folded_byte bytes.now) }
-{
-    let mut folded = Vec::new(alloc);
-    for byte in bytes {
-        push_folded(&mut folded, *byte)?;
-    }
-    Ok(folded)
-}
-
-fn push_folded(folded: &mut Vec<u8>, byte: u8) -> Result<(), Memory>
-    ensures { OnOk result (folded.new.items ≡ folded.old.items ++ spec.folded_byte byte) }
-{
-    if byte == b'/' {
-        return Ok(());
-    }
-    Ok(folded.push(byte.to_ascii_lowercase())?)
 }

@@ -35,7 +35,7 @@ use Rattle.lsp_survey.specs.declared.notes.passed.Passed.{Passed}
 use Rattle.lsp_replay.specs.declared.heard.EventPlace.{EventPlace}
 use Rattle.lsp_survey.specs.declared.notes.session_notes.SessionNotes.{SessionNotes}
 use Rattle.lsp_survey.specs.declared.notes.sides.Sides.{Sides}
-use Rattle.lsp_survey.specs.Notes.{AreAfter, note_in}
+use Rattle.lsp_survey.specs.Notes.{AreAfter, is_noted}
 use Rattle.lsp_survey.specs.Walking.{Walks, WalksBy, IsRefused, IsShown, IsUnread, PassesOver}
 use Rattle.lsp_survey.specs.Walking.{IsMessageOf, IsOffending, Hears, NotesKept, NotesMessage}
 use Rattle.lsp_survey.specs.Walking.{NotesSnapshot}
@@ -250,7 +250,7 @@ still_walks old new notes walks terms_are holds counts notes_are is_broken marks
     subst (λ (t : Terms). WalksBy t new notes) (sym terms_are) (record {
       holds = holds;
       counted = subst (λ (c : Counts). AreCounts c events) (sym counts) walks.counted;
-      noted = λ uri. ap (λ (w : Notes). note_in w.map.entries uri) notes_are ∙ walks.noted uri;
+      noted = λ uri. ap (λ (w : Notes). is_noted w.map.entries uri) notes_are ∙ walks.noted uri;
       is_broken = is_broken ∙ walks.is_broken;
       marked = subst (λ (m : Marks). AreMarks terms m.map.entries events) (sym marks) walks.marked;
       opened = subst (λ (o : Openings). AreOpenings terms o events) (sym openings) walks.opened;

@@ -5,7 +5,7 @@ use Rattle.std.specs.List.{cons_option, filter_map, list_any}
 use Rattle.std.specs.Option.{option_or}
 use Rattle.std.specs.Str.{bytes_eq}
 use Rattle.std.proofs.Common.{◌≡◌, ℕ, Bool, List, [], ◌∷◌, ◌++◌, Option, Some, None, inl, inr, refl}
-use Rattle.std.proofs.Common.{sym, ap, ◌∙◌, append-nil, append_assoc}
+use Rattle.std.proofs.Common.{sym, ap, ◌∙◌, append-nil}
 use Rattle.std.proofs.lemmas.List.{map-append}
 use Rattle.std.proofs.lemmas.List.Elements.{filter_map-append}
 use Rattle.std.proofs.lemmas.Option.{same_Some}
@@ -15,11 +15,11 @@ use Rattle.lsp_rpc.specs.Ident.{Ident}
 use Rattle.lsp_rpc.specs.Message.{Message, request, notification, response, result, error}
 use Rattle.lsp_rpc.specs.Outline.{outline, without_params}
 use Rattle.lsp_session.specs.Handshake.{Settled, first_settled, is_done, offer_to, open_initializes}
-use Rattle.lsp_session.specs.Handshake.{first_settled_from, phase, result_of, settled_among}
+use Rattle.lsp_session.specs.Handshake.{phase, result_of, settled_among}
 use Rattle.lsp_session.specs.Handshake.{settled_at, settled_by}
 use Rattle.lsp_session.specs.OpenInitialize.{Initialize}
 use Rattle.lsp_session.specs.Sent.{Sent, answered_from}
-use Rattle.lsp_session.proofs.Steps.{option_or-assoc, option_or-none}
+use Rattle.lsp_session.proofs.Steps.{first_settled_from-push}
 use Rattle.lsp_types.specs.declared.side.Side.{Side}
 use Rattle.lsp_types.specs.declared.side.Side.TheVariants.{Editor}
 use Rattle.lsp_verdict.specs.LookBack.{each_of}
@@ -113,20 +113,6 @@ settles opens side m said s is (inr same) =
     by_parts (Some offer) (Some value) e =
         ap (λ (w : Settled). let o : Option Data = Some w.value in o) (same_Some _ s e)
 
--- the result that settles it is that of the first of them, or this one
-settled-push : (before h : List Sent) (m : Sent)
-    → first_settled_from before (h ++ m ∷ [])
-    ≡ option_or (first_settled_from before h) (settled_by (before ++ h) m)
-settled-push before [] m =
-    option_or-none (settled_by before m)
-    ∙ ap (λ (l : List Sent). settled_by l m) (sym (append-nil before))
-settled-push before (x ∷ h) m =
-    ap (option_or (settled_by before x)) (settled-push (before ++ x ∷ []) h m)
-    ∙ option_or-assoc (settled_by before x) (first_settled_from (before ++ x ∷ []) h)
-    (settled_by ((before ++ x ∷ []) ++ h) m)
-    ∙ ap (λ (l : List Sent). option_or (first_settled_from before (x ∷ h)) (settled_by l m))
-    (append_assoc before (x ∷ []) h)
-
 abbrev older_by : Option Settled → Option (List ℕ)
 older_by o = option_and_then (λ s. older_in s.value) o
 
@@ -175,4 +161,4 @@ remarked p m said before old new same has_value are more = record {
     settled : first_settled (sents (before ++ numbered_as p m ∷ []))
         ≡ option_or (first_settled (sents before)) by
     settled = ap first_settled (map-append (λ (x : Numbered). x.sent) before (numbered_as p m ∷ []))
-        ∙ settled-push [] (sents before) m
+        ∙ first_settled_from-push [] (sents before) m

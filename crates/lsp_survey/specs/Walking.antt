@@ -19,7 +19,7 @@ use Rattle.lsp_session.specs.State.{Stands}
 use Rattle.lsp_survey.specs.Marks.{AreMarks, DoneBy, ShownBy}
 use Rattle.lsp_survey.specs.Openings.{AreOpenings, OpensBy}
 use Rattle.lsp_survey.specs.SessionNoting.{AreNotes, SaysOn}
-use Rattle.lsp_survey.specs.Notes.{note_in, note_of, AreAfter, Leaves, is_noted_lost}
+use Rattle.lsp_survey.specs.Notes.{is_noted, AreAfter, Leaves, is_noted_lost}
 use Rattle.lsp_survey.specs.Passed.{ArePassed, has_passed}
 use Rattle.lsp_survey.specs.Sides.{sides_after, sides_of, sides_read}
 use Rattle.lsp_replay.specs.declared.heard.EventPlace.{EventPlace}
@@ -39,7 +39,7 @@ use Rattle.lsp_verdict.specs.Event.{Event, fault, message}
 use Rattle.lsp_verdict.specs.Given.{given_offence, offence_view}
 use Rattle.lsp_verdict.specs.LookBack.{first_of}
 use Rattle.lsp_verdict.specs.Offences.{Noted, Offence, IsNoted, asks, breaks_handshake, broken_by}
-use Rattle.lsp_verdict.specs.Offences.{held_in}
+use Rattle.lsp_verdict.specs.Offences.{is_lost, is_reopened}
 use Rattle.lsp_verdict.specs.Offences.{brought_by, events_of, follows_bytes, is_handshake_lost, kept_of}
 use Rattle.lsp_verdict.specs.Offences.{follows_passed, is_passed, may_answer, offence_by, rule_at}
 use Rattle.lsp_verdict.specs.Offences.{wants_handshake, wants_text}
@@ -53,7 +53,7 @@ use Rattle.lsp_verdict.specs.declared.verdict.Who.{Who}
 pub record WalksBy (terms : Terms) (w : Replay) (notes : List Noted) : Type 0 where
   pub holds : Holds w.events.session w.events.docs (kept_of terms (events_of notes))
   pub counted : AreCounts w.events.counts (events_of notes)
-  pub noted : (uri : List ℕ) → note_in w.notes.map.entries uri ≡ note_of terms uri notes
+  pub noted : (uri : List ℕ) → is_noted w.notes.map.entries uri ≡ is_lost terms uri notes
   pub is_broken : w.broken ≡ is_some (first_of (broken_by terms) notes)
   pub marked : AreMarks terms w.marks.map.entries (events_of notes)
   pub opened : AreOpenings terms w.openings (events_of notes)
@@ -155,7 +155,7 @@ pub record PassesOver (old new : Replay) (by : Who) (rule : ℕ) (malformed : Op
   pub noted : (enc : Encoding) (kind : SyncKind) (kept : List Event)
       → Holds old.events.session old.events.docs kept
       → Leaves (Some rule) (option_and_then brought_by malformed)
-      (held_in old.events.docs.terms (calls kept) (says enc kind)) (says enc kind)
+      (is_reopened old.events.docs.terms (calls kept) (says enc kind)) (says enc kind)
       old.notes.map.entries new.notes.map.entries
   pub marks : new.marks ≡ old.marks
   pub openings : new.openings ≡ old.openings

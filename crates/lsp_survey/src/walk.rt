@@ -209,13 +209,13 @@ impl Replay {
             (IsMessageOf side (message_view spoken.message)) (λ what. what ≡ OffendingEvent.Message side spoken)) }
     {
         let breaks = breaks_handshake(false, rule);
-        let reopens = reopens(&self.events.docs, rule, &spoken.act);
-        let on_lost = is_on_lost(&self.notes, &spoken.act);
+        let other = reopens(&self.events.docs, &spoken.act);
+        let on_lost = is_on_lost(&self.notes, &spoken.act)?;
         let late = self.message_follows(side, rule, &spoken.message);
         let follows = self.follows(rule, on_lost, late);
         let offence = self.refuse(rule, who_of(side), breaks, follows);
         self.sides = self.sides.after_message(side);
-        note_refused_act(&mut self.notes, rule, reopens, &spoken.act)?;
+        note_refused_act(&mut self.notes, rule, other, &spoken.act)?;
         self.passed.note(side, rule, &spoken.message)?;
         Ok(Judged::Offence(FoundOffence {
             offence,
@@ -268,7 +268,7 @@ impl Replay {
             (λ event. event ≡ snapshot uri.now version (chars text.now))
             (IsShown version uri.now text.now)) }
     {
-        let on_lost = self.notes.get(uri).lost;
+        let on_lost = self.notes.is_lost(uri)?;
         let follows = self.follows(rule, on_lost, false);
         let breaks = breaks_handshake(false, rule);
         let offence = self.refuse(rule, Who::Snapshot, breaks, follows);
