@@ -246,27 +246,34 @@ fn token_facts(alloc: Global, session: &Session, act: &Act) -> Result<Vec<Fact>,
     Ok(facts)
 }
 
+/// The same under 412, and nothing under any other rule.
+fn early_facts(alloc: Global, session: &Session, act: &Act, rule: u16) -> Result<Vec<Fact>, Memory>
+    ensures { IfOk result (λ facts. (before : List Sent) → Stands session.now before
+        → facts_view facts.items ≡ spec.early_facts rule before (act_view act.now)) }
+{
+    if rule != rules::SERVER_WHILE_INITIALIZE_OPEN {
+        return Ok(Vec::new(alloc));
+    }
+    token_facts(alloc, session, act)
+}
+
 /// How far the session has come, and under 412 the tokens of a progress before that.
 fn phase_facts(alloc: Global, session: &Session, act: &Act, rule: u16) -> Result<Vec<Fact>, Memory>
     ensures { IfOk result (λ facts. (before : List Sent) → Stands session.now before
         → facts_view facts.items
         ≡ spec.early_facts rule before (act_view act.now) ++ in_phase (phase before) ∷ []) }
 {
-    let mut facts = if rule == rules::SERVER_WHILE_INITIALIZE_OPEN {
-        token_facts(alloc, session, act)?
-    } else {
-        Vec::new(alloc)
-    };
+    let mut facts = early_facts(alloc, session, act, rule)?;
     facts.push(Fact::Phase(session.phase()))?;
     Ok(facts)
 }
 
 /// What is said about a message that breaks this rule, 301 to 504, after the messages of the
 /// session: of 301 and 302 its id, of 401 to 412 how far the session has come, of 412 also the
-/// token of a progress and that of the open `initialize`, of 501 to 503 the
-/// encodings that the open `initialize` offers and the one that its result picks, or the member of
-/// that which does not have its shape, of 504 the first method of text synchronisation that is to
-/// be registered. The act is what the message means on its side.
+/// token of a progress and that of the open `initialize`, of 501 to 503 the encodings that the open
+/// `initialize` offers and the one that its result picks, or the member of that which does not have
+/// its shape, of 504 the first method of text synchronisation that is to be registered. The act is
+/// what the message means on its side.
 ///
 /// # Errors
 /// `Memory` where memory was refused.
