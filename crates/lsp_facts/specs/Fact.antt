@@ -49,6 +49,9 @@ pub data Fact : Type 0 where
   keeps : List ℤ → Fact
   -- the id of a message, null where there is none
   has_id : Option Ident → Fact
+  -- the token of a progress, and that of the open `initialize`
+  has_token : Ident → Fact
+  expects_token : Ident → Fact
   in_phase : Phase → Fact
   -- the first encodings that are offered and how many more there are, and the one that is picked
   offers : List (List ℕ) → ℕ → Fact
@@ -111,6 +114,8 @@ fact_view (facts.SavedLine line) = saved_line (part_view line)
 fact_view facts.LineEnds = in_line_ends
 fact_view (facts.Kept numbers) = keeps numbers.items
 fact_view (facts.Id id) = has_id (option_map id_view id)
+fact_view (facts.Token id) = has_token (id_view id)
+fact_view (facts.Expected id) = expects_token (id_view id)
 fact_view (facts.Phase phase) = in_phase phase
 fact_view (facts.Offered names more) = offers (texts_view names.items) more
 fact_view (facts.Picked name) = picks (string_bytes name)

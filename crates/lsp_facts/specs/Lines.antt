@@ -27,7 +27,8 @@ use Rattle.lsp_facts.specs.Fact.{Fact, of_uri, holds, holds_by, sends, shows_ver
 use Rattle.lsp_facts.specs.Fact.{has_kind, counts_in, fails, line_has}
 use Rattle.lsp_facts.specs.Fact.{falls_inside, fits_in, would_have, may_have, differs_at}
 use Rattle.lsp_facts.specs.Fact.{by_messages, in_line_ends}
-use Rattle.lsp_facts.specs.Fact.{in_editor, saved_line, keeps, has_id, in_phase, offers, picks}
+use Rattle.lsp_facts.specs.Fact.{in_editor, saved_line, keeps, has_id, has_token, expects_token}
+use Rattle.lsp_facts.specs.Fact.{in_phase, offers, picks}
 use Rattle.lsp_facts.specs.Fact.{registers, waits, waits_since, shown_by, equal_by, has_suspects}
 use Rattle.lsp_facts.specs.Fact.{suspects}
 use Rattle.lsp_facts.specs.Fact.{answered_by, asked_by, led_by, closed_by, never_opened}
@@ -117,6 +118,8 @@ fact_line in_line_ends = line (codes "line-ends" ∷ codes "option" ∷ codes "-
 fact_line (keeps numbers) =
     codes "kept" ++ flat_map (λ number. spaced (signed_decimal number)) numbers ++ 10 ∷ []
 fact_line (has_id id) = line (codes "id" ∷ response_id_text id ∷ [])
+fact_line (has_token id) = line (codes "token" ∷ id_text id ∷ [])
+fact_line (expects_token id) = line (codes "expected" ∷ id_text id ∷ [])
 fact_line (in_phase phase) = line (codes "phase" ∷ phase_name phase ∷ [])
 fact_line (offers names more) =
     codes "offered" ++ flat_map (λ name. spaced (quoted name)) names ++ more_words more ++ 10 ∷ []

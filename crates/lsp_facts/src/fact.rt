@@ -61,6 +61,11 @@ pub enum Fact {
     Kept(Vec<i32>),
     /// The id in the message. `None` where it is null.
     Id(Option<Id>),
+    /// The token of a `$/progress` that the server may not send yet (LSP 3.17, "Work Done
+    /// Progress").
+    Token(Id),
+    /// The token that it may have: that of the open `initialize`.
+    Expected(Id),
     /// How far the session has come.
     Phase(Phase),
     /// The encodings that the open `initialize` offers (LSP 3.17, ClientCapabilities): the first

@@ -7,6 +7,7 @@ ghost use Rattle.std.specs.Str.{chars};
 ghost use Rattle.json.specs.Print.{quoted};
 ghost use Rattle.lsp_rpc.specs.Ident.{id_view};
 ghost use Rattle.lsp_rpc.specs.View.{message_view, texts_view};
+ghost use Rattle.lsp_rpc.specs.Words.{id_text};
 ghost use Rattle.lsp_verdict.specs.Report.{encoding_name, line};
 ghost use Rattle.lsp_facts.specs.Fact.{fact_view, facts_view, has_kind, counts_in, differs_at};
 ghost use Rattle.lsp_facts.specs.Fact.{fails, in_phase, has_id, waits, waits_since, keeps};
@@ -224,6 +225,16 @@ fn push_message_id(alloc: Global, lines: &mut String, id: Option<&Id>) -> Result
     Ok(lines.push_str("\n")?)
 }
 
+/// Adds a key and an id.
+fn push_token(alloc: Global, lines: &mut String, key: &str, id: &Id) -> Result<(), Memory>
+    ensures { OnOk result (string_bytes lines.new
+        ≡ string_bytes lines.old ++ line (key.now ∷ id_text (id_view id.now) ∷ [])) }
+{
+    write!(lines, "{key} ")?;
+    push_id(alloc, lines, id)?;
+    Ok(lines.push_str("\n")?)
+}
+
 fn push_request(alloc: Global, lines: &mut String, id: &Id, method: &str) -> Result<(), Memory>
     ensures { OnOk result (string_bytes lines.new
         ≡ string_bytes lines.old ++ spec.fact_line (waits (id_view id.now) method.now)) }
@@ -399,6 +410,8 @@ fn push_fact(alloc: Global, lines: &mut String, fact: &Fact) -> Result<(), Memor
         Fact::LineEnds => push_line_ends(lines),
         Fact::Kept(versions) => push_versions(lines, versions.as_slice()),
         Fact::Id(id) => push_message_id(alloc, lines, id.as_ref()),
+        Fact::Token(id) => push_token(alloc, lines, "token", id),
+        Fact::Expected(id) => push_token(alloc, lines, "expected", id),
         Fact::Phase(phase) => push_phase(lines, *phase),
         Fact::Offered { names, more } => push_offer(alloc, lines, names.as_slice(), *more),
         Fact::Picked(name) => push_text(alloc, lines, "picked", name.as_str()),
