@@ -10,6 +10,7 @@
 //! [`message_texts`] and [`shown_texts`] give two whole texts that differ. [`push_details`] writes the lines of facts, and `write_event` the line that names an event.
 #![tactic(auto)]
 
+mod blame;
 mod contents;
 mod difference;
 mod documents;
@@ -32,13 +33,14 @@ mod refused_change;
 mod two_texts;
 mod waiting;
 
+pub use blame::usual;
 pub use contents::content_facts;
 pub use documents::{act_facts, snapshot_facts};
 pub use fact::Fact;
 pub use faults::{flaw_facts, frame_facts, unfinished_facts};
 pub use laws::{bad_params_have_a_member, bad_result_has_a_member};
 pub use lines::{
-    push_bare_event, push_content_event, push_details, push_end_event, push_message_event, usual,
+    push_bare_event, push_content_event, push_details, push_end_event, push_message_event,
 };
 pub use messages::{id_in, session_facts};
 pub use offending::{message_facts, shown_facts};

@@ -21,7 +21,7 @@ use crate::part::Excerpt;
 use lsp_replay::EventPlace;
 use lsp_rpc::{Id, Memory, Message, RpcFault, push_id, push_quoted, read, words_of};
 use lsp_session::Phase;
-use lsp_types::{Encoding, Position, Span, SyncKind, rules};
+use lsp_types::{Encoding, Position, Span, SyncKind};
 use lsp_verdict::{Who, kind_name, who_name};
 use std::alloc::Global;
 use std::fmt::Write;
@@ -453,7 +453,8 @@ fn push_facts(alloc: Global, lines: &mut String, facts: &[Fact]) -> Result<(), M
     Ok(())
 }
 
-/// Adds the lines of facts, one each, and whose fault that usually is, as [`usual`] gives it.
+/// Adds the lines of facts, one each, and whose fault that usually is, as
+/// [`usual`](crate::blame::usual) gives it.
 ///
 /// # Errors
 /// `Memory` where memory was refused.
@@ -476,57 +477,6 @@ fn push_usual(lines: &mut String, usual: &str) -> Result<(), Memory>
 {
     writeln!(lines, "usually {usual}")?;
     Ok(())
-}
-
-/// Whose fault it usually is that an event of `by` breaks this rule, or that the session ends so:
-/// `editor`, `server`, `recorder`, or `outside` where both sides may be right.
-pub fn usual(rule: u16, by: Who) -> &'static str
-    ensures { result.now ≡ spec.usual rule by }
-{
-    if is_recorders(rule) {
-        return "recorder";
-    }
-    match rule {
-        rules::HEADER_PART_TOO_LONG..=rules::ID_ALREADY_OPEN => who_name(by),
-        _ => usual_role(rule),
-    }
-}
-
-/// The same of a rule above those on what a side writes, and how it asks and answers.
-fn usual_role(rule: u16) -> &'static str
-    ensures { result.now ≡ spec.usual_role rule }
-{
-    if is_outside(rule) {
-        return "outside";
-    }
-    if is_servers(rule) {
-        return "server";
-    }
-    "editor"
-}
-
-fn is_recorders(rule: u16) -> bool
-    ensures { result ≡ spec.is_recorders rule }
-{
-    rule == rules::STREAM_ENDS_INSIDE_FRAME || rule == rules::LATE_SNAPSHOT
-}
-
-fn is_outside(rule: u16) -> bool
-    ensures { result ≡ spec.is_outside rule }
-{
-    matches!(
-        rule,
-        rules::ENCODING_OUTSIDE_PROFILE..=rules::DYNAMIC_REGISTRATION | rules::DOCUMENT_OVER_LIMIT
-    )
-}
-
-fn is_servers(rule: u16) -> bool
-    ensures { result ≡ spec.is_servers rule }
-{
-    matches!(
-        rule,
-        rules::REQUEST_NOT_ANSWERED | rules::SERVER_BEFORE_INITIALIZE..=rules::ENCODING_NOT_OFFERED
-    )
 }
 
 /// Adds the line of an event that is a message: its number, from 1, whose it is, its number among
