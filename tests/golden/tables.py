@@ -171,6 +171,7 @@ RUNS = {
     "check-ends": ["check", "--ignore-line-ends"],
     "complete-ends": ["check", "--complete", "--ignore-line-ends"],
     "all-ends": ["check", "--all", "--ignore-line-ends"],
+    "every-ends": ["check", "--every", "--ignore-line-ends"],
     "explain-ends": ["explain", "--ignore-line-ends"],
     "explain-all-ends": ["explain", "--all", "--ignore-line-ends"],
     "by-messages": ["explain", "--by-messages"],

@@ -12,15 +12,17 @@ use Rattle.lsp_survey.specs.declared.notes.misuses.Misuse.{Misuse}
 use Rattle.lsp_survey.specs.declared.notes.misuses.Misuse.TheVariants.{AsRequest, AsNotification}
 use Rattle.lsp_survey.specs.declared.notes.misuses.Misuse.TheVariants.{ByEditor, ByServer}
 use Rattle.lsp_types.specs.declared.position.Encoding.{Encoding}
+use Rattle.lsp_replay.specs.declared.heard.EventPlace.{EventPlace}
+use Rattle.lsp_facts.specs.Lines.{place_words}
 use Rattle.lsp_verdict.specs.Report.{encoding_name, line}
 use Rattle.lsp_verdict.specs.Verdict.{Verdict, yes, no, bad_log}
 
 -- a call that LSP 3.17 has in another way than it was sent; `exit` without `shutdown`, by the event
--- of this number; an older `offsetEncoding` that names another encoding than the agreed one; no
+-- of this place; an older `offsetEncoding` that names another encoding than the agreed one; no
 -- snapshot was compared
 pub data Remark : Type 0 where
   calls_wrongly : Misused → Remark
-  exits_abruptly : ℕ → Remark
+  exits_abruptly : EventPlace → Remark
   names_another : List ℕ → Remark
   compares_nothing : Remark
 
@@ -45,7 +47,7 @@ says_little (bad_log at code) = false
 abbrev pub uncompared : Verdict → List Remark
 uncompared v = if says_little v then compares_nothing ∷ [] else []
 
-abbrev pub exit_remarks : Option ℕ → List Remark
+abbrev pub exit_remarks : Option EventPlace → List Remark
 exit_remarks exit = option_to_list (option_map exits_abruptly exit)
 
 abbrev pub name_remarks : Option (List ℕ) → List Remark
@@ -68,13 +70,12 @@ misuse_name ByServer = codes "by-server"
 
 abbrev pub misuse_line : Misused → List ℕ
 misuse_line x =
-    line (codes "note" ∷ misuse_name x.misuse ∷ quoted x.method ∷ codes "event" ∷ decimal x.number
-    ∷ [])
+    line (codes "note" ∷ misuse_name x.misuse ∷ quoted x.method ∷ place_words x.place)
 
 abbrev pub remark_line : Remark → List ℕ
 remark_line (calls_wrongly x) = misuse_line x
-remark_line (exits_abruptly event) =
-    line (codes "note" ∷ codes "exit-without-shutdown" ∷ codes "event" ∷ decimal event ∷ [])
+remark_line (exits_abruptly place) =
+    line (codes "note" ∷ codes "exit-without-shutdown" ∷ place_words place)
 remark_line (names_another name) =
     line (codes "note" ∷ codes "offset-encoding" ∷ quoted name ∷ [])
 remark_line compares_nothing = line (codes "note" ∷ codes "nothing-compared" ∷ [])

@@ -13,9 +13,10 @@ ghost use Rattle.lsp_explain.specs.Remarks.{line_if, misuse_line, name_remarks, 
 ghost use Rattle.lsp_explain.specs.Remarks.{remark_line, remark_lines, remarks_of, uncompared};
 ghost use Rattle.lsp_explain.specs.Standing.{StandsAfter, terms_in};
 
+use lsp_replay::EventPlace;
 use lsp_rpc::{Encoding, Memory, push_quoted};
 use lsp_survey::{Misuse, Misused, SurveyReader};
-use lsp_verdict::Verdict;
+use lsp_verdict::{Verdict, who_name};
 use std::alloc::Global;
 use std::fmt::Write;
 
@@ -50,7 +51,7 @@ fn push_all(
     alloc: Global,
     lines: &mut String,
     misuses: &[Misused],
-    exit: Option<u64>,
+    exit: Option<EventPlace>,
     name: Option<&str>,
     verdict: &Verdict,
 ) -> Result<(), Memory>
@@ -82,10 +83,11 @@ fn push_misuse(alloc: Global, lines: &mut String, misused: &Misused) -> Result<(
         ≡ string_bytes lines.old ++ misuse_line (misused_view misused.now)) }
 {
     let name = misuse_name(misused.misuse);
-    let event = misused.event;
+    let EventPlace { event, who, number } = misused.place;
+    let who = who_name(who);
     write!(lines, "note {name} ")?;
     push_quoted(alloc, lines, misused.method.as_str())?;
-    writeln!(lines, " event {event}")?;
+    writeln!(lines, " event {event} {who} {number}")?;
     Ok(())
 }
 
@@ -100,17 +102,21 @@ fn misuse_name(misuse: Misuse) -> &'static str
     }
 }
 
-/// Adds the line of an `exit` without `shutdown`, the event of this number, if there is one; how
+/// Adds the line of an `exit` without `shutdown`, the event of this place, if there is one; how
 /// many lines these are.
-fn push_exit(lines: &mut String, exit: Option<u64>) -> Result<usize, Memory>
+fn push_exit(lines: &mut String, exit: Option<EventPlace>) -> Result<usize, Memory>
     ensures text { OnOk result (string_bytes lines.new
         ≡ string_bytes lines.old ++ line_if (option_map exits_abruptly exit)) }
     ensures count { IfOk result (λ count. count ≡ length (exit_remarks exit)) }
 {
-    let Some(event) = exit else {
+    let Some(EventPlace { event, who, number }) = exit else {
         return Ok(0);
     };
-    writeln!(lines, "note exit-without-shutdown event {event}")?;
+    let name = who_name(who);
+    writeln!(
+        lines,
+        "note exit-without-shutdown event {event} {name} {number}"
+    )?;
     Ok(1)
 }
 

@@ -1,8 +1,7 @@
 -- What is due where a log is shown.
-use Rattle.std.proofs.Common.{◌≡◌, ◌+◌, ℕ, true, List, [], ◌∷◌, ◌++◌, length, Option, Some, None}
-use Rattle.std.proofs.Common.{Result, Ok, Err, refl, sym, ap, subst, ◌∙◌, append_assoc, append-nil}
-use Rattle.std.proofs.Common.{length-append, arith}
-use Rattle.std.specs.Prelude.{unwrap_or, if◌then◌else◌}
+use Rattle.std.proofs.Common.{◌≡◌, ℕ, List, [], ◌∷◌, ◌++◌, Option, Some, None, Result, Ok, Err}
+use Rattle.std.proofs.Common.{refl, sym, ap, subst, ◌∙◌, append_assoc, append-nil, arith}
+use Rattle.std.specs.Prelude.{unwrap_or}
 use Rattle.std.specs.List.{flat_map, cons_option}
 use Rattle.std.proofs.lemmas.List.Concat.{flat_map-append}
 use Rattle.lsp_frame.specs.Bounds.{Bounds}
@@ -10,8 +9,6 @@ use Rattle.lsp_frame.specs.Sink.{Wrote, Stopped}
 use Rattle.lsp_frame.specs.Told.{Told, Took, after_failure}
 use Rattle.lsp_frame.proofs.Telling.{took_then}
 use Rattle.lsp_frame.proofs.Writing.{wrote_nothing, wrote_then}
-use Rattle.lsp_types.specs.declared.side.Side.{Side}
-use Rattle.lsp_types.specs.declared.side.Side.TheVariants.{Editor, Server}
 use Rattle.lsp_verdict.specs.declared.completeness.Completeness.{Completeness}
 use Rattle.lsp_verdict.specs.declared.completeness.Completeness.TheVariants.{Ignored}
 use Rattle.lsp_verdict.specs.declared.lines.Lines.{Lines}
@@ -20,32 +17,26 @@ use Rattle.lsp_verdict.specs.declared.outcome.RunFault.TheVariants as faults
 use Rattle.lsp_verdict.specs.declared.outcome.Outcome.{Outcome}
 use Rattle.lsp_verdict.specs.declared.outcome.Outcome.TheVariants.{Judged}
 use Rattle.lsp_verdict.specs.declared.verdict.Verdict as code
-use Rattle.lsp_verdict.specs.Event.{Event, message, fault as broken, snapshot}
+use Rattle.lsp_verdict.specs.Event.{Event}
 use Rattle.lsp_verdict.specs.Given.{verdict_view}
 use Rattle.lsp_verdict.specs.LookBack.{each_of, each_from}
 use Rattle.lsp_verdict.specs.Outcome.{IsVerdict}
 use Rattle.lsp_verdict.specs.Report.{report}
 use Rattle.lsp_verdict.specs.RunIo.{OfRead, Tells, failures_after, sink_failures_after}
-use Rattle.lsp_verdict.specs.Shown.{event_line, line_at, lines_of, show_of}
-use Rattle.lsp_verdict.specs.Verdict.{Verdict, belongs_to, count_of, whose, who_of}
-use Rattle.lsp_verdict.proofs.EventCounts.{count_few}
+use Rattle.lsp_verdict.specs.Shown.{line_at, lines_of, show_of}
+use Rattle.lsp_verdict.specs.Verdict.{Verdict}
 use Rattle.lsp_verdict.proofs.Logs.{same_events, one_verdict}
 use Rattle.lsp_verdict.proofs.LookBackLemmas.{each_from-append, each_of-snoc}
 use Rattle.lsp_verdict.proofs.RunReading.{read_map}
-use Rattle.lsp_verdict.proofs.Logs.UpTo.{count-append}
 use Rattle.lsp_judge.specs.LogEvents.{EndsAt, EndsBy, BeginsWith, SoFar, Found, BrokeOff}
-use Rattle.lsp_judge.specs.ShownLog.{IsShown, BeginsShown, OneShown, ShowedAll, ShowedPart, IsPlace}
+use Rattle.lsp_judge.specs.ShownLog.{IsShown, BeginsShown, OneShown, ShowedAll, ShowedPart}
 use Rattle.lsp_replay.specs.Lines.{line_of}
+use Rattle.lsp_replay.specs.Places.{place_of}
+use Rattle.lsp_replay.proofs.EventPlaces.{IsPlaceAfter, line_placed, placed}
 use Rattle.lsp_replay.specs.declared.heard.EventPlace.{EventPlace}
 use Rattle.lsp_judge.specs.declared.event_reader.EventReader.{EventReader}
 use Rattle.lsp_verdict.proofs.RunsJudged.{judged_as}
 use Rattle.lsp_judge.proofs.LogEvents.{so_far_begins, so_far_few, so_far_failures, so_far_range}
-
--- the place of the event that comes behind these
-abbrev IsPlaceBehind : List Event → Event → EventPlace → Type 0
-IsPlaceBehind before event place =
-    (place.event ≡ length before + 1)
-    × (place.number ≡ count_of (belongs_to (whose event)) before + 1)
 
 pub one_shown : OneShown
 one_shown lines limits sizes log v w out other (p, is) (q, at) =
@@ -69,18 +60,14 @@ module _ (lines : Lines) where
       ∙ flat_map-append (λ shown. shown) (each_of (line_at lines) xs)
       (each_from (line_at lines) xs ys)
 
-  lines-snoc : (xs : List Event) (x : Event) (place : EventPlace) → IsPlaceBehind xs x place
+  lines-snoc : (xs : List Event) (x : Event) (place : EventPlace) → IsPlaceAfter xs x place
       → lines_of lines (xs ++ x ∷ []) ≡ lines_of lines xs ++ line_of lines place x
   lines-snoc xs x place is =
       ap (flat_map (λ shown. shown)) (each_of-snoc (line_at lines) xs x)
       ∙ flat_map-append (λ shown. shown) (each_of (line_at lines) xs)
       (cons_option (line_at lines xs x) [])
-      ∙ ap (λ l. lines_of lines xs ++ l) (
-      alone (line_at lines xs x)
-      ∙ ap (λ n. unwrap_or (event_line lines n (count_of (belongs_to (whose x)) xs + 1) x) [])
-      (sym is.0)
-      ∙ ap (λ n. unwrap_or (event_line lines place.event n x) []) (sym is.1)
-      )
+      ∙ ap (λ l. lines_of lines xs ++ l)
+      (alone (line_at lines xs x) ∙ line_placed lines xs x place is)
 
 -- ---- a log
 
@@ -108,25 +95,6 @@ begins_shown lines limits heard front left whole log (v, later, (says, is)) =
 
 -- ---- a run
 
-own_is : (e : Event) → belongs_to (whose e) e ≡ true
-own_is (message m) = by_side m.side
-  where
-    by_side : (s : Side) → belongs_to (who_of s) (message (record m { side = s })) ≡ true
-    by_side Editor = refl
-    by_side Server = refl
-own_is (broken Editor rule) = refl
-own_is (broken Server rule) = refl
-own_is (snapshot uri number text) = refl
-
--- an event is one more of its own
-count_own : (xs : List Event) (e : Event)
-    → count_of (belongs_to (whose e)) (xs ++ e ∷ []) ≡ count_of (belongs_to (whose e)) xs + 1
-count_own xs e =
-    let one : count_of (belongs_to (whose e)) (e ∷ []) ≡ 1 =
-    ap (λ b. length (if b then e ∷ [] else [])) (own_is e) in
-    count-append (belongs_to (whose e)) xs (e ∷ [])
-    ∙ ap (λ n. count_of (belongs_to (whose e)) xs + n) one
-
 -- these events of the log were heard, and their lines written
 pub record Showing (lines : Lines) (limits : Bounds) (e : EventReader)
     (start now old new : Told) : Type 0 where
@@ -147,26 +115,22 @@ nothing_shown lines limits e start now old so_far ignored = record {
 
 module _ (lines : Lines) (limits : Bounds) (start now old mid new : Told) (heard : List Event)
     (wrote : Wrote old mid (lines_of lines heard)) where
-  placed : (e : EventReader) (event : Event) (place : EventPlace)
-      → SoFar limits e start now (heard ++ event ∷ []) → IsPlace heard event place
-      → IsPlaceBehind heard event place
-  placed e event place so_far is =
+  at_place : (e : EventReader) (event : Event) (place : EventPlace)
+      → SoFar limits e start now (heard ++ event ∷ []) → place ≡ place_of heard event
+      → IsPlaceAfter heard event place
+  at_place e event place so_far is =
       let all = heard ++ event ∷ [] in
-      let own = belongs_to (whose event) in
       let few = so_far_few limits e start now all so_far in
       let sizes = so_far_range limits e start now all so_far in
-      let added = count_own heard event in (
-        omega (arith, is.among_all, few, sizes.log_high, length-append heard (event ∷ [])),
-        omega (arith, is.among_own, few, sizes.log_high, count_few own all, added),
-      )
+      placed heard event place (omega (arith, few, sizes.log_high)) is
 
   -- one more event and its line
   pub one_shown_more : (e : EventReader) (event : Event) (place : EventPlace)
       → SoFar limits e start now (heard ++ event ∷ []) → e.completeness ≡ Ignored
-      → IsPlace heard event place → Wrote mid new (line_of lines place event)
+      → place ≡ place_of heard event → Wrote mid new (line_of lines place event)
       → Showing lines limits e start now old new
   one_shown_more e event place so_far ignored counted line =
-      let is = placed e event place so_far counted in
+      let is = at_place e event place so_far counted in
       record {
         heard = heard ++ event ∷ [];
         so_far = so_far;
@@ -177,11 +141,11 @@ module _ (lines : Lines) (limits : Bounds) (start now old mid new : Told) (heard
 
   -- its line was not written
   pub line_failed : (e : EventReader) (event : Event) (place : EventPlace) (fault : RunFault)
-      → SoFar limits e start now (heard ++ event ∷ []) → IsPlace heard event place
+      → SoFar limits e start now (heard ++ event ∷ []) → place ≡ place_of heard event
       → Tells mid new (line_of lines place event) (Err fault)
       → ShowedPart lines limits start now old new fault
   line_failed e event place faults.Write so_far counted told =
-      let is = placed e event place so_far counted in
+      let is = at_place e event place so_far counted in
       let due : lines_of lines (heard ++ event ∷ [])
       ≡ (lines_of lines heard ++ told.front) ++ told.back =
       lines-snoc lines heard event place is ∙ ap (λ l. lines_of lines heard ++ l) told.whole
@@ -198,7 +162,7 @@ module _ (lines : Lines) (limits : Bounds) (start now old mid new : Told) (heard
         sink = told.failures ∙ ap after_failure wrote.failures;
       }
   line_failed e event place faults.Memory so_far counted told =
-      let is = placed e event place so_far counted in
+      let is = at_place e event place so_far counted in
       record {
         out = lines_of lines heard;
         took = subst (λ (t : Told). Took old t (lines_of lines heard)) (sym told) wrote.took;

@@ -1,15 +1,13 @@
 -- What is written where a log is shown: a line for each event before the verdict's place, and the
 -- report.
-use Rattle.std.specs.Prelude.{◌≡◌, ℕ, List, [], ◌∷◌, ◌++◌, length, Result, Ok, Err}
+use Rattle.std.specs.Prelude.{◌≡◌, List, ◌++◌, ℕ, Result, Ok, Err}
 use Rattle.lsp_frame.specs.Bounds.{Bounds, IsInRange}
 use Rattle.lsp_frame.specs.Sink.{Wrote}
 use Rattle.lsp_frame.specs.Told.{Told, Took}
-use Rattle.lsp_docs.specs.State.{capped}
 use Rattle.lsp_verdict.specs.declared.lines.Lines.{Lines}
 use Rattle.lsp_verdict.specs.declared.outcome.Outcome.{Outcome}
 use Rattle.lsp_verdict.specs.declared.outcome.RunFault.{RunFault}
 use Rattle.lsp_verdict.specs.declared.verdict.Verdict as code
-use Rattle.lsp_verdict.specs.Event.{Event}
 use Rattle.lsp_verdict.specs.Given.{verdict_view}
 use Rattle.lsp_verdict.specs.Outcome.{IsVerdict}
 use Rattle.lsp_verdict.specs.Ports.{Ports}
@@ -17,8 +15,7 @@ use Rattle.lsp_verdict.specs.Report.{report}
 use Rattle.lsp_verdict.specs.RunIo.{OfRead, failures_after, sink_failures_after}
 use Rattle.lsp_verdict.specs.Runs.{Judges}
 use Rattle.lsp_verdict.specs.Shown.{show_of}
-use Rattle.lsp_verdict.specs.Verdict.{Verdict, belongs_to, count_of, whose}
-use Rattle.lsp_replay.specs.declared.heard.EventPlace.{EventPlace}
+use Rattle.lsp_verdict.specs.Verdict.{Verdict}
 
 -- ---- a log
 
@@ -62,11 +59,6 @@ pub record ShowedPart (lines : Lines) (limits : Bounds) (start now old new : Tol
   pub due : OfRead limits start now (λ log. BeginsShown lines limits log out)
   pub source : now.failures ≡ failures_after fault start.failures
   pub sink : new.failures ≡ sink_failures_after fault old.failures
-
--- the place of the event that comes after these, as it is counted
-pub record IsPlace (before : List Event) (event : Event) (place : EventPlace) : Type 0 where
-  pub among_all : place.event ≡ capped (length (before ++ event ∷ []))
-  pub among_own : place.number ≡ capped (count_of (belongs_to (whose event)) (before ++ event ∷ []))
 
 -- ---- a run
 

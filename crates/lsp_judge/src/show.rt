@@ -1,19 +1,12 @@
 //! Shows a log: a line for each event, and the report.
-ghost use Rattle.std.specs.Prelude.{◌≡◌, List, [], ◌∷◌, ◌++◌};
 ghost use Rattle.lsp_frame.specs.Bounds.{IsInRange};
-ghost use Rattle.lsp_verdict.specs.Counting.{AreCounts};
-ghost use Rattle.lsp_verdict.specs.Event.{Event};
-ghost use Rattle.lsp_verdict.specs.Verdict as spec;
-ghost use Rattle.lsp_replay.specs.Lines.{IsHeard};
-ghost use Rattle.lsp_judge.specs.ShownLog.{IsPlace, Showed, Shows};
+ghost use Rattle.lsp_judge.specs.ShownLog.{Showed, Shows};
 
 use crate::contents::hear;
 use crate::event_reader::EventReader;
 use lsp_frame::{Limits, Sink, Source, put_all};
 use lsp_replay::{EventPlace, Heard, Next, write_event_line};
-use lsp_verdict::{
-    Completeness, Counts, Lines, Outcome, RunFault, Verdict, Who, report_of, who_of,
-};
+use lsp_verdict::{Completeness, Lines, Outcome, RunFault, Verdict, report_of};
 use std::alloc::Global;
 
 /// Reads a log up to the first event that offends, or to its end, and writes a line for each event
@@ -105,32 +98,11 @@ fn show_log<R: Source, W: Sink>(
             Ok(Next::End(end)) => return Ok(events.finish(alloc, end)?),
             Ok(Next::Event(raw)) => match hear(&mut events.events, raw) {
                 Ok(heard) => {
-                    let place = place_of(&events.events.counts, &heard);
+                    let place = EventPlace::of(&events.events.counts, &heard);
                     write_event_line(alloc, writer, &mut line, lines, place, heard)?;
                 }
                 Err(ruling) => return Ok(ruling.answer()?),
             },
         }
-    }
-}
-
-/// Where the event stands that was heard last.
-fn place_of(counts: &Counts, heard: &Heard<'_>) -> EventPlace
-    ensures { (before : List Event) (event : Event) → AreCounts counts.now (before ++ event ∷ [])
-        → IsHeard event heard.now → IsPlace before event result }
-{
-    EventPlace {
-        number: counts.of(whose(heard)),
-        event: counts.all,
-    }
-}
-
-/// Whose an event is.
-fn whose(heard: &Heard<'_>) -> Who
-    ensures { (event : Event) → IsHeard event heard.now → result ≡ spec.whose event }
-{
-    match heard {
-        Heard::Message { side, spoken: _ } => who_of(*side),
-        Heard::Snapshot { .. } => Who::Snapshot,
     }
 }

@@ -3,6 +3,7 @@ pub mod Apart
 pub mod Hearing
 pub mod Following
 pub mod Reached
+pub mod EventPlaces
 pub mod TextRuns
 pub mod Listing
 pub mod SameLimits

@@ -1,6 +1,14 @@
 //! Events that were heard, and where they stand.
+ghost use Rattle.std.specs.Prelude.{◌≡◌, List, [], ◌∷◌, ◌++◌};
+ghost use Rattle.lsp_replay.specs.Lines.{IsHeard};
+ghost use Rattle.lsp_replay.specs.Places.{place_of};
+ghost use Rattle.lsp_verdict.specs.Counting.{AreCounts};
+ghost use Rattle.lsp_verdict.specs.Event.{Event};
+ghost use Rattle.lsp_verdict.specs.Verdict as spec;
+
 use lsp_docs::Match;
 use lsp_rpc::{Side, Spoken};
+use lsp_verdict::{Counts, Who, who_of};
 
 /// An event that was heard and doesn't offend. The texts of a snapshot are lent.
 #[derive(Drop)]
@@ -19,11 +27,39 @@ pub enum Heard<'a> {
     },
 }
 
-/// Where an event stands.
+/// Where an event stands, as reports name it.
 #[derive(Clone, Copy, Debug, PartialEq, Eq)]
 pub struct EventPlace {
-    /// Its number among those of its side, or of a snapshot among the snapshots, from 1.
-    pub number: u64,
     /// Its number among all events, from 1.
     pub event: u64,
+    /// Whose it is.
+    pub who: Who,
+    /// Its number among theirs, from 1.
+    pub number: u64,
+}
+
+impl EventPlace {
+    /// Where the event stands that was heard last, after which the counts are these.
+    pub fn of(counts: &Counts, heard: &Heard<'_>) -> EventPlace
+        ensures { (before : List Event) (event : Event)
+            → AreCounts counts.now (before ++ event ∷ [])
+            → IsHeard event heard.now → result ≡ place_of before event }
+    {
+        let who = whose(heard);
+        EventPlace {
+            event: counts.all,
+            who,
+            number: counts.of(who),
+        }
+    }
+}
+
+/// Whose an event is.
+fn whose(heard: &Heard<'_>) -> Who
+    ensures { (event : Event) → IsHeard event heard.now → result ≡ spec.whose event }
+{
+    match heard {
+        Heard::Message { side, spoken: _ } => who_of(*side),
+        Heard::Snapshot { .. } => Who::Snapshot,
+    }
 }

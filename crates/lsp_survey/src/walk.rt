@@ -14,7 +14,8 @@ ghost use Rattle.lsp_verdict.specs.Offences.{IsReading, Noted, breaks_handshake,
 ghost use Rattle.lsp_verdict.specs.Offences.{follows_bytes, is_handshake_lost, may_answer};
 ghost use Rattle.lsp_verdict.specs.Offences.{follows_passed, wants_handshake, wants_text};
 ghost use Rattle.lsp_verdict.specs.Verdict as spec;
-ghost use Rattle.lsp_survey.specs.Marking.{number_next};
+ghost use Rattle.lsp_replay.specs.Lines.{IsHeard};
+ghost use Rattle.lsp_replay.specs.Places.{place_of};
 ghost use Rattle.lsp_session.specs.Sent.{other_side, response_id};
 ghost use Rattle.lsp_survey.specs.Passed.{has_any};
 ghost use Rattle.lsp_survey.specs.Sides.{sides_failed};
@@ -32,12 +33,12 @@ use crate::notes::{
 };
 use crate::offending::{FoundOffence, Judged, OffendingEvent};
 use lsp_frame::{Format, Limits};
-use lsp_text::Lined;
 use lsp_replay as replay;
-use lsp_replay::{Events, Refused};
+use lsp_replay::{EventPlace, Events, Refused};
 use lsp_rpc::{Memory, Message, Side, Spoken};
+use lsp_text::Lined;
 use lsp_types::rules;
-use lsp_verdict::{Completeness, Counts, Offence, Raw, Who, who_of};
+use lsp_verdict::{Completeness, Offence, Raw, Who, who_of};
 use std::alloc::Global;
 
 /// The result of the events of a session, where each that offends is skipped.
@@ -85,9 +86,8 @@ impl Replay {
         ensures heard { IfOk result (λ heard. (before : List Noted) → Walks self.old before
             → Hears (raw_view raw.entry) self.old.events.docs.terms self.new before heard) }
     {
-        let number = number_next(&self.events.counts);
         match self.events.hear(raw) {
-            Ok(kept) => self.keep(number, kept),
+            Ok(kept) => self.keep(kept),
             Err(refused) => self.pass_over(alloc, raw, refused),
         }
     }
@@ -103,27 +103,30 @@ impl Replay {
         }
     }
 
-    /// Takes over the event of this number, which was heard and is kept.
-    fn keep(&mut self, number: u64, kept: replay::Heard<'_>) -> Result<Judged, Memory>
+    /// Takes over the event that was heard last and is kept.
+    fn keep(&mut self, kept: replay::Heard<'_>) -> Result<Judged, Memory>
         ensures same { (self.new.events ≡ self.old.events) × (self.new.broken ≡ self.old.broken)
             × (self.new.passed ≡ self.old.passed) }
         ensures keeps { IfOk result (λ heard. (heard ≡ Judged.Kept)
-            × NotesKept number kept.entry self.old self.new) }
+            × ((before : List Event) (event : Event)
+            → AreCounts self.old.events.counts (before ++ event ∷ []) → IsHeard event kept.entry
+            → NotesKept (place_of before event) kept.entry self.old self.new)) }
     {
-        let noted = self.note(number, &kept);
+        let place = EventPlace::of(&self.events.counts, &kept);
+        let noted = self.note(place, &kept);
         drop(kept);
         noted?;
         Ok(Judged::Kept)
     }
 
-    /// Notes the event of this number, which was heard and is kept.
-    fn note(&mut self, number: u64, kept: &replay::Heard<'_>) -> Result<(), Memory>
+    /// Notes the event of this place, which was heard and is kept.
+    fn note(&mut self, place: EventPlace, kept: &replay::Heard<'_>) -> Result<(), Memory>
         ensures same { (self.new.events ≡ self.old.events) × (self.new.broken ≡ self.old.broken)
             × (self.new.passed ≡ self.old.passed) }
-        ensures noted { OnOk result (NotesKept number kept.now self.old self.new) }
+        ensures noted { OnOk result (NotesKept place kept.now self.old self.new) }
     {
         match kept {
-            replay::Heard::Message { side, spoken } => self.note_message(number, *side, spoken),
+            replay::Heard::Message { side, spoken } => self.note_message(place, *side, spoken),
             replay::Heard::Snapshot {
                 version,
                 uri,
@@ -131,25 +134,25 @@ impl Replay {
                 answer,
             } => {
                 let version = *version;
-                self.marks.keep_snapshot(number, *uri, version, *answer)
+                self.marks.keep_snapshot(place, *uri, version, *answer)
             }
         }
     }
 
-    /// Notes the message of this number, which was heard and is kept.
-    fn note_message(&mut self, number: u64, side: Side, spoken: &Spoken) -> Result<(), Memory>
+    /// Notes the message of this place, which was heard and is kept.
+    fn note_message(&mut self, place: EventPlace, side: Side, spoken: &Spoken) -> Result<(), Memory>
         ensures same { (self.new.events ≡ self.old.events) × (self.new.broken ≡ self.old.broken)
             × (self.new.passed ≡ self.old.passed) }
-        ensures noted { OnOk result (NotesMessage number side (message_view spoken.now.message)
+        ensures noted { OnOk result (NotesMessage place side (message_view spoken.now.message)
             (act_view spoken.now.act) self.old self.new) }
     {
         let phase = self.events.session.phase();
         let done = self.events.session.is_done();
         self.sides = self.sides.after_message(side);
         note_kept_act(&mut self.notes, &spoken.act)?;
-        self.marks.keep_act(number, &spoken.act)?;
-        self.openings.keep_act(number, &spoken.act)?;
-        self.said.keep(number, side, &spoken.message, phase, done)
+        self.marks.keep_act(place, &spoken.act)?;
+        self.openings.keep_act(place, &spoken.act)?;
+        self.said.keep(place, side, &spoken.message, phase, done)
     }
 
     /// Skips the event that was refused so.
@@ -206,13 +209,13 @@ impl Replay {
             (IsMessageOf side (message_view spoken.message)) (λ what. what ≡ OffendingEvent.Message side spoken)) }
     {
         let breaks = breaks_handshake(false, rule);
-        let reopens = reopens(&self.events.docs, rule, &spoken.act);
-        let on_lost = is_on_lost(&self.notes, &spoken.act);
+        let other = reopens(&self.events.docs, &spoken.act);
+        let on_lost = is_on_lost(&self.notes, &spoken.act)?;
         let late = self.message_follows(side, rule, &spoken.message);
         let follows = self.follows(rule, on_lost, late);
         let offence = self.refuse(rule, who_of(side), breaks, follows);
         self.sides = self.sides.after_message(side);
-        note_refused_act(&mut self.notes, rule, reopens, &spoken.act)?;
+        note_refused_act(&mut self.notes, rule, other, &spoken.act)?;
         self.passed.note(side, rule, &spoken.message)?;
         Ok(Judged::Offence(FoundOffence {
             offence,
@@ -265,7 +268,7 @@ impl Replay {
             (λ event. event ≡ snapshot uri.now version (chars text.now))
             (IsShown version uri.now text.now)) }
     {
-        let on_lost = self.notes.get(uri).lost;
+        let on_lost = self.notes.is_lost(uri)?;
         let follows = self.follows(rule, on_lost, false);
         let breaks = breaks_handshake(false, rule);
         let offence = self.refuse(rule, Who::Snapshot, breaks, follows);
@@ -392,11 +395,4 @@ impl Replay {
             Side::Server => self.events.session.awaits_initialize(),
         }
     }
-}
-
-/// The number of the event that comes next, from 1.
-fn number_next(counts: &Counts) -> u64
-    ensures { (events : List Event) → AreCounts counts.now events → result ≡ number_next events }
-{
-    counts.all.saturating_add(1)
 }

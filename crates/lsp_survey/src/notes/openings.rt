@@ -12,6 +12,7 @@ ghost use Rattle.lsp_survey.specs.Openings.{closings, is_on, last_on, most_openi
 ghost use Rattle.lsp_survey.specs.Openings.{on_view, ons_view, openings};
 
 use crate::notes::last_ones::make_room;
+use lsp_replay::EventPlace;
 use lsp_rpc::{Act, Memory};
 use std::alloc::Global;
 use std::collections::VecDeque;
@@ -27,15 +28,15 @@ const MOST_CLOSINGS: usize = 1024;
 pub struct DocumentEvent {
     /// The URI of the document.
     pub uri: String,
-    /// The number of its event, from 1, all events counted.
-    pub event: u64,
+    /// The place of its event.
+    pub place: EventPlace,
 }
 
 /// Whether a document that is not open was closed, as far as that is known.
 #[derive(Clone, Copy, Debug, PartialEq, Eq)]
 pub enum Closing {
-    /// By the event of this number, from 1.
-    Last(u64),
+    /// By the event of this place.
+    Last(EventPlace),
     /// No message closed it.
     Never,
     /// None of the last 1,024 messages that closed a document closed it.
@@ -71,9 +72,9 @@ impl Openings {
         self.opened.as_slices()
     }
 
-    /// The number of the event that opened the document of this URI last, from 1, if it is among
-    /// the last 64 that opened one.
-    pub fn opening(&self, uri: &str) -> Option<u64>
+    /// The place of the event that opened the document of this URI last, if it is among the last 64
+    /// that opened one.
+    pub fn opening(&self, uri: &str) -> Option<EventPlace>
         ensures { (terms : Terms) (events : List Event) → AreOpenings terms self.now events
             → result ≡ last_on uri.now (last_ones most_openings (openings terms events)) }
     {
@@ -91,35 +92,35 @@ impl Openings {
         )
     }
 
-    /// Takes over what a message that is kept, the event of this number, opens or closes.
+    /// Takes over what a message that is kept, the event of this place, opens or closes.
     ///
     /// # Errors
     /// `Memory` where memory was refused; nothing is then known of what is held.
-    pub(crate) fn keep_act(&mut self, event: u64, act: &Act) -> Result<(), Memory>
+    pub(crate) fn keep_act(&mut self, place: EventPlace, act: &Act) -> Result<(), Memory>
         ensures { OnOk result ((enc : Encoding) (kind : SyncKind)
-            → OpensBy event (call_of enc kind (act_view act.now)) self.old self.new) }
+            → OpensBy place (call_of enc kind (act_view act.now)) self.old self.new) }
     {
         match act {
-            Act::DidOpen { uri, .. } => push(&mut self.opened, MOST_OPENINGS, uri.as_str(), event),
-            Act::DidClose { uri } => push(&mut self.closed, MOST_CLOSINGS, uri.as_str(), event),
+            Act::DidOpen { uri, .. } => push(&mut self.opened, MOST_OPENINGS, uri.as_str(), place),
+            Act::DidClose { uri } => push(&mut self.closed, MOST_CLOSINGS, uri.as_str(), place),
             _ => Ok(()),
         }
     }
 }
 
 /// The event is known, or, where all closings are held, that there is none.
-fn closing_by(all: bool, last: Option<u64>) -> Closing
+fn closing_by(all: bool, last: Option<EventPlace>) -> Closing
     ensures { result ≡ closing_by all last }
 {
     match last {
-        Some(event) => Closing::Last(event),
+        Some(place) => Closing::Last(place),
         None if all => Closing::Never,
         None => Closing::Forgotten,
     }
 }
 
-/// The event of the last of these messages about the document of this URI.
-fn last_on(held: &VecDeque<DocumentEvent>, uri: &str) -> Option<u64>
+/// The place of the last of these messages about the document of this URI.
+fn last_on(held: &VecDeque<DocumentEvent>, uri: &str) -> Option<EventPlace>
     ensures { result ≡ last_on uri.now (ons_view held.now.items) }
 {
     let (first, second) = held.as_slices();
@@ -127,13 +128,13 @@ fn last_on(held: &VecDeque<DocumentEvent>, uri: &str) -> Option<u64>
 }
 
 /// The same of one part of them.
-fn last_in(held: &[DocumentEvent], uri: &str) -> Option<u64>
+fn last_in(held: &[DocumentEvent], uri: &str) -> Option<EventPlace>
     ensures { result ≡ last_on uri.now (ons_view held.now) }
 {
     let mut last = None;
     for on in held {
         if is_on(on, uri) {
-            last = Some(on.event);
+            last = Some(on.place);
         }
     }
     last
@@ -150,14 +151,14 @@ fn push(
     held: &mut VecDeque<DocumentEvent>,
     most: usize,
     uri: &str,
-    event: u64,
+    place: EventPlace,
 ) -> Result<(), Memory>
     requires { 0 < most }
-    ensures { OnOk result (Holds most (Some (on_document uri.now event)) held.old.items
+    ensures { OnOk result (Holds most (Some (on_document uri.now place)) held.old.items
         held.new.items) }
 {
     let uri = String::from_str(*held.allocator(), uri)?;
     make_room(held, most);
-    held.push_back(DocumentEvent { uri, event })?;
+    held.push_back(DocumentEvent { uri, place })?;
     Ok(())
 }

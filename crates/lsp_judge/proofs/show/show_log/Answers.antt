@@ -74,7 +74,7 @@ loop-fault-preserved g c =
     let next = heard_next _ c.loop-fault.events _ _ _ here.heard here.so_far _ c.in-Ok-Event.raw
     told c.in-Ok.heard c.in-Ok.ensures.ok in
     one_shown_more _ _ _ _ _ _ _ here.heard here.wrote _ next.0 _ next.2 here.ignored
-    (c.place_of-place.ensures _ next.0 next.2.has.follows.counted next.1)
+    (c.of-place.ensures _ next.0 next.2.has.follows.counted next.1)
     (c.in_ok-write_event_line-in-Ok.ensures next.0 next.1)
 
 pub returns-in_err-write_event_line-in-Ok-clause-answer :
@@ -90,7 +90,7 @@ returns-in_err-write_event_line-in-Ok-clause-answer g c =
     let from = c.from_residual-in_err-write_event_line-in-Ok in
     let p = err_from_is_err_and from.result from.ensures.1 in
     rw (p.1, p.2) (line_failed _ _ _ _ _ _ _ here.heard here.wrote _ next.0 _ _ next.2
-    (c.place_of-place.ensures _ next.0 next.2.has.follows.counted next.1)
+    (c.of-place.ensures _ next.0 next.2.has.follows.counted next.1)
     (c.in_err-write_event_line-in-Ok.ensures next.0 next.1))
 
 pub loop-fault-smaller : goal.loop-fault-smaller
