@@ -2,7 +2,6 @@
 ghost use Rattle.std.specs.Prelude.{◌≡◌, ◌++◌, List, Some, OnOk, IfOk, length, map, option_map};
 ghost use Rattle.std.specs.Prelude.{string_bytes};
 ghost use Rattle.std.specs.List.{flat_map};
-ghost use Rattle.lsp_survey.specs.Asking.{numbered};
 ghost use Rattle.lsp_survey.specs.Misuses.{misused_view, misused_views};
 ghost use Rattle.lsp_verdict.specs.Event.{Event};
 ghost use Rattle.lsp_verdict.specs.Given.{verdict_view};
@@ -10,7 +9,9 @@ ghost use Rattle.lsp_verdict.specs.Report.{encoding_name};
 ghost use Rattle.lsp_explain.specs.Remarks as spec;
 ghost use Rattle.lsp_explain.specs.Remarks.{calls_wrongly, count_line, exit_remarks, exits_abruptly};
 ghost use Rattle.lsp_explain.specs.Remarks.{line_if, misuse_line, name_remarks, names_another};
-ghost use Rattle.lsp_explain.specs.Remarks.{remark_line, remark_lines, remarks_of, uncompared};
+ghost use Rattle.lsp_explain.specs.Remarks.{noticed, remark_line, remark_lines, remarks_of};
+ghost use Rattle.lsp_explain.specs.Remarks.{uncompared, unshown_line};
+ghost use Rattle.lsp_survey.specs.Touched.{names_view};
 ghost use Rattle.lsp_explain.specs.Standing.{StandsAfter, terms_in};
 
 use lsp_replay::EventPlace;
@@ -32,16 +33,18 @@ pub(crate) fn push_remarks(
 ) -> Result<(), Memory>
     ensures { OnOk result ((before : List Event) → StandsAfter events.now before
         → string_bytes lines.new ≡ string_bytes lines.old ++ remark_lines
-        (remarks_of (verdict_view verdict.now) (numbered (terms_in events.now) before))) }
+        (remarks_of (verdict_view verdict.now) (noticed (terms_in events.now) before))) }
 {
     let notes = events.session_notes();
     let name = other_name(notes.older_encoding(), events.session().encoding());
+    let unshown = events.openings().unshown()?;
     push_all(
         alloc,
         lines,
         notes.misuses(),
         notes.abrupt_exit(),
         name,
+        unshown.as_slice(),
         verdict,
     )
 }
@@ -53,17 +56,18 @@ fn push_all(
     misuses: &[Misused],
     exit: Option<EventPlace>,
     name: Option<&str>,
+    unshown: &[String],
     verdict: &Verdict,
 ) -> Result<(), Memory>
     ensures { OnOk result (string_bytes lines.new ≡ string_bytes lines.old
         ++ remark_lines (map calls_wrongly (misused_views misuses.now) ++ exit_remarks exit
         ++ name_remarks (option_map (λ s. s.now) name.entry)
-        ++ uncompared (verdict_view verdict.now))) }
+        ++ uncompared (verdict_view verdict.now) (names_view unshown.now))) }
 {
     push_misuses(alloc, lines, misuses)?;
     let exits = push_exit(lines, exit)?;
     let names = push_name(alloc, lines, name)?;
-    let uncompared = push_uncompared(lines, verdict)?;
+    let uncompared = push_uncompared(alloc, lines, verdict, unshown)?;
     push_count(lines, misuses.len() + exits + names + uncompared)
 }
 
@@ -137,18 +141,28 @@ fn push_name(alloc: Global, lines: &mut String, name: Option<&str>) -> Result<us
     Ok(1)
 }
 
-/// Adds the line of a Yes where no snapshot was compared; how many lines these are.
-fn push_uncompared(lines: &mut String, verdict: &Verdict) -> Result<usize, Memory>
-    ensures text { OnOk result (string_bytes lines.new
-        ≡ string_bytes lines.old ++ flat_map remark_line (uncompared (verdict_view verdict.now))) }
-    ensures count { IfOk result
-        (λ count. count ≡ length (uncompared (verdict_view verdict.now))) }
+/// Adds the line of a Yes where no snapshot was compared, or else those of the documents that were
+/// changed and have none; how many lines these are.
+fn push_uncompared(
+    alloc: Global,
+    lines: &mut String,
+    verdict: &Verdict,
+    unshown: &[String],
+) -> Result<usize, Memory>
+    ensures text { OnOk result (string_bytes lines.new ≡ string_bytes lines.old
+        ++ flat_map remark_line (uncompared (verdict_view verdict.now) (names_view unshown.now))) }
+    ensures count { IfOk result (λ count. count
+        ≡ length (uncompared (verdict_view verdict.now) (names_view unshown.now))) }
 {
-    if !is_uncompared(verdict) {
+    if is_uncompared(verdict) {
+        writeln!(lines, "note nothing-compared")?;
+        return Ok(1);
+    }
+    if !is_yes(verdict) {
         return Ok(0);
     }
-    writeln!(lines, "note nothing-compared")?;
-    Ok(1)
+    push_unshown(alloc, lines, unshown)?;
+    Ok(unshown.len())
 }
 
 /// Whether it is a Yes, and no snapshot was compared.
@@ -159,6 +173,33 @@ fn is_uncompared(verdict: &Verdict) -> bool
         Verdict::Yes(summary) => summary.snapshots == summary.unmatched,
         _ => false,
     }
+}
+
+fn is_yes(verdict: &Verdict) -> bool
+    ensures { result ≡ spec.is_yes (verdict_view verdict.now) }
+{
+    matches!(verdict, Verdict::Yes(_))
+}
+
+/// Adds the lines of documents that were changed and have no snapshot.
+fn push_unshown(alloc: Global, lines: &mut String, unshown: &[String]) -> Result<(), Memory>
+    ensures { OnOk result (string_bytes lines.new
+        ≡ string_bytes lines.old ++ flat_map unshown_line (names_view unshown.now)) }
+{
+    for uri in unshown {
+        push_unshown_line(alloc, lines, uri)?;
+    }
+    Ok(())
+}
+
+fn push_unshown_line(alloc: Global, lines: &mut String, uri: &String) -> Result<(), Memory>
+    ensures { OnOk result (string_bytes lines.new
+        ≡ string_bytes lines.old ++ unshown_line (string_bytes uri.now)) }
+{
+    write!(lines, "note no-snapshot ")?;
+    push_quoted(alloc, lines, uri.as_str())?;
+    writeln!(lines)?;
+    Ok(())
 }
 
 /// Adds how many notes there are, if there are any.

@@ -10,7 +10,7 @@ ghost use Rattle.lsp_docs.specs.Calls.{Call, changes as changes_by, opens, saves
 ghost use Rattle.lsp_docs.specs.State.{Stands};
 ghost use Rattle.lsp_replay.specs.Standing.{Holds};
 ghost use Rattle.lsp_session.specs.Sent.{Sent};
-ghost use Rattle.lsp_verdict.specs.Calls.{call_of};
+ghost use Rattle.lsp_verdict.specs.Calls.{call_of, calls};
 ghost use Rattle.lsp_verdict.specs.Event.{Event, message, snapshot};
 ghost use Rattle.lsp_facts.specs.TwoTexts as spec;
 ghost use Rattle.lsp_facts.specs.TwoTexts.{compared, texts_at, texts_view};

@@ -26,7 +26,7 @@ use Rattle.lsp_session.specs.Sent.{Sent}
 use Rattle.lsp_session.specs.State as session
 use Rattle.lsp_docs.specs.State as docs
 use Rattle.lsp_survey.specs.Marks.{AreMarks, DoneBy, ShownBy}
-use Rattle.lsp_survey.specs.Openings.{AreOpenings, OpensBy}
+use Rattle.lsp_survey.specs.Openings.{AreOpenings, OpeningsShown, OpensBy}
 use Rattle.lsp_survey.specs.SessionNoting.{AreNotes, SaysOn}
 use Rattle.lsp_survey.specs.declared.notes.marks.Marks.{Marks}
 use Rattle.lsp_survey.specs.declared.notes.note.Notes.{Notes}
@@ -137,8 +137,8 @@ module _ (old new : Replay) (notes : List Noted) (walks : Walks old notes)
       (sym noted.0) (notes_stay call old.notes.map.entries refl))
       (shown_done terms old.marks.map.entries new.marks.map.entries events uri version text
       (place_of events n.event) answer walks.marked clean refl answers noted.1)
-      (shown_opened terms new.openings events uri version text
-      (subst (λ (o : Openings). AreOpenings terms o events) (sym noted.2) walks.opened) clean)
+      (shown_opened terms old.openings new.openings events uri version text walks.opened clean
+      noted.2)
       (other_unsaid terms new.said events n.event
       (subst (λ (m : SessionNotes). AreNotes terms m events) (sym noted.3) walks.said) refl)
 
@@ -206,7 +206,7 @@ noted_after place (kept.Snapshot version uri text answer) mid old new notes mark
       noted.0 ∙ notes,
       subst (λ (w : Marks).
           ShownBy place uri.now version answer w.map.entries new.marks.map.entries) marks noted.1,
-      noted.2 ∙ openings,
+      subst (λ (w : Openings). OpeningsShown uri.now w new.openings) openings noted.2,
       noted.3 ∙ said,
       noted.4 ∙ sides,
     )

@@ -19,7 +19,11 @@ use Rattle.lsp_verdict.specs.LookBack.{each_of}
 use Rattle.lsp_verdict.specs.Offences.{kept_of, last_or, rule_at, said_at}
 use Rattle.lsp_verdict.proofs.LookBackLemmas.{each_of-snoc}
 use Rattle.lsp_survey.specs.LastOnes.{last_ones}
-use Rattle.lsp_survey.specs.Openings.{AreOpenings, Holds, OnDocument, OpensBy, closed_by, ons_view}
+use Rattle.lsp_survey.specs.Touched.{AreTouched}
+use Rattle.lsp_survey.proofs.TouchedSteps.{act_touched, kept_touched, refused_touched}
+use Rattle.lsp_survey.proofs.TouchedSteps.{refused_touches}
+use Rattle.lsp_survey.specs.Openings.{AreOpenings, Holds, OnDocument, OpeningsShown, OpensBy}
+use Rattle.lsp_survey.specs.Openings.{closed_by, closings, openings, ons_view}
 use Rattle.lsp_survey.specs.Openings.{event_on, is_on, last_on, most_closings, most_openings}
 use Rattle.lsp_survey.specs.Openings.{on_view, opened_by, taken_at, taken_by}
 use Rattle.lsp_replay.specs.Places.{place_of}
@@ -56,13 +60,16 @@ module _ (takes : Takes) (most : ℕ) (terms : Terms) (before : List Event) (e :
 
 -- it opens and closes nothing
 none_opened : (terms : Terms) (o : Openings) (before : List Event) (e : Event)
-    → AreOpenings terms o before → taken_at opened_by terms before e ≡ None
-    → taken_at closed_by terms before e ≡ None → AreOpenings terms o (before ++ e ∷ [])
-none_opened terms o before e are opens closes = record {
-  opened_are = are.opened_are
+    → ons_view o.opened.items ≡ last_ones most_openings (openings terms before)
+    → ons_view o.closed.items ≡ last_ones most_closings (closings terms before)
+    → taken_at opened_by terms before e ≡ None → taken_at closed_by terms before e ≡ None
+    → AreTouched terms o.touched (before ++ e ∷ []) → AreOpenings terms o (before ++ e ∷ [])
+none_opened terms o before e opened closed opens closes touched = record {
+  opened_are = opened
       ∙ ap (last_ones most_openings) (sym (none_more opened_by most_openings terms before e opens));
-  closed_are = are.closed_are
+  closed_are = closed
       ∙ ap (last_ones most_closings) (sym (none_more closed_by most_closings terms before e closes));
+  touched_are = touched;
 }
 
 -- an event that offends is not taken
@@ -76,8 +83,10 @@ pub refused_opens : (terms : Terms) (o : Openings) (before : List Event) (e : Ev
     → AreOpenings terms o before → rule_at terms before e ≡ Some rule
     → AreOpenings terms o (before ++ e ∷ [])
 refused_opens terms o before e rule are is =
-    none_opened terms o before e are (refused_takes opened_by terms before e rule is)
+    none_opened terms o before e are.opened_are are.closed_are
+    (refused_takes opened_by terms before e rule is)
     (refused_takes closed_by terms before e rule is)
+    (refused_touches terms o.touched before e rule are.touched_are is)
 
 -- so it is what the events before it left
 pub refused_openings : (terms : Terms) (o : Openings) (before : List Event) (e : Event) (rule : ℕ)
@@ -90,6 +99,7 @@ refused_openings terms o before e rule are is = record {
   closed_are = are.closed_are ∙ ap (last_ones most_closings)
       (none_more closed_by most_closings terms before e
       (refused_takes closed_by terms before e rule is));
+  touched_are = refused_touched terms o.touched before e rule are.touched_are is;
 }
 
 -- what is taken of one that is kept
@@ -115,6 +125,8 @@ act_opened terms old new before m p are kept number opens = record {
   closed_are = one_more closed_by most_closings terms before (message m) _ old.closed.items
       new.closed.items (kept_takes closed_by terms before (message m) said p kept refl number)
       are.closed_are (opens enc kind).closed;
+  touched_are = act_touched terms old.touched new.touched before m are.touched_are kept
+      (λ e k. (opens e k).touched);
 }
   where
     enc : Encoding
@@ -127,12 +139,16 @@ act_opened terms old new before m p are kept number opens = record {
     said = call_of enc kind m.act
 
 -- **a snapshot that is kept**
-pub shown_opened : (terms : Terms) (o : Openings) (before : List Event) (uri : List ℕ) (v : ℤ)
-    (text : List ℕ) → AreOpenings terms o before → rule_at terms before (snapshot uri v text) ≡ None
-    → AreOpenings terms o (before ++ snapshot uri v text ∷ [])
-shown_opened terms o before uri v text are kept =
-    none_opened terms o before (snapshot uri v text) are (taken opened_by refl)
-    (taken closed_by refl)
+pub shown_opened : (terms : Terms) (old new : Openings) (before : List Event) (uri : List ℕ)
+    (v : ℤ) (text : List ℕ) → AreOpenings terms old before
+    → rule_at terms before (snapshot uri v text) ≡ None → OpeningsShown uri old new
+    → AreOpenings terms new (before ++ snapshot uri v text ∷ [])
+shown_opened terms old new before uri v text are kept shown =
+    none_opened terms new before (snapshot uri v text)
+    (ap ons_view shown.opened ∙ are.opened_are) (ap ons_view shown.closed ∙ are.closed_are)
+    (taken opened_by refl) (taken closed_by refl)
+    (kept_touched terms old.touched new.touched before (snapshot uri v text)
+    (Some (shows uri v text)) are.touched_are kept refl (shown.touched v text))
   where
     taken : (takes : Takes) → takes (place_of before (snapshot uri v text)) (shows uri v text)
         ≡ None

@@ -1,5 +1,5 @@
 -- Which documents were opened and closed last.
-use Rattle.std.specs.Prelude.{◌≡◌, ℕ, List, ◌++◌, map, length, nat_lt, Bool, true, false}
+use Rattle.std.specs.Prelude.{◌≡◌, ℤ, ℕ, List, ◌++◌, map, length, nat_lt, Bool, true, false}
 use Rattle.std.specs.Prelude.{Option, Some, None, option_and_then, [], string_bytes}
 use Rattle.std.specs.Prelude.{if◌then◌else◌}
 use Rattle.std.specs.List.{cons_option, filter_map}
@@ -10,6 +10,7 @@ use Rattle.lsp_verdict.specs.Event.{Event}
 use Rattle.lsp_verdict.specs.LookBack.{each_of}
 use Rattle.lsp_verdict.specs.Offences.{last_or, rule_at, said_at}
 use Rattle.lsp_survey.specs.LastOnes.{last_ones}
+use Rattle.lsp_survey.specs.Touched.{AreTouched, TouchesOn}
 use Rattle.lsp_replay.specs.Places.{place_of}
 use Rattle.lsp_survey.specs.declared.notes.openings.Closing.{Closing}
 use Rattle.lsp_survey.specs.declared.notes.openings.Closing.TheVariants as closing
@@ -112,8 +113,17 @@ pub record OpensBy (p : EventPlace) (said : Option Call) (old new : Openings) : 
       new.opened.items
   pub closed : Holds most_closings (option_and_then (closed_by p) said) old.closed.items
       new.closed.items
+  pub touched : TouchesOn said old.touched new.touched
 
--- **the last ones of these events are held**
+-- a snapshot of the URI
+pub record OpeningsShown (uri : List ℕ) (old new : Openings) : Type 0 where
+  pub opened : new.opened.items ≡ old.opened.items
+  pub closed : new.closed.items ≡ old.closed.items
+  pub touched : (number : ℤ) (text : List ℕ)
+      → TouchesOn (Some (shows uri number text)) old.touched new.touched
+
+-- **the last ones of these events are held**, and which documents they touched
 pub record AreOpenings (terms : Terms) (o : Openings) (events : List Event) : Type 0 where
   pub opened_are : ons_view o.opened.items ≡ last_ones most_openings (openings terms events)
   pub closed_are : ons_view o.closed.items ≡ last_ones most_closings (closings terms events)
+  pub touched_are : AreTouched terms o.touched events

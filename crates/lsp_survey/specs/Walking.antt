@@ -17,7 +17,7 @@ use Rattle.lsp_rpc.specs.View.{act_view, message_view}
 use Rattle.lsp_session.specs.Sent.{Sent}
 use Rattle.lsp_session.specs.State.{Stands}
 use Rattle.lsp_survey.specs.Marks.{AreMarks, DoneBy, ShownBy}
-use Rattle.lsp_survey.specs.Openings.{AreOpenings, OpensBy}
+use Rattle.lsp_survey.specs.Openings.{AreOpenings, OpeningsShown, OpensBy}
 use Rattle.lsp_survey.specs.SessionNoting.{AreNotes, SaysOn}
 use Rattle.lsp_survey.specs.Notes.{is_noted, AreAfter, Leaves, is_noted_lost}
 use Rattle.lsp_survey.specs.Passed.{ArePassed, has_passed}
@@ -91,7 +91,7 @@ abbrev pub NotesSnapshot : EventPlace → List ℕ → ℤ → Match → Replay 
 NotesSnapshot place uri version answer old new =
     (new.notes ≡ old.notes)
     × ShownBy place uri version answer old.marks.map.entries new.marks.map.entries
-    × (new.openings ≡ old.openings)
+    × OpeningsShown uri old.openings new.openings
     × (new.said ≡ old.said)
     × (new.sides ≡ old.sides)
 

@@ -26,6 +26,7 @@ mod session_notes;
 mod sides;
 mod spelling;
 mod standard_methods;
+mod touched;
 
 pub use documents::uri_in;
 pub(crate) use documents::{

@@ -23,8 +23,8 @@ ghost use Rattle.lsp_types.specs.declared.rules.TheConstants as rules;
 ghost use Rattle.lsp_verdict.specs.Lent.{raw_view};
 ghost use Rattle.lsp_survey.specs.Ending.{lack_by};
 ghost use Rattle.lsp_survey.specs.Walking.{Counted, Hears, IsMessageOf, IsRefused, IsShown};
-ghost use Rattle.lsp_survey.specs.Walking.{IsUnread, NotesKept, NotesMessage, PassesOver, Walks};
-ghost use Rattle.lsp_survey.specs.Walking.{offence_of};
+ghost use Rattle.lsp_survey.specs.Walking.{IsUnread, NotesKept, NotesMessage, NotesSnapshot};
+ghost use Rattle.lsp_survey.specs.Walking.{PassesOver, Walks, offence_of};
 
 use crate::notes::{
     Malformed, Marks, Notes, Openings, Passed, SessionNotes, Sides, breaks_handshake, is_on_lost,
@@ -32,6 +32,7 @@ use crate::notes::{
     wants_handshake, wants_text,
 };
 use crate::offending::{FoundOffence, Judged, OffendingEvent};
+use lsp_docs::Match;
 use lsp_frame::{Format, Limits};
 use lsp_replay as replay;
 use lsp_replay::{EventPlace, Events, Refused};
@@ -134,9 +135,26 @@ impl Replay {
                 answer,
             } => {
                 let version = *version;
-                self.marks.keep_snapshot(place, *uri, version, *answer)
+                self.note_snapshot(place, *uri, version, *answer)
             }
         }
+    }
+
+    /// Notes the snapshot of this place, which was heard and is kept.
+    fn note_snapshot(
+        &mut self,
+        place: EventPlace,
+        uri: &str,
+        version: i32,
+        answer: Match,
+    ) -> Result<(), Memory>
+        ensures same { (self.new.events ≡ self.old.events) × (self.new.broken ≡ self.old.broken)
+            × (self.new.passed ≡ self.old.passed) }
+        ensures noted { OnOk result
+            (NotesSnapshot place uri.now version answer self.old self.new) }
+    {
+        self.openings.keep_snapshot(uri)?;
+        self.marks.keep_snapshot(place, uri, version, answer)
     }
 
     /// Notes the message of this place, which was heard and is kept.

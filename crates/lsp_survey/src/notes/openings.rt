@@ -1,5 +1,5 @@
 //! Which documents were opened and closed last.
-ghost use Rattle.std.specs.Prelude.{◌≡◌, ◌++◌, ◌<◌, [], List, Some, OnOk};
+ghost use Rattle.std.specs.Prelude.{◌≡◌, ◌++◌, ◌<◌, [], List, Some, IfOk, OnOk};
 ghost use Rattle.lsp_docs.specs.Terms.{Terms};
 ghost use Rattle.lsp_rpc.specs.View.{act_view};
 ghost use Rattle.lsp_types.specs.declared.change.SyncKind.{SyncKind};
@@ -9,9 +9,11 @@ ghost use Rattle.lsp_verdict.specs.Event.{Event};
 ghost use Rattle.lsp_survey.specs.LastOnes.{last_ones};
 ghost use Rattle.lsp_survey.specs.Openings.{AreOpenings, Holds, OpensBy, closing_by, closing_of};
 ghost use Rattle.lsp_survey.specs.Openings.{closings, is_on, last_on, most_openings, on_document};
-ghost use Rattle.lsp_survey.specs.Openings.{on_view, ons_view, openings};
+ghost use Rattle.lsp_survey.specs.Openings.{OpeningsShown, on_view, ons_view, openings};
+ghost use Rattle.lsp_survey.specs.Touched.{names_view, unshown};
 
 use crate::notes::last_ones::make_room;
+use crate::notes::touched::Touched;
 use lsp_replay::EventPlace;
 use lsp_rpc::{Act, Memory};
 use std::alloc::Global;
@@ -43,13 +45,15 @@ pub enum Closing {
     Forgotten,
 }
 
-/// The last messages that opened documents, and the last ones that closed some.
+/// The last messages that opened documents, and the last ones that closed some; and which documents
+/// were changed, and of which there is a snapshot.
 ///
 /// It stands for the events of a session of which those that offend are skipped.
 #[derive(Drop)]
 pub struct Openings {
     opened: VecDeque<DocumentEvent>,
     closed: VecDeque<DocumentEvent>,
+    touched: Touched,
 }
 
 impl Openings {
@@ -60,6 +64,7 @@ impl Openings {
         Openings {
             opened: VecDeque::new(alloc),
             closed: VecDeque::new(alloc),
+            touched: Touched::new(alloc),
         }
     }
 
@@ -100,11 +105,35 @@ impl Openings {
         ensures { OnOk result ((enc : Encoding) (kind : SyncKind)
             → OpensBy place (call_of enc kind (act_view act.now)) self.old self.new) }
     {
+        self.touched.keep_act(act)?;
         match act {
             Act::DidOpen { uri, .. } => push(&mut self.opened, MOST_OPENINGS, uri.as_str(), place),
             Act::DidClose { uri } => push(&mut self.closed, MOST_CLOSINGS, uri.as_str(), place),
             _ => Ok(()),
         }
+    }
+
+    /// Takes over a snapshot of this URI that is kept.
+    ///
+    /// # Errors
+    /// `Memory` where memory was refused; nothing is then known of what is held.
+    pub(crate) fn keep_snapshot(&mut self, uri: &str) -> Result<(), Memory>
+        ensures { OnOk result (OpeningsShown uri.now self.old self.new) }
+    {
+        self.touched.keep_snapshot(uri)
+    }
+
+    /// The URIs of those of the first 64 documents that were changed that have no snapshot, in
+    /// order; none where 64 documents have one.
+    ///
+    /// # Errors
+    /// `Memory` where memory was refused.
+    pub fn unshown(&self) -> Result<Vec<String>, Memory>
+        ensures { IfOk result (λ names. (terms : Terms) (events : List Event)
+            → AreOpenings terms self.now events
+            → names_view names.items ≡ unshown terms events) }
+    {
+        self.touched.unshown()
     }
 }
 
