@@ -179,20 +179,22 @@ TAKEN_REPORT = b"no 302 editor 4 event 5\nid is already open\n"
 
 URI_LINE = b'uri "file:///a"\n'
 STAYS_FACTS = b'event 5 editor 4 notification "textDocument/didChange"\n' + URI_LINE
-STAYS_FACTS += b"held 1 event 4\nsent 1\nchanges 0\nusually editor\n"
+STAYS_FACTS += b"held 1 event 4 editor 3\nsent 1\nchanges 0\nusually editor\n"
 REVERSED_FACTS = b'event 5 editor 4 notification "textDocument/didChange"\n' + URI_LINE
-REVERSED_FACTS += b"held 1 event 4\nsent 2\nchanges 1\nencoding utf-16\nchange 1 0 2 0 1\nlength 2\n"
-REVERSED_FACTS += b"usually editor\n"
+REVERSED_FACTS += b"held 1 event 4 editor 3\nsent 2\nchanges 1\nencoding utf-16\n"
+REVERSED_FACTS += b"change 1 0 2 0 1\nlength 2\nusually editor\n"
 APART = b'version 3\nencoding utf-16\nat 0 0\nby-messages "new"\nin-editor "old"\n'
-DIFFERS_FACTS = b"event 6 snapshot 1\n" + URI_LINE + b"held 3 event 5\n" + APART
-DIFFERS_FACTS += b"snapshot event 6\nsuspects 2\nsuspect 1 event 4\nsuspect 3 event 5\n"
-DIFFERS_FACTS += b"usually editor\n"
-PARTS_FACTS = b"event 7 snapshot 2\n" + URI_LINE + b"held 3 event 6\n" + APART
-PARTS_FACTS += b"snapshot event 7\nequal 1 event 5\nsuspects 1\nsuspect 3 event 6\n"
-PARTS_FACTS += b"usually editor\n"
-EXITS_FACTS = b'event 9 editor 6 notification "exit"\nphase exited\nsince event 8\nusually editor\n'
-TAKEN_FACTS = b'event 5 editor 4 request 1 "textDocument/hover"\nid 1\nasked event 4\n'
-TAKEN_FACTS += b"answered event 2\nusually editor\n"
+DIFFERS_FACTS = b"event 6 snapshot 1\n" + URI_LINE + b"held 3 event 5 editor 4\n" + APART
+DIFFERS_FACTS += b"snapshot event 6 snapshot 1\nsuspects 2\nsuspect 1 event 4 editor 3\n"
+DIFFERS_FACTS += b"suspect 3 event 5 editor 4\nusually editor\n"
+PARTS_FACTS = b"event 7 snapshot 2\n" + URI_LINE + b"held 3 event 6 editor 4\n" + APART
+PARTS_FACTS += b"snapshot event 7 snapshot 2\nequal 1 event 5 snapshot 1\nsuspects 1\n"
+PARTS_FACTS += b"suspect 3 event 6 editor 4\nusually editor\n"
+EXITS_FACTS = b'event 9 editor 6 notification "exit"\nphase exited\nsince event 8 editor 5\n'
+EXITS_FACTS += b"usually editor\n"
+TAKEN_FACTS = b'event 5 editor 4 request 1 "textDocument/hover"\nid 1\nasked event 4 editor 3\n'
+TAKEN_FACTS += b"answered event 2 server 1\nusually editor\n"
+AGAIN_FACTS = b"event 3 server 2 result 1\nid 1\nanswered event 2 server 1\nusually server\n"
 REST_FACTS = b'end 1 editor\nbegins "abc"\nusually recorder\n'
 
 
@@ -201,9 +203,11 @@ def long_lines(held, other, column, by_messages, in_editor):
     """The log of a snapshot that has one long line, the report on it, and what explains it."""
     opened = OPEN_WITH.format(held)
     log = HEAD + INITIALIZE + ANSWER + INITIALIZED + editor(opened) + shown(1, other.encode())
-    facts = b"event 5 snapshot 1\n" + URI_LINE + b"held 1 event 4\nversion 1\nencoding utf-16\n"
+    facts = b"event 5 snapshot 1\n" + URI_LINE
+    facts += b"held 1 event 4 editor 3\nversion 1\nencoding utf-16\n"
     facts += f"at 0 {column}\nby-messages {by_messages}\nin-editor {in_editor}\n".encode()
-    facts += b"snapshot event 5\nsuspects 1\nsuspect 1 event 4\nusually editor\n"
+    facts += b"snapshot event 5 snapshot 1\nsuspects 1\nsuspect 1 event 4 editor 3\n"
+    facts += b"usually editor\n"
     return log, b"no 702 snapshot 1 event 5\nsnapshot differs\n", facts
 
 
@@ -242,7 +246,7 @@ FACTS = [
     (DIFFERS, DIFFERS_REPORT, DIFFERS_FACTS),
     (EXITS, EXITS_REPORT, EXITS_FACTS),
     (PARTS, PARTS_REPORT, PARTS_FACTS),
-    (AGAIN, AGAIN_REPORT, b"event 3 server 2 result 1\nid 1\nanswered event 2\nusually server\n"),
+    (AGAIN, AGAIN_REPORT, AGAIN_FACTS),
     (TAKEN, TAKEN_REPORT, TAKEN_FACTS),
     (REST, REST_REPORT, REST_FACTS),
     *LONG_LINES,
@@ -256,13 +260,14 @@ usually server
 '''),
 ]
 
-UNANSWERED_FACTS = b'end 8 editor\nrequest 2 "shutdown" event 6\nphase exited\nsince event 7\n'
-UNANSWERED_FACTS += b"usually server\n"
+UNANSWERED_FACTS = b'end 8 editor\nrequest 2 "shutdown" event 6 editor 4\nphase exited\n'
+UNANSWERED_FACTS += b"since event 7 editor 5\nusually server\n"
+KILLED_FACTS = b"end 8 editor\nphase stopping\nsince event 6 editor 4\nusually editor\n"
 
 # The same for sessions that must be complete.
 LACK_FACTS = [
     (UNANSWERED, UNANSWERED_REPORT, UNANSWERED_FACTS),
-    (KILLED, KILLED_REPORT, b"end 8 editor\nphase stopping\nsince event 6\nusually editor\n"),
+    (KILLED, KILLED_REPORT, KILLED_FACTS),
 ]
 
 # For logs with several offences: what explains each that follows from no earlier one, and how many
@@ -271,7 +276,7 @@ WRONGS_EXPLAINED = STAYS + STAYS_FACTS + rb'''no 606 editor 5 event 7
 range is reversed
 event 7 editor 5 notification "textDocument/didChange"
 uri "file:///a"
-held 1 event 4
+held 1 event 4 editor 3
 sent 2
 changes 1
 encoding utf-16
@@ -282,22 +287,22 @@ no 702 snapshot 3 event 10
 snapshot differs
 event 10 snapshot 3
 uri "file:///a"
-held 3 event 9
+held 3 event 9 editor 6
 version 3
 encoding utf-16
 at 0 0
 by-messages "new"
 in-editor "old"
-snapshot event 10
-equal 1 event 6
+snapshot event 10 snapshot 3
+equal 1 event 6 snapshot 1
 suspects 1
-suspect 3 event 9
+suspect 3 event 9 editor 6
 usually editor
 no 406 editor 9 event 14
 editor message after exit
 event 14 editor 9 notification "exit"
 phase exited
-since event 13
+since event 13 editor 8
 usually editor
 '''
 ALL_FACTS = [

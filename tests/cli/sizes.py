@@ -195,7 +195,7 @@ def explained_texts(size=TEXT):
     yield opened, f"no 607 editor 3 event 4\ndocument over the limit\n{told}{sizes}".encode()
     log = START + did_open(uri, 1, ("a" * 63 + "\n") * (size // 64))
     told = 'event 5 editor 4 notification "textDocument/didChange"\nuri "file:///a"\n'
-    told += "held 1 event 4\nsent 2\nchanges 1\nencoding utf-16\n"
+    told += "held 1 event 4 editor 3\nsent 2\nchanges 1\nencoding utf-16\n"
     report = f"no 607 editor 4 event 5\ndocument over the limit\n{told}"
     changed = log + did_change(uri, 2, [replaced((1, 63), (1, 63), "x")])
     yield changed, f"{report}change 1 1 63 1 63\nlength 63\n{sizes}".encode()

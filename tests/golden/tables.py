@@ -173,8 +173,16 @@ RUNS = {
     "check-ends": ["check", "--ignore-line-ends"],
     "complete-ends": ["check", "--complete", "--ignore-line-ends"],
     "all-ends": ["check", "--all", "--ignore-line-ends"],
+    "every-ends": ["check", "--every", "--ignore-line-ends"],
     "explain-ends": ["explain", "--ignore-line-ends"],
     "explain-all-ends": ["explain", "--all", "--ignore-line-ends"],
+    "by-messages": ["explain", "--by-messages"],
+    "in-editor": ["explain", "--in-editor"],
+    "both-texts": ["explain", "--in-editor", "--by-messages"],
+    "by-messages-all": ["explain", "--all", "--by-messages"],
+    "by-messages-complete": ["explain", "--by-messages", "--complete"],
+    "by-messages-ends": ["explain", "--by-messages", "--ignore-line-ends"],
+    "in-editor-ends": ["explain", "--in-editor", "--ignore-line-ends"],
     "normal": ["normal"],
     "upgrade": ["upgrade"],
     **{mode: ["frames", "--as", mode] for mode in ["lengths", "kinds", "canonical"]},
@@ -192,6 +200,7 @@ ENDS = {
     "fault": (2, b""),
     "no-document": (5, b"no such document\n"),
     "too-few": (5, b"fewer editor messages\n"),
+    "no-difference": (5, b"no texts differ: the verdict is neither 608 nor 702\n"),
     "no-content": (5, b"no content\n"),
     "fewer-events": (5, b"fewer events\n"),
 }
@@ -199,6 +208,7 @@ ENDS = {
 
 # The hints about what an input may be that is not what the command reads.
 HINTS = {
+    "empty": b"the input is empty: the recorder wrote nothing",
     "stream": b"this looks like one raw stream of frames: try 'lspcheck frames'",
     "log": b"this looks like the log of a session: try 'lspcheck check'",
     "format": b"this version of lspcheck does not know the format of this log",

@@ -13,8 +13,8 @@ use Rattle.clap.proofs.WalkLemmas.{one_text-rows}
 use Rattle.lsp_verdict.specs.declared.completeness.Completeness.{Completeness}
 use Rattle.lsp_verdict.specs.declared.lines.Lines.{Lines}
 use Rattle.lsp_command.specs.Words.{AsksCheck, AsksExplain, AsksShow, AsksText, GivesNumber}
-use Rattle.lsp_command.specs.Words.{HasTask, IsFlag, NumberIn, check_of, completeness_of}
-use Rattle.lsp_command.specs.Words.{explain_of, listing_of, show_of, text_of}
+use Rattle.lsp_command.specs.Words.{HasTask, IsFlag, NumberIn, check_of, compared_of}
+use Rattle.lsp_command.specs.Words.{completeness_of, explain_of, listing_of, show_of, text_of}
 use Rattle.lsp_command.specs.declared.command_line.task.Task.{Task}
 use Rattle.lsp_command.specs.declared.command_line.task.Task.TheVariants as tasks
 
@@ -91,13 +91,41 @@ asks_check rows complete all true a b c = record { command = refl; arguments = a
 asks_check rows complete true false a b c = record { command = refl; arguments = asked_check rows complete true false a b c }
 asks_check rows complete false false a b c = record { command = refl; arguments = asked_check rows complete false false a b c }
 
-asked_explain : (rows : List Row) (complete all : Bool) → IsFlag (one_of (codes "complete") rows) complete → IsFlag (one_of (codes "all") rows) all → AsksExplain rows (completeness_of complete) all
-asked_explain rows complete all a b = record { complete = complete; complete_is = a; all_is = b; completeness_is = refl }
+module _ (rows : List Row) (complete : Bool)
+    (a : IsFlag (one_of (codes "complete") rows) complete) where
+  asked_explain : (all by_messages in_editor : Bool) → IsFlag (one_of (codes "all") rows) all
+      → IsFlag (one_of (codes "by-messages") rows) by_messages
+      → IsFlag (one_of (codes "in-editor") rows) in_editor
+      → AsksExplain rows (completeness_of complete) all (compared_of by_messages in_editor)
+  asked_explain all by_messages in_editor b d e = record {
+    complete = complete;
+    by_messages = by_messages;
+    in_editor = in_editor;
+    complete_is = a;
+    all_is = b;
+    by_messages_is = d;
+    in_editor_is = e;
+    completeness_is = refl;
+    text_is = refl;
+  }
 
-pub asks_explain : (rows : List Row) (complete all : Bool) → IsFlag (one_of (codes "complete") rows) complete → IsFlag (one_of (codes "all") rows) all
-    → HasTask (codes "explain") rows (explain_of (completeness_of complete) all)
-asks_explain rows complete true a b = record { command = refl; arguments = asked_explain rows complete true a b }
-asks_explain rows complete false a b = record { command = refl; arguments = asked_explain rows complete false a b }
+  pub asks_explain : (all by_messages in_editor : Bool) → IsFlag (one_of (codes "all") rows) all
+      → IsFlag (one_of (codes "by-messages") rows) by_messages
+      → IsFlag (one_of (codes "in-editor") rows) in_editor
+      → HasTask (codes "explain") rows
+      (explain_of (completeness_of complete) all (compared_of by_messages in_editor))
+  asks_explain all true in_editor b d e = record {
+    command = refl;
+    arguments = (completeness_of complete, all, asked_explain all true in_editor b d e);
+  }
+  asks_explain all false true b d e = record {
+    command = refl;
+    arguments = (completeness_of complete, all, asked_explain all false true b d e);
+  }
+  asks_explain true false false b d e =
+      record { command = refl; arguments = asked_explain true false false b d e }
+  asks_explain false false false b d e =
+      record { command = refl; arguments = asked_explain false false false b d e }
 
 pub asks_show : (rows : List Row) (lines : Lines) (all : Bool) → AsksShow rows lines all
     → HasTask (codes "show") rows (show_of lines all)
@@ -120,6 +148,7 @@ no_text rows none (tasks.Check a) h = apart _ _ refl h.command
 no_text rows none (tasks.Survey a b) h = apart _ _ refl h.command
 no_text rows none (tasks.Explain a) h = apart _ _ refl h.command
 no_text rows none (tasks.ExplainAll a) h = apart _ _ refl h.command
+no_text rows none (tasks.Compared a) h = apart _ _ refl h.command
 no_text rows none (tasks.Show a) h = apart _ _ refl h.command
 no_text rows none (tasks.ShowAll a) h = apart _ _ refl h.command
 no_text rows none (tasks.Text number uri) h = none number uri false h.arguments
@@ -134,6 +163,7 @@ no_event rows none (tasks.Check a) h = apart _ _ refl h.command
 no_event rows none (tasks.Survey a b) h = apart _ _ refl h.command
 no_event rows none (tasks.Explain a) h = apart _ _ refl h.command
 no_event rows none (tasks.ExplainAll a) h = apart _ _ refl h.command
+no_event rows none (tasks.Compared a) h = apart _ _ refl h.command
 no_event rows none (tasks.Show a) h = apart _ _ refl h.command
 no_event rows none (tasks.ShowAll a) h = apart _ _ refl h.command
 no_event rows none (tasks.Text number uri) h = apart _ _ refl h.command

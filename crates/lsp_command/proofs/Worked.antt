@@ -47,6 +47,18 @@ explained_ends : found explained (codes "ignore-line-ends")
 unfolding clap_on_literals
 explained_ends = refl
 
+-- `lspcheck explain --in-editor a.log`
+abbrev recorded : List Text
+recorded = codes "lspcheck" ∷ codes "explain" ∷ codes "--in-editor" ∷ codes "a.log" ∷ []
+
+recorded_text : found recorded (codes "in-editor") ≡ Some (codes "explain", Some (codes "true"))
+unfolding clap_on_literals
+recorded_text = refl
+
+made_text : found recorded (codes "by-messages") ≡ Some (codes "explain", Some (codes "false"))
+unfolding clap_on_literals
+made_text = refl
+
 -- `lspcheck text 12 u`: standard input
 abbrev texted : List Text
 texted = codes "lspcheck" ∷ codes "text" ∷ codes "12" ∷ codes "u" ∷ []

@@ -78,7 +78,8 @@ explain_options = command (codes "explain")
     (flag (codes "complete") ∷ flag (codes "all") ∷ ignore_line_ends ∷ [])
 
 abbrev pub explain : Shape
-explain = command (codes "explain") (explain_options.rules ++ quiet ∷ file ∷ [])
+explain = command (codes "explain") (explain_options.rules ++ flag (codes "by-messages")
+    ∷ flag (codes "in-editor") ∷ quiet ∷ file ∷ [])
 
 abbrev pub show : Shape
 show = command (codes "show") (flag (codes "all") ∷ flag (codes "long") ∷ quiet ∷ file ∷ [])

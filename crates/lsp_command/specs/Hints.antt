@@ -6,7 +6,8 @@ use Rattle.lsp_replay.specs.declared.event.EventOutcome.TheVariants as events
 use Rattle.lsp_command.specs.declared.task_outcome.TaskOutcome.{TaskOutcome}
 use Rattle.lsp_command.specs.declared.task_outcome.TaskOutcome.TheVariants as tasks
 use Rattle.lsp_verdict.specs.declared.outcome.Outcome.{Outcome}
-use Rattle.lsp_verdict.specs.declared.outcome.Outcome.TheVariants.{Done, Judged, Stream, NoDocument, TooFew}
+use Rattle.lsp_verdict.specs.declared.outcome.Outcome.TheVariants.{Done, Judged, Stream, NoDocument}
+use Rattle.lsp_verdict.specs.declared.outcome.Outcome.TheVariants.{NoDifference, TooFew}
 use Rattle.lsp_verdict.specs.declared.outcome.RunFault.{RunFault}
 use Rattle.lsp_verdict.specs.declared.verdict.Verdict.TheVariants.{Yes, No, BadLog}
 use Rattle.lsp_command.specs.declared.hint.Hint.{Hint}
@@ -65,6 +66,7 @@ run_hint (Stream frame fault) bytes = stream_hint bytes
 run_hint Done bytes = None
 run_hint NoDocument bytes = None
 run_hint TooFew bytes = None
+run_hint NoDifference bytes = None
 
 abbrev pub event_hint : EventOutcome → List ℕ → Option Hint
 event_hint (events.BadLog number code) bytes = fault_hint number bytes

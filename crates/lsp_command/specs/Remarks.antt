@@ -9,19 +9,22 @@ use Rattle.lsp_replay.specs.declared.event.EventOutcome.TheVariants as events
 use Rattle.lsp_command.specs.declared.task_outcome.TaskOutcome.{TaskOutcome}
 use Rattle.lsp_command.specs.declared.task_outcome.TaskOutcome.TheVariants as tasks
 use Rattle.lsp_verdict.specs.declared.outcome.Outcome.{Outcome}
-use Rattle.lsp_verdict.specs.declared.outcome.Outcome.TheVariants.{Done, Judged, Stream, NoDocument, TooFew}
+use Rattle.lsp_verdict.specs.declared.outcome.Outcome.TheVariants.{Done, Judged, Stream, NoDocument}
+use Rattle.lsp_verdict.specs.declared.outcome.Outcome.TheVariants.{NoDifference, TooFew}
 use Rattle.lsp_verdict.specs.declared.outcome.RunFault.{RunFault}
 use Rattle.lsp_verdict.specs.declared.outcome.RunFault.TheVariants.{Read, Write, Memory}
 use Rattle.lsp_verdict.specs.declared.verdict.Verdict.{Verdict}
 use Rattle.lsp_verdict.specs.declared.verdict.Verdict.TheVariants.{Yes}
 use Rattle.lsp_command.specs.declared.command_line.task.Task.{Task}
-use Rattle.lsp_command.specs.declared.command_line.task.Task.TheVariants.{Text, TextAll, Normal}
+use Rattle.lsp_command.specs.declared.command_line.task.Task.TheVariants.{Text, TextAll, Normal, Compared}
 use Rattle.lsp_command.specs.declared.command_line.task.Task.TheVariants.{Upgrade, Frames}
 
 -- the fixed words for how a task ended
 abbrev pub remark_of : Result TaskOutcome RunFault → Option (List ℕ)
 remark_of (Ok (tasks.Run NoDocument)) = Some (codes "no such document")
 remark_of (Ok (tasks.Run TooFew)) = Some (codes "fewer editor messages")
+remark_of (Ok (tasks.Run NoDifference)) =
+    Some (codes "no texts differ: the verdict is neither 608 nor 702")
 remark_of (Ok (tasks.Run Done)) = None
 remark_of (Ok (tasks.Run (Judged v))) = None
 remark_of (Ok (tasks.Run (Stream frame fault))) = None
@@ -38,11 +41,13 @@ abbrev pub report_refused : Verdict → Option (List ℕ)
 report_refused (Yes s) = None
 report_refused v = Some (report (verdict_view v))
 
--- the report that is separate from what was requested: that of a verdict in `text` and `normal`, of
--- one other than Yes in `upgrade`, and that of a stream in `frames --as canonical`
+-- the report that is separate from what was requested: that of a verdict in `text` and `normal` and
+-- where one of two texts is written, of one other than Yes in `upgrade`, and that of a stream in
+-- `frames --as canonical`
 abbrev pub run_report_apart : Task → Outcome → Option (List ℕ)
 run_report_apart (Text number uri) (Judged v) = Some (report (verdict_view v))
 run_report_apart (TextAll number uri) (Judged v) = Some (report (verdict_view v))
+run_report_apart (Compared which) (Judged v) = Some (report (verdict_view v))
 run_report_apart Normal (Judged v) = Some (report (verdict_view v))
 run_report_apart Upgrade (Judged v) = report_refused v
 run_report_apart (Frames Canonical) (Stream frame fault) = Some (stream_report frame fault)

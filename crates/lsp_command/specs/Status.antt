@@ -7,12 +7,14 @@ use Rattle.lsp_replay.specs.declared.event.EventOutcome.TheVariants as events
 use Rattle.lsp_command.specs.declared.task_outcome.TaskOutcome.{TaskOutcome}
 use Rattle.lsp_command.specs.declared.task_outcome.TaskOutcome.TheVariants as tasks
 use Rattle.lsp_verdict.specs.declared.outcome.Outcome.{Outcome}
-use Rattle.lsp_verdict.specs.declared.outcome.Outcome.TheVariants.{Done, Judged, Stream, NoDocument, TooFew}
+use Rattle.lsp_verdict.specs.declared.outcome.Outcome.TheVariants.{Done, Judged, Stream, NoDocument}
+use Rattle.lsp_verdict.specs.declared.outcome.Outcome.TheVariants.{NoDifference, TooFew}
 use Rattle.lsp_verdict.specs.declared.outcome.RunFault.{RunFault}
 use Rattle.lsp_verdict.specs.declared.outcome.RunFault.TheVariants.{Read, Write, Memory}
 use Rattle.lsp_verdict.specs.declared.verdict.Verdict.TheVariants.{Yes, No, BadLog}
 
--- 0 yes or done, 1 no, 2 a bad log or a bad stream, 5 no such document, or too few messages
+-- 0 yes or done, 1 no, 2 a bad log or a bad stream, 5 no such document, too few messages, or no
+-- texts that differ
 abbrev pub status_of_outcome : Outcome → ℕ
 status_of_outcome Done = 0
 status_of_outcome (Judged (Yes s)) = 0
@@ -21,6 +23,7 @@ status_of_outcome (Judged (BadLog number code)) = 2
 status_of_outcome (Stream frame fault) = 2
 status_of_outcome NoDocument = 5
 status_of_outcome TooFew = 5
+status_of_outcome NoDifference = 5
 
 -- 0 done, 2 a bad log, 5 no content, or too few events
 abbrev pub status_of_event : EventOutcome → ℕ

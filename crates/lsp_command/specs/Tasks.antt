@@ -17,6 +17,7 @@ use Rattle.lsp_judge.specs.UpgradedLog.{UpgradesLog}
 use Rattle.lsp_replay.specs.StreamRun.{IsRun, BeginsRun}
 use Rattle.lsp_replay.specs.TextAnswers.{WritesText}
 use Rattle.lsp_explain.specs.AllExplained.{ExplainsAll}
+use Rattle.lsp_explain.specs.Compared.{AnswersCompared}
 use Rattle.lsp_explain.specs.Explained.{IsExplanation, BeginsExplanation}
 use Rattle.lsp_survey.specs.AllShown.{ShowsAll}
 use Rattle.lsp_survey.specs.KeptText.{AnswersKept}
@@ -36,8 +37,9 @@ use Rattle.lsp_command.specs.Ended.{of_event, of_run}
 use Rattle.lsp_command.specs.declared.task_outcome.TaskOutcome.{TaskOutcome}
 use Rattle.lsp_command.specs.declared.command_line.task.Task.{Task}
 use Rattle.lsp_command.specs.declared.command_line.task.Task.TheVariants.{Check, Survey, Explain}
-use Rattle.lsp_command.specs.declared.command_line.task.Task.TheVariants.{ExplainAll, Show, ShowAll}
-use Rattle.lsp_command.specs.declared.command_line.task.Task.TheVariants.{Text, TextAll, Event}
+use Rattle.lsp_command.specs.declared.command_line.task.Task.TheVariants.{ExplainAll, Compared}
+use Rattle.lsp_command.specs.declared.command_line.task.Task.TheVariants.{Show, ShowAll, Text}
+use Rattle.lsp_command.specs.declared.command_line.task.Task.TheVariants.{TextAll, Event}
 use Rattle.lsp_command.specs.declared.command_line.task.Task.TheVariants.{Normal, Upgrade, Frames}
 
 -- `explain`: the verdict on the log read, whose session must be complete or not, and what explains
@@ -84,6 +86,8 @@ Answers limits (Survey completeness listing) p result =
 Answers limits (Explain completeness) p result = EndsRun (Explained completeness limits p) result
 Answers limits (ExplainAll completeness) p result =
     EndsRun (ExplainsAll completeness limits p) result
+Answers limits (Compared which) p result =
+    EndsRun (WritesText limits p (λ log. AnswersCompared limits log which)) result
 Answers limits (Show lines) p result = EndsRun (Showed lines limits p) result
 Answers limits (ShowAll lines) p result = EndsRun (ShowsAll lines limits p) result
 Answers limits (Text number uri) p result = EndsRun

@@ -21,6 +21,8 @@ use Rattle.lsp_verdict.specs.declared.outcome.Mode.{Mode}
 use Rattle.lsp_verdict.specs.declared.outcome.Mode.TheVariants.{Lengths, Canonical, Kinds}
 use Rattle.lsp_verdict.specs.declared.listing.Listing.{Listing}
 use Rattle.lsp_verdict.specs.declared.listing.Listing.TheVariants.{Causes, Every}
+use Rattle.lsp_explain.specs.declared.compared.ComparedText.{ComparedText}
+use Rattle.lsp_explain.specs.declared.compared.ComparedText.TheVariants.{ByMessages, InEditor}
 use Rattle.lsp_command.specs.declared.command_line.task.Request.{Request}
 use Rattle.lsp_command.specs.declared.command_line.task.Task.{Task}
 use Rattle.lsp_command.specs.declared.command_line.task.Task.TheVariants as tasks
@@ -62,8 +64,15 @@ abbrev pub check_of : Completeness → Option Listing → Task
 check_of completeness None = tasks.Check completeness
 check_of completeness (Some listing) = tasks.Survey completeness listing
 
-abbrev pub explain_of : Completeness → Bool → Task
-explain_of completeness all = if all then tasks.ExplainAll completeness else tasks.Explain completeness
+-- which of two texts that differ is written, where one is
+abbrev pub compared_of : Bool → Bool → Option ComparedText
+compared_of by_messages in_editor =
+    if by_messages then Some ByMessages else if in_editor then Some InEditor else None
+
+abbrev pub explain_of : Completeness → Bool → Option ComparedText → Task
+explain_of completeness all None =
+    if all then tasks.ExplainAll completeness else tasks.Explain completeness
+explain_of completeness all (Some which) = tasks.Compared which
 
 abbrev pub lines_of : Bool → Lines
 lines_of true = Long
@@ -91,12 +100,23 @@ pub record AsksCheck (rows : List Row) (completeness : Completeness) (listing : 
   pub listing_is : listing ≡ listing_of all every
 
 -- the session must be complete where the option for that is set, and all that is wrong is explained
--- where the option for that is set
-pub record AsksExplain (rows : List Row) (completeness : Completeness) (all : Bool) : Type 0 where
+-- where the option for that is set; one of two texts is written where an option for these is set
+pub record AsksExplain (rows : List Row) (completeness : Completeness) (all : Bool)
+    (text : Option ComparedText) : Type 0 where
   pub complete : Bool
+  pub by_messages : Bool
+  pub in_editor : Bool
   pub complete_is : IsFlag (one_of (codes "complete") rows) complete
   pub all_is : IsFlag (one_of (codes "all") rows) all
+  pub by_messages_is : IsFlag (one_of (codes "by-messages") rows) by_messages
+  pub in_editor_is : IsFlag (one_of (codes "in-editor") rows) in_editor
   pub completeness_is : completeness ≡ completeness_of complete
+  pub text_is : text ≡ compared_of by_messages in_editor
+
+-- this one is written, whatever else is asked for
+abbrev pub AsksCompared : List Row → ComparedText → Type 0
+AsksCompared rows which =
+    (completeness : Completeness) × (all : Bool) × AsksExplain rows completeness all (Some which)
 
 -- the lines are long where the option for these is set, and each event that offends is skipped where
 -- the option for that is set
@@ -145,6 +165,7 @@ command_of (tasks.Check completeness) = codes "check"
 command_of (tasks.Survey completeness listing) = codes "check"
 command_of (tasks.Explain completeness) = codes "explain"
 command_of (tasks.ExplainAll completeness) = codes "explain"
+command_of (tasks.Compared which) = codes "explain"
 command_of (tasks.Show lines) = codes "show"
 command_of (tasks.ShowAll lines) = codes "show"
 command_of (tasks.Text number uri) = codes "text"
@@ -158,8 +179,9 @@ command_of (tasks.Frames mode) = codes "frames"
 abbrev pub HasArguments : List Row → Task → Type 0
 HasArguments rows (tasks.Check completeness) = AsksCheck rows completeness None
 HasArguments rows (tasks.Survey completeness listing) = AsksCheck rows completeness (Some listing)
-HasArguments rows (tasks.Explain completeness) = AsksExplain rows completeness false
-HasArguments rows (tasks.ExplainAll completeness) = AsksExplain rows completeness true
+HasArguments rows (tasks.Explain completeness) = AsksExplain rows completeness false None
+HasArguments rows (tasks.ExplainAll completeness) = AsksExplain rows completeness true None
+HasArguments rows (tasks.Compared which) = AsksCompared rows which
 HasArguments rows (tasks.Show lines) = AsksShow rows lines false
 HasArguments rows (tasks.ShowAll lines) = AsksShow rows lines true
 HasArguments rows (tasks.Text number uri) = AsksText rows number uri false

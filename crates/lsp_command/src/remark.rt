@@ -16,6 +16,9 @@ pub fn remark_of(ended: &Result<TaskOutcome, RunFault>) -> Option<&'static str>
     match ended {
         Ok(TaskOutcome::Run(Outcome::NoDocument)) => Some("no such document"),
         Ok(TaskOutcome::Run(Outcome::TooFew)) => Some("fewer editor messages"),
+        Ok(TaskOutcome::Run(Outcome::NoDifference)) => {
+            Some("no texts differ: the verdict is neither 608 nor 702")
+        }
         Ok(TaskOutcome::Event(EventOutcome::NoContent)) => Some("no content"),
         Ok(TaskOutcome::Event(EventOutcome::FewerEvents)) => Some("fewer events"),
         Ok(_) => None,
@@ -26,7 +29,8 @@ pub fn remark_of(ended: &Result<TaskOutcome, RunFault>) -> Option<&'static str>
 }
 
 /// The report of a fault, where it is not part of what the task writes: `text`, `event`, `normal`,
-/// `upgrade` and `frames --as canonical` write what was asked for and nothing else. Yes is not a
+/// `upgrade`, `frames --as canonical` and `explain` with the option for one of two texts write what
+/// was asked for and nothing else. Yes is not a
 /// fault of a log that was upgraded.
 ///
 /// # Errors
@@ -72,7 +76,11 @@ fn run_report_apart(
         (Outcome::Judged(Verdict::Yes(_)), Task::Upgrade) => Ok(None),
         (
             Outcome::Judged(verdict),
-            Task::Text { .. } | Task::TextAll { .. } | Task::Normal | Task::Upgrade,
+            Task::Text { .. }
+            | Task::TextAll { .. }
+            | Task::Compared(_)
+            | Task::Normal
+            | Task::Upgrade,
         ) => Ok(Some(verdict_report(alloc, verdict)?)),
         _ => Ok(None),
     }

@@ -9,7 +9,7 @@ use crate::command_line::Task;
 use crate::input::BufferedInput;
 use crate::output::BufferedOutput;
 use crate::task_outcome::{TaskOutcome, of_event, of_run};
-use lsp_explain::{run_explain, run_explain_all};
+use lsp_explain::{run_compared, run_explain, run_explain_all};
 use lsp_frame::{Limits, Sink, Source};
 use lsp_judge::{
     Completeness, Lines, RunFault, run_check, run_check_complete, run_event, run_frames,
@@ -57,6 +57,7 @@ pub fn run_task<R: Source, W: Sink>(
         Task::ExplainAll(completeness) => {
             of_run(run_explain_all(alloc, source, sink, limits, completeness))
         }
+        Task::Compared(which) => of_run(run_compared(alloc, source, sink, limits, which)),
         Task::Show(Lines::Short) => of_run(run_show(alloc, source, sink, limits)),
         Task::Show(Lines::Long) => of_run(run_show_long(alloc, source, sink, limits)),
         Task::ShowAll(lines) => of_run(run_show_all(alloc, source, sink, limits, lines)),

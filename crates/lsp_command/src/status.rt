@@ -14,7 +14,7 @@ fn status_of_outcome(outcome: &Outcome) -> u8
         Outcome::Done | Outcome::Judged(Verdict::Yes(_)) => 0,
         Outcome::Judged(Verdict::No { .. }) => 1,
         Outcome::Judged(Verdict::BadLog { .. }) | Outcome::Stream { .. } => 2,
-        Outcome::NoDocument | Outcome::TooFew => 5,
+        Outcome::NoDocument | Outcome::TooFew | Outcome::NoDifference => 5,
     }
 }
 

@@ -28,4 +28,5 @@ pub use laws::{
     snapshots_agree, versions_rise,
 };
 pub use open_uris::OpenUris;
+pub use revision::has_text;
 pub use snapshot::Match;

@@ -75,7 +75,7 @@ impl<S: TextStore> Revision<S> {
 }
 
 /// Whether a store holds the same text.
-pub(crate) fn has_text<S: TextStore>(line_ends: LineEnds, store: &S, text: &str) -> bool
+pub fn has_text<S: TextStore>(line_ends: LineEnds, store: &S, text: &str) -> bool
     ensures { result ≡ same_text line_ends (S.content store.now) (chars text.now) }
 {
     match line_ends {

@@ -41,10 +41,10 @@ use Rattle.lsp_verdict.proofs.Offences.Offending.{no_frame_fault, nothing_listed
 use Rattle.lsp_verdict.proofs.RunReading.{read_map}
 use Rattle.lsp_explain.specs.Explained.{Heard, Breach, Explains, raws_of, notes_of, breaches}
 use Rattle.lsp_explain.specs.Explained.{Explained, before_first, end_explained, explanation}
-use Rattle.lsp_explain.specs.Explained.{flaw_lines, said_before, said_of, IsExplained}
+use Rattle.lsp_explain.specs.Explained.{flaw_lines, noticed_before, said_of, IsExplained}
 use Rattle.lsp_explain.specs.Explained.{IsExplanation}
 use Rattle.lsp_facts.specs.FlawFacts.{Rests, rest_of, flaw_facts, log_facts}
-use Rattle.lsp_explain.specs.Remarks.{remark_lines, remarks_of}
+use Rattle.lsp_explain.specs.Remarks.{Noticed, noticed, remark_lines, remarks_of}
 use Rattle.lsp_explain.specs.RunSteps.{AddsNotes, IsSound, flaw_held, rests_held, summary_behind}
 use Rattle.lsp_explain.specs.Standing.{StandsAfter, terms_in}
 use Rattle.lsp_explain.specs.declared.run.Explanation.{Explanation}
@@ -106,7 +106,8 @@ module _ (e : SurveyReader) (completeness : Completeness) (limits : Bounds) (log
   -- and the notes are on these messages
   pub whole : IsSurveyOf e completeness limits log found bad terms (raws_of hs) (notes_of hs)
       → offences terms (notes_of hs) ≡ []
-      → (is : IsWhole) × (said_before (log_terms limits is.format) is.heard ≡ said)
+      → (is : IsWhole)
+      × (noticed_before (log_terms limits is.format) is.heard ≡ noticed terms (events_of (notes_of hs)))
   whole sv none =
       let p = sv.survey in
       let own = log_terms limits p.format in
@@ -151,12 +152,13 @@ module _ (e : SurveyReader) (completeness : Completeness) (limits : Bounds) (log
               ∙ ap (λ t. map (end_explained rests (numbered t (events_of (notes_of hs)))) ends)
               (sym sv.terms_are));
         },
-        said_all,
+        noticed_all,
       )
     where
-      said_all : said_before (log_terms limits sv.survey.format) hs ≡ said
-      said_all = ap (λ (t : Terms). said_before t hs) sv.terms_are
-          ∙ ap (λ (bs : List Breach). numbered terms (events_of (notes_of (before_first bs hs))))
+      noticed_all : noticed_before (log_terms limits sv.survey.format) hs
+          ≡ noticed terms (events_of (notes_of hs))
+      noticed_all = ap (λ (t : Terms). noticed_before t hs) sv.terms_are
+          ∙ ap (λ (bs : List Breach). noticed terms (events_of (notes_of (before_first bs hs))))
           (no_breach terms hs none)
 
 module _ (completeness : Completeness) (limits : Bounds) (e : SurveyReader) (start now : Told)
@@ -168,6 +170,9 @@ module _ (completeness : Completeness) (limits : Bounds) (e : SurveyReader) (sta
 
   abbrev said_here : List Numbered
   said_here = numbered terms (events_of (notes_of hs))
+
+  abbrev noticed_here : Noticed
+  noticed_here = noticed terms (events_of (notes_of hs))
 
   abbrev Explained_ : Type 0
   Explained_ = OfRead limits start now (λ log.
@@ -203,8 +208,8 @@ module _ (completeness : Completeness) (limits : Bounds) (e : SurveyReader) (sta
         judges = ap verdict_view adds.verdict_is ∙ judges;
         says =
             adds.text_is (events_of (notes_of hs)) (stands_after e (notes_of hs) ended.walks)
-            ∙ ap (λ l. l ++ remark_lines (remarks_of (verdict_view plain.verdict) said_here)) says
-            ∙ ap (λ v. text ++ remark_lines (remarks_of v said_here)) judges
+            ∙ ap (λ l. l ++ remark_lines (remarks_of (verdict_view plain.verdict) noticed_here)) says
+            ∙ ap (λ v. text ++ remark_lines (remarks_of v noticed_here)) judges
             ∙ ap (λ l. text ++ remark_lines (remarks_of (first_verdict found bad s) l)) (sym w.1);
       }) ended.whole
 

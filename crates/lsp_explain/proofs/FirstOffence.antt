@@ -19,7 +19,7 @@ use Rattle.lsp_verdict.specs.Verdict.{Verdict, Ending, Summary, bad_log_of, summ
 use Rattle.lsp_verdict.specs.declared.completeness.Completeness.{Completeness}
 use Rattle.lsp_verdict.proofs.Below.{some_stream}
 use Rattle.lsp_explain.specs.Explained.{Heard, Breach, Explained, Explains, raws_of, notes_of}
-use Rattle.lsp_explain.specs.Explained.{before_first, breach, breach_at, breaches, said_before}
+use Rattle.lsp_explain.specs.Explained.{before_first, breach, breach_at, breaches, noticed_before}
 use Rattle.lsp_explain.specs.Explained.{IsExplained}
 use Rattle.lsp_facts.specs.Fact.{Fact}
 use Rattle.lsp_facts.specs.FlawFacts.{Rests, log_facts}
@@ -29,13 +29,13 @@ use Rattle.lsp_explain.proofs.Explaining.{raws-append, noted-append}
 
 -- what is explained of a log of which this offence is the first, after these messages
 pub record IsFirst (completeness : Completeness) (limits : Bounds) (log : List ℕ) (o : Offence)
-    (e : Explained) (said : List Numbered) : Type 0 where
+    (e : Explained) (on : Noticed) : Type 0 where
   pub found : List Offence
   pub bad : Option Verdict
   pub flaw : List Fact
   pub s : Summary
   pub is : IsExplained completeness limits log (o ∷ found) (e ∷ []) bad flaw s
-  pub said_is : said_before (log_terms limits is.format) is.heard ≡ said
+  pub noticed_is : noticed_before (log_terms limits is.format) is.heard ≡ on
 
 module _ (completeness : Completeness) (limits : Bounds) (log : List ℕ) (format : Option Format)
     (records : List Record)
@@ -68,7 +68,7 @@ module _ (completeness : Completeness) (limits : Bounds) (log : List ℕ) (forma
         → ((rests : Rests) → RestsBehind limits records rests
         → Explains rests terms (breach hs h rule) e)
         → IsFirst completeness limits log (offence_of terms (breach hs h rule)) e
-        (numbered terms (events_of (notes_of hs)))
+        (noticed terms (events_of (notes_of hs)))
     first_explained rule e clean offends explains =
         let editor = some_stream limits (joined Editor first.records) in
         let server = some_stream limits (joined Server first.records) in
@@ -114,6 +114,6 @@ module _ (completeness : Completeness) (limits : Bounds) (log : List ℕ) (forma
                 (sym all_breaches) (explains rests behind_records, tt);
             shows = refl;
           };
-          said_is = ap (λ (bs : List Breach).
-              numbered terms (events_of (notes_of (before_first bs heard)))) all_breaches;
+          noticed_is = ap (λ (bs : List Breach).
+              noticed terms (events_of (notes_of (before_first bs heard)))) all_breaches;
         }

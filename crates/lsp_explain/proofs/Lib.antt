@@ -7,6 +7,7 @@ pub mod SaidFacts
 pub mod Standing
 pub mod Telling
 pub mod ToldFirst
+pub mod Comparing
 pub mod Worked
 pub mod Tracing
 pub mod AllCauses

@@ -8,13 +8,14 @@ use Rattle.std.proofs.lemmas.List.Concat.{flat_map-append}
 use Rattle.std.proofs.lemmas.List.Folds.{flat_map-map}
 use Rattle.lsp_survey.specs.Misuses.{Misused, misuses}
 use Rattle.lsp_session.specs.Negotiation.{encoding}
+use Rattle.lsp_replay.specs.declared.heard.EventPlace.{EventPlace}
 use Rattle.lsp_survey.specs.Asking.{Numbered, sents}
 use Rattle.lsp_survey.specs.Remarks.{abrupt_exit, older_encoding}
 use Rattle.lsp_types.specs.declared.position.Encoding.{Encoding}
 use Rattle.lsp_verdict.specs.Verdict.{Verdict}
 use Rattle.lsp_explain.specs.Remarks.{Remark, calls_wrongly, count_line, exit_remarks, line_if}
 use Rattle.lsp_explain.specs.Remarks.{misuse_line, name_remarks, other_name, remark_line}
-use Rattle.lsp_explain.specs.Remarks.{remark_lines, remarks_of, uncompared}
+use Rattle.lsp_explain.specs.Remarks.{Noticed, remark_lines, remarks_of, uncompared}
 
 abbrev lines : List Remark → List ℕ
 lines remarks = flat_map remark_line remarks
@@ -63,14 +64,16 @@ all_lines start one two three four five calls exit name little count e1 e2 e3 e4
 
 -- ---- which notes there are
 
--- **what is held of these messages gives the notes on them**
-pub remarks_are : (v : Verdict) (said : List Numbered) (calls : List Misused) (exit : Option ℕ)
-    (name older : Option (List ℕ)) (agreed : Option Encoding) → calls ≡ misuses said
-    → exit ≡ abrupt_exit said → name ≡ other_name older agreed
-    → older ≡ older_encoding (sents said) → agreed ≡ encoding (sents said)
-    → map calls_wrongly calls ++ exit_remarks exit ++ name_remarks name ++ uncompared v
-    ≡ remarks_of v said
-remarks_are v said calls exit name older agreed e1 e2 e3 e4 e5 =
-    let same : name ≡ other_name (older_encoding (sents said)) (encoding (sents said)) =
+-- **what is held of these gives the notes on them**
+pub remarks_are : (v : Verdict) (n : Noticed) (calls : List Misused) (exit : Option EventPlace)
+    (name older : Option (List ℕ)) (agreed : Option Encoding) (unshown : List (List ℕ))
+    → calls ≡ misuses n.said → exit ≡ abrupt_exit n.said → name ≡ other_name older agreed
+    → older ≡ older_encoding (sents n.said) → agreed ≡ encoding (sents n.said)
+    → unshown ≡ n.unshown
+    → map calls_wrongly calls ++ exit_remarks exit ++ name_remarks name ++ uncompared v unshown
+    ≡ remarks_of v n
+remarks_are v n calls exit name older agreed unshown e1 e2 e3 e4 e5 e6 =
+    let same : name ≡ other_name (older_encoding (sents n.said)) (encoding (sents n.said)) =
     e3 ∙ (λ i. other_name (e4 i) (e5 i)) in
-    λ i. map calls_wrongly (e1 i) ++ exit_remarks (e2 i) ++ name_remarks (same i) ++ uncompared v
+    λ i. map calls_wrongly (e1 i) ++ exit_remarks (e2 i) ++ name_remarks (same i)
+    ++ uncompared v (e6 i)

@@ -1,5 +1,6 @@
 -- What is said of an event that offends, by how it was found.
-use Rattle.std.specs.Prelude.{chars, string_bytes}
+use Rattle.std.specs.Prelude.{chars, string_bytes, ℤ, String}
+use Rattle.std.specs.Global.{Global}
 use Rattle.std.proofs.Common.{◌≡◌, ℕ, List, Some, refl, sym, ap, ◌∙◌, subst}
 use Rattle.lsp_docs.specs.Calls.{shows}
 use Rattle.lsp_docs.specs.Terms.{Terms}
@@ -12,7 +13,11 @@ use Rattle.lsp_verdict.specs.Contents.{IsSent}
 use Rattle.lsp_verdict.specs.Event.{Event, message, fault, snapshot}
 use Rattle.lsp_verdict.specs.Offences.{kept_of, rule_at}
 use Rattle.lsp_verdict.specs.Placed.{Raw, content, broken, show, Reads}
+use Rattle.lsp_verdict.specs.Verdict.{who_of, whose}
 use Rattle.lsp_verdict.specs.declared.verdict.Who.{Who}
+use Rattle.lsp_verdict.specs.declared.verdict.Who.TheVariants as who
+use Rattle.lsp_types.specs.declared.side.Side.{Side}
+use Rattle.lsp_rpc.specs.declared.act.Spoken.{Spoken}
 use Rattle.lsp_verdict.proofs.OneEvent.{one_event}
 use Rattle.lsp_facts.specs.EventFacts.{AreCallFacts, AreFacts, AreMessageFacts}
 use Rattle.lsp_facts.specs.Fact.{Fact}
@@ -25,6 +30,28 @@ use Rattle.lsp_facts.specs.MessageFacts.{front_facts}
 use Rattle.lsp_explain.specs.RunSteps.{ShowsFault}
 use Rattle.lsp_explain.specs.Traced.{AreTraced}
 use Rattle.lsp_facts.proofs.Spoken.{same_line}
+
+-- ---- whose it is
+
+module _ (terms : Terms) (kept : List Event) (rule : ℕ) where
+  pub whose_message : (raw : Raw) (event : Event) (by : Side) (spoken : Spoken) → Reads raw event
+      → IsOffending raw terms kept rule (what.Message by spoken) → whose event ≡ who_of by
+  whose_message (content side bytes) (message m) by spoken reads is =
+      ap who_of (reads.by ∙ sym is.0)
+  whose_message (content side bytes) (fault own code) by spoken reads is =
+      ap who_of (reads.0 ∙ sym is.0)
+  whose_message (content side bytes) (snapshot uri number text) by spoken reads is = absurd reads
+  whose_message (broken side code) event by spoken reads is = absurd is
+  whose_message (show number uri text) event by spoken reads is = absurd is
+
+  pub whose_snapshot : (raw : Raw) (event : Event) (version : ℤ) (uri text : String Global)
+      → Reads raw event → IsOffending raw terms kept rule (what.Snapshot version uri text)
+      → whose event ≡ who.Snapshot
+  whose_snapshot (content side bytes) event version uri text reads is = absurd is
+  whose_snapshot (broken side code) event version uri text reads is = absurd is
+  whose_snapshot (show number name shown) event version uri text reads is = ap whose reads
+
+-- ---- what is said
 
 module _ (terms : Terms) (before : List Event) (rule : ℕ) where
   abbrev kept : List Event

@@ -1,13 +1,13 @@
 -- What a run tells of the first offence that it finds.
 use Rattle.std.proofs.Common.{◌≡◌, ℕ, ◌+◌, ◌<◌, ◌^◌, true, List, [], ◌∷◌, ◌++◌, length, Option}
-use Rattle.std.proofs.Common.{Some, refl, sym, ap, ◌∙◌, subst, string_bytes}
+use Rattle.std.proofs.Common.{Some, refl, sym, ap, ◌∙◌, subst, string_bytes, arith}
 use Rattle.lsp_docs.specs.Terms.{Terms}
 use Rattle.lsp_frame.specs.Bounds.{Bounds}
 use Rattle.lsp_frame.specs.Told.{Told}
 use Rattle.lsp_log.specs.Log.{Record}
 use Rattle.lsp_types.specs.declared.side.Side.{Side}
 use Rattle.lsp_types.specs.declared.side.Side.TheVariants.{Editor, Server}
-use Rattle.lsp_survey.specs.Marking.{number_next}
+use Rattle.lsp_replay.specs.Places.{place_of}
 use Rattle.lsp_survey.specs.Reads.{SoFar, Finds, GaveEvent, HasEnded, IsBroken, ShowsFront}
 use Rattle.lsp_survey.specs.Reads.{found_in}
 use Rattle.lsp_survey.specs.Walking.{IsOffending}
@@ -22,10 +22,11 @@ use Rattle.lsp_verdict.specs.Offences.{Noted, Offence, events_of, kept_of, rule_
 use Rattle.lsp_verdict.specs.Outcome.{HasRest}
 use Rattle.lsp_verdict.specs.Placed.{Raw, content, broken, show, joined, Reads}
 use Rattle.lsp_verdict.specs.Report.{report}
-use Rattle.lsp_verdict.specs.Verdict.{no, whose}
+use Rattle.lsp_verdict.specs.Verdict.{belongs_to, count_of, no, whose}
 use Rattle.lsp_verdict.specs.declared.verdict.Who.{Who}
+use Rattle.lsp_verdict.proofs.EventCounts.{count_few}
 use Rattle.lsp_verdict.proofs.ExactCounts.{capped_is}
-use Rattle.lsp_explain.specs.Explained.{Heard, Explained, raws_of, notes_of}
+use Rattle.lsp_explain.specs.Explained.{Heard, Explained, raws_of, notes_of, place_in}
 use Rattle.lsp_facts.specs.EventFacts.{AreFacts}
 use Rattle.lsp_facts.specs.Fact.{Fact}
 use Rattle.lsp_facts.specs.FlawFacts.{Rests, rest_of}
@@ -36,15 +37,16 @@ use Rattle.lsp_explain.specs.Traced.{AreTraced}
 use Rattle.lsp_explain.specs.declared.run.Explanation.{Explanation}
 use Rattle.lsp_explain.proofs.Standing.{few_before, stands_before}
 
-pub same_no : (r s : ℕ) (a b : Who) (m n k l : ℕ) → no r a m k ≡ no s b n l → (r ≡ s) × (k ≡ l)
-same_no r s a b m n k l e = (cc e, cc e)
+pub same_no : (r s : ℕ) (a b : Who) (m n k l : ℕ) → no r a m k ≡ no s b n l
+    → (r ≡ s) × (a ≡ b) × (m ≡ n) × (k ≡ l)
+same_no r s a b m n k l e = (cc e, cc e, cc e, cc e)
 
 -- what is said of what was found, where the reader stands for the events before it, and these bytes
 -- of its side are held
 abbrev pub SaidOf : SurveyReader → FoundOffence → List ℕ → List ℕ → Type 0
 SaidOf e found rest said =
     (raw : Raw) (event : Event) (before : List Event) → StandsAfter e before
-    → found.offence.event ≡ number_next before → Reads raw event
+    → place_in found.offence ≡ place_of before event → Reads raw event
     → IsOffending raw (terms_in e) (kept_of (terms_in e) before) found.offence.rule found.offending
     → rule_at (terms_in e) before event ≡ Some found.offence.rule
     → (facts : List Fact)
@@ -116,8 +118,14 @@ module _ (e : SurveyReader) (found : FoundOffence) (x : Explanation) (rest said 
         found.offending) (sym parts.0) f.is_such in
         let offends : rule_at terms before h.note.event ≡ Some found.offence.rule =
         f.offends ∙ ap (λ r. let o : Option ℕ = Some r in o) (sym parts.0) in
-        let told = says h.raw h.note.event before stands
-        (parts.1 ∙ sym (capped_is (length before + 1) few)) noted
+        let by : Who = whose h.note.event in
+        let place : place_in found.offence ≡ place_of before h.note.event = λ i. record {
+          event = (parts.3 ∙ sym (capped_is (length before + 1) few)) i;
+          who = parts.1 i;
+          number = (parts.2 ∙ sym (capped_is (count_of (belongs_to by) before + 1)
+              (omega (arith, few, count_few (belongs_to by) before)))) i;
+        } in
+        let told = says h.raw h.note.event before stands place noted
         (subst (λ t. IsOffending h.raw t (kept_of t before) found.offence.rule found.offending) same
         such)
         (subst (λ t. rule_at t before h.note.event ≡ Some found.offence.rule) same offends) in

@@ -32,7 +32,7 @@ use Rattle.lsp_verdict.proofs.Offences.Surveying.{some_note}
 use Rattle.lsp_verdict.proofs.RunReading.{read_map}
 use Rattle.lsp_explain.specs.Explained.{Heard, Explains, raws_of, notes_of, breach, breaches}
 use Rattle.lsp_explain.specs.Explained.{said_of, IsExplanation}
-use Rattle.lsp_explain.specs.Remarks.{remark_lines, remarks_of}
+use Rattle.lsp_explain.specs.Remarks.{Noticed, noticed, remark_lines, remarks_of}
 use Rattle.lsp_explain.specs.RunSteps.{AddsNotes, Tells, TellsEnd, EndsWhole, IsFollowing}
 use Rattle.lsp_explain.specs.RunSteps.{IsExplainedBy}
 use Rattle.lsp_explain.specs.Standing.{StandsAfter, terms_in}
@@ -50,8 +50,8 @@ nothing_before (x ∷ []) y z ys is e =
     let long : x ∷ y ∷ [] ≡ z ∷ [] = ap (λ w. x ∷ w) (sym is) ∙ e in absurd cc
 nothing_before (x ∷ w ∷ xs) y z ys is e = absurd cc
 
-abbrev notes_on : Verdict → List Numbered → List ℕ
-notes_on v said = remark_lines (remarks_of v said)
+abbrev notes_on : Verdict → Noticed → List ℕ
+notes_on v n = remark_lines (remarks_of v n)
 
 module _ (completeness : Completeness) (limits : Bounds) (e : SurveyReader) (start now : Told)
     (hs : List Heard) (found : FoundOffence) (x y : Explanation) where
@@ -103,7 +103,7 @@ module _ (completeness : Completeness) (limits : Bounds) (e : SurveyReader) (sta
             let same : own ≡ log_terms limits e.log.log.format = given.so_far.terms_are in
             let f : IsFirst completeness limits log
             (offence_of (log_terms limits e.log.log.format) (breach hs here t.rule)) t.told
-            (numbered (log_terms limits e.log.log.format) before) =
+            (noticed (log_terms limits e.log.log.format) before) =
             first_explained completeness limits log e.log.log.format given.so_far.records some_note hs here
             (subst (λ (w : List Raw). HasGiven limits e.log.log.format given.so_far.records w log)
             raws_here first)
@@ -124,11 +124,11 @@ module _ (completeness : Completeness) (limits : Bounds) (e : SurveyReader) (sta
               judges = ap verdict_view adds.verdict_is ∙ t.verdict_is ∙ t.no_is;
               says =
                   adds.text_is before stands
-                  ∙ ap (λ w. w ++ notes_on (verdict_view x.verdict) (numbered own before)) plain
-                  ∙ ap (λ v. plain_text ++ notes_on v (numbered own before))
+                  ∙ ap (λ w. w ++ notes_on (verdict_view x.verdict) (noticed own before)) plain
+                  ∙ ap (λ v. plain_text ++ notes_on v (noticed own before))
                   (t.verdict_is ∙ t.no_is)
                   ∙ ap (λ w. plain_text ++ notes_on own_no w)
-                  (ap (λ ts. numbered ts before) same ∙ sym f.said_is);
+                  (ap (λ ts. noticed ts before) same ∙ sym f.noticed_is);
             }
 
         pub told_first : IsExplainedBy completeness limits start now y

@@ -13,6 +13,8 @@ use Rattle.lsp_types.specs.declared.side.Side.{Side}
 use Rattle.lsp_verdict.specs.Event.{Event, message}
 use Rattle.lsp_survey.specs.Asking.{numbered}
 use Rattle.lsp_survey.specs.Marking.{Step, agreed, recent}
+use Rattle.lsp_replay.specs.Places.{place_of}
+use Rattle.lsp_replay.specs.declared.heard.EventPlace.{EventPlace}
 use Rattle.lsp_facts.specs.Fact.{Fact, fact_view, shown_by}
 use Rattle.lsp_facts.specs.declared.fact.Fact as code
 use Rattle.lsp_facts.specs.MessageFacts.{id_in}
@@ -21,11 +23,12 @@ use Rattle.lsp_explain.specs.Traced.{message_traced, session_trace, traced, with
 use Rattle.lsp_explain.specs.declared.suspects.Until.{Until}
 use Rattle.lsp_facts.proofs.Spoken.{id_in-outline}
 
-module _ (terms : Terms) (before : List Event) (rule : ℕ) (plain : List Fact) where
+module _ (terms : Terms) (before : List Event) (place : EventPlace) (rule : ℕ)
+    (plain : List Fact) where
   -- what is added, where the rule is one on messages or not
   abbrev added : Bool → Side → Message → Act → List Fact
   added b side said act = if b then plain ++ session_trace rule (numbered terms before) side
-      (id_in said) else message_traced terms before rule (act_call terms before act) plain
+      (id_in said) else message_traced terms before place rule (act_call terms before act) plain
 
   -- below 601 the rule is one on messages
   pub added_to_messages : (side : Side) (said : Message) (act : Act) → rule < 601
@@ -36,46 +39,51 @@ module _ (terms : Terms) (before : List Event) (rule : ℕ) (plain : List Fact) 
       grind (arith, nat_tests) in ap (λ (b : Bool). added b side said act) below
 
   pub same_traced : (m : Sent) (side : Side) (said : Message) (act : Act) → m.side ≡ side
-      → outline m.message ≡ outline said → m.act ≡ act
+      → outline m.message ≡ outline said → m.act ≡ act → place ≡ place_of before (message m)
       → added (nat_lt rule 601) side said act ≡ traced terms before (message m) rule plain
-  same_traced m side said act by same means = by_test (nat_lt rule 601)
+  same_traced m side said act by same means is = by_test (nat_lt rule 601)
     where
       ids : id_in said ≡ id_in m.message
       ids = id_in-outline said ∙ sym (ap id_in same) ∙ sym (id_in-outline m.message)
 
-      by_test : (b : Bool) → added b side said act ≡ added b m.side m.message m.act
+      at : EventPlace → Bool → Side → Message → Act → List Fact
+      at p b side said act = if b then plain ++ session_trace rule (numbered terms before) side
+          (id_in said) else message_traced terms before p rule (act_call terms before act) plain
+
+      by_test : (b : Bool) → added b side said act
+          ≡ at (place_of before (message m)) b m.side m.message m.act
       by_test true = λ i. plain ++ session_trace rule (numbered terms before) (sym by i) (ids i)
-      by_test false = ap (λ (a : Act). message_traced terms before rule (act_call terms before a)
-          plain) (sym means)
+      by_test false = λ i. message_traced terms before (is i) rule
+          (act_call terms before (sym means i)) plain
 
 -- the second fact gives way to the same with the event that set the version
-pub second_set : (n : ℕ) (facts : List code.Fact) (taken put : code.Fact)
+pub second_set : (p : EventPlace) (facts : List code.Fact) (taken put : code.Fact)
     (left now : List code.Fact) → 2 ≤ length facts → taken ≡ get_or facts 1 taken
-    → fact_view put ≡ held_by n (fact_view taken) → left ≡ remove facts 1
+    → fact_view put ≡ held_by p (fact_view taken) → left ≡ remove facts 1
     → now ≡ insert left 1 put
-    → map fact_view now ≡ with_setter (Some n) (map fact_view facts)
-second_set n [] taken put left now long at is without puts = absurd (omega arith)
-second_set n (first ∷ []) taken put left now long at is without puts = absurd (omega arith)
-second_set n (first ∷ second ∷ facts) taken put left now long at is without puts =
+    → map fact_view now ≡ with_setter (Some p) (map fact_view facts)
+second_set p [] taken put left now long at is without puts = absurd (omega arith)
+second_set p (first ∷ []) taken put left now long at is without puts = absurd (omega arith)
+second_set p (first ∷ second ∷ facts) taken put left now long at is without puts =
     ap (map fact_view) (puts ∙ ap (λ (l : List code.Fact). insert l 1 put) without)
     ∙ ap (λ (f : Fact). fact_view first ∷ f ∷ map fact_view facts)
-    (is ∙ ap (λ (f : code.Fact). held_by n (fact_view f)) at)
+    (is ∙ ap (λ (f : code.Fact). held_by p (fact_view f)) at)
 
 -- where there is no second fact, they stay
-pub short_stays : (n : ℕ) (facts : List code.Fact) → length facts < 2
-    → map fact_view facts ≡ with_setter (Some n) (map fact_view facts)
-short_stays n [] short = refl
-short_stays n (first ∷ []) short = refl
-short_stays n (first ∷ second ∷ facts) short = absurd (omega arith)
+pub short_stays : (p : EventPlace) (facts : List code.Fact) → length facts < 2
+    → map fact_view facts ≡ with_setter (Some p) (map fact_view facts)
+short_stays p [] short = refl
+short_stays p (first ∷ []) short = refl
+short_stays p (first ∷ second ∷ facts) short = absurd (omega arith)
 
 -- under another rule than 702 no snapshot that differs is named
-pub names_no_texts : (done : List Step) (ns ms : List ℕ) (until : Until) (rule : ℕ)
+pub names_no_texts : (done : List Step) (ps qs : List EventPlace) (until : Until) (rule : ℕ)
     (plain : List Fact) → (rule ≡ 702 → ⊥)
-    → document_traced done ns until rule plain ≡ document_traced done ms until rule plain
-names_no_texts done ns ms until rule plain other =
+    → document_traced done ps until rule plain ≡ document_traced done qs until rule plain
+names_no_texts done ps qs until rule plain other =
     let is : (rule == 702) ≡ false = grind (arith, nat_tests) in
     let apart : List Fact = apart_facts (agreed done) until (recent done) in
     ap (λ (b : Bool). with_setter (brought (recent done))
-    plain ++ (if b then map shown_by ns ++ apart else (if rule == 608 then apart else []))) is
+    plain ++ (if b then map shown_by ps ++ apart else (if rule == 608 then apart else []))) is
     ∙ sym (ap (λ (b : Bool). with_setter (brought (recent done))
-    plain ++ (if b then map shown_by ms ++ apart else (if rule == 608 then apart else []))) is)
+    plain ++ (if b then map shown_by qs ++ apart else (if rule == 608 then apart else []))) is)

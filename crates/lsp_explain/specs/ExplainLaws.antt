@@ -9,7 +9,7 @@ use Rattle.lsp_verdict.specs.Survey.{first_verdict, shown_of}
 use Rattle.lsp_verdict.specs.Verdict.{Verdict, Summary, yes}
 use Rattle.lsp_verdict.specs.declared.completeness.Completeness.{Completeness}
 use Rattle.lsp_explain.specs.AllExplained.{AreAllSaid, IsAllExplained}
-use Rattle.lsp_explain.specs.Explained.{Explained, Heard, noted_explanation, said_before}
+use Rattle.lsp_explain.specs.Explained.{Explained, Heard, noted_explanation, noticed_before}
 use Rattle.lsp_explain.specs.Explained.{IsExplanation}
 use Rattle.lsp_facts.specs.Fact.{Fact}
 use Rattle.lsp_explain.specs.Remarks.{remark_lines, remarks_of}
@@ -29,7 +29,7 @@ YesIsReport =
     (bad : Option Verdict) (flaw : List Fact) (s t : Summary)
     → found ≡ [] → first_verdict found bad s ≡ yes t
     → noted_explanation terms heard found explained bad flaw s
-    ≡ report (yes t) ++ remark_lines (remarks_of (yes t) (said_before terms heard))
+    ≡ report (yes t) ++ remark_lines (remarks_of (yes t) (noticed_before terms heard))
 
 -- ---- all that is wrong
 

@@ -18,13 +18,15 @@ use Rattle.lsp_verdict.specs.Survey.{found_in, ends_listed, first_verdict}
 use Rattle.lsp_verdict.specs.Verdict.{Verdict, yes, no, bad_log, Summary, summary, bad_log_of}
 use Rattle.lsp_verdict.specs.Verdict.{no_by}
 use Rattle.lsp_verdict.specs.declared.completeness.Completeness.{Completeness}
+use Rattle.lsp_verdict.specs.declared.offence.Offence as code
 use Rattle.lsp_facts.specs.EventFacts.{AreFacts}
 use Rattle.lsp_facts.specs.Fact.{Fact}
 use Rattle.lsp_facts.specs.FlawFacts.{Rests, rest_of, side_by, unfinished_facts, log_facts}
 use Rattle.lsp_facts.specs.Lines.{detail_lines, event_line, end_event}
-use Rattle.lsp_explain.specs.Remarks.{remark_lines, remarks_of}
+use Rattle.lsp_explain.specs.Remarks.{Noticed, noticed, remark_lines, remarks_of}
 use Rattle.lsp_explain.specs.Traced.{AreTraced, lack_traced}
 use Rattle.lsp_survey.specs.Asking.{Numbered, numbered}
+use Rattle.lsp_replay.specs.declared.heard.EventPlace.{EventPlace}
 use Rattle.lsp_types.specs.declared.rules.TheConstants as rules
 
 -- ---- an event that offends
@@ -58,6 +60,10 @@ abbrev pub breaches : Terms → List Heard → List Breach
 breaches terms heard = each_of (breach_at terms) heard
 
 -- ---- what is said about it
+
+-- the place of the event of an offence, as it is given
+abbrev pub place_in : code.Offence → EventPlace
+place_in o = record { event = o.event; who = o.who; number = o.number }
 
 -- the line of the event of a No
 abbrev pub event_of : Verdict → Raw → List ℕ
@@ -122,10 +128,10 @@ abbrev pub before_first : List Breach → List Heard → List Heard
 before_first [] heard = heard
 before_first (b ∷ found) heard = b.before
 
--- the messages among them, with the numbers of their events
-abbrev pub said_before : Terms → List Heard → List Numbered
-said_before terms heard =
-    numbered terms (events_of (notes_of (before_first (breaches terms heard) heard)))
+-- what the notes are on of them
+abbrev pub noticed_before : Terms → List Heard → Noticed
+noticed_before terms heard =
+    noticed terms (events_of (notes_of (before_first (breaches terms heard) heard)))
 
 -- **what is written of these events**: the explanation, and after it the notes on the messages
 -- before the first event that offends
@@ -133,7 +139,7 @@ abbrev pub noted_explanation : Terms → List Heard → List Offence → List Ex
     → List Fact → Summary → List ℕ
 noted_explanation terms heard found explained bad flaw s =
     explanation found explained bad flaw s
-    ++ remark_lines (remarks_of (first_verdict found bad s) (said_before terms heard))
+    ++ remark_lines (remarks_of (first_verdict found bad s) (noticed_before terms heard))
 
 -- ---- a log
 

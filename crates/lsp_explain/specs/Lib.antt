@@ -3,6 +3,7 @@ pub mod Unopened
 pub mod Twins
 pub mod Traced
 pub mod Standing
+pub mod Compared
 pub mod Remarks
 pub mod Explained
 pub mod ExplainLaws

@@ -34,7 +34,7 @@ use Rattle.lsp_explain.specs.Explained.{Heard, Explained, Explains, breach, raws
 use Rattle.lsp_explain.specs.Explained.{said_of, IsExplanation}
 use Rattle.lsp_facts.specs.Fact.{Fact}
 use Rattle.lsp_facts.specs.FlawFacts.{Rests, rest_of, flaw_facts}
-use Rattle.lsp_explain.specs.Remarks.{remark_lines, remarks_of}
+use Rattle.lsp_explain.specs.Remarks.{noticed, remark_lines, remarks_of}
 use Rattle.lsp_explain.specs.Standing.{StandsAfter, terms_in}
 use Rattle.lsp_explain.specs.declared.run.Explanation.{Explanation}
 
@@ -100,7 +100,7 @@ pub record AddsNotes (e : SurveyReader) (plain x : Explanation) : Type 0 where
   pub verdict_is : x.verdict ≡ plain.verdict
   pub text_is : (before : List Event) → StandsAfter e before
       → string_bytes x.text ≡ string_bytes plain.text ++ remark_lines
-      (remarks_of (verdict_view plain.verdict) (numbered (terms_in e) before))
+      (remarks_of (verdict_view plain.verdict) (noticed (terms_in e) before))
 
 -- what was found is told, and then the notes
 abbrev pub TellsFirst : SurveyReader → FoundOffence → Explanation → Type 0

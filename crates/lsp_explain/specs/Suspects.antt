@@ -7,18 +7,19 @@ use Rattle.lsp_docs.specs.Calls.{Call, opens, changes, closes, saves, shows}
 use Rattle.lsp_survey.specs.Marking.{next_rank, rank_or}
 use Rattle.lsp_survey.specs.declared.notes.mark.Setter.{Setter}
 use Rattle.lsp_survey.specs.declared.notes.mark.Shown.{Shown}
+use Rattle.lsp_replay.specs.declared.heard.EventPlace.{EventPlace}
 use Rattle.lsp_facts.specs.Fact.{Fact, has_suspects, suspects}
 use Rattle.lsp_explain.specs.declared.suspects.Until.{Until}
 use Rattle.lsp_explain.specs.declared.suspects.Until.TheVariants as until
 
--- by which message the text came about that differs, where a call has this event: the last one that
+-- by which message the text came about that differs, where a call has this place: the last one that
 -- set a version, the one that set the version of a snapshot, or the call itself
-abbrev pub until_of : ℕ → Call → Until
-until_of n (opens uri number text) = until.Message n number
-until_of n (changes enc kind uri number edits) = until.Message n number
-until_of n (closes uri) = until.Held
-until_of n (saves uri text) = until.Held
-until_of n (shows uri number text) = until.Version number
+abbrev pub until_of : EventPlace → Call → Until
+until_of p (opens uri number text) = until.Message p number
+until_of p (changes enc kind uri number edits) = until.Message p number
+until_of p (closes uri) = until.Held
+until_of p (saves uri text) = until.Held
+until_of p (shows uri number text) = until.Version number
 
 -- the rank of the version that was found equal; 0 where none was
 abbrev pub equal_rank : Option Shown → ℕ
@@ -32,7 +33,7 @@ is_cleared rank setter = not (nat_lt rank setter.rank)
 abbrev pub is_up_to : Until → Setter → Bool
 is_up_to until.Held setter = true
 is_up_to (until.Version number) setter = not (int_lt number setter.version)
-is_up_to (until.Message n number) setter = true
+is_up_to (until.Message p number) setter = true
 
 abbrev pub after_equal : ℕ → List Setter → List Setter
 after_equal rank done = drop (prefix_len (is_cleared rank) done) done
@@ -46,7 +47,7 @@ suspected rank limit done = up_to limit (after_equal rank done)
 
 -- the rank of the version that differs, of which the last suspect is the last of these or the call
 abbrev pub rank_at : ℕ → Until → List Setter → ℕ
-rank_at rank (until.Message n number) named = next_rank (rank_or rank named)
+rank_at rank (until.Message p number) named = next_rank (rank_or rank named)
 rank_at rank limit named = rank_or rank named
 
 -- how many there are, also those that are no longer looked at
@@ -54,11 +55,11 @@ abbrev pub suspect_count : ℕ → Until → List Setter → ℕ
 suspect_count rank limit named = rank_at rank limit named - rank
 
 abbrev pub named_facts : List Setter → List Fact
-named_facts named = map (λ (s : Setter). suspects s.version s.event) named
+named_facts named = map (λ (s : Setter). suspects s.version s.place) named
 
 -- the call itself
 abbrev pub own_facts : Until → List Fact
-own_facts (until.Message n number) = suspects number n ∷ []
+own_facts (until.Message p number) = suspects number p ∷ []
 own_facts limit = []
 
 -- **the messages that can have made the texts differ**: how many, and each of those that are named

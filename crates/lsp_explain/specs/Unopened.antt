@@ -3,34 +3,24 @@
 use Rattle.std.specs.Prelude.{ℕ, ◌*◌, List, [], ◌∷◌, ◌++◌, length, nat_lt, Bool, false, ◌&&◌}
 use Rattle.std.specs.Prelude.{not, ◌==◌}
 use Rattle.std.specs.Prelude.{if◌then◌else◌, Option, Some, None, is_some}
-use Rattle.std.specs.Char.{to_ascii_lowercase}
 use Rattle.std.specs.List.{flat_map}
-use Rattle.std.specs.Str.{bytes_eq}
-use Rattle.percent_encoding.specs.Percent.{percent_decode}
 use Rattle.lsp_docs.specs.Calls.{Call, uri_of}
 use Rattle.lsp_docs.specs.Documents.{held}
 use Rattle.lsp_docs.specs.Terms.{Terms}
 use Rattle.lsp_verdict.specs.Calls.{calls}
 use Rattle.lsp_verdict.specs.Event.{Event}
 use Rattle.lsp_verdict.specs.Offences.{kept_of}
+use Rattle.lsp_verdict.specs.Spelling.{is_alike}
 use Rattle.lsp_survey.specs.LastOnes.{last_ones}
 use Rattle.lsp_survey.specs.Openings.{OnDocument, closing_of, closings, last_on, most_openings}
 use Rattle.lsp_survey.specs.Openings.{openings}
 use Rattle.lsp_survey.specs.declared.notes.openings.Closing.{Closing}
 use Rattle.lsp_survey.specs.declared.notes.openings.Closing.TheVariants as closing
+use Rattle.lsp_replay.specs.declared.heard.EventPlace.{EventPlace}
 use Rattle.lsp_facts.specs.Fact.{Fact, closed_by, never_opened, similar_to}
 use Rattle.lsp_types.specs.declared.rules.TheConstants as rules
 
 -- ---- URIs that differ in their spelling
-
--- a byte, of a letter the small one; a slash is left out
-abbrev pub folded_byte : ℕ → List ℕ
-folded_byte b = if b == 47 then [] else to_ascii_lowercase b ∷ []
-
--- what URIs have in common that differ in the case of ASCII letters, in percent-encoding (RFC 3986,
--- section 2.1) and in slashes alone
-abbrev pub folded : List ℕ → List ℕ
-folded uri = flat_map folded_byte (percent_decode uri)
 
 abbrev pub is_long : ℕ → ℕ → Bool
 is_long size other = nat_lt (3 * size) other
@@ -38,13 +28,13 @@ is_long size other = nat_lt (3 * size) other
 -- the other is at most three times as long, and differs in these alone
 abbrev pub is_similar : List ℕ → List ℕ → Bool
 is_similar uri other =
-    not (is_long (length uri) (length other)) && bytes_eq (folded uri) (folded other)
+    not (is_long (length uri) (length other)) && is_alike uri other
 
 -- ---- the documents that are open
 
-abbrev pub is_at : ℕ → Option ℕ → Bool
-is_at n None = false
-is_at n (Some m) = n == m
+abbrev pub is_at : EventPlace → Option EventPlace → Bool
+is_at p None = false
+is_at p (Some other) = p.event == other.event
 
 -- the messages that opened documents last
 abbrev pub last_openings : Terms → List Event → List OnDocument
@@ -54,11 +44,11 @@ last_openings terms before = last_ones most_openings (openings terms before)
 abbrev pub is_standing : Terms → List Event → OnDocument → Bool
 is_standing terms before on =
     is_some (held terms on.uri (calls (kept_of terms before)))
-    && is_at on.event (last_on on.uri (last_openings terms before))
+    && is_at on.place (last_on on.uri (last_openings terms before))
 
 abbrev pub similar_fact : Terms → List Event → List ℕ → OnDocument → List Fact
 similar_fact terms before uri on =
-    if is_similar uri on.uri && is_standing terms before on then similar_to on.uri on.event ∷ []
+    if is_similar uri on.uri && is_standing terms before on then similar_to on.uri on.place ∷ []
     else []
 
 -- **the open documents of which the URI differs from this one in its spelling alone**, of those
@@ -70,7 +60,7 @@ similar_facts terms before uri =
 -- ---- 602
 
 abbrev pub closing_facts : Closing → List Fact
-closing_facts (closing.Last n) = closed_by n ∷ []
+closing_facts (closing.Last p) = closed_by p ∷ []
 closing_facts closing.Never = never_opened ∷ []
 closing_facts closing.Forgotten = []
 

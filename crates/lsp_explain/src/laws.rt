@@ -1,4 +1,5 @@
 //! Laws of what is explained.
+ghost use Rattle.lsp_explain.specs.Compared.{OneComparedText};
 ghost use Rattle.lsp_explain.specs.ExplainLaws.{BeginsWithReport, CausesAreExplained};
 ghost use Rattle.lsp_explain.specs.ExplainLaws.{FirstIsVerdict, OneExplanation};
 ghost use Rattle.lsp_explain.specs.ExplainLaws.{OneExplanationOfAll, SomeExplanation};
@@ -42,4 +43,9 @@ pub fn some_explanation_of_all()
 /// And one only.
 pub fn one_explanation_of_all()
     ensures { OneExplanationOfAll }
+{}
+
+/// A log has one answer for each of the two texts of a verdict that says that they differ.
+pub fn one_compared_text()
+    ensures { OneComparedText }
 {}

@@ -3,9 +3,11 @@
 //!
 //! [`run_explain`] reads a log and explains the verdict on it, and [`run_explain_all`] all that is
 //! wrong with it. What is said about an offence are the facts of `lsp_facts`, whose public
-//! names are exported again here, with the earlier events that brought it.
+//! names are exported again here, with the earlier events that brought it. [`run_compared`] writes
+//! one of the two whole texts of a verdict that says that they differ.
 #![tactic(auto)]
 
+mod compared;
 mod laws;
 mod offence_facts;
 mod remarks;
@@ -16,9 +18,10 @@ mod trace;
 mod twins;
 mod unopened;
 
+pub use compared::{ComparedText, run_compared};
 pub use laws::{
     all_explained_are_causes, explanation_begins_with_report, explanation_of_yes_is_report,
-    first_explained_is_verdict, one_explanation, one_explanation_of_all, some_explanation,
+    first_explained_is_verdict, one_compared_text, one_explanation, one_explanation_of_all, some_explanation,
     some_explanation_of_all,
 };
 pub use lsp_facts::{

@@ -2,7 +2,7 @@
 ghost use Rattle.std.specs.Prelude.{◌≡◌, ◌++◌, ℕ, List, Some, IfOk, OnOk, string_bytes};
 ghost use Rattle.lsp_docs.specs.Terms.{Terms};
 ghost use Rattle.lsp_survey.specs.Asking.{numbered};
-ghost use Rattle.lsp_survey.specs.Marking.{number_next};
+ghost use Rattle.lsp_replay.specs.Places.{place_of};
 ghost use Rattle.lsp_survey.specs.Walking.{IsOffending};
 ghost use Rattle.lsp_verdict.specs.Event.{Event};
 ghost use Rattle.lsp_verdict.specs.Given.{offence_view};
@@ -10,7 +10,7 @@ ghost use Rattle.lsp_verdict.specs.Offences.{kept_of, rule_at};
 ghost use Rattle.lsp_verdict.specs.Placed.{Raw, Reads};
 ghost use Rattle.lsp_verdict.specs.Verdict.{no};
 ghost use Rattle.lsp_verdict.specs.declared.verdict.Who.{Who};
-ghost use Rattle.lsp_explain.specs.Explained.{end_explained, end_facts, said_of};
+ghost use Rattle.lsp_explain.specs.Explained.{end_explained, end_facts, place_in, said_of};
 ghost use Rattle.lsp_facts.specs.EventFacts.{AreFacts};
 ghost use Rattle.lsp_facts.specs.Fact.{Fact as SpecFact, facts_view};
 ghost use Rattle.lsp_facts.specs.FlawFacts.{Rests, rest_of, side_by};
@@ -24,24 +24,25 @@ use lsp_facts::{
     Fact, content_facts, frame_facts, push_bare_event, push_content_event, push_details,
     push_end_event, push_message_event, unfinished_facts, usual,
 };
+use lsp_replay::EventPlace;
 use lsp_rpc::Memory;
 use lsp_survey::{FoundOffence, OffendingEvent, SurveyReader};
 use lsp_types::rules;
 use lsp_verdict::Offence;
 use std::alloc::Global;
 
-/// The facts on what offends by this rule, the event of this number. The reader stands for the
+/// The facts on what offends by this rule, the event of this place. The reader stands for the
 /// events before it, and the rest is of its side.
 fn facts_of(
     alloc: Global,
     events: &SurveyReader,
     rest: &[u8],
     offending: &OffendingEvent,
-    number: u64,
+    place: EventPlace,
     rule: u16,
 ) -> Result<Vec<Fact>, Memory>
     ensures { IfOk result (λ facts. (raw : Raw) (event : Event) (before : List Event)
-        → StandsAfter events.now before → number ≡ number_next before → Reads raw event
+        → StandsAfter events.now before → place ≡ place_of before event → Reads raw event
         → IsOffending raw (terms_in events.now)
         (kept_of (terms_in events.now) before) rule offending.now
         → rule_at (terms_in events.now) before event ≡ Some rule
@@ -55,14 +56,14 @@ fn facts_of(
         OffendingEvent::Content { content, .. } => content_facts(alloc, content.as_slice(), rule),
         OffendingEvent::Message { side, spoken } => {
             let side = *side;
-            message_traced(alloc, events, number, side, spoken, rule)
+            message_traced(alloc, events, place, side, spoken, rule)
         }
         OffendingEvent::Snapshot { version, uri, text } => {
             let version = *version;
             shown_traced(
                 alloc,
                 events,
-                number,
+                place,
                 version,
                 uri.as_str(),
                 text.as_str(),
@@ -99,6 +100,17 @@ fn push_event(
     }
 }
 
+/// The place of the event of an offence.
+fn place_in(offence: &Offence) -> EventPlace
+    ensures { result ≡ place_in offence.now }
+{
+    EventPlace {
+        event: offence.event,
+        who: offence.who,
+        number: offence.number,
+    }
+}
+
 /// Adds what is said about an offence. The reader stands for the events before it, and the rest is
 /// of its side.
 pub(crate) fn push_said(
@@ -109,7 +121,7 @@ pub(crate) fn push_said(
     found: &FoundOffence,
 ) -> Result<(), Memory>
     ensures { OnOk result ((raw : Raw) (event : Event) (before : List Event)
-        → StandsAfter events.now before → found.now.offence.event ≡ number_next before
+        → StandsAfter events.now before → place_in found.now.offence ≡ place_of before event
         → Reads raw event
         → IsOffending raw (terms_in events.now)
         (kept_of (terms_in events.now) before) found.now.offence.rule found.now.offending
@@ -125,7 +137,8 @@ pub(crate) fn push_said(
 {
     let FoundOffence { offence, offending } = found;
     push_event(alloc, lines, offence, offending)?;
-    let facts = facts_of(alloc, events, rest, offending, offence.event, offence.rule)?;
+    let place = place_in(offence);
+    let facts = facts_of(alloc, events, rest, offending, place, offence.rule)?;
     let usual = usual(offence.rule, offence.who);
     push_details(alloc, lines, facts.as_slice(), usual)
 }

@@ -2,7 +2,6 @@
 ghost use Rattle.std.specs.Prelude.{◌≡◌, ◌++◌, List, Some, OnOk, IfOk, length, map, option_map};
 ghost use Rattle.std.specs.Prelude.{string_bytes};
 ghost use Rattle.std.specs.List.{flat_map};
-ghost use Rattle.lsp_survey.specs.Asking.{numbered};
 ghost use Rattle.lsp_survey.specs.Misuses.{misused_view, misused_views};
 ghost use Rattle.lsp_verdict.specs.Event.{Event};
 ghost use Rattle.lsp_verdict.specs.Given.{verdict_view};
@@ -10,12 +9,15 @@ ghost use Rattle.lsp_verdict.specs.Report.{encoding_name};
 ghost use Rattle.lsp_explain.specs.Remarks as spec;
 ghost use Rattle.lsp_explain.specs.Remarks.{calls_wrongly, count_line, exit_remarks, exits_abruptly};
 ghost use Rattle.lsp_explain.specs.Remarks.{line_if, misuse_line, name_remarks, names_another};
-ghost use Rattle.lsp_explain.specs.Remarks.{remark_line, remark_lines, remarks_of, uncompared};
+ghost use Rattle.lsp_explain.specs.Remarks.{noticed, remark_line, remark_lines, remarks_of};
+ghost use Rattle.lsp_explain.specs.Remarks.{uncompared, unshown_line};
+ghost use Rattle.lsp_survey.specs.Touched.{names_view};
 ghost use Rattle.lsp_explain.specs.Standing.{StandsAfter, terms_in};
 
+use lsp_replay::EventPlace;
 use lsp_rpc::{Encoding, Memory, push_quoted};
 use lsp_survey::{Misuse, Misused, SurveyReader};
-use lsp_verdict::Verdict;
+use lsp_verdict::{Verdict, who_name};
 use std::alloc::Global;
 use std::fmt::Write;
 
@@ -31,16 +33,18 @@ pub(crate) fn push_remarks(
 ) -> Result<(), Memory>
     ensures { OnOk result ((before : List Event) → StandsAfter events.now before
         → string_bytes lines.new ≡ string_bytes lines.old ++ remark_lines
-        (remarks_of (verdict_view verdict.now) (numbered (terms_in events.now) before))) }
+        (remarks_of (verdict_view verdict.now) (noticed (terms_in events.now) before))) }
 {
     let notes = events.session_notes();
     let name = other_name(notes.older_encoding(), events.session().encoding());
+    let unshown = events.openings().unshown()?;
     push_all(
         alloc,
         lines,
         notes.misuses(),
         notes.abrupt_exit(),
         name,
+        unshown.as_slice(),
         verdict,
     )
 }
@@ -50,19 +54,20 @@ fn push_all(
     alloc: Global,
     lines: &mut String,
     misuses: &[Misused],
-    exit: Option<u64>,
+    exit: Option<EventPlace>,
     name: Option<&str>,
+    unshown: &[String],
     verdict: &Verdict,
 ) -> Result<(), Memory>
     ensures { OnOk result (string_bytes lines.new ≡ string_bytes lines.old
         ++ remark_lines (map calls_wrongly (misused_views misuses.now) ++ exit_remarks exit
         ++ name_remarks (option_map (λ s. s.now) name.entry)
-        ++ uncompared (verdict_view verdict.now))) }
+        ++ uncompared (verdict_view verdict.now) (names_view unshown.now))) }
 {
     push_misuses(alloc, lines, misuses)?;
     let exits = push_exit(lines, exit)?;
     let names = push_name(alloc, lines, name)?;
-    let uncompared = push_uncompared(lines, verdict)?;
+    let uncompared = push_uncompared(alloc, lines, verdict, unshown)?;
     push_count(lines, misuses.len() + exits + names + uncompared)
 }
 
@@ -82,10 +87,11 @@ fn push_misuse(alloc: Global, lines: &mut String, misused: &Misused) -> Result<(
         ≡ string_bytes lines.old ++ misuse_line (misused_view misused.now)) }
 {
     let name = misuse_name(misused.misuse);
-    let event = misused.event;
+    let EventPlace { event, who, number } = misused.place;
+    let who = who_name(who);
     write!(lines, "note {name} ")?;
     push_quoted(alloc, lines, misused.method.as_str())?;
-    writeln!(lines, " event {event}")?;
+    writeln!(lines, " event {event} {who} {number}")?;
     Ok(())
 }
 
@@ -100,17 +106,21 @@ fn misuse_name(misuse: Misuse) -> &'static str
     }
 }
 
-/// Adds the line of an `exit` without `shutdown`, the event of this number, if there is one; how
+/// Adds the line of an `exit` without `shutdown`, the event of this place, if there is one; how
 /// many lines these are.
-fn push_exit(lines: &mut String, exit: Option<u64>) -> Result<usize, Memory>
+fn push_exit(lines: &mut String, exit: Option<EventPlace>) -> Result<usize, Memory>
     ensures text { OnOk result (string_bytes lines.new
         ≡ string_bytes lines.old ++ line_if (option_map exits_abruptly exit)) }
     ensures count { IfOk result (λ count. count ≡ length (exit_remarks exit)) }
 {
-    let Some(event) = exit else {
+    let Some(EventPlace { event, who, number }) = exit else {
         return Ok(0);
     };
-    writeln!(lines, "note exit-without-shutdown event {event}")?;
+    let name = who_name(who);
+    writeln!(
+        lines,
+        "note exit-without-shutdown event {event} {name} {number}"
+    )?;
     Ok(1)
 }
 
@@ -131,18 +141,28 @@ fn push_name(alloc: Global, lines: &mut String, name: Option<&str>) -> Result<us
     Ok(1)
 }
 
-/// Adds the line of a Yes where no snapshot was compared; how many lines these are.
-fn push_uncompared(lines: &mut String, verdict: &Verdict) -> Result<usize, Memory>
-    ensures text { OnOk result (string_bytes lines.new
-        ≡ string_bytes lines.old ++ flat_map remark_line (uncompared (verdict_view verdict.now))) }
-    ensures count { IfOk result
-        (λ count. count ≡ length (uncompared (verdict_view verdict.now))) }
+/// Adds the line of a Yes where no snapshot was compared, or else those of the documents that were
+/// changed and have none; how many lines these are.
+fn push_uncompared(
+    alloc: Global,
+    lines: &mut String,
+    verdict: &Verdict,
+    unshown: &[String],
+) -> Result<usize, Memory>
+    ensures text { OnOk result (string_bytes lines.new ≡ string_bytes lines.old
+        ++ flat_map remark_line (uncompared (verdict_view verdict.now) (names_view unshown.now))) }
+    ensures count { IfOk result (λ count. count
+        ≡ length (uncompared (verdict_view verdict.now) (names_view unshown.now))) }
 {
-    if !is_uncompared(verdict) {
+    if is_uncompared(verdict) {
+        writeln!(lines, "note nothing-compared")?;
+        return Ok(1);
+    }
+    if !is_yes(verdict) {
         return Ok(0);
     }
-    writeln!(lines, "note nothing-compared")?;
-    Ok(1)
+    push_unshown(alloc, lines, unshown)?;
+    Ok(unshown.len())
 }
 
 /// Whether it is a Yes, and no snapshot was compared.
@@ -153,6 +173,33 @@ fn is_uncompared(verdict: &Verdict) -> bool
         Verdict::Yes(summary) => summary.snapshots == summary.unmatched,
         _ => false,
     }
+}
+
+fn is_yes(verdict: &Verdict) -> bool
+    ensures { result ≡ spec.is_yes (verdict_view verdict.now) }
+{
+    matches!(verdict, Verdict::Yes(_))
+}
+
+/// Adds the lines of documents that were changed and have no snapshot.
+fn push_unshown(alloc: Global, lines: &mut String, unshown: &[String]) -> Result<(), Memory>
+    ensures { OnOk result (string_bytes lines.new
+        ≡ string_bytes lines.old ++ flat_map unshown_line (names_view unshown.now)) }
+{
+    for uri in unshown {
+        push_unshown_line(alloc, lines, uri)?;
+    }
+    Ok(())
+}
+
+fn push_unshown_line(alloc: Global, lines: &mut String, uri: &String) -> Result<(), Memory>
+    ensures { OnOk result (string_bytes lines.new
+        ≡ string_bytes lines.old ++ unshown_line (string_bytes uri.now)) }
+{
+    write!(lines, "note no-snapshot ")?;
+    push_quoted(alloc, lines, uri.as_str())?;
+    writeln!(lines)?;
+    Ok(())
 }
 
 /// Adds how many notes there are, if there are any.

@@ -6,6 +6,7 @@ ghost use Rattle.lsp_facts.specs.Fact.{facts_view};
 ghost use Rattle.lsp_explain.specs.Suspects as spec;
 
 use lsp_facts::Fact;
+use lsp_replay::EventPlace;
 use lsp_rpc::Memory;
 use lsp_survey::{Setter, Shown};
 
@@ -16,8 +17,8 @@ pub(crate) enum Until {
     Held,
     /// The one that set the version of a snapshot.
     Version(i32),
-    /// The message itself that offends, the event of this number, which would set this version.
-    Message { event: u64, version: i32 },
+    /// The message itself that offends, the event of this place, which would set this version.
+    Message { place: EventPlace, version: i32 },
 }
 
 /// Adds how many messages can have made texts differ, and each of them that is among those that set
@@ -140,8 +141,8 @@ fn push_suspect(facts: &mut Vec<Fact>, setter: &Setter) -> Result<(), Memory>
     ensures { OnOk result (facts_view facts.new.items ≡ facts_view facts.old.items
         ++ spec.named_facts (setter.now ∷ [])) }
 {
-    let Setter { event, version, .. } = *setter;
-    Ok(facts.push(Fact::Suspect { version, event })?)
+    let Setter { place, version, .. } = *setter;
+    Ok(facts.push(Fact::Suspect { version, place })?)
 }
 
 /// Adds the message that offends, where the text came about by it.
@@ -150,7 +151,7 @@ fn push_own(facts: &mut Vec<Fact>, until: Until) -> Result<(), Memory>
         ++ spec.own_facts until) }
 {
     match until {
-        Until::Message { event, version } => Ok(facts.push(Fact::Suspect { version, event })?),
+        Until::Message { place, version } => Ok(facts.push(Fact::Suspect { version, place })?),
         _ => Ok(()),
     }
 }

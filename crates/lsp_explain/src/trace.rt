@@ -12,9 +12,12 @@ ghost use Rattle.lsp_verdict.specs.Calls.{calls};
 ghost use Rattle.lsp_replay.specs.Standing.{RefusesMessage};
 ghost use Rattle.lsp_verdict.specs.Event.{Event, message, snapshot};
 ghost use Rattle.lsp_verdict.specs.Offences.{kept_of, rule_at};
+ghost use Rattle.lsp_verdict.specs.Verdict.{who_of};
+ghost use Rattle.lsp_verdict.specs.declared.verdict.Who.{Who};
 ghost use Rattle.lsp_survey.specs.Asking.{answered, asked, numbered};
-ghost use Rattle.lsp_survey.specs.Marking.{number_next, steps, waiting_for};
+ghost use Rattle.lsp_survey.specs.Marking.{steps, waiting_for};
 ghost use Rattle.lsp_survey.specs.Marks.{AreMarks};
+ghost use Rattle.lsp_replay.specs.Places.{place_next};
 ghost use Rattle.lsp_survey.specs.SessionNoting.{AreNotes};
 ghost use Rattle.lsp_facts.specs.EventFacts.{AreCallFacts, AreMessageFacts};
 ghost use Rattle.lsp_facts.specs.Fact.{answered_by, asked_by, fact_view, facts_view, led_by};
@@ -30,24 +33,25 @@ use crate::suspects::{Until, push_suspects};
 use crate::twins::twin_of;
 use crate::unopened::trace_unopened;
 use lsp_facts::{Fact, id_in, message_facts, refuting, shown_facts};
+use lsp_replay::EventPlace;
 use lsp_rpc::{Act, Encoding, Id, Memory, Message, Side, Spoken, copy_id};
 use lsp_session::{OpenRequest, Pending};
 use lsp_survey::{Marks, SessionNotes, Setter, Shown, SurveyReader};
 use lsp_types::rules;
 use std::alloc::Global;
 
-/// What is said about a message of a side, the event of this number, that offends by this rule, 301
+/// What is said about a message of a side, the event of this place, that offends by this rule, 301
 /// to 702, with the events that brought it. The reader stands for the events before it.
 pub(crate) fn message_traced(
     alloc: Global,
     events: &SurveyReader,
-    number: u64,
+    place: EventPlace,
     side: Side,
     spoken: &Spoken,
     rule: u16,
 ) -> Result<Vec<Fact>, Memory>
     ensures { IfOk result (λ facts. (content : List ℕ) (before : List Event)
-        → StandsAfter events.now before → number ≡ number_next before
+        → StandsAfter events.now before → place ≡ place_next before (who_of side)
         → (refused : RefusesMessage side content (message_view spoken.now.message)
         (act_view spoken.now.act) (terms_in events.now)
         (kept_of (terms_in events.now) before) rule)
@@ -57,23 +61,23 @@ pub(crate) fn message_traced(
 {
     let session = events.session();
     let mut facts = message_facts(alloc, session, events.docs(), side, spoken, rule)?;
-    trace_spoken(alloc, &mut facts, events, number, side, spoken, rule)?;
+    trace_spoken(alloc, &mut facts, events, place, side, spoken, rule)?;
     Ok(facts)
 }
 
-/// What is said about a snapshot, the event of this number, that offends by this rule, with the
+/// What is said about a snapshot, the event of this place, that offends by this rule, with the
 /// events that brought it. The reader stands for the events before it.
 pub(crate) fn shown_traced(
     alloc: Global,
     events: &SurveyReader,
-    number: u64,
+    place: EventPlace,
     version: i32,
     uri: &str,
     text: &str,
     rule: u16,
 ) -> Result<Vec<Fact>, Memory>
     ensures { IfOk result (λ facts. (before : List Event) → StandsAfter events.now before
-        → number ≡ number_next before
+        → place ≡ place_next before Who.Snapshot
         → rule_at (terms_in events.now) before (snapshot uri.now version (chars text.now))
         ≡ Some rule
         → spec.AreTraced (AreCallFacts (terms_in events.now)
@@ -84,27 +88,26 @@ pub(crate) fn shown_traced(
 {
     let session = events.session();
     let mut facts = shown_facts(alloc, session, events.docs(), version, uri, text, rule)?;
-    trace_snapshot(&mut facts, events.marks(), number, version, uri, rule)?;
+    trace_snapshot(&mut facts, events.marks(), place, version, uri, rule)?;
     Ok(facts)
 }
 
-/// Adds to the facts on a message of a side, the event of this number, that breaks this rule the
+/// Adds to the facts on a message of a side, the event of this place, that breaks this rule the
 /// events that brought it. The reader stands for the events before it.
 fn trace_spoken(
     alloc: Global,
     facts: &mut Vec<Fact>,
     events: &SurveyReader,
-    number: u64,
+    place: EventPlace,
     side: Side,
     spoken: &Spoken,
     rule: u16,
 ) -> Result<(), Memory>
     ensures { OnOk result ((before : List Event) → StandsAfter events.now before
-        → number ≡ number_next before
         → facts_view facts.new.items ≡ (if nat_lt rule rules.FIRST_ON_DOCUMENTS
         then facts_view facts.old.items ++ spec.session_trace rule
         (numbered (terms_in events.now) before) side (id_in (message_view spoken.now.message))
-        else spec.message_traced (terms_in events.now) before rule
+        else spec.message_traced (terms_in events.now) before place rule
         (spec.act_call (terms_in events.now) before (act_view spoken.now.act))
         (facts_view facts.old.items))) }
 {
@@ -112,11 +115,11 @@ fn trace_spoken(
         let said = events.session_notes();
         return trace_message(alloc, facts, said, side, &spoken.message, rule);
     }
-    trace_act(alloc, facts, events, number, &spoken.act, rule)?;
+    trace_act(alloc, facts, events, place, &spoken.act, rule)?;
     trace_unopened(alloc, facts, events, &spoken.act, rule)
 }
 
-/// Adds to the facts on an act, the event of this number, that breaks this rule on documents the
+/// Adds to the facts on an act, the event of this place, that breaks this rule on documents the
 /// event that set the held version; under 702 the snapshots that wait for the version in it and
 /// have another text; under 608 and 702 the snapshot that was found equal, and the messages that
 /// can have made the texts differ.
@@ -124,14 +127,13 @@ fn trace_act(
     alloc: Global,
     facts: &mut Vec<Fact>,
     events: &SurveyReader,
-    number: u64,
+    place: EventPlace,
     act: &Act,
     rule: u16,
 ) -> Result<(), Memory>
     ensures { OnOk result ((before : List Event) → StandsAfter events.now before
-        → number ≡ number_next before
         → facts_view facts.new.items
-        ≡ spec.call_traced (terms_in events.now) before rule
+        ≡ spec.call_traced (terms_in events.now) before place rule
         (spec.act_call (terms_in events.now) before (act_view act.now))
         (facts_view facts.old.items)) }
 {
@@ -141,7 +143,7 @@ fn trace_act(
                 alloc,
                 facts,
                 events,
-                number,
+                place,
                 act,
                 uri.as_str(),
                 *version,
@@ -153,7 +155,7 @@ fn trace_act(
                 alloc,
                 facts,
                 events,
-                number,
+                place,
                 act,
                 uri.as_str(),
                 *version,
@@ -171,7 +173,7 @@ fn trace_text(
     alloc: Global,
     facts: &mut Vec<Fact>,
     events: &SurveyReader,
-    number: u64,
+    place: EventPlace,
     act: &Act,
     uri: &str,
     version: i32,
@@ -183,13 +185,10 @@ fn trace_text(
         ≡ spec.document_traced (steps (terms_in events.now) uri.now before)
         (refuting (terms_in events.now) (calls (kept_of (terms_in events.now) before)) call
         (waiting_for version (steps (terms_in events.now) uri.now before)))
-        (Until.Message number version) rule (facts_view facts.old.items)) }
+        (Until.Message place version) rule (facts_view facts.old.items)) }
 {
     let marks = events.marks();
-    let until = Until::Message {
-        event: number,
-        version,
-    };
+    let until = Until::Message { place, version };
     if rule != rules::SNAPSHOT_DIFFERS {
         return trace_document(facts, marks, uri, &[], until, rule);
     }
@@ -210,12 +209,12 @@ fn trace_held(facts: &mut Vec<Fact>, marks: &Marks, uri: &str, rule: u16) -> Res
     trace_document(facts, marks, uri, &[], Until::Held, rule)
 }
 
-/// The same of a snapshot of this version, the event of this number, which is named itself under
+/// The same of a snapshot of this version, the event of this place, which is named itself under
 /// 702.
 fn trace_snapshot(
     facts: &mut Vec<Fact>,
     marks: &Marks,
-    event: u64,
+    place: EventPlace,
     version: i32,
     uri: &str,
     rule: u16,
@@ -223,10 +222,10 @@ fn trace_snapshot(
     ensures { OnOk result ((terms : Terms) (before : List Event)
         → AreMarks terms marks.now.map.entries before
         → facts_view facts.new.items
-        ≡ spec.document_traced (steps terms uri.now before) (event ∷ []) (Until.Version version)
+        ≡ spec.document_traced (steps terms uri.now before) (place ∷ []) (Until.Version version)
         rule (facts_view facts.old.items)) }
 {
-    trace_document(facts, marks, uri, &[event], Until::Version(version), rule)
+    trace_document(facts, marks, uri, &[place], Until::Version(version), rule)
 }
 
 /// Adds to the facts on a message of a side that breaks this rule, 301 to 504, under 301 and 302
@@ -291,14 +290,14 @@ fn push_open(facts: &mut Vec<Fact>, said: &SessionNotes, side: Side, id: Id) -> 
         → facts_view facts.new.items ≡ facts_view facts.old.items
         ++ spec.twin_facts side (numbered terms before) (Some (id_view id))) }
 {
-    let Some(event) = said.asked(side, &id) else {
+    let Some(place) = said.asked(side, &id) else {
         return Ok(());
     };
-    Ok(facts.push(Fact::Open { id, event })?)
+    Ok(facts.push(Fact::Open { id, place })?)
 }
 
 /// The event that answered a request of this side with the id of a message last.
-fn answered(said: &SessionNotes, side: Side, message: &Message) -> Option<u64>
+fn answered(said: &SessionNotes, side: Side, message: &Message) -> Option<EventPlace>
     ensures { (terms : Terms) (before : List Event) → AreNotes terms said.now before
         → result ≡ option_and_then
         (λ id. answered side id (numbered terms before)) (id_in (message_view message.now)) }
@@ -310,7 +309,7 @@ fn answered(said: &SessionNotes, side: Side, message: &Message) -> Option<u64>
 }
 
 /// The event that asked the open request of this side with the id of a message.
-fn asked(said: &SessionNotes, side: Side, message: &Message) -> Option<u64>
+fn asked(said: &SessionNotes, side: Side, message: &Message) -> Option<EventPlace>
     ensures { (terms : Terms) (before : List Event) → AreNotes terms said.now before
         → result ≡ option_and_then
         (λ id. asked side id (numbered terms before)) (id_in (message_view message.now)) }
@@ -335,7 +334,7 @@ fn trace_document(
     facts: &mut Vec<Fact>,
     marks: &Marks,
     uri: &str,
-    snapshots: &[u64],
+    snapshots: &[EventPlace],
     until: Until,
     rule: u16,
 ) -> Result<(), Memory>
@@ -346,50 +345,50 @@ fn trace_document(
         (facts_view facts.old.items)) }
 {
     let setters = marks.setters(uri);
-    put_setter(facts, last_event(setters))?;
+    put_setter(facts, last_place(setters))?;
     push_texts(facts, marks.agreed(uri), setters, snapshots, until, rule)
 }
 
-/// The event of the last of these messages, which set the held version.
-fn last_event(setters: &[Setter]) -> Option<u64>
+/// The place of the last of these messages, which set the held version.
+fn last_place(setters: &[Setter]) -> Option<EventPlace>
     ensures { result ≡ spec.brought setters.now }
 {
     match setters.last() {
-        Some(setter) => Some(setter.event),
+        Some(setter) => Some(setter.place),
         None => None,
     }
 }
 
 /// Adds the event that set the held version to that fact.
-fn put_setter(facts: &mut Vec<Fact>, brought: Option<u64>) -> Result<(), Memory>
+fn put_setter(facts: &mut Vec<Fact>, brought: Option<EventPlace>) -> Result<(), Memory>
     ensures { OnOk result (facts_view facts.new.items
         ≡ spec.with_setter brought (facts_view facts.old.items)) }
 {
-    let Some(event) = brought else {
+    let Some(place) = brought else {
         return Ok(());
     };
     if facts.len() < 2 {
         return Ok(());
     }
-    set_second(facts, event)
+    set_second(facts, place)
 }
 
 /// Adds the event that set the held version, if the second fact is that version.
-fn set_second(facts: &mut Vec<Fact>, event: u64) -> Result<(), Memory>
+fn set_second(facts: &mut Vec<Fact>, place: EventPlace) -> Result<(), Memory>
     requires { 2 ≤ vec_len facts.old }
     ensures { OnOk result (facts_view facts.new.items
-        ≡ spec.with_setter (Some event) (facts_view facts.old.items)) }
+        ≡ spec.with_setter (Some place) (facts_view facts.old.items)) }
 {
-    let fact = held_by(facts.remove(1), event);
+    let fact = held_by(facts.remove(1), place);
     Ok(facts.insert(1, fact)?)
 }
 
 /// The version that is held, with the event that set it; another fact as it is.
-fn held_by(fact: Fact, event: u64) -> Fact
-    ensures { fact_view result ≡ spec.held_by event (fact_view fact) }
+fn held_by(fact: Fact, place: EventPlace) -> Fact
+    ensures { fact_view result ≡ spec.held_by place (fact_view fact) }
 {
     if let Fact::Held(version) = fact {
-        return Fact::HeldBy { version, event };
+        return Fact::HeldBy { version, place };
     }
     fact
 }
@@ -400,7 +399,7 @@ fn push_texts(
     facts: &mut Vec<Fact>,
     equal: Option<Shown>,
     setters: &[Setter],
-    snapshots: &[u64],
+    snapshots: &[EventPlace],
     until: Until,
     rule: u16,
 ) -> Result<(), Memory>
@@ -431,12 +430,12 @@ fn push_apart(
     push_suspects(facts, equal, until, setters)
 }
 
-fn push_snapshots(facts: &mut Vec<Fact>, snapshots: &[u64]) -> Result<(), Memory>
+fn push_snapshots(facts: &mut Vec<Fact>, snapshots: &[EventPlace]) -> Result<(), Memory>
     ensures { OnOk result (facts_view facts.new.items ≡ facts_view facts.old.items
         ++ map shown_by snapshots.now) }
 {
-    for event in snapshots {
-        facts.push(Fact::Snapshot(*event))?;
+    for place in snapshots {
+        facts.push(Fact::Snapshot(*place))?;
     }
     Ok(())
 }
@@ -445,40 +444,40 @@ fn push_equal(facts: &mut Vec<Fact>, equal: Option<Shown>) -> Result<(), Memory>
     ensures { OnOk result (facts_view facts.new.items ≡ facts_view facts.old.items
         ++ spec.equal_facts equal) }
 {
-    let Some(Shown { event, version, .. }) = equal else {
+    let Some(Shown { place, version, .. }) = equal else {
         return Ok(());
     };
-    Ok(facts.push(Fact::Equal { version, event })?)
+    Ok(facts.push(Fact::Equal { version, place })?)
 }
 
-fn push_answered(facts: &mut Vec<Fact>, event: Option<u64>) -> Result<(), Memory>
+fn push_answered(facts: &mut Vec<Fact>, place: Option<EventPlace>) -> Result<(), Memory>
     ensures { OnOk result (facts_view facts.new.items ≡ facts_view facts.old.items
-        ++ spec.number_facts answered_by event) }
+        ++ spec.place_facts answered_by place) }
 {
-    let Some(event) = event else {
+    let Some(place) = place else {
         return Ok(());
     };
-    Ok(facts.push(Fact::Answered(event))?)
+    Ok(facts.push(Fact::Answered(place))?)
 }
 
-fn push_asked(facts: &mut Vec<Fact>, event: Option<u64>) -> Result<(), Memory>
+fn push_asked(facts: &mut Vec<Fact>, place: Option<EventPlace>) -> Result<(), Memory>
     ensures { OnOk result (facts_view facts.new.items ≡ facts_view facts.old.items
-        ++ spec.number_facts asked_by event) }
+        ++ spec.place_facts asked_by place) }
 {
-    let Some(event) = event else {
+    let Some(place) = place else {
         return Ok(());
     };
-    Ok(facts.push(Fact::Asked(event))?)
+    Ok(facts.push(Fact::Asked(place))?)
 }
 
-fn push_since(facts: &mut Vec<Fact>, event: Option<u64>) -> Result<(), Memory>
+fn push_since(facts: &mut Vec<Fact>, place: Option<EventPlace>) -> Result<(), Memory>
     ensures { OnOk result (facts_view facts.new.items ≡ facts_view facts.old.items
-        ++ spec.number_facts led_by event) }
+        ++ spec.place_facts led_by place) }
 {
-    let Some(event) = event else {
+    let Some(place) = place else {
         return Ok(());
     };
-    Ok(facts.push(Fact::Since(event))?)
+    Ok(facts.push(Fact::Since(place))?)
 }
 
 /// What is said about a session that ends and is not complete: the requests of the editor's that
@@ -521,7 +520,7 @@ fn request_by(alloc: Global, request: &OpenRequest, said: &SessionNotes) -> Resu
     let id = copy_id(&request.id)?;
     let method = String::from_str(alloc, request.method.as_str())?;
     match said.asked(Side::Editor, &request.id) {
-        Some(event) => Ok(Fact::RequestBy { id, method, event }),
+        Some(place) => Ok(Fact::RequestBy { id, method, place }),
         None => Ok(Fact::Request { id, method }),
     }
 }

@@ -1,20 +1,20 @@
 //! What is said about a document that is not open.
 ghost use Rattle.std.specs.Prelude.{◌≡◌, ◌++◌, List, IfOk, OnOk};
 ghost use Rattle.std.specs.List.{flat_map};
-ghost use Rattle.std.specs.Str.{bytes_eq};
 ghost use Rattle.lsp_rpc.specs.View.{act_view};
 ghost use Rattle.lsp_survey.specs.Openings.{on_view, ons_view};
 ghost use Rattle.lsp_verdict.specs.Event.{Event};
+ghost use Rattle.lsp_verdict.specs.Spelling.{is_alike};
 ghost use Rattle.lsp_facts.specs.Fact.{facts_view};
 ghost use Rattle.lsp_explain.specs.Standing.{StandsAfter, terms_in};
 ghost use Rattle.lsp_explain.specs.Traced.{act_call};
 ghost use Rattle.lsp_explain.specs.Unopened as spec;
 
 use lsp_facts::Fact;
+use lsp_replay::EventPlace;
 use lsp_rpc::{Act, Memory};
-use lsp_survey::{Closing, DocumentEvent, SurveyReader, uri_in};
+use lsp_survey::{Closing, DocumentEvent, SurveyReader, folded, uri_in};
 use lsp_types::rules;
-use percent_encoding::percent_decode;
 use std::alloc::Global;
 
 /// Adds to the facts on an act that breaks this rule, under 602, how the document of which it
@@ -60,7 +60,7 @@ fn push_closing(facts: &mut Vec<Fact>, closing: Closing) -> Result<(), Memory>
         ++ spec.closing_facts closing) }
 {
     match closing {
-        Closing::Last(event) => Ok(facts.push(Fact::Closed(event))?),
+        Closing::Last(place) => Ok(facts.push(Fact::Closed(place))?),
         Closing::Never => Ok(facts.push(Fact::NeverOpened)?),
         Closing::Forgotten => Ok(()),
     }
@@ -119,8 +119,8 @@ fn push_similar_one(
         return Ok(());
     }
     let uri = String::from_str(alloc, on.uri.as_str())?;
-    let event = on.event;
-    Ok(facts.push(Fact::Similar { uri, event })?)
+    let place = on.place;
+    Ok(facts.push(Fact::Similar { uri, place })?)
 }
 
 /// Whether the document is open that this message opened, and none opened it later.
@@ -129,14 +129,14 @@ fn is_standing(events: &SurveyReader, on: &DocumentEvent) -> bool
         → result ≡ spec.is_standing (terms_in events.now) before (on_view on.now) }
 {
     let uri = on.uri.as_str();
-    events.docs().version_of(uri).is_some() && is_at(on.event, events.openings().opening(uri))
+    events.docs().version_of(uri).is_some() && is_at(on.place, events.openings().opening(uri))
 }
 
-fn is_at(event: u64, other: Option<u64>) -> bool
-    ensures { result ≡ spec.is_at event other }
+fn is_at(place: EventPlace, other: Option<EventPlace>) -> bool
+    ensures { result ≡ spec.is_at place other }
 {
     match other {
-        Some(number) => event == number,
+        Some(other) => place.event == other.event,
         None => false,
     }
 }
@@ -160,38 +160,9 @@ fn is_long(size: usize, other: usize) -> bool
 
 fn is_alike(alloc: Global, uri: &str, other: &str) -> Result<bool, Memory>
     ensures { IfOk result (λ alike.
-        alike ≡ bytes_eq (spec.folded uri.now) (spec.folded other.now)) }
+        alike ≡ is_alike uri.now other.now) }
 {
     let one = folded(alloc, uri)?;
     let two = folded(alloc, other)?;
     Ok(one == two)
-}
-
-/// A URI without what its spelling is free in: percent-encoding is decoded (RFC 3986, section 2.1),
-/// ASCII letters are small, and slashes are left out.
-fn folded(alloc: Global, uri: &str) -> Result<Vec<u8>, Memory>
-    ensures { IfOk result (λ folded. folded.items ≡ spec.folded uri.now) }
-{
-    let mut bytes = Vec::new(alloc);
-    percent_decode(uri.as_bytes()).append_to(&mut bytes)?;
-    fold(alloc, bytes.as_slice())
-}
-
-fn fold(alloc: Global, bytes: &[u8]) -> Result<Vec<u8>, Memory>
-    ensures { IfOk result (λ folded. folded.items ≡ flat_map spec.folded_byte bytes.now) }
-{
-    let mut folded = Vec::new(alloc);
-    for byte in bytes {
-        push_folded(&mut folded, *byte)?;
-    }
-    Ok(folded)
-}
-
-fn push_folded(folded: &mut Vec<u8>, byte: u8) -> Result<(), Memory>
-    ensures { OnOk result (folded.new.items ≡ folded.old.items ++ spec.folded_byte byte) }
-{
-    if byte == b'/' {
-        return Ok(());
-    }
-    Ok(folded.push(byte.to_ascii_lowercase())?)
 }

@@ -12,6 +12,7 @@ use Rattle.lsp_docs.specs.Texts.{Text}
 use Rattle.lsp_docs.specs.Terms.{Terms}
 use Rattle.lsp_docs.specs.Calls.{Call, changes}
 use Rattle.lsp_docs.specs.Documents.{Version, held}
+use Rattle.lsp_replay.specs.declared.heard.EventPlace.{EventPlace}
 use Rattle.lsp_facts.specs.Making.{IsMade}
 use Rattle.lsp_facts.specs.Refuting.{is_other, is_other_at, others_of, made_text, refuting, waiting_texts}
 use Rattle.lsp_facts.proofs.MadeChanges.{fails_some, makes_all}
@@ -20,17 +21,17 @@ use Rattle.lsp_facts.proofs.MadeChanges.{fails_some, makes_all}
 
 module _ (ends : LineEnds) (t : Text) where
   -- the next one, where its text is another
-  abbrev next : ℕ → Option Text → List ℕ
+  abbrev next : EventPlace → Option Text → List EventPlace
   next n u = if is_other_at ends t u then n ∷ [] else []
 
-  more : (ns : List ℕ) (us : List Text) (i n : ℕ) → slice_get ns i ≡ Some n
+  more : (ns : List EventPlace) (us : List Text) (i : ℕ) (n : EventPlace) → slice_get ns i ≡ Some n
       → others_of ends t (take (suc i) ns) us
       ≡ others_of ends t (take i ns) us ++ next n (slice_get us i)
   more [] us i n h = absurd (cc)
   more (m ∷ ns) [] zero n h = refl
   more (m ∷ ns) (u ∷ us) zero n h =
       let same : m ≡ n = (let k : Some m ≡ Some n = h in cc) in
-      ap (λ (k : ℕ). if is_other ends t u then k ∷ [] else []) same
+      ap (λ (k : EventPlace). if is_other ends t u then k ∷ [] else []) same
   more (m ∷ ns) [] (suc i) n h = refl
   more (m ∷ ns) (u ∷ us) (suc i) n h = by_test (is_other ends t u) (more ns us i n h)
     where
@@ -40,32 +41,35 @@ module _ (ends : LineEnds) (t : Text) where
           (take (suc i) ns) us)
           ≡ (if b then m ∷ others_of ends t (take i ns) us else others_of ends t (take i ns)
           us) ++ next n (slice_get us i)
-      by_test true e = ap (λ (l : List ℕ). m ∷ l) e
+      by_test true e = ap (λ (l : List EventPlace). m ∷ l) e
       by_test false e = e
 
-  others-more : (ns : List ℕ) (us : List Text) (i n : ℕ) → slice_get ns i ≡ Some n
+  others-more : (ns : List EventPlace) (us : List Text) (i : ℕ) (n : EventPlace)
+      → slice_get ns i ≡ Some n
       → others_of ends t (take (i + 1) ns) us
       ≡ others_of ends t (take i ns) us ++ next n (slice_get us i)
   others-more ns us i n h =
       let e : i + 1 ≡ suc i = omega arith in ap (λ (k : ℕ). others_of ends t (take k ns) us) e
       ∙ more ns us i n h
 
-  pub others-there : (ns : List ℕ) (us : List Text) (i : ℕ) (xs : List ℕ) → i < length ns
+  pub others-there : (ns : List EventPlace) (us : List Text) (i : ℕ) (d : EventPlace)
+      (xs : List EventPlace) → i < length ns
       → is_other_at ends t (slice_get us i) ≡ true → xs ≡ others_of ends t (take i ns) us
-      → xs ++ get_or ns i 0 ∷ [] ≡ others_of ends t (take (i + 1) ns) us
-  others-there ns us i xs lt other is =
-      ap (λ (l : List ℕ). l ++ get_or ns i 0 ∷ []) is
-      ∙ sym (others-more ns us i (get_or ns i 0) (slice_get-get_or ns i 0 lt)
-      ∙ ap (λ (b : Bool). others_of ends t (take i ns) us ++ (if b then get_or ns i 0 ∷ [] else []))
+      → xs ++ get_or ns i d ∷ [] ≡ others_of ends t (take (i + 1) ns) us
+  others-there ns us i d xs lt other is =
+      ap (λ (l : List EventPlace). l ++ get_or ns i d ∷ []) is
+      ∙ sym (others-more ns us i (get_or ns i d) (slice_get-get_or ns i d lt)
+      ∙ ap (λ (b : Bool). others_of ends t (take i ns) us ++ (if b then get_or ns i d ∷ [] else []))
       other)
 
-  pub others-passed : (ns : List ℕ) (us : List Text) (i : ℕ) (xs : List ℕ) → i < length ns
+  pub others-passed : (ns : List EventPlace) (us : List Text) (i : ℕ) (d : EventPlace)
+      (xs : List EventPlace) → i < length ns
       → is_other_at ends t (slice_get us i) ≡ false → xs ≡ others_of ends t (take i ns) us
       → xs ≡ others_of ends t (take (i + 1) ns) us
-  others-passed ns us i xs lt same is =
+  others-passed ns us i d xs lt same is =
       is
-      ∙ sym (others-more ns us i (get_or ns i 0) (slice_get-get_or ns i 0 lt)
-      ∙ ap (λ (b : Bool). others_of ends t (take i ns) us ++ (if b then get_or ns i 0 ∷ [] else []))
+      ∙ sym (others-more ns us i (get_or ns i d) (slice_get-get_or ns i d lt)
+      ∙ ap (λ (b : Bool). others_of ends t (take i ns) us ++ (if b then get_or ns i d ∷ [] else []))
       same ∙ append-nil (others_of ends t (take i ns) us))
 
 -- ---- the text that changes make
@@ -86,7 +90,9 @@ module _ (terms : Terms) (enc : Encoding) (cs : List Edit) (h : Option Version) 
 
 -- ---- what refutes a change
 
-pub refuting_change : (terms : Terms) (calls : List Call) (enc : Encoding) (kind : SyncKind) (uri : List ℕ) (number : ℤ) (cs : List Edit) (ns : List ℕ) (call : Call) (made : Option Text) (others : List ℕ)
+pub refuting_change : (terms : Terms) (calls : List Call) (enc : Encoding) (kind : SyncKind)
+    (uri : List ℕ) (number : ℤ) (cs : List Edit) (ns : List EventPlace) (call : Call)
+    (made : Option Text) (others : List EventPlace)
     → Some (changes enc kind uri number cs) ≡ Some call → made ≡ made_text terms enc cs (held terms uri calls)
     → others ≡ unwrap_or (option_map (λ t. others_of terms.line_ends t ns
     (waiting_texts terms calls uri number)) made) [] → others ≡ refuting terms calls call ns

@@ -9,17 +9,18 @@ use Rattle.lsp_types.specs.declared.position.Span.{Span}
 use Rattle.lsp_rpc.specs.Ident.{Ident, id_view}
 use Rattle.lsp_rpc.specs.View.{texts_view}
 use Rattle.lsp_session.specs.declared.phase.Phase.{Phase}
+use Rattle.lsp_replay.specs.declared.heard.EventPlace.{EventPlace}
 use Rattle.lsp_facts.specs.Part.{Part, part_view}
 use Rattle.lsp_facts.specs.declared.fact.Fact as fact
 use Rattle.lsp_facts.specs.declared.fact.Fact.TheVariants as facts
 
 -- one thing that is said about an offence
 pub data Fact : Type 0 where
-  -- the document of which it speaks, the version that is held of it, also with the event that set
-  -- it, the one that was sent, and that of a snapshot
+  -- the document of which it speaks, the version that is held of it, also with the place of the
+  -- event that set it, the one that was sent, and that of a snapshot
   of_uri : List ℕ → Fact
   holds : ℤ → Fact
-  holds_by : ℤ → ℕ → Fact
+  holds_by : ℤ → EventPlace → Fact
   sends : ℤ → Fact
   shows_version : ℤ → Fact
   -- how many changes there are, how they are sent, and the one that fails, from 1
@@ -48,6 +49,9 @@ pub data Fact : Type 0 where
   keeps : List ℤ → Fact
   -- the id of a message, null where there is none
   has_id : Option Ident → Fact
+  -- the token of a progress, and that of the open `initialize`
+  has_token : Ident → Fact
+  expects_token : Ident → Fact
   in_phase : Phase → Fact
   -- the first encodings that are offered and how many more there are, and the one that is picked
   offers : List (List ℕ) → ℕ → Fact
@@ -56,25 +60,25 @@ pub data Fact : Type 0 where
   registers : List ℕ → Fact
   -- a request that waits, with its method
   waits : Ident → List ℕ → Fact
-  waits_since : Ident → List ℕ → ℕ → Fact
-  -- the event of a snapshot that differs, and the greatest version that was found equal, with the
-  -- event of its snapshot
-  shown_by : ℕ → Fact
-  equal_by : ℤ → ℕ → Fact
-  -- how many messages can have made texts differ, and one of them, by its version and its event
+  waits_since : Ident → List ℕ → EventPlace → Fact
+  -- the place of a snapshot that differs, and the greatest version that was found equal, with the
+  -- place of its snapshot
+  shown_by : EventPlace → Fact
+  equal_by : ℤ → EventPlace → Fact
+  -- how many messages can have made texts differ, and one of them, by its version and its place
   has_suspects : ℕ → Fact
-  suspects : ℤ → ℕ → Fact
+  suspects : ℤ → EventPlace → Fact
   -- the open request whose id is the same but for its type, with the event that asked it
-  opens_as : Ident → ℕ → Fact
+  opens_as : Ident → EventPlace → Fact
   -- the event that answered a request, that asked one, and that led to the phase
-  answered_by : ℕ → Fact
-  asked_by : ℕ → Fact
-  led_by : ℕ → Fact
+  answered_by : EventPlace → Fact
+  asked_by : EventPlace → Fact
+  led_by : EventPlace → Fact
   -- the event that closed a document, that none opened it, and an open document with a similar URI,
   -- with the event that opened it
-  closed_by : ℕ → Fact
+  closed_by : EventPlace → Fact
   never_opened : Fact
-  similar_to : List ℕ → ℕ → Fact
+  similar_to : List ℕ → EventPlace → Fact
   -- the front of a content
   begins : List ℕ → Fact
   -- how many bytes of it come before the place where it breaks, and what is before and after that
@@ -91,7 +95,7 @@ pub data Fact : Type 0 where
 abbrev pub fact_view : fact.Fact → Fact
 fact_view (facts.Uri text) = of_uri (string_bytes text)
 fact_view (facts.Held number) = holds number
-fact_view (facts.HeldBy number event) = holds_by number event
+fact_view (facts.HeldBy number place) = holds_by number place
 fact_view (facts.Sent number) = sends number
 fact_view (facts.Version number) = shows_version number
 fact_view (facts.Changes count) = has_changes count
@@ -110,23 +114,25 @@ fact_view (facts.SavedLine line) = saved_line (part_view line)
 fact_view facts.LineEnds = in_line_ends
 fact_view (facts.Kept numbers) = keeps numbers.items
 fact_view (facts.Id id) = has_id (option_map id_view id)
+fact_view (facts.Token id) = has_token (id_view id)
+fact_view (facts.Expected id) = expects_token (id_view id)
 fact_view (facts.Phase phase) = in_phase phase
 fact_view (facts.Offered names more) = offers (texts_view names.items) more
 fact_view (facts.Picked name) = picks (string_bytes name)
 fact_view (facts.Registers method) = registers (string_bytes method)
 fact_view (facts.Request id method) = waits (id_view id) (string_bytes method)
-fact_view (facts.RequestBy id method event) = waits_since (id_view id) (string_bytes method) event
-fact_view (facts.Snapshot event) = shown_by event
-fact_view (facts.Equal number event) = equal_by number event
+fact_view (facts.RequestBy id method place) = waits_since (id_view id) (string_bytes method) place
+fact_view (facts.Snapshot place) = shown_by place
+fact_view (facts.Equal number place) = equal_by number place
 fact_view (facts.Suspects count) = has_suspects count
-fact_view (facts.Suspect number event) = suspects number event
-fact_view (facts.Open id event) = opens_as (id_view id) event
-fact_view (facts.Answered event) = answered_by event
-fact_view (facts.Asked event) = asked_by event
-fact_view (facts.Since event) = led_by event
-fact_view (facts.Closed event) = closed_by event
+fact_view (facts.Suspect number place) = suspects number place
+fact_view (facts.Open id place) = opens_as (id_view id) place
+fact_view (facts.Answered place) = answered_by place
+fact_view (facts.Asked place) = asked_by place
+fact_view (facts.Since place) = led_by place
+fact_view (facts.Closed place) = closed_by place
 fact_view facts.NeverOpened = never_opened
-fact_view (facts.Similar uri event) = similar_to (string_bytes uri) event
+fact_view (facts.Similar uri place) = similar_to (string_bytes uri) place
 fact_view (facts.Begins text) = begins (string_bytes text)
 fact_view (facts.Breaks place) = breaks place
 fact_view (facts.Before text) = before (string_bytes text)

@@ -7,6 +7,7 @@ pub mod MessageFacts
 pub mod ContentFacts
 pub mod Grammar
 pub mod Refuting
+pub mod TwoTexts
 pub mod DocumentFacts
 pub mod EventFacts
 pub mod Making

@@ -17,6 +17,7 @@ use Rattle.lsp_rpc.specs.Reading.{broken_rule, message_in, parts_of}
 use Rattle.lsp_rpc.specs.Words.{id_text, response_id_text, words_of}
 use Rattle.lsp_session.specs.declared.phase.Phase.{Phase}
 use Rattle.lsp_session.specs.declared.phase.Phase.TheVariants as phases
+use Rattle.lsp_replay.specs.declared.heard.EventPlace.{EventPlace}
 use Rattle.lsp_verdict.specs.Placed.{Raw, content, broken, show}
 use Rattle.lsp_verdict.specs.Offences.{is_within}
 use Rattle.lsp_verdict.specs.Report.{line, who_name, encoding_name, kind_name}
@@ -26,7 +27,8 @@ use Rattle.lsp_facts.specs.Fact.{Fact, of_uri, holds, holds_by, sends, shows_ver
 use Rattle.lsp_facts.specs.Fact.{has_kind, counts_in, fails, line_has}
 use Rattle.lsp_facts.specs.Fact.{falls_inside, fits_in, would_have, may_have, differs_at}
 use Rattle.lsp_facts.specs.Fact.{by_messages, in_line_ends}
-use Rattle.lsp_facts.specs.Fact.{in_editor, saved_line, keeps, has_id, in_phase, offers, picks}
+use Rattle.lsp_facts.specs.Fact.{in_editor, saved_line, keeps, has_id, has_token, expects_token}
+use Rattle.lsp_facts.specs.Fact.{in_phase, offers, picks}
 use Rattle.lsp_facts.specs.Fact.{registers, waits, waits_since, shown_by, equal_by, has_suspects}
 use Rattle.lsp_facts.specs.Fact.{suspects}
 use Rattle.lsp_facts.specs.Fact.{answered_by, asked_by, led_by, closed_by, never_opened}
@@ -76,21 +78,25 @@ part_line key part =
     if part.before == 0 && part.after == 0 then line (key ∷ quoted_text part.text ∷ [])
     else cut_line key part
 
--- an event that is cited: its number
-abbrev pub cited : List ℕ → ℕ → List ℕ
-cited key event = line (key ∷ codes "event" ∷ decimal event ∷ [])
+-- an event: its number, whose it is, and its number among theirs
+abbrev pub place_words : EventPlace → List (List ℕ)
+place_words place =
+    codes "event" ∷ decimal place.event ∷ who_name place.who ∷ decimal place.number ∷ []
+
+-- an event that is cited
+abbrev pub cited : List ℕ → EventPlace → List ℕ
+cited key place = line (key ∷ place_words place)
 
 -- a version, and the event that brought it
-abbrev pub version_by : List ℕ → ℤ → ℕ → List ℕ
-version_by key number event =
-    line (key ∷ signed_decimal number ∷ codes "event" ∷ decimal event ∷ [])
+abbrev pub version_by : List ℕ → ℤ → EventPlace → List ℕ
+version_by key number place = line (key ∷ signed_decimal number ∷ place_words place)
 
 -- ---- facts
 
 abbrev pub fact_line : Fact → List ℕ
 fact_line (of_uri uri) = line (codes "uri" ∷ quoted uri ∷ [])
 fact_line (holds number) = line (codes "held" ∷ signed_decimal number ∷ [])
-fact_line (holds_by number event) = version_by (codes "held") number event
+fact_line (holds_by number place) = version_by (codes "held") number place
 fact_line (shows_version number) = line (codes "version" ∷ signed_decimal number ∷ [])
 fact_line (sends number) = line (codes "sent" ∷ signed_decimal number ∷ [])
 fact_line (has_changes count) = line (codes "changes" ∷ decimal count ∷ [])
@@ -112,27 +118,28 @@ fact_line in_line_ends = line (codes "line-ends" ∷ codes "option" ∷ codes "-
 fact_line (keeps numbers) =
     codes "kept" ++ flat_map (λ number. spaced (signed_decimal number)) numbers ++ 10 ∷ []
 fact_line (has_id id) = line (codes "id" ∷ response_id_text id ∷ [])
+fact_line (has_token id) = line (codes "token" ∷ id_text id ∷ [])
+fact_line (expects_token id) = line (codes "expected" ∷ id_text id ∷ [])
 fact_line (in_phase phase) = line (codes "phase" ∷ phase_name phase ∷ [])
 fact_line (offers names more) =
     codes "offered" ++ flat_map (λ name. spaced (quoted name)) names ++ more_words more ++ 10 ∷ []
 fact_line (picks name) = line (codes "picked" ∷ quoted name ∷ [])
 fact_line (registers method) = line (codes "registers" ∷ quoted method ∷ [])
 fact_line (waits id method) = line (codes "request" ∷ id_text id ∷ quoted method ∷ [])
-fact_line (waits_since id method event) =
-    line (codes "request" ∷ id_text id ∷ quoted method ∷ codes "event" ∷ decimal event ∷ [])
-fact_line (shown_by event) = cited (codes "snapshot") event
-fact_line (equal_by number event) = version_by (codes "equal") number event
+fact_line (waits_since id method place) =
+    line (codes "request" ∷ id_text id ∷ quoted method ∷ place_words place)
+fact_line (shown_by place) = cited (codes "snapshot") place
+fact_line (equal_by number place) = version_by (codes "equal") number place
 fact_line (has_suspects count) = line (codes "suspects" ∷ decimal count ∷ [])
-fact_line (suspects number event) = version_by (codes "suspect") number event
-fact_line (opens_as id event) =
-    line (codes "open" ∷ id_text id ∷ codes "event" ∷ decimal event ∷ [])
-fact_line (answered_by event) = cited (codes "answered") event
-fact_line (asked_by event) = cited (codes "asked") event
-fact_line (led_by event) = cited (codes "since") event
-fact_line (closed_by event) = cited (codes "closed") event
+fact_line (suspects number place) = version_by (codes "suspect") number place
+fact_line (opens_as id place) = line (codes "open" ∷ id_text id ∷ place_words place)
+fact_line (answered_by place) = cited (codes "answered") place
+fact_line (asked_by place) = cited (codes "asked") place
+fact_line (led_by place) = cited (codes "since") place
+fact_line (closed_by place) = cited (codes "closed") place
 fact_line never_opened = line (codes "opened" ∷ codes "never" ∷ [])
-fact_line (similar_to uri event) =
-    line (codes "similar" ∷ quoted uri ∷ codes "event" ∷ decimal event ∷ [])
+fact_line (similar_to uri place) =
+    line (codes "similar" ∷ quoted uri ∷ place_words place)
 fact_line (begins text) = line (codes "begins" ∷ quoted text ∷ [])
 fact_line (breaks place) = line (codes "breaks" ∷ decimal place ∷ [])
 fact_line (before text) = line (codes "before" ∷ quoted text ∷ [])

@@ -1,18 +1,18 @@
 -- What is said about a message that offends, read off the messages before.
-use Rattle.std.specs.Prelude.{ℕ, suc, ◌-◌, nat_lt, List, [], ◌∷◌, ◌++◌, length, take}
-use Rattle.std.specs.Prelude.{Option, Some, None, if◌then◌else◌, option_map}
+use Rattle.std.specs.Prelude.{ℕ, suc, ◌-◌, nat_lt, List, [], ◌∷◌, ◌++◌, length, map, take}
+use Rattle.std.specs.Prelude.{Option, Some, None, if◌then◌else◌, option_map, ◌==◌}
 use Rattle.std.specs.Prelude.{option_to_list, unwrap_or}
 use Rattle.std.specs.Str.Lossy.{utf8_valid_len}
-use Rattle.lsp_rpc.specs.Act.{Text, Act, Picked, register}
+use Rattle.lsp_rpc.specs.Act.{Text, Act, Offer, Picked, progress, register}
 use Rattle.lsp_rpc.specs.Ident.{Ident}
 use Rattle.lsp_rpc.specs.Message.{Message, request, notification, response}
 use Rattle.lsp_rpc.specs.Results.{picked_at}
-use Rattle.lsp_session.specs.Handshake.{Settled, settled_by, phase}
+use Rattle.lsp_session.specs.Handshake.{Settled, open_initializes, phase, settled_by}
 use Rattle.lsp_session.specs.Negotiation.{is_synchronisation}
 use Rattle.lsp_session.specs.Sent.{Sent}
 use Rattle.lsp_verdict.specs.Offences.{is_within}
-use Rattle.lsp_facts.specs.Fact.{Fact, has_id, in_phase, offers, picks, registers, begins}
-use Rattle.lsp_facts.specs.Fact.{wrong_at}
+use Rattle.lsp_facts.specs.Fact.{Fact, has_id, has_token, expects_token, in_phase, offers, picks}
+use Rattle.lsp_facts.specs.Fact.{registers, begins, wrong_at}
 use Rattle.lsp_facts.specs.Members.{Pointer, wrong_result}
 use Rattle.lsp_frame.specs.Front.{shown_bytes}
 use Rattle.lsp_types.specs.declared.rules.TheConstants as rules
@@ -41,6 +41,24 @@ abbrev pub id_in : Message → Option Ident
 id_in (request id method params) = Some id
 id_in (notification method params) = None
 id_in (response id reply) = id
+
+-- ---- progress that comes too early: 412
+
+-- the token of the first of these offers, if it has one
+abbrev pub token_of : List Offer → Option Ident
+token_of [] = None
+token_of (offer ∷ offers) = offer.token
+
+-- the token of a progress, and the one that it may have: that of the open `initialize`
+abbrev pub token_facts : List Sent → Act → List Fact
+token_facts before (progress token) = has_token token
+    ∷ option_to_list (option_map expects_token
+    (token_of (map (λ i. i.offer) (open_initializes before))))
+token_facts before _ = []
+
+abbrev pub early_facts : ℕ → List Sent → Act → List Fact
+early_facts rule before act =
+    if rule == rules.SERVER_WHILE_INITIALIZE_OPEN then token_facts before act else []
 
 -- ---- what is agreed: 501 to 504
 
@@ -92,7 +110,7 @@ session_facts rule before m =
     if is_within rules.RESPONSE_TO_NO_OPEN_REQUEST rules.ID_ALREADY_OPEN rule
     then has_id (id_in m.message) ∷ []
     else (if is_within rules.EDITOR_BEFORE_INITIALIZE rules.SERVER_WHILE_INITIALIZE_OPEN rule
-    then in_phase (phase before) ∷ []
+    then early_facts rule before m.act ++ in_phase (phase before) ∷ []
     else (if is_within rules.BAD_INITIALIZE_RESULT rules.ENCODING_OUTSIDE_PROFILE rule
     then settled_facts (settled_by before m)
     else register_facts m.act))

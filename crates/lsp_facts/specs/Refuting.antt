@@ -12,6 +12,7 @@ use Rattle.lsp_docs.specs.Terms.{Terms}
 use Rattle.lsp_docs.specs.Calls.{Bytes, Call, opens, changes, closes, saves, shows}
 use Rattle.lsp_docs.specs.Documents.{Version, held}
 use Rattle.lsp_docs.specs.Snapshots.{texts_at, waiting, versions_of}
+use Rattle.lsp_replay.specs.declared.heard.EventPlace.{EventPlace}
 
 -- ---- texts
 
@@ -27,12 +28,12 @@ is_other_at ends t u = unwrap_or (option_map (is_other ends t) u) false
 abbrev pub first_other : LineEnds → Text → List Text → Option Text
 first_other ends t us = find (is_other ends t) us
 
--- those of the snapshots with another text, where they are given by their events, and these are
+-- those of the snapshots with another text, where they are given by their places, and these are
 -- their texts in turn
-abbrev pub others_of : LineEnds → Text → List ℕ → List Text → List ℕ
-others_of ends t (n ∷ ns) (u ∷ us) =
-    if is_other ends t u then n ∷ others_of ends t ns us else others_of ends t ns us
-others_of ends t (n ∷ ns) [] = []
+abbrev pub others_of : LineEnds → Text → List EventPlace → List Text → List EventPlace
+others_of ends t (p ∷ ps) (u ∷ us) =
+    if is_other ends t u then p ∷ others_of ends t ps us else others_of ends t ps us
+others_of ends t (p ∷ ps) [] = []
 others_of ends t [] us = []
 
 -- ---- calls
@@ -46,15 +47,15 @@ made_text terms enc edits h =
 abbrev pub waiting_texts : Terms → List Call → Bytes → ℤ → List Text
 waiting_texts terms before uri number = texts_at number (versions_of uri (waiting terms before))
 
--- **those of the snapshots that wait for the version of a call, given by their events, that have
+-- **those of the snapshots that wait for the version of a call, given by their places, that have
 -- another text than it brings its document to**
-abbrev pub refuting : Terms → List Call → Call → List ℕ → List ℕ
-refuting terms before (opens uri number text) ns =
-    others_of terms.line_ends text ns (waiting_texts terms before uri number)
-refuting terms before (changes enc kind uri number edits) ns =
+abbrev pub refuting : Terms → List Call → Call → List EventPlace → List EventPlace
+refuting terms before (opens uri number text) ps =
+    others_of terms.line_ends text ps (waiting_texts terms before uri number)
+refuting terms before (changes enc kind uri number edits) ps =
     unwrap_or
-    (option_map (λ t. others_of terms.line_ends t ns (waiting_texts terms before uri number))
+    (option_map (λ t. others_of terms.line_ends t ps (waiting_texts terms before uri number))
     (made_text terms enc edits (held terms uri before))) []
-refuting terms before (closes uri) ns = []
-refuting terms before (saves uri text) ns = []
-refuting terms before (shows uri number text) ns = []
+refuting terms before (closes uri) ps = []
+refuting terms before (saves uri text) ps = []
+refuting terms before (shows uri number text) ps = []

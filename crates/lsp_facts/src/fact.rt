@@ -1,19 +1,24 @@
 //! What an explanation says.
 use crate::part::Excerpt;
+use lsp_replay::EventPlace;
 use lsp_rpc::Id;
 use lsp_session::Phase;
 use lsp_types::{Encoding, Position, Span, SyncKind};
 
 /// One thing that an explanation says about an offence. Lines and columns are counted from 0,
-/// columns in units of the encoding that the session agreed on.
+/// columns in units of the encoding that the session agreed on. Earlier events are named by their
+/// places.
 #[derive(Debug, Drop, PartialEq, Eq)]
 pub enum Fact {
     /// The document of which the message or the snapshot speaks, as it writes its URI.
     Uri(String),
     /// The version that is held of it.
     Held(i32),
-    /// The same, and the number of the event that set it, from 1.
-    HeldBy { version: i32, event: u64 },
+    /// The same, and the event that set it.
+    HeldBy {
+        version: i32,
+        place: EventPlace,
+    },
     /// The version in the message.
     Sent(i32),
     /// The version of the snapshot.
@@ -26,7 +31,10 @@ pub enum Fact {
     Encoding(Encoding),
     /// The change that fails, from 1, and its span, if it has one (LSP 3.17,
     /// TextDocumentContentChangeEvent).
-    Change { which: u64, span: Option<Span> },
+    Change {
+        which: u64,
+        span: Option<Span>,
+    },
     /// The units of a line of the text that this change meets, its line end not counted.
     Length(u64),
     /// The character into which a column falls.
@@ -53,43 +61,69 @@ pub enum Fact {
     Kept(Vec<i32>),
     /// The id in the message. `None` where it is null.
     Id(Option<Id>),
+    /// The token of a `$/progress` that the server may not send yet (LSP 3.17, "Work Done
+    /// Progress").
+    Token(Id),
+    /// The token that it may have: that of the open `initialize`.
+    Expected(Id),
     /// How far the session has come.
     Phase(Phase),
     /// The encodings that the open `initialize` offers (LSP 3.17, ClientCapabilities): the first
     /// ones, and how many more there are.
-    Offered { names: Vec<String>, more: u64 },
+    Offered {
+        names: Vec<String>,
+        more: u64,
+    },
     /// The encoding that the result of `initialize` picks (LSP 3.17, ServerCapabilities).
     Picked(String),
     /// A method of text synchronisation that is to be registered (LSP 3.17, "Register Capability").
     Registers(String),
     /// A request of the editor's that waits for its response.
-    Request { id: Id, method: String },
-    /// The same, and the number of the event that asked it, from 1.
-    RequestBy { id: Id, method: String, event: u64 },
-    /// The number of the event of a snapshot that has another text, from 1.
-    Snapshot(u64),
+    Request {
+        id: Id,
+        method: String,
+    },
+    /// The same, and the event that asked it.
+    RequestBy {
+        id: Id,
+        method: String,
+        place: EventPlace,
+    },
+    /// A snapshot that has another text.
+    Snapshot(EventPlace),
     /// The greatest version since the document was opened of which a snapshot was found equal, and
-    /// the number of the event of the last such snapshot, from 1.
-    Equal { version: i32, event: u64 },
+    /// the last such snapshot.
+    Equal {
+        version: i32,
+        place: EventPlace,
+    },
     /// How many messages can have made the texts differ.
     Suspects(u64),
-    /// The version that one of them set, and the number of its event, from 1.
-    Suspect { version: i32, event: u64 },
-    /// The id of an open request that differs in its type alone, and the number of the event that
-    /// asked it, from 1.
-    Open { id: Id, event: u64 },
-    /// The number of the event that answered a request of this id, from 1.
-    Answered(u64),
-    /// The number of the event that asked the open request of this id, from 1.
-    Asked(u64),
-    /// The number of the event that led to the phase, from 1.
-    Since(u64),
-    /// The number of the event that closed the document, from 1.
-    Closed(u64),
+    /// The version that one of them set, and its event.
+    Suspect {
+        version: i32,
+        place: EventPlace,
+    },
+    /// The id of an open request that differs in its type alone, and the event that asked it.
+    Open {
+        id: Id,
+        place: EventPlace,
+    },
+    /// The event that answered a request of this id.
+    Answered(EventPlace),
+    /// The event that asked the open request of this id.
+    Asked(EventPlace),
+    /// The event that led to the phase.
+    Since(EventPlace),
+    /// The event that closed the document.
+    Closed(EventPlace),
     /// No message opened the document.
     NeverOpened,
-    /// An open document with a similar URI, and the number of the event that opened it, from 1.
-    Similar { uri: String, event: u64 },
+    /// An open document with a similar URI, and the event that opened it.
+    Similar {
+        uri: String,
+        place: EventPlace,
+    },
     /// The front of a content that is not a message.
     Begins(String),
     /// How many bytes of a content come before the first one that cannot stand there, all of them

@@ -6,10 +6,11 @@
 //! [`snapshot_facts`], which say what is wrong with a call on a document. [`content_facts`] are on
 //! a content that is not a message or has params of another shape, [`frame_facts`] and
 //! [`unfinished_facts`] on a stream whose frames have a fault or an end inside one, [`flaw_facts`]
-//! on a log that has a fault. [`refuting`] finds the snapshots whose texts refute a call.
-//! [`push_details`] writes the lines of facts, and `write_event` the line that names an event.
+//! on a log that has a fault. [`refuting`] finds the snapshots whose texts refute a call, and
+//! [`message_texts`] and [`shown_texts`] give two whole texts that differ. [`push_details`] writes the lines of facts, and `write_event` the line that names an event.
 #![tactic(auto)]
 
+mod blame;
 mod contents;
 mod difference;
 mod documents;
@@ -29,17 +30,20 @@ mod params;
 mod part;
 mod plain;
 mod refused_change;
+mod two_texts;
 mod waiting;
 
+pub use blame::usual;
 pub use contents::content_facts;
 pub use documents::{act_facts, snapshot_facts};
 pub use fact::Fact;
 pub use faults::{flaw_facts, frame_facts, unfinished_facts};
 pub use laws::{bad_params_have_a_member, bad_result_has_a_member};
 pub use lines::{
-    push_bare_event, push_content_event, push_details, push_end_event, push_message_event, usual,
+    push_bare_event, push_content_event, push_details, push_end_event, push_message_event,
 };
 pub use messages::{id_in, session_facts};
 pub use offending::{message_facts, shown_facts};
 pub use part::Excerpt;
+pub use two_texts::{TwoTexts, message_texts, shown_texts};
 pub use waiting::refuting;

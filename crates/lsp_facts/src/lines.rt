@@ -7,6 +7,7 @@ ghost use Rattle.std.specs.Str.{chars};
 ghost use Rattle.json.specs.Print.{quoted};
 ghost use Rattle.lsp_rpc.specs.Ident.{id_view};
 ghost use Rattle.lsp_rpc.specs.View.{message_view, texts_view};
+ghost use Rattle.lsp_rpc.specs.Words.{id_text};
 ghost use Rattle.lsp_verdict.specs.Report.{encoding_name, line};
 ghost use Rattle.lsp_facts.specs.Fact.{fact_view, facts_view, has_kind, counts_in, differs_at};
 ghost use Rattle.lsp_facts.specs.Fact.{fails, in_phase, has_id, waits, waits_since, keeps};
@@ -17,9 +18,10 @@ ghost use Rattle.lsp_facts.specs.Part.{part_view};
 
 use crate::fact::Fact;
 use crate::part::Excerpt;
+use lsp_replay::EventPlace;
 use lsp_rpc::{Id, Memory, Message, RpcFault, push_id, push_quoted, read, words_of};
 use lsp_session::Phase;
-use lsp_types::{Encoding, Position, Span, SyncKind, rules};
+use lsp_types::{Encoding, Position, Span, SyncKind};
 use lsp_verdict::{Who, kind_name, who_name};
 use std::alloc::Global;
 use std::fmt::Write;
@@ -134,21 +136,30 @@ fn push_encoding(lines: &mut String, encoding: Encoding) -> Result<(), Memory>
     Ok(())
 }
 
-/// Adds a key and an earlier event by its number, from 1.
-fn push_cited(lines: &mut String, key: &str, event: u64) -> Result<(), Memory>
+/// Adds a key and an earlier event.
+fn push_cited(lines: &mut String, key: &str, place: EventPlace) -> Result<(), Memory>
     ensures { OnOk result (string_bytes lines.new
-        ≡ string_bytes lines.old ++ spec.cited key.now event) }
+        ≡ string_bytes lines.old ++ spec.cited key.now place) }
 {
-    writeln!(lines, "{key} event {event}")?;
+    let EventPlace { event, who, number } = place;
+    let name = who_name(who);
+    writeln!(lines, "{key} event {event} {name} {number}")?;
     Ok(())
 }
 
-/// Adds a key, a version, and the event that brought it, by its number, from 1.
-fn push_version_by(lines: &mut String, key: &str, version: i32, event: u64) -> Result<(), Memory>
+/// Adds a key, a version, and the event that brought it.
+fn push_version_by(
+    lines: &mut String,
+    key: &str,
+    version: i32,
+    place: EventPlace,
+) -> Result<(), Memory>
     ensures { OnOk result (string_bytes lines.new ≡ string_bytes lines.old
-        ++ spec.version_by key.now version event) }
+        ++ spec.version_by key.now version place) }
 {
-    writeln!(lines, "{key} {version} event {event}")?;
+    let EventPlace { event, who, number } = place;
+    let name = who_name(who);
+    writeln!(lines, "{key} {version} event {event} {name} {number}")?;
     Ok(())
 }
 
@@ -214,6 +225,16 @@ fn push_message_id(alloc: Global, lines: &mut String, id: Option<&Id>) -> Result
     Ok(lines.push_str("\n")?)
 }
 
+/// Adds a key and an id.
+fn push_token(alloc: Global, lines: &mut String, key: &str, id: &Id) -> Result<(), Memory>
+    ensures { OnOk result (string_bytes lines.new
+        ≡ string_bytes lines.old ++ line (key.now ∷ id_text (id_view id.now) ∷ [])) }
+{
+    write!(lines, "{key} ")?;
+    push_id(alloc, lines, id)?;
+    Ok(lines.push_str("\n")?)
+}
+
 fn push_request(alloc: Global, lines: &mut String, id: &Id, method: &str) -> Result<(), Memory>
     ensures { OnOk result (string_bytes lines.new
         ≡ string_bytes lines.old ++ spec.fact_line (waits (id_view id.now) method.now)) }
@@ -230,27 +251,31 @@ fn push_request_by(
     lines: &mut String,
     id: &Id,
     method: &str,
-    event: u64,
+    place: EventPlace,
 ) -> Result<(), Memory>
     ensures { OnOk result (string_bytes lines.new
         ≡ string_bytes lines.old
-        ++ spec.fact_line (waits_since (id_view id.now) method.now event)) }
+        ++ spec.fact_line (waits_since (id_view id.now) method.now place)) }
 {
     lines.push_str("request ")?;
     push_id(alloc, lines, id)?;
     lines.push_str(" ")?;
     push_quoted(alloc, lines, method)?;
-    writeln!(lines, " event {event}")?;
+    let EventPlace { event, who, number } = place;
+    let name = who_name(who);
+    writeln!(lines, " event {event} {name} {number}")?;
     Ok(())
 }
 
-fn push_open(alloc: Global, lines: &mut String, id: &Id, event: u64) -> Result<(), Memory>
+fn push_open(alloc: Global, lines: &mut String, id: &Id, place: EventPlace) -> Result<(), Memory>
     ensures { OnOk result (string_bytes lines.new ≡ string_bytes lines.old
-        ++ spec.fact_line (opens_as (id_view id.now) event)) }
+        ++ spec.fact_line (opens_as (id_view id.now) place)) }
 {
     lines.push_str("open ")?;
     push_id(alloc, lines, id)?;
-    writeln!(lines, " event {event}")?;
+    let EventPlace { event, who, number } = place;
+    let name = who_name(who);
+    writeln!(lines, " event {event} {name} {number}")?;
     Ok(())
 }
 
@@ -261,13 +286,20 @@ fn push_never_opened(lines: &mut String) -> Result<(), Memory>
     Ok(lines.push_str("opened never\n")?)
 }
 
-fn push_similar(alloc: Global, lines: &mut String, uri: &str, event: u64) -> Result<(), Memory>
+fn push_similar(
+    alloc: Global,
+    lines: &mut String,
+    uri: &str,
+    place: EventPlace,
+) -> Result<(), Memory>
     ensures { OnOk result (string_bytes lines.new ≡ string_bytes lines.old
-        ++ spec.fact_line (similar_to uri.now event)) }
+        ++ spec.fact_line (similar_to uri.now place)) }
 {
     lines.push_str("similar ")?;
     push_quoted(alloc, lines, uri)?;
-    writeln!(lines, " event {event}")?;
+    let EventPlace { event, who, number } = place;
+    let name = who_name(who);
+    writeln!(lines, " event {event} {name} {number}")?;
     Ok(())
 }
 
@@ -359,7 +391,7 @@ fn push_fact(alloc: Global, lines: &mut String, fact: &Fact) -> Result<(), Memor
     match fact {
         Fact::Uri(uri) => push_text(alloc, lines, "uri", uri.as_str()),
         Fact::Held(version) => push_version(lines, "held", *version),
-        Fact::HeldBy { version, event } => push_version_by(lines, "held", *version, *event),
+        Fact::HeldBy { version, place } => push_version_by(lines, "held", *version, *place),
         Fact::Version(version) => push_version(lines, "version", *version),
         Fact::Sent(version) => push_version(lines, "sent", *version),
         Fact::Changes(count) => push_number(lines, "changes", *count),
@@ -378,25 +410,27 @@ fn push_fact(alloc: Global, lines: &mut String, fact: &Fact) -> Result<(), Memor
         Fact::LineEnds => push_line_ends(lines),
         Fact::Kept(versions) => push_versions(lines, versions.as_slice()),
         Fact::Id(id) => push_message_id(alloc, lines, id.as_ref()),
+        Fact::Token(id) => push_token(alloc, lines, "token", id),
+        Fact::Expected(id) => push_token(alloc, lines, "expected", id),
         Fact::Phase(phase) => push_phase(lines, *phase),
         Fact::Offered { names, more } => push_offer(alloc, lines, names.as_slice(), *more),
         Fact::Picked(name) => push_text(alloc, lines, "picked", name.as_str()),
         Fact::Registers(method) => push_text(alloc, lines, "registers", method.as_str()),
         Fact::Request { id, method } => push_request(alloc, lines, id, method.as_str()),
-        Fact::RequestBy { id, method, event } => {
-            push_request_by(alloc, lines, id, method.as_str(), *event)
+        Fact::RequestBy { id, method, place } => {
+            push_request_by(alloc, lines, id, method.as_str(), *place)
         }
-        Fact::Snapshot(event) => push_cited(lines, "snapshot", *event),
-        Fact::Equal { version, event } => push_version_by(lines, "equal", *version, *event),
+        Fact::Snapshot(place) => push_cited(lines, "snapshot", *place),
+        Fact::Equal { version, place } => push_version_by(lines, "equal", *version, *place),
         Fact::Suspects(count) => push_number(lines, "suspects", *count),
-        Fact::Suspect { version, event } => push_version_by(lines, "suspect", *version, *event),
-        Fact::Open { id, event } => push_open(alloc, lines, id, *event),
-        Fact::Answered(event) => push_cited(lines, "answered", *event),
-        Fact::Asked(event) => push_cited(lines, "asked", *event),
-        Fact::Since(event) => push_cited(lines, "since", *event),
-        Fact::Closed(event) => push_cited(lines, "closed", *event),
+        Fact::Suspect { version, place } => push_version_by(lines, "suspect", *version, *place),
+        Fact::Open { id, place } => push_open(alloc, lines, id, *place),
+        Fact::Answered(place) => push_cited(lines, "answered", *place),
+        Fact::Asked(place) => push_cited(lines, "asked", *place),
+        Fact::Since(place) => push_cited(lines, "since", *place),
+        Fact::Closed(place) => push_cited(lines, "closed", *place),
         Fact::NeverOpened => push_never_opened(lines),
-        Fact::Similar { uri, event } => push_similar(alloc, lines, uri.as_str(), *event),
+        Fact::Similar { uri, place } => push_similar(alloc, lines, uri.as_str(), *place),
         Fact::Begins(text) => push_text(alloc, lines, "begins", text.as_str()),
         Fact::Breaks(place) => push_number(lines, "breaks", *place),
         Fact::Before(text) => push_text(alloc, lines, "before", text.as_str()),
@@ -419,7 +453,8 @@ fn push_facts(alloc: Global, lines: &mut String, facts: &[Fact]) -> Result<(), M
     Ok(())
 }
 
-/// Adds the lines of facts, one each, and whose fault that usually is, as [`usual`] gives it.
+/// Adds the lines of facts, one each, and whose fault that usually is, as
+/// [`usual`](crate::blame::usual) gives it.
 ///
 /// # Errors
 /// `Memory` where memory was refused.
@@ -442,57 +477,6 @@ fn push_usual(lines: &mut String, usual: &str) -> Result<(), Memory>
 {
     writeln!(lines, "usually {usual}")?;
     Ok(())
-}
-
-/// Whose fault it usually is that an event of `by` breaks this rule, or that the session ends so:
-/// `editor`, `server`, `recorder`, or `outside` where both sides may be right.
-pub fn usual(rule: u16, by: Who) -> &'static str
-    ensures { result.now ≡ spec.usual rule by }
-{
-    if is_recorders(rule) {
-        return "recorder";
-    }
-    match rule {
-        rules::HEADER_PART_TOO_LONG..=rules::ID_ALREADY_OPEN => who_name(by),
-        _ => usual_role(rule),
-    }
-}
-
-/// The same of a rule above those on what a side writes, and how it asks and answers.
-fn usual_role(rule: u16) -> &'static str
-    ensures { result.now ≡ spec.usual_role rule }
-{
-    if is_outside(rule) {
-        return "outside";
-    }
-    if is_servers(rule) {
-        return "server";
-    }
-    "editor"
-}
-
-fn is_recorders(rule: u16) -> bool
-    ensures { result ≡ spec.is_recorders rule }
-{
-    rule == rules::STREAM_ENDS_INSIDE_FRAME || rule == rules::LATE_SNAPSHOT
-}
-
-fn is_outside(rule: u16) -> bool
-    ensures { result ≡ spec.is_outside rule }
-{
-    matches!(
-        rule,
-        rules::ENCODING_OUTSIDE_PROFILE..=rules::DYNAMIC_REGISTRATION | rules::DOCUMENT_OVER_LIMIT
-    )
-}
-
-fn is_servers(rule: u16) -> bool
-    ensures { result ≡ spec.is_servers rule }
-{
-    matches!(
-        rule,
-        rules::REQUEST_NOT_ANSWERED | rules::SERVER_BEFORE_INITIALIZE..=rules::ENCODING_NOT_OFFERED
-    )
 }
 
 /// Adds the line of an event that is a message: its number, from 1, whose it is, its number among

@@ -1,16 +1,16 @@
 //! Facts on messages, and how some bytes begin.
 ghost use Rattle.std.specs.Prelude.{◌≡◌, ◌≤◌, List, [], ◌∷◌, ◌++◌, IfOk, OnOk, length, take};
-ghost use Rattle.std.specs.Prelude.{option_map, unwrap_or};
+ghost use Rattle.std.specs.Prelude.{map, option_map, unwrap_or};
 ghost use Rattle.std.specs.Str.{IsUtf8};
 ghost use Rattle.serde_json.specs.View.{view};
 ghost use Rattle.lsp_rpc.specs.Ident.{id_view};
 ghost use Rattle.lsp_rpc.specs.Results.{picked_at};
 ghost use Rattle.lsp_rpc.specs.View.{act_view, message_view, offer_view, texts_view};
-ghost use Rattle.lsp_session.specs.Handshake.{open_initializes, settled_among};
+ghost use Rattle.lsp_session.specs.Handshake.{open_initializes, phase, settled_among};
 ghost use Rattle.lsp_session.specs.Sent.{Sent};
 ghost use Rattle.lsp_session.specs.State.{Stands};
 ghost use Rattle.lsp_session.specs.View.{sent};
-ghost use Rattle.lsp_facts.specs.Fact.{fact_view, facts_view, has_id};
+ghost use Rattle.lsp_facts.specs.Fact.{fact_view, facts_view, has_id, in_phase};
 ghost use Rattle.lsp_facts.specs.Members.{pointer_view};
 ghost use Rattle.lsp_facts.specs.MessageFacts as spec;
 
@@ -221,11 +221,59 @@ fn register_facts(alloc: Global, act: &Act) -> Result<Vec<Fact>, Memory>
     }
 }
 
+/// The token of the open `initialize`, if it has one.
+fn expected(session: &Session) -> Option<&Id>
+    ensures { (before : List Sent) → Stands session.now before
+        → option_map (λ id. id_view id.now) result
+        ≡ spec.token_of (map (λ i. i.offer) (open_initializes before)) }
+{
+    session.offered()?.token.as_ref()
+}
+
+/// The token of a progress, and the one that it may have.
+fn token_facts(alloc: Global, session: &Session, act: &Act) -> Result<Vec<Fact>, Memory>
+    ensures { IfOk result (λ facts. (before : List Sent) → Stands session.now before
+        → facts_view facts.items ≡ spec.token_facts before (act_view act.now)) }
+{
+    let mut facts = Vec::new(alloc);
+    let Act::Progress { token } = act else {
+        return Ok(facts);
+    };
+    facts.push(Fact::Token(copy_id(token)?))?;
+    if let Some(own) = expected(session) {
+        facts.push(Fact::Expected(copy_id(own)?))?;
+    }
+    Ok(facts)
+}
+
+/// The same under 412, and nothing under any other rule.
+fn early_facts(alloc: Global, session: &Session, act: &Act, rule: u16) -> Result<Vec<Fact>, Memory>
+    ensures { IfOk result (λ facts. (before : List Sent) → Stands session.now before
+        → facts_view facts.items ≡ spec.early_facts rule before (act_view act.now)) }
+{
+    if rule != rules::SERVER_WHILE_INITIALIZE_OPEN {
+        return Ok(Vec::new(alloc));
+    }
+    token_facts(alloc, session, act)
+}
+
+/// How far the session has come, and under 412 the tokens of a progress before that.
+fn phase_facts(alloc: Global, session: &Session, act: &Act, rule: u16) -> Result<Vec<Fact>, Memory>
+    ensures { IfOk result (λ facts. (before : List Sent) → Stands session.now before
+        → facts_view facts.items
+        ≡ spec.early_facts rule before (act_view act.now) ++ in_phase (phase before) ∷ []) }
+{
+    let mut facts = early_facts(alloc, session, act, rule)?;
+    facts.push(Fact::Phase(session.phase()))?;
+    Ok(facts)
+}
+
 /// What is said about a message that breaks this rule, 301 to 504, after the messages of the
-/// session: of 301 and 302 its id, of 401 to 412 how far the session has come, of 501 to 503 the
-/// encodings that the open `initialize` offers and the one that its result picks, or the member of
-/// that which does not have its shape, of 504 the first method of text synchronisation that is to
-/// be registered. The act is what the message means on its side.
+/// session: of 301 and 302 its id, of 401 to 412 how far the session has come, of 412 also the
+/// token of a progress and that of the open `initialize`, of 501 to 503 the encodings that the open
+/// `initialize` offers and the one that its result picks, or the member of that which does not have
+/// its shape, of 504 the first method of text synchronisation that is to be registered. The act is
+/// what the message means on its side.
 ///
 /// # Errors
 /// `Memory` where memory was refused.
@@ -242,9 +290,8 @@ pub fn session_facts(
 {
     match rule {
         rules::RESPONSE_TO_NO_OPEN_REQUEST..=rules::ID_ALREADY_OPEN => id_facts(alloc, message),
-        rules::EDITOR_BEFORE_INITIALIZE..=rules::SERVER_WHILE_INITIALIZE_OPEN => only(
-            alloc,
-            Fact::Phase(session.phase()),
+        rules::EDITOR_BEFORE_INITIALIZE..=rules::SERVER_WHILE_INITIALIZE_OPEN => phase_facts(
+            alloc, session, act, rule,
         ),
         rules::BAD_INITIALIZE_RESULT..=rules::ENCODING_OUTSIDE_PROFILE => settled_facts(
             alloc, session, side, message,

@@ -14,13 +14,14 @@ ghost use Rattle.lsp_facts.specs.Refuting as spec;
 
 use crate::making::{Made, make};
 use lsp_docs::Docs;
+use lsp_replay::EventPlace;
 use lsp_rpc::Act;
 use lsp_text::{TextStore, same_lines};
 use lsp_types::{Change, Encoding, LineEnds, Memory};
 use std::alloc::Global;
 
 /// Those of the snapshots that wait for the version of an act that have another text than it brings
-/// its document to. All that wait are given by their events, in the order in which they came. The
+/// its document to. All that wait are given by their places, in the order in which they came. The
 /// documents are those before the act.
 ///
 /// # Errors
@@ -30,8 +31,8 @@ pub fn refuting<S: TextStore>(
     docs: &Docs<S>,
     encoding: Encoding,
     act: &Act,
-    snapshots: &[u64],
-) -> Result<Vec<u64>, Memory>
+    snapshots: &[EventPlace],
+) -> Result<Vec<EventPlace>, Memory>
     ensures { IfOk result (λ others. (kind : SyncKind) (calls : List Call) (call : Call)
         → Stands docs.now calls
         → call_of encoding kind (act_view act.now) ≡ Some call
@@ -61,7 +62,7 @@ pub fn refuting<S: TextStore>(
 
 /// The held text with the changes made, where the document is open and each of them can be
 /// made.
-fn made_text<S: TextStore>(
+pub(crate) fn made_text<S: TextStore>(
     alloc: Global,
     docs: &Docs<S>,
     encoding: Encoding,
@@ -83,22 +84,22 @@ fn made_text<S: TextStore>(
     Ok(Some(text))
 }
 
-/// Those of the snapshots that have another text than this one. They are given by their events, and
+/// Those of the snapshots that have another text than this one. They are given by their places, and
 /// their texts are in the same order.
 fn others(
     alloc: Global,
     line_ends: LineEnds,
     texts: &[String],
     text: &str,
-    snapshots: &[u64],
-) -> Result<Vec<u64>, Memory>
+    snapshots: &[EventPlace],
+) -> Result<Vec<EventPlace>, Memory>
     ensures { IfOk result (λ others. others.items
         ≡ spec.others_of line_ends (chars text.now) snapshots.now (texts_of texts.now)) }
 {
     let mut others = Vec::new(alloc);
-    for (index, event) in snapshots.iter().enumerate() {
+    for (index, place) in snapshots.iter().enumerate() {
         if is_other_at(line_ends, texts, index, text) {
-            others.push(*event)?;
+            others.push(*place)?;
         }
     }
     Ok(others)

@@ -30,7 +30,8 @@ use Rattle.lsp_verdict.proofs.LookBackLemmas.{each_from-append, each_of-snoc}
 use Rattle.lsp_verdict.proofs.RunReading.{read_map}
 use Rattle.lsp_judge.specs.LogEvents.{EndsAt, EndsBy, BeginsWith, SoFar, Found, BrokeOff}
 use Rattle.lsp_judge.specs.ShownLog.{IsShown, BeginsShown, OneShown, ShowedAll, ShowedPart}
-use Rattle.lsp_replay.specs.Lines.{IsPlace, line_of}
+use Rattle.lsp_replay.specs.Lines.{line_of}
+use Rattle.lsp_replay.specs.Places.{place_of}
 use Rattle.lsp_replay.proofs.EventPlaces.{IsPlaceAfter, line_placed, placed}
 use Rattle.lsp_replay.specs.declared.heard.EventPlace.{EventPlace}
 use Rattle.lsp_judge.specs.declared.event_reader.EventReader.{EventReader}
@@ -115,7 +116,7 @@ nothing_shown lines limits e start now old so_far ignored = record {
 module _ (lines : Lines) (limits : Bounds) (start now old mid new : Told) (heard : List Event)
     (wrote : Wrote old mid (lines_of lines heard)) where
   at_place : (e : EventReader) (event : Event) (place : EventPlace)
-      → SoFar limits e start now (heard ++ event ∷ []) → IsPlace heard event place
+      → SoFar limits e start now (heard ++ event ∷ []) → place ≡ place_of heard event
       → IsPlaceAfter heard event place
   at_place e event place so_far is =
       let all = heard ++ event ∷ [] in
@@ -126,7 +127,7 @@ module _ (lines : Lines) (limits : Bounds) (start now old mid new : Told) (heard
   -- one more event and its line
   pub one_shown_more : (e : EventReader) (event : Event) (place : EventPlace)
       → SoFar limits e start now (heard ++ event ∷ []) → e.completeness ≡ Ignored
-      → IsPlace heard event place → Wrote mid new (line_of lines place event)
+      → place ≡ place_of heard event → Wrote mid new (line_of lines place event)
       → Showing lines limits e start now old new
   one_shown_more e event place so_far ignored counted line =
       let is = at_place e event place so_far counted in
@@ -140,7 +141,7 @@ module _ (lines : Lines) (limits : Bounds) (start now old mid new : Told) (heard
 
   -- its line was not written
   pub line_failed : (e : EventReader) (event : Event) (place : EventPlace) (fault : RunFault)
-      → SoFar limits e start now (heard ++ event ∷ []) → IsPlace heard event place
+      → SoFar limits e start now (heard ++ event ∷ []) → place ≡ place_of heard event
       → Tells mid new (line_of lines place event) (Err fault)
       → ShowedPart lines limits start now old new fault
   line_failed e event place faults.Write so_far counted told =

@@ -7,9 +7,9 @@ ghost use Rattle.lsp_judge.specs.LogEvents.{HasEnded, Finishes, Opens};
 
 use crate::ending::end_of;
 use lsp_frame::{Format, Limits, Source};
-use lsp_text::Lined;
 use lsp_replay::{End, Events, LogEvents};
 use lsp_rpc::{Memory, Side};
+use lsp_text::Lined;
 use lsp_verdict::{Completeness, RunFault, Verdict};
 use std::alloc::Global;
 

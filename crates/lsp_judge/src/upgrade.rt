@@ -12,9 +12,9 @@ ghost use Rattle.lsp_judge.specs.UpgradedLog.{Accepts, IfAccepted, IsNext, Upgra
 
 use crate::judge::Judge;
 use lsp_frame::{Format, Limits, Sink, Source};
-use lsp_text::Lined;
 use lsp_log::{LogReader, Record, write_head_of, write_record};
 use lsp_rpc::Memory;
+use lsp_text::Lined;
 use lsp_verdict::{Entry, Outcome, RunFault, Verdict, next_entry};
 use std::alloc::Global;
 

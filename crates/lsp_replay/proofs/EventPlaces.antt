@@ -1,16 +1,19 @@
--- The place of an event, once its numbers are known not to be capped.
-use Rattle.std.proofs.Common.{◌≡◌, ◌+◌, ◌<◌, ◌^◌, true, List, [], ◌∷◌, ◌++◌, length, refl, sym}
+-- The place of an event: as it is counted, and once its numbers are known not to be capped.
+use Rattle.std.proofs.Common.{◌≡◌, ◌+◌, ◌<◌, ◌^◌, ℕ, true, List, [], ◌∷◌, ◌++◌, length, refl, sym}
 use Rattle.std.proofs.Common.{ap, ◌∙◌, length-append, arith}
 use Rattle.std.specs.Prelude.{unwrap_or, if◌then◌else◌}
 use Rattle.lsp_types.specs.declared.side.Side.{Side}
 use Rattle.lsp_types.specs.declared.side.Side.TheVariants.{Editor, Server}
+use Rattle.lsp_docs.specs.State.{capped}
 use Rattle.lsp_verdict.specs.declared.lines.Lines.{Lines}
 use Rattle.lsp_verdict.specs.Event.{Event, message, fault as broken, snapshot}
 use Rattle.lsp_verdict.specs.Shown.{event_line, line_at}
 use Rattle.lsp_verdict.specs.Verdict.{belongs_to, count_of, whose, who_of}
+use Rattle.lsp_verdict.specs.declared.verdict.Who.{Who}
 use Rattle.lsp_verdict.proofs.EventCounts.{count_few}
 use Rattle.lsp_verdict.proofs.Logs.UpTo.{count-append}
-use Rattle.lsp_replay.specs.Lines.{IsPlace, line_of}
+use Rattle.lsp_replay.specs.Lines.{line_of}
+use Rattle.lsp_replay.specs.Places.{place_of}
 use Rattle.lsp_replay.specs.declared.heard.EventPlace.{EventPlace}
 
 -- the place of the event that comes after these
@@ -38,15 +41,36 @@ count_own xs e =
     count-append (belongs_to (whose e)) xs (e ∷ [])
     ∙ ap (λ n. count_of (belongs_to (whose e)) xs + n) one
 
+-- the place of an event, as it is counted after it
+pub place_counted : (before : List Event) (event : Event) (all number : ℕ) (by : Who)
+    → by ≡ whose event → all ≡ capped (length (before ++ event ∷ []))
+    → number ≡ capped (count_of (belongs_to by) (before ++ event ∷ []))
+    → ◌≡◌ {A = EventPlace} (record { event = all; who = by; number = number })
+    (place_of before event)
+place_counted before event all number by is all_is number_is = λ i. record {
+  event = (all_is ∙ ap capped (length-append before (event ∷ []))) i;
+  who = is i;
+  number = (number_is
+      ∙ ap (λ (w : Who). capped (count_of (belongs_to w) (before ++ event ∷ []))) is
+      ∙ ap capped (count_own before event)) i;
+}
+
 -- of so few events, the place is not capped
 pub placed : (before : List Event) (event : Event) (place : EventPlace)
-    → length (before ++ event ∷ []) < 2 ^ 64 → IsPlace before event place
+    → length (before ++ event ∷ []) < 2 ^ 64 → place ≡ place_of before event
     → IsPlaceAfter before event place
 placed before event place few is =
     let all = before ++ event ∷ [] in
     let own = belongs_to (whose event) in (
-      omega (arith, is.among_all, few, length-append before (event ∷ [])),
-      omega (arith, is.among_own, few, count_few own all, count_own before event),
+      omega (arith, ap (λ (p : EventPlace). p.event) is, few, length-append before (event ∷ [])),
+      omega (
+        arith,
+        ap (λ (p : EventPlace). p.number) is,
+        few,
+        count_few own all,
+        count_own before
+            event,
+      ),
     )
 
 -- the line at this place is that of the event

@@ -11,7 +11,7 @@ use Rattle.lsp_verdict.specs.Shown.{TextAnswer}
 use Rattle.lsp_verdict.specs.TextAfter.{BeginsText, EndsAs, IsText, written_of}
 use Rattle.lsp_verdict.specs.declared.outcome.Outcome.{Outcome}
 use Rattle.lsp_verdict.specs.declared.outcome.Outcome.TheVariants.{Done, Judged, NoDocument}
-use Rattle.lsp_verdict.specs.declared.outcome.Outcome.TheVariants.{TooFew}
+use Rattle.lsp_verdict.specs.declared.outcome.Outcome.TheVariants.{NoDifference, TooFew}
 use Rattle.lsp_verdict.specs.declared.outcome.RunFault.{RunFault}
 use Rattle.lsp_verdict.specs.declared.outcome.RunFault.TheVariants as faults
 use Rattle.lsp_verdict.proofs.RunReading.{read_map, read_within}
@@ -21,6 +21,7 @@ some_end : (a : code.TextAnswer) → (outcome : Outcome) × EndsAs (answer_view 
 some_end (answers.Text text) = (Done, refl)
 some_end answers.NoDocument = (NoDocument, refl)
 some_end answers.TooFew = (TooFew, refl)
+some_end answers.NoDifference = (NoDifference, refl)
 some_end (answers.Refused v) = (Judged v, (v, refl, refl))
 
 module _ (limits : Bounds) (Answers : List ℕ → TextAnswer → Type 0) where

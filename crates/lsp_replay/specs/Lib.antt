@@ -1,6 +1,7 @@
 pub mod Apart
 pub mod Faults
 pub mod Standing
+pub mod Places
 pub mod Lines
 pub mod TextAnswers
 pub mod StreamParts

@@ -16,7 +16,7 @@ use Rattle.lsp_log.specs.declared.fault.LogCode.{LogCode}
 use Rattle.lsp_log.specs.Log.{Record, chunk, shown, first_line, spelling, IsLog}
 use Rattle.lsp_verdict.specs.declared.outcome.Outcome.{Outcome}
 use Rattle.lsp_verdict.specs.declared.outcome.Outcome.TheVariants.{Done, Judged, Stream, NoDocument}
-use Rattle.lsp_verdict.specs.declared.outcome.Outcome.TheVariants.{TooFew}
+use Rattle.lsp_verdict.specs.declared.outcome.Outcome.TheVariants.{NoDifference, TooFew}
 use Rattle.lsp_verdict.specs.Given.{verdict_view}
 use Rattle.lsp_verdict.specs.LookBack.{first_of}
 use Rattle.lsp_verdict.specs.Outcome.{HasRest, ending, format_or_one}
@@ -105,6 +105,7 @@ Carries (Judged v) fault = fault ≡ Some (verdict_view v)
 Carries (Stream frame fault) _ = ⊥
 Carries NoDocument fault = ⊥
 Carries TooFew fault = ⊥
+Carries NoDifference fault = ⊥
 
 -- this is the normal form of the log, and the outcome carries the fault that ends it, if any
 abbrev pub EndsNormal : Bounds → List ℕ → List ℕ → Outcome → Type 0

@@ -26,7 +26,7 @@ use Rattle.lsp_verdict.specs.Verdict.{Verdict}
 use Rattle.lsp_verdict.specs.declared.counts.Counts.{Counts}
 use Rattle.lsp_verdict.specs.declared.outcome.Outcome.{Outcome}
 use Rattle.lsp_verdict.specs.declared.outcome.Outcome.TheVariants.{Done, Judged, Stream, NoDocument}
-use Rattle.lsp_verdict.specs.declared.outcome.Outcome.TheVariants.{TooFew}
+use Rattle.lsp_verdict.specs.declared.outcome.Outcome.TheVariants.{NoDifference, TooFew}
 use Rattle.lsp_verdict.specs.declared.outcome.RunFault.{RunFault}
 use Rattle.lsp_verdict.specs.declared.outcome.RunFault.TheVariants as faults
 use Rattle.lsp_verdict.specs.declared.verdict.Verdict.TheVariants as verdicts
@@ -47,6 +47,7 @@ CarriesCapped (Judged v) fault = option_map as_given fault ≡ Some (verdict_vie
 CarriesCapped (Stream frame fault) _ = ⊥
 CarriesCapped NoDocument fault = ⊥
 CarriesCapped TooFew fault = ⊥
+CarriesCapped NoDifference fault = ⊥
 
 -- the records of these events, as they are written
 abbrev pub spelled : ℕ → List Raw → List ℕ

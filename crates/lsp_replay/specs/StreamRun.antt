@@ -9,7 +9,7 @@ use Rattle.lsp_verdict.specs.declared.outcome.Mode.{Mode}
 use Rattle.lsp_verdict.specs.declared.outcome.Mode.TheVariants.{Lengths, Canonical, Kinds}
 use Rattle.lsp_verdict.specs.declared.outcome.Outcome.{Outcome}
 use Rattle.lsp_verdict.specs.declared.outcome.Outcome.TheVariants.{Done, Judged, Stream, NoDocument}
-use Rattle.lsp_verdict.specs.declared.outcome.Outcome.TheVariants.{TooFew}
+use Rattle.lsp_verdict.specs.declared.outcome.Outcome.TheVariants.{NoDifference, TooFew}
 use Rattle.lsp_verdict.specs.declared.outcome.StreamFault.{StreamFault}
 use Rattle.lsp_verdict.specs.declared.outcome.StreamFault.TheVariants.{Rule, TooLong}
 use Rattle.lsp_types.specs.declared.rules.TheConstants as rules
@@ -44,6 +44,7 @@ closing Canonical (Stream frame fault) = []
 closing mode (Judged v) = []
 closing mode NoDocument = []
 closing mode TooFew = []
+closing mode NoDifference = []
 
 -- all that is due for a stream, and how it ends
 abbrev pub IsRun : Bounds → Mode → List ℕ → List ℕ → Outcome → Type 0

@@ -9,7 +9,8 @@ use Rattle.lsp_replay.specs.declared.text_answer.TextAnswer.TheVariants as answe
 use Rattle.lsp_verdict.specs.Given.{verdict_view}
 use Rattle.lsp_verdict.specs.Ports.{CountsFaults, IsSilent, OutputFor, Ports}
 use Rattle.lsp_verdict.specs.RunIo.{BreaksOff, OfRead}
-use Rattle.lsp_verdict.specs.Shown.{TextAnswer, text_is, no_document, too_few, refused}
+use Rattle.lsp_verdict.specs.Shown.{TextAnswer, text_is, no_document, no_difference, too_few}
+use Rattle.lsp_verdict.specs.Shown.{refused}
 use Rattle.lsp_verdict.specs.TextAfter.{BeginsText, EndsAs, IsText, written_of}
 use Rattle.lsp_verdict.specs.declared.outcome.Outcome.{Outcome}
 use Rattle.lsp_verdict.specs.declared.outcome.RunFault.{RunFault}
@@ -19,6 +20,7 @@ abbrev pub answer_view : code.TextAnswer → TextAnswer
 answer_view (answers.Text text) = text_is (chars (string_bytes text))
 answer_view answers.NoDocument = no_document
 answer_view answers.TooFew = too_few
+answer_view answers.NoDifference = no_difference
 answer_view (answers.Refused v) = refused (verdict_view v)
 
 -- the answer is one of these of the log read, or reading broke off

@@ -1,6 +1,7 @@
 //! Events that were heard, and where they stand.
 ghost use Rattle.std.specs.Prelude.{◌≡◌, List, [], ◌∷◌, ◌++◌};
-ghost use Rattle.lsp_replay.specs.Lines.{IsHeard, IsPlace};
+ghost use Rattle.lsp_replay.specs.Lines.{IsHeard};
+ghost use Rattle.lsp_replay.specs.Places.{place_of};
 ghost use Rattle.lsp_verdict.specs.Counting.{AreCounts};
 ghost use Rattle.lsp_verdict.specs.Event.{Event};
 ghost use Rattle.lsp_verdict.specs.Verdict as spec;
@@ -26,13 +27,15 @@ pub enum Heard<'a> {
     },
 }
 
-/// Where an event stands.
+/// Where an event stands, as reports name it.
 #[derive(Clone, Copy, Debug, PartialEq, Eq)]
 pub struct EventPlace {
-    /// Its number among those of its side, or of a snapshot among the snapshots, from 1.
-    pub number: u64,
     /// Its number among all events, from 1.
     pub event: u64,
+    /// Whose it is.
+    pub who: Who,
+    /// Its number among theirs, from 1.
+    pub number: u64,
 }
 
 impl EventPlace {
@@ -40,11 +43,13 @@ impl EventPlace {
     pub fn of(counts: &Counts, heard: &Heard<'_>) -> EventPlace
         ensures { (before : List Event) (event : Event)
             → AreCounts counts.now (before ++ event ∷ [])
-            → IsHeard event heard.now → IsPlace before event result }
+            → IsHeard event heard.now → result ≡ place_of before event }
     {
+        let who = whose(heard);
         EventPlace {
-            number: counts.of(whose(heard)),
             event: counts.all,
+            who,
+            number: counts.of(who),
         }
     }
 }

@@ -26,6 +26,8 @@ pub enum TextAnswer {
     /// The editor sent fewer messages, and nothing else is wrong, apart from bytes at the end that
     /// are not a whole frame.
     TooFew,
+    /// The verdict is not that two texts differ.
+    NoDifference,
     /// An event offends, at that message or before it, or the log has a fault before it.
     Refused(Verdict),
 }
@@ -74,6 +76,7 @@ impl TextAnswer {
             }
             TextAnswer::NoDocument => Ok(Outcome::NoDocument),
             TextAnswer::TooFew => Ok(Outcome::TooFew),
+            TextAnswer::NoDifference => Ok(Outcome::NoDifference),
             TextAnswer::Refused(verdict) => Ok(Outcome::Judged(verdict)),
         }
     }

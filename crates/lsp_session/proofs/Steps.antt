@@ -193,7 +193,7 @@ pub option_or-none : {X : Type 0} (a : Option X) → option_or a None ≡ a
 option_or-none None = refl
 option_or-none (Some x) = refl
 
-first_settled_from-push : (before h : List Sent) (m : Sent)
+pub first_settled_from-push : (before h : List Sent) (m : Sent)
     → first_settled_from before (h ++ m ∷ [])
     ≡ option_or (first_settled_from before h) (settled_by (before ++ h) m)
 first_settled_from-push before [] m =

@@ -1,8 +1,8 @@
 //! The messages of two sides, judged one after another (LSP 3.17, "Server lifecycle").
 ghost use Rattle.std.specs.Prelude.{◌≡◌, ℕ, Some, true, false, ◌++◌, ◌∷◌, [], List, None, IfErr};
-ghost use Rattle.std.specs.Prelude.{IfOk, OnOk, OnErr, not, option_map, Option};
+ghost use Rattle.std.specs.Prelude.{IfOk, OnOk, OnErr, map, not, option_map, option_to_list, Option};
 ghost use Rattle.lsp_rpc.specs.Ident.{id_view};
-ghost use Rattle.lsp_rpc.specs.View.{act_view, message_view};
+ghost use Rattle.lsp_rpc.specs.View.{act_view, message_view, offer_view};
 ghost use Rattle.lsp_session.specs.ByState as by_state;
 ghost use Rattle.lsp_session.specs.Entry.{has_id, new_entry};
 ghost use Rattle.lsp_session.specs.Handshake as handshake;
@@ -183,6 +183,18 @@ impl Session {
             → result ≡ not (handshake.is_empty (handshake.open_initializes before)) }
     {
         self.initialize.is_some()
+    }
+
+    /// What the `initialize` offers that waits for its response (LSP 3.17, "Initialize Request").
+    pub fn offered(&self) -> Option<&Offer>
+        ensures { (before : List Sent) → Stands self.now before
+            → option_to_list (option_map (λ offer. offer_view offer.now) result)
+            ≡ map (λ i. i.offer) (handshake.open_initializes before) }
+    {
+        match &self.initialize {
+            Some(initialize) => Some(&initialize.offer),
+            None => None,
+        }
     }
 
     /// What the open `initialize` offers that the message answers by a result, and that result;

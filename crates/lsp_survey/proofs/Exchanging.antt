@@ -11,6 +11,7 @@ use Rattle.lsp_rpc.specs.declared.message.Id.{Id}
 use Rattle.lsp_verdict.specs.Offences.{last_or}
 use Rattle.lsp_survey.specs.Asking.{Reply, reply_to, last_reply}
 use Rattle.lsp_survey.specs.SessionNoting.{asked_in}
+use Rattle.lsp_replay.specs.declared.heard.EventPlace.{EventPlace}
 
 -- ---- a map by ids
 
@@ -40,7 +41,7 @@ updates_in {X} eq agrees id t at w old new says k =
 -- ---- answers
 
 -- each of these is there
-abbrev AllSome : List (Option ℕ) → Type 0
+abbrev AllSome : List (Option EventPlace) → Type 0
 AllSome [] = Unit {0}
 AllSome (None ∷ os) = ⊥ × AllSome os
 AllSome (Some n ∷ os) = Unit {0} × AllSome os
@@ -53,13 +54,13 @@ last_reply-append id xs ys =
     ∙ behind (filter_map (reply_to id) xs) (filter_map (reply_to id) ys) None
     ∙ parts (filter_map (reply_to id) ys) (last_reply id xs) (all_some ys))
   where
-    append : (f : Reply → Option (Option ℕ)) (xs ys : List Reply)
+    append : (f : Reply → Option (Option EventPlace)) (xs ys : List Reply)
         → filter_map f (xs ++ ys) ≡ filter_map f xs ++ filter_map f ys
     append f [] ys = refl
     append f (x ∷ xs) ys = ap (cons_option (f x)) (append f xs ys)
         ∙ cons (f x) (filter_map f xs) (filter_map f ys)
       where
-        cons : (o : Option (Option ℕ)) (os ps : List (Option ℕ))
+        cons : (o : Option (Option EventPlace)) (os ps : List (Option EventPlace))
             → cons_option o (os ++ ps) ≡ cons_option o os ++ ps
         cons None os ps = refl
         cons (Some a) os ps = refl
@@ -69,23 +70,23 @@ last_reply-append id xs ys =
     all_some (y ∷ ys) = by_test (same_id id y.id) (all_some ys)
       where
         by_test : (b : Bool) → AllSome (filter_map (reply_to id) ys)
-            → AllSome (cons_option (if b then Some (Some y.number) else None)
+            → AllSome (cons_option (if b then Some (Some y.place) else None)
             (filter_map (reply_to id) ys))
         by_test true rest = (tt, rest)
         by_test false rest = rest
 
-    behind : (os ps : List (Option ℕ)) (none : Option ℕ)
+    behind : (os ps : List (Option EventPlace)) (none : Option EventPlace)
         → last_or none (os ++ ps) ≡ last_or (last_or none os) ps
     behind [] ps none = refl
     behind (a ∷ os) ps none = behind os ps a
 
-    kept : (bs : List (Option ℕ)) (b : ℕ) (o : Option ℕ) → AllSome bs
+    kept : (bs : List (Option EventPlace)) (b : EventPlace) (o : Option EventPlace) → AllSome bs
         → last_or (Some b) bs ≡ option_or (last_or (Some b) bs) o
     kept [] b o all = refl
     kept (None ∷ bs) b o all = absurd all.0
     kept (Some c ∷ bs) b o all = kept bs c o all.1
 
-    parts : (bs : List (Option ℕ)) (o : Option ℕ) → AllSome bs
+    parts : (bs : List (Option EventPlace)) (o : Option EventPlace) → AllSome bs
         → last_or o bs ≡ option_or (last_or None bs) o
     parts [] o all = refl
     parts (None ∷ bs) o all = absurd all.0

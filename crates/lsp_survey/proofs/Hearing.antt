@@ -25,20 +25,21 @@ use Rattle.lsp_session.specs.Negotiation.{encoding, sync_kind}
 use Rattle.lsp_session.specs.Sent.{Sent}
 use Rattle.lsp_session.specs.State as session
 use Rattle.lsp_docs.specs.State as docs
-use Rattle.lsp_survey.specs.Marking.{number_next}
 use Rattle.lsp_survey.specs.Marks.{AreMarks, DoneBy, ShownBy}
-use Rattle.lsp_survey.specs.Openings.{AreOpenings, OpensBy}
+use Rattle.lsp_survey.specs.Openings.{AreOpenings, OpeningsShown, OpensBy}
 use Rattle.lsp_survey.specs.SessionNoting.{AreNotes, SaysOn}
 use Rattle.lsp_survey.specs.declared.notes.marks.Marks.{Marks}
 use Rattle.lsp_survey.specs.declared.notes.note.Notes.{Notes}
 use Rattle.lsp_survey.specs.declared.notes.openings.Openings.{Openings}
 use Rattle.lsp_survey.specs.declared.notes.passed.Passed.{Passed}
+use Rattle.lsp_replay.specs.declared.heard.EventPlace.{EventPlace}
 use Rattle.lsp_survey.specs.declared.notes.session_notes.SessionNotes.{SessionNotes}
 use Rattle.lsp_survey.specs.declared.notes.sides.Sides.{Sides}
-use Rattle.lsp_survey.specs.Notes.{AreAfter, note_in}
+use Rattle.lsp_survey.specs.Notes.{AreAfter, is_noted}
 use Rattle.lsp_survey.specs.Walking.{Walks, WalksBy, IsRefused, IsShown, IsUnread, PassesOver}
 use Rattle.lsp_survey.specs.Walking.{IsMessageOf, IsOffending, Hears, NotesKept, NotesMessage}
 use Rattle.lsp_survey.specs.Walking.{NotesSnapshot}
+use Rattle.lsp_replay.specs.Places.{place_of}
 use Rattle.lsp_survey.specs.Passed.{has_passed}
 use Rattle.lsp_survey.specs.Sides.{sides_read}
 use Rattle.lsp_survey.specs.declared.offending.Judged.{Judged}
@@ -68,8 +69,7 @@ use Rattle.lsp_survey.proofs.SessionSteps.{message_noted, other_unsaid}
 
 -- ---- an event that is kept
 
-module _ (old new : Replay) (notes : List Noted) (number : ℕ) (walks : Walks old notes)
-    (is_number : number ≡ number_next (events_of notes))
+module _ (old new : Replay) (notes : List Noted) (walks : Walks old notes)
     (terms_are : new.events.docs.terms ≡ old.events.docs.terms)
     (is_broken : new.broken ≡ old.broken) (is_passed : new.passed ≡ old.passed) where
   abbrev terms : Terms
@@ -87,7 +87,7 @@ module _ (old new : Replay) (notes : List Noted) (number : ℕ) (walks : Walks o
       → rule_at terms events (message sent) ≡ None
       → Holds new.events.session new.events.docs (before ++ message sent ∷ [])
       → AreCounts new.events.counts (events ++ message sent ∷ [])
-      → NotesMessage number by said act old new
+      → NotesMessage (place_of events (message sent)) by said act old new
       → Hears (content side bytes) terms new notes heard.Kept
   message_heard side by bytes sent said act reads is_by says has_value means clean holds counted
       noted =
@@ -95,9 +95,10 @@ module _ (old new : Replay) (notes : List Noted) (number : ℕ) (walks : Walks o
       let kind = unwrap_or (sync_kind (sent_in before)) Nothing in
       let more : before ++ message sent ∷ [] ≡ kept_of terms (events ++ message sent ∷ []) =
       sym (kept-push terms events (message sent) clean) in
-      let told : SaysOn number by said
+      let place : EventPlace = place_of events (message sent) in
+      let told : SaysOn place by said
       (sent_in (kept_of terms (events ++ message sent ∷ []))) old.said new.said =
-      subst (λ (es : List Event). SaysOn number by said (sent_in es) old.said new.said) more
+      subst (λ (es : List Event). SaysOn place by said (sent_in es) old.said new.said) more
       (noted.3 (sent_in (before ++ message sent ∷ [])) holds.sent) in
       let n : Noted = record { event = message sent; malformed = None } in
       kept_on (content side bytes) old new notes n (call_of enc kind act) walks
@@ -105,16 +106,16 @@ module _ (old new : Replay) (notes : List Noted) (number : ℕ) (walks : Walks o
       terms_are holds counted is_broken
       (noted.4 ∙ ap (λ (s : Side). sides_read s old.sides) (sym is_by)) is_passed
       (noted.0 enc kind)
-      (act_done terms old.marks.map.entries new.marks.map.entries events sent number walks.marked
-      clean is_number
-      (λ e k. subst (λ (a : Act). DoneBy number (call_of e k a) old.marks.map.entries
+      (act_done terms old.marks.map.entries new.marks.map.entries events sent place walks.marked
+      clean refl
+      (λ e k. subst (λ (a : Act). DoneBy place (call_of e k a) old.marks.map.entries
       new.marks.map.entries) (sym means) (noted.1 e k)))
-      (act_opened terms old.openings new.openings events sent number walks.opened clean is_number
-      (λ e k. subst (λ (a : Act). OpensBy number (call_of e k a) old.openings new.openings)
+      (act_opened terms old.openings new.openings events sent place walks.opened clean refl
+      (λ e k. subst (λ (a : Act). OpensBy place (call_of e k a) old.openings new.openings)
       (sym means) (noted.2 e k)))
-      (message_noted terms old.said new.said events sent said number walks.said clean is_number says
+      (message_noted terms old.said new.said events sent said place walks.said clean refl says
       has_value
-      (subst (λ (s : Side). SaysOn number s said
+      (subst (λ (s : Side). SaysOn place s said
       (sent_in (kept_of terms (events ++ message sent ∷ []))) old.said new.said)
       (sym is_by) told))
 
@@ -125,7 +126,8 @@ module _ (old new : Replay) (notes : List Noted) (number : ℕ) (walks : Walks o
       → AreCounts new.events.counts (events ++ snapshot uri version text ∷ [])
       → answer ≡ answer_of version (kept_versions terms uri (calls before))
       (held terms uri (calls before))
-      → NotesSnapshot number uri version answer old new → Hears raw terms new notes heard.Kept
+      → NotesSnapshot (place_of events (snapshot uri version text)) uri version answer old new
+      → Hears raw terms new notes heard.Kept
   snapshot_heard raw uri text version answer reads whole clean holds counted answers noted =
       let call : Call = shows uri version text in
       let n : Noted = record { event = snapshot uri version text; malformed = None } in
@@ -133,10 +135,10 @@ module _ (old new : Replay) (notes : List Noted) (number : ℕ) (walks : Walks o
       is_broken noted.4 is_passed
       (subst (λ (w : Notes). AreAfter (Some call) old.notes.map.entries w.map.entries)
       (sym noted.0) (notes_stay call old.notes.map.entries refl))
-      (shown_done terms old.marks.map.entries new.marks.map.entries events uri version text number
-      answer walks.marked clean is_number answers noted.1)
-      (shown_opened terms new.openings events uri version text
-      (subst (λ (o : Openings). AreOpenings terms o events) (sym noted.2) walks.opened) clean)
+      (shown_done terms old.marks.map.entries new.marks.map.entries events uri version text
+      (place_of events n.event) answer walks.marked clean refl answers noted.1)
+      (shown_opened terms old.openings new.openings events uri version text walks.opened clean
+      noted.2)
       (other_unsaid terms new.said events n.event
       (subst (λ (m : SessionNotes). AreNotes terms m events) (sym noted.3) walks.said) refl)
 
@@ -144,7 +146,8 @@ module _ (old new : Replay) (notes : List Noted) (number : ℕ) (walks : Walks o
       → IsHeard event given → AnswersAs terms before given → HeardWhole before event given
       → offence terms before event ≡ None
       → Holds new.events.session new.events.docs (before ++ event ∷ [])
-      → AreCounts new.events.counts (events ++ event ∷ []) → NotesKept number given old new
+      → AreCounts new.events.counts (events ++ event ∷ [])
+      → NotesKept (place_of events event) given old new
       → Hears raw terms new notes heard.Kept
   by_event (content side bytes) (kept.Message by spoken) (message sent) reads is answers whole clean
       holds counted noted =
@@ -179,54 +182,57 @@ module _ (old new : Replay) (notes : List Noted) (number : ℕ) (walks : Walks o
       noted
 
 -- what was noted before is all that matters
-pub noted_after : (number : ℕ) (given : lent.Heard) (mid old new : Replay) → mid.notes ≡ old.notes
+pub noted_after : (place : EventPlace) (given : lent.Heard) (mid old new : Replay)
+    → mid.notes ≡ old.notes
     → mid.marks ≡ old.marks → mid.openings ≡ old.openings → mid.said ≡ old.said
-    → mid.sides ≡ old.sides → NotesKept number given mid new → NotesKept number given old new
-noted_after number (kept.Message side spoken) mid old new notes marks openings said sides noted =
+    → mid.sides ≡ old.sides → NotesKept place given mid new → NotesKept place given old new
+noted_after place (kept.Message side spoken) mid old new notes marks openings said sides noted =
     let act : Act = act_view spoken.act in (
       λ enc kind. subst (λ (w : Notes).
           AreAfter (call_of enc kind act) w.map.entries new.notes.map.entries) notes
           (noted.0 enc kind),
       λ enc kind. subst (λ (w : Marks).
-          DoneBy number (call_of enc kind act) w.map.entries new.marks.map.entries) marks
+          DoneBy place (call_of enc kind act) w.map.entries new.marks.map.entries) marks
           (noted.1 enc kind),
-      λ enc kind. subst (λ (w : Openings). OpensBy number (call_of enc kind act) w new.openings)
+      λ enc kind. subst (λ (w : Openings). OpensBy place (call_of enc kind act) w new.openings)
           openings (noted.2 enc kind),
       λ sents stands. subst (λ (w : SessionNotes).
-          SaysOn number side (message_view spoken.message) sents w new.said) said
+          SaysOn place side (message_view spoken.message) sents w new.said) said
           (noted.3 sents stands),
       noted.4 ∙ ap (λ (s : Sides). sides_read side s) sides,
     )
-noted_after number (kept.Snapshot version uri text answer) mid old new notes marks openings said
+noted_after place (kept.Snapshot version uri text answer) mid old new notes marks openings said
     sides noted = (
       noted.0 ∙ notes,
       subst (λ (w : Marks).
-          ShownBy number uri.now version answer w.map.entries new.marks.map.entries) marks noted.1,
-      noted.2 ∙ openings,
+          ShownBy place uri.now version answer w.map.entries new.marks.map.entries) marks noted.1,
+      subst (λ (w : Openings). OpeningsShown uri.now w new.openings) openings noted.2,
       noted.3 ∙ said,
       noted.4 ∙ sides,
     )
 
 -- the next event was heard, kept and noted
-pub kept_heard : (raw : Raw) (old new : Replay) (notes : List Noted) (number : ℕ)
+pub kept_heard : (raw : Raw) (old new : Replay) (notes : List Noted)
     (given : lent.Heard) (m : session.State) (d : docs.State) (c : Counts) → Walks old notes
-    → number ≡ number_next (events_of notes) → d.terms ≡ old.events.docs.terms
+    → d.terms ≡ old.events.docs.terms
     → new.events.session ≡ m → new.events.docs ≡ d → new.events.counts ≡ c
     → new.broken ≡ old.broken → new.passed ≡ old.passed
     → Keeps raw old.events.docs.terms old.events.counts given m d c
     (kept_of old.events.docs.terms (events_of notes))
-    → NotesKept number given old new → Hears raw old.events.docs.terms new notes heard.Kept
-kept_heard raw old new notes number given m d c walks is_number terms_are same_m same_d same_c
+    → ((event : Event) → AreCounts c (events_of notes ++ event ∷ []) → IsHeard event given
+    → NotesKept (place_of (events_of notes) event) given old new)
+    → Hears raw old.events.docs.terms new notes heard.Kept
+kept_heard raw old new notes given m d c walks terms_are same_m same_d same_c
     is_broken is_passed k noted =
     let events : List Event = events_of notes in
     let before : List Event = kept_of old.events.docs.terms events in
-    by_event old new notes number walks is_number
+    by_event old new notes walks
     (ap (λ (w : docs.State). w.terms) same_d ∙ terms_are) is_broken is_passed raw given k.event k.reads
     k.is_heard k.answers k.whole k.clean
     (subst (λ (w : session.State). Holds w new.events.docs (before ++ k.event ∷ [])) (sym same_m)
     (subst (λ (w : docs.State). Holds m w (before ++ k.event ∷ [])) (sym same_d) k.holds))
     (subst (λ (w : Counts). AreCounts w (events ++ k.event ∷ [])) (sym same_c)
-    (k.counted events walks.counted)) noted
+    (k.counted events walks.counted)) (noted k.event (k.counted events walks.counted) k.is_heard)
 
 -- ---- an event that offends
 
@@ -244,7 +250,7 @@ still_walks old new notes walks terms_are holds counts notes_are is_broken marks
     subst (λ (t : Terms). WalksBy t new notes) (sym terms_are) (record {
       holds = holds;
       counted = subst (λ (c : Counts). AreCounts c events) (sym counts) walks.counted;
-      noted = λ uri. ap (λ (w : Notes). note_in w.map.entries uri) notes_are ∙ walks.noted uri;
+      noted = λ uri. ap (λ (w : Notes). is_noted w.map.entries uri) notes_are ∙ walks.noted uri;
       is_broken = is_broken ∙ walks.is_broken;
       marked = subst (λ (m : Marks). AreMarks terms m.map.entries events) (sym marks) walks.marked;
       opened = subst (λ (o : Openings). AreOpenings terms o events) (sym openings) walks.opened;

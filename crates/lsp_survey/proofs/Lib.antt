@@ -5,6 +5,7 @@ pub mod Exchanging
 pub mod Marking
 pub mod MarkSteps
 pub mod MarksWorked
+pub mod TouchedSteps
 pub mod OpeningSteps
 pub mod RemarkSteps
 pub mod SessionSteps

@@ -24,10 +24,12 @@ use Rattle.lsp_verdict.specs.Event.{Event, message, snapshot, sent_in}
 use Rattle.lsp_verdict.specs.Offences.{kept_of, rule_at, said_at}
 use Rattle.lsp_survey.specs.ByUri.{held_by}
 use Rattle.lsp_survey.specs.Marking.{Step, touches, closed, shown_step, Marked, marked, unmarked}
-use Rattle.lsp_survey.specs.Marking.{stepped, steps, step_at, step_by, step_of, number_next}
+use Rattle.lsp_survey.specs.Marking.{stepped, steps, step_at, step_by, step_of}
+use Rattle.lsp_replay.specs.Places.{place_of}
 use Rattle.lsp_survey.specs.Marks.{AreMarks, DoneBy, ShownBy, StepsOn, mark_view, marked_in}
 use Rattle.lsp_survey.specs.declared.notes.mark.Mark.{Mark}
 use Rattle.lsp_survey.specs.declared.notes.mark.Touch.TheVariants.{Reached, Compared, Awaited}
+use Rattle.lsp_replay.specs.declared.heard.EventPlace.{EventPlace}
 use Rattle.lsp_survey.proofs.Marking.{marked-push, steps-push}
 use Rattle.lsp_survey.proofs.Putting.{PutsUnder}
 
@@ -84,7 +86,8 @@ pub refused_leaves : (terms : Terms) (es : Entries) (before : List Event) (e : E
     → AreMarks terms es (before ++ e ∷ [])
 refused_leaves terms es before e rule are is =
     none_done terms es before e are
-    (λ uri. ap (λ (o : Option ℕ). step_by terms uri before o (said_at terms before e)) is)
+    (λ uri. ap (λ (o : Option ℕ). step_by terms uri before (place_of before e) o
+    (said_at terms before e)) is)
 
 -- so they are what the events before it left
 pub refused_marks : (terms : Terms) (es : Entries) (before : List Event) (e : Event) (rule : ℕ)
@@ -94,7 +97,7 @@ refused_marks terms es before e rule are is uri =
     are uri
     ∙ ap marked (steps-push terms uri before e
     ∙ ap (λ (o : Option ℕ). steps terms uri before ++ cons_option
-    (step_by terms uri before o (said_at terms before e)) []) is
+    (step_by terms uri before (place_of before e) o (said_at terms before e)) []) is
     ∙ append-nil (steps terms uri before))
 
 -- one that is kept and says nothing of a document too
@@ -102,22 +105,24 @@ pub unsaid_leaves : (terms : Terms) (es : Entries) (before : List Event) (e : Ev
     → AreMarks terms es before → rule_at terms before e ≡ None → said_at terms before e ≡ None
     → AreMarks terms es (before ++ e ∷ [])
 unsaid_leaves terms es before e are kept said = none_done terms es before e are
-    (λ uri. ap (λ (o : Option ℕ). step_by terms uri before o (said_at terms before e)) kept
-    ∙ ap (step_by terms uri before None) said)
+    (λ uri. ap (λ (o : Option ℕ). step_by terms uri before (place_of before e) o
+    (said_at terms before e)) kept
+    ∙ ap (step_by terms uri before (place_of before e) None) said)
 
 -- of one that is kept, what a call does to its document
 said_step : (terms : Terms) (before : List Event) (e : Event) (call : Call)
     → rule_at terms before e ≡ None → said_at terms before e ≡ Some call
     → (u : List ℕ) → step_at terms u before e
-    ≡ (if bytes_eq u (uri_of call) then step_of terms (number_next before)
+    ≡ (if bytes_eq u (uri_of call) then step_of terms (place_of before e)
     (calls (kept_of terms before)) call else None)
 said_step terms before e call kept said u =
-    ap (λ (o : Option ℕ). step_by terms u before o (said_at terms before e)) kept
-    ∙ ap (step_by terms u before None) said
+    ap (λ (o : Option ℕ). step_by terms u before (place_of before e) o (said_at terms before e))
+    kept
+    ∙ ap (step_by terms u before (place_of before e) None) said
 
 pub nothing_done : (terms : Terms) (es : Entries) (before : List Event) (e : Event) (call : Call)
     → AreMarks terms es before → rule_at terms before e ≡ None → said_at terms before e ≡ Some call
-    → step_of terms (number_next before) (calls (kept_of terms before)) call ≡ None
+    → step_of terms (place_of before e) (calls (kept_of terms before)) call ≡ None
     → AreMarks terms es (before ++ e ∷ [])
 nothing_done terms es before e call are kept said none =
     none_done terms es before e are
@@ -132,7 +137,7 @@ nothing_done terms es before e call are kept said none =
 pub step_done : (terms : Terms) (old new : Entries) (before : List Event) (e : Event) (call : Call)
     (step : Step) (uri : List ℕ) → AreMarks terms old before → rule_at terms before e ≡ None
     → said_at terms before e ≡ Some call → uri_of call ≡ uri
-    → step_of terms (number_next before) (calls (kept_of terms before)) call ≡ Some step
+    → step_of terms (place_of before e) (calls (kept_of terms before)) call ≡ Some step
     → StepsOn uri step old new → AreMarks terms new (before ++ e ∷ [])
 step_done terms old new before e call step uri are kept said own does sets u =
     sets u
@@ -149,11 +154,12 @@ step_done terms old new before e call step uri are kept said own does sets u =
     by_test false = are u ∙ ap marked (sym (append-nil (steps terms u before)))
 
 -- **a message that is kept**
-pub act_done : (terms : Terms) (old new : Entries) (before : List Event) (m : Sent) (n : ℕ)
-    → AreMarks terms old before → rule_at terms before (message m) ≡ None → n ≡ number_next before
-    → ((enc : Encoding) (kind : SyncKind) → DoneBy n (call_of enc kind m.act) old new)
+pub act_done : (terms : Terms) (old new : Entries) (before : List Event) (m : Sent) (p : EventPlace)
+    → AreMarks terms old before → rule_at terms before (message m) ≡ None
+    → p ≡ place_of before (message m)
+    → ((enc : Encoding) (kind : SyncKind) → DoneBy p (call_of enc kind m.act) old new)
     → AreMarks terms new (before ++ message m ∷ [])
-act_done terms old new before m n are kept number done =
+act_done terms old new before m p are kept number done =
     by_call (call_of enc kind m.act) refl (done enc kind)
   where
     enc : Encoding
@@ -162,17 +168,17 @@ act_done terms old new before m n are kept number done =
     kind : SyncKind
     kind = unwrap_or (sync_kind (sent_in (kept_of terms before))) Nothing
 
-    by_call : (o : Option Call) → call_of enc kind m.act ≡ o → DoneBy n o old new
+    by_call : (o : Option Call) → call_of enc kind m.act ≡ o → DoneBy p o old new
         → AreMarks terms new (before ++ message m ∷ [])
     by_call None says is = subst (λ (es : Entries). AreMarks terms es (before ++ message m ∷ []))
         (sym is) (unsaid_leaves terms old before (message m) are kept says)
     by_call (Some (opens uri v text)) says is =
-        step_done terms old new before (message m) (opens uri v text) (touches Reached n v) uri
-        are kept says refl (ap (λ (k : ℕ). Some (touches Reached k v)) (sym number)) is
+        step_done terms old new before (message m) (opens uri v text) (touches Reached p v) uri
+        are kept says refl (ap (λ (k : EventPlace). Some (touches Reached k v)) (sym number)) is
     by_call (Some (changes e k uri v edits)) says is =
-        step_done terms old new before (message m) (changes e k uri v edits) (touches Reached n v)
+        step_done terms old new before (message m) (changes e k uri v edits) (touches Reached p v)
         uri
-        are kept says refl (ap (λ (k : ℕ). Some (touches Reached k v)) (sym number)) is
+        are kept says refl (ap (λ (k : EventPlace). Some (touches Reached k v)) (sym number)) is
     by_call (Some (closes uri)) says is =
         step_done terms old new before (message m) (closes uri) closed uri are kept says refl refl
         is
@@ -183,29 +189,30 @@ act_done terms old new before m n are kept number done =
 
 -- **a snapshot that is kept**
 pub shown_done : (terms : Terms) (old new : Entries) (before : List Event) (uri : List ℕ) (v : ℤ)
-    (text : List ℕ) (n : ℕ) (answer : Match) → AreMarks terms old before
-    → rule_at terms before (snapshot uri v text) ≡ None → n ≡ number_next before
+    (text : List ℕ) (p : EventPlace) (answer : Match) → AreMarks terms old before
+    → rule_at terms before (snapshot uri v text) ≡ None
+    → p ≡ place_of before (snapshot uri v text)
     → answer ≡ answer_of v (kept terms uri (calls (kept_of terms before)))
     (held terms uri (calls (kept_of terms before)))
-    → ShownBy n uri v answer old new → AreMarks terms new (before ++ snapshot uri v text ∷ [])
-shown_done terms old new before uri v text n answer are passes number answers done =
+    → ShownBy p uri v answer old new → AreMarks terms new (before ++ snapshot uri v text ∷ [])
+shown_done terms old new before uri v text p answer are passes number answers done =
     by_answer answer answers done
   where
     by_answer : (given : Match)
         → given ≡ answer_of v (kept terms uri (calls (kept_of terms before)))
         (held terms uri (calls (kept_of terms before)))
-        → ShownBy n uri v given old new → AreMarks terms new (before ++ snapshot uri v text ∷ [])
+        → ShownBy p uri v given old new → AreMarks terms new (before ++ snapshot uri v text ∷ [])
     by_answer Equal is did =
         step_done terms old new before (snapshot uri v text) (shows uri v text)
-        (touches Compared n v) uri are passes refl refl
-        (ap (shown_step (number_next before) v) (sym is)
-        ∙ ap (λ (k : ℕ). Some (touches Compared k v)) (sym number)) did
+        (touches Compared p v) uri are passes refl refl
+        (ap (shown_step (place_of before (snapshot uri v text)) v) (sym is)
+        ∙ ap (λ (k : EventPlace). Some (touches Compared k v)) (sym number)) did
     by_answer Waits is did =
         step_done terms old new before (snapshot uri v text) (shows uri v text)
-        (touches Awaited n v) uri are passes refl refl
-        (ap (shown_step (number_next before) v) (sym is)
-        ∙ ap (λ (k : ℕ). Some (touches Awaited k v)) (sym number)) did
+        (touches Awaited p v) uri are passes refl refl
+        (ap (shown_step (place_of before (snapshot uri v text)) v) (sym is)
+        ∙ ap (λ (k : EventPlace). Some (touches Awaited k v)) (sym number)) did
     by_answer Missed is did =
         subst (λ (es : Entries). AreMarks terms es (before ++ snapshot uri v text ∷ [])) (sym did)
         (nothing_done terms old before (snapshot uri v text) (shows uri v text) are passes refl
-        (ap (shown_step (number_next before) v) (sym is)))
+        (ap (shown_step (place_of before (snapshot uri v text)) v) (sym is)))

@@ -25,6 +25,7 @@ use Rattle.lsp_survey.specs.declared.notes.mark.Setter.{Setter}
 use Rattle.lsp_survey.specs.declared.notes.mark.Shown.{Shown}
 use Rattle.lsp_survey.specs.declared.notes.mark.Touch.{Touch}
 use Rattle.lsp_survey.specs.declared.notes.mark.Touch.TheVariants.{Reached, Compared, Awaited}
+use Rattle.lsp_replay.specs.declared.heard.EventPlace.{EventPlace}
 use Rattle.lsp_survey.proofs.LastOnes.{last_behind_all}
 
 -- ---- the messages that set versions
@@ -56,84 +57,84 @@ standing-closed (s ∷ done) =
     cut : Bool → List Step
     cut b = if b then standing (done ++ closed ∷ []) else s ∷ (done ++ closed ∷ [])
 
-standing-touch : (done : List Step) (touch : Touch) (n : ℕ) (own : ℤ)
-    → standing (done ++ touches touch n own ∷ []) ≡ standing done ++ touches touch n own ∷ []
-standing-touch [] touch n own = refl
-standing-touch (s ∷ done) touch n own =
-    ap cut (any-last is_end (s ∷ done) (touches touch n own)
+standing-touch : (done : List Step) (touch : Touch) (p : EventPlace) (own : ℤ)
+    → standing (done ++ touches touch p own ∷ []) ≡ standing done ++ touches touch p own ∷ []
+standing-touch [] touch p own = refl
+standing-touch (s ∷ done) touch p own =
+    ap cut (any-last is_end (s ∷ done) (touches touch p own)
     ∙ or_none (list_any is_end (s ∷ done)))
-    ∙ ap (λ (l : List Step). if list_any is_end (s ∷ done) then l else s ∷ (done ++ touches touch n
-    own ∷ [])) (standing-touch done touch n own)
+    ∙ ap (λ (l : List Step). if list_any is_end (s ∷ done) then l else s ∷ (done ++ touches touch p
+    own ∷ [])) (standing-touch done touch p own)
     ∙ by_cut (list_any is_end (s ∷ done))
   where
     cut : Bool → List Step
     cut b =
-        if b then standing (done ++ touches touch n own ∷ []) else s ∷ (done ++ touches touch n
+        if b then standing (done ++ touches touch p own ∷ []) else s ∷ (done ++ touches touch p
         own ∷ [])
 
     by_cut : (b : Bool)
-        → (if b then standing done ++ touches touch n own ∷ [] else s ∷ (done ++ touches touch n
+        → (if b then standing done ++ touches touch p own ∷ [] else s ∷ (done ++ touches touch p
         own ∷ []))
-        ≡ (if b then standing done else s ∷ done) ++ touches touch n own ∷ []
+        ≡ (if b then standing done else s ∷ done) ++ touches touch p own ∷ []
     by_cut true = refl
     by_cut false = refl
 
 -- those that an opening had, with one step more
-setters_with : (done : List Step) (touch : Touch) (n : ℕ) (own : ℤ)
-    → setters (done ++ touches touch n own ∷ [])
-    ≡ setters done ++ cons_option (setter_at (standing done) (touches touch n own)) []
-setters_with done touch n own =
-    ap (each_of setter_at) (standing-touch done touch n own)
-    ∙ each_of-snoc setter_at (standing done) (touches touch n own)
+setters_with : (done : List Step) (touch : Touch) (p : EventPlace) (own : ℤ)
+    → setters (done ++ touches touch p own ∷ [])
+    ≡ setters done ++ cons_option (setter_at (standing done) (touches touch p own)) []
+setters_with done touch p own =
+    ap (each_of setter_at) (standing-touch done touch p own)
+    ∙ each_of-snoc setter_at (standing done) (touches touch p own)
 
-recent-kept : (done : List Step) (touch : Touch) (n : ℕ) (own : ℤ)
-    → setter_at (standing done) (touches touch n own) ≡ None
-    → recent (done ++ touches touch n own ∷ []) ≡ recent done
-recent-kept done touch n own none =
-    ap (last_ones most_setters) (setters_with done touch n own
+recent-kept : (done : List Step) (touch : Touch) (p : EventPlace) (own : ℤ)
+    → setter_at (standing done) (touches touch p own) ≡ None
+    → recent (done ++ touches touch p own ∷ []) ≡ recent done
+recent-kept done touch p own none =
+    ap (last_ones most_setters) (setters_with done touch p own
     ∙ ap (λ (o : Option Setter). setters done ++ cons_option o []) none
     ∙ append-nil (setters done))
 
 -- how many there are
-count-more : (xs : List Step) (n : ℕ) (own : ℤ)
-    → length (filter sets (xs ++ touches Reached n own ∷ [])) ≡ length (filter sets xs) + 1
-count-more xs n own =
-    ap length (filter-append sets xs (touches Reached n own ∷ []))
-    ∙ length-append (filter sets xs) (touches Reached n own ∷ [])
+count-more : (xs : List Step) (p : EventPlace) (own : ℤ)
+    → length (filter sets (xs ++ touches Reached p own ∷ [])) ≡ length (filter sets xs) + 1
+count-more xs p own =
+    ap length (filter-append sets xs (touches Reached p own ∷ []))
+    ∙ length-append (filter sets xs) (touches Reached p own ∷ [])
 
-rank-more : (xs : List Step) (n : ℕ) (own : ℤ)
-    → rank_after (xs ++ touches Reached n own ∷ []) ≡ next_rank (rank_after xs)
-rank-more xs n own =
-    ap capped (count-more xs n own) ∙ sym (capped-add (length (filter sets xs)) 1)
+rank-more : (xs : List Step) (p : EventPlace) (own : ℤ)
+    → rank_after (xs ++ touches Reached p own ∷ []) ≡ next_rank (rank_after xs)
+rank-more xs p own =
+    ap capped (count-more xs p own) ∙ sym (capped-add (length (filter sets xs)) 1)
 
-rank-same : (done : List Step) (touch : Touch) (n : ℕ) (own : ℤ)
-    → sets (touches touch n own) ≡ false
-    → rank_after (standing (done ++ touches touch n own ∷ [])) ≡ rank_after (standing done)
-rank-same done touch n own none =
-    ap rank_after (standing-touch done touch n own)
+rank-same : (done : List Step) (touch : Touch) (p : EventPlace) (own : ℤ)
+    → sets (touches touch p own) ≡ false
+    → rank_after (standing (done ++ touches touch p own ∷ [])) ≡ rank_after (standing done)
+rank-same done touch p own none =
+    ap rank_after (standing-touch done touch p own)
     ∙ ap (λ (l : List Step). capped (length l))
-    (filter-append sets (standing done) (touches touch n own ∷ [])
-    ∙ ap (λ (b : Bool). filter sets (standing done) ++ (if b then touches touch n own ∷ [] else []))
+    (filter-append sets (standing done) (touches touch p own ∷ [])
+    ∙ ap (λ (b : Bool). filter sets (standing done) ++ (if b then touches touch p own ∷ [] else []))
     none
     ∙ append-nil (filter sets (standing done)))
 
 -- one more sets a version
-recent-more : (done : List Step) (n : ℕ) (own : ℤ)
-    → recent (done ++ touches Reached n own ∷ [])
+recent-more : (done : List Step) (p : EventPlace) (own : ℤ)
+    → recent (done ++ touches Reached p own ∷ [])
     ≡ with_room most_setters (recent done) ++ record {
-      event = n;
+      place = p;
       version = own;
       rank = next_rank
           (rank_after (standing done));
     } ∷ []
-recent-more done n own =
-    ap (last_ones most_setters) (setters_with done Reached n own)
+recent-more done p own =
+    ap (last_ones most_setters) (setters_with done Reached p own)
     ∙ last_behind_all most_setters (setters done) _ (omega arith)
     ∙ ap (λ (r : ℕ). with_room most_setters (recent done) ++ record {
-      event = n;
+      place = p;
       version = own;
       rank = r;
-    } ∷ []) (rank-more (standing done) n own)
+    } ∷ []) (rank-more (standing done) p own)
 
 -- ---- the equal snapshot of the greatest version
 
@@ -225,27 +226,27 @@ entry_more : (number : ℤ) (s : Step) (later : List Step) (step : Step)
     ≡ (if ends_waiting number step then [] else waiting_entry number s later)
 entry_more number s later step = by_step s
   where
-    none : (b : Bool) → ◌≡◌ {A = List ℕ} [] (if b then [] else [])
+    none : (b : Bool) → ◌≡◌ {A = List EventPlace} [] (if b then [] else [])
     none true = refl
     none false = refl
 
-    by_tests : (a b e : Bool) (n : ℕ)
-        → (if not (a || (b || false)) && e then n ∷ [] else [])
-        ≡ (if b then [] else (if not a && e then n ∷ [] else []))
-    by_tests true true e n = refl
-    by_tests true false e n = refl
-    by_tests false true e n = refl
-    by_tests false false e n = refl
+    by_tests : (a b e : Bool) (p : EventPlace)
+        → (if not (a || (b || false)) && e then p ∷ [] else [])
+        ≡ (if b then [] else (if not a && e then p ∷ [] else []))
+    by_tests true true e p = refl
+    by_tests true false e p = refl
+    by_tests false true e p = refl
+    by_tests false false e p = refl
 
     by_step : (s : Step) → waiting_entry number s (later ++ step ∷ [])
         ≡ (if ends_waiting number step then [] else waiting_entry number s later)
-    by_step (touches Reached n own) = none (ends_waiting number step)
-    by_step (touches Compared n own) = none (ends_waiting number step)
-    by_step (touches Awaited n own) =
-        ap (λ (b : Bool). if not b && int_eq own number then n ∷ [] else [])
+    by_step (touches Reached p own) = none (ends_waiting number step)
+    by_step (touches Compared p own) = none (ends_waiting number step)
+    by_step (touches Awaited p own) =
+        ap (λ (b : Bool). if not b && int_eq own number then p ∷ [] else [])
         (list_any-append (ends_waiting number) later (step ∷ []))
         ∙ by_tests (list_any (ends_waiting number) later) (ends_waiting number step)
-        (int_eq own number) n
+        (int_eq own number) p
     by_step closed = none (ends_waiting number step)
 
 pub waiting_for-push : (number : ℤ) (done : List Step) (step : Step)
@@ -260,8 +261,9 @@ waiting_for-push number [] step =
     by_test true = refl
     by_test false = refl
 waiting_for-push number (s ∷ done) step =
-    ap (λ (l : List ℕ). l ++ waiting_for number (done ++ step ∷ [])) (entry_more number s done step)
-    ∙ ap (λ (l : List ℕ). (if ends_waiting number step then [] else waiting_entry number s
+    ap (λ (l : List EventPlace). l ++ waiting_for number (done ++ step ∷ []))
+    (entry_more number s done step)
+    ∙ ap (λ (l : List EventPlace). (if ends_waiting number step then [] else waiting_entry number s
     done) ++ l) (waiting_for-push number done step)
     ∙ by_test (ends_waiting number step)
   where
@@ -275,7 +277,7 @@ waiting_for-push number (s ∷ done) step =
         (waiting_entry number step []))
 
 -- those of a greater version wait on
-waits_above : (own number : ℤ) (waiting : List ℕ)
+waits_above : (own number : ℤ) (waiting : List EventPlace)
     → (if not (int_lt own number) then [] else waiting) ++ []
     ≡ (if int_lt own number then waiting else [])
 waits_above own number waiting = by_test (int_lt own number)
@@ -287,32 +289,32 @@ waits_above own number waiting = by_test (int_lt own number)
 -- **what is marked of a document, with one step more**
 pub marked-push : (done : List Step) (step : Step)
     → marked (done ++ step ∷ []) ≡ stepped step (marked done)
-marked-push done (touches Reached n own) = λ i. record {
-  setters = recent-more done n own i;
+marked-push done (touches Reached p own) = λ i. record {
+  setters = recent-more done p own i;
   rank =
-      (ap rank_after (standing-touch done Reached n own) ∙ rank-more (standing done) n own) i;
+      (ap rank_after (standing-touch done Reached p own) ∙ rank-more (standing done) p own) i;
   agreed =
-      (agreed-push done (touches Reached n own)
-      ∙ reached_with (last_shown own (rank_after (standing done ++ touches Reached n own ∷ []))
+      (agreed-push done (touches Reached p own)
+      ∙ reached_with (last_shown own (rank_after (standing done ++ touches Reached p own ∷ []))
       (waiting_for own done)) (agreed done)
       ∙ ap (λ (r : ℕ). newer_of (agreed done) (last_shown own r (waiting_for own done)))
-      (rank-more (standing done) n own)) i;
+      (rank-more (standing done) p own)) i;
   waiting = λ number.
-      (waiting_for-push number done (touches Reached n own)
+      (waiting_for-push number done (touches Reached p own)
       ∙ waits_above own number (waiting_for number done)) i;
 }
-marked-push done (touches Compared n own) = λ i. record {
-  setters = recent-kept done Compared n own refl i;
-  rank = rank-same done Compared n own refl i;
-  agreed = agreed-push done (touches Compared n own) i;
-  waiting = λ number. (waiting_for-push number done (touches Compared n own)
+marked-push done (touches Compared p own) = λ i. record {
+  setters = recent-kept done Compared p own refl i;
+  rank = rank-same done Compared p own refl i;
+  agreed = agreed-push done (touches Compared p own) i;
+  waiting = λ number. (waiting_for-push number done (touches Compared p own)
       ∙ append-nil (waiting_for number done)) i;
 }
-marked-push done (touches Awaited n own) = λ i. record {
-  setters = recent-kept done Awaited n own refl i;
-  rank = rank-same done Awaited n own refl i;
-  agreed = agreed-push done (touches Awaited n own) i;
-  waiting = λ number. waiting_for-push number done (touches Awaited n own) i;
+marked-push done (touches Awaited p own) = λ i. record {
+  setters = recent-kept done Awaited p own refl i;
+  rank = rank-same done Awaited p own refl i;
+  agreed = agreed-push done (touches Awaited p own) i;
+  waiting = λ number. waiting_for-push number done (touches Awaited p own) i;
 }
 marked-push done closed = λ i. record {
   setters = ap (λ (l : List Step). last_ones most_setters (each_of setter_at l))

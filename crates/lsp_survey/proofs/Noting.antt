@@ -1,64 +1,106 @@
--- The notes of documents, with one of them set, and after one more event.
-use Rattle.std.specs.Prelude.{if◌then◌else◌, unwrap_or, String, Vec, map, is_none, length, vec_len}
-use Rattle.std.specs.Prelude.{◌==◌, ◌||◌, not, ℤ}
+-- Which documents are noted as lost, with one more of them, and after one more event.
+use Rattle.std.specs.Prelude.{if◌then◌else◌, unwrap_or, Vec, map, is_none, length, vec_len}
+use Rattle.std.specs.Prelude.{◌==◌, ◌||◌, not, ℤ, is_some, String}
 use Rattle.std.specs.List.{list_any}
 use Rattle.std.specs.Global.{Global}
 use Rattle.std.specs.Str.{bytes_eq}
+use Rattle.std.proofs.lemmas.Bool.{cases_Bool}
 use Rattle.std.proofs.lemmas.Bool.Decides.{nat_tests}
 use Rattle.std.proofs.Common.{arith, ◌<◌, ◌≡◌, ℕ, Bool, true, false, List, [], ◌∷◌, Option, Some}
-use Rattle.std.proofs.Common.{None, refl, sym, ap, ◌∙◌}
+use Rattle.std.proofs.Common.{None, refl, sym, ap, ◌∙◌, inl, inr, true≢false}
+use Rattle.lsp_docs.proofs.Words.{uri_is, uri_same}
 use Rattle.lsp_docs.specs.Calls.{Call, uri_of, changes as changes_by}
-use Rattle.lsp_docs.specs.Documents.{Version}
 use Rattle.lsp_rpc.specs.View.{changes_view}
 use Rattle.lsp_survey.specs.ByUri.{held_by}
-use Rattle.lsp_survey.specs.Notes.{nothing, note_in, SetsNote, AreAfter, Leaves}
-use Rattle.lsp_survey.specs.declared.notes.note.Note.{Note}
-use Rattle.lsp_survey.proofs.Putting.{PutsUnder}
+use Rattle.lsp_survey.specs.Notes.{AreAfter, Leaves, PutsSpelling, Sets, has_uri, is_noted}
+use Rattle.lsp_survey.specs.Notes.{lost_among, spelling_in}
+use Rattle.lsp_survey.specs.declared.notes.note.Spelling.{Spelling}
 use Rattle.lsp_text.specs.Edits.{Edit}
 use Rattle.lsp_types.specs.declared.change.Change.{Change}
 use Rattle.lsp_types.specs.declared.change.SyncKind.{SyncKind}
 use Rattle.lsp_types.specs.declared.position.Encoding.{Encoding}
 use Rattle.lsp_verdict.specs.Calls.{edit_of}
-use Rattle.lsp_verdict.specs.Offences.{renews, has_changes, left_lost}
+use Rattle.lsp_verdict.specs.Offences.{renews, left_lost, sets_text}
+use Rattle.lsp_verdict.specs.Spelling.{folded}
 
--- ---- one note is set
+-- ---- URIs
 
-chosen : (b : Bool) (o x : Option Note)
-    → unwrap_or (if b then o else x) nothing
-    ≡ (if b then unwrap_or o nothing else unwrap_or x nothing)
-chosen true o x = refl
-chosen false o x = refl
-
-pub note_put : (uri : List ℕ) (o : Option Note) (old new : List (String Global × Note))
-    → PutsUnder uri o (held_by (λ (n : Note). n) old) (held_by (λ (n : Note). n) new)
-    → SetsNote uri (unwrap_or o nothing) old new
-note_put uri o old new put u =
-    ap (λ (x : Option Note). unwrap_or x nothing) (put u)
-    ∙ chosen (bytes_eq uri u) o (held_by (λ (n : Note). n) old u)
-
--- ---- one more event
-
--- what it leaves of a note, where its document is this one or another
-abbrev left_by : Option Bool → Bool → Note → Note
-left_by said own old = record { lost = unwrap_or (if own then said else None) old.lost }
-
--- it says nothing of a document
-pub nothing_said : (rule : Option ℕ) (now : Option Version) (notes : List (String Global × Note))
-    → Leaves rule None now None notes notes
-nothing_said rule now notes uri = refl
-
--- it leaves all notes as they are
-pub notes_stay : (call : Call) (notes : List (String Global × Note))
-    → left_lost None None call ≡ None → AreAfter (Some call) notes notes
-notes_stay call notes stays uri =
-    sym (ap (λ (o : Option Bool). left_by o (bytes_eq uri (uri_of call)) (note_in notes uri)) stays
-    ∙ by_test (bytes_eq uri (uri_of call)))
+-- one of them is put, or taken away
+pub some_put : {X : Type 0} (u uri : List ℕ) (o : Option X) (old : List (String Global × X))
+    → is_some (if bytes_eq uri u then o else held_by (λ x. x) old u)
+    ≡ (if bytes_eq uri u then is_some o else has_uri old u)
+some_put u uri o old = by_test (bytes_eq uri u)
   where
-    by_test : (own : Bool) → left_by None own (note_in notes uri) ≡ note_in notes uri
+    by_test : (b : Bool) → is_some (if b then o else held_by (λ x. x) old u)
+        ≡ (if b then is_some o else has_uri old u)
     by_test true = refl
     by_test false = refl
 
-pub kept_leaves : (call : Call) → renews call ≡ false → left_lost None None call ≡ None
+-- ---- what is noted of a spelling
+
+module _ (uri : List ℕ) (lost : Bool) (key : List ℕ) (own : key ≡ folded uri)
+    (old new : List (Vec ℕ Global × Spelling)) where
+  -- what is noted of it is now so, and of all others as it was
+  pub sets_by : (noted : Option Spelling)
+      → ((u : List ℕ) → lost_among noted u
+      ≡ (if bytes_eq uri u then lost else lost_among (spelling_in old key) u))
+      → PutsSpelling key noted old new → Sets uri lost old new
+  sets_by noted own_set put u =
+      elim (cases_Bool (bytes_eq key (folded u))) [
+        | inl p ↦
+            ap (λ (o : Option Spelling). lost_among o u) (put (folded u)
+            ∙ ap (λ (b : Bool). if b then noted else spelling_in old (folded u)) p)
+            ∙ own_set u
+            ∙ ap (λ (k : List ℕ). if bytes_eq uri u then lost
+            else lost_among (spelling_in old k) u) (uri_is key (folded u) p)
+        | inr p ↦
+            ap (λ (o : Option Spelling). lost_among o u) (put (folded u)
+            ∙ ap (λ (b : Bool). if b then noted else spelling_in old (folded u)) p)
+            ∙ sym (ap (λ (b : Bool). if b then lost else is_noted old u) (other u p))
+      ]
+    where
+      other : (u : List ℕ) → bytes_eq key (folded u) ≡ false → bytes_eq uri u ≡ false
+      other u p =
+          elim (cases_Bool (bytes_eq uri u)) [
+            | inl q ↦ absurd (true≢false (sym (uri_same (folded u))
+                ∙ ap (λ (k : List ℕ). bytes_eq k (folded u))
+                (sym (own ∙ ap folded (uri_is uri u q))) ∙ p))
+            | inr q ↦ q
+          ]
+
+-- what was taken away is put back
+pub put_back : (key : List ℕ) (noted : Option Spelling)
+    (old mid new : List (Vec ℕ Global × Spelling)) → PutsSpelling key None old mid
+    → PutsSpelling key noted mid new → PutsSpelling key noted old new
+put_back key noted old mid new taken put k =
+    put k ∙ ap (λ (o : Option Spelling). if bytes_eq key k then noted else o) (taken k)
+    ∙ by_test (bytes_eq key k)
+  where
+    by_test : (b : Bool) → (if b then noted else (if b then None else spelling_in old k))
+        ≡ (if b then noted else spelling_in old k)
+    by_test true = refl
+    by_test false = refl
+
+-- ---- one more event
+
+-- it says nothing of a document
+pub nothing_said : (rule : Option ℕ) (other : Bool) (notes : List (Vec ℕ Global × Spelling))
+    → Leaves rule None other None notes notes
+nothing_said rule other notes uri = refl
+
+-- it leaves all notes as they are
+pub notes_stay : (call : Call) (notes : List (Vec ℕ Global × Spelling))
+    → left_lost None false call ≡ None → AreAfter (Some call) notes notes
+notes_stay call notes stays uri =
+    sym (ap (λ (o : Option Bool). unwrap_or (if bytes_eq uri (uri_of call) then o else None)
+    (is_noted notes uri)) stays ∙ by_test (bytes_eq uri (uri_of call)))
+  where
+    by_test : (own : Bool) → unwrap_or (if own then None else None) (is_noted notes uri)
+        ≡ is_noted notes uri
+    by_test true = refl
+    by_test false = refl
+
+pub kept_leaves : (call : Call) → renews call ≡ false → left_lost None false call ≡ None
 kept_leaves call is = ap (λ (b : Bool). if b then Some false else None) is
 
 -- changes with one of the whole text
@@ -80,13 +122,13 @@ positive n some = grind (arith, nat_tests)
 -- a list of changes, or none
 pub some_changes : (enc : Encoding) (kind : SyncKind) (uri : List ℕ) (number : ℤ)
     (changes : Vec Change Global) (empty : Bool) → empty ≡ (vec_len changes == 0)
-    → has_changes (changes_by enc kind uri number (map edit_of (changes_view changes.items)))
+    → sets_text (changes_by enc kind uri number (map edit_of (changes_view changes.items)))
     ≡ not empty
 some_changes enc kind uri number changes empty is =
     by_length changes.items (vec_len changes) (changes.ok.0) ∙ ap not (sym is)
   where
     by_length : (cs : List Change) (n : ℕ) → n ≡ length cs
-        → has_changes (changes_by enc kind uri number (map edit_of (changes_view cs)))
+        → sets_text (changes_by enc kind uri number (map edit_of (changes_view cs)))
         ≡ not (n == 0)
     by_length [] n e = ap (λ (k : ℕ). not (k == 0)) (sym e)
     by_length (c ∷ cs) n e = positive n (omega (arith, e))

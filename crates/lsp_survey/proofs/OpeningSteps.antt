@@ -19,15 +19,20 @@ use Rattle.lsp_verdict.specs.LookBack.{each_of}
 use Rattle.lsp_verdict.specs.Offences.{kept_of, last_or, rule_at, said_at}
 use Rattle.lsp_verdict.proofs.LookBackLemmas.{each_of-snoc}
 use Rattle.lsp_survey.specs.LastOnes.{last_ones}
-use Rattle.lsp_survey.specs.Marking.{number_next}
-use Rattle.lsp_survey.specs.Openings.{AreOpenings, Holds, OnDocument, OpensBy, closed_by, ons_view}
+use Rattle.lsp_survey.specs.Touched.{AreTouched}
+use Rattle.lsp_survey.proofs.TouchedSteps.{act_touched, kept_touched, refused_touched}
+use Rattle.lsp_survey.proofs.TouchedSteps.{refused_touches}
+use Rattle.lsp_survey.specs.Openings.{AreOpenings, Holds, OnDocument, OpeningsShown, OpensBy}
+use Rattle.lsp_survey.specs.Openings.{closed_by, closings, openings, ons_view}
 use Rattle.lsp_survey.specs.Openings.{event_on, is_on, last_on, most_closings, most_openings}
 use Rattle.lsp_survey.specs.Openings.{on_view, opened_by, taken_at, taken_by}
+use Rattle.lsp_replay.specs.Places.{place_of}
 use Rattle.lsp_survey.specs.declared.notes.openings.DocumentEvent.{DocumentEvent}
 use Rattle.lsp_survey.specs.declared.notes.openings.Openings.{Openings}
+use Rattle.lsp_replay.specs.declared.heard.EventPlace.{EventPlace}
 
 abbrev Takes : Type 0
-Takes = ℕ → Call → Option OnDocument
+Takes = EventPlace → Call → Option OnDocument
 
 -- ---- one list
 
@@ -55,28 +60,33 @@ module _ (takes : Takes) (most : ℕ) (terms : Terms) (before : List Event) (e :
 
 -- it opens and closes nothing
 none_opened : (terms : Terms) (o : Openings) (before : List Event) (e : Event)
-    → AreOpenings terms o before → taken_at opened_by terms before e ≡ None
-    → taken_at closed_by terms before e ≡ None → AreOpenings terms o (before ++ e ∷ [])
-none_opened terms o before e are opens closes = record {
-  opened_are = are.opened_are
+    → ons_view o.opened.items ≡ last_ones most_openings (openings terms before)
+    → ons_view o.closed.items ≡ last_ones most_closings (closings terms before)
+    → taken_at opened_by terms before e ≡ None → taken_at closed_by terms before e ≡ None
+    → AreTouched terms o.touched (before ++ e ∷ []) → AreOpenings terms o (before ++ e ∷ [])
+none_opened terms o before e opened closed opens closes touched = record {
+  opened_are = opened
       ∙ ap (last_ones most_openings) (sym (none_more opened_by most_openings terms before e opens));
-  closed_are = are.closed_are
+  closed_are = closed
       ∙ ap (last_ones most_closings) (sym (none_more closed_by most_closings terms before e closes));
+  touched_are = touched;
 }
 
 -- an event that offends is not taken
 refused_takes : (takes : Takes) (terms : Terms) (before : List Event) (e : Event) (rule : ℕ)
     → rule_at terms before e ≡ Some rule → taken_at takes terms before e ≡ None
 refused_takes takes terms before e rule is =
-    ap (λ (o : Option ℕ). taken_by takes (number_next before) o (said_at terms before e)) is
+    ap (λ (o : Option ℕ). taken_by takes (place_of before e) o (said_at terms before e)) is
 
 -- **an event that offends leaves what is held**
 pub refused_opens : (terms : Terms) (o : Openings) (before : List Event) (e : Event) (rule : ℕ)
     → AreOpenings terms o before → rule_at terms before e ≡ Some rule
     → AreOpenings terms o (before ++ e ∷ [])
 refused_opens terms o before e rule are is =
-    none_opened terms o before e are (refused_takes opened_by terms before e rule is)
+    none_opened terms o before e are.opened_are are.closed_are
+    (refused_takes opened_by terms before e rule is)
     (refused_takes closed_by terms before e rule is)
+    (refused_touches terms o.touched before e rule are.touched_are is)
 
 -- so it is what the events before it left
 pub refused_openings : (terms : Terms) (o : Openings) (before : List Event) (e : Event) (rule : ℕ)
@@ -89,30 +99,34 @@ refused_openings terms o before e rule are is = record {
   closed_are = are.closed_are ∙ ap (last_ones most_closings)
       (none_more closed_by most_closings terms before e
       (refused_takes closed_by terms before e rule is));
+  touched_are = refused_touched terms o.touched before e rule are.touched_are is;
 }
 
 -- what is taken of one that is kept
 kept_takes : (takes : Takes) (terms : Terms) (before : List Event) (e : Event) (said : Option Call)
-    (n : ℕ) → rule_at terms before e ≡ None → said_at terms before e ≡ said
-    → n ≡ number_next before → taken_at takes terms before e ≡ option_and_then (takes n) said
-kept_takes takes terms before e said n kept says number =
-    ap (λ (o : Option ℕ). taken_by takes (number_next before) o (said_at terms before e)) kept
-    ∙ ap (option_and_then (takes (number_next before))) says
-    ∙ ap (λ (k : ℕ). option_and_then (takes k) said) (sym number)
+    (p : EventPlace) → rule_at terms before e ≡ None → said_at terms before e ≡ said
+    → p ≡ place_of before e → taken_at takes terms before e ≡ option_and_then (takes p) said
+kept_takes takes terms before e said p kept says number =
+    ap (λ (o : Option ℕ). taken_by takes (place_of before e) o (said_at terms before e)) kept
+    ∙ ap (option_and_then (takes (place_of before e))) says
+    ∙ ap (λ (k : EventPlace). option_and_then (takes k) said) (sym number)
 
 -- **a message that is kept**
-pub act_opened : (terms : Terms) (old new : Openings) (before : List Event) (m : Sent) (n : ℕ)
+pub act_opened : (terms : Terms) (old new : Openings) (before : List Event) (m : Sent)
+    (p : EventPlace)
     → AreOpenings terms old before → rule_at terms before (message m) ≡ None
-    → n ≡ number_next before
-    → ((enc : Encoding) (kind : SyncKind) → OpensBy n (call_of enc kind m.act) old new)
+    → p ≡ place_of before (message m)
+    → ((enc : Encoding) (kind : SyncKind) → OpensBy p (call_of enc kind m.act) old new)
     → AreOpenings terms new (before ++ message m ∷ [])
-act_opened terms old new before m n are kept number opens = record {
+act_opened terms old new before m p are kept number opens = record {
   opened_are = one_more opened_by most_openings terms before (message m) _ old.opened.items
-      new.opened.items (kept_takes opened_by terms before (message m) said n kept refl number)
+      new.opened.items (kept_takes opened_by terms before (message m) said p kept refl number)
       are.opened_are (opens enc kind).opened;
   closed_are = one_more closed_by most_closings terms before (message m) _ old.closed.items
-      new.closed.items (kept_takes closed_by terms before (message m) said n kept refl number)
+      new.closed.items (kept_takes closed_by terms before (message m) said p kept refl number)
       are.closed_are (opens enc kind).closed;
+  touched_are = act_touched terms old.touched new.touched before m are.touched_are kept
+      (λ e k. (opens e k).touched);
 }
   where
     enc : Encoding
@@ -125,64 +139,69 @@ act_opened terms old new before m n are kept number opens = record {
     said = call_of enc kind m.act
 
 -- **a snapshot that is kept**
-pub shown_opened : (terms : Terms) (o : Openings) (before : List Event) (uri : List ℕ) (v : ℤ)
-    (text : List ℕ) → AreOpenings terms o before → rule_at terms before (snapshot uri v text) ≡ None
-    → AreOpenings terms o (before ++ snapshot uri v text ∷ [])
-shown_opened terms o before uri v text are kept =
-    none_opened terms o before (snapshot uri v text) are (taken opened_by refl)
-    (taken closed_by refl)
+pub shown_opened : (terms : Terms) (old new : Openings) (before : List Event) (uri : List ℕ)
+    (v : ℤ) (text : List ℕ) → AreOpenings terms old before
+    → rule_at terms before (snapshot uri v text) ≡ None → OpeningsShown uri old new
+    → AreOpenings terms new (before ++ snapshot uri v text ∷ [])
+shown_opened terms old new before uri v text are kept shown =
+    none_opened terms new before (snapshot uri v text)
+    (ap ons_view shown.opened ∙ are.opened_are) (ap ons_view shown.closed ∙ are.closed_are)
+    (taken opened_by refl) (taken closed_by refl)
+    (kept_touched terms old.touched new.touched before (snapshot uri v text)
+    (Some (shows uri v text)) are.touched_are kept refl (shown.touched v text))
   where
-    taken : (takes : Takes) → takes (number_next before) (shows uri v text) ≡ None
+    taken : (takes : Takes) → takes (place_of before (snapshot uri v text)) (shows uri v text)
+        ≡ None
         → taken_at takes terms before (snapshot uri v text) ≡ None
     taken takes none =
         kept_takes takes terms before (snapshot uri v text) (Some (shows uri v text))
-        (number_next before) kept refl refl
+        (place_of before (snapshot uri v text)) kept refl refl
         ∙ none
 
 -- ---- two parts of what is held
 
 module _ (uri : List ℕ) where
-  abbrev events_on : List OnDocument → List (Option ℕ)
+  abbrev events_on : List OnDocument → List (Option EventPlace)
   events_on ons = filter_map (event_on uri) ons
 
   -- the event of this message, before these, where it is about the document
-  abbrev with_event : Bool → ℕ → List (Option ℕ) → List (Option ℕ)
+  abbrev with_event : Bool → EventPlace → List (Option EventPlace) → List (Option EventPlace)
   with_event b n rest = cons_option (if b then Some (Some n) else None) rest
 
-  once : (x : Option ℕ) (n : ℕ) (o : Option ℕ)
+  once : (x : Option EventPlace) (n : EventPlace) (o : Option EventPlace)
       → option_or x (Some n) ≡ option_or (option_or x (Some n)) o
   once None n o = refl
   once (Some m) n o = refl
 
   -- what comes later counts, where there is any
-  later : (ons : List OnDocument) (o : Option ℕ)
+  later : (ons : List OnDocument) (o : Option EventPlace)
       → last_or o (events_on ons) ≡ option_or (last_or None (events_on ons)) o
   later [] o = refl
   later (on ∷ ons) o = by_test (is_on uri on) (later ons)
     where
-      rest : List (Option ℕ)
+      rest : List (Option EventPlace)
       rest = events_on ons
 
       by_test : (b : Bool)
-          → ((p : Option ℕ) → last_or p rest ≡ option_or (last_or None rest) p)
-          → last_or o (with_event b on.event rest)
-          ≡ option_or (last_or None (with_event b on.event rest)) o
-      by_test true ih = ih (Some on.event) ∙ once (last_or None rest) on.event o
-          ∙ ap (λ (x : Option ℕ). option_or x o) (sym (ih (Some on.event)))
+          → ((p : Option EventPlace) → last_or p rest ≡ option_or (last_or None rest) p)
+          → last_or o (with_event b on.place rest)
+          ≡ option_or (last_or None (with_event b on.place rest)) o
+      by_test true ih = ih (Some on.place) ∙ once (last_or None rest) on.place o
+          ∙ ap (λ (x : Option EventPlace). option_or x o) (sym (ih (Some on.place)))
       by_test false ih = ih o
 
-  in_turn : (first second : List OnDocument) (o : Option ℕ)
+  in_turn : (first second : List OnDocument) (o : Option EventPlace)
       → last_or o (events_on (first ++ second))
       ≡ last_or (last_or o (events_on first)) (events_on second)
   in_turn [] second o = refl
   in_turn (on ∷ first) second o = by_test (is_on uri on) (in_turn first second)
     where
       by_test : (b : Bool)
-          → ((p : Option ℕ) → last_or p (events_on (first ++ second))
+          → ((p : Option EventPlace) → last_or p (events_on (first ++ second))
           ≡ last_or (last_or p (events_on first)) (events_on second))
-          → last_or o (with_event b on.event (events_on (first ++ second)))
-          ≡ last_or (last_or o (with_event b on.event (events_on first))) (events_on second)
-      by_test true ih = ih (Some on.event)
+          → last_or o (with_event b on.place (events_on (first ++ second)))
+          ≡ last_or (last_or o (with_event b on.place (events_on first))) (events_on second)
+      by_test true ih = ih (Some on.place)
       by_test false ih = ih o
 
   -- the last one in the second part, or else in the first

@@ -9,7 +9,7 @@ use Rattle.lsp_replay.specs.Standing.{Holds}
 use Rattle.lsp_session.specs.State as session
 use Rattle.lsp_rpc.specs.Ident.{id_view}
 use Rattle.lsp_rpc.specs.Message.{Message}
-use Rattle.lsp_survey.specs.Notes.{note_of, note_after, Leaves, is_noted_lost}
+use Rattle.lsp_survey.specs.Notes.{Leaves, is_noted_lost}
 use Rattle.lsp_survey.specs.Marks.{AreMarks}
 use Rattle.lsp_survey.specs.Openings.{AreOpenings}
 use Rattle.lsp_survey.specs.Passed.{ArePassed}
@@ -18,7 +18,6 @@ use Rattle.lsp_survey.specs.SessionNoting.{AreNotes}
 use Rattle.lsp_survey.specs.Walking.{WalksBy, Walks, offence_of, PassesOver}
 use Rattle.lsp_survey.specs.Walking.{IsOffending, Offends, IsHeard, Hears}
 use Rattle.lsp_survey.specs.declared.notes.marks.Marks.{Marks}
-use Rattle.lsp_survey.specs.declared.notes.note.Note.{Note}
 use Rattle.lsp_survey.specs.declared.notes.openings.Openings.{Openings}
 use Rattle.lsp_survey.specs.declared.offending.Judged.{Judged}
 use Rattle.lsp_survey.specs.declared.offending.Judged.TheVariants as heard
@@ -33,7 +32,8 @@ use Rattle.lsp_verdict.specs.Event.{Event}
 use Rattle.lsp_verdict.specs.Given.{given_offence}
 use Rattle.lsp_verdict.specs.LookBack.{first_of}
 use Rattle.lsp_verdict.specs.Offences.{Noted, IsNoted, asks, breaks_handshake, broken_by}
-use Rattle.lsp_verdict.specs.Offences.{brought_by, events_of, follows_bytes, held_in, is_on_lost}
+use Rattle.lsp_verdict.specs.Offences.{brought_by, events_of, follows_bytes, is_lost, is_on_lost}
+use Rattle.lsp_verdict.specs.Offences.{is_reopened, left_by}
 use Rattle.lsp_verdict.specs.Offences.{kept_of}
 use Rattle.lsp_verdict.specs.Offences.{answered_by, asked_by, follows_passed, is_passed}
 use Rattle.lsp_verdict.specs.Offences.{may_answer, passes, rule_at}
@@ -50,14 +50,6 @@ use Rattle.lsp_verdict.proofs.Offences.Steps.{broken-push, events_of-push, is_lo
 use Rattle.lsp_verdict.proofs.Offences.Steps.{is_passed-push, kept-push, kept-refused}
 
 -- ---- what is noted
-
-note_pushed : (terms : Terms) (uri : List ℕ) (notes : List Noted) (n : Noted)
-    → note_of terms uri (notes ++ n ∷ [])
-    ≡ note_after (rule_at terms (events_of notes) n.event) (option_and_then brought_by n.malformed)
-    (held_in terms (calls (kept_of terms (events_of notes))) (said_at terms (events_of notes) n.event))
-    (said_at terms (events_of notes) n.event) uri (note_of terms uri notes)
-note_pushed terms uri notes n =
-    ap (λ (b : Bool). let m : Note = record { lost = b } in m) (is_lost-push terms uri notes n)
 
 -- an event that offends by this rule, or is kept, breaks the handshake
 abbrev breaks_by : Option ℕ → Option Message → Bool → Bool
@@ -92,7 +84,7 @@ pub noted_lost : (terms : Terms) (w : Replay) (notes : List Noted) (said : Optio
     → WalksBy terms w notes → is_noted_lost w.notes.map.entries said
     ≡ is_on_lost terms notes said
 noted_lost terms w notes None walks = refl
-noted_lost terms w notes (Some call) walks = ap (λ (n : Note). n.lost) (walks.noted _)
+noted_lost terms w notes (Some call) walks = walks.noted _
 
 -- ---- one more event
 
@@ -110,7 +102,7 @@ record Steps (terms : Terms) (old new : Replay) (notes : List Noted) (n : Noted)
   pub sides : new.sides ≡ sides_after n.event old.sides
   pub passed : ArePassed rule n.event n.malformed old.passed new.passed
   pub noted : Leaves rule (option_and_then brought_by n.malformed)
-      (held_in terms (calls (kept_of terms (events_of notes))) said) said
+      (is_reopened terms (calls (kept_of terms (events_of notes))) said) said
       old.notes.map.entries new.notes.map.entries
   pub marked : AreMarks terms new.marks.map.entries (events_of notes ++ n.event ∷ [])
   pub opened : AreOpenings terms new.openings (events_of notes ++ n.event ∷ [])
@@ -126,13 +118,16 @@ walks_on terms old new notes n rule said walks s =
       noted = λ uri.
           let brought = option_and_then brought_by n.malformed in
           let made = calls (kept_of terms (events_of notes)) in
+          let was = is_lost terms uri notes in
           s.noted uri
-          ∙ ap (note_after rule brought (held_in terms made said) said uri) (walks.noted uri)
-          ∙ ap (λ (o : Option ℕ). note_after o brought (held_in terms made said) said uri
-          (note_of terms uri notes)) (sym s.rule_is)
-          ∙ ap (λ (o : Option Call). note_after (rule_at terms (events_of notes) n.event) brought
-          (held_in terms made o) o uri (note_of terms uri notes)) (sym s.said_is)
-          ∙ sym (note_pushed terms uri notes n);
+          ∙ ap (unwrap_or (left_by uri rule brought (is_reopened terms made said) said))
+          (walks.noted uri)
+          ∙ ap (λ (o : Option ℕ). unwrap_or
+          (left_by uri o brought (is_reopened terms made said) said) was) (sym s.rule_is)
+          ∙ ap (λ (o : Option Call). unwrap_or
+          (left_by uri (rule_at terms (events_of notes) n.event) brought
+          (is_reopened terms made o) o) was) (sym s.said_is)
+          ∙ sym (is_lost-push terms uri notes n);
       is_broken =
           s.is_broken
           ∙ ap (λ (b : Bool). b || breaks_by rule n.malformed
@@ -254,7 +249,7 @@ pub kept_on : (raw : Raw) (old new : Replay) (notes : List Noted) (n : Noted) (s
     (kept_of old.events.docs.terms (events_of notes) ++ n.event ∷ [])
     → AreCounts new.events.counts (events_of notes ++ n.event ∷ []) → new.broken ≡ old.broken
     → new.sides ≡ sides_after n.event old.sides → new.passed ≡ old.passed
-    → Leaves None (option_and_then brought_by n.malformed) None said old.notes.map.entries
+    → Leaves None (option_and_then brought_by n.malformed) false said old.notes.map.entries
     new.notes.map.entries
     → AreMarks old.events.docs.terms new.marks.map.entries (events_of notes ++ n.event ∷ [])
     → AreOpenings old.events.docs.terms new.openings (events_of notes ++ n.event ∷ [])

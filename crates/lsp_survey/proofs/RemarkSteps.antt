@@ -5,7 +5,7 @@ use Rattle.std.specs.List.{cons_option, filter_map, list_any}
 use Rattle.std.specs.Option.{option_or}
 use Rattle.std.specs.Str.{bytes_eq}
 use Rattle.std.proofs.Common.{◌≡◌, ℕ, Bool, List, [], ◌∷◌, ◌++◌, Option, Some, None, inl, inr, refl}
-use Rattle.std.proofs.Common.{sym, ap, ◌∙◌, append-nil, append_assoc}
+use Rattle.std.proofs.Common.{sym, ap, ◌∙◌, append-nil}
 use Rattle.std.proofs.lemmas.List.{map-append}
 use Rattle.std.proofs.lemmas.List.Elements.{filter_map-append}
 use Rattle.std.proofs.lemmas.Option.{same_Some}
@@ -15,11 +15,11 @@ use Rattle.lsp_rpc.specs.Ident.{Ident}
 use Rattle.lsp_rpc.specs.Message.{Message, request, notification, response, result, error}
 use Rattle.lsp_rpc.specs.Outline.{outline, without_params}
 use Rattle.lsp_session.specs.Handshake.{Settled, first_settled, is_done, offer_to, open_initializes}
-use Rattle.lsp_session.specs.Handshake.{first_settled_from, phase, result_of, settled_among}
+use Rattle.lsp_session.specs.Handshake.{phase, result_of, settled_among}
 use Rattle.lsp_session.specs.Handshake.{settled_at, settled_by}
 use Rattle.lsp_session.specs.OpenInitialize.{Initialize}
 use Rattle.lsp_session.specs.Sent.{Sent, answered_from}
-use Rattle.lsp_session.proofs.Steps.{option_or-assoc, option_or-none}
+use Rattle.lsp_session.proofs.Steps.{first_settled_from-push}
 use Rattle.lsp_types.specs.declared.side.Side.{Side}
 use Rattle.lsp_types.specs.declared.side.Side.TheVariants.{Editor}
 use Rattle.lsp_verdict.specs.LookBack.{each_of}
@@ -31,6 +31,7 @@ use Rattle.lsp_survey.specs.Misuses.{Misused, has_method, misuse_at, misuse_in, 
 use Rattle.lsp_survey.specs.Misuses.{misuses, misuses_after, with_misuse}
 use Rattle.lsp_survey.specs.Remarks.{AreRemarks, Remarked, abrupt, abrupt_by, older_encoding}
 use Rattle.lsp_survey.specs.Remarks.{older_held, older_in, older_of}
+use Rattle.lsp_replay.specs.declared.heard.EventPlace.{EventPlace}
 use Rattle.lsp_survey.specs.declared.notes.misuses.Misused as code
 use Rattle.lsp_survey.specs.declared.notes.remarks.Remarks.{Remarks}
 
@@ -53,12 +54,12 @@ held_named name [] = refl
 held_named name (x ∷ xs) =
     ap (λ b. bytes_eq (string_bytes x.method) name || b) (held_named name xs)
 
-misuse-outline : (n : ℕ) (side : Side) (m : Message)
-    → misuse_in n side m ≡ misuse_in n side (outline m)
-misuse-outline n side (request own method params) = refl
-misuse-outline n side (notification method params) = refl
-misuse-outline n side (response own (result value)) = refl
-misuse-outline n side (response own (error code)) = refl
+misuse-outline : (p : EventPlace) (side : Side) (m : Message)
+    → misuse_in p side m ≡ misuse_in p side (outline m)
+misuse-outline p side (request own method params) = refl
+misuse-outline p side (notification method params) = refl
+misuse-outline p side (response own (result value)) = refl
+misuse-outline p side (response own (error code)) = refl
 
 misuses_after-push : (found xs : List Misused) (x : Misused)
     → misuses_after found (xs ++ x ∷ []) ≡ with_misuse (misuses_after found xs) (Some x)
@@ -76,16 +77,16 @@ misuses-push said m =
     by_one None = ap (misuses_after []) (append-nil (filter_map misuse_at said))
     by_one (Some x) = misuses_after-push [] (filter_map misuse_at said) x
 
-misuse_more : (n : ℕ) (m : Sent) (said : Message) (before : List Numbered)
+misuse_more : (p : EventPlace) (m : Sent) (said : Message) (before : List Numbered)
     (old new : List Misused) → outline m.message ≡ outline said → old ≡ misuses before
-    → new ≡ with_misuse old (misuse_in n m.side said)
-    → new ≡ misuses (before ++ numbered_as n m ∷ [])
-misuse_more n m said before old new same are more =
+    → new ≡ with_misuse old (misuse_in p m.side said)
+    → new ≡ misuses (before ++ numbered_as p m ∷ [])
+misuse_more p m said before old new same are more =
     more
-    ∙ ap (λ (w : List Misused). with_misuse w (misuse_in n m.side said)) are
-    ∙ ap (with_misuse (misuses before)) (misuse-outline n m.side said
-    ∙ sym (ap (misuse_in n m.side) same) ∙ sym (misuse-outline n m.side m.message))
-    ∙ sym (misuses-push before (numbered_as n m))
+    ∙ ap (λ (w : List Misused). with_misuse w (misuse_in p m.side said)) are
+    ∙ ap (with_misuse (misuses before)) (misuse-outline p m.side said
+    ∙ sym (ap (misuse_in p m.side) same) ∙ sym (misuse-outline p m.side m.message))
+    ∙ sym (misuses-push before (numbered_as p m))
 
 -- ---- the older `offsetEncoding`
 
@@ -112,20 +113,6 @@ settles opens side m said s is (inr same) =
     by_parts (Some offer) (Some value) e =
         ap (λ (w : Settled). let o : Option Data = Some w.value in o) (same_Some _ s e)
 
--- the result that settles it is that of the first of them, or this one
-settled-push : (before h : List Sent) (m : Sent)
-    → first_settled_from before (h ++ m ∷ [])
-    ≡ option_or (first_settled_from before h) (settled_by (before ++ h) m)
-settled-push before [] m =
-    option_or-none (settled_by before m)
-    ∙ ap (λ (l : List Sent). settled_by l m) (sym (append-nil before))
-settled-push before (x ∷ h) m =
-    ap (option_or (settled_by before x)) (settled-push (before ++ x ∷ []) h m)
-    ∙ option_or-assoc (settled_by before x) (first_settled_from (before ++ x ∷ []) h)
-    (settled_by ((before ++ x ∷ []) ++ h) m)
-    ∙ ap (λ (l : List Sent). option_or (first_settled_from before (x ∷ h)) (settled_by l m))
-    (append_assoc before (x ∷ []) h)
-
 abbrev older_by : Option Settled → Option (List ℕ)
 older_by o = option_and_then (λ s. older_in s.value) o
 
@@ -142,21 +129,22 @@ older_more None (Some s) said old new has are more =
 -- ---- one message more
 
 -- **what is held stands for it too**
-pub remarked : (n : ℕ) (m : Sent) (said : Message) (before : List Numbered) (old new : Remarks)
+pub remarked : (p : EventPlace) (m : Sent) (said : Message) (before : List Numbered)
+    (old new : Remarks)
     → outline m.message ≡ outline said
     → (open_initializes (sents before) ≡ []) ⊎ (said ≡ without_params m.message)
     → AreRemarks old before
-    → Remarked n m.side said (phase (sents before)) (phase (sents (before ++ numbered_as n m ∷ [])))
-    (is_done (sents (before ++ numbered_as n m ∷ []))) old new
-    → AreRemarks new (before ++ numbered_as n m ∷ [])
-remarked n m said before old new same has_value are more = record {
-  misuses_are = misuse_more n m said before (misused_views old.misuses.items)
+    → Remarked p m.side said (phase (sents before)) (phase (sents (before ++ numbered_as p m ∷ [])))
+    (is_done (sents (before ++ numbered_as p m ∷ []))) old new
+    → AreRemarks new (before ++ numbered_as p m ∷ [])
+remarked p m said before old new same has_value are more = record {
+  misuses_are = misuse_more p m said before (misused_views old.misuses.items)
       (misused_views new.misuses.items) same are.misuses_are more.misuses_are;
   abrupt_is =
       more.abrupt_is
-      ∙ ap (unwrap_or (abrupt_by before (numbered_as n m))) are.abrupt_is
-      ∙ sym (ap (last_or None) (each_of-snoc abrupt_by before (numbered_as n m))
-      ∙ last_behind None (each_of abrupt_by before) (abrupt_by before (numbered_as n m)));
+      ∙ ap (unwrap_or (abrupt_by before (numbered_as p m))) are.abrupt_is
+      ∙ sym (ap (last_or None) (each_of-snoc abrupt_by before (numbered_as p m))
+      ∙ last_behind None (each_of abrupt_by before) (abrupt_by before (numbered_as p m)));
   done_is = more.done_is;
   older_is =
       older_more (first_settled (sents before)) by said (older_held old) (older_held new)
@@ -170,7 +158,7 @@ remarked n m said before old new same has_value are more = record {
     by : Option Settled
     by = settled_by (sents before) m
 
-    settled : first_settled (sents (before ++ numbered_as n m ∷ []))
+    settled : first_settled (sents (before ++ numbered_as p m ∷ []))
         ≡ option_or (first_settled (sents before)) by
-    settled = ap first_settled (map-append (λ (x : Numbered). x.sent) before (numbered_as n m ∷ []))
-        ∙ settled-push [] (sents before) m
+    settled = ap first_settled (map-append (λ (x : Numbered). x.sent) before (numbered_as p m ∷ []))
+        ∙ first_settled_from-push [] (sents before) m

@@ -25,25 +25,27 @@ use Rattle.lsp_survey.specs.Asking.{Numbered, Reply, numbered_as, numbered_by, n
 use Rattle.lsp_survey.specs.Asking.{numbered, sents, asks, asks_by, reply_by, reply_of, replies}
 use Rattle.lsp_survey.specs.Asking.{most_replies, leads, leads_by}
 use Rattle.lsp_survey.specs.LastOnes.{last_ones}
-use Rattle.lsp_survey.specs.Marking.{number_next}
+use Rattle.lsp_replay.specs.Places.{place_of}
 use Rattle.lsp_survey.specs.Remarks.{Remarked}
 use Rattle.lsp_survey.specs.SessionNoting.{asked_in, Exchanges, IsExchange, SaysOn, SessionStands}
 use Rattle.lsp_survey.specs.SessionNoting.{AreNotes}
 use Rattle.lsp_survey.specs.declared.notes.exchange.Exchange.{Exchange}
+use Rattle.lsp_replay.specs.declared.heard.EventPlace.{EventPlace}
 use Rattle.lsp_survey.specs.declared.notes.session_notes.SessionNotes.{SessionNotes}
 use Rattle.lsp_survey.proofs.RemarkSteps.{filter_map-snoc, remarked}
 
 -- ---- the kept messages
 
-sent_more : (n : ℕ) (rule : Option ℕ) (e : Event) (kept : List Event) (said : List Numbered)
+sent_more : (p : EventPlace) (rule : Option ℕ) (e : Event) (kept : List Event)
+    (said : List Numbered)
     → sent_in kept ≡ sents said
     → sent_in (cons_option (if is_some rule then None else Some e) kept)
-    ≡ sents (cons_option (numbered_by n rule (sent_of e)) said)
-sent_more n (Some rule) e kept said same = same
-sent_more n None e kept said same = by_sent (sent_of e)
+    ≡ sents (cons_option (numbered_by p rule (sent_of e)) said)
+sent_more p (Some rule) e kept said same = same
+sent_more p None e kept said same = by_sent (sent_of e)
   where
     by_sent : (o : Option Sent)
-        → cons_option o (sent_in kept) ≡ sents (cons_option (option_map (numbered_as n) o) said)
+        → cons_option o (sent_in kept) ≡ sents (cons_option (option_map (numbered_as p) o) said)
     by_sent None = same
     by_sent (Some m) = ap (λ (ms : List Sent). m ∷ ms) same
 
@@ -51,7 +53,7 @@ sents_from : (terms : Terms) (front xs : List Event)
     → sent_in (each_from (kept_at terms) front xs) ≡ sents (each_from (numbered_at terms) front xs)
 sents_from terms front [] = refl
 sents_from terms front (e ∷ xs) =
-    sent_more (number_next front) (rule_at terms front e) e
+    sent_more (place_of front e) (rule_at terms front e) e
     (each_from (kept_at terms) (front ++ e ∷ []) xs)
     (each_from (numbered_at terms) (front ++ e ∷ []) xs) (sents_from terms (front ++ e ∷ []) xs)
 
@@ -63,12 +65,12 @@ sents-numbered terms events =
 
 -- ---- what a message says of requests, apart from its params and its result
 
-asks-outline : (side : Side) (id : Ident) (n : ℕ) (sender : Side) (m : Message)
-    → asks side id n sender m ≡ asks side id n sender (outline m)
-asks-outline side id n sender (request own method params) = refl
-asks-outline side id n sender (notification method params) = refl
-asks-outline side id n sender (response own (result value)) = refl
-asks-outline side id n sender (response own (error code)) = refl
+asks-outline : (side : Side) (id : Ident) (p : EventPlace) (sender : Side) (m : Message)
+    → asks side id p sender m ≡ asks side id p sender (outline m)
+asks-outline side id p sender (request own method params) = refl
+asks-outline side id p sender (notification method params) = refl
+asks-outline side id p sender (response own (result value)) = refl
+asks-outline side id p sender (response own (error code)) = refl
 
 answered-outline : (side sender : Side) (m : Message)
     → answered_from side sender m ≡ answered_from side sender (outline m)
@@ -83,36 +85,38 @@ as_list : {A : Type 0} (o : Option A) → option_to_list o ≡ cons_option o []
 as_list None = refl
 as_list (Some x) = refl
 
-module _ (side : Side) (n : ℕ) (m : Sent) (said : Message) (same : outline m.message ≡ outline said)
+module _ (side : Side) (p : EventPlace) (m : Sent) (said : Message)
+    (same : outline m.message ≡ outline said)
   where
-    same_asks : (id : Ident) → asks side id n m.side said ≡ asks side id n m.side m.message
-    same_asks id = asks-outline side id n m.side said ∙ sym (ap (asks side id n m.side) same)
-        ∙ sym (asks-outline side id n m.side m.message)
+    same_asks : (id : Ident) → asks side id p m.side said ≡ asks side id p m.side m.message
+    same_asks id = asks-outline side id p m.side said ∙ sym (ap (asks side id p m.side) same)
+        ∙ sym (asks-outline side id p m.side m.message)
 
     same_answered : answered_from side m.side said ≡ answered_from side m.side m.message
     same_answered = answered-outline side m.side said ∙ sym (ap (answered_from side m.side) same)
         ∙ sym (answered-outline side m.side m.message)
 
     exchanged : (old new : Exchange) (before : List Numbered) → IsExchange side old before
-        → Exchanges side n m.side said old new
-        → IsExchange side new (before ++ numbered_as n m ∷ [])
+        → Exchanges side p m.side said old new
+        → IsExchange side new (before ++ numbered_as p m ∷ [])
     exchanged old new before is more = record {
       asked_is = λ k.
           more.asked k
-          ∙ ap (λ (o : Option (Option ℕ)). unwrap_or o (asked_in old.asked.entries (id_view k)))
+          ∙ ap (λ (o : Option (Option EventPlace)).
+          unwrap_or o (asked_in old.asked.entries (id_view k)))
           (same_asks (id_view k))
-          ∙ ap (unwrap_or (asks side (id_view k) n m.side m.message)) (is.asked_is k)
+          ∙ ap (unwrap_or (asks side (id_view k) p m.side m.message)) (is.asked_is k)
           ∙ sym (ap (last_or None) (filter_map-snoc (asks_by side (id_view k)) before
-          (numbered_as n m)) ∙ last_behind None (filter_map (asks_by side (id_view k)) before)
-          (asks side (id_view k) n m.side m.message));
+          (numbered_as p m)) ∙ last_behind None (filter_map (asks_by side (id_view k)) before)
+          (asks side (id_view k) p m.side m.message));
       replies_are =
           more.replies (replies side before) is.replies_are
           ∙ ap (λ (o : Option Ident). last_ones most_replies
-          (replies side before ++ option_to_list (reply_of n o))) same_answered
+          (replies side before ++ option_to_list (reply_of p o))) same_answered
           ∙ ap (λ (l : List Reply). last_ones most_replies (replies side before ++ l))
-          (as_list (reply_of n (answered_from side m.side m.message)))
+          (as_list (reply_of p (answered_from side m.side m.message)))
           ∙ ap (last_ones most_replies)
-          (sym (filter_map-snoc (reply_by side) before (numbered_as n m)));
+          (sym (filter_map-snoc (reply_by side) before (numbered_as p m)));
     }
 
 -- ---- one event more
@@ -137,7 +141,7 @@ pub refused_unsaid : (terms : Terms) (s : SessionNotes) (before : List Event) (e
     → AreNotes terms s (before ++ e ∷ [])
 refused_unsaid terms s before e rule are is =
     said_none terms s before e are
-    (ap (λ (o : Option ℕ). numbered_by (number_next before) o (sent_of e)) is)
+    (ap (λ (o : Option ℕ). numbered_by (place_of before e) o (sent_of e)) is)
 
 -- so they stand for those before it
 pub refused_notes : (terms : Terms) (s : SessionNotes) (before : List Event) (e : Event) (rule : ℕ)
@@ -146,7 +150,7 @@ pub refused_notes : (terms : Terms) (s : SessionNotes) (before : List Event) (e 
 refused_notes terms s before e rule are is =
     subst (SessionStands s) (numbered-push terms before e
     ∙ ap (λ (o : Option ℕ). numbered terms before ++ cons_option
-    (numbered_by (number_next before) o (sent_of e)) []) is
+    (numbered_by (place_of before e) o (sent_of e)) []) is
     ∙ append-nil (numbered terms before)) are
 
 -- so does one that is no message
@@ -154,47 +158,49 @@ pub other_unsaid : (terms : Terms) (s : SessionNotes) (before : List Event) (e :
     → AreNotes terms s before → sent_of e ≡ None → AreNotes terms s (before ++ e ∷ [])
 other_unsaid terms s before e are is =
     said_none terms s before e are
-    (ap (numbered_by (number_next before) (rule_at terms before e)) is
+    (ap (numbered_by (place_of before e) (rule_at terms before e)) is
     ∙ by_rule (rule_at terms before e))
   where
-    by_rule : (o : Option ℕ) → numbered_by (number_next before) o None ≡ None
+    by_rule : (o : Option ℕ) → numbered_by (place_of before e) o None ≡ None
     by_rule None = refl
     by_rule (Some rule) = refl
 
 -- **a message that is kept**
 pub message_noted : (terms : Terms) (old new : SessionNotes) (before : List Event) (m : Sent)
-    (said : Message) (n : ℕ) → AreNotes terms old before → rule_at terms before (message m) ≡ None
-    → n ≡ number_next before → outline m.message ≡ outline said
+    (said : Message) (p : EventPlace) → AreNotes terms old before
+    → rule_at terms before (message m) ≡ None
+    → p ≡ place_of before (message m) → outline m.message ≡ outline said
     → HasValue (kept_of terms before) said m.message
-    → SaysOn n m.side said (sent_in (kept_of terms (before ++ message m ∷ []))) old new
+    → SaysOn p m.side said (sent_in (kept_of terms (before ++ message m ∷ []))) old new
     → AreNotes terms new (before ++ message m ∷ [])
-message_noted terms old new before m said n are kept number same has_value says =
+message_noted terms old new before m said p are kept number same has_value says =
     subst (SessionStands new) (sym whole) (record {
-      editor = exchanged Editor n m said same old.editor new.editor ms are.editor says.editor;
-      server = exchanged Server n m said same old.server new.server ms are.server says.server;
+      editor = exchanged Editor p m said same old.editor new.editor ms are.editor says.editor;
+      server = exchanged Server p m said same old.server new.server ms are.server says.server;
       phase_is = says.phase_is ∙ behind;
       since_is =
           says.since_is
-          ∙ (λ i. unwrap_or (leads n (are.phase_is i) (behind i)) (are.since_is i))
-          ∙ sym (ap (last_or None) (each_of-snoc leads_by ms (numbered_as n m))
-          ∙ last_behind None (each_of leads_by ms) (leads_by ms (numbered_as n m)));
-      remarks_are = remarked n m said ms old.remarks new.remarks same value are.remarks_are
-          (subst (λ (p : Phase). Remarked n m.side said p (phase sents_behind)
+          ∙ (λ i. unwrap_or (leads p (are.phase_is i) (behind i)) (are.since_is i))
+          ∙ sym (ap (last_or None) (each_of-snoc leads_by ms (numbered_as p m))
+          ∙ last_behind None (each_of leads_by ms) (leads_by ms (numbered_as p m)));
+      remarks_are = remarked p m said ms old.remarks new.remarks same value are.remarks_are
+          (subst (λ (q : Phase). Remarked p m.side said q (phase sents_behind)
           (is_done sents_behind) old.remarks new.remarks) are.phase_is more);
     })
   where
     ms : List Numbered
     ms = numbered terms before
 
-    whole : numbered terms (before ++ message m ∷ []) ≡ ms ++ numbered_as n m ∷ []
+    whole : numbered terms (before ++ message m ∷ []) ≡ ms ++ numbered_as p m ∷ []
     whole =
         numbered-push terms before (message m)
-        ∙ ap (λ (o : Option ℕ). ms ++ cons_option (numbered_by (number_next before) o (Some m)) [])
+        ∙ ap (λ (o : Option ℕ). ms ++ cons_option
+        (numbered_by (place_of before (message m)) o (Some m)) [])
         kept
-        ∙ ap (λ (k : ℕ). ms ++ numbered_as k m ∷ []) (sym number)
+        ∙ ap (λ (k : EventPlace). ms ++ numbered_as k m ∷ []) (sym number)
 
     sents_behind : List Sent
-    sents_behind = sents (ms ++ numbered_as n m ∷ [])
+    sents_behind = sents (ms ++ numbered_as p m ∷ [])
 
     sents_are : sent_in (kept_of terms (before ++ message m ∷ [])) ≡ sents_behind
     sents_are = sym (sents-numbered terms (before ++ message m ∷ [])) ∙ ap sents whole
@@ -206,7 +212,7 @@ message_noted terms old new before m said n are kept number same has_value says 
     value = subst (λ (l : List Sent). (open_initializes l ≡ []) ⊎ (said ≡ without_params m.message))
         (sym (sents-numbered terms before)) has_value
 
-    more : Remarked n m.side said old.phase (phase sents_behind) (is_done sents_behind) old.remarks
+    more : Remarked p m.side said old.phase (phase sents_behind) (is_done sents_behind) old.remarks
         new.remarks
-    more = subst (λ (l : List Sent). Remarked n m.side said old.phase (phase l) (is_done l)
+    more = subst (λ (l : List Sent). Remarked p m.side said old.phase (phase l) (is_done l)
         old.remarks new.remarks) sents_are says.remarked

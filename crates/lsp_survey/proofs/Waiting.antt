@@ -4,12 +4,13 @@ use Rattle.std.specs.Global.{Global}
 use Rattle.std.specs.Map.{lookup}
 use Rattle.std.specs.Ordering.{int_eq, int_cmp, is_gt}
 use Rattle.std.proofs.lemmas.Int.{ints}
-use Rattle.std.proofs.Common.{◌≡◌, ℕ, true, false, List, Option, Some, None, Vec, refl, sym, ◌∙◌}
+use Rattle.std.proofs.Common.{◌≡◌, true, false, List, Option, Some, None, Vec, refl, sym, ◌∙◌}
 use Rattle.std.proofs.Common.{arith, true≢false}
 use Rattle.lsp_survey.specs.Marks.{waiting_in}
+use Rattle.lsp_replay.specs.declared.heard.EventPlace.{EventPlace}
 
 abbrev Entries : Type 0
-Entries = List (ℤ × Vec ℕ Global)
+Entries = List (ℤ × Vec EventPlace Global)
 
 -- ---- the least ones are dropped
 
@@ -28,7 +29,8 @@ pub none_reached : (version least : ℤ) (es : Entries) → not (int_lt version 
 none_reached version least es reached lower number less =
     by_look (lookup (int_eq number) es) (lower number)
   where
-    by_look : (o : Option (Vec ℕ Global)) → (IsSome o → is_gt (int_cmp least number) ≡ false)
+    by_look : (o : Option (Vec EventPlace Global))
+        → (IsSome o → is_gt (int_cmp least number) ≡ false)
         → o ≡ None
     by_look None h = refl
     by_look (Some v) h = absurd (true≢false

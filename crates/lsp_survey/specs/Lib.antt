@@ -4,6 +4,7 @@ pub mod LastOnes
 pub mod Asking
 pub mod Marking
 pub mod Marks
+pub mod Touched
 pub mod Openings
 pub mod StandardMethods
 pub mod Misuses

@@ -20,48 +20,47 @@ use Rattle.lsp_verdict.specs.Event.{Event}
 use Rattle.lsp_verdict.specs.LookBack.{each_of}
 use Rattle.lsp_verdict.specs.Offences.{kept_of, rule_at, said_at}
 use Rattle.lsp_survey.specs.LastOnes.{last_ones, with_room}
+use Rattle.lsp_replay.specs.Places.{place_of}
 use Rattle.lsp_survey.specs.declared.notes.mark.Setter.{Setter}
 use Rattle.lsp_survey.specs.declared.notes.mark.Shown.{Shown}
 use Rattle.lsp_survey.specs.declared.notes.mark.Touch.{Touch}
 use Rattle.lsp_survey.specs.declared.notes.mark.Touch.TheVariants.{Reached, Compared, Awaited}
+use Rattle.lsp_replay.specs.declared.heard.EventPlace.{EventPlace}
 
 -- ---- what a kept event does to a document
 
--- it touches it, by the event of this number and at this version; or it closes it
+-- it touches it, by the event of this place and at this version; or it closes it
 pub data Step : Type 0 where
-  touches : Touch → ℕ → ℤ → Step
+  touches : Touch → EventPlace → ℤ → Step
   closed : Step
 
--- the number of the event that comes after these, as far as 64 bits tell it
-abbrev pub number_next : List Event → ℕ
-number_next before = capped (length before + 1)
-
 -- a snapshot of this version, as it was answered
-abbrev pub shown_step : ℕ → ℤ → Match → Option Step
-shown_step n number Equal = Some (touches Compared n number)
-shown_step n number Waits = Some (touches Awaited n number)
-shown_step n number Missed = None
+abbrev pub shown_step : EventPlace → ℤ → Match → Option Step
+shown_step p number Equal = Some (touches Compared p number)
+shown_step p number Waits = Some (touches Awaited p number)
+shown_step p number Missed = None
 
--- what a call does, by the event of this number, after these calls
-abbrev pub step_of : Terms → ℕ → List Call → Call → Option Step
-step_of terms n before (opens uri number text) = Some (touches Reached n number)
-step_of terms n before (changes enc kind uri number edits) = Some (touches Reached n number)
-step_of terms n before (closes uri) = Some closed
-step_of terms n before (saves uri text) = None
-step_of terms n before (shows uri number text) =
-    shown_step n number (answer_of number (kept terms uri before) (held terms uri before))
+-- what a call does, by the event of this place, after these calls
+abbrev pub step_of : Terms → EventPlace → List Call → Call → Option Step
+step_of terms p before (opens uri number text) = Some (touches Reached p number)
+step_of terms p before (changes enc kind uri number edits) = Some (touches Reached p number)
+step_of terms p before (closes uri) = Some closed
+step_of terms p before (saves uri text) = None
+step_of terms p before (shows uri number text) =
+    shown_step p number (answer_of number (kept terms uri before) (held terms uri before))
 
--- what an event does to the document of this URI, where it offends by the rule or is kept, and says
--- this of a document
-abbrev pub step_by : Terms → List ℕ → List Event → Option ℕ → Option Call → Option Step
-step_by terms uri before (Some rule) said = None
-step_by terms uri before None said =
-    option_and_then (λ call. if bytes_eq uri (uri_of call) then step_of terms (number_next before)
+-- what the event of this place does to the document of this URI, where it offends by the rule or is
+-- kept, and says this of a document
+abbrev pub step_by : Terms → List ℕ → List Event → EventPlace → Option ℕ → Option Call → Option Step
+step_by terms uri before p (Some rule) said = None
+step_by terms uri before p None said =
+    option_and_then (λ call. if bytes_eq uri (uri_of call) then step_of terms p
     (calls (kept_of terms before)) call else None) said
 
 abbrev pub step_at : Terms → List ℕ → List Event → Event → Option Step
 step_at terms uri before event =
-    step_by terms uri before (rule_at terms before event) (said_at terms before event)
+    step_by terms uri before (place_of before event) (rule_at terms before event)
+    (said_at terms before event)
 
 -- **all that the kept events did to the document of this URI**, in order
 abbrev pub steps : Terms → List ℕ → List Event → List Step
@@ -70,7 +69,7 @@ steps terms uri events = each_of (step_at terms uri) events
 -- ---- the messages that set its versions
 
 abbrev pub is_end : Step → Bool
-is_end (touches touch n number) = false
+is_end (touches touch p number) = false
 is_end closed = true
 
 -- the steps of the standing opening
@@ -81,9 +80,9 @@ standing (step ∷ later) =
 
 -- the step sets a version
 abbrev pub sets : Step → Bool
-sets (touches Reached n number) = true
-sets (touches Compared n number) = false
-sets (touches Awaited n number) = false
+sets (touches Reached p number) = true
+sets (touches Compared p number) = false
+sets (touches Awaited p number) = false
 sets closed = false
 
 -- how many versions an opening of these steps had, as far as 64 bits count them
@@ -92,15 +91,15 @@ rank_after opening = capped (length (filter sets opening))
 
 -- the message that a step is which sets a version, after these of its opening
 abbrev pub setter_at : List Step → Step → Option Setter
-setter_at opening (touches Reached n number) =
+setter_at opening (touches Reached p number) =
     Some (record {
-      event = n;
+      place = p;
       version = number;
       rank = rank_after
-          (opening ++ touches Reached n number ∷ []);
+          (opening ++ touches Reached p number ∷ []);
     })
-setter_at opening (touches Compared n number) = None
-setter_at opening (touches Awaited n number) = None
+setter_at opening (touches Compared p number) = None
+setter_at opening (touches Awaited p number) = None
 setter_at opening closed = None
 
 -- **the messages that set the versions of the standing opening**, in order
@@ -138,44 +137,44 @@ rank_or rank done = rank_by rank (last_setter done)
 
 -- the document reaches a version that is not below this one, or is closed
 abbrev pub ends_waiting : ℤ → Step → Bool
-ends_waiting number (touches Reached n own) = not (int_lt own number)
-ends_waiting number (touches Compared n own) = false
-ends_waiting number (touches Awaited n own) = false
+ends_waiting number (touches Reached p own) = not (int_lt own number)
+ends_waiting number (touches Compared p own) = false
+ends_waiting number (touches Awaited p own) = false
 ends_waiting number closed = true
 
-abbrev pub waiting_entry : ℤ → Step → List Step → List ℕ
-waiting_entry number (touches Reached n own) later = []
-waiting_entry number (touches Compared n own) later = []
-waiting_entry number (touches Awaited n own) later =
-    if not (list_any (ends_waiting number) later) && int_eq own number then n ∷ [] else []
+abbrev pub waiting_entry : ℤ → Step → List Step → List EventPlace
+waiting_entry number (touches Reached p own) later = []
+waiting_entry number (touches Compared p own) later = []
+waiting_entry number (touches Awaited p own) later =
+    if not (list_any (ends_waiting number) later) && int_eq own number then p ∷ [] else []
 waiting_entry number closed later = []
 
--- **the snapshots that wait for this version**, by their events
-abbrev pub waiting_for : ℤ → List Step → List ℕ
+-- **the snapshots that wait for this version**, by their places
+abbrev pub waiting_for : ℤ → List Step → List EventPlace
 waiting_for number [] = []
 waiting_for number (step ∷ later) = waiting_entry number step later ++ waiting_for number later
 
 -- ---- the equal snapshot of the greatest version
 
--- the snapshot of this event, of the version of this rank
-abbrev pub shown_at : ℤ → ℕ → ℕ → Shown
-shown_at number rank n = record { event = n; version = number; rank = rank }
+-- the snapshot of this place, of the version of this rank
+abbrev pub shown_at : ℤ → ℕ → EventPlace → Shown
+shown_at number rank p = record { place = p; version = number; rank = rank }
 
 -- the last of these snapshots of this version
-abbrev pub last_shown : ℤ → ℕ → List ℕ → Option Shown
-last_shown number rank events =
-    option_map (shown_at number rank) (slice_get events (length events - 1))
+abbrev pub last_shown : ℤ → ℕ → List EventPlace → Option Shown
+last_shown number rank places =
+    option_map (shown_at number rank) (slice_get places (length places - 1))
 
 -- the snapshot that a step finds equal, after these: one of a version that is held or kept, or the
 -- last of those that waited for the version to which the document comes; closed, it has none
 abbrev pub finds : List Step → Step → Option (Option Shown)
-finds before (touches Reached n number) =
+finds before (touches Reached p number) =
     option_map (λ shown. Some shown)
-    (last_shown number (rank_after (standing before ++ touches Reached n number ∷ []))
+    (last_shown number (rank_after (standing before ++ touches Reached p number ∷ []))
     (waiting_for number before))
-finds before (touches Compared n number) =
-    Some (Some (shown_at number (rank_of number (recent before)) n))
-finds before (touches Awaited n number) = None
+finds before (touches Compared p number) =
+    Some (Some (shown_at number (rank_of number (recent before)) p))
+finds before (touches Awaited p number) = None
 finds before closed = Some None
 
 -- of two snapshots that of the greater version, the later one where these are equal
@@ -204,7 +203,7 @@ pub record Marked : Type 0 where
   pub setters : List Setter
   pub rank : ℕ
   pub agreed : Option Shown
-  pub waiting : ℤ → List ℕ
+  pub waiting : ℤ → List EventPlace
 
 abbrev pub marked : List Step → Marked
 marked done = record {
@@ -218,7 +217,7 @@ abbrev pub unmarked : Marked
 unmarked = record { setters = []; rank = 0; agreed = None; waiting = λ number. [] }
 
 -- those of a greater version than this wait on
-abbrev pub above : ℤ → (ℤ → List ℕ) → ℤ → List ℕ
+abbrev pub above : ℤ → (ℤ → List EventPlace) → ℤ → List EventPlace
 above own waiting number = if int_lt own number then waiting number else []
 
 abbrev pub next_rank : ℕ → ℕ
@@ -226,9 +225,9 @@ next_rank rank = capped (rank + 1)
 
 -- one more step
 abbrev pub stepped : Step → Marked → Marked
-stepped (touches Reached n own) m = record {
+stepped (touches Reached p own) m = record {
   setters = with_room most_setters m.setters ++ record {
-    event = n;
+    place = p;
     version = own;
     rank = next_rank m.rank;
   } ∷ [];
@@ -236,16 +235,16 @@ stepped (touches Reached n own) m = record {
   agreed = newer_of m.agreed (last_shown own (next_rank m.rank) (m.waiting own));
   waiting = above own m.waiting;
 }
-stepped (touches Compared n own) m = record {
+stepped (touches Compared p own) m = record {
   setters = m.setters;
   rank = m.rank;
-  agreed = newer_of m.agreed (Some (shown_at own (rank_of own m.setters) n));
+  agreed = newer_of m.agreed (Some (shown_at own (rank_of own m.setters) p));
   waiting = m.waiting;
 }
-stepped (touches Awaited n own) m = record {
+stepped (touches Awaited p own) m = record {
   setters = m.setters;
   rank = m.rank;
   agreed = m.agreed;
-  waiting = λ number. m.waiting number ++ (if int_eq own number then n ∷ [] else []);
+  waiting = λ number. m.waiting number ++ (if int_eq own number then p ∷ [] else []);
 }
 stepped closed m = unmarked

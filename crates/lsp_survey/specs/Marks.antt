@@ -16,14 +16,15 @@ use Rattle.lsp_survey.specs.Marking.{Step, touches, closed, Marked, marked, unma
 use Rattle.lsp_survey.specs.Marking.{steps}
 use Rattle.lsp_survey.specs.declared.notes.mark.Mark.{Mark}
 use Rattle.lsp_survey.specs.declared.notes.mark.Touch.TheVariants.{Reached, Compared, Awaited}
+use Rattle.lsp_replay.specs.declared.heard.EventPlace.{EventPlace}
 
--- the events of the snapshots of a version
-abbrev pub events_in : Option (Vec ℕ Global) → List ℕ
-events_in None = []
-events_in (Some v) = v.items
+-- the places of the snapshots of a version
+abbrev pub places_in : Option (Vec EventPlace Global) → List EventPlace
+places_in None = []
+places_in (Some v) = v.items
 
-abbrev pub waiting_in : List (ℤ × Vec ℕ Global) → ℤ → List ℕ
-waiting_in es number = events_in (lookup (int_eq number) es)
+abbrev pub waiting_in : List (ℤ × Vec EventPlace Global) → ℤ → List EventPlace
+waiting_in es number = places_in (lookup (int_eq number) es)
 
 abbrev pub mark_view : Mark → Marked
 mark_view m = record {
@@ -34,11 +35,11 @@ mark_view m = record {
 }
 
 -- the least version is reached by this one
-abbrev pub is_first_reached : ℤ → List (ℤ × Vec ℕ Global) → Bool
+abbrev pub is_first_reached : ℤ → List (ℤ × Vec EventPlace Global) → Bool
 is_first_reached number [] = false
 is_first_reached number (e ∷ es) = not (int_lt number e.0)
 
-abbrev pub rest_of : List (ℤ × Vec ℕ Global) → List (ℤ × Vec ℕ Global)
+abbrev pub rest_of : List (ℤ × Vec EventPlace Global) → List (ℤ × Vec EventPlace Global)
 rest_of [] = []
 rest_of (e ∷ es) = es
 
@@ -53,23 +54,24 @@ StepsOn uri step old new =
     (u : List ℕ) → marked_in new u ≡ (if bytes_eq uri u then stepped step (marked_in old u) else
     marked_in old u)
 
--- a message, the event of this number, that says this of a document
-abbrev pub DoneBy : ℕ → Option Call → List (String Global × Mark) → List (String Global × Mark)
+-- a message, the event of this place, that says this of a document
+abbrev pub DoneBy : EventPlace → Option Call → List (String Global × Mark)
+    → List (String Global × Mark)
     → Type 0
-DoneBy n None old new = new ≡ old
-DoneBy n (Some (opens uri number text)) old new = StepsOn uri (touches Reached n number) old new
-DoneBy n (Some (changes enc kind uri number edits)) old new =
-    StepsOn uri (touches Reached n number) old new
-DoneBy n (Some (closes uri)) old new = StepsOn uri closed old new
-DoneBy n (Some (saves uri text)) old new = new ≡ old
-DoneBy n (Some (shows uri number text)) old new = ⊥
+DoneBy p None old new = new ≡ old
+DoneBy p (Some (opens uri number text)) old new = StepsOn uri (touches Reached p number) old new
+DoneBy p (Some (changes enc kind uri number edits)) old new =
+    StepsOn uri (touches Reached p number) old new
+DoneBy p (Some (closes uri)) old new = StepsOn uri closed old new
+DoneBy p (Some (saves uri text)) old new = new ≡ old
+DoneBy p (Some (shows uri number text)) old new = ⊥
 
--- a snapshot of the URI and a version, the event of this number, that is answered so
-abbrev pub ShownBy : ℕ → List ℕ → ℤ → Match → List (String Global × Mark)
+-- a snapshot of the URI and a version, the event of this place, that is answered so
+abbrev pub ShownBy : EventPlace → List ℕ → ℤ → Match → List (String Global × Mark)
     → List (String Global × Mark) → Type 0
-ShownBy n uri number Equal old new = StepsOn uri (touches Compared n number) old new
-ShownBy n uri number Waits old new = StepsOn uri (touches Awaited n number) old new
-ShownBy n uri number Missed old new = new ≡ old
+ShownBy p uri number Equal old new = StepsOn uri (touches Compared p number) old new
+ShownBy p uri number Waits old new = StepsOn uri (touches Awaited p number) old new
+ShownBy p uri number Missed old new = new ≡ old
 
 -- **what is marked of each document is what these events left of it**
 abbrev pub AreMarks : Terms → List (String Global × Mark) → List Event → Type 0

@@ -9,6 +9,7 @@ use Rattle.lsp_types.specs.declared.side.Side.{Side}
 use Rattle.lsp_types.specs.declared.side.Side.TheVariants.{Editor, Server}
 use Rattle.lsp_survey.specs.Asking.{Numbered}
 use Rattle.lsp_survey.specs.StandardMethods.{is_request, is_notification}
+use Rattle.lsp_replay.specs.declared.heard.EventPlace.{EventPlace}
 use Rattle.lsp_survey.specs.declared.notes.misuses.Misuse.{Misuse}
 use Rattle.lsp_survey.specs.declared.notes.misuses.Misuse.TheVariants.{AsRequest, AsNotification}
 use Rattle.lsp_survey.specs.declared.notes.misuses.Misuse.TheVariants.{ByEditor, ByServer}
@@ -38,25 +39,25 @@ notification_misuse side name =
     (is_notification (other_side side) name)
     (is_request Editor name || is_request Server name)
 
--- a call of this method, the event of this number, that was sent in another way than LSP 3.17 has
+-- a call of this method, the event of this place, that was sent in another way than LSP 3.17 has
 -- it
 pub record Misused : Type 0 where
   pub misuse : Misuse
   pub method : List ℕ
-  pub number : ℕ
+  pub place : EventPlace
 
-abbrev pub misused : ℕ → List ℕ → Misuse → Misused
-misused n name misuse = record { misuse = misuse; method = name; number = n }
+abbrev pub misused : EventPlace → List ℕ → Misuse → Misused
+misused p name misuse = record { misuse = misuse; method = name; place = p }
 
 -- the misuse that a message of the side is; of no method that LSP 3.17 does not have
-abbrev pub misuse_in : ℕ → Side → Message → Option Misused
-misuse_in n side (request id name params) = option_map (misused n name) (request_misuse side name)
-misuse_in n side (notification name params) =
-    option_map (misused n name) (notification_misuse side name)
-misuse_in n side (response id reply) = None
+abbrev pub misuse_in : EventPlace → Side → Message → Option Misused
+misuse_in p side (request id name params) = option_map (misused p name) (request_misuse side name)
+misuse_in p side (notification name params) =
+    option_map (misused p name) (notification_misuse side name)
+misuse_in p side (response id reply) = None
 
 abbrev pub misuse_at : Numbered → Option Misused
-misuse_at m = misuse_in m.number m.sent.side m.sent.message
+misuse_at m = misuse_in m.place m.sent.side m.sent.message
 
 -- ---- all calls
 
@@ -84,7 +85,7 @@ abbrev pub misused_view : code.Misused → Misused
 misused_view x = record {
   misuse = x.misuse;
   method = string_bytes x.method;
-  number = x.event;
+  place = x.place;
 }
 
 abbrev pub misused_views : List code.Misused → List Misused

@@ -1,5 +1,5 @@
 -- Which documents were opened and closed last.
-use Rattle.std.specs.Prelude.{◌≡◌, ℕ, List, ◌++◌, map, length, nat_lt, Bool, true, false}
+use Rattle.std.specs.Prelude.{◌≡◌, ℤ, ℕ, List, ◌++◌, map, length, nat_lt, Bool, true, false}
 use Rattle.std.specs.Prelude.{Option, Some, None, option_and_then, [], string_bytes}
 use Rattle.std.specs.Prelude.{if◌then◌else◌}
 use Rattle.std.specs.List.{cons_option, filter_map}
@@ -10,48 +10,50 @@ use Rattle.lsp_verdict.specs.Event.{Event}
 use Rattle.lsp_verdict.specs.LookBack.{each_of}
 use Rattle.lsp_verdict.specs.Offences.{last_or, rule_at, said_at}
 use Rattle.lsp_survey.specs.LastOnes.{last_ones}
-use Rattle.lsp_survey.specs.Marking.{number_next}
+use Rattle.lsp_survey.specs.Touched.{AreTouched, TouchesOn}
+use Rattle.lsp_replay.specs.Places.{place_of}
 use Rattle.lsp_survey.specs.declared.notes.openings.Closing.{Closing}
 use Rattle.lsp_survey.specs.declared.notes.openings.Closing.TheVariants as closing
 use Rattle.lsp_survey.specs.declared.notes.openings.DocumentEvent.{DocumentEvent}
 use Rattle.lsp_survey.specs.declared.notes.openings.Openings.{Openings}
+use Rattle.lsp_replay.specs.declared.heard.EventPlace.{EventPlace}
 
 -- ---- the kept messages that open and close documents
 
--- a message about the document of this URI, and the number of its event
+-- a message about the document of this URI, and the place of its event
 pub record OnDocument : Type 0 where
   pub uri : List ℕ
-  pub event : ℕ
+  pub place : EventPlace
 
-abbrev pub on_document : List ℕ → ℕ → OnDocument
-on_document uri n = record { uri = uri; event = n }
+abbrev pub on_document : List ℕ → EventPlace → OnDocument
+on_document uri p = record { uri = uri; place = p }
 
--- the opening that a call is, by the event of this number
-abbrev pub opened_by : ℕ → Call → Option OnDocument
-opened_by n (opens uri number text) = Some (on_document uri n)
-opened_by n (changes enc kind uri number edits) = None
-opened_by n (closes uri) = None
-opened_by n (saves uri text) = None
-opened_by n (shows uri number text) = None
+-- the opening that a call is, by the event of this place
+abbrev pub opened_by : EventPlace → Call → Option OnDocument
+opened_by p (opens uri number text) = Some (on_document uri p)
+opened_by p (changes enc kind uri number edits) = None
+opened_by p (closes uri) = None
+opened_by p (saves uri text) = None
+opened_by p (shows uri number text) = None
 
 -- the closing that it is
-abbrev pub closed_by : ℕ → Call → Option OnDocument
-closed_by n (opens uri number text) = None
-closed_by n (changes enc kind uri number edits) = None
-closed_by n (closes uri) = Some (on_document uri n)
-closed_by n (saves uri text) = None
-closed_by n (shows uri number text) = None
+abbrev pub closed_by : EventPlace → Call → Option OnDocument
+closed_by p (opens uri number text) = None
+closed_by p (changes enc kind uri number edits) = None
+closed_by p (closes uri) = Some (on_document uri p)
+closed_by p (saves uri text) = None
+closed_by p (shows uri number text) = None
 
 -- what this makes of an event that offends by the rule or is kept, and says this of a document
-abbrev pub taken_by : (ℕ → Call → Option OnDocument) → ℕ → Option ℕ → Option Call
+abbrev pub taken_by : (EventPlace → Call → Option OnDocument) → EventPlace → Option ℕ → Option Call
     → Option OnDocument
-taken_by takes n (Some rule) said = None
-taken_by takes n None said = option_and_then (takes n) said
+taken_by takes p (Some rule) said = None
+taken_by takes p None said = option_and_then (takes p) said
 
-abbrev pub taken_at : (ℕ → Call → Option OnDocument) → Terms → List Event → Event
+abbrev pub taken_at : (EventPlace → Call → Option OnDocument) → Terms → List Event → Event
     → Option OnDocument
 taken_at takes terms before event =
-    taken_by takes (number_next before) (rule_at terms before event) (said_at terms before event)
+    taken_by takes (place_of before event) (rule_at terms before event) (said_at terms before event)
 
 -- **the messages that are kept and open documents**, in order
 abbrev pub openings : Terms → List Event → List OnDocument
@@ -73,16 +75,16 @@ most_closings = 1024
 abbrev pub is_on : List ℕ → OnDocument → Bool
 is_on uri on = bytes_eq uri on.uri
 
-abbrev pub event_on : List ℕ → OnDocument → Option (Option ℕ)
-event_on uri on = if is_on uri on then Some (Some on.event) else None
+abbrev pub event_on : List ℕ → OnDocument → Option (Option EventPlace)
+event_on uri on = if is_on uri on then Some (Some on.place) else None
 
--- the event of the last of these on the document of this URI
-abbrev pub last_on : List ℕ → List OnDocument → Option ℕ
+-- the place of the last of these on the document of this URI
+abbrev pub last_on : List ℕ → List OnDocument → Option EventPlace
 last_on uri ons = last_or None (filter_map (event_on uri) ons)
 
 -- the event is known, or, where all closings are looked at, that there is none
-abbrev pub closing_by : Bool → Option ℕ → Closing
-closing_by all (Some n) = closing.Last n
+abbrev pub closing_by : Bool → Option EventPlace → Closing
+closing_by all (Some p) = closing.Last p
 closing_by true None = closing.Never
 closing_by false None = closing.Forgotten
 
@@ -94,7 +96,7 @@ closing_of uri ons =
 -- ---- what is held of them
 
 abbrev pub on_view : DocumentEvent → OnDocument
-on_view d = record { uri = string_bytes d.uri; event = d.event }
+on_view d = record { uri = string_bytes d.uri; place = d.place }
 
 abbrev pub ons_view : List DocumentEvent → List OnDocument
 ons_view held = map on_view held
@@ -105,14 +107,23 @@ Holds most more old new =
     (ons : List OnDocument) → ons_view old ≡ last_ones most ons
     → ons_view new ≡ last_ones most (ons ++ cons_option more [])
 
--- a message, the event of this number, that says this of a document
-pub record OpensBy (n : ℕ) (said : Option Call) (old new : Openings) : Type 0 where
-  pub opened : Holds most_openings (option_and_then (opened_by n) said) old.opened.items
+-- a message, the event of this place, that says this of a document
+pub record OpensBy (p : EventPlace) (said : Option Call) (old new : Openings) : Type 0 where
+  pub opened : Holds most_openings (option_and_then (opened_by p) said) old.opened.items
       new.opened.items
-  pub closed : Holds most_closings (option_and_then (closed_by n) said) old.closed.items
+  pub closed : Holds most_closings (option_and_then (closed_by p) said) old.closed.items
       new.closed.items
+  pub touched : TouchesOn said old.touched new.touched
 
--- **the last ones of these events are held**
+-- a snapshot of the URI
+pub record OpeningsShown (uri : List ℕ) (old new : Openings) : Type 0 where
+  pub opened : new.opened.items ≡ old.opened.items
+  pub closed : new.closed.items ≡ old.closed.items
+  pub touched : (number : ℤ) (text : List ℕ)
+      → TouchesOn (Some (shows uri number text)) old.touched new.touched
+
+-- **the last ones of these events are held**, and which documents they touched
 pub record AreOpenings (terms : Terms) (o : Openings) (events : List Event) : Type 0 where
   pub opened_are : ons_view o.opened.items ≡ last_ones most_openings (openings terms events)
   pub closed_are : ons_view o.closed.items ≡ last_ones most_closings (closings terms events)
+  pub touched_are : AreTouched terms o.touched events

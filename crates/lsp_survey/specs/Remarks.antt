@@ -15,6 +15,7 @@ use Rattle.lsp_verdict.specs.LookBack.{each_of}
 use Rattle.lsp_verdict.specs.Offences.{last_or}
 use Rattle.lsp_survey.specs.Asking.{Numbered, same_phase, sents}
 use Rattle.lsp_survey.specs.Misuses.{misuse_in, misused_views, misuses, with_misuse}
+use Rattle.lsp_replay.specs.declared.heard.EventPlace.{EventPlace}
 use Rattle.lsp_survey.specs.declared.notes.remarks.Remarks.{Remarks}
 
 -- ---- `exit` without `shutdown`
@@ -24,15 +25,15 @@ abbrev pub is_abrupt : Phase → Phase → Bool
 is_abrupt before after =
     same_phase after Exited && not (same_phase before Exited || same_phase before Stopping)
 
--- the message of this number leads from one phase to the other
-abbrev pub abrupt : ℕ → Phase → Phase → Option (Option ℕ)
-abrupt n before after = if is_abrupt before after then Some (Some n) else None
+-- the message of this place leads from one phase to the other
+abbrev pub abrupt : EventPlace → Phase → Phase → Option (Option EventPlace)
+abrupt p before after = if is_abrupt before after then Some (Some p) else None
 
-abbrev pub abrupt_by : List Numbered → Numbered → Option (Option ℕ)
-abrupt_by before m = abrupt m.number (phase (sents before)) (phase (sents (before ++ m ∷ [])))
+abbrev pub abrupt_by : List Numbered → Numbered → Option (Option EventPlace)
+abrupt_by before m = abrupt m.place (phase (sents before)) (phase (sents (before ++ m ∷ [])))
 
 -- **the event of the `exit` without a `shutdown` before it**
-abbrev pub abrupt_exit : List Numbered → Option ℕ
+abbrev pub abrupt_exit : List Numbered → Option EventPlace
 abrupt_exit said = last_or None (each_of abrupt_by said)
 
 -- ---- the encoding that was agreed in an older way
@@ -62,13 +63,14 @@ pub record AreRemarks (r : Remarks) (said : List Numbered) : Type 0 where
   pub done_is : r.is_done ≡ is_done (sents said)
   pub older_is : older_held r ≡ older_encoding (sents said)
 
--- one more message of the sender, the event of this number, before and after which the session is
+-- one more message of the sender, the event of this place, before and after which the session is
 -- in these phases, and after which the handshake is settled or is not
-pub record Remarked (n : ℕ) (sender : Side) (m : Message) (before after : Phase) (done : Bool)
+pub record Remarked (p : EventPlace) (sender : Side) (m : Message) (before after : Phase)
+    (done : Bool)
     (old new : Remarks) : Type 0 where
   pub misuses_are : misused_views new.misuses.items
-      ≡ with_misuse (misused_views old.misuses.items) (misuse_in n sender m)
-  pub abrupt_is : new.abrupt_exit ≡ unwrap_or (abrupt n before after) old.abrupt_exit
+      ≡ with_misuse (misused_views old.misuses.items) (misuse_in p sender m)
+  pub abrupt_is : new.abrupt_exit ≡ unwrap_or (abrupt p before after) old.abrupt_exit
   pub done_is : new.is_done ≡ done
   pub older_is : older_held new
       ≡ (if not old.is_done && done then older_of m else older_held old)

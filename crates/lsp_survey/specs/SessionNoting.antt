@@ -17,28 +17,30 @@ use Rattle.lsp_survey.specs.LastOnes.{last_ones}
 use Rattle.lsp_survey.specs.Remarks.{AreRemarks, Remarked}
 use Rattle.lsp_survey.specs.declared.notes.exchange.Exchange.{Exchange}
 use Rattle.lsp_survey.specs.declared.notes.exchange.Given.{Given}
+use Rattle.lsp_replay.specs.declared.heard.EventPlace.{EventPlace}
 use Rattle.lsp_survey.specs.declared.notes.session_notes.SessionNotes.{SessionNotes}
 
 -- ---- the requests of one side
 
 abbrev pub given_view : Given → Reply
-given_view g = record { id = id_view g.id; number = g.event }
+given_view g = record { id = id_view g.id; place = g.place }
 
--- the event that is held of an id
+-- what is held of an id
 abbrev pub asked_in : {X : Type 0} → List (Id × X) → Ident → Option X
 asked_in es id = lookup (λ key. same_id id (id_view key)) es
 
 abbrev pub replies_in : Exchange → List Reply
 replies_in e = map given_view e.replies.items
 
--- one more message of the sender, the event of this number
-pub record Exchanges (side : Side) (n : ℕ) (sender : Side) (m : Message) (old new : Exchange) : Type
+-- one more message of the sender, the event of this place
+pub record Exchanges (side : Side) (p : EventPlace) (sender : Side) (m : Message)
+    (old new : Exchange) : Type
     0 where
   pub asked : (k : Id) → asked_in new.asked.entries (id_view k)
-      ≡ unwrap_or (asks side (id_view k) n sender m) (asked_in old.asked.entries (id_view k))
+      ≡ unwrap_or (asks side (id_view k) p sender m) (asked_in old.asked.entries (id_view k))
   pub replies : (given : List Reply) → replies_in old ≡ last_ones most_replies given
       → replies_in new ≡ last_ones most_replies
-      (given ++ option_to_list (reply_of n (answered_from side sender m)))
+      (given ++ option_to_list (reply_of p (answered_from side sender m)))
 
 -- what is noted of the side's requests is what these messages left of it
 pub record IsExchange (side : Side) (e : Exchange) (said : List Numbered) : Type 0 where
@@ -55,14 +57,14 @@ pub record SessionStands (s : SessionNotes) (said : List Numbered) : Type 0 wher
   pub since_is : s.since ≡ since said
   pub remarks_are : AreRemarks s.remarks said
 
--- one more message of the sender, the event of this number, with which the session has these
-pub record SaysOn (n : ℕ) (sender : Side) (m : Message) (behind : List Sent)
+-- one more message of the sender, the event of this place, with which the session has these
+pub record SaysOn (p : EventPlace) (sender : Side) (m : Message) (behind : List Sent)
     (old new : SessionNotes) : Type 0 where
-  pub editor : Exchanges Editor n sender m old.editor new.editor
-  pub server : Exchanges Server n sender m old.server new.server
+  pub editor : Exchanges Editor p sender m old.editor new.editor
+  pub server : Exchanges Server p sender m old.server new.server
   pub phase_is : new.phase ≡ phase behind
-  pub since_is : new.since ≡ unwrap_or (leads n old.phase (phase behind)) old.since
-  pub remarked : Remarked n sender m old.phase (phase behind) (is_done behind) old.remarks
+  pub since_is : new.since ≡ unwrap_or (leads p old.phase (phase behind)) old.since
+  pub remarked : Remarked p sender m old.phase (phase behind) (is_done behind) old.remarks
       new.remarks
 
 -- **they stand for the kept messages of these events**

@@ -17,11 +17,12 @@ use Rattle.lsp_rpc.specs.View.{act_view, message_view}
 use Rattle.lsp_session.specs.Sent.{Sent}
 use Rattle.lsp_session.specs.State.{Stands}
 use Rattle.lsp_survey.specs.Marks.{AreMarks, DoneBy, ShownBy}
-use Rattle.lsp_survey.specs.Openings.{AreOpenings, OpensBy}
+use Rattle.lsp_survey.specs.Openings.{AreOpenings, OpeningsShown, OpensBy}
 use Rattle.lsp_survey.specs.SessionNoting.{AreNotes, SaysOn}
-use Rattle.lsp_survey.specs.Notes.{note_in, note_of, AreAfter, Leaves, is_noted_lost}
+use Rattle.lsp_survey.specs.Notes.{is_noted, AreAfter, Leaves, is_noted_lost}
 use Rattle.lsp_survey.specs.Passed.{ArePassed, has_passed}
 use Rattle.lsp_survey.specs.Sides.{sides_after, sides_of, sides_read}
+use Rattle.lsp_replay.specs.declared.heard.EventPlace.{EventPlace}
 use Rattle.lsp_survey.specs.declared.offending.FoundOffence.{FoundOffence}
 use Rattle.lsp_survey.specs.declared.offending.Judged.{Judged}
 use Rattle.lsp_survey.specs.declared.offending.Judged.TheVariants as heard
@@ -38,7 +39,7 @@ use Rattle.lsp_verdict.specs.Event.{Event, fault, message}
 use Rattle.lsp_verdict.specs.Given.{given_offence, offence_view}
 use Rattle.lsp_verdict.specs.LookBack.{first_of}
 use Rattle.lsp_verdict.specs.Offences.{Noted, Offence, IsNoted, asks, breaks_handshake, broken_by}
-use Rattle.lsp_verdict.specs.Offences.{held_in}
+use Rattle.lsp_verdict.specs.Offences.{is_lost, is_reopened}
 use Rattle.lsp_verdict.specs.Offences.{brought_by, events_of, follows_bytes, is_handshake_lost, kept_of}
 use Rattle.lsp_verdict.specs.Offences.{follows_passed, is_passed, may_answer, offence_by, rule_at}
 use Rattle.lsp_verdict.specs.Offences.{wants_handshake, wants_text}
@@ -54,7 +55,7 @@ use Rattle.lsp_verdict.specs.declared.verdict.Who.{Who}
 pub record WalksBy (terms : Terms) (w : Replay) (notes : List Noted) : Type 0 where
   pub holds : Holds w.events.session w.events.docs (kept_of terms (events_of notes))
   pub counted : AreCounts w.events.counts (events_of notes)
-  pub noted : (uri : List ℕ) → note_in w.notes.map.entries uri ≡ note_of terms uri notes
+  pub noted : (uri : List ℕ) → is_noted w.notes.map.entries uri ≡ is_lost terms uri notes
   pub is_broken : w.broken ≡ is_some (first_of (broken_by terms) notes)
   pub marked : AreMarks terms w.marks.map.entries (events_of notes)
   pub opened : AreOpenings terms w.openings (events_of notes)
@@ -74,34 +75,34 @@ Walks w notes = WalksBy w.events.docs.terms w notes
 abbrev pub IsRefused : Raw → Terms → List Noted → Refused → Type 0
 IsRefused raw terms before refused = Refuses raw terms (kept_of terms (events_of before)) refused
 
--- a message of the side that is kept, the event of this number, was noted
-abbrev pub NotesMessage : ℕ → Side → Message → Act → Replay → Replay → Type 0
-NotesMessage number side said act old new =
+-- a message of the side that is kept, the event of this place, was noted
+abbrev pub NotesMessage : EventPlace → Side → Message → Act → Replay → Replay → Type 0
+NotesMessage place side said act old new =
     ((enc : Encoding) (kind : SyncKind)
     → AreAfter (call_of enc kind act) old.notes.map.entries new.notes.map.entries)
     × ((enc : Encoding) (kind : SyncKind)
-    → DoneBy number (call_of enc kind act) old.marks.map.entries new.marks.map.entries)
+    → DoneBy place (call_of enc kind act) old.marks.map.entries new.marks.map.entries)
     × ((enc : Encoding) (kind : SyncKind)
-    → OpensBy number (call_of enc kind act) old.openings new.openings)
+    → OpensBy place (call_of enc kind act) old.openings new.openings)
     × ((sents : List Sent) → Stands new.events.session sents
-    → SaysOn number side said sents old.said new.said)
+    → SaysOn place side said sents old.said new.said)
     × (new.sides ≡ sides_read side old.sides)
 
--- a snapshot that is kept, the event of this number, was noted as it was answered
-abbrev pub NotesSnapshot : ℕ → List ℕ → ℤ → Match → Replay → Replay → Type 0
-NotesSnapshot number uri version answer old new =
+-- a snapshot that is kept, the event of this place, was noted as it was answered
+abbrev pub NotesSnapshot : EventPlace → List ℕ → ℤ → Match → Replay → Replay → Type 0
+NotesSnapshot place uri version answer old new =
     (new.notes ≡ old.notes)
-    × ShownBy number uri version answer old.marks.map.entries new.marks.map.entries
-    × (new.openings ≡ old.openings)
+    × ShownBy place uri version answer old.marks.map.entries new.marks.map.entries
+    × OpeningsShown uri old.openings new.openings
     × (new.said ≡ old.said)
     × (new.sides ≡ old.sides)
 
--- the event that is kept, of this number, was noted
-abbrev pub NotesKept : ℕ → events.Heard → Replay → Replay → Type 0
-NotesKept number (kept.Message side spoken) old new =
-    NotesMessage number side (message_view spoken.message) (act_view spoken.act) old new
-NotesKept number (kept.Snapshot version uri text answer) old new =
-    NotesSnapshot number uri.now version answer old new
+-- the event that is kept, of this place, was noted
+abbrev pub NotesKept : EventPlace → events.Heard → Replay → Replay → Type 0
+NotesKept place (kept.Message side spoken) old new =
+    NotesMessage place side (message_view spoken.message) (act_view spoken.act) old new
+NotesKept place (kept.Snapshot version uri text answer) old new =
+    NotesSnapshot place uri.now version answer old new
 
 -- one more event of theirs was counted; the result of the kept events is as it was
 pub record Counted (old new : Replay) (by : Who) : Type 0 where
@@ -156,7 +157,7 @@ pub record PassesOver (old new : Replay) (by : Who) (rule : ℕ) (malformed : Op
   pub noted : (enc : Encoding) (kind : SyncKind) (kept : List Event)
       → Holds old.events.session old.events.docs kept
       → Leaves (Some rule) (option_and_then brought_by malformed)
-      (held_in old.events.docs.terms (calls kept) (says enc kind)) (says enc kind)
+      (is_reopened old.events.docs.terms (calls kept) (says enc kind)) (says enc kind)
       old.notes.map.entries new.notes.map.entries
   pub marks : new.marks ≡ old.marks
   pub openings : new.openings ≡ old.openings

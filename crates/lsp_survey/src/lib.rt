@@ -24,7 +24,8 @@ mod walk;
 pub use laws::{all_shown_is_report, one_all_shown, one_kept_text};
 pub use lsp_verdict::Listing;
 pub use notes::{
-    Closing, DocumentEvent, Marks, Misuse, Misused, Openings, SessionNotes, Setter, Shown, uri_in,
+    Closing, DocumentEvent, Marks, Misuse, Misused, Openings, SessionNotes, Setter, Shown, folded,
+    uri_in,
 };
 pub use offence_count::OffenceCount;
 pub use offending::{FoundOffence, Judged, OffendingEvent};

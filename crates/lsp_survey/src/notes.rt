@@ -24,7 +24,9 @@ mod remarks;
 mod rules;
 mod session_notes;
 mod sides;
+mod spelling;
 mod standard_methods;
+mod touched;
 
 pub use documents::uri_in;
 pub(crate) use documents::{
@@ -34,9 +36,10 @@ pub(crate) use malformed::{Malformed, meant_again};
 pub use mark::{Setter, Shown};
 pub use marks::Marks;
 pub use misuses::{Misuse, Misused};
-pub(crate) use note::{Note, Notes};
+pub(crate) use note::Notes;
 pub use openings::{Closing, DocumentEvent, Openings};
 pub(crate) use passed::Passed;
 pub(crate) use rules::{breaks_handshake, wants_handshake, wants_text};
 pub use session_notes::SessionNotes;
 pub(crate) use sides::Sides;
+pub use spelling::folded;

@@ -22,11 +22,11 @@ use crate::session_end::ends;
 use crate::walk::Replay;
 use lsp_docs::Docs;
 use lsp_frame::{Format, Limits, Source};
-use lsp_text::Lined;
 use lsp_replay as replay;
 use lsp_replay::{LogEvents, summary_of};
 use lsp_rpc::{Memory, Side};
 use lsp_session::Session;
+use lsp_text::Lined;
 use lsp_verdict::{Completeness, Lines, Offence, RunFault, Verdict};
 use std::alloc::Global;
 

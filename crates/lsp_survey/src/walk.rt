@@ -3,7 +3,6 @@ ghost use Rattle.std.specs.Prelude.{◌≡◌, ◌&&◌, ◌||◌, [], Bool, Lis
 ghost use Rattle.std.specs.Prelude.{Option, chars, ℕ, ◌==◌, ◌++◌, ◌∷◌, ◌<◌, ◌^◌, length, string_bytes};
 ghost use Rattle.lsp_docs.specs.Calls.{shows};
 ghost use Rattle.lsp_docs.specs.Terms.{terms_of};
-ghost use Rattle.lsp_replay.specs.Lines.{IsHeard};
 ghost use Rattle.lsp_replay.specs.Standing.{Holds};
 ghost use Rattle.lsp_rpc.specs.Message.{Message as AMessage};
 ghost use Rattle.lsp_rpc.specs.View.{act_view, message_view};
@@ -16,16 +15,17 @@ ghost use Rattle.lsp_verdict.specs.Offences.{follows_bytes, is_handshake_lost, m
 ghost use Rattle.lsp_verdict.specs.Offences.{follows_passed, wants_handshake, wants_text};
 ghost use Rattle.lsp_verdict.specs.Placed.{Reads};
 ghost use Rattle.lsp_verdict.specs.Verdict as spec;
-ghost use Rattle.lsp_survey.specs.Marking.{number_next};
+ghost use Rattle.lsp_replay.specs.Lines.{IsHeard};
+ghost use Rattle.lsp_replay.specs.Places.{place_of};
 ghost use Rattle.lsp_session.specs.Sent.{other_side, response_id};
 ghost use Rattle.lsp_survey.specs.Passed.{has_any};
 ghost use Rattle.lsp_survey.specs.Sides.{sides_failed};
 ghost use Rattle.lsp_types.specs.declared.rules.TheConstants as rules;
 ghost use Rattle.lsp_verdict.specs.Lent.{raw_view};
 ghost use Rattle.lsp_survey.specs.Ending.{lack_by};
-ghost use Rattle.lsp_survey.specs.Walking.{Counted, Hears, IsLine, IsMessageOf, IsOffence, IsRefused};
-ghost use Rattle.lsp_survey.specs.Walking.{IsShown, IsUnread, NotesKept, NotesMessage, PassesOver, Walks};
-ghost use Rattle.lsp_survey.specs.Walking.{offence_of};
+ghost use Rattle.lsp_survey.specs.Walking.{Counted, Hears, IsLine, IsMessageOf, IsOffence};
+ghost use Rattle.lsp_survey.specs.Walking.{IsRefused, IsShown, IsUnread, NotesKept, NotesMessage};
+ghost use Rattle.lsp_survey.specs.Walking.{NotesSnapshot, PassesOver, Walks, offence_of};
 
 use crate::notes::{
     Malformed, Marks, Notes, Openings, Passed, SessionNotes, Sides, breaks_handshake, is_on_lost,
@@ -33,13 +33,14 @@ use crate::notes::{
     wants_handshake, wants_text,
 };
 use crate::offending::{FoundOffence, Judged, OffendingEvent};
+use lsp_docs::Match;
 use lsp_frame::{Format, Limits};
-use lsp_text::Lined;
 use lsp_replay as replay;
 use lsp_replay::{EventPlace, Events, Refused, fill_event_line};
 use lsp_rpc::{Memory, Message, Side, Spoken};
+use lsp_text::Lined;
 use lsp_types::rules;
-use lsp_verdict::{Completeness, Counts, Lines, Offence, Raw, Who, who_of};
+use lsp_verdict::{Completeness, Lines, Offence, Raw, Who, who_of};
 use std::alloc::Global;
 
 /// The result of the events of a session, where each that offends is skipped.
@@ -87,9 +88,8 @@ impl Replay {
         ensures heard { IfOk result (λ heard. (before : List Noted) → Walks self.old before
             → Hears (raw_view raw.entry) self.old.events.docs.terms self.new before heard) }
     {
-        let number = number_next(&self.events.counts);
         match self.events.hear(raw) {
-            Ok(kept) => self.keep(number, kept),
+            Ok(kept) => self.keep(kept),
             Err(refused) => self.pass_over(alloc, raw, refused),
         }
     }
@@ -111,9 +111,8 @@ impl Replay {
             → length (events_of before ++ event ∷ []) < 2 ^ 64
             → IsLine lines (events_of before) event heard (string_bytes line.new)) }
     {
-        let number = number_next(&self.events.counts);
         match self.events.hear(raw) {
-            Ok(kept) => self.keep_shown(alloc, number, kept, line, lines),
+            Ok(kept) => self.keep_shown(alloc, kept, line, lines),
             Err(refused) => self.pass_over(alloc, raw, refused),
         }
     }
@@ -129,25 +128,26 @@ impl Replay {
         }
     }
 
-    /// Takes over the event of this number, which was heard and is kept.
-    fn keep(&mut self, number: u64, kept: replay::Heard<'_>) -> Result<Judged, Memory>
+    /// Takes over the event that was heard last and is kept.
+    fn keep(&mut self, kept: replay::Heard<'_>) -> Result<Judged, Memory>
         ensures same { (self.new.events ≡ self.old.events) × (self.new.broken ≡ self.old.broken)
             × (self.new.passed ≡ self.old.passed) }
         ensures keeps { IfOk result (λ heard. (heard ≡ Judged.Kept)
-            × NotesKept number kept.entry self.old self.new) }
+            × ((before : List Event) (event : Event)
+            → AreCounts self.old.events.counts (before ++ event ∷ []) → IsHeard event kept.entry
+            → NotesKept (place_of before event) kept.entry self.old self.new)) }
     {
-        let noted = self.note(number, &kept);
+        let place = EventPlace::of(&self.events.counts, &kept);
+        let noted = self.note(place, &kept);
         drop(kept);
         noted?;
         Ok(Judged::Kept)
     }
 
-    /// Takes over the event of this number, which was heard and is kept, and makes the text its
-    /// line.
+    /// Takes over the event that was heard last and is kept, and makes the text its line.
     fn keep_shown(
         &mut self,
         alloc: Global,
-        number: u64,
         kept: replay::Heard<'_>,
         line: &mut String,
         lines: Lines,
@@ -155,7 +155,9 @@ impl Replay {
         ensures same { (self.new.events ≡ self.old.events) × (self.new.broken ≡ self.old.broken)
             × (self.new.passed ≡ self.old.passed) }
         ensures keeps { IfOk result (λ heard. (heard ≡ Judged.Kept)
-            × NotesKept number kept.entry self.old self.new) }
+            × ((before : List Event) (event : Event)
+            → AreCounts self.old.events.counts (before ++ event ∷ []) → IsHeard event kept.entry
+            → NotesKept (place_of before event) kept.entry self.old self.new)) }
         ensures line { IfOk result (λ heard. (before : List Event) (event : Event)
             → AreCounts self.old.events.counts (before ++ event ∷ [])
             → IsHeard event kept.entry → length (before ++ event ∷ []) < 2 ^ 64
@@ -163,21 +165,21 @@ impl Replay {
     {
         let place = EventPlace::of(&self.events.counts, &kept);
         let filled = fill_event_line(alloc, line, lines, place, &kept);
-        let noted = self.note(number, &kept);
+        let noted = self.note(place, &kept);
         drop(kept);
         filled?;
         noted?;
         Ok(Judged::Kept)
     }
 
-    /// Notes the event of this number, which was heard and is kept.
-    fn note(&mut self, number: u64, kept: &replay::Heard<'_>) -> Result<(), Memory>
+    /// Notes the event of this place, which was heard and is kept.
+    fn note(&mut self, place: EventPlace, kept: &replay::Heard<'_>) -> Result<(), Memory>
         ensures same { (self.new.events ≡ self.old.events) × (self.new.broken ≡ self.old.broken)
             × (self.new.passed ≡ self.old.passed) }
-        ensures noted { OnOk result (NotesKept number kept.now self.old self.new) }
+        ensures noted { OnOk result (NotesKept place kept.now self.old self.new) }
     {
         match kept {
-            replay::Heard::Message { side, spoken } => self.note_message(number, *side, spoken),
+            replay::Heard::Message { side, spoken } => self.note_message(place, *side, spoken),
             replay::Heard::Snapshot {
                 version,
                 uri,
@@ -185,25 +187,42 @@ impl Replay {
                 answer,
             } => {
                 let version = *version;
-                self.marks.keep_snapshot(number, *uri, version, *answer)
+                self.note_snapshot(place, *uri, version, *answer)
             }
         }
     }
 
-    /// Notes the message of this number, which was heard and is kept.
-    fn note_message(&mut self, number: u64, side: Side, spoken: &Spoken) -> Result<(), Memory>
+    /// Notes the snapshot of this place, which was heard and is kept.
+    fn note_snapshot(
+        &mut self,
+        place: EventPlace,
+        uri: &str,
+        version: i32,
+        answer: Match,
+    ) -> Result<(), Memory>
         ensures same { (self.new.events ≡ self.old.events) × (self.new.broken ≡ self.old.broken)
             × (self.new.passed ≡ self.old.passed) }
-        ensures noted { OnOk result (NotesMessage number side (message_view spoken.now.message)
+        ensures noted { OnOk result
+            (NotesSnapshot place uri.now version answer self.old self.new) }
+    {
+        self.openings.keep_snapshot(uri)?;
+        self.marks.keep_snapshot(place, uri, version, answer)
+    }
+
+    /// Notes the message of this place, which was heard and is kept.
+    fn note_message(&mut self, place: EventPlace, side: Side, spoken: &Spoken) -> Result<(), Memory>
+        ensures same { (self.new.events ≡ self.old.events) × (self.new.broken ≡ self.old.broken)
+            × (self.new.passed ≡ self.old.passed) }
+        ensures noted { OnOk result (NotesMessage place side (message_view spoken.now.message)
             (act_view spoken.now.act) self.old self.new) }
     {
         let phase = self.events.session.phase();
         let done = self.events.session.is_done();
         self.sides = self.sides.after_message(side);
         note_kept_act(&mut self.notes, &spoken.act)?;
-        self.marks.keep_act(number, &spoken.act)?;
-        self.openings.keep_act(number, &spoken.act)?;
-        self.said.keep(number, side, &spoken.message, phase, done)
+        self.marks.keep_act(place, &spoken.act)?;
+        self.openings.keep_act(place, &spoken.act)?;
+        self.said.keep(place, side, &spoken.message, phase, done)
     }
 
     /// Skips the event that was refused so.
@@ -264,13 +283,13 @@ impl Replay {
             (IsMessageOf side (message_view spoken.message)) (λ what. what ≡ OffendingEvent.Message side spoken)) }
     {
         let breaks = breaks_handshake(false, rule);
-        let reopens = reopens(&self.events.docs, rule, &spoken.act);
-        let on_lost = is_on_lost(&self.notes, &spoken.act);
+        let other = reopens(&self.events.docs, &spoken.act);
+        let on_lost = is_on_lost(&self.notes, &spoken.act)?;
         let late = self.message_follows(side, rule, &spoken.message);
         let follows = self.follows(rule, on_lost, late);
         let offence = self.refuse(rule, who_of(side), breaks, follows);
         self.sides = self.sides.after_message(side);
-        note_refused_act(&mut self.notes, rule, reopens, &spoken.act)?;
+        note_refused_act(&mut self.notes, rule, other, &spoken.act)?;
         self.passed.note(side, rule, &spoken.message)?;
         Ok(Judged::Offence(FoundOffence {
             offence,
@@ -325,7 +344,7 @@ impl Replay {
             (λ event. event ≡ snapshot uri.now version (chars text.now))
             (IsShown version uri.now text.now)) }
     {
-        let on_lost = self.notes.get(uri).lost;
+        let on_lost = self.notes.is_lost(uri)?;
         let follows = self.follows(rule, on_lost, false);
         let breaks = breaks_handshake(false, rule);
         let offence = self.refuse(rule, Who::Snapshot, breaks, follows);
@@ -452,11 +471,4 @@ impl Replay {
             Side::Server => self.events.session.awaits_initialize(),
         }
     }
-}
-
-/// The number of the event that comes next, from 1.
-fn number_next(counts: &Counts) -> u64
-    ensures { (events : List Event) → AreCounts counts.now events → result ≡ number_next events }
-{
-    counts.all.saturating_add(1)
 }

@@ -26,6 +26,7 @@ pub mod Upgraded
 pub mod Complete
 pub mod BroughtToEnd
 pub mod CompleteLaws
+pub mod Spelling
 pub mod Offences
 pub mod Survey
 pub mod OffenceLaws

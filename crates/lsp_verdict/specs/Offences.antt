@@ -21,12 +21,14 @@ use Rattle.lsp_text.specs.Edits.{Edit}
 use Rattle.lsp_docs.specs.Calls.{Call, opens, changes, closes, saves, shows, uri_of}
 use Rattle.lsp_docs.specs.Documents.{Version, held}
 use Rattle.lsp_docs.specs.Terms.{Terms}
+use Rattle.lsp_text.specs.SameText.{same_text}
 use Rattle.lsp_log.specs.Log.{Record}
 use Rattle.lsp_verdict.specs.Calls.{call_at, calls}
 use Rattle.lsp_verdict.specs.Event.{Event, message, fault, snapshot, sent_in}
 use Rattle.lsp_verdict.specs.LookBack.{first_of, each_of}
 use Rattle.lsp_verdict.specs.Placed as placed
 use Rattle.lsp_verdict.specs.Placed.{Raw, broken, show, Placed, Reads}
+use Rattle.lsp_verdict.specs.Spelling.{is_alike}
 use Rattle.lsp_verdict.specs.Verdict.{Verdict, offence, no_by}
 use Rattle.lsp_types.specs.declared.rules.TheConstants as rules
 
@@ -79,30 +81,34 @@ IsNotedSession limits records notes = (raws : List Raw) × Placed limits records
 
 -- ---- a document is lost, and found again
 
-abbrev pub has_changes : Call → Bool
-has_changes (changes enc kind uri number (edit ∷ edits)) = true
-has_changes _ = false
+-- after the call its sender has another text of the document: it opens it, or changes it
+abbrev pub sets_text : Call → Bool
+sets_text (opens uri number text) = true
+sets_text (changes enc kind uri number (edit ∷ edits)) = true
+sets_text _ = false
 
 abbrev pub is_within : ℕ → ℕ → ℕ → Bool
 is_within least most rule = nat_le least rule && nat_le rule most
 
--- what is held of the document that a call is about, after these calls
-abbrev pub held_in : Terms → List Call → Option Call → Option Version
-held_in terms made None = None
-held_in terms made (Some call) = held terms (uri_of call) made
-
 -- the call opens a document with another version or text than this one, which is held
-abbrev pub is_other : Call → Option Version → Bool
-is_other (opens uri number text) (Some v) = not (int_eq v.number number && bytes_eq v.text text)
-is_other call now = false
+abbrev pub is_other : Terms → Call → Option Version → Bool
+is_other terms (opens uri number text) (Some v) =
+    not (int_eq v.number number && same_text terms.line_ends v.text text)
+is_other terms call now = false
 
--- a call that offends by this rule, where this is held of its document, leaves the held text another than the sender's: 601 with another version or text, 602, 603 with changes, 604 to 608, 702
-abbrev pub loses : ℕ → Option Version → Call → Bool
-loses rule now call = is_other call now && rule == rules.DOCUMENT_ALREADY_OPEN ||
-    (rule == rules.DOCUMENT_NOT_OPEN ||
-    (rule == rules.VERSION_DOES_NOT_RISE && has_changes call ||
-    (is_within rules.CHANGE_NOT_OF_KIND rules.SAVED_TEXT_DIFFERS rule ||
-    rule == rules.SNAPSHOT_DIFFERS)))
+-- this opens a document again, with another version or text than is held of it after these calls
+abbrev pub is_reopened : Terms → List Call → Option Call → Bool
+is_reopened terms made None = false
+is_reopened terms made (Some call) = is_other terms call (held terms (uri_of call) made)
+
+-- a call that offends by this rule leaves the held text another than the sender's: 601 where it
+-- opens the document with another version or text, each other rule where it sets a text, and 602,
+-- 608 and 702
+abbrev pub loses : ℕ → Bool → Call → Bool
+loses rule other call =
+    if rule == rules.DOCUMENT_ALREADY_OPEN then other
+    else sets_text call || (rule == rules.DOCUMENT_NOT_OPEN ||
+    (rule == rules.SAVED_TEXT_DIFFERS || rule == rules.SNAPSHOT_DIFFERS))
 
 -- the call gives the whole text again
 abbrev pub renews : Call → Bool
@@ -112,10 +118,19 @@ renews (closes uri) = false
 renews (saves uri text) = false
 renews (shows uri number text) = false
 
--- whether a call leaves its document lost, of which this is held, where it says anything of that: it offends by this rule, or is kept
-abbrev pub left_lost : Option ℕ → Option Version → Call → Option Bool
-left_lost (Some rule) now call = if loses rule now call then Some true else None
-left_lost None now call = if renews call then Some false else None
+-- whether a call leaves documents lost that it concerns, where it says anything of that: it
+-- offends by this rule, or is kept, and opens its document again with another text or does not
+abbrev pub left_lost : Option ℕ → Bool → Call → Option Bool
+left_lost (Some rule) other call = if loses rule other call then Some true else None
+left_lost None other call = if renews call then Some false else None
+
+-- a call that offends by this rule, or is kept, concerns the document of this URI: it is about it,
+-- or it is about none that is open (602), and its URI differs from this one in its spelling alone
+abbrev pub concerns : List ℕ → Option ℕ → Call → Bool
+concerns uri None call = bytes_eq uri (uri_of call)
+concerns uri (Some rule) call =
+    if rule == rules.DOCUMENT_NOT_OPEN then is_alike (uri_of call) uri
+    else bytes_eq uri (uri_of call)
 
 -- the notification opens a document or changes it
 abbrev pub brings_text : List ℕ → Bool
@@ -138,18 +153,18 @@ left_without uri rule (Some brought) = option_and_then (λ r.
     if r == rules.BAD_METHOD_PARAMS && bytes_eq uri brought then Some true else None) rule
 
 -- whether an event leaves the document of this URI lost that offends by this rule, or is kept: it
--- was to bring the text of a document, or says this about one of which this is held
-abbrev pub left_by : List ℕ → Option ℕ → Option (List ℕ) → Option Version → Option Call
-    → Option Bool
-left_by uri rule brought now said = option_or (left_without uri rule brought)
+-- was to bring the text of a document, or says this about one, and opens it again with another text
+-- or does not
+abbrev pub left_by : List ℕ → Option ℕ → Option (List ℕ) → Bool → Option Call → Option Bool
+left_by uri rule brought other said = option_or (left_without uri rule brought)
     (option_and_then (λ call.
-    if bytes_eq uri (uri_of call) then left_lost rule now call else None) said)
+    if concerns uri rule call then left_lost rule other call else None) said)
 
 abbrev pub lost_by : Terms → List ℕ → List Noted → Noted → Option Bool
 lost_by terms uri before n =
     left_by uri (rule_at terms (events_of before) n.event)
     (option_and_then brought_by n.malformed)
-    (held_in terms (calls (kept_of terms (events_of before)))
+    (is_reopened terms (calls (kept_of terms (events_of before)))
     (said_at terms (events_of before) n.event))
     (said_at terms (events_of before) n.event)
 

@@ -87,6 +87,7 @@ pub data TextAnswer : Type 0 where
   text_is : List ℕ → TextAnswer
   no_document : TextAnswer
   too_few : TextAnswer
+  no_difference : TextAnswer
   refused : Verdict → TextAnswer
 
 abbrev pub held_answer : Option Version → TextAnswer

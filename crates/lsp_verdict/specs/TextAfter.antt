@@ -4,10 +4,12 @@ use lib.Utf8.{encodes}
 use Rattle.lsp_frame.specs.Bounds.{Bounds, IsInRange}
 use Rattle.lsp_verdict.specs.Given.{verdict_view}
 use Rattle.lsp_verdict.specs.Outcome.{IsVerdict, log_terms}
-use Rattle.lsp_verdict.specs.Shown.{TextAnswer, text_is, no_document, too_few, refused, up_to_editor, text_answer}
+use Rattle.lsp_verdict.specs.Shown.{TextAnswer, text_is, no_document, no_difference, too_few}
+use Rattle.lsp_verdict.specs.Shown.{refused, up_to_editor, text_answer}
 use Rattle.lsp_verdict.specs.Verdict.{Verdict}
 use Rattle.lsp_verdict.specs.declared.outcome.Outcome.{Outcome}
-use Rattle.lsp_verdict.specs.declared.outcome.Outcome.TheVariants.{Done, Judged, NoDocument, TooFew}
+use Rattle.lsp_verdict.specs.declared.outcome.Outcome.TheVariants.{Done, Judged, NoDocument}
+use Rattle.lsp_verdict.specs.declared.outcome.Outcome.TheVariants.{NoDifference, TooFew}
 use Rattle.lsp_verdict.specs.declared.verdict.Verdict as code
 
 -- **the answer on a log**: what its verdict and its events up to the editor's n-th message say
@@ -26,6 +28,7 @@ abbrev pub written_of : TextAnswer → List ℕ
 written_of (text_is text) = encodes text
 written_of no_document = []
 written_of too_few = []
+written_of no_difference = []
 written_of (refused v) = []
 
 -- how a run ends that has this answer
@@ -33,6 +36,7 @@ abbrev pub EndsAs : TextAnswer → Outcome → Type 0
 EndsAs (text_is text) outcome = outcome ≡ Done
 EndsAs no_document outcome = outcome ≡ NoDocument
 EndsAs too_few outcome = outcome ≡ TooFew
+EndsAs no_difference outcome = outcome ≡ NoDifference
 EndsAs (refused v) outcome = (given : code.Verdict) × (outcome ≡ Judged given) × (verdict_view given ≡ v)
 
 -- **what is due for a text**, where a log has one of these answers: the text that is held and

@@ -40,6 +40,8 @@ pub enum Outcome {
     NoDocument,
     /// The editor sent fewer messages than the requested number.
     TooFew,
+    /// The verdict is not that two texts differ.
+    NoDifference,
 }
 
 /// Why a run stopped before its end.

@@ -30,7 +30,7 @@ Examples:
 Exit status:
   0 yes or done        3 read or write fault
   1 no                 4 out of memory
-  2 bad log or stream  5 nothing to write (text, event)
+  2 bad log or stream  5 nothing to write (text, event, explain --by-messages, --in-editor)
                        64 bad arguments
 
 The repository describes the rules in docs/RULES.md, the lines of a report in docs/REPORT.md,
@@ -170,6 +170,16 @@ fn explain<'a>(alloc: Global) -> Result<Command<'a>, AllocError>
     ensures { IfOk result (λ command. shape_of command ≡ explain) }
 {
     explain_options(alloc)?
+        .arg(flag(
+            alloc,
+            "by-messages",
+            "Writes the whole text that the messages make, where two texts differ (608, 702)",
+        ))?
+        .arg(flag(
+            alloc,
+            "in-editor",
+            "Writes the whole text that it differs from: the saved one, or the snapshot's",
+        ))?
         .arg(quiet(alloc))?
         .arg(log_file(alloc))
 }

@@ -2,6 +2,7 @@
 ghost use Rattle.std.specs.Prelude.{◌≡◌};
 ghost use Rattle.lsp_command.specs.Words.{limits_by};
 
+use lsp_explain::ComparedText;
 use lsp_frame::Limits;
 use lsp_types::LineEnds;
 use lsp_verdict::{Completeness, Lines, Listing, Mode};
@@ -18,6 +19,8 @@ pub enum Task<'a> {
     Explain(Completeness),
     /// To explain all that is wrong with a recorded session, which must be complete or not.
     ExplainAll(Completeness),
+    /// To write one of the two texts of a verdict that says that they differ.
+    Compared(ComparedText),
     /// To list the events of a recorded session by short or long lines, and to judge it.
     Show(Lines),
     /// To list all events, by short or long lines, with the offences in their places.

@@ -3,7 +3,8 @@ ghost use Rattle.std.specs.Prelude.{◌≡◌, IfErr, IfOk, codes, map, option_m
 ghost use Rattle.clap.specs.Words.{App, one_of, subcommand_rows_of};
 ghost use Rattle.lsp_command.specs.CommandLine.{IsCommandLine};
 ghost use Rattle.lsp_command.specs.Words.{Asks, HasTask, IsFlag, NumberIn, Refuses, RequestIn};
-ghost use Rattle.lsp_command.specs.Words.{TaskIn, check_of, completeness_of, explain_of, file_of};
+ghost use Rattle.lsp_command.specs.Words.{TaskIn, check_of, compared_of, completeness_of};
+ghost use Rattle.lsp_command.specs.Words.{explain_of, file_of};
 ghost use Rattle.lsp_command.specs.Words.{line_ends_of, lines_of, listing_of, mode_of, rows_in};
 ghost use Rattle.lsp_command.specs.Words.{show_of, text_of};
 
@@ -11,6 +12,7 @@ use crate::command_line::commands::command_line;
 use crate::command_line::task::{Request, Task};
 use clap::error::ErrorKind;
 use clap::{ArgMatches, Error};
+use lsp_explain::ComparedText;
 use lsp_types::LineEnds;
 use lsp_verdict::{Completeness, Lines, Listing, Mode};
 use std::alloc::Global;
@@ -62,11 +64,27 @@ fn check_of<'a>(completeness: Completeness, listing: Option<Listing>) -> Task<'a
     }
 }
 
-/// What explains the verdict on a session, or all that is wrong with it, where the option for that
-/// is set or not.
-fn explain_of<'a>(completeness: Completeness, all: bool) -> Task<'a>
-    ensures { result ≡ explain_of completeness all }
+/// Which of two texts that differ is written, where one is: the options for these are set or not.
+fn compared_of(by_messages: bool, in_editor: bool) -> Option<ComparedText>
+    ensures { result ≡ compared_of by_messages in_editor }
 {
+    if by_messages {
+        Some(ComparedText::ByMessages)
+    } else if in_editor {
+        Some(ComparedText::InEditor)
+    } else {
+        None
+    }
+}
+
+/// What explains the verdict on a session, or all that is wrong with it, where the option for that
+/// is set or not; or one of the two texts of the verdict.
+fn explain_of<'a>(completeness: Completeness, all: bool, text: Option<ComparedText>) -> Task<'a>
+    ensures { result ≡ explain_of completeness all text }
+{
+    if let Some(which) = text {
+        return Task::Compared(which);
+    }
     if all {
         Task::ExplainAll(completeness)
     } else {
@@ -143,6 +161,10 @@ fn explain_task<'a>(arguments: &ArgMatches<'_>) -> Task<'a>
     explain_of(
         completeness_of(is_set(arguments, "complete")),
         is_set(arguments, "all"),
+        compared_of(
+            is_set(arguments, "by-messages"),
+            is_set(arguments, "in-editor"),
+        ),
     )
 }
 

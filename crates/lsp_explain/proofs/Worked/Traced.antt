@@ -31,7 +31,7 @@ with_events rule before event plain = fact_lines (traced terms before event rule
 -- ---- ids
 
 answered_before : with_events 301 (START ++ REQ ∷ RES (codes "7") ∷ []) (RES (codes "7")) []
-    ≡ codes "answered event 5\n"
+    ≡ codes "answered event 5 server 2\n"
 unfolding value punctuate lex content word after_number number_of scan_numeral chars digits
     escape_byte
 answered_before = refl
@@ -42,21 +42,21 @@ unfolding value punctuate lex content word after_number number_of scan_numeral c
 never_answered = refl
 
 taken_again : with_events 302 (START ++ REQ ∷ RES (codes "7") ∷ REQ ∷ []) REQ []
-    ≡ codes "asked event 6\nanswered event 5\n"
+    ≡ codes "asked event 6 editor 4\nanswered event 5 server 2\n"
 unfolding value punctuate lex content word after_number number_of scan_numeral chars digits
     escape_byte
 taken_again = refl
 
 -- an event that offends has a number, and brings nothing
 passed_over : with_events 301 (START ++ REQ ∷ REQ ∷ RES (codes "7") ∷ []) (RES (codes "7")) []
-    ≡ codes "answered event 6\n"
+    ≡ codes "answered event 6 server 2\n"
 unfolding value punctuate lex content word after_number number_of scan_numeral chars digits
     escape_byte
 passed_over = refl
 
 -- an open request whose id is of another type
 other_type : with_events 301 (START ++ REQ ∷ []) (RES (codes "\"7\"")) []
-    ≡ codes "open 7 event 4\n"
+    ≡ codes "open 7 event 4 editor 3\n"
 unfolding value punctuate lex content word after_number number_of scan_numeral chars digits
     escape_byte
 other_type = refl
@@ -83,7 +83,7 @@ a_sign_before_nothing = refl
 
 -- ---- the phase
 
-initialized_again : with_events 404 START N1 [] ≡ codes "since event 3\n"
+initialized_again : with_events 404 START N1 [] ≡ codes "since event 3 editor 2\n"
 unfolding value punctuate lex content word after_number number_of scan_numeral chars digits
     escape_byte
 initialized_again = refl
@@ -94,13 +94,14 @@ unfolding value punctuate lex content word after_number number_of scan_numeral c
 nothing_yet = refl
 
 refused_handshake : with_events 401 (I1 ∷ ERR (codes "1") (codes "-1") ∷ []) REQ []
-    ≡ codes "since event 2\n"
+    ≡ codes "since event 2 server 1\n"
 unfolding value punctuate lex content word after_number number_of scan_numeral chars digits
     escape_byte
 refused_handshake = refl
 
 unanswered : fact_lines (lack_traced (numbered terms (START ++ REQ ∷ [])))
-    ≡ codes "request 7 \"textDocument/hover\" event 4\nphase ready\nsince event 3\n"
+    ≡ codes "request 7 \"textDocument/hover\" event 4 editor 3\nphase ready\n"
+    ++ codes "since event 3 editor 2\n"
 unfolding value punctuate lex content word after_number number_of scan_numeral chars digits
     escape_byte
 unanswered = refl
@@ -110,8 +111,8 @@ unanswered = refl
 snapshot_differs : with_events 702
     (START ++ OPEN (codes "1") (codes "ab") ∷ T 1 (codes "ab") ∷ CHG (codes "2")
     (FULL (codes "abc")) ∷ []) (T 2 (codes "abd")) (of_uri [] ∷ holds (pos 2) ∷ shows_version (pos 2) ∷ [])
-    ≡ codes "uri \"\"\nheld 2 event 6\nversion 2\nsnapshot event 7\nequal 1 event 5\n"
-    ++ codes "suspects 1\nsuspect 2 event 6\n"
+    ≡ codes "uri \"\"\nheld 2 event 6 editor 4\nversion 2\nsnapshot event 7 snapshot 2\n"
+    ++ codes "equal 1 event 5 snapshot 1\nsuspects 1\nsuspect 2 event 6 editor 4\n"
 unfolding value punctuate lex content word after_number number_of scan_numeral chars digits
     escape_byte
 snapshot_differs = refl
@@ -120,8 +121,8 @@ snapshot_differs = refl
 opened_again : with_events 702
     (START ++ OPEN (codes "1") (codes "ab") ∷ T 1 (codes "ab") ∷ CLOSE ∷ OPEN (codes "1")
     (codes "ab") ∷ []) (T 1 (codes "ac")) (of_uri [] ∷ holds (pos 1) ∷ shows_version (pos 1) ∷ [])
-    ≡ codes "uri \"\"\nheld 1 event 7\nversion 1\nsnapshot event 8\n"
-    ++ codes "suspects 1\nsuspect 1 event 7\n"
+    ≡ codes "uri \"\"\nheld 1 event 7 editor 5\nversion 1\nsnapshot event 8 snapshot 2\n"
+    ++ codes "suspects 1\nsuspect 1 event 7 editor 5\n"
 unfolding value punctuate lex content word after_number number_of scan_numeral chars digits
     escape_byte
 opened_again = refl
@@ -134,8 +135,8 @@ late_suspect : fact_lines (traced keeping
     (START ++ OPEN (codes "1") (codes "ab") ∷ CHG (codes "2") (FULL (codes "ax")) ∷ CHG (codes "3")
     (FULL (codes "axy")) ∷ T 1 (codes "ab") ∷ []) (T 2 (codes "ay")) 702
     (of_uri [] ∷ holds (pos 3) ∷ shows_version (pos 2) ∷ []))
-    ≡ codes "uri \"\"\nheld 3 event 6\nversion 2\nsnapshot event 8\nequal 1 event 7\n"
-    ++ codes "suspects 1\nsuspect 2 event 5\n"
+    ≡ codes "uri \"\"\nheld 3 event 6 editor 5\nversion 2\nsnapshot event 8 snapshot 2\n"
+    ++ codes "equal 1 event 7 snapshot 1\nsuspects 1\nsuspect 2 event 5 editor 4\n"
 unfolding value punctuate lex content word after_number number_of scan_numeral chars digits
     escape_byte
 late_suspect = refl
@@ -143,7 +144,7 @@ late_suspect = refl
 -- ---- a document that is not open
 
 closed_before : with_events 602 (START ++ OPEN (codes "1") (codes "ab") ∷ CLOSE ∷ []) CLOSE []
-    ≡ codes "closed event 5\n"
+    ≡ codes "closed event 5 editor 4\n"
 unfolding value punctuate lex content word after_number number_of scan_numeral chars digits
     escape_byte percent_decode
 closed_before = refl

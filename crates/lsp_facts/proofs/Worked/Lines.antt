@@ -26,7 +26,9 @@ use Rattle.lsp_facts.specs.Fact.{would_have}
 use Rattle.lsp_facts.specs.Fact.{may_have, differs_at, by_messages, in_editor, saved_line, keeps}
 use Rattle.lsp_facts.specs.Fact.{in_line_ends}
 use Rattle.lsp_facts.specs.Fact.{offers, in_record, shown_by, equal_by, answered_by, asked_by}
-use Rattle.lsp_facts.specs.Fact.{led_by, waits_since, has_suspects, suspects}
+use Rattle.lsp_facts.specs.Fact.{led_by, waits_since, has_suspects, suspects, closed_by}
+use Rattle.lsp_facts.specs.Fact.{never_opened, similar_to}
+use Rattle.lsp_replay.specs.declared.heard.EventPlace.{EventPlace}
 use Rattle.lsp_facts.specs.Part.{Part}
 use Rattle.lsp_facts.specs.Lines.{fact_lines, end_event, event_line, usual}
 
@@ -76,13 +78,27 @@ of_lists : fact_lines (keeps (pos 3 ∷ pos 4 ∷ pos 7 ∷ []) ∷ offers (code
 unfolding digits escape_byte
 of_lists = refl
 
-of_earlier_events : fact_lines (holds_by (pos 3) 12 ∷ shows_version (negsuc 0) ∷ counts_in Utf8
-    ∷ counts_in Utf16 ∷ counts_in Utf32 ∷ shown_by 7 ∷ equal_by (pos 1) 5 ∷ answered_by 9
-    ∷ asked_by 4 ∷ led_by 8 ∷ waits_since (number (pos 7)) (codes "shutdown") 6
-    ∷ has_suspects 12 ∷ suspects (pos 2) 6 ∷ [])
-    ≡ codes "held 3 event 12\nversion -1\nencoding utf-8\nencoding utf-16\nencoding utf-32\n"
-    ++ codes "snapshot event 7\nequal 1 event 5\nanswered event 9\nasked event 4\nsince event 8\n"
-    ++ codes "request 7 \"shutdown\" event 6\nsuspects 12\nsuspect 2 event 6\n"
+-- the editor's messages of these events are numbered so
+abbrev by_editor : ℕ → ℕ → EventPlace
+by_editor event number = record { event = event; who = who.Editor; number = number }
+
+abbrev by_server : ℕ → ℕ → EventPlace
+by_server event number = record { event = event; who = who.Server; number = number }
+
+abbrev by_recorder : ℕ → ℕ → EventPlace
+by_recorder event number = record { event = event; who = who.Snapshot; number = number }
+
+of_earlier_events : fact_lines (holds_by (pos 3) (by_editor 12 5) ∷ shows_version (negsuc 0)
+    ∷ counts_in Utf8 ∷ counts_in Utf16 ∷ counts_in Utf32 ∷ shown_by (by_recorder 7 2)
+    ∷ equal_by (pos 1) (by_recorder 5 1) ∷ answered_by (by_server 9 3) ∷ asked_by (by_editor 4 3)
+    ∷ led_by (by_editor 8 6) ∷ waits_since (number (pos 7)) (codes "shutdown") (by_editor 6 4)
+    ∷ has_suspects 12 ∷ suspects (pos 2) (by_editor 6 4) ∷ closed_by (by_editor 9 7)
+    ∷ never_opened ∷ similar_to (codes "file:///A") (by_editor 4 3) ∷ [])
+    ≡ codes "held 3 event 12 editor 5\nversion -1\nencoding utf-8\nencoding utf-16\n"
+    ++ codes "encoding utf-32\nsnapshot event 7 snapshot 2\nequal 1 event 5 snapshot 1\n"
+    ++ codes "answered event 9 server 3\nasked event 4 editor 3\nsince event 8 editor 6\n"
+    ++ codes "request 7 \"shutdown\" event 6 editor 4\nsuspects 12\nsuspect 2 event 6 editor 4\n"
+    ++ codes "closed event 9 editor 7\nopened never\nsimilar \"file:///A\" event 4 editor 3\n"
 unfolding digits escape_byte
 of_earlier_events = refl
 

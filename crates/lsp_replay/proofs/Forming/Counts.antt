@@ -13,7 +13,7 @@ use Rattle.lsp_log.specs.Log.{Record, IsLog}
 use Rattle.lsp_log.specs.declared.fault.LogCode.{LogCode}
 use Rattle.lsp_verdict.specs.declared.outcome.Outcome.{Outcome}
 use Rattle.lsp_verdict.specs.declared.outcome.Outcome.TheVariants.{Done, Judged, Stream, NoDocument}
-use Rattle.lsp_verdict.specs.declared.outcome.Outcome.TheVariants.{TooFew}
+use Rattle.lsp_verdict.specs.declared.outcome.Outcome.TheVariants.{NoDifference, TooFew}
 use Rattle.lsp_verdict.specs.Given.{as_given}
 use Rattle.lsp_verdict.specs.LookBack.{first_from}
 use Rattle.lsp_verdict.specs.Outcome.{ending}
@@ -92,3 +92,4 @@ carries_exact (Judged v) fault exact carries = sym exact ∙ carries
 carries_exact (Stream frame f) fault exact carries = absurd carries
 carries_exact NoDocument fault exact carries = absurd carries
 carries_exact TooFew fault exact carries = absurd carries
+carries_exact NoDifference fault exact carries = absurd carries

@@ -32,7 +32,7 @@ use Rattle.lsp_verdict.specs.Verdict.{Verdict, bad_log}
 use Rattle.lsp_verdict.specs.declared.counts.Counts.{Counts}
 use Rattle.lsp_verdict.specs.declared.outcome.Outcome.{Outcome}
 use Rattle.lsp_verdict.specs.declared.outcome.Outcome.TheVariants.{Done, Judged, Stream, NoDocument}
-use Rattle.lsp_verdict.specs.declared.outcome.Outcome.TheVariants.{TooFew}
+use Rattle.lsp_verdict.specs.declared.outcome.Outcome.TheVariants.{NoDifference, TooFew}
 use Rattle.lsp_verdict.specs.declared.outcome.RunFault.{RunFault}
 use Rattle.lsp_verdict.specs.declared.outcome.RunFault.TheVariants as faults
 use Rattle.lsp_verdict.specs.declared.verdict.Verdict.TheVariants as verdicts
@@ -54,6 +54,7 @@ carried (Judged w) v carries e = absurd cc
 carried (Stream frame fault) v carries e = absurd cc
 carried NoDocument v carries e = absurd cc
 carried TooFew v carries e = absurd cc
+carried NoDifference v carries e = absurd cc
 
 late_source : (fault : RunFault) (n : ℕ) → IsLate fault → n ≡ failures_after fault n
 late_source faults.Read n late = absurd late

@@ -1,5 +1,5 @@
 //! What messages and snapshots say about documents, and what they leave of the notes.
-ghost use Rattle.std.specs.Prelude.{◌≡◌, List, Option, Some, None, OnOk, chars, is_none};
+ghost use Rattle.std.specs.Prelude.{◌≡◌, List, Some, None, IfOk, OnOk, chars, false, is_none};
 ghost use Rattle.std.specs.Prelude.{option_map, string_bytes, true};
 ghost use Rattle.std.specs.List.{list_any};
 ghost use Rattle.lsp_docs.specs.Calls.{Call, opens, uri_of};
@@ -7,15 +7,14 @@ ghost use Rattle.lsp_rpc.specs.View.{act_view};
 ghost use Rattle.lsp_types.specs.declared.position.Encoding.{Encoding};
 ghost use Rattle.lsp_types.specs.declared.change.SyncKind.{SyncKind};
 ghost use Rattle.lsp_verdict.specs.Calls.{call_of};
-ghost use Rattle.lsp_verdict.specs.Offences.{has_changes, renews};
-ghost use Rattle.lsp_docs.specs.Documents.{Version, held};
+ghost use Rattle.lsp_docs.specs.Documents.{held};
 ghost use Rattle.lsp_docs.specs.State.{Stands};
-ghost use Rattle.lsp_verdict.specs.Offences.{held_in, is_other};
-ghost use Rattle.lsp_survey.specs.Notes.{AreAfter, Leaves, is_noted_lost, is_reopened};
+ghost use Rattle.lsp_verdict.specs.Offences.{is_other, is_reopened, renews, sets_text};
+ghost use Rattle.lsp_survey.specs.Notes.{AreAfter, Leaves, is_noted_lost};
 
-use crate::notes::note::{Note, Notes};
+use crate::notes::note::Notes;
 use crate::notes::rules::loses;
-use lsp_docs::Docs;
+use lsp_docs::{Docs, has_text};
 use lsp_rpc::{Act, Change, Memory};
 use lsp_text::TextStore;
 use lsp_types::rules;
@@ -36,13 +35,16 @@ pub fn uri_in(act: &Act) -> Option<&str>
 }
 
 /// Whether the document that an act speaks of is lost.
-pub(crate) fn is_on_lost(notes: &Notes, act: &Act) -> bool
-    ensures { (enc : Encoding) (kind : SyncKind)
-        → result ≡ is_noted_lost notes.now.map.entries (call_of enc kind (act_view act.now)) }
+///
+/// # Errors
+/// `Memory` where memory was refused.
+pub(crate) fn is_on_lost(notes: &Notes, act: &Act) -> Result<bool, Memory>
+    ensures { IfOk result (λ lost. (enc : Encoding) (kind : SyncKind)
+        → lost ≡ is_noted_lost notes.now.map.entries (call_of enc kind (act_view act.now))) }
 {
     match uri_in(act) {
-        Some(uri) => notes.get(uri).lost,
-        None => false,
+        Some(uri) => notes.is_lost(uri),
+        None => Ok(false),
     }
 }
 
@@ -56,7 +58,7 @@ fn any_whole(changes: &[Change]) -> bool
 /// Whether another version or text is held of a document.
 fn holds_other<S: TextStore>(docs: &Docs<S>, uri: &str, version: i32, text: &str) -> bool
     ensures { (calls : List Call) → Stands docs.now calls
-        → result ≡ is_other (opens uri.now version (chars text.now))
+        → result ≡ is_other docs.now.terms (opens uri.now version (chars text.now))
         (held docs.now.terms uri.now calls) }
 {
     let Some(number) = docs.version_of(uri) else {
@@ -68,19 +70,14 @@ fn holds_other<S: TextStore>(docs: &Docs<S>, uri: &str, version: i32, text: &str
     if number != version {
         return true;
     }
-    !store.equals(text)
+    !has_text(docs.line_ends(), store, text)
 }
 
-/// Whether an act that breaks this rule opens a document again, with another version or text than
-/// is held of it.
-pub(crate) fn reopens<S: TextStore>(docs: &Docs<S>, rule: u16, act: &Act) -> bool
+/// Whether an act opens a document again, with another version or text than is held of it.
+pub(crate) fn reopens<S: TextStore>(docs: &Docs<S>, act: &Act) -> bool
     ensures { (calls : List Call) → Stands docs.now calls → (enc : Encoding) (kind : SyncKind)
-        → result ≡ is_reopened rule (held_in docs.now.terms calls
-        (call_of enc kind (act_view act.now))) (call_of enc kind (act_view act.now)) }
+        → result ≡ is_reopened docs.now.terms calls (call_of enc kind (act_view act.now)) }
 {
-    if rule != rules::DOCUMENT_ALREADY_OPEN {
-        return false;
-    }
     match act {
         Act::DidOpen { uri, version, text } => {
             holds_other(docs, uri.as_str(), *version, text.as_str())
@@ -89,8 +86,8 @@ pub(crate) fn reopens<S: TextStore>(docs: &Docs<S>, rule: u16, act: &Act) -> boo
     }
 }
 
-/// Notes that what was said about a document, which is opened again with another text or not, with
-/// changes or without, breaks this rule.
+/// Notes that what was said about a document, which is opened again with another text or not, and
+/// sets its text or not, breaks this rule.
 ///
 /// # Errors
 /// `Memory` where memory was refused; nothing is then known of the notes.
@@ -98,17 +95,19 @@ pub(crate) fn note_refused(
     notes: &mut Notes,
     rule: u16,
     uri: &str,
-    reopens: bool,
-    changed: bool,
+    other: bool,
+    sets: bool,
 ) -> Result<(), Memory>
-    ensures { OnOk result ((call : Call) (now : Option Version) → uri_of call ≡ uri.now
-        → is_reopened rule now (Some call) ≡ reopens → has_changes call ≡ changed
-        → Leaves (Some rule) None now (Some call) notes.old.map.entries notes.new.map.entries) }
+    ensures { OnOk result ((call : Call) → uri_of call ≡ uri.now → sets_text call ≡ sets
+        → Leaves (Some rule) None other (Some call) notes.old.map.entries notes.new.map.entries) }
 {
-    if !loses(rule, reopens, changed) {
+    if !loses(rule, other, sets) {
         return Ok(());
     }
-    notes.set(uri, Note { lost: true })
+    if rule == rules::DOCUMENT_NOT_OPEN {
+        return notes.lose_alike(uri);
+    }
+    notes.lose(uri)
 }
 
 /// Notes that a message breaks this rule that was to open or to change this document.
@@ -120,14 +119,14 @@ pub(crate) fn note_malformed(
     rule: u16,
     brings: Option<String>,
 ) -> Result<(), Memory>
-    ensures { OnOk result (Leaves (Some rule) (option_map string_bytes brings) None None
+    ensures { OnOk result (Leaves (Some rule) (option_map string_bytes brings) false None
         notes.old.map.entries notes.new.map.entries) }
 {
     let Some(uri) = brings else {
         return Ok(());
     };
     if rule == rules::BAD_METHOD_PARAMS {
-        notes.set(uri.as_str(), Note { lost: true })
+        notes.lose(uri.as_str())
     } else {
         Ok(())
     }
@@ -138,7 +137,7 @@ fn note_renewed(notes: &mut Notes, uri: &str) -> Result<(), Memory>
     ensures { OnOk result ((call : Call) → uri_of call ≡ uri.now → renews call ≡ true
         → AreAfter (Some call) notes.old.map.entries notes.new.map.entries) }
 {
-    notes.set(uri, Note { lost: false })
+    notes.renew(uri)
 }
 
 /// Notes that an act breaks this rule, which opens a document again with another text or doesn't.
@@ -148,21 +147,20 @@ fn note_renewed(notes: &mut Notes, uri: &str) -> Result<(), Memory>
 pub(crate) fn note_refused_act(
     notes: &mut Notes,
     rule: u16,
-    reopens: bool,
+    other: bool,
     act: &Act,
 ) -> Result<(), Memory>
-    ensures { OnOk result ((enc : Encoding) (kind : SyncKind) (now : Option Version)
-        → is_reopened rule now (call_of enc kind (act_view act.now)) ≡ reopens
-        → Leaves (Some rule) None now (call_of enc kind (act_view act.now))
+    ensures { OnOk result ((enc : Encoding) (kind : SyncKind)
+        → Leaves (Some rule) None other (call_of enc kind (act_view act.now))
         notes.old.map.entries notes.new.map.entries) }
 {
     match act {
-        Act::DidOpen { uri, .. } => note_refused(notes, rule, uri.as_str(), reopens, false),
+        Act::DidOpen { uri, .. } => note_refused(notes, rule, uri.as_str(), other, true),
         Act::DidChange { uri, changes, .. } => {
-            note_refused(notes, rule, uri.as_str(), false, !changes.is_empty())
+            note_refused(notes, rule, uri.as_str(), other, !changes.is_empty())
         }
-        Act::DidClose { uri } => note_refused(notes, rule, uri.as_str(), false, false),
-        Act::DidSave { uri, .. } => note_refused(notes, rule, uri.as_str(), false, false),
+        Act::DidClose { uri } => note_refused(notes, rule, uri.as_str(), other, false),
+        Act::DidSave { uri, .. } => note_refused(notes, rule, uri.as_str(), other, false),
         _ => Ok(()),
     }
 }

@@ -11,6 +11,7 @@ ghost use Rattle.lsp_survey.specs.SessionNoting.{asked_in, given_view, replies_i
 use crate::notes::by_id::{forget, put};
 use crate::notes::last_ones::make_room;
 use indexmap::IndexMap;
+use lsp_replay::EventPlace;
 use lsp_rpc::{Id, Memory, copy_id, same_id};
 use std::alloc::Global;
 use std::collections::VecDeque;
@@ -21,18 +22,18 @@ const MOST_REPLIES: usize = 1024;
 /// The length in bytes of the longest id that is held.
 const MOST_ID: usize = 128;
 
-/// An answer that was given: the id of its request, and the number of its event.
+/// An answer that was given: the id of its request, and the place of its event.
 #[derive(Drop)]
 pub(crate) struct Given {
     id: Id,
-    event: u64,
+    place: EventPlace,
 }
 
-/// The requests of one side: the events of those that are open, and of the last answers to those
+/// The requests of one side: the places of those that are open, and of the last answers to those
 /// with a short id.
 #[derive(Drop)]
 pub(crate) struct Exchange {
-    asked: IndexMap<Id, u64>,
+    asked: IndexMap<Id, EventPlace>,
     replies: VecDeque<Given>,
 }
 
@@ -48,44 +49,44 @@ impl Exchange {
         }
     }
 
-    /// The event that asked the open request with this id.
-    pub(crate) fn asked(&self, id: &Id) -> Option<u64>
+    /// The place of the open request with this id.
+    pub(crate) fn asked(&self, id: &Id) -> Option<EventPlace>
         ensures { result ≡ asked_in self.now.asked.entries (id_view id.now) }
     {
         self.asked.get(id).copied()
     }
 
-    /// The event of the last answer that is held to a request with this id.
-    pub(crate) fn answered(&self, id: &Id) -> Option<u64>
+    /// The place of the last answer that is held to a request with this id.
+    pub(crate) fn answered(&self, id: &Id) -> Option<EventPlace>
         ensures { result ≡ last_reply (id_view id.now) (replies_in self.now) }
     {
         let (first, second) = self.replies.as_slices();
         last_in(second, id).or(last_in(first, id))
     }
 
-    /// The event of this number asks a request.
-    pub(crate) fn ask(&mut self, id: &Id, event: u64) -> Result<(), Memory>
+    /// The event of this place asks a request.
+    pub(crate) fn ask(&mut self, id: &Id, place: EventPlace) -> Result<(), Memory>
         ensures asked { OnOk result ((k : AnId) → asked_in self.new.asked.entries (id_view k)
             ≡ (if same_id (id_view id.now)
-            (id_view k) then Some event else asked_in self.old.asked.entries (id_view k))) }
+            (id_view k) then Some place else asked_in self.old.asked.entries (id_view k))) }
         ensures replies { self.new.replies ≡ self.old.replies }
     {
-        put(&mut self.asked, id, event)
+        put(&mut self.asked, id, place)
     }
 
-    /// The event of this number answers a request.
-    pub(crate) fn answer(&mut self, id: &Id, event: u64) -> Result<(), Memory>
+    /// The event of this place answers a request.
+    pub(crate) fn answer(&mut self, id: &Id, place: EventPlace) -> Result<(), Memory>
         ensures asked { (k : AnId) → asked_in self.new.asked.entries (id_view k)
             ≡ (if same_id (id_view id.now)
             (id_view k) then None else asked_in self.old.asked.entries (id_view k)) }
         ensures replies { OnOk result ((given : List Reply)
             → replies_in self.old ≡ last_ones most_replies given
             → replies_in self.new ≡ last_ones most_replies (given
-            ++ option_to_list (reply_of event (Some (id_view id.now))))) }
+            ++ option_to_list (reply_of place (Some (id_view id.now))))) }
     {
         forget(&mut self.asked, id);
         if is_short(id) {
-            push(&mut self.replies, id, event)
+            push(&mut self.replies, id, place)
         } else {
             Ok(())
         }
@@ -103,26 +104,26 @@ fn is_short(id: &Id) -> bool
 }
 
 /// Adds an answer after the others, of which the last ones stay.
-fn push(replies: &mut VecDeque<Given>, id: &Id, event: u64) -> Result<(), Memory>
+fn push(replies: &mut VecDeque<Given>, id: &Id, place: EventPlace) -> Result<(), Memory>
     ensures { OnOk result ((given : List Reply)
         → map given_view replies.old.items ≡ last_ones most_replies given
         → map given_view replies.new.items
-        ≡ last_ones most_replies (given ++ replied event (id_view id.now) ∷ [])) }
+        ≡ last_ones most_replies (given ++ replied place (id_view id.now) ∷ [])) }
 {
     let id = copy_id(id)?;
     make_room(replies, MOST_REPLIES);
-    replies.push_back(Given { id, event })?;
+    replies.push_back(Given { id, place })?;
     Ok(())
 }
 
-/// The event of the last of these answers to a request with this id.
-fn last_in(replies: &[Given], id: &Id) -> Option<u64>
+/// The place of the last of these answers to a request with this id.
+fn last_in(replies: &[Given], id: &Id) -> Option<EventPlace>
     ensures { result ≡ last_reply (id_view id.now) (map given_view replies.now) }
 {
     let mut last = None;
     for given in replies {
         if same_id(id, &given.id) {
-            last = Some(given.event);
+            last = Some(given.place);
         }
     }
     last

@@ -10,6 +10,7 @@ ghost use Rattle.lsp_survey.specs.Marking.{newer_of, next_rank, rank_of, stepped
 ghost use Rattle.lsp_survey.specs.LastOnes.{with_room};
 ghost use Rattle.lsp_survey.specs.Marks.{is_first_reached, mark_view, rest_of, waiting_in};
 
+use lsp_replay::EventPlace;
 use lsp_rpc::Memory;
 use std::alloc::Global;
 use std::collections::BTreeMap;
@@ -21,8 +22,8 @@ const MOST_SETTERS: usize = 17;
 /// A `didOpen` or a `didChange` that set a version of a document.
 #[derive(Clone, Copy, Debug, PartialEq, Eq)]
 pub struct Setter {
-    /// The number of its event, from 1, all events counted.
-    pub event: u64,
+    /// The place of its event.
+    pub place: EventPlace,
     /// The version that it set.
     pub version: i32,
     /// Which version of its opening that is, from 1 for the one of the `didOpen`.
@@ -32,8 +33,8 @@ pub struct Setter {
 /// A snapshot.
 #[derive(Clone, Copy, Debug, PartialEq, Eq)]
 pub struct Shown {
-    /// The number of its event, from 1, all events counted.
-    pub event: u64,
+    /// The place of its event.
+    pub place: EventPlace,
     /// The version of which it is.
     pub version: i32,
     /// Which version of its opening that is, from 1 for the one of the `didOpen`; 0 where it was
@@ -52,8 +53,8 @@ pub(crate) enum Touch {
     Awaited,
 }
 
-/// The events of the snapshots that wait, by version.
-type WaitMap = BTreeMap<i32, Vec<u64>>;
+/// The places of the snapshots that wait, by version.
+type WaitMap = BTreeMap<i32, Vec<EventPlace>>;
 
 /// What is marked of a document.
 #[derive(Drop)]
@@ -91,47 +92,47 @@ impl Mark {
         self.agreed
     }
 
-    /// The events of the snapshots that wait for a version.
-    pub(crate) fn waiting(&self, version: i32) -> &[u64]
+    /// The places of the snapshots that wait for a version.
+    pub(crate) fn waiting(&self, version: i32) -> &[EventPlace]
         ensures { result.now ≡ (mark_view self.now).waiting version }
     {
         match self.waiting.get(&version) {
-            Some(events) => events.as_slice(),
+            Some(places) => places.as_slice(),
             None => &[],
         }
     }
 
-    /// Marks that the event of this number touches the document, at this version.
+    /// Marks that the event of this place touches the document, at this version.
     pub(crate) fn touch(
         &mut self,
         alloc: Global,
         touch: Touch,
-        event: u64,
+        place: EventPlace,
         version: i32,
     ) -> Result<(), Memory>
         ensures { OnOk result (mark_view self.new
-            ≡ stepped (touches touch event version) (mark_view self.old)) }
+            ≡ stepped (touches touch place version) (mark_view self.old)) }
     {
         match touch {
-            Touch::Reached => self.reach(event, version),
+            Touch::Reached => self.reach(place, version),
             Touch::Compared => {
-                self.compare(event, version);
+                self.compare(place, version);
                 Ok(())
             }
-            Touch::Awaited => add(&mut self.waiting, alloc, version, event),
+            Touch::Awaited => add(&mut self.waiting, alloc, version, place),
         }
     }
 
-    /// Marks that the event of this number brings the document to this version.
-    fn reach(&mut self, event: u64, version: i32) -> Result<(), Memory>
+    /// Marks that the event of this place brings the document to this version.
+    fn reach(&mut self, place: EventPlace, version: i32) -> Result<(), Memory>
         ensures { OnOk result (mark_view self.new
-            ≡ stepped (touches Touch.Reached event version) (mark_view self.old)) }
+            ≡ stepped (touches Touch.Reached place version) (mark_view self.old)) }
     {
         let rank = next_rank(self.rank);
         let shown = last_of(&self.waiting, version, rank);
         make_room(&mut self.setters);
         self.setters.push(Setter {
-            event,
+            place,
             version,
             rank,
         })?;
@@ -141,14 +142,14 @@ impl Mark {
         Ok(())
     }
 
-    /// Marks that the event of this number is an equal snapshot of this version.
-    fn compare(&mut self, event: u64, version: i32)
+    /// Marks that the event of this place is an equal snapshot of this version.
+    fn compare(&mut self, place: EventPlace, version: i32)
         ensures { mark_view self.new
-            ≡ stepped (touches Touch.Compared event version) (mark_view self.old) }
+            ≡ stepped (touches Touch.Compared place version) (mark_view self.old) }
     {
         let rank = rank_of(self.setters.as_slice(), version);
         let shown = Shown {
-            event,
+            place,
             version,
             rank,
         };
@@ -200,10 +201,10 @@ fn is_set_to(setter: &Setter, version: i32) -> bool
 fn last_of(waiting: &WaitMap, version: i32, rank: u64) -> Option<Shown>
     ensures { result ≡ last_shown version rank (waiting_in waiting.now.entries version) }
 {
-    let events = waiting.get(&version)?;
-    let event = *events.as_slice().last()?;
+    let places = waiting.get(&version)?;
+    let place = *places.as_slice().last()?;
     Some(Shown {
-        event,
+        place,
         version,
         rank,
     })
@@ -233,14 +234,14 @@ fn newer(earlier: Shown, later: Shown) -> Shown
 }
 
 /// Adds a snapshot of a version after its others.
-fn add(waiting: &mut WaitMap, alloc: Global, version: i32, event: u64) -> Result<(), Memory>
+fn add(waiting: &mut WaitMap, alloc: Global, version: i32, place: EventPlace) -> Result<(), Memory>
     ensures { OnOk result ((number : ℤ) → waiting_in waiting.new.entries number
         ≡ waiting_in waiting.old.entries number
-        ++ (if int_eq version number then event ∷ [] else [])) }
+        ++ (if int_eq version number then place ∷ [] else [])) }
 {
-    let mut events = waiting.remove(&version).unwrap_or(Vec::new(alloc));
-    events.push(event)?;
-    waiting.insert(version, events)?;
+    let mut places = waiting.remove(&version).unwrap_or(Vec::new(alloc));
+    places.push(place)?;
+    waiting.insert(version, places)?;
     Ok(())
 }
 

@@ -13,6 +13,7 @@ ghost use Rattle.lsp_survey.specs.Marks.{AreMarks, DoneBy, ShownBy, StepsOn, mar
 use crate::notes::mark::{Mark, Setter, Shown, Touch};
 use indexmap::IndexMap;
 use lsp_docs::Match;
+use lsp_replay::EventPlace;
 use lsp_rpc::{Act, Memory};
 use std::alloc::Global;
 
@@ -62,8 +63,8 @@ impl Marks {
         }
     }
 
-    /// The numbers of the events of the snapshots of a URI that wait for this version, in order.
-    pub fn waiting(&self, uri: &str, version: i32) -> &[u64]
+    /// The places of the snapshots of a URI that wait for this version, in order.
+    pub fn waiting(&self, uri: &str, version: i32) -> &[EventPlace]
         ensures { (terms : Terms) (events : List Event) → AreMarks terms self.now.map.entries events
             → result.now ≡ waiting_for version (steps terms uri.now events) }
     {
@@ -73,21 +74,21 @@ impl Marks {
         }
     }
 
-    /// Marks what a message that is kept, the event of this number, does to a document.
+    /// Marks what a message that is kept, the event of this place, does to a document.
     ///
     /// # Errors
     /// `Memory` where memory was refused; nothing is then known of the marks.
-    pub(crate) fn keep_act(&mut self, event: u64, act: &Act) -> Result<(), Memory>
+    pub(crate) fn keep_act(&mut self, place: EventPlace, act: &Act) -> Result<(), Memory>
         ensures { OnOk result ((enc : Encoding) (kind : SyncKind)
-            → DoneBy event (call_of enc kind
+            → DoneBy place (call_of enc kind
             (act_view act.now)) self.old.map.entries self.new.map.entries) }
     {
         match act {
             Act::DidOpen { uri, version, .. } => {
-                touch(&mut self.map, uri.as_str(), Touch::Reached, event, *version)
+                touch(&mut self.map, uri.as_str(), Touch::Reached, place, *version)
             }
             Act::DidChange { uri, version, .. } => {
-                touch(&mut self.map, uri.as_str(), Touch::Reached, event, *version)
+                touch(&mut self.map, uri.as_str(), Touch::Reached, place, *version)
             }
             Act::DidClose { uri } => {
                 close(&mut self.map, uri.as_str());
@@ -97,38 +98,44 @@ impl Marks {
         }
     }
 
-    /// Marks a snapshot that is kept, the event of this number, as it was answered.
+    /// Marks a snapshot that is kept, the event of this place, as it was answered.
     ///
     /// # Errors
     /// `Memory` where memory was refused; nothing is then known of the marks.
     pub(crate) fn keep_snapshot(
         &mut self,
-        event: u64,
+        place: EventPlace,
         uri: &str,
         version: i32,
         answer: Match,
     ) -> Result<(), Memory>
-        ensures { OnOk result (ShownBy event uri.now version answer self.old.map.entries
+        ensures { OnOk result (ShownBy place uri.now version answer self.old.map.entries
             self.new.map.entries) }
     {
         match answer {
-            Match::Equal => touch(&mut self.map, uri, Touch::Compared, event, version),
-            Match::Waits => touch(&mut self.map, uri, Touch::Awaited, event, version),
+            Match::Equal => touch(&mut self.map, uri, Touch::Compared, place, version),
+            Match::Waits => touch(&mut self.map, uri, Touch::Awaited, place, version),
             Match::Missed => Ok(()),
         }
     }
 }
 
-/// Marks that the event of this number touches a document, at this version.
-fn touch(map: &mut MarkMap, uri: &str, touch: Touch, event: u64, version: i32) -> Result<(), Memory>
+/// Marks that the event of this place touches a document, at this version.
+fn touch(
+    map: &mut MarkMap,
+    uri: &str,
+    touch: Touch,
+    place: EventPlace,
+    version: i32,
+) -> Result<(), Memory>
     ensures { OnOk result (StepsOn uri.now
-        (touches touch event version) map.old.entries map.new.entries) }
+        (touches touch place version) map.old.entries map.new.entries) }
 {
     let alloc = *map.allocator();
     let Some(mark) = map.get_mut(uri) else {
-        return touch_first(map, uri, touch, event, version);
+        return touch_first(map, uri, touch, place, version);
     };
-    mark.touch(alloc, touch, event, version)
+    mark.touch(alloc, touch, place, version)
 }
 
 /// Marks the same of a document of which nothing is marked.
@@ -136,16 +143,16 @@ fn touch_first(
     map: &mut MarkMap,
     uri: &str,
     touch: Touch,
-    event: u64,
+    place: EventPlace,
     version: i32,
 ) -> Result<(), Memory>
     requires { marked_in map.old.entries uri.now ≡ unmarked }
     ensures { OnOk result (StepsOn uri.now
-        (touches touch event version) map.old.entries map.new.entries) }
+        (touches touch place version) map.old.entries map.new.entries) }
 {
     let alloc = *map.allocator();
     let mut mark = Mark::new(alloc);
-    mark.touch(alloc, touch, event, version)?;
+    mark.touch(alloc, touch, place, version)?;
     let key = String::from_str(alloc, uri)?;
     map.insert(key, mark)?;
     Ok(())

@@ -9,6 +9,7 @@ ghost use Rattle.lsp_survey.specs.Misuses.{has_method, misuse_in, misused, misus
 ghost use Rattle.lsp_survey.specs.Misuses.{with_misuse};
 
 use crate::notes::standard_methods::{is_notification, is_request};
+use lsp_replay::EventPlace;
 use lsp_rpc::{Memory, Message, Side};
 
 /// In which other way than LSP 3.17 has it a call was sent.
@@ -29,8 +30,8 @@ pub enum Misuse {
 pub struct Misused {
     pub misuse: Misuse,
     pub method: String,
-    /// The number of its event, from 1, all events counted.
-    pub event: u64,
+    /// The place of its event.
+    pub place: EventPlace,
 }
 
 /// How a request of this method is misused where the side sends it.
@@ -83,41 +84,41 @@ fn by_side(side: Side) -> Misuse
     }
 }
 
-/// Adds a message of the side, the event of this number, where it is a misuse of a method that none
+/// Adds a message of the side, the event of this place, where it is a misuse of a method that none
 /// of those before has.
 pub(crate) fn note_misuse(
     found: &mut Vec<Misused>,
-    event: u64,
+    place: EventPlace,
     side: Side,
     message: &Message,
 ) -> Result<(), Memory>
     ensures { OnOk result (misused_views found.new.items
         ≡ with_misuse (misused_views found.old.items)
-        (misuse_in event side (message_view message.now))) }
+        (misuse_in place side (message_view message.now))) }
 {
     match message {
         Message::Request { method, .. } => {
             let misuse = request_misuse(side, method.as_str());
-            note_call(found, event, misuse, method)
+            note_call(found, place, misuse, method)
         }
         Message::Notification { method, .. } => {
             let misuse = notification_misuse(side, method.as_str());
-            note_call(found, event, misuse, method)
+            note_call(found, place, misuse, method)
         }
         Message::Response { .. } => Ok(()),
     }
 }
 
-/// Adds a call, the event of this number, where it is misused so.
+/// Adds a call, the event of this place, where it is misused so.
 fn note_call(
     found: &mut Vec<Misused>,
-    event: u64,
+    place: EventPlace,
     misuse: Option<Misuse>,
     method: &String,
 ) -> Result<(), Memory>
     ensures { OnOk result (misused_views found.new.items
         ≡ with_misuse (misused_views found.old.items)
-        (option_map (misused event (string_bytes method.now)) misuse)) }
+        (option_map (misused place (string_bytes method.now)) misuse)) }
 {
     let Some(misuse) = misuse else {
         return Ok(());
@@ -129,7 +130,7 @@ fn note_call(
     found.push(Misused {
         misuse,
         method,
-        event,
+        place,
     })?;
     Ok(())
 }

@@ -1,71 +1,182 @@
-//! What is noted about documents in addition to what is held of them.
-ghost use Rattle.std.specs.Prelude.{◌≡◌, List, ℕ, OnOk};
-ghost use Rattle.lsp_survey.specs.Notes.{SetsNote, note_in, nothing};
+//! Which documents are lost.
+ghost use Rattle.std.specs.Prelude.{◌≡◌, false, List, ℕ, IfOk, None, OnOk, Some, true};
+ghost use Rattle.std.specs.Prelude.{if◌then◌else◌};
+ghost use Rattle.std.specs.Str.{bytes_eq};
+ghost use Rattle.lsp_survey.specs.Notes.{PutsSpelling, Sets, SetsAlike, has_uri, is_lost_in};
+ghost use Rattle.lsp_survey.specs.Notes.{is_noted, lost_among, spelling_in};
 
+use crate::notes::spelling::folded;
 use indexmap::IndexMap;
 use lsp_rpc::Memory;
 use std::alloc::Global;
 
-/// What is noted of a document.
-#[derive(Clone, Copy, Debug, PartialEq, Eq)]
-pub(crate) struct Note {
-    /// Whether an offence left the held text another than the sender's.
-    pub lost: bool,
+type Uris = IndexMap<String, ()>;
+
+/// The documents whose URIs differ in their spelling alone: all of them are lost or none, but for
+/// some.
+#[derive(Drop)]
+pub(crate) struct Spelling {
+    lost: bool,
+    others: Uris,
 }
 
-type NoteMap = IndexMap<String, Note>;
+impl Spelling {
+    /// All of them are lost, or none.
+    fn new(alloc: Global, lost: bool) -> Spelling
+        ensures { (uri : List ℕ) → is_lost_in result uri ≡ lost }
+    {
+        Spelling {
+            lost,
+            others: IndexMap::new(alloc),
+        }
+    }
 
-/// The notes of documents, by URI. Where there is nothing to note there is no entry.
+    /// Whether one of them is lost.
+    fn is_lost(&self, uri: &str) -> bool
+        ensures { result ≡ is_lost_in self.now uri.now }
+    {
+        if self.others.contains_key(uri) {
+            !self.lost
+        } else {
+            self.lost
+        }
+    }
+
+    /// One of them is lost, or is not; the others stay as they are.
+    fn set(&mut self, uri: &str, lost: bool) -> Result<(), Memory>
+        ensures { OnOk result ((u : List ℕ) → is_lost_in self.new u
+            ≡ (if bytes_eq uri.now u then lost else is_lost_in self.old u)) }
+    {
+        if lost == self.lost {
+            forget(&mut self.others, uri);
+            Ok(())
+        } else {
+            add(&mut self.others, uri)
+        }
+    }
+}
+
+type Spellings = IndexMap<Vec<u8>, Spelling>;
+
+/// Which documents are lost, by what URIs have in common that differ in their spelling alone.
 #[derive(Drop)]
 pub(crate) struct Notes {
-    map: NoteMap,
+    map: Spellings,
 }
 
 impl Notes {
-    /// Nothing is noted.
+    /// None is.
     pub(crate) fn new(alloc: Global) -> Notes
-        ensures { (uri : List ℕ) → note_in result.map.entries uri ≡ nothing }
+        ensures { (uri : List ℕ) → is_noted result.map.entries uri ≡ false }
     {
         Notes {
             map: IndexMap::new(alloc),
         }
     }
 
-    /// The note of a document.
-    pub(crate) fn get(&self, uri: &str) -> Note
-        ensures { result ≡ note_in self.now.map.entries uri.now }
+    /// Whether the document of this URI is lost.
+    ///
+    /// # Errors
+    /// `Memory` where memory was refused.
+    pub(crate) fn is_lost(&self, uri: &str) -> Result<bool, Memory>
+        ensures { IfOk result (λ lost. lost ≡ is_noted self.now.map.entries uri.now) }
     {
-        match self.map.get(uri) {
-            Some(note) => *note,
-            None => Note { lost: false },
+        if self.map.is_empty() {
+            return Ok(false);
+        }
+        let key = folded(*self.map.allocator(), uri)?;
+        match self.map.get(&key) {
+            Some(spelling) => Ok(spelling.is_lost(uri)),
+            None => Ok(false),
         }
     }
 
-    /// Sets the note of a document, and leaves all others.
-    pub(crate) fn set(&mut self, uri: &str, note: Note) -> Result<(), Memory>
-        ensures { OnOk result (SetsNote uri.now note self.old.map.entries self.new.map.entries) }
+    /// The document of this URI is lost; all others stay as they are.
+    ///
+    /// # Errors
+    /// `Memory` where memory was refused; nothing is then known of the notes.
+    pub(crate) fn lose(&mut self, uri: &str) -> Result<(), Memory>
+        ensures { OnOk result (Sets uri.now true self.old.map.entries self.new.map.entries) }
     {
-        if note.lost {
-            put(&mut self.map, uri, note)
-        } else {
-            forget(&mut self.map, uri);
-            Ok(())
+        let alloc = *self.map.allocator();
+        let key = folded(alloc, uri)?;
+        let noted = take(&mut self.map, &key);
+        let mut spelling = or_none(alloc, noted);
+        spelling.set(uri, true)?;
+        put(&mut self.map, key, spelling)
+    }
+
+    /// Each document is lost of which the URI differs from this one in its spelling alone, and that
+    /// of this URI.
+    ///
+    /// # Errors
+    /// `Memory` where memory was refused; nothing is then known of the notes.
+    pub(crate) fn lose_alike(&mut self, uri: &str) -> Result<(), Memory>
+        ensures { OnOk result (SetsAlike uri.now self.old.map.entries self.new.map.entries) }
+    {
+        let alloc = *self.map.allocator();
+        let key = folded(alloc, uri)?;
+        put(&mut self.map, key, Spelling::new(alloc, true))
+    }
+
+    /// The document of this URI is not lost; all others stay as they are.
+    ///
+    /// # Errors
+    /// `Memory` where memory was refused; nothing is then known of the notes.
+    pub(crate) fn renew(&mut self, uri: &str) -> Result<(), Memory>
+        ensures { OnOk result (Sets uri.now false self.old.map.entries self.new.map.entries) }
+    {
+        if self.map.is_empty() {
+            return Ok(());
         }
+        let key = folded(*self.map.allocator(), uri)?;
+        let Some(mut spelling) = take(&mut self.map, &key) else {
+            return Ok(());
+        };
+        spelling.set(uri, false)?;
+        put(&mut self.map, key, spelling)
     }
 }
 
-/// Replaces the note on a document, if there was one.
-fn put(map: &mut NoteMap, uri: &str, note: Note) -> Result<(), Memory>
-    ensures { OnOk result (SetsNote uri.now note map.old.entries map.new.entries) }
+/// What is noted of one spelling, where there is anything, else that no document is lost.
+fn or_none(alloc: Global, noted: Option<Spelling>) -> Spelling
+    ensures { (uri : List ℕ) → is_lost_in result uri ≡ lost_among noted uri }
 {
-    let key = String::from_str(*map.allocator(), uri)?;
-    map.insert(key, note)?;
+    match noted {
+        Some(spelling) => spelling,
+        None => Spelling::new(alloc, false),
+    }
+}
+
+/// Takes away what is noted of a spelling.
+fn take(map: &mut Spellings, key: &Vec<u8>) -> Option<Spelling>
+    ensures taken { result ≡ spelling_in map.old.entries key.now.items }
+    ensures left { PutsSpelling key.now.items None map.old.entries map.new.entries }
+{
+    map.swap_remove(key)
+}
+
+/// Notes something of a spelling, in place of what was noted.
+fn put(map: &mut Spellings, key: Vec<u8>, spelling: Spelling) -> Result<(), Memory>
+    ensures { OnOk result (PutsSpelling key.items (Some spelling) map.old.entries
+        map.new.entries) }
+{
+    map.insert(key, spelling)?;
     Ok(())
 }
 
-/// Takes the note of a document away.
-fn forget(map: &mut NoteMap, uri: &str)
-    ensures { SetsNote uri.now nothing map.old.entries map.new.entries }
+fn add(uris: &mut Uris, uri: &str) -> Result<(), Memory>
+    ensures { OnOk result ((u : List ℕ) → has_uri uris.new.entries u
+        ≡ (if bytes_eq uri.now u then true else has_uri uris.old.entries u)) }
 {
-    let _ = map.swap_remove(uri);
+    let key = String::from_str(*uris.allocator(), uri)?;
+    uris.insert(key, ())?;
+    Ok(())
+}
+
+fn forget(uris: &mut Uris, uri: &str)
+    ensures { (u : List ℕ) → has_uri uris.new.entries u
+        ≡ (if bytes_eq uri.now u then false else has_uri uris.old.entries u) }
+{
+    let _ = uris.swap_remove(uri);
 }

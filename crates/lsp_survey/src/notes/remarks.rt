@@ -7,6 +7,7 @@ ghost use Rattle.lsp_survey.specs.Remarks as spec;
 ghost use Rattle.lsp_survey.specs.Remarks.{AreRemarks, Remarked, older_held, older_of};
 
 use crate::notes::misuses::{Misused, note_misuse};
+use lsp_replay::EventPlace;
 use lsp_rpc::{Answer, Memory, Message, Side};
 use lsp_session::Phase;
 use serde_json::Value;
@@ -18,7 +19,7 @@ use std::alloc::Global;
 #[derive(Drop)]
 pub(crate) struct Remarks {
     misuses: Vec<Misused>,
-    abrupt_exit: Option<u64>,
+    abrupt_exit: Option<EventPlace>,
     is_done: bool,
     older_encoding: Option<String>,
 }
@@ -43,8 +44,8 @@ impl Remarks {
         self.misuses.as_slice()
     }
 
-    /// The number of the event of an `exit` without a `shutdown` before it, from 1.
-    pub(crate) fn abrupt_exit(&self) -> Option<u64>
+    /// The place of the event of an `exit` without a `shutdown` before it.
+    pub(crate) fn abrupt_exit(&self) -> Option<EventPlace>
         ensures { result ≡ self.now.abrupt_exit }
     {
         self.abrupt_exit
@@ -57,28 +58,28 @@ impl Remarks {
         self.older_encoding.as_ref().map(|name| name.as_str())
     }
 
-    /// Takes over a message that is kept, the event of this number, before and after which the
+    /// Takes over a message that is kept, the event of this place, before and after which the
     /// session is in these phases, and after which the handshake is settled or is not.
     ///
     /// # Errors
     /// `Memory` where memory was refused.
     pub(crate) fn keep(
         &mut self,
-        event: u64,
+        place: EventPlace,
         side: Side,
         message: &Message,
         before: Phase,
         after: Phase,
         done: bool,
     ) -> Result<(), Memory>
-        ensures { OnOk result (Remarked event side (message_view message.now) before after done
+        ensures { OnOk result (Remarked place side (message_view message.now) before after done
             self.old self.new) }
     {
         if is_abrupt(before, after) {
-            self.abrupt_exit = Some(event);
+            self.abrupt_exit = Some(place);
         }
         self.keep_answer(message, done)?;
-        note_misuse(&mut self.misuses, event, side, message)
+        note_misuse(&mut self.misuses, place, side, message)
     }
 
     /// Takes over what a message answers, after which the handshake is settled or is not.

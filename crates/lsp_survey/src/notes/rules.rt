@@ -76,21 +76,21 @@ pub(crate) fn breaks_handshake(asks: bool, rule: u16) -> bool
     )
 }
 
-/// Whether what is said about a document, which is opened again with another text or not, with
-/// changes or without, leaves the held text another than the sender's where it breaks the rule.
-pub(crate) fn loses(rule: u16, reopens: bool, has_changes: bool) -> bool
-    ensures { result ≡ loses_by rule reopens has_changes }
+/// Whether what is said about a document, which is opened again with another text or not, and sets
+/// its text or not, leaves the held text another than the sender's where it breaks the rule.
+pub(crate) fn loses(rule: u16, other: bool, sets: bool) -> bool
+    ensures { result ≡ loses_by rule other sets }
 {
-    if reopens {
+    if rule == rules::DOCUMENT_ALREADY_OPEN {
+        return other;
+    }
+    if sets {
         return true;
     }
     if rule == rules::DOCUMENT_NOT_OPEN {
         return true;
     }
-    if rule == rules::VERSION_DOES_NOT_RISE && has_changes {
-        return true;
-    }
-    if is_within(rules::CHANGE_NOT_OF_KIND, rules::SAVED_TEXT_DIFFERS, rule) {
+    if rule == rules::SAVED_TEXT_DIFFERS {
         return true;
     }
     rule == rules::SNAPSHOT_DIFFERS

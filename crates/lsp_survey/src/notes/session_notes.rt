@@ -13,6 +13,7 @@ ghost use Rattle.lsp_survey.specs.SessionNoting.{AreNotes, Exchanges};
 use crate::notes::exchange::Exchange;
 use crate::notes::misuses::Misused;
 use crate::notes::remarks::Remarks;
+use lsp_replay::EventPlace;
 use lsp_rpc::{Id, Memory, Message, Side};
 use lsp_session::Phase;
 use std::alloc::Global;
@@ -27,7 +28,7 @@ pub struct SessionNotes {
     editor: Exchange,
     server: Exchange,
     phase: Phase,
-    since: Option<u64>,
+    since: Option<EventPlace>,
     remarks: Remarks,
 }
 
@@ -45,8 +46,8 @@ impl SessionNotes {
         }
     }
 
-    /// The number of the event that asked the open request of this side with this id, from 1.
-    pub fn asked(&self, side: Side, id: &Id) -> Option<u64>
+    /// The place of the event that asked the open request of this side with this id.
+    pub fn asked(&self, side: Side, id: &Id) -> Option<EventPlace>
         ensures { (terms : Terms) (events : List Event) → AreNotes terms self.now events
             → result ≡ asked side (id_view id.now) (numbered terms events) }
     {
@@ -56,10 +57,10 @@ impl SessionNotes {
         }
     }
 
-    /// The number of the event that answered a request of this side with this id last, from 1,
+    /// The place of the event that answered a request of this side with this id last,
     /// where it is among the last 1,024 answers to requests of this side, and the id has at most
     /// 128 bytes.
-    pub fn answered(&self, side: Side, id: &Id) -> Option<u64>
+    pub fn answered(&self, side: Side, id: &Id) -> Option<EventPlace>
         ensures { (terms : Terms) (events : List Event) → AreNotes terms self.now events
             → result ≡ answered side (id_view id.now) (numbered terms events) }
     {
@@ -69,9 +70,9 @@ impl SessionNotes {
         }
     }
 
-    /// The number of the event that led to the phase of the session, from 1; none where it is that
-    /// of the start.
-    pub fn since(&self) -> Option<u64>
+    /// The place of the event that led to the phase of the session; none where it is that of the
+    /// start.
+    pub fn since(&self) -> Option<EventPlace>
         ensures { (terms : Terms) (events : List Event) → AreNotes terms self.now events
             → result ≡ since (numbered terms events) }
     {
@@ -86,8 +87,8 @@ impl SessionNotes {
         self.remarks.misuses()
     }
 
-    /// The number of the event of an `exit` without a `shutdown` before it, from 1.
-    pub fn abrupt_exit(&self) -> Option<u64>
+    /// The place of the event of an `exit` without a `shutdown` before it.
+    pub fn abrupt_exit(&self) -> Option<EventPlace>
         ensures { (terms : Terms) (events : List Event) → AreNotes terms self.now events
             → result ≡ abrupt_exit (numbered terms events) }
     {
@@ -103,48 +104,48 @@ impl SessionNotes {
         self.remarks.older_encoding()
     }
 
-    /// Notes a message that is kept, the event of this number, after which the session is in this
+    /// Notes a message that is kept, the event of this place, after which the session is in this
     /// phase, and the handshake is settled or is not.
     ///
     /// # Errors
     /// `Memory` where memory was refused; nothing is then known of the requests.
     pub(crate) fn keep(
         &mut self,
-        event: u64,
+        place: EventPlace,
         side: Side,
         message: &Message,
         phase: Phase,
         done: bool,
     ) -> Result<(), Memory>
         ensures editor { OnOk result
-            (Exchanges Side.Editor event side
+            (Exchanges Side.Editor place side
             (message_view message.now) self.old.editor self.new.editor) }
         ensures server { OnOk result
-            (Exchanges Side.Server event side
+            (Exchanges Side.Server place side
             (message_view message.now) self.old.server self.new.server) }
         ensures phase { self.new.phase ≡ phase }
         ensures since { self.new.since
-            ≡ unwrap_or (leads event self.old.phase phase) self.old.since }
-        ensures remarks { OnOk result (Remarked event side (message_view message.now)
+            ≡ unwrap_or (leads place self.old.phase phase) self.old.since }
+        ensures remarks { OnOk result (Remarked place side (message_view message.now)
             self.old.phase phase done self.old.remarks self.new.remarks) }
     {
         let before = self.phase;
         if !is_same(before, phase) {
-            self.since = Some(event);
+            self.since = Some(place);
         }
         self.phase = phase;
         self.remarks
-            .keep(event, side, message, before, phase, done)?;
-        self.exchange(event, side, message)
+            .keep(place, side, message, before, phase, done)?;
+        self.exchange(place, side, message)
     }
 
     /// Notes what a message asks or answers.
-    fn exchange(&mut self, event: u64, side: Side, message: &Message) -> Result<(), Memory>
+    fn exchange(&mut self, place: EventPlace, side: Side, message: &Message) -> Result<(), Memory>
         ensures editor { OnOk result
-            (Exchanges Side.Editor event side
+            (Exchanges Side.Editor place side
             (message_view message.now) self.old.editor self.new.editor) }
         ensures server { OnOk result
-            (Exchanges Side.Server event side
+            (Exchanges Side.Server place side
             (message_view message.now) self.old.server self.new.server) }
         ensures phase { self.new.phase ≡ self.old.phase }
         ensures since { self.new.since ≡ self.old.since }
@@ -152,12 +153,12 @@ impl SessionNotes {
     {
         match message {
             Message::Request { id, .. } => match side {
-                Side::Editor => self.editor.ask(id, event),
-                Side::Server => self.server.ask(id, event),
+                Side::Editor => self.editor.ask(id, place),
+                Side::Server => self.server.ask(id, place),
             },
             Message::Response { id: Some(id), .. } => match side {
-                Side::Editor => self.server.answer(id, event),
-                Side::Server => self.editor.answer(id, event),
+                Side::Editor => self.server.answer(id, place),
+                Side::Server => self.editor.answer(id, place),
             },
             _ => Ok(()),
         }

@@ -19,8 +19,8 @@ use Rattle.lsp_verdict.specs.Event.{Event, message, fault, snapshot, sent_in}
 use Rattle.lsp_verdict.specs.LookBack.{first_from, first_of, each_from, each_of}
 use Rattle.lsp_verdict.specs.OffenceLaws.{KeptOffendNowhere, kept_at, KeptAreOthers, AllAreKept, NothingListed, FirstListed, IsOffence, IsListed, ListedOffend}
 use Rattle.lsp_verdict.specs.Offences.{Noted, Offence, events_of, kept_after, kept_of, rule_at}
-use Rattle.lsp_docs.specs.Documents.{Version}
-use Rattle.lsp_verdict.specs.Offences.{held_in, said_at, renews, left_lost, left_by, brought_by, lost_by}
+use Rattle.lsp_verdict.specs.Offences.{is_reopened, said_at, renews, left_lost, left_by}
+use Rattle.lsp_verdict.specs.Offences.{brought_by, lost_by}
 use Rattle.lsp_verdict.specs.Offences.{last_or, is_lost, asks, breaks_handshake, may_answer}
 use Rattle.lsp_verdict.specs.Offences.{broken_by, is_handshake_lost}
 use Rattle.lsp_verdict.specs.Offences.{is_frame_fault, has_broken, unread_by, is_unread}
@@ -171,19 +171,19 @@ not_lost : (renewed : Bool) → (if renewed then Some false else None) ≡ Some 
 not_lost true e = absurd cc
 not_lost false e = absurd cc
 
-kept_leaves : (uri : List ℕ) (now : Option Version) (o : Option Call) → option_and_then (λ call. if bytes_eq uri (uri_of call) then left_lost None now call else None) o ≡ Some true → ⊥
-kept_leaves uri now None e = absurd cc
-kept_leaves uri now (Some call) e = by_uri (bytes_eq uri (uri_of call)) e
+kept_leaves : (uri : List ℕ) (other : Bool) (o : Option Call) → option_and_then (λ call. if bytes_eq uri (uri_of call) then left_lost None other call else None) o ≡ Some true → ⊥
+kept_leaves uri other None e = absurd cc
+kept_leaves uri other (Some call) e = by_uri (bytes_eq uri (uri_of call)) e
   where
-    by_uri : (own : Bool) → (if own then left_lost None now call else None) ≡ Some true → ⊥
+    by_uri : (own : Bool) → (if own then left_lost None other call else None) ≡ Some true → ⊥
     by_uri true h = not_lost (renews call) h
     by_uri false h = absurd cc
 
 -- an event that is kept does not leave a document lost
-never_lost : (uri : List ℕ) (brought : Option (List ℕ)) (now : Option Version)
-    (said : Option Call) → left_by uri None brought now said ≡ Some true → ⊥
-never_lost uri None now said e = kept_leaves uri now said e
-never_lost uri (Some brought) now said e = kept_leaves uri now said e
+never_lost : (uri : List ℕ) (brought : Option (List ℕ)) (other : Bool)
+    (said : Option Call) → left_by uri None brought other said ≡ Some true → ⊥
+never_lost uri None other said e = kept_leaves uri other said e
+never_lost uri (Some brought) other said e = kept_leaves uri other said e
 
 last_false : (o : Option Bool) (xs : List Bool) → (o ≡ Some true → ⊥) → last_or false xs ≡ false → last_or false (cons_option o xs) ≡ false
 last_false None xs none rest = rest
@@ -204,9 +204,9 @@ document_stands terms uri before clean =
     (ap (λ (ns : List Noted). first_of (no_at terms) (events_of ns)) (sym cut) ∙ clean) in
     let brought = option_and_then brought_by n.malformed in
     let said = said_at terms (events_of front) n.event in
-    let now = held_in terms (calls (kept_of terms (events_of front))) said in
-    never_lost uri brought now said
-    (ap (λ (o : Option ℕ). left_by uri o brought now said) (sym rule) ∙ lost))
+    let other = is_reopened terms (calls (kept_of terms (events_of front))) said in
+    never_lost uri brought other said
+    (ap (λ (o : Option ℕ). left_by uri o brought other said) (sym rule) ∙ lost))
 
 none_on_lost : (terms : Terms) (before : List Noted) (o : Option Call) → IsClean terms before
     → is_on_lost terms before o ≡ false

@@ -6,14 +6,17 @@ use Rattle.std.specs.Str.{chars}
 use Rattle.std.specs.Fmt.{digits}
 use Rattle.json.specs.Json.{value}
 use Rattle.json.specs.Lex.{punctuate, lex}
-use Rattle.json.specs.Text.{content}
+use Rattle.json.specs.Text.{content, short_escape}
 use Rattle.json.specs.Word.{word, after_number}
 use Rattle.json.specs.Print.{escape_byte}
+use Rattle.percent_encoding.specs.Percent.{percent_decode}
 use Rattle.serde_json.specs.Read.{number_of, read}
 use Rattle.lsp_rpc.specs.Message.{Message}
 use Rattle.lsp_rpc.specs.Reading.{message_in, parts_of}
 use Rattle.lsp_log.specs.declared.fault.LogCode.{LogCode}
 use Rattle.lsp_log.specs.declared.fault.LogCode.TheVariants.{L4}
+use Rattle.lsp_docs.specs.Terms.{Terms}
+use Rattle.lsp_types.specs.declared.line_ends.LineEnds.TheVariants as line_ends
 use Rattle.lsp_types.specs.declared.side.Side.TheVariants.{Editor, Server}
 use Rattle.lsp_verdict.specs.Event.{Event, fault}
 use Rattle.lsp_verdict.specs.Offences.{Noted, Offence, offences}
@@ -82,6 +85,10 @@ abbrev opened_again : List ℕ → List ℕ → List Event
 opened_again version text =
     START ++ OPEN (codes "1") (codes "ab") ∷ OPEN version text ∷ T 1 (codes "c") ∷ []
 
+abbrev opened_again_from : List ℕ → List ℕ → List Event
+opened_again_from text other =
+    START ++ OPEN (codes "1") text ∷ OPEN (codes "1") other ∷ T 1 (codes "c") ∷ []
+
 another_text : all_of (opened_again (codes "1") (codes "c"))
     ≡ cause 601 who.Editor 4 5 ∷ after_it 702 who.Snapshot 1 6 ∷ []
 unfolding value punctuate lex content word after_number number_of scan_numeral chars
@@ -96,6 +103,20 @@ the_same : all_of (opened_again (codes "1") (codes "ab"))
     ≡ cause 601 who.Editor 4 5 ∷ cause 702 who.Snapshot 1 6 ∷ []
 unfolding value punctuate lex content word after_number number_of scan_numeral chars
 the_same = refl
+
+-- where line ends are ignored, a text with others is the same
+abbrev loose : Terms
+loose = record terms { line_ends = line_ends.Ignored }
+
+other_line_ends : all_of (opened_again_from (codes "a\\nb") (codes "a\\r\\nb"))
+    ≡ cause 601 who.Editor 4 5 ∷ after_it 702 who.Snapshot 1 6 ∷ []
+unfolding value punctuate lex content word after_number number_of scan_numeral chars short_escape
+other_line_ends = refl
+
+line_ends_ignored : offences loose (noted (opened_again_from (codes "a\\nb") (codes "a\\r\\nb")))
+    ≡ cause 601 who.Editor 4 5 ∷ cause 702 who.Snapshot 1 6 ∷ []
+unfolding value punctuate lex content word after_number number_of scan_numeral chars short_escape
+line_ends_ignored = refl
 
 -- a message whose params do not have their shape loses the document that it was to open or to change
 abbrev on_document : List ℕ → List ℕ → Noted
@@ -127,14 +148,62 @@ malformed_open : offences terms (noted START
     ∷ noted (CHG (codes "2") (FULL (codes "b")) ∷ OPEN (codes "3") (codes "c")
     ∷ T 3 (codes "d") ∷ []))
     ≡ cause 209 who.Editor 3 4 ∷ after_it 602 who.Editor 4 5 ∷ cause 702 who.Snapshot 1 7 ∷ []
-unfolding value punctuate lex content word after_number number_of scan_numeral chars
+unfolding value punctuate lex content word after_number number_of scan_numeral chars percent_decode
 malformed_open = refl
 
 -- changes of a document that was never opened; once it is, they are judged by themselves
 never_opened : all_of (START ++ CHG (codes "1") (FULL (codes "a")) ∷ CHG (codes "2") (FULL (codes "b")) ∷ OPEN (codes "3") (codes "c") ∷ CLOSE ∷ CLOSE ∷ [])
     ≡ cause 602 who.Editor 3 4 ∷ after_it 602 who.Editor 4 5 ∷ cause 602 who.Editor 7 8 ∷ []
-unfolding value punctuate lex content word after_number number_of scan_numeral chars
+unfolding value punctuate lex content word after_number number_of scan_numeral chars percent_decode
 never_opened = refl
+
+-- a document that a message was to open too early is lost: what is said about it follows
+opened_early : all_of (OPEN (codes "1") (codes "a") ∷ START ++ CHG (codes "2") (FULL (codes "b")) ∷ [])
+    ≡ cause 401 who.Editor 1 1 ∷ after_it 602 who.Editor 4 5 ∷ []
+unfolding value punctuate lex content word after_number number_of scan_numeral chars
+opened_early = refl
+
+-- and so is one that a message was to change too late, but not one that it was to close
+abbrev too_late : Event → List Offence
+too_late event = all_of (START ++ OPEN (codes "1") (codes "ab") ∷ SH ∷ RES (codes "2") ∷ event
+    ∷ T 1 (codes "c") ∷ [])
+
+changed_late : too_late (CHG (codes "2") (FULL (codes "c")))
+    ≡ cause 405 who.Editor 5 7 ∷ after_it 702 who.Snapshot 1 8 ∷ []
+unfolding value punctuate lex content word after_number number_of scan_numeral chars
+changed_late = refl
+
+closed_late : too_late CLOSE ≡ cause 405 who.Editor 5 7 ∷ cause 702 who.Snapshot 1 8 ∷ []
+unfolding value punctuate lex content word after_number number_of scan_numeral chars
+closed_late = refl
+
+-- a change of none that is open loses each document of which the URI differs in its spelling alone,
+-- until the whole text of that comes
+abbrev changed_at : List ℕ → List ℕ → List ℕ → Event
+changed_at uri version text =
+    E (codes "{\"jsonrpc\":\"2.0\",\"method\":\"textDocument/didChange\",\"params\":{\"textDocument\":{\"uri\":\""
+    ++ uri ++ codes "\",\"version\":" ++ version ++ codes "},\"contentChanges\":[" ++ FULL text
+    ++ codes "]}}")
+
+abbrev misspelt : List ℕ → List Event → List Offence
+misspelt uri events = all_of (START ++ OPEN (codes "1") (codes "ab")
+    ∷ changed_at uri (codes "2") (codes "c") ∷ events)
+
+in_another_case : misspelt (codes "FILE:/%41") (T 1 (codes "x") ∷ [])
+    ≡ cause 602 who.Editor 4 5 ∷ after_it 702 who.Snapshot 1 6 ∷ []
+unfolding value punctuate lex content word after_number number_of scan_numeral chars percent_decode
+in_another_case = refl
+
+another_letter : misspelt (codes "file:///b") (T 1 (codes "x") ∷ [])
+    ≡ cause 602 who.Editor 4 5 ∷ cause 702 who.Snapshot 1 6 ∷ []
+unfolding value punctuate lex content word after_number number_of scan_numeral chars percent_decode
+another_letter = refl
+
+spelled_right : misspelt (codes "file:///A") (changed_at (codes "file:///a") (codes "3") (codes "d")
+    ∷ T 3 (codes "x") ∷ changed_at (codes "file:///A") (codes "4") (codes "e") ∷ [])
+    ≡ cause 602 who.Editor 4 5 ∷ cause 702 who.Snapshot 1 7 ∷ after_it 602 who.Editor 6 8 ∷ []
+unfolding value punctuate lex content word after_number number_of scan_numeral chars percent_decode
+spelled_right = refl
 
 -- ---- the handshake
 
@@ -269,7 +338,8 @@ causes_are_said = refl
 
 every_one_is_said : said true (START ++ CHG (codes "1") (FULL (codes "a")) ∷ CHG (codes "2") (FULL (codes "b")) ∷ [])
     ≡ codes "no 602 editor 3 event 4\ndocument is not open\nno 602 editor 4 event 5 follows\ndocument is not open\noffences 2 following 1\n"
-unfolding value punctuate lex content word after_number number_of scan_numeral chars digits escape_byte
+unfolding value punctuate lex content word after_number number_of scan_numeral chars percent_decode
+    digits escape_byte
 every_one_is_said = refl
 
 nothing_is_said : said false [] ≡ codes "yes\nmessages 0 0\nsnapshots 0 unmatched 0\nencoding - sync -\n"

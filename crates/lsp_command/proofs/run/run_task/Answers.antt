@@ -89,6 +89,23 @@ returns-in-ExplainAll-clause-sink_failures g c =
     run_sink _ _ _ _ c.of_run-in-ExplainAll.ensures
     c.run_explain_all.ensures.explains.counts.sink_failures
 
+pub returns-in-Compared-clause-answers : goal.returns-in-Compared-clause-answers
+returns-in-Compared-clause-answers g c =
+    rw c.in-Compared.is (
+      c.run_compared.result,
+      c.of_run-in-Compared.ensures,
+      c.run_compared.ensures.text,
+    )
+
+pub returns-in-Compared-clause-source_failures : goal.returns-in-Compared-clause-source_failures
+returns-in-Compared-clause-source_failures g c =
+    run_source _ _ _ _ c.of_run-in-Compared.ensures
+    c.run_compared.ensures.text.counts.source_failures
+
+pub returns-in-Compared-clause-sink_failures : goal.returns-in-Compared-clause-sink_failures
+returns-in-Compared-clause-sink_failures g c =
+    run_sink _ _ _ _ c.of_run-in-Compared.ensures c.run_compared.ensures.text.counts.sink_failures
+
 pub returns-in-Show-Short-clause-answers : goal.returns-in-Show-Short-clause-answers
 returns-in-Show-Short-clause-answers g c =
     let of = rw c.in-Show-Short.is at c.in-Show-Short.field-0-is in

@@ -13,7 +13,8 @@ use Rattle.lsp_facts.specs.Fact.{facts_view}
 use Rattle.lsp_facts.specs.ContentFacts.{content_facts}
 use Rattle.lsp_explain.specs.RunSteps.{ShowsFault}
 use Rattle.lsp_explain.specs.Standing.{terms_in}
-use Rattle.lsp_explain.proofs.SaidFacts.{facts_said}
+use Rattle.lsp_replay.specs.Places.{place_next}
+use Rattle.lsp_explain.proofs.SaidFacts.{facts_said, whose_message, whose_snapshot}
 use Rattle.lsp_explain.proofs.offence_facts.facts_of.Goals as goal
 
 pub returns-in-Frames : goal.returns-in-Frames
@@ -41,7 +42,11 @@ returns-in-Message c = IfOk-weaker c.message_traced.result _ _
     facts_said terms before c.args.rule c.args.rest.now rests raw event _ (facts_view facts.items)
     reads (subst (IsOffending raw terms (kept_of terms before) c.args.rule) c.in-Message.is is)
     offends (subst (λ o. ShowsFault rests o c.args.rest.now) c.in-Message.is shows)
-    (λ bytes refused. says bytes before stands number refused)) c.message_traced.ensures
+    (λ bytes refused. says bytes before stands
+    (number ∙ ap (place_next before) (whose_message terms (kept_of terms before) c.args.rule raw
+    event c.in-Message.side _ reads
+    (subst (IsOffending raw terms (kept_of terms before) c.args.rule) c.in-Message.is is)))
+    refused)) c.message_traced.ensures
 
 pub returns-in-Snapshot : goal.returns-in-Snapshot
 returns-in-Snapshot c =
@@ -61,4 +66,8 @@ returns-in-Snapshot c =
     offends (subst (λ o. ShowsFault rests o c.args.rest.now) c.in-Snapshot.is shown)
     (subst (λ u. Said u (string_bytes c.in-Snapshot.text)) c.as_str.ensures.value
     (subst (Said c.as_str.result.now) c.as_str-in-Snapshot.ensures.value
-    (says before stands number)))) told
+    (says before stands
+    (number ∙ ap (place_next before) (whose_snapshot terms (kept_of terms before) c.args.rule raw
+    event version _ _ reads
+    (subst (IsOffending raw terms (kept_of terms before) c.args.rule) c.in-Snapshot.is is)))))))
+    told

@@ -3,6 +3,7 @@ use Rattle.std.proofs.Common.{◌+◌, sym}
 use Rattle.std.proofs.lemmas.List.{length-map}
 use Rattle.std.proofs.lemmas.Result.{on_ok_weaker}
 use Rattle.lsp_survey.specs.Misuses.{misused_view, misused_views}
+use Rattle.lsp_survey.specs.Touched.{names_view}
 use Rattle.lsp_verdict.specs.Given.{verdict_view}
 use Rattle.lsp_explain.specs.Remarks.{exits_abruptly, names_another, uncompared}
 use Rattle.lsp_explain.proofs.NoteLines.{all_lines}
@@ -17,7 +18,8 @@ returns c =
     (string_bytes c.push_uncompared.new.lines) (string_bytes c.push_count.new.lines)
     (misused_views calls) (option_map exits_abruptly c.args.exit)
     (option_map names_another (option_map (λ s. s.now) c.args.name))
-    (uncompared (verdict_view c.args.verdict.now)) _ c.in_ok-push_misuses.ensures
+    (uncompared (verdict_view c.args.verdict.now) (names_view c.args.unshown.now)) _
+    c.in_ok-push_misuses.ensures
     c.in_ok-exits.ensures.text c.in_ok-names.ensures.text c.in_ok-uncompared.ensures.text counted
     (λ i. sym (length-map calls misused_view) i + c.in_ok-exits.ensures.count i
     + c.in_ok-names.ensures.count i + c.in_ok-uncompared.ensures.count i))

@@ -4,7 +4,9 @@ use Rattle.std.proofs.lemmas.Result.{on_ok_weaker}
 use Rattle.lsp_session.specs.Negotiation.{encoding}
 use Rattle.lsp_session.specs.Sent.{Sent}
 use Rattle.lsp_session.specs.State as session
-use Rattle.lsp_survey.specs.Asking.{numbered}
+use Rattle.lsp_survey.specs.Openings.{AreOpenings}
+use Rattle.lsp_survey.specs.Touched.{names_view}
+use Rattle.lsp_survey.specs.declared.notes.openings.Openings.{Openings}
 use Rattle.lsp_survey.specs.Misuses.{misused_views}
 use Rattle.lsp_survey.specs.SessionNoting.{AreNotes}
 use Rattle.lsp_survey.specs.declared.notes.session_notes.SessionNotes.{SessionNotes}
@@ -12,7 +14,7 @@ use Rattle.lsp_survey.proofs.SessionSteps.{sents-numbered}
 use Rattle.lsp_verdict.specs.Event.{sent_in}
 use Rattle.lsp_verdict.specs.Given.{verdict_view}
 use Rattle.lsp_verdict.specs.Offences.{kept_of}
-use Rattle.lsp_explain.specs.Remarks.{remark_lines}
+use Rattle.lsp_explain.specs.Remarks.{noticed, remark_lines}
 use Rattle.lsp_explain.specs.Standing.{terms_in}
 use Rattle.lsp_explain.proofs.NoteLines.{remarks_are}
 use Rattle.lsp_explain.proofs.remarks.push_remarks.Goals as goal
@@ -25,15 +27,19 @@ returns c =
     (λ written before stands.
     let noted = subst (λ (s : SessionNotes). AreNotes terms s before)
     (sym c.session_notes-notes.ensures) stands.noted in
+    let opened = subst (λ (o : Openings). AreOpenings terms o before)
+    (sym c.openings.ensures) stands.opened in
     let held = subst (λ (s : session.State). session.Stands s (sent_in (kept_of terms before)))
     (sym c.session.ensures) stands.holds.sent in
     written ∙ ap (λ rs. string_bytes c.args.lines.now ++ remark_lines rs)
-    (remarks_are (verdict_view c.args.verdict.now) (numbered terms before)
+    (remarks_are (verdict_view c.args.verdict.now) (noticed terms before)
     (misused_views c.misuses.result.now) c.abrupt_exit.result
     (option_map (λ s. s.now) c.other_name-name.result)
     (option_map (λ s. s.now) c.older_encoding.result) c.encoding.result
+    (names_view c.as_slice.result.now)
     (c.misuses.ensures terms before noted) (c.abrupt_exit.ensures terms before noted)
     c.other_name-name.ensures (c.older_encoding.ensures terms before noted)
     (c.encoding.ensures (sent_in (kept_of terms before)) held
-    ∙ ap (λ (l : List Sent). encoding l) (sym (sents-numbered terms before)))))
+    ∙ ap (λ (l : List Sent). encoding l) (sym (sents-numbered terms before)))
+    (ap names_view c.as_slice.ensures.value ∙ c.in_ok-unshown.ensures terms before opened)))
     c.push_all.ensures

@@ -1,4 +1,6 @@
-use Rattle.std.proofs.Common.{◌∙◌}
+use Rattle.std.proofs.Common.{◌∙◌, ap, sym}
+use Rattle.lsp_replay.specs.Places.{place_next}
+use Rattle.lsp_verdict.specs.Verdict.{who_of}
 use Rattle.lsp_rpc.specs.View.{act_view, message_view}
 use Rattle.lsp_verdict.specs.Offences.{kept_of}
 use Rattle.lsp_facts.specs.Fact.{facts_view}
@@ -13,8 +15,9 @@ returns c = λ content before stands next refused.
     let plain = facts_view c.in_ok-facts.facts.items in (
       plain,
       says content (kept_of terms before) stands.holds refused,
-      c.in_ok-trace_spoken.ensures before stands next
-          ∙ same_traced terms before c.args.rule plain refused.sent c.args.side
+      c.in_ok-trace_spoken.ensures before stands
+          ∙ same_traced terms before c.args.place c.args.rule plain refused.sent c.args.side
           (message_view c.args.spoken.now.message) (act_view c.args.spoken.now.act) refused.reads.by
-          refused.says refused.means,
+          refused.says refused.means
+          (next ∙ ap (λ s. place_next before (who_of s)) (sym refused.reads.by)),
     )

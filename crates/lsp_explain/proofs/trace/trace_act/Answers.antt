@@ -30,18 +30,14 @@ returns-in-DidOpen c =
     (chars (string_bytes c.in-DidOpen.text)) in
     let told = simp to_z-of_z at c.trace_text.ensures in
     on_ok_weaker c.trace_text.result
-    (λ says before stands next.
+    (λ says before stands.
     let is : act_call terms before (act_view c.args.act.now) ≡ Some call =
     ap (λ a. act_call terms before (act_view a)) c.in-DidOpen.is in
     says before call stands is
     ∙ ap (λ (u : List ℕ). document_traced (steps terms u before)
     (refuting terms (calls (kept_of terms before)) call (waiting_for number (steps terms u before)))
-    (until.Message c.args.number number) c.args.rule plain) c.as_str.ensures.value
-    ∙ ap (λ (n : ℕ). document_traced (steps terms (uri_of call) before)
-    (refuting terms (calls (kept_of terms before)) call
-    (waiting_for number (steps terms (uri_of call) before)))
-    (until.Message n number) c.args.rule plain) next
-    ∙ ap (λ o. call_traced terms before c.args.rule o plain) (sym is))
+    (until.Message c.args.place number) c.args.rule plain) c.as_str.ensures.value
+    ∙ ap (λ o. call_traced terms before c.args.place c.args.rule o plain) (sym is))
     told
 
 pub returns-in-DidChange : goal.returns-in-DidChange
@@ -52,7 +48,7 @@ returns-in-DidChange c =
     let number = c.in-DidChange.version in
     let told = simp to_z-of_z at c.trace_text-in-DidChange.ensures in
     on_ok_weaker c.trace_text-in-DidChange.result
-    (λ says before stands next.
+    (λ says before stands.
     let enc = unwrap_or (encoding (sent_in (kept_of terms before))) Utf16 in
     let kind = unwrap_or (sync_kind (sent_in (kept_of terms before))) Nothing in
     let call : Call = changes enc kind (string_bytes c.in-DidChange.uri) number
@@ -62,10 +58,6 @@ returns-in-DidChange c =
     says before call stands is
     ∙ ap (λ (u : List ℕ). document_traced (steps terms u before)
     (refuting terms (calls (kept_of terms before)) call (waiting_for number (steps terms u before)))
-    (until.Message c.args.number number) c.args.rule plain) c.as_str-in-DidChange.ensures.value
-    ∙ ap (λ (n : ℕ). document_traced (steps terms (uri_of call) before)
-    (refuting terms (calls (kept_of terms before)) call
-    (waiting_for number (steps terms (uri_of call) before)))
-    (until.Message n number) c.args.rule plain) next
-    ∙ ap (λ o. call_traced terms before c.args.rule o plain) (sym is))
+    (until.Message c.args.place number) c.args.rule plain) c.as_str-in-DidChange.ensures.value
+    ∙ ap (λ o. call_traced terms before c.args.place c.args.rule o plain) (sym is))
     told

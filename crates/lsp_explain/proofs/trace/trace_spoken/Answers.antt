@@ -13,10 +13,11 @@ returns-then-rule-lt-FIRST_ON_DOCUMENTS c =
     let terms = terms_in c.args.events.now in
     let spoken = c.args.spoken.now in
     on_ok_weaker c.trace_message.result
-    (λ says before stands next.
+    (λ says before stands.
     says terms before (subst (λ (s : SessionNotes). AreNotes terms s before)
     (sym c.session_notes-said.ensures) stands.noted)
-    ∙ sym (added_to_messages terms before c.args.rule (facts_view c.args.facts.now.items)
+    ∙ sym (added_to_messages terms before c.args.place c.args.rule
+    (facts_view c.args.facts.now.items)
     c.args.side (message_view spoken.message) (act_view spoken.act)
     c.if-rule-lt-FIRST_ON_DOCUMENTS.true))
     c.trace_message.ensures

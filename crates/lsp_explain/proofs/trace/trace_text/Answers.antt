@@ -1,5 +1,5 @@
 use Rattle.std.specs.Prelude.{unwrap_or}
-use Rattle.std.proofs.Common.{◌≡◌, [], List, ℕ, sym, ap, ◌∙◌, subst, w32}
+use Rattle.std.proofs.Common.{◌≡◌, [], List, sym, ap, ◌∙◌, subst, w32}
 use Rattle.std.proofs.lemmas.Int.{to_z-of_z}
 use Rattle.std.proofs.lemmas.Result.{on_ok_weaker}
 use mir.Val.{SFits}
@@ -15,6 +15,7 @@ use Rattle.lsp_verdict.specs.Offences.{kept_of}
 use Rattle.lsp_survey.specs.Marking.{steps, waiting_for}
 use Rattle.lsp_survey.specs.Marks.{AreMarks}
 use Rattle.lsp_survey.specs.declared.notes.marks.Marks.{Marks}
+use Rattle.lsp_replay.specs.declared.heard.EventPlace.{EventPlace}
 use Rattle.lsp_facts.specs.Fact.{facts_view}
 use Rattle.lsp_facts.specs.Refuting.{refuting}
 use Rattle.lsp_explain.specs.Standing.{terms_in}
@@ -28,7 +29,7 @@ pub returns-then-rule-ne-SNAPSHOT_DIFFERS : goal.returns-then-rule-ne-SNAPSHOT_D
 returns-then-rule-ne-SNAPSHOT_DIFFERS c =
     let fits : SFits w32 c.args.version = c.ranges.version in
     let terms = terms_in c.args.events.now in
-    let until : Until = untils.Message c.args.number c.args.version in
+    let until : Until = untils.Message c.args.place c.args.version in
     let uri = c.args.uri.now in
     on_ok_weaker c.trace_document.result
     (λ says before call stands is.
@@ -45,7 +46,7 @@ returns c =
     let fits : SFits w32 c.args.version = c.ranges.version in
     let terms = terms_in c.args.events.now in
     let uri = c.args.uri.now in
-    let until : Until = untils.Message c.args.number c.args.version in
+    let until : Until = untils.Message c.args.place c.args.version in
     let waits = simp to_z-of_z at c.waiting-waiting.ensures in
     on_ok_weaker c.trace_document-2.result
     (λ says before call stands is.
@@ -61,7 +62,7 @@ returns c =
     let found = c.in_ok-snapshots.ensures kind (calls kept) call called
     (ap (λ e. call_of e kind (act_view c.args.act.now)) agreed ∙ is) in
     says terms before marked
-    ∙ ap (λ (ns : List ℕ). document_traced (steps terms uri before) ns until c.args.rule
+    ∙ ap (λ (ns : List EventPlace). document_traced (steps terms uri before) ns until c.args.rule
     (facts_view c.args.facts.now.items))
     (c.as_slice.ensures.value ∙ found
     ∙ ap (λ d. refuting d.terms (calls kept) call c.waiting-waiting.result.now) c.docs.ensures

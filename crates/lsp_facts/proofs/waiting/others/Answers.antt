@@ -14,12 +14,12 @@ loop-index-preserved c =
       | then-is_other_at+in_ok-push w ↦
           ap (λ v. v.items) w.others-is
           ∙ w.in_ok-push.ensures.items
-          ∙ others-there c.args.line_ends text c.args.snapshots.now texts c.loop-index.index
+          ∙ others-there c.args.line_ends text c.args.snapshots.now texts c.loop-index.index _
           c.loop-index.others.items c.loop-index-test.true
           (sym c.is_other_at.ensures ∙ w.if-is_other_at.true) c.loop-index.invariant
       | else-is_other_at w ↦
           ap (λ v. v.items) w.others-is
-          ∙ others-passed c.args.line_ends text c.args.snapshots.now texts c.loop-index.index
+          ∙ others-passed c.args.line_ends text c.args.snapshots.now texts c.loop-index.index _
           c.loop-index.others.items c.loop-index-test.true
           (sym c.is_other_at.ensures ∙ w.if-is_other_at.false) c.loop-index.invariant
     ]

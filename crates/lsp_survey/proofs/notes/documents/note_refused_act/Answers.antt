@@ -12,7 +12,7 @@ returns-in-DidOpen c =
     let call = opens (string_bytes c.in-DidOpen.uri) c.in-DidOpen.version
     (chars (string_bytes c.in-DidOpen.text)) in
     rw c.in-DidOpen.is (on_ok_weaker c.note_refused.result
-    (λ told enc kind now is. told call now (sym c.as_str.ensures.value) is refl)
+    (λ told enc kind. told call (sym c.as_str.ensures.value) refl)
     c.note_refused.ensures)
 
 pub returns-in-DidChange : goal.returns-in-DidChange
@@ -20,8 +20,8 @@ returns-in-DidChange c =
     let edits = map edit_of (changes_view c.in-DidChange.changes.items) in
     let uri = string_bytes c.in-DidChange.uri in
     rw c.in-DidChange.is (on_ok_weaker c.note_refused-in-DidChange.result
-    (λ told enc kind now is. told (changes enc kind uri c.in-DidChange.version edits) now
-    (sym c.as_str-in-DidChange.ensures.value) refl
+    (λ told enc kind. told (changes enc kind uri c.in-DidChange.version edits)
+    (sym c.as_str-in-DidChange.ensures.value)
     (some_changes enc kind uri c.in-DidChange.version c.in-DidChange.changes c.is_empty.result
     c.is_empty.ensures))
     c.note_refused-in-DidChange.ensures)
@@ -30,7 +30,7 @@ pub returns-in-DidClose : goal.returns-in-DidClose
 returns-in-DidClose c =
     let call = closes (string_bytes c.in-DidClose.uri) in
     rw c.in-DidClose.is (on_ok_weaker c.note_refused-in-DidClose.result
-    (λ told enc kind now is. told call now (sym c.as_str-in-DidClose.ensures.value) refl refl)
+    (λ told enc kind. told call (sym c.as_str-in-DidClose.ensures.value) refl)
     c.note_refused-in-DidClose.ensures)
 
 pub returns-in-DidSave : goal.returns-in-DidSave
@@ -38,5 +38,5 @@ returns-in-DidSave c =
     let call = saves (string_bytes c.in-DidSave.uri)
     (option_map chars (option_map string_bytes c.in-DidSave.text)) in
     rw c.in-DidSave.is (on_ok_weaker c.note_refused-in-DidSave.result
-    (λ told enc kind now is. told call now (sym c.as_str-in-DidSave.ensures.value) refl refl)
+    (λ told enc kind. told call (sym c.as_str-in-DidSave.ensures.value) refl)
     c.note_refused-in-DidSave.ensures)

@@ -10,4 +10,4 @@ returns c =
     let old = c.args.replies.now.items in
     λ given are. held-push given_view most_replies old _ c.push_back.new.self.items _ given
     (omega arith) c.make_room.ensures c.in_ok-push_back.ensures.items are
-    ∙ ap (λ id. last_ones most_replies (given ++ replied c.args.event id ∷ [])) c.in_ok-id.ensures
+    ∙ ap (λ id. last_ones most_replies (given ++ replied c.args.place id ∷ [])) c.in_ok-id.ensures

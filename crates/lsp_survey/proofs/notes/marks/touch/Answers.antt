@@ -13,7 +13,7 @@ pub returns : goal.returns
 returns c =
     let fits : SFits w32 c.args.version = c.ranges.version in
     let uri = c.args.uri.now in
-    let step = touches c.args.touch c.args.event c.args.version in
+    let step = touches c.args.touch c.args.place c.args.version in
     let was = c.in-Some.mark.now in
     let now = c.touch.new.self in
     let old = c.args.map.now.entries in

@@ -21,7 +21,7 @@ returns-clause-noted c =
             server = server;
             phase_is = c.keep.ensures.phase ∙ behind;
             since_is = c.keep.ensures.since ∙ (λ i.
-                unwrap_or (leads c.args.number c.args.self.now.said.phase (behind i))
+                unwrap_or (leads c.args.place c.args.self.now.said.phase (behind i))
                 c.args.self.now.said.since);
             remarked = rw (behind, done) at remarked;
           },

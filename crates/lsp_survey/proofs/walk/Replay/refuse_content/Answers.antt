@@ -41,9 +41,9 @@ returns-clause-passes c =
             || may_answer kept e)) (sym is);
         sides = λ event is. refused.sides ∙ ap (λ e. sides_after e old.sides) (sym is);
         noted = λ enc kind kept holds. subst (λ (brought : Option (List ℕ)).
-            Leaves (Some rule) brought None None old.notes.map.entries
+            Leaves (Some rule) brought false None old.notes.map.entries
             c.note_malformed.new.notes.map.entries) meant.brings
-            (subst (λ (w : Notes). Leaves (Some rule) (option_map string_bytes c.in_ok-asks.field-0.brings) None None
+            (subst (λ (w : Notes). Leaves (Some rule) (option_map string_bytes c.in_ok-asks.field-0.brings) false None
             w.map.entries c.note_malformed.new.notes.map.entries) refused.notes
             c.in_ok-note_malformed.ensures);
         passed = λ event is. subst (λ (e : Event).

@@ -26,8 +26,8 @@ returns-clause-passes c =
           ∙ ap (λ e. old.broken || (breaks_handshake false rule || may_answer kept e)) (sym is);
       sides = λ event is. refused.sides ∙ ap (λ e. sides_after e old.sides) (sym is);
       noted = λ enc kind kept holds. subst (λ (w : Notes).
-          Leaves (Some rule) None None None old.notes.map.entries w.map.entries) (sym refused.notes)
-          (nothing_said (Some rule) None old.notes.map.entries);
+          Leaves (Some rule) None false None old.notes.map.entries w.map.entries) (sym refused.notes)
+          (nothing_said (Some rule) false old.notes.map.entries);
       passed = λ event is. fault_passes event c.args.side rule rule old.passed _ is refused.passed;
       marks = refused.marks;
       openings = refused.openings;

@@ -1,5 +1,5 @@
 use Rattle.std.specs.Prelude.{◌&&◌, ◌||◌}
-use Rattle.std.proofs.Common.{◌≡◌, ◌∙◌, Some, None, false, refl, sym, ap, subst}
+use Rattle.std.proofs.Common.{◌≡◌, ◌∙◌, Bool, Some, None, false, refl, sym, ap, subst}
 use Rattle.lsp_rpc.specs.View.{act_view, message_view}
 use Rattle.lsp_survey.specs.Notes.{Leaves, is_noted_lost}
 use Rattle.lsp_survey.specs.Passed.{Passes}
@@ -8,7 +8,7 @@ use Rattle.lsp_survey.specs.declared.notes.passed.Passed.{Passed}
 use Rattle.lsp_survey.specs.declared.notes.note.Notes.{Notes}
 use Rattle.lsp_verdict.specs.Calls.{call_of, calls}
 use Rattle.lsp_verdict.specs.Given.{given_offence}
-use Rattle.lsp_verdict.specs.Offences.{breaks_handshake, events_of, held_in, is_handshake_lost}
+use Rattle.lsp_verdict.specs.Offences.{breaks_handshake, events_of, is_handshake_lost}
 use Rattle.lsp_verdict.specs.Offences.{wants_handshake, wants_text}
 use Rattle.lsp_verdict.specs.Verdict.{no_next, who_of}
 use Rattle.lsp_survey.proofs.PassedSteps.{message_passes}
@@ -41,11 +41,12 @@ returns-clause-passes c =
           refused.passed c.in_ok-note.ensures);
       noted = λ enc kind kept holds.
           let call = call_of enc kind (act_view c.args.spoken.act) in
-          let now = held_in old.events.docs.terms (calls kept) call in
-          subst (λ (w : Notes). Leaves (Some rule) None now call w.map.entries
-          c.note_refused_act.new.notes.map.entries) refused.notes
-          (c.in_ok-note_refused_act.ensures enc kind now
-          (sym (c.reopens-reopens.ensures (calls kept) holds.called enc kind)));
+          let leaves = subst (λ (w : Notes). Leaves (Some rule) None c.reopens-other.result call
+          w.map.entries c.note_refused_act.new.notes.map.entries) refused.notes
+          (c.in_ok-note_refused_act.ensures enc kind) in
+          subst (λ (b : Bool). Leaves (Some rule) None b call old.notes.map.entries
+          c.note_refused_act.new.notes.map.entries)
+          (c.reopens-other.ensures (calls kept) holds.called enc kind) leaves;
       marks = refused.marks;
       openings = refused.openings;
       said = refused.said;
@@ -58,7 +59,7 @@ returns-clause-passes c =
           }))
           (c.follows-follows.ensures notes walks
           ∙ ap (λ on_lost. lost || (wants_text rule && on_lost || c.message_follows-late.result))
-          (c.is_on_lost-on_lost.ensures enc kind)
+          (c.in_ok-on_lost.ensures enc kind)
           ∙ ap (λ late. lost || (wants_text rule && is_noted_lost old.notes.map.entries
           (call_of enc kind (act_view c.args.spoken.act)) || late))
           (c.message_follows-late.ensures notes event walks is));

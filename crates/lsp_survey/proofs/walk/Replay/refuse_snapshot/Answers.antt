@@ -8,13 +8,11 @@ use Rattle.lsp_survey.specs.Notes.{Leaves, is_noted_lost}
 use Rattle.lsp_rpc.specs.Ident.{id_view}
 use Rattle.lsp_survey.specs.Passed.{has_passed}
 use Rattle.lsp_survey.specs.Sides.{sides_after}
-use Rattle.lsp_survey.specs.declared.notes.note.Note.{Note}
 use Rattle.lsp_survey.specs.declared.notes.note.Notes.{Notes}
 use Rattle.lsp_survey.specs.declared.notes.passed.Passed.{Passed}
 use Rattle.lsp_survey.specs.declared.offending.OffendingEvent.TheVariants.{Snapshot}
 use Rattle.lsp_verdict.specs.Given.{given_offence}
-use Rattle.lsp_verdict.specs.Calls.{calls}
-use Rattle.lsp_verdict.specs.Offences.{breaks_handshake, events_of, follows_bytes, held_in}
+use Rattle.lsp_verdict.specs.Offences.{breaks_handshake, events_of, follows_bytes}
 use Rattle.lsp_verdict.specs.Offences.{answered_by, asked_by, follows_passed, is_handshake_lost}
 use Rattle.lsp_verdict.specs.Offences.{may_answer, passes, wants_handshake, wants_text}
 use Rattle.lsp_verdict.specs.Verdict.{no_next}
@@ -28,7 +26,7 @@ returns-clause-passes c =
     let old = c.args.self.now in
     let rule = c.args.rule in
     let call = shows c.args.uri.now c.args.version (chars c.args.text.now) in
-    let is_lost = ap (λ (n : Note). n.lost) c.get-on_lost.ensures in
+    let is_lost = c.in_ok-on_lost.ensures in
     record {
       found = _;
       is_given = refl;
@@ -48,10 +46,9 @@ returns-clause-passes c =
           ∙ ap (λ e. breaks_handshake false rule || may_answer kept e) (sym is));
       sides = λ event is. refused.sides ∙ ap (λ e. sides_after e old.sides) (sym is);
       noted = λ enc kind kept holds.
-          let now = held_in old.events.docs.terms (calls kept) (Some call) in
-          subst (λ (w : Notes). Leaves (Some c.args.rule) None now (Some call) w.map.entries
+          subst (λ (w : Notes). Leaves (Some c.args.rule) None false (Some call) w.map.entries
           c.note_refused.new.notes.map.entries) refused.notes
-          (c.in_ok-note_refused.ensures call now refl refl refl);
+          (c.in_ok-note_refused.ensures call refl refl);
       passed = λ event is side k.
           ap (λ (p : Passed). has_passed p side (id_view k)) refused.passed
           ∙ ap (λ e. unwrap_or (passes (asked_by side e None) (answered_by side e) (id_view k) rule)

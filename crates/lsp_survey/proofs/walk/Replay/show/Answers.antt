@@ -3,6 +3,7 @@ use Rattle.std.proofs.lemmas.Result.{IfOk-weaker}
 use Rattle.lsp_docs.specs.Terms.{Terms}
 use Rattle.lsp_verdict.specs.Lent.{raw_view}
 use Rattle.lsp_verdict.specs.Offences.{events_of, kept_of}
+use Rattle.lsp_replay.specs.Places.{place_of}
 use Rattle.lsp_survey.specs.Walking.{Hears, IsOffence, IsRefused}
 use Rattle.lsp_survey.proofs.Hearing.{kept_heard, noted_after, still_walks}
 use Rattle.lsp_survey.proofs.Showing.{no_line, same_read}
@@ -16,15 +17,16 @@ returns-in-Ok-clause-heard c =
     let kept = kept_of old.events.docs.terms (events_of before) in
     let same = c.keep_shown.ensures.same.0 in
     rw keeps.0 (kept_heard (raw_view c.args.raw) old c.keep_shown.new.self before
-    c.number_next-number.result c.in-Ok.kept c.hear.new.self.session c.hear.new.self.docs
-    c.hear.new.self.counts walks
-    (c.number_next-number.ensures (events_of before) walks.counted) c.in-Ok.ensures.terms
+    c.in-Ok.kept c.hear.new.self.session c.hear.new.self.docs
+    c.hear.new.self.counts walks c.in-Ok.ensures.terms
     (λ i. (same i).session) (λ i. (same i).docs) (λ i. (same i).counts) c.keep_shown.ensures.same.1
     c.keep_shown.ensures.same.2
     (c.in-Ok.ensures.ok kept walks.holds)
-    (noted_after c.number_next-number.result c.in-Ok.kept (record old {
+    (λ event counted heard.
+    noted_after (place_of (events_of before) event) c.in-Ok.kept (record old {
       events = c.hear.new.self;
-    }) old c.keep_shown.new.self refl refl refl refl refl keeps.1)))
+    }) old c.keep_shown.new.self refl refl refl refl refl
+    (keeps.1 (events_of before) event counted heard))))
     c.keep_shown.ensures.keeps
 
 pub returns-in-Err-clause-heard : goal.returns-in-Err-clause-heard

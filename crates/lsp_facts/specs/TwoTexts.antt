@@ -1,0 +1,67 @@
+-- The two texts of a 608 or 702: what the messages make of a document, and what the editor saved or
+-- showed of it.
+use Rattle.std.specs.Prelude.{ℕ, List, Bool, ◌||◌, ◌==◌, if◌then◌else◌, Option, Some, None}
+use Rattle.std.specs.Prelude.{option_and_then, option_map}
+use Rattle.lsp_types.specs.declared.line_ends.LineEnds.{LineEnds}
+use Rattle.lsp_docs.specs.Texts.{Text}
+use Rattle.lsp_docs.specs.Terms.{Terms}
+use Rattle.lsp_docs.specs.Calls.{Call, opens, changes, closes, saves, shows}
+use Rattle.lsp_docs.specs.Documents.{Version, versioned, held}
+use Rattle.lsp_docs.specs.Kept.{kept}
+use Rattle.lsp_docs.specs.Others.{other_than}
+use Rattle.lsp_docs.specs.Stored.{text_of}
+use Rattle.lsp_verdict.specs.Calls.{call_at, calls}
+use Rattle.lsp_verdict.specs.Event.{Event}
+use Rattle.lsp_facts.specs.Refuting.{first_other, made_text, waiting_texts}
+use Rattle.lsp_facts.specs.declared.two_texts.TwoTexts as code
+use Rattle.lsp_types.specs.declared.rules.TheConstants as rules
+
+-- the one that the messages make, and the one that was saved or that a snapshot has
+pub record TwoTexts : Type 0 where
+  pub by_messages : Text
+  pub in_editor : Text
+
+abbrev pub two_texts : Text → Text → TwoTexts
+two_texts made recorded = record { by_messages = made; in_editor = recorded }
+
+abbrev pub texts_view : code.TwoTexts → TwoTexts
+texts_view t = two_texts (text_of t.by_messages) (text_of t.in_editor)
+
+-- ---- by what was called
+
+-- a text and the first of these that is another
+abbrev pub against : LineEnds → List Text → Text → Option TwoTexts
+against ends others text = option_map (two_texts text) (first_other ends text others)
+
+-- a text that was saved, where this is held
+abbrev pub saved_texts : Option Version → Text → Option TwoTexts
+saved_texts h text = option_map (λ (v : Version). two_texts v.text text) h
+
+-- **the two texts that differ, where a call after these compares a text with another**: an opening
+-- and a change bring one that a waiting snapshot refutes, a save has another than is held, and a
+-- snapshot another than is held or kept of its version
+abbrev pub compared : Terms → List Call → Call → Option TwoTexts
+compared terms before (opens uri number text) =
+    against terms.line_ends (waiting_texts terms before uri number) text
+compared terms before (changes enc kind uri number edits) =
+    option_and_then (against terms.line_ends (waiting_texts terms before uri number))
+    (made_text terms enc edits (held terms uri before))
+compared terms before (closes uri) = None
+compared terms before (saves uri text) =
+    option_and_then (saved_texts (held terms uri before)) text
+compared terms before (shows uri number text) =
+    option_map (λ other. two_texts other text)
+    (other_than terms.line_ends (versioned number text) (kept terms uri before)
+    (held terms uri before))
+
+-- ---- of an event
+
+-- the rule says that two texts differ
+abbrev pub is_of_texts : ℕ → Bool
+is_of_texts rule = rule == rules.SAVED_TEXT_DIFFERS || rule == rules.SNAPSHOT_DIFFERS
+
+-- **the two texts of an event that offends by this rule after these kept ones**
+abbrev pub texts_at : Terms → List Event → Event → ℕ → Option TwoTexts
+texts_at terms kept event rule =
+    if is_of_texts rule then option_and_then (compared terms (calls kept)) (call_at kept event)
+    else None
