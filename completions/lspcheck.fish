@@ -30,6 +30,8 @@ complete -c lspcheck -n '__lspcheck_option all check explain' -l all -d 'Every i
 complete -c lspcheck -n '__lspcheck_option all text' -l all -d 'Skip each message that breaks a rule'
 complete -c lspcheck -n '__lspcheck_option every check' -l every -d 'Every violation, consequences included'
 complete -c lspcheck -n '__lspcheck_option ignore-line-ends check explain' -l ignore-line-ends -d 'Compare texts line by line'
+complete -c lspcheck -n '__lspcheck_option by-messages explain' -l by-messages -d 'Write the text that the messages make'
+complete -c lspcheck -n '__lspcheck_option in-editor explain' -l in-editor -d 'Write the text that it differs from'
 complete -c lspcheck -n '__lspcheck_option all show' -l all -d 'Go on after each violation'
 complete -c lspcheck -n '__lspcheck_option long show' -l long -d 'Add numbers, URIs and versions'
 complete -c lspcheck -n '__lspcheck_option quiet check explain show text event normal upgrade frames' -l quiet -d 'Show no progress on a terminal'
