@@ -30,7 +30,7 @@ complete -c lspcheck -n '__lspcheck_option all check explain' -l all -d 'Every i
 complete -c lspcheck -n '__lspcheck_option all text' -l all -d 'Skip each message that breaks a rule'
 complete -c lspcheck -n '__lspcheck_option every check' -l every -d 'Every violation, consequences included'
 complete -c lspcheck -n '__lspcheck_option ignore-line-ends check explain' -l ignore-line-ends -d 'Compare texts line by line'
-complete -c lspcheck -n '__lspcheck_option all show' -l all -d 'Go on after each violation'
+complete -c lspcheck -n '__lspcheck_option all show' -l all -d 'Continue after each violation'
 complete -c lspcheck -n '__lspcheck_option long show' -l long -d 'Add numbers, URIs and versions'
 complete -c lspcheck -n '__lspcheck_option quiet check explain show text event normal upgrade frames' -l quiet -d 'Show no progress on a terminal'
 set -l as '__lspcheck_option as frames; or test (commandline -opc)[-1] = --as'

@@ -273,14 +273,18 @@ module _ (completeness : Completeness) (limits : Bounds) (listing : Listing)
       (λ out left whole. read_map limits start now
       (λ log. IsSurvey completeness limits log all bad s)
       (λ log. BeginsReported completeness limits listing log out)
-      (λ log p. (first_verdict all bad s, left, record {
-        found = all;
-        bad = bad;
-        s = s;
-        survey = p;
-        written = sym (whole_is ∙ whole);
-        comes_to = refl;
-      })) is) failures told
+      (λ log p. (
+        first_verdict all bad s,
+        left,
+        record {
+          found = all;
+          bad = bad;
+          s = s;
+          survey = p;
+          written = sym (whole_is ∙ whole);
+          comes_to = refl;
+        },
+      )) is) failures told
 
 -- ---- the tally
 

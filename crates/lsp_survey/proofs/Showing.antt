@@ -364,9 +364,13 @@ shown_closed lines limits e t start now old mid new end (Err fault) to told =
     (λ out left whole. read_map limits start now
     (λ log. IsSurveyOf e Ignored limits log (to.found ++ ends) bad terms to.past to.notes)
     (λ log. BeginsAllShown lines limits log out)
-    (λ log is. (v, left, subst (IsAllShown lines limits log v) whole
-    (ends_shown lines limits e terms to.past to.notes to.found ends bad v to.ended.lists refl log
-    is))) to.ended.whole) to.ended.failures told
+    (λ log is. (
+      v,
+      left,
+      subst (IsAllShown lines limits log v) whole
+          (ends_shown lines limits e terms to.past to.notes to.found ends bad v to.ended.lists refl log
+          is),
+    )) to.ended.whole) to.ended.failures told
 
 -- the verdict that is shown is that on the log
 pub shown_verdict : (lines : Lines) (limits : Bounds) → IsInRange limits → (start now : Told)

@@ -192,7 +192,7 @@ fn show<'a>(alloc: Global) -> Result<Command<'a>, AllocError>
         .arg(flag(
             alloc,
             "all",
-            "Goes on after each message that breaks a rule, and reports every one",
+            "Continues after each message that breaks a rule, and reports every one",
         ))?
         .arg(flag(
             alloc,
