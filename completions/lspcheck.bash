@@ -18,7 +18,7 @@ _lspcheck() {
     case $command in
         "") options="--help --version -h -V" ;;
         check) options="--complete --all --every --ignore-line-ends --quiet --help -h" ;;
-        explain) options="--complete --all --ignore-line-ends --quiet --help -h" ;;
+        explain) options="--complete --all --ignore-line-ends --by-messages --in-editor --quiet --help -h" ;;
         show) options="--all --long --quiet --help -h" ;;
         text) options="--all --quiet --help -h" ;;
         event | normal | upgrade) options="--quiet --help -h" ;;

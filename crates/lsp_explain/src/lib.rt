@@ -21,8 +21,8 @@ mod unopened;
 pub use compared::{ComparedText, run_compared};
 pub use laws::{
     all_explained_are_causes, explanation_begins_with_report, explanation_of_yes_is_report,
-    first_explained_is_verdict, one_compared_text, one_explanation, one_explanation_of_all, some_explanation,
-    some_explanation_of_all,
+    first_explained_is_verdict, one_compared_text, one_explanation, one_explanation_of_all,
+    some_explanation, some_explanation_of_all,
 };
 pub use lsp_facts::{
     Fact, act_facts, bad_params_have_a_member, bad_result_has_a_member, content_facts, flaw_facts,

@@ -106,7 +106,14 @@ fn act_texts<S: TextStore>(
             uri,
             version,
             changes,
-        } => changed_texts(alloc, docs, encoding, uri.as_str(), *version, changes.as_slice()),
+        } => changed_texts(
+            alloc,
+            docs,
+            encoding,
+            uri.as_str(),
+            *version,
+            changes.as_slice(),
+        ),
         Act::DidSave {
             uri,
             text: Some(text),
