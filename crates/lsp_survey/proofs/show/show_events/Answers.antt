@@ -66,7 +66,8 @@ loop-line-preserved g c = λ limits start so.
       wrote = more_shown c.args.lines limits start (g.W.Sink.told c.args.writer.now)
           (g.W.Sink.told c.loop-line.writer) _ inv.notes inv.wrote c.show_next.new.self
           (g.R.Source.told c.show_next.new.reader) (g.W.Sink.told c.show_heard.new.writer) inv.past
-          inv.found c.in-Event.heard _ c.in_ok-heard.ensures.terms gave told.1 shown.tells;
+          inv.found c.in-Event.heard _ c.in_ok-heard.ensures.terms gave told.1
+          (rw c.as_str.ensures.value at shown.tells);
     }
 
 pub returns-in_err-show_heard-in-Event : goal.returns-in_err-show_heard-in-Event
@@ -82,7 +83,7 @@ returns-in_err-show_heard-in-Event g c =
     (g.W.Sink.told c.loop-line.writer) _ inv.notes inv.wrote c.show_next.new.self
     (g.R.Source.told c.show_next.new.reader) (g.W.Sink.told c.show_heard.new.writer) inv.past
     inv.found c.in-Event.heard _ c.in_ok-heard.ensures.terms gave told.1 _
-    c.in_err-show_heard-in-Event.ensures.tells)
+    (rw c.as_str.ensures.value at c.in_err-show_heard-in-Event.ensures.tells))
 
 pub returns-in-End : goal.returns-in-End
 returns-in-End g c = λ limits start so.
