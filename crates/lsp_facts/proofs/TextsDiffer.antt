@@ -52,7 +52,7 @@ module _ (terms : Terms) (before : List Call) (rule : ℕ) (of : is_of_texts rul
       rule facts → Differ ends (compared terms before (opens uri number text))
   opening_differs uri number text facts says =
       elim says [
-        | inl open ↦ absurd (not_this rule 601 refl open.0 of)
+        | inl opened ↦ absurd (not_this rule 601 refl opened.0 of)
         | inr later ↦ elim later [
           | inl long ↦ absurd (not_this rule 607 refl long.0 of)
           | inr refuted ↦ against_differs text refuted.1.other
