@@ -83,7 +83,7 @@ returns-in_err-show_heard-in-Event g c =
     (g.W.Sink.told c.loop-line.writer) _ inv.notes inv.wrote c.show_next.new.self
     (g.R.Source.told c.show_next.new.reader) (g.W.Sink.told c.show_heard.new.writer) inv.past
     inv.found c.in-Event.heard _ c.in_ok-heard.ensures.terms gave told.1 _
-    (rw c.as_str.ensures.value at c.in_err-show_heard-in-Event.ensures.tells))
+    c.as_str.result.now c.as_str.ensures.value c.in_err-show_heard-in-Event.ensures.tells)
 
 pub returns-in-End : goal.returns-in-End
 returns-in-End g c = λ limits start so.
