@@ -23,6 +23,7 @@ use Rattle.lsp_explain.specs.Explained.{before_first, breach, breach_at, breache
 use Rattle.lsp_explain.specs.Explained.{IsExplained}
 use Rattle.lsp_facts.specs.Fact.{Fact}
 use Rattle.lsp_facts.specs.FlawFacts.{Rests, log_facts}
+use Rattle.lsp_explain.specs.Remarks.{Noticed, noticed}
 use Rattle.lsp_explain.specs.RunSteps.{RestsBehind}
 use Rattle.lsp_explain.proofs.Explaining.{Hears, hears, offence_of, offences_are, breaches-first}
 use Rattle.lsp_explain.proofs.Explaining.{raws-append, noted-append}
