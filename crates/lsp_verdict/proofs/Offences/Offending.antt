@@ -1,7 +1,7 @@
 -- All offences of a session: which events are kept, and what is listed.
 use Rattle.std.specs.Prelude.{option_map, option_and_then, ◌&&◌, ◌||◌, ◌==◌, not, is_some, if◌then◌else◌}
 use Rattle.std.specs.Prelude.{nat_le}
-use Rattle.std.specs.List.{cons_option, filter_map, list_any}
+use Rattle.std.specs.List.{cons_option, filter_map}
 use Rattle.std.specs.Option.{option_or}
 use Rattle.std.specs.Str.{bytes_eq}
 use Rattle.std.proofs.Common.{◌≡◌, ℕ, Bool, true, false, List, [], ◌∷◌, ◌++◌, Option, Some, None, refl, sym, ap, ◌∙◌, append_assoc, append-nil}
@@ -23,7 +23,7 @@ use Rattle.lsp_verdict.specs.Offences.{is_reopened, said_at, renews, left_lost, 
 use Rattle.lsp_verdict.specs.Offences.{brought_by, lost_by}
 use Rattle.lsp_verdict.specs.Offences.{last_or, is_lost, asks, breaks_handshake, may_answer}
 use Rattle.lsp_verdict.specs.Offences.{broken_by, is_handshake_lost}
-use Rattle.lsp_verdict.specs.Offences.{is_frame_fault, has_broken, unread_by, is_unread}
+use Rattle.lsp_verdict.specs.Offences.{has_broken, unread_by, is_unread}
 use Rattle.lsp_verdict.specs.Offences.{wants_other, follows_bytes, wants_handshake, wants_text}
 use Rattle.lsp_verdict.specs.Offences.{is_on_lost, asked_by, answered_by, passes, passed_by}
 use Rattle.lsp_verdict.specs.Offences.{is_passed, is_any_passed, follows_passed, follows}
