@@ -83,11 +83,11 @@ fn text_by<R: Source>(
     loop {
         match events.next(reader)? {
             NextJudged::Event(heard) => {
-                if let Some(answer) = text_heard(alloc, events, heard, which)? {
+                if let Some(answer) = text_heard(alloc, events, &heard, which)? {
                     return Ok(answer);
                 }
             }
-            NextJudged::End(end) => return Ok(answer_at(end)),
+            NextJudged::End(end) => return Ok(answer_at(Box::into_inner(end))),
         }
     }
 }
@@ -96,7 +96,7 @@ fn text_by<R: Source>(
 fn text_heard(
     alloc: Global,
     events: &SurveyReader,
-    heard: Judged,
+    heard: &Judged,
     which: ComparedText,
 ) -> Result<Option<TextAnswer>, Memory>
     ensures kept { result ≡ Ok None → heard ≡ Judged.Kept }
@@ -106,7 +106,7 @@ fn text_heard(
 {
     match heard {
         Judged::Kept => Ok(None),
-        Judged::Offence(found) => Ok(Some(text_found(alloc, events, &found, which)?)),
+        Judged::Offence(found) => Ok(Some(text_found(alloc, events, found, which)?)),
     }
 }
 

@@ -121,11 +121,11 @@ fn explain_first<R: Source>(
     loop {
         match events.next(reader)? {
             NextJudged::Event(heard) => {
-                if let Some(explanation) = explain_heard(alloc, events, heard)? {
+                if let Some(explanation) = explain_heard(alloc, events, &heard)? {
                     return Ok(explanation);
                 }
             }
-            NextJudged::End(end) => return Ok(explain_end(alloc, events, end)?),
+            NextJudged::End(end) => return Ok(explain_end(alloc, events, Box::into_inner(end))?),
         }
     }
 }
@@ -134,7 +134,7 @@ fn explain_first<R: Source>(
 fn explain_heard(
     alloc: Global,
     events: &SurveyReader,
-    heard: Judged,
+    heard: &Judged,
 ) -> Result<Option<Explanation>, Memory>
     ensures kept { result ≡ Ok None → heard ≡ Judged.Kept }
     ensures told { IfOk result
@@ -143,7 +143,7 @@ fn explain_heard(
 {
     match heard {
         Judged::Kept => Ok(None),
-        Judged::Offence(found) => Ok(Some(explain_noted(alloc, events, &found)?)),
+        Judged::Offence(found) => Ok(Some(explain_noted(alloc, events, found)?)),
     }
 }
 

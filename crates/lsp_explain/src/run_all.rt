@@ -110,8 +110,8 @@ fn explain_events<R: Source, W: Sink>(
 {
     loop {
         match events.next(reader)? {
-            NextJudged::Event(heard) => explain_heard(alloc, events, writer, tally, heard)?,
-            NextJudged::End(end) => return Ok(end),
+            NextJudged::Event(heard) => explain_heard(alloc, events, writer, tally, &heard)?,
+            NextJudged::End(end) => return Ok(Box::into_inner(end)),
         }
     }
 }
@@ -122,7 +122,7 @@ fn explain_heard<W: Sink>(
     events: &SurveyReader,
     writer: &mut W,
     tally: &mut OffenceCount,
-    heard: Judged,
+    heard: &Judged,
 ) -> Result<(), RunFault>
     ensures tally { (found : List SpecOffence) → IsTally tally.old found
         → IsTally tally.new (found ++ found_in heard) }
@@ -132,7 +132,7 @@ fn explain_heard<W: Sink>(
         Judged::Kept => Ok(()),
         Judged::Offence(found) => {
             tally.add(&found.offence);
-            explain_cause(alloc, events, writer, &found)
+            explain_cause(alloc, events, writer, found)
         }
     }
 }
