@@ -47,7 +47,7 @@ id_in (response id reply) = id
 -- the token of the first of these offers, if it has one
 abbrev pub token_of : List Offer → Option Ident
 token_of [] = None
-token_of (offer ∷ offers) = offer.token
+token_of (offer ∷ rest) = offer.token
 
 -- the token of a progress, and the one that it may have: that of the open `initialize`
 abbrev pub token_facts : List Sent → Act → List Fact

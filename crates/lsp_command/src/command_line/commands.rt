@@ -173,12 +173,12 @@ fn explain<'a>(alloc: Global) -> Result<Command<'a>, AllocError>
         .arg(flag(
             alloc,
             "by-messages",
-            "Writes the whole text that the messages make, where two texts differ (608, 702)",
+            "Writes only the text that the messages produce (608, 702)",
         ))?
         .arg(flag(
             alloc,
             "in-editor",
-            "Writes the whole text that it differs from: the saved one, or the snapshot's",
+            "Writes only the editor's own text, saved or of a snapshot (608, 702)",
         ))?
         .arg(quiet(alloc))?
         .arg(log_file(alloc))
@@ -192,7 +192,7 @@ fn show<'a>(alloc: Global) -> Result<Command<'a>, AllocError>
         .arg(flag(
             alloc,
             "all",
-            "Goes on after each message that breaks a rule, and reports every one",
+            "Continues past each violation, and lists it in its place",
         ))?
         .arg(flag(
             alloc,

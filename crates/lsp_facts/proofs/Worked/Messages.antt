@@ -13,7 +13,8 @@ use Rattle.json.specs.Word.{word, after_number}
 use Rattle.json.specs.Print.{escape_byte}
 use Rattle.serde_json.specs.Read.{number_of}
 use Rattle.lsp_verdict.specs.Event.{Event, message, sent_in}
-use Rattle.lsp_verdict.proofs.Worked.Templates.{I1, IE, A, A1, START, REQ, SH, EX, RES, ERR, LOG, REG, CANCEL}
+use Rattle.lsp_verdict.proofs.Worked.Templates.{I1, IE, IT, A, A1, START, REQ, SH, EX, RES, ERR}
+use Rattle.lsp_verdict.proofs.Worked.Templates.{LOG, PROG, REG, CANCEL}
 use Rattle.lsp_facts.specs.Fact.{begins}
 use Rattle.lsp_facts.specs.Lines.{fact_lines}
 use Rattle.lsp_facts.specs.MessageFacts.{front_facts, session_facts}
@@ -70,6 +71,23 @@ after_exit = refl
 server_too_early : said 411 [] LOG ≡ codes "phase fresh\n"
 unfolding value punctuate lex content word after_number number_of scan_numeral chars digits escape_byte
 server_too_early = refl
+
+-- a progress, with the token of the open `initialize` where it has one
+another_token : said 412 (IT ∷ []) (PROG (codes "v"))
+    ≡ codes "token \"v\"\nexpected \"w\"\nphase waiting\n"
+unfolding value punctuate lex content word after_number number_of scan_numeral chars digits
+    escape_byte
+another_token = refl
+
+no_token : said 412 (I1 ∷ []) (PROG (codes "v")) ≡ codes "token \"v\"\nphase waiting\n"
+unfolding value punctuate lex content word after_number number_of scan_numeral chars digits
+    escape_byte
+no_token = refl
+
+no_progress : said 412 (IT ∷ []) (REG (codes "x")) ≡ codes "phase waiting\n"
+unfolding value punctuate lex content word after_number number_of scan_numeral chars digits
+    escape_byte
+no_progress = refl
 
 -- ---- what is agreed
 
