@@ -152,14 +152,15 @@ module _ (e : SurveyReader) (found : FoundOffence) (x : Explanation) (rest said 
 
   pub tells : SeenOf e found rest
       → (limits : Bounds) (start now : Told) (hs : List Heard) (prior : List Offence)
-      (given : GaveEvent limits e start now (raws_of hs) (notes_of hs) prior (heard.Offence found))
+      (boxed : Box FoundOffence Global) (same : boxed.value ≡ found)
+      (given : GaveEvent limits e start now (raws_of hs) (notes_of hs) prior (heard.Offence boxed))
       → Tells limits given.so_far.records (terms_in e) hs (record {
         raw = given.raw;
         note = given.n;
       }) found x
-  tells seen limits start now hs prior given =
+  tells seen limits start now hs prior boxed same given =
       let terms = terms_in e in
-      let f = given.is_heard in
+      let f = finds_boxed boxed same given in
       let shows_fault : (rests : Rests) → RestsBehind limits given.so_far.records rests
       → ShowsFault rests found.offending rest = λ rests behind.
       fault_shown limits e given.so_far.records rests rest terms
@@ -169,6 +170,6 @@ module _ (e : SurveyReader) (found : FoundOffence) (x : Explanation) (rest said 
         raw = given.raw;
         note = given.n;
       }) given.is_noted.0 (few_before limits e start now (raws_of hs ++ given.raw ∷ [])
-      (notes_of hs) given.n (prior ++ found_in (heard.Offence found)) given.so_far) shows_fault
+      (notes_of hs) given.n (prior ++ found_in (heard.Offence boxed)) given.so_far) shows_fault
       terms refl f
       (stands_before e (notes_of hs) given.n f.rule given.so_far.walks f.offends)

@@ -88,8 +88,9 @@ pub record Tells (limits : Bounds) (records : List Record) (terms : Terms) (hs :
 abbrev pub TellsOf : SurveyReader → FoundOffence → Explanation → Type 0
 TellsOf e found x =
     (limits : Bounds) (start now : Told) (hs : List Heard) (prior : List Offence)
+    (boxed : Box FoundOffence Global) (same : boxed.value ≡ found)
     (given : GaveEvent limits e start now (raws_of hs) (notes_of hs) prior
-    (heard.Offence found))
+    (heard.Offence boxed))
     → Tells limits given.so_far.records (terms_in e) hs (record {
       raw = given.raw;
       note = given.n;

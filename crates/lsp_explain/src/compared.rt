@@ -83,7 +83,7 @@ fn text_by<R: Source>(
     loop {
         match events.next(reader)? {
             NextJudged::Event(heard) => {
-                if let Some(answer) = text_heard(alloc, events, &heard, which)? {
+                if let Some(answer) = text_heard(alloc, events, heard, which)? {
                     return Ok(answer);
                 }
             }
@@ -96,17 +96,17 @@ fn text_by<R: Source>(
 fn text_heard(
     alloc: Global,
     events: &SurveyReader,
-    heard: &Judged,
+    heard: Judged,
     which: ComparedText,
 ) -> Result<Option<TextAnswer>, Memory>
     ensures kept { result ≡ Ok None → heard ≡ Judged.Kept }
     ensures told { IfOk result
-        (λ answer. IfSome answer (λ x. (found : FoundOffence) × (heard ≡ Judged.Offence found)
-        × IsAnswer which events.now found (answer_view x))) }
+        (λ answer. IfSome answer (λ x. (found : Box FoundOffence Global)
+        × (heard ≡ Judged.Offence found) × IsAnswer which events.now found.value (answer_view x))) }
 {
     match heard {
         Judged::Kept => Ok(None),
-        Judged::Offence(found) => Ok(Some(text_found(alloc, events, found, which)?)),
+        Judged::Offence(found) => Ok(Some(text_found(alloc, events, &found, which)?)),
     }
 }
 

@@ -121,7 +121,7 @@ fn explain_first<R: Source>(
     loop {
         match events.next(reader)? {
             NextJudged::Event(heard) => {
-                if let Some(explanation) = explain_heard(alloc, events, &heard)? {
+                if let Some(explanation) = explain_heard(alloc, events, heard)? {
                     return Ok(explanation);
                 }
             }
@@ -134,16 +134,16 @@ fn explain_first<R: Source>(
 fn explain_heard(
     alloc: Global,
     events: &SurveyReader,
-    heard: &Judged,
+    heard: Judged,
 ) -> Result<Option<Explanation>, Memory>
     ensures kept { result ≡ Ok None → heard ≡ Judged.Kept }
     ensures told { IfOk result
-        (λ answer. IfSome answer (λ x. (found : FoundOffence) × (heard ≡ Judged.Offence found)
-        × TellsFirst events.now found x)) }
+        (λ answer. IfSome answer (λ x. (found : Box FoundOffence Global)
+        × (heard ≡ Judged.Offence found) × TellsFirst events.now found.value x)) }
 {
     match heard {
         Judged::Kept => Ok(None),
-        Judged::Offence(found) => Ok(Some(explain_noted(alloc, events, found)?)),
+        Judged::Offence(found) => Ok(Some(explain_noted(alloc, events, &found)?)),
     }
 }
 

@@ -110,7 +110,7 @@ fn explain_events<R: Source, W: Sink>(
 {
     loop {
         match events.next(reader)? {
-            NextJudged::Event(heard) => explain_heard(alloc, events, writer, tally, &heard)?,
+            NextJudged::Event(heard) => explain_heard(alloc, events, writer, tally, heard)?,
             NextJudged::End(end) => return Ok(Box::into_inner(end)),
         }
     }
@@ -122,7 +122,7 @@ fn explain_heard<W: Sink>(
     events: &SurveyReader,
     writer: &mut W,
     tally: &mut OffenceCount,
-    heard: &Judged,
+    heard: Judged,
 ) -> Result<(), RunFault>
     ensures tally { (found : List SpecOffence) → IsTally tally.old found
         → IsTally tally.new (found ++ found_in heard) }
@@ -132,7 +132,7 @@ fn explain_heard<W: Sink>(
         Judged::Kept => Ok(()),
         Judged::Offence(found) => {
             tally.add(&found.offence);
-            explain_cause(alloc, events, writer, found)
+            explain_cause(alloc, events, writer, &found)
         }
     }
 }
@@ -145,8 +145,9 @@ fn explain_cause<W: Sink>(
     writer: &mut W,
     found: &FoundOffence,
 ) -> Result<(), RunFault>
-    ensures { TellsHeard events.now (Judged.Offence found.now) (W.told writer.old)
-        (W.told writer.new) result }
+    ensures { (boxed : Box FoundOffence Global) → boxed.value ≡ found.now
+        → TellsHeard events.now (Judged.Offence boxed) (W.told writer.old) (W.told writer.new)
+        result }
 {
     if found.offence.follows {
         return Ok(());
