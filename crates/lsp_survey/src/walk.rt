@@ -233,7 +233,9 @@ impl Replay {
             → Hears (raw_view raw.entry) self.old.events.docs.terms self.new before heard) }
     {
         match refused {
-            Refused::Message { side, rule, spoken } => self.refuse_message(alloc, side, rule, spoken),
+            Refused::Message { side, rule, spoken } => self.refuse_message(
+                alloc, side, rule, spoken,
+            ),
             Refused::Rule(rule) => self.refuse_raw(alloc, rule, raw),
             Refused::Memory => Err(Memory),
         }
@@ -346,7 +348,11 @@ impl Replay {
         note_refused(&mut self.notes, rule, uri, false, false)?;
         let uri = String::from_str(alloc, uri)?;
         let text = String::from_str(alloc, text)?;
-        found(alloc, offence, OffendingEvent::Snapshot { version, uri, text })
+        found(
+            alloc,
+            offence,
+            OffendingEvent::Snapshot { version, uri, text },
+        )
     }
 
     /// Counts a frame or a content of a side that breaks this rule, and gives its offence; the
@@ -466,11 +472,7 @@ impl Replay {
 }
 
 /// That this event offends.
-fn found(
-    alloc: Global,
-    offence: Offence,
-    offending: OffendingEvent,
-) -> Result<Judged, Memory>
+fn found(alloc: Global, offence: Offence, offending: OffendingEvent) -> Result<Judged, Memory>
     ensures { IfOk result (IsFound offence offending) }
 {
     let found = Box::new(alloc, FoundOffence { offence, offending })?;

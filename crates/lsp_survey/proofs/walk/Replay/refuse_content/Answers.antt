@@ -64,8 +64,8 @@ returns-clause-passes c =
         openings = refused.openings;
         said = refused.said;
         offence = λ enc kind notes event is w.
-          ap (λ (f : FoundOffence). offence_view f.offence) given.2
-          ∙ refused.offence notes w
+            ap (λ (f : FoundOffence). offence_view f.offence) given.2
+            ∙ refused.offence notes w
             ∙ ap (λ e. given_offence (offence_of old.events.docs.terms notes (who_of c.args.side)
             rule false (follows_passed old.events.docs.terms rule notes e
             || follows_bytes rule (events_of notes) e))) (sym is);
