@@ -132,6 +132,28 @@ WRONG_LINES = STAYS + b"no 606 editor 5 event 7\nrange is reversed\n"
 WRONG_LATER = b"no 702 snapshot 3 event 10\nsnapshot differs\nno 406 editor 9 event 14\neditor message after exit\n"
 WRONG_FOLLOWS = b"no 702 snapshot 2 event 8 follows\nsnapshot differs\n"
 
+# All its events: the lines of those that are kept, and the offences.
+WRONGS_SHOWN = b"""1 editor request 1 "initialize"
+2 server result 1
+3 editor notification "initialized"
+4 editor notification "textDocument/didOpen"
+no 603 editor 4 event 5
+version does not rise
+6 snapshot 1 2 "file:///a"
+no 606 editor 5 event 7
+range is reversed
+no 702 snapshot 2 event 8 follows
+snapshot differs
+9 editor notification "textDocument/didChange"
+no 702 snapshot 3 event 10
+snapshot differs
+11 editor request 2 "shutdown"
+12 server result 2
+13 editor notification "exit"
+no 406 editor 9 event 14
+editor message after exit
+"""
+
 # A handshake that is lost at its first message.
 UNSHAKEN = HEAD + editor('{"jsonrpc":"2.0","id":1,"method":"initialize","params":[]}') + ANSWER + INITIALIZED + EXIT
 UNSHAKEN_LINES = b"no 209 editor 1 event 1\nbad params of an interpreted method\n"

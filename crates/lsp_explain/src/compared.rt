@@ -131,14 +131,15 @@ fn texts_of(
 ) -> Result<Option<TwoTexts>, Memory>
     ensures { IfOk result (λ texts. AreTexts events.now found.now (option_map texts_view texts)) }
 {
+    let docs = events.docs();
     let rule = found.offence.rule;
     match &found.offending {
-        OffendingEvent::Frames(_) | OffendingEvent::Content { .. } => Ok(None),
+        OffendingEvent::Frames(_) => Ok(None),
+        OffendingEvent::Content { .. } => Ok(None),
         OffendingEvent::Message { spoken, .. } => {
-            message_texts(alloc, events.session(), events.docs(), &spoken.act, rule)
+            message_texts(alloc, events.session(), docs, &spoken.act, rule)
         }
         OffendingEvent::Snapshot { version, uri, text } => {
-            let docs = events.docs();
             shown_texts(alloc, docs, *version, uri.as_str(), text.as_str(), rule)
         }
     }

@@ -10,5 +10,6 @@ pub mod DocumentRules
 pub mod Refused
 pub mod ShapedMembers
 pub mod SomeFacts
+pub mod TextsDiffer
 pub mod OneFacts
 pub mod Worked

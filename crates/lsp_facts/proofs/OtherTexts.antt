@@ -13,11 +13,16 @@ use Rattle.lsp_docs.specs.Terms.{Terms}
 use Rattle.lsp_docs.specs.Calls.{Call, changes}
 use Rattle.lsp_docs.specs.Documents.{Version, held}
 use Rattle.lsp_replay.specs.declared.heard.EventPlace.{EventPlace}
+use Rattle.lsp_verdict.specs.declared.verdict.Who.TheVariants.{Editor}
 use Rattle.lsp_facts.specs.Making.{IsMade}
 use Rattle.lsp_facts.specs.Refuting.{is_other, is_other_at, others_of, made_text, refuting, waiting_texts}
 use Rattle.lsp_facts.proofs.MadeChanges.{fails_some, makes_all}
 
 -- ---- one more snapshot
+
+-- a place, for want of another
+abbrev nowhere : EventPlace
+nowhere = record { event = 0; who = Editor; number = 0 }
 
 module _ (ends : LineEnds) (t : Text) where
   -- the next one, where its text is another
@@ -62,14 +67,15 @@ module _ (ends : LineEnds) (t : Text) where
       ∙ ap (λ (b : Bool). others_of ends t (take i ns) us ++ (if b then get_or ns i d ∷ [] else []))
       other)
 
-  pub others-passed : (ns : List EventPlace) (us : List Text) (i : ℕ) (d : EventPlace)
-      (xs : List EventPlace) → i < length ns
+  pub others-passed : (ns : List EventPlace) (us : List Text) (i : ℕ) (xs : List EventPlace)
+      → i < length ns
       → is_other_at ends t (slice_get us i) ≡ false → xs ≡ others_of ends t (take i ns) us
       → xs ≡ others_of ends t (take (i + 1) ns) us
-  others-passed ns us i d xs lt same is =
+  others-passed ns us i xs lt same is =
+      let n = get_or ns i nowhere in
       is
-      ∙ sym (others-more ns us i (get_or ns i d) (slice_get-get_or ns i d lt)
-      ∙ ap (λ (b : Bool). others_of ends t (take i ns) us ++ (if b then get_or ns i d ∷ [] else []))
+      ∙ sym (others-more ns us i n (slice_get-get_or ns i nowhere lt)
+      ∙ ap (λ (b : Bool). others_of ends t (take i ns) us ++ (if b then n ∷ [] else []))
       same ∙ append-nil (others_of ends t (take i ns) us))
 
 -- ---- the text that changes make

@@ -1,8 +1,11 @@
 -- The two texts of a 608 or 702: what the messages make of a document, and what the editor saved or
 -- showed of it.
-use Rattle.std.specs.Prelude.{ℕ, List, Bool, ◌||◌, ◌==◌, if◌then◌else◌, Option, Some, None}
+use Rattle.std.specs.Prelude.{◌≡◌, ℕ, List, Bool, true, ◌||◌, ◌==◌, if◌then◌else◌, Option}
+use Rattle.std.specs.Prelude.{Some, None}
 use Rattle.std.specs.Prelude.{option_and_then, option_map}
 use Rattle.lsp_types.specs.declared.line_ends.LineEnds.{LineEnds}
+use Rattle.lsp_text.specs.SameText.{SameText}
+use Rattle.lsp_docs.specs.Rules.{call_rule}
 use Rattle.lsp_docs.specs.Texts.{Text}
 use Rattle.lsp_docs.specs.Terms.{Terms}
 use Rattle.lsp_docs.specs.Calls.{Call, opens, changes, closes, saves, shows}
@@ -54,11 +57,18 @@ compared terms before (shows uri number text) =
     (other_than terms.line_ends (versioned number text) (kept terms uri before)
     (held terms uri before))
 
--- ---- of an event
-
 -- the rule says that two texts differ
 abbrev pub is_of_texts : ℕ → Bool
 is_of_texts rule = rule == rules.SAVED_TEXT_DIFFERS || rule == rules.SNAPSHOT_DIFFERS
+
+-- **Where a call breaks 608 or 702 there are two texts, and they differ.**
+abbrev pub TextsDiffer : Type 0
+TextsDiffer = (terms : Terms) (before : List Call) (call : Call) (rule : ℕ)
+    → is_of_texts rule ≡ true → call_rule terms before call ≡ Some rule
+    → (texts : TwoTexts) × (compared terms before call ≡ Some texts)
+    × (SameText terms.line_ends texts.by_messages texts.in_editor → ⊥)
+
+-- ---- of an event
 
 -- **the two texts of an event that offends by this rule after these kept ones**
 abbrev pub texts_at : Terms → List Event → Event → ℕ → Option TwoTexts

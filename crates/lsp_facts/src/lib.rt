@@ -38,7 +38,7 @@ pub use contents::content_facts;
 pub use documents::{act_facts, snapshot_facts};
 pub use fact::Fact;
 pub use faults::{flaw_facts, frame_facts, unfinished_facts};
-pub use laws::{bad_params_have_a_member, bad_result_has_a_member};
+pub use laws::{bad_params_have_a_member, bad_result_has_a_member, compared_texts_differ};
 pub use lines::{
     push_bare_event, push_content_event, push_details, push_end_event, push_message_event,
 };

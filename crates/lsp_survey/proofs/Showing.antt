@@ -314,9 +314,10 @@ module _ (lines : Lines) (limits : Bounds) (start old mid : Told) (terms : Terms
         wrote last)
 
     -- it was heard, and not all of its lines were written
-    pub show_failed : (fault : RunFault) → Tells mid new (lines_by text given) (Err fault)
+    pub show_failed : (fault : RunFault) (seen : List ℕ) → seen ≡ text
+        → Tells mid new (lines_by seen given) (Err fault)
         → PartWritten limits Begins start now old new fault
-    show_failed fault told =
+    show_failed fault seen is told =
         let so = gave.so_far in
         let more = past ++ gave.raw ∷ [] in
         let all = notes ++ gave.n ∷ [] in
@@ -328,7 +329,8 @@ module _ (lines : Lines) (limits : Bounds) (start old mid : Told) (terms : Terms
         (ap (λ (t : Terms). bytes_of (events_shown lines t all)) (sym so.terms_are)
         ∙ one_more ∙ whole)) (so_far_given Ignored limits e start now more all _ so))
         (so_far_failures Ignored limits e start now more all _ so)
-        (tells_some mid new (lines_by text given) fault told)
+        (tells_some mid new (lines_by text given) fault
+        (subst (λ (l : List ℕ). Tells mid new (lines_by l given) (Err fault)) is told))
 
 -- all was written, or a front of it
 pub shown_closed : (lines : Lines) (limits : Bounds) (e : SurveyReader) (t : OffenceCount)

@@ -51,7 +51,7 @@ has_name uri names = list_any (λ name. bytes_eq name uri) names
 -- after these one more, where it is another, and there is room
 abbrev pub with_name : List (List ℕ) → List ℕ → List (List ℕ)
 with_name names uri =
-    if has_name uri names || not (nat_lt (length names) most_touched) then names
+    if not (nat_lt (length names) most_touched) || has_name uri names then names
     else names ++ uri ∷ []
 
 abbrev pub with_names : List (List ℕ) → List (List ℕ) → List (List ℕ)

@@ -80,13 +80,13 @@ of_lists = refl
 
 -- the editor's messages of these events are numbered so
 abbrev by_editor : ℕ → ℕ → EventPlace
-by_editor event number = record { event = event; who = who.Editor; number = number }
+by_editor event own = record { event = event; who = who.Editor; number = own }
 
 abbrev by_server : ℕ → ℕ → EventPlace
-by_server event number = record { event = event; who = who.Server; number = number }
+by_server event own = record { event = event; who = who.Server; number = own }
 
 abbrev by_recorder : ℕ → ℕ → EventPlace
-by_recorder event number = record { event = event; who = who.Snapshot; number = number }
+by_recorder event own = record { event = event; who = who.Snapshot; number = own }
 
 of_earlier_events : fact_lines (holds_by (pos 3) (by_editor 12 5) ∷ shows_version (negsuc 0)
     ∷ counts_in Utf8 ∷ counts_in Utf16 ∷ counts_in Utf32 ∷ shown_by (by_recorder 7 2)

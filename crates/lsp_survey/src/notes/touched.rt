@@ -98,7 +98,7 @@ fn add(names: &mut Vec<String>, uri: &str) -> Result<(), Memory>
     ensures { OnOk result (names_view names.new.items
         ≡ with_name (names_view names.old.items) uri.now) }
 {
-    if has_name(names.as_slice(), uri) || names.len() >= MOST_TOUCHED {
+    if names.len() >= MOST_TOUCHED || has_name(names.as_slice(), uri) {
         return Ok(());
     }
     let name = String::from_str(*names.allocator(), uri)?;

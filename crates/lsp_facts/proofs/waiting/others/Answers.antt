@@ -19,7 +19,7 @@ loop-index-preserved c =
           (sym c.is_other_at.ensures ∙ w.if-is_other_at.true) c.loop-index.invariant
       | else-is_other_at w ↦
           ap (λ v. v.items) w.others-is
-          ∙ others-passed c.args.line_ends text c.args.snapshots.now texts c.loop-index.index _
+          ∙ others-passed c.args.line_ends text c.args.snapshots.now texts c.loop-index.index
           c.loop-index.others.items c.loop-index-test.true
           (sym c.is_other_at.ensures ∙ w.if-is_other_at.false) c.loop-index.invariant
     ]

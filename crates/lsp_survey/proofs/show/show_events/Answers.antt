@@ -12,8 +12,8 @@ use Rattle.lsp_survey.proofs.Reading.{fewer, gives_by}
 use Rattle.lsp_survey.proofs.Showing.{broke_shown, more_shown, show_failed}
 use Rattle.lsp_survey.proofs.show.show_events.Goals as goal
 
-pub loop-heard-init : goal.loop-heard-init
-loop-heard-init g c = λ limits start so. record {
+pub loop-line-init : goal.loop-line-init
+loop-line-init g c = λ limits start so. record {
   past = [];
   notes = [];
   found = [];
@@ -27,31 +27,31 @@ pub returns-in_err-heard : goal.returns-in_err-heard
 returns-in_err-heard g c =
     let p = err_from_is_err_and c.from_residual.result c.from_residual.ensures.1 in
     rw (p.1, p.2) (λ limits start so.
-    let inv = c.loop-heard.invariant limits start so in
+    let inv = c.loop-line.invariant limits start so in
     let broke = c.in_err-heard.ensures.answer limits start inv.past inv.notes inv.found inv.so_far in
     broke_shown c.args.lines limits start (g.W.Sink.told c.args.writer.now)
-    (g.W.Sink.told c.loop-heard.writer) _ inv.notes inv.wrote _
+    (g.W.Sink.told c.loop-line.writer) _ inv.notes inv.wrote _
     (g.R.Source.told c.show_next.new.reader) _ _ inv.past inv.found _ inv.so_far.are_noted
     inv.so_far.terms_are broke.0 broke.1)
 
-pub loop-heard-smaller : goal.loop-heard-smaller
-loop-heard-smaller g c =
+pub loop-line-smaller : goal.loop-line-smaller
+loop-line-smaller g c =
     let limits = c.requires.fresh.0 in
     let start = c.requires.fresh.1 in
     let so = c.requires.fresh.2 in
-    let inv = c.loop-heard.invariant limits start so in
+    let inv = c.loop-line.invariant limits start so in
     let gave = (rw c.in-Event.is at (c.in_ok-heard.ensures.answer limits start inv.past inv.notes
     inv.found inv.so_far)).0 in
     subst (λ (b : Bounds). b.log + 1 - c.show_next.new.self.walk.events.counts.all < b.log + 1 -
-    c.loop-heard.events.walk.events.counts.all) (sym so.reads.same)
-    (fewer limits c.loop-heard.events c.show_next.new.self start
-    (g.R.Source.told c.loop-heard.reader) (g.R.Source.told c.show_next.new.reader) inv.past
+    c.loop-line.events.walk.events.counts.all) (sym so.reads.same)
+    (fewer limits c.loop-line.events c.show_next.new.self start
+    (g.R.Source.told c.loop-line.reader) (g.R.Source.told c.show_next.new.reader) inv.past
     (inv.past ++ gave.raw ∷ []) inv.notes gave.n inv.found
     (inv.found ++ found_in c.in-Event.heard) inv.so_far gave.so_far)
 
-pub loop-heard-preserved : goal.loop-heard-preserved
-loop-heard-preserved g c = λ limits start so.
-    let inv = c.loop-heard.invariant limits start so in
+pub loop-line-preserved : goal.loop-line-preserved
+loop-line-preserved g c = λ limits start so.
+    let inv = c.loop-line.invariant limits start so in
     let told = rw c.in-Event.is at (c.in_ok-heard.ensures.answer limits start inv.past inv.notes
     inv.found inv.so_far) in
     let gave = told.0 in
@@ -64,9 +64,10 @@ loop-heard-preserved g c = λ limits start so.
       ignored = c.in_ok-heard.ensures.completeness ∙ inv.ignored;
       tally = shown.tally inv.found inv.tally;
       wrote = more_shown c.args.lines limits start (g.W.Sink.told c.args.writer.now)
-          (g.W.Sink.told c.loop-heard.writer) _ inv.notes inv.wrote c.show_next.new.self
+          (g.W.Sink.told c.loop-line.writer) _ inv.notes inv.wrote c.show_next.new.self
           (g.R.Source.told c.show_next.new.reader) (g.W.Sink.told c.show_heard.new.writer) inv.past
-          inv.found c.in-Event.heard _ c.in_ok-heard.ensures.terms gave told.1 shown.tells;
+          inv.found c.in-Event.heard _ c.in_ok-heard.ensures.terms gave told.1
+          (rw c.as_str.ensures.value at shown.tells);
     }
 
 pub returns-in_err-show_heard-in-Event : goal.returns-in_err-show_heard-in-Event
@@ -74,30 +75,30 @@ returns-in_err-show_heard-in-Event g c =
     let from = c.from_residual-in_err-show_heard-in-Event in
     let p = err_from_is_err_and from.result from.ensures.1 in
     rw (p.1, p.2) (λ limits start so.
-    let inv = c.loop-heard.invariant limits start so in
+    let inv = c.loop-line.invariant limits start so in
     let told = rw c.in-Event.is at (c.in_ok-heard.ensures.answer limits start inv.past inv.notes
     inv.found inv.so_far) in
     let gave = told.0 in
     show_failed c.args.lines limits start (g.W.Sink.told c.args.writer.now)
-    (g.W.Sink.told c.loop-heard.writer) _ inv.notes inv.wrote c.show_next.new.self
+    (g.W.Sink.told c.loop-line.writer) _ inv.notes inv.wrote c.show_next.new.self
     (g.R.Source.told c.show_next.new.reader) (g.W.Sink.told c.show_heard.new.writer) inv.past
     inv.found c.in-Event.heard _ c.in_ok-heard.ensures.terms gave told.1 _
-    c.in_err-show_heard-in-Event.ensures.tells)
+    c.as_str.result.now c.as_str.ensures.value c.in_err-show_heard-in-Event.ensures.tells)
 
 pub returns-in-End : goal.returns-in-End
 returns-in-End g c = λ limits start so.
-    let inv = c.loop-heard.invariant limits start so in
+    let inv = c.loop-line.invariant limits start so in
     let gave = rw c.in-End.is at (c.in_ok-heard.ensures.answer limits start inv.past inv.notes
     inv.found inv.so_far) in
     record {
       past = inv.past;
       notes = inv.notes;
       found = inv.found;
-      ended = gives_by c.loop-heard.events.completeness Ignored limits c.show_next.new.self start
+      ended = gives_by c.loop-line.events.completeness Ignored limits c.show_next.new.self start
           (g.R.Source.told c.show_next.new.reader) inv.past inv.notes inv.found
           (next.End c.in-End.end) inv.ignored gave;
       tally = inv.tally;
       wrote = subst (λ (t : Terms). Wrote (g.W.Sink.told c.args.writer.now)
-          (g.W.Sink.told c.loop-heard.writer) (bytes_of (events_shown c.args.lines t inv.notes)))
+          (g.W.Sink.told c.loop-line.writer) (bytes_of (events_shown c.args.lines t inv.notes)))
           (sym c.in_ok-heard.ensures.terms) inv.wrote;
     }

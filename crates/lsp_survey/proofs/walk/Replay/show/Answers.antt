@@ -51,7 +51,7 @@ returns-in-Ok-clause-line c =
     IfOk-weaker c.keep_shown.result _ _
     (λ given line before event walks reads small.
     let kept = kept_of c.args.self.now.events.docs.terms (events_of before) in
-    let here = same_read (raw_view c.args.raw) _ _ _ _ _ _ _ kept (events_of before) event
+    let here = same_read (raw_view c.args.raw) _ _ _ _ _ _ kept (events_of before) event
     (c.in-Ok.ensures.ok kept walks.holds) walks.counted reads in
     line (events_of before) event here.0 here.1 small)
     c.keep_shown.ensures.line
