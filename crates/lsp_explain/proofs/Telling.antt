@@ -1,4 +1,6 @@
 -- What a run tells of the first offence that it finds.
+use Rattle.std.specs.Prelude.{Box}
+use Rattle.std.specs.Global.{Global}
 use Rattle.std.proofs.Common.{◌≡◌, ℕ, ◌+◌, ◌<◌, ◌^◌, true, List, [], ◌∷◌, ◌++◌, length, Option}
 use Rattle.std.proofs.Common.{Some, refl, sym, ap, ◌∙◌, subst, string_bytes, arith}
 use Rattle.lsp_docs.specs.Terms.{Terms}
@@ -91,6 +93,15 @@ fault_shown limits s records rests rest terms kept rule raw (what.Message by spo
     behind = tt
 fault_shown limits s records rests rest terms kept rule raw (what.Snapshot version uri text) is
     ended seen behind = tt
+
+-- what a box has was found
+pub finds_boxed : {limits : Bounds} {e : SurveyReader} {start now : Told} {past : List Raw}
+    {notes : List Noted} {prior : List Offence} {found : FoundOffence}
+    (boxed : Box FoundOffence Global) → boxed.value ≡ found
+    → (given : GaveEvent limits e start now past notes prior (heard.Offence boxed))
+    → Finds given.raw e.walk.events.docs.terms notes given.n found
+finds_boxed {e = e} {notes = notes} boxed same given =
+    subst (Finds given.raw e.walk.events.docs.terms notes given.n) same given.is_heard
 
 module _ (e : SurveyReader) (found : FoundOffence) (x : Explanation) (rest said : List ℕ)
     (text : string_bytes x.text ≡ report (offence_view found.offence).no ++ said)

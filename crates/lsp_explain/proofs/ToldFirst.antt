@@ -1,4 +1,6 @@
 -- The first offence that a run finds explains the log.
+use Rattle.std.specs.Prelude.{Box}
+use Rattle.std.specs.Global.{Global}
 use Rattle.std.specs.Prelude.{option_map, string_bytes}
 use Rattle.std.specs.List.{AllZip, cons_option}
 use Rattle.std.proofs.Common.{◌≡◌, ℕ, List, [], ◌∷◌, ◌++◌, Option, Some, refl, sym, ap, ◌∙◌, subst}

@@ -40,7 +40,7 @@ use Rattle.lsp_verdict.specs.Event.{Event, fault, message}
 use Rattle.lsp_verdict.specs.Given.{given_offence, offence_view}
 use Rattle.lsp_verdict.specs.LookBack.{first_of}
 use Rattle.lsp_verdict.specs.Offences.{Noted, Offence, IsNoted, asks, breaks_handshake, broken_by}
-use Rattle.lsp_verdict.specs.Offences.{is_lost, is_reopened}
+use Rattle.lsp_verdict.specs.Offences.{is_initialized_by, is_lost, is_reopened, is_unheard}
 use Rattle.lsp_verdict.specs.Offences.{brought_by, events_of, follows_bytes, is_handshake_lost, kept_of}
 use Rattle.lsp_verdict.specs.Offences.{follows_passed, is_passed, may_answer, offence_by, rule_at}
 use Rattle.lsp_verdict.specs.Offences.{wants_handshake, wants_text}
@@ -65,6 +65,7 @@ pub record WalksBy (terms : Terms) (w : Replay) (notes : List Noted) : Type 0 wh
   pub sided : w.sides ≡ sides_of (events_of notes)
   pub passed : (side : Side) (k : Id) → has_passed w.passed side (id_view k)
       ≡ is_passed terms side (id_view k) notes
+  pub unheard : w.unheard ≡ is_unheard terms notes
 
 -- **a walk has heard these events**, and skipped each that offends after the kept ones before
 -- it
@@ -156,6 +157,8 @@ pub record PassesOver (old new : Replay) (by : Who) (rule : ℕ) (malformed : Op
   pub sides : (event : Event) → IsEvent event → new.sides ≡ sides_after event old.sides
   pub passed : (event : Event) → IsEvent event
       → ArePassed (Some rule) event malformed old.passed new.passed
+  pub unheard : (event : Event) → IsEvent event
+      → new.unheard ≡ (old.unheard || is_initialized_by event)
   pub noted : (enc : Encoding) (kind : SyncKind) (kept : List Event)
       → Holds old.events.session old.events.docs kept
       → Leaves (Some rule) (option_and_then brought_by malformed)

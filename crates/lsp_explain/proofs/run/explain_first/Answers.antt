@@ -68,12 +68,11 @@ returns-in-End g c = record {
       let ended = rw c.in-End.is at (c.in_ok-heard.ensures.answer limits start (raws_of inv.hs)
       (notes_of inv.hs) [] inv.so_far) in
       let own = subst (λ k. Ended k limits c.next.new.self start now (raws_of inv.hs)
-      (notes_of inv.hs) [] c.into_inner.result) inv.wanted
-      (subst (λ e. Ended _ limits c.next.new.self start now (raws_of inv.hs) (notes_of inv.hs) [] e)
-      (sym c.into_inner.ensures) ended) in
+      (notes_of inv.hs) [] c.in-End.end.value) inv.wanted ended in
       end_told c.args.events.now.completeness limits c.next.new.self start now inv.hs
-      c.into_inner.result
-      c.in_ok-explain_end-in-End.field-0 own c.in_ok-explain_end-in-End.ensures;
+      c.in-End.end.value
+      c.in_ok-explain_end-in-End.field-0 own
+      (rw c.into_inner.ensures at c.in_ok-explain_end-in-End.ensures);
 }
 
 pub returns-in_err-heard : goal.returns-in_err-heard

@@ -4,6 +4,7 @@ use Rattle.std.proofs.lemmas.Result.{IfOk-weaker}
 use Rattle.lsp_verdict.specs.Given.{offence_view}
 use Rattle.lsp_survey.specs.declared.offending.FoundOffence.{FoundOffence}
 use Rattle.lsp_survey.specs.Walking.{IsUnread}
+use Rattle.std.proofs.Math.Bool.{or-false}
 use Rattle.lsp_survey.specs.Notes.{Leaves}
 use Rattle.lsp_rpc.specs.Ident.{Ident, id_view}
 use Rattle.lsp_survey.specs.Passed.{ArePassed, SetsAny}
@@ -15,7 +16,7 @@ use Rattle.lsp_survey.specs.declared.notes.note.Notes.{Notes}
 use Rattle.lsp_verdict.specs.Given.{given_offence}
 use Rattle.lsp_verdict.specs.Event.{Event, fault}
 use Rattle.lsp_verdict.specs.Offences.{asks, breaks_handshake, events_of, follows_bytes}
-use Rattle.lsp_verdict.specs.Offences.{follows_passed, may_answer}
+use Rattle.lsp_verdict.specs.Offences.{follows_passed, is_initialized_by, may_answer}
 use Rattle.lsp_verdict.specs.Verdict.{who_of}
 use Rattle.lsp_survey.proofs.Passing.{found_offends}
 use Rattle.lsp_survey.proofs.walk.Replay.refuse_content.Goals as goal
@@ -60,6 +61,8 @@ returns-clause-passes c =
             meant.asked (subst (λ (p : Passed). SetsAny c.args.side
             (option_map id_view c.in_ok-asks.field-0.asked) p c.note_asked.new.self) refused.passed
             c.in_ok-note_asked.ensures)));
+        unheard = λ event is. refused.unheard ∙ sym (or-false old.unheard)
+            ∙ ap (λ e. old.unheard || is_initialized_by e) (sym is);
         marks = refused.marks;
         openings = refused.openings;
         said = refused.said;

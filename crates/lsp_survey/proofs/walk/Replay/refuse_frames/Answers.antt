@@ -3,13 +3,14 @@ use Rattle.std.proofs.Common.{◌≡◌, ◌∙◌, false, None, Some, refl, sym
 use Rattle.std.proofs.lemmas.Result.{IfOk-weaker}
 use Rattle.lsp_verdict.specs.Given.{offence_view}
 use Rattle.lsp_survey.specs.declared.offending.FoundOffence.{FoundOffence}
+use Rattle.std.proofs.Math.Bool.{or-false}
 use Rattle.lsp_survey.specs.Notes.{Leaves}
 use Rattle.lsp_survey.specs.Sides.{sides_after}
 use Rattle.lsp_survey.specs.Walking.{offence_of}
 use Rattle.lsp_survey.specs.declared.notes.note.Notes.{Notes}
 use Rattle.lsp_verdict.specs.Given.{given_offence}
 use Rattle.lsp_verdict.specs.Offences.{breaks_handshake, events_of, follows_bytes}
-use Rattle.lsp_verdict.specs.Offences.{follows_passed, may_answer}
+use Rattle.lsp_verdict.specs.Offences.{follows_passed, is_initialized_by, may_answer}
 use Rattle.lsp_verdict.specs.Verdict.{who_of}
 use Rattle.lsp_survey.proofs.Noting.{nothing_said}
 use Rattle.lsp_survey.proofs.PassedSteps.{fault_passes}
@@ -33,6 +34,8 @@ returns-clause-passes c =
           Leaves (Some rule) None false None old.notes.map.entries w.map.entries) (sym refused.notes)
           (nothing_said (Some rule) false old.notes.map.entries);
       passed = λ event is. fault_passes event c.args.side rule rule old.passed _ is refused.passed;
+      unheard = λ event is. refused.unheard ∙ sym (or-false old.unheard)
+          ∙ ap (λ e. old.unheard || is_initialized_by e) (sym is);
       marks = refused.marks;
       openings = refused.openings;
       said = refused.said;

@@ -14,7 +14,7 @@ use Rattle.lsp_verdict.specs.Given.{given_offence}
 use Rattle.lsp_verdict.specs.Offences.{breaks_handshake, events_of, is_handshake_lost}
 use Rattle.lsp_verdict.specs.Offences.{wants_handshake, wants_text}
 use Rattle.lsp_verdict.specs.Verdict.{no_next, who_of}
-use Rattle.lsp_survey.proofs.PassedSteps.{message_passes}
+use Rattle.lsp_survey.proofs.PassedSteps.{message_initialized, message_passes}
 use Rattle.lsp_survey.proofs.SidesSteps.{message_after, message_answers}
 use Rattle.lsp_survey.proofs.Passing.{found_offends}
 use Rattle.lsp_survey.proofs.walk.Replay.refuse_message.Goals as goal
@@ -43,6 +43,10 @@ returns-clause-passes c =
       passed = λ event is. message_passes side said event is rule old.passed
           c.note.new.self (subst (λ (p : Passed). Passes rule side said p c.note.new.self)
           refused.passed c.in_ok-note.ensures);
+      unheard = λ event is.
+          ap (λ b. b || c.is_initialized-told.result) refused.unheard
+          ∙ ap (λ b. old.unheard || b) (c.is_initialized-told.ensures
+          ∙ message_initialized side said event is);
       noted = λ enc kind kept holds.
           let call = call_of enc kind (act_view c.args.spoken.act) in
           let leaves = subst (λ (w : Notes). Leaves (Some rule) None c.reopens-other.result call

@@ -18,6 +18,7 @@ use Rattle.lsp_survey.specs.declared.offending.OffendingEvent.TheVariants.{Snaps
 use Rattle.lsp_verdict.specs.Given.{given_offence}
 use Rattle.lsp_verdict.specs.Offences.{breaks_handshake, events_of, follows_bytes}
 use Rattle.lsp_verdict.specs.Offences.{answered_by, asked_by, follows_passed, is_handshake_lost}
+use Rattle.lsp_verdict.specs.Offences.{is_initialized_by}
 use Rattle.lsp_verdict.specs.Offences.{may_answer, passes, wants_handshake, wants_text}
 use Rattle.lsp_verdict.specs.Verdict.{no_next}
 use Rattle.lsp_verdict.specs.declared.verdict.Who.TheVariants as who
@@ -59,6 +60,8 @@ returns-clause-passes c =
           ap (λ (p : Passed). has_passed p side (id_view k)) refused.passed
           ∙ ap (λ e. unwrap_or (passes (asked_by side e None) (answered_by side e) (id_view k) rule)
           (has_passed old.passed side (id_view k))) (sym is);
+      unheard = λ event is. refused.unheard ∙ sym (or-false old.unheard)
+          ∙ ap (λ e. old.unheard || is_initialized_by e) (sym is);
       marks = refused.marks;
       openings = refused.openings;
       said = refused.said;
