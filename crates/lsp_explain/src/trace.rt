@@ -346,7 +346,14 @@ fn trace_document(
 {
     let setters = marks.setters(uri)?;
     put_setter(facts, last_place(setters.as_slice()))?;
-    push_texts(facts, marks.agreed(uri), setters.as_slice(), snapshots, until, rule)
+    push_texts(
+        facts,
+        marks.agreed(uri),
+        setters.as_slice(),
+        snapshots,
+        until,
+        rule,
+    )
 }
 
 /// The place of the last of these messages, which set the held version.
