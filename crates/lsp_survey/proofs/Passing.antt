@@ -90,7 +90,10 @@ unheard_at : (o : Option ℕ) (e : Event)
     → is_some (if is_initialized_by e then o else None) ≡ unheard_with o e
 unheard_at None e = by_test (is_initialized_by e)
   where
-    by_test : (b : Bool) → is_some {A = ℕ} (if b then None else None) ≡ false
+    no_rule : Option ℕ
+    no_rule = None
+
+    by_test : (b : Bool) → is_some (if b then no_rule else no_rule) ≡ false
     by_test true = refl
     by_test false = refl
 unheard_at (Some rule) e = by_test (is_initialized_by e)

@@ -291,7 +291,7 @@ impl Replay {
             (IsMessageOf side (message_view spoken.message)) (λ what. what ≡ OffendingEvent.Message side spoken)) }
     {
         let breaks = breaks_handshake(false, rule);
-        let told = is_initialized(side, &spoken.message);
+        let unheard = self.unheard_after(side, &spoken.message);
         let other = reopens(&self.events.docs, &spoken.act);
         let on_lost = is_on_lost(&self.notes, &spoken.act)?;
         let late = self.message_follows(side, rule, &spoken.message);
@@ -300,7 +300,7 @@ impl Replay {
         self.sides = self.sides.after_message(side);
         note_refused_act(&mut self.notes, rule, other, &spoken.act)?;
         self.passed.note(side, rule, &spoken.message)?;
-        self.unheard = self.unheard || told;
+        self.unheard = unheard;
         found(alloc, offence, OffendingEvent::Message { side, spoken })
     }
 
@@ -442,6 +442,14 @@ impl Replay {
         ensures { result ≡ (rule == rules.INITIALIZED_NOT_FIRST && self.now.unheard) }
     {
         rule == rules::INITIALIZED_NOT_FIRST && self.unheard
+    }
+
+    /// Whether an `initialized` is passed over once this message of this side is.
+    fn unheard_after(&self, side: Side, message: &Message) -> bool
+        ensures { result ≡ (self.now.unheard
+            || (same_side Editor side && tells_initialized (message_view message.now))) }
+    {
+        self.unheard || is_initialized(side, message)
     }
 
     /// Whether a message of this side that breaks this rule answers a request that was passed over.

@@ -44,9 +44,8 @@ returns-clause-passes c =
           c.note.new.self (subst (λ (p : Passed). Passes rule side said p c.note.new.self)
           refused.passed c.in_ok-note.ensures);
       unheard = λ event is.
-          ap (λ b. b || c.is_initialized-told.result) refused.unheard
-          ∙ ap (λ b. old.unheard || b) (c.is_initialized-told.ensures
-          ∙ message_initialized side said event is);
+          c.unheard_after-unheard.ensures
+          ∙ ap (λ b. old.unheard || b) (message_initialized side said event is);
       noted = λ enc kind kept holds.
           let call = call_of enc kind (act_view c.args.spoken.act) in
           let leaves = subst (λ (w : Notes). Leaves (Some rule) None c.reopens-other.result call
