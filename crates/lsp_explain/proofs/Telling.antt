@@ -95,13 +95,13 @@ fault_shown limits s records rests rest terms kept rule raw (what.Snapshot versi
     ended seen behind = tt
 
 -- what a box has was found
-pub finds_boxed : {limits : Bounds} {e : SurveyReader} {start now : Told} {past : List Raw}
-    {notes : List Noted} {prior : List Offence} {found : FoundOffence}
+pub finds_boxed : (limits : Bounds) (e : SurveyReader) (start now : Told) (past : List Raw)
+    (notes : List Noted) (prior : List Offence) (found : FoundOffence)
     (boxed : Box FoundOffence Global) → boxed.value ≡ found
     → (given : GaveEvent limits e start now past notes prior (heard.Offence boxed))
-    → Finds given.raw e.walk.events.docs.terms notes given.n found
-finds_boxed {e = e} {notes = notes} boxed same given =
-    subst (Finds given.raw e.walk.events.docs.terms notes given.n) same given.is_heard
+    → Finds given.raw (terms_in e) notes given.n found
+finds_boxed limits e start now past notes prior found boxed same given =
+    subst (Finds given.raw (terms_in e) notes given.n) same given.is_heard
 
 module _ (e : SurveyReader) (found : FoundOffence) (x : Explanation) (rest said : List ℕ)
     (text : string_bytes x.text ≡ report (offence_view found.offence).no ++ said)
@@ -171,7 +171,7 @@ module _ (e : SurveyReader) (found : FoundOffence) (x : Explanation) (rest said 
       }) found x
   tells seen limits start now hs prior boxed same given =
       let terms = terms_in e in
-      let f = finds_boxed boxed same given in
+      let f = finds_boxed limits e start now (raws_of hs) (notes_of hs) prior found boxed same given in
       let shows_fault : (rests : Rests) → RestsBehind limits given.so_far.records rests
       → ShowsFault rests found.offending rest = λ rests behind.
       fault_shown limits e given.so_far.records rests rest terms
