@@ -43,8 +43,8 @@ returns-in-End g c = λ limits start so.
     let gave = rw c.in-End.is at (c.in_ok-heard.ensures.answer limits start inv.past inv.notes
     [] inv.so_far) in
     text_none c.loop-heard.events.completeness c.args.which limits c.next.new.self start
-    (g.R.Source.told c.next.new.reader) inv.past inv.notes c.in-End.end _ inv.ignored
-    c.answer_at.ensures gave
+    (g.R.Source.told c.next.new.reader) inv.past inv.notes c.in-End.end.value _ inv.ignored
+    (rw c.into_inner.ensures at c.answer_at.ensures) gave
 
 pub loop-heard-preserved : goal.loop-heard-preserved
 loop-heard-preserved g c = λ limits start so.
