@@ -12,7 +12,7 @@ use Rattle.std.proofs.lemmas.List.Folds.{flat_map-map}
 use Rattle.lsp_survey.specs.Misuses.{Misused, misuses}
 use Rattle.lsp_session.specs.Negotiation.{encoding}
 use Rattle.lsp_replay.specs.declared.heard.EventPlace.{EventPlace}
-use Rattle.lsp_survey.specs.Asking.{Numbered, sents}
+use Rattle.lsp_survey.specs.Asking.{sents}
 use Rattle.lsp_survey.specs.Remarks.{abrupt_exit, older_encoding}
 use Rattle.lsp_types.specs.declared.position.Encoding.{Encoding}
 use Rattle.lsp_verdict.specs.Verdict.{Verdict}
