@@ -175,6 +175,7 @@ def case(seed):
         event = ["event", str(1 + rng.randrange(12))]
         listed = ["check", rng.choice(["--all", "--every"]), *rng.choice([[], ["--complete"]])]
         explain = ["explain", *rng.choice([[], ["--all"]]), *rng.choice([[], ["--complete"]])]
-        judged = [["check"], ["check"], COMPLETE, listed, listed, explain, explain, ["show"], ["show", "--long"], ["upgrade"], ["upgrade"], text]
+        shown = ["show", "--all", *rng.choice([[], ["--long"]])]
+        judged = [["check"], ["check"], COMPLETE, listed, listed, explain, explain, ["show"], ["show", "--long"], shown, ["upgrade"], ["upgrade"], text]
         words = rng.choice([*judged, ["normal"], event])
     return words, damaged(rng, data)
