@@ -22,7 +22,6 @@ METHODS = [
 ]
 ENCODINGS = ["utf-8", "utf-16", "utf-32"]
 FIELDS = [b"Content-Type: a; charset=utf-8\r\n", b"Content-Type: a; charset=x\r\n", b"X: y\r\n"]
-COMPLETE = ["check", "--complete"]
 SPOILS = [b"\x00", b"\n", b"\r", b"{", b"}", b'"', b"\\", b"\xff", b"0", b"9", b" ", b":", b"-", b"E", b"T"]
 
 
@@ -163,6 +162,25 @@ def damaged(rng, data):
     return bytes(data)
 
 
+def some(rng, *options):
+    """Some of the options, or none."""
+    return [option for option in options if rng.random() < 0.3]
+
+
+def log_words(rng):
+    """The words of a run on a log. Those that judge it come more often."""
+    count, uri = str(1 + rng.randrange(12)), rng.choice(URIS[:2])
+    ends = some(rng, "--ignore-line-ends")
+    listed = ["check", rng.choice(["--all", "--every"]), *some(rng, "--complete"), *ends]
+    explain = ["explain", *some(rng, "--all", "--complete"), *ends]
+    two_texts = ["explain", rng.choice(["--by-messages", "--in-editor"]), *ends]
+    show = ["show", *some(rng, "--all", "--long")]
+    text = ["text", *some(rng, "--all"), count, uri]
+    check = ["check", *ends]
+    often = [check, check, ["check", "--complete"], listed, listed, explain, explain, show, show, ["upgrade"], text]
+    return rng.choice([*often, ["normal"], ["event", count], two_texts])
+
+
 def case(seed):
     """The words of a run and its standard input."""
     rng = random.Random(seed)
@@ -171,11 +189,5 @@ def case(seed):
         words = ["frames", "--as", rng.choice(["lengths", "canonical", "kinds"])]
     else:
         data = rng.choice(LOGS) if rng.random() < 0.05 else generated_log(rng)
-        text = ["text", str(1 + rng.randrange(12)), rng.choice(URIS[:2])]
-        event = ["event", str(1 + rng.randrange(12))]
-        listed = ["check", rng.choice(["--all", "--every"]), *rng.choice([[], ["--complete"]])]
-        explain = ["explain", *rng.choice([[], ["--all"]]), *rng.choice([[], ["--complete"]])]
-        shown = ["show", "--all", *rng.choice([[], ["--long"]])]
-        judged = [["check"], ["check"], COMPLETE, listed, listed, explain, explain, ["show"], ["show", "--long"], shown, ["upgrade"], ["upgrade"], text]
-        words = rng.choice([*judged, ["normal"], event])
+        words = log_words(rng)
     return words, damaged(rng, data)

@@ -1,4 +1,6 @@
 -- The two whole texts of the first offence that a run finds.
+use Rattle.std.specs.Prelude.{Box}
+use Rattle.std.specs.Global.{Global}
 use Rattle.std.specs.Prelude.{option_and_then, option_map, unwrap_or, if◌then◌else◌, Bool, true}
 use Rattle.std.specs.Prelude.{false, chars, string_bytes, ℤ, String, map}
 use Rattle.std.specs.Global.{Global}
@@ -214,13 +216,14 @@ reads_on limits e start now past notes ignored given = record {
 
 -- one of the texts is found
 pub text_found : (which : ComparedText) (limits : Bounds) (e : SurveyReader) (start now : Told)
-    (past : List Raw) (notes : List Noted) (found : FoundOffence) (answer : TextAnswer)
+    (past : List Raw) (notes : List Noted) (boxed : Box FoundOffence Global) (answer : TextAnswer)
     → offences (terms_in e) notes ≡ []
-    → GaveEvent limits e start now past notes [] (heard.Offence found)
-    → IsAnswer which e found answer
+    → GaveEvent limits e start now past notes [] (heard.Offence boxed)
+    → IsAnswer which e boxed.value answer
     → OfRead limits start now (λ log. AnswersCompared limits log which answer)
     × (now.failures ≡ start.failures)
-text_found which limits e start now past notes found answer clean given is =
+text_found which limits e start now past notes boxed answer clean given is =
+    let found : FoundOffence = boxed.value in
     let own = e.log.log.format in
     let terms = terms_in e in
     let before : List Event = events_of notes in

@@ -18,6 +18,7 @@ use Rattle.lsp_verdict.specs.Survey.{by_itself, ends_listed}
 use Rattle.lsp_verdict.specs.Verdict.{Verdict, Ending, Summary, bad_log_of, summary}
 use Rattle.lsp_verdict.specs.declared.completeness.Completeness.{Completeness}
 use Rattle.lsp_verdict.proofs.Below.{some_stream}
+use Rattle.lsp_explain.specs.Remarks.{Noticed, noticed}
 use Rattle.lsp_explain.specs.Explained.{Heard, Breach, Explained, Explains, raws_of, notes_of}
 use Rattle.lsp_explain.specs.Explained.{before_first, breach, breach_at, breaches, noticed_before}
 use Rattle.lsp_explain.specs.Explained.{IsExplained}

@@ -4,13 +4,14 @@ use Rattle.std.specs.Prelude.{ℕ, ◌*◌, List, [], ◌∷◌, ◌++◌, lengt
 use Rattle.std.specs.Prelude.{not, ◌==◌}
 use Rattle.std.specs.Prelude.{if◌then◌else◌, Option, Some, None, is_some}
 use Rattle.std.specs.List.{flat_map}
+use Rattle.std.specs.Str.{bytes_eq}
 use Rattle.lsp_docs.specs.Calls.{Call, uri_of}
 use Rattle.lsp_docs.specs.Documents.{held}
 use Rattle.lsp_docs.specs.Terms.{Terms}
 use Rattle.lsp_verdict.specs.Calls.{calls}
 use Rattle.lsp_verdict.specs.Event.{Event}
 use Rattle.lsp_verdict.specs.Offences.{kept_of}
-use Rattle.lsp_verdict.specs.Spelling.{is_alike}
+use Rattle.lsp_verdict.specs.Spelling.{folded}
 use Rattle.lsp_survey.specs.LastOnes.{last_ones}
 use Rattle.lsp_survey.specs.Openings.{OnDocument, closing_of, closings, last_on, most_openings}
 use Rattle.lsp_survey.specs.Openings.{openings}
@@ -25,10 +26,15 @@ use Rattle.lsp_types.specs.declared.rules.TheConstants as rules
 abbrev pub is_long : ℕ → ℕ → Bool
 is_long size other = nat_lt (3 * size) other
 
--- the other is at most three times as long, and differs in these alone
+-- the other is at most three times as long as a URI of this size, and has the same in common with
+-- those that differ from it in their spelling alone
+abbrev pub is_spelled : ℕ → List ℕ → List ℕ → Bool
+is_spelled size spelling other =
+    not (is_long size (length other)) && bytes_eq spelling (folded other)
+
+-- the other is at most three times as long, and differs in its spelling alone
 abbrev pub is_similar : List ℕ → List ℕ → Bool
-is_similar uri other =
-    not (is_long (length uri) (length other)) && is_alike uri other
+is_similar uri other = is_spelled (length uri) (folded uri) other
 
 -- ---- the documents that are open
 
@@ -46,16 +52,16 @@ is_standing terms before on =
     is_some (held terms on.uri (calls (kept_of terms before)))
     && is_at on.place (last_on on.uri (last_openings terms before))
 
-abbrev pub similar_fact : Terms → List Event → List ℕ → OnDocument → List Fact
-similar_fact terms before uri on =
-    if is_similar uri on.uri && is_standing terms before on then similar_to on.uri on.place ∷ []
-    else []
+abbrev pub similar_fact : Terms → List Event → ℕ → List ℕ → OnDocument → List Fact
+similar_fact terms before size spelling on =
+    if is_spelled size spelling on.uri && is_standing terms before on
+    then similar_to on.uri on.place ∷ [] else []
 
 -- **the open documents of which the URI differs from this one in its spelling alone**, of those
 -- that were opened last
 abbrev pub similar_facts : Terms → List Event → List ℕ → List Fact
 similar_facts terms before uri =
-    flat_map (similar_fact terms before uri) (last_openings terms before)
+    flat_map (similar_fact terms before (length uri) (folded uri)) (last_openings terms before)
 
 -- ---- 602
 

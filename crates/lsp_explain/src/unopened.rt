@@ -1,10 +1,11 @@
 //! What is said about a document that is not open.
-ghost use Rattle.std.specs.Prelude.{◌≡◌, ◌++◌, List, IfOk, OnOk};
+ghost use Rattle.std.specs.Prelude.{◌≡◌, ◌++◌, List, IfOk, OnOk, length};
 ghost use Rattle.std.specs.List.{flat_map};
+ghost use Rattle.std.specs.Str.{bytes_eq};
 ghost use Rattle.lsp_rpc.specs.View.{act_view};
 ghost use Rattle.lsp_survey.specs.Openings.{on_view, ons_view};
 ghost use Rattle.lsp_verdict.specs.Event.{Event};
-ghost use Rattle.lsp_verdict.specs.Spelling.{is_alike};
+ghost use Rattle.lsp_verdict.specs.Spelling as spelled;
 ghost use Rattle.lsp_facts.specs.Fact.{facts_view};
 ghost use Rattle.lsp_explain.specs.Standing.{StandsAfter, terms_in};
 ghost use Rattle.lsp_explain.specs.Traced.{act_call};
@@ -77,42 +78,59 @@ fn push_similar(
         → facts_view facts.new.items ≡ facts_view facts.old.items
         ++ spec.similar_facts (terms_in events.now) before uri.now) }
 {
-    let (first, second) = events.openings().last_opened();
-    push_similar_of(alloc, facts, events, uri, first)?;
-    push_similar_of(alloc, facts, events, uri, second)
+    let sought = sought(alloc, uri)?;
+    push_spelled(alloc, facts, events, &sought)
 }
 
-/// Adds those of them that these messages opened.
-fn push_similar_of(
+/// Adds the open documents of which the URI differs from the sought one in its spelling alone.
+fn push_spelled(
     alloc: Global,
     facts: &mut Vec<Fact>,
     events: &SurveyReader,
-    uri: &str,
+    sought: &Sought,
+) -> Result<(), Memory>
+    ensures { OnOk result ((before : List Event) → StandsAfter events.now before
+        → facts_view facts.new.items ≡ facts_view facts.old.items
+        ++ flat_map (spec.similar_fact (terms_in events.now) before sought.now.size
+        sought.now.spelling.items) (spec.last_openings (terms_in events.now) before)) }
+{
+    let (first, second) = events.openings().last_opened();
+    push_spelled_of(alloc, facts, events, sought, first)?;
+    push_spelled_of(alloc, facts, events, sought, second)
+}
+
+/// Adds those of them that these messages opened.
+fn push_spelled_of(
+    alloc: Global,
+    facts: &mut Vec<Fact>,
+    events: &SurveyReader,
+    sought: &Sought,
     opened: &[DocumentEvent],
 ) -> Result<(), Memory>
     ensures { OnOk result ((before : List Event) → StandsAfter events.now before
         → facts_view facts.new.items ≡ facts_view facts.old.items
-        ++ flat_map (spec.similar_fact (terms_in events.now) before uri.now)
-        (ons_view opened.now)) }
+        ++ flat_map (spec.similar_fact (terms_in events.now) before sought.now.size
+        sought.now.spelling.items) (ons_view opened.now)) }
 {
     for on in opened {
-        push_similar_one(alloc, facts, events, uri, on)?;
+        push_spelled_one(alloc, facts, events, sought, on)?;
     }
     Ok(())
 }
 
-fn push_similar_one(
+fn push_spelled_one(
     alloc: Global,
     facts: &mut Vec<Fact>,
     events: &SurveyReader,
-    uri: &str,
+    sought: &Sought,
     on: &DocumentEvent,
 ) -> Result<(), Memory>
     ensures { OnOk result ((before : List Event) → StandsAfter events.now before
         → facts_view facts.new.items ≡ facts_view facts.old.items
-        ++ spec.similar_fact (terms_in events.now) before uri.now (on_view on.now)) }
+        ++ spec.similar_fact (terms_in events.now) before sought.now.size
+        sought.now.spelling.items (on_view on.now)) }
 {
-    if !is_similar(alloc, uri, on.uri.as_str())? {
+    if !is_spelled(alloc, sought, on.uri.as_str())? {
         return Ok(());
     }
     if !is_standing(events, on) {
@@ -141,14 +159,36 @@ fn is_at(place: EventPlace, other: Option<EventPlace>) -> bool
     }
 }
 
-/// Whether two URIs differ in their spelling alone, and the other is at most three times as long.
-fn is_similar(alloc: Global, uri: &str, other: &str) -> Result<bool, Memory>
-    ensures { IfOk result (λ similar. similar ≡ spec.is_similar uri.now other.now) }
+/// A URI that others are compared with.
+#[derive(Drop)]
+struct Sought {
+    /// Its bytes of UTF-8.
+    size: usize,
+    /// What it has in common with those that differ from it in their spelling alone.
+    spelling: Vec<u8>,
+}
+
+fn sought(alloc: Global, uri: &str) -> Result<Sought, Memory>
+    ensures { IfOk result (λ sought. (sought.size ≡ length uri.now)
+        × (sought.spelling.items ≡ spelled.folded uri.now)) }
 {
-    if is_long(uri.len(), other.len()) {
+    let spelling = folded(alloc, uri)?;
+    Ok(Sought {
+        size: uri.len(),
+        spelling,
+    })
+}
+
+/// Whether a URI differs from the sought one in its spelling alone, and is at most three times as
+/// long.
+fn is_spelled(alloc: Global, sought: &Sought, other: &str) -> Result<bool, Memory>
+    ensures { IfOk result (λ spelled.
+        spelled ≡ spec.is_spelled sought.now.size sought.now.spelling.items other.now) }
+{
+    if is_long(sought.size, other.len()) {
         return Ok(false);
     }
-    is_alike(alloc, uri, other)
+    has_spelling(alloc, sought.spelling.as_slice(), other)
 }
 
 /// Whether the other size is more than three times this one.
@@ -158,11 +198,9 @@ fn is_long(size: usize, other: usize) -> bool
     other > size.saturating_mul(3)
 }
 
-fn is_alike(alloc: Global, uri: &str, other: &str) -> Result<bool, Memory>
-    ensures { IfOk result (λ alike.
-        alike ≡ is_alike uri.now other.now) }
+fn has_spelling(alloc: Global, spelling: &[u8], other: &str) -> Result<bool, Memory>
+    ensures { IfOk result (λ has. has ≡ bytes_eq spelling.now (spelled.folded other.now)) }
 {
-    let one = folded(alloc, uri)?;
-    let two = folded(alloc, other)?;
-    Ok(one == two)
+    let folded = folded(alloc, other)?;
+    Ok(spelling == folded.as_slice())
 }

@@ -56,7 +56,7 @@ module _ (terms : Terms) (before : List Call) (rule : ℕ) (of : is_of_texts rul
         | inr later ↦ elim later [
           | inl long ↦ absurd (not_this rule 607 refl long.0 of)
           | inr refuted ↦ against_differs text refuted.1.other
-            (waiting_texts terms before uri number) refuted.1.waiting
+              (waiting_texts terms before uri number) refuted.1.waiting
         ]
       ]
 
@@ -80,17 +80,17 @@ module _ (terms : Terms) (before : List Call) (rule : ℕ) (of : is_of_texts rul
               ]
             ]
             | inr refuted ↦ (
-              let text = refuted.1.text in
-              let waits = waiting_texts terms before uri number in
-              let differ = against_differs text refuted.1.refuted.other waits
-              refuted.1.refuted.waiting in
-              let whole : made_text terms enc edits (held terms uri before) ≡ Some text =
-              ap (made_text terms enc edits) is ∙ ap result_ok refuted.1.made in (
-                differ.0,
-                ap (option_and_then (against ends waits)) whole ∙ differ.1,
-                differ.2,
-              )
-              )
+                let text = refuted.1.text in
+                let waits = waiting_texts terms before uri number in
+                let differ = against_differs text refuted.1.refuted.other waits
+                refuted.1.refuted.waiting in
+                let whole : made_text terms enc edits (held terms uri before) ≡ Some text =
+                ap (made_text terms enc edits) is ∙ ap result_ok refuted.1.made in (
+                  differ.0,
+                  ap (option_and_then (against ends waits)) whole ∙ differ.1,
+                  differ.2,
+                )
+                )
           ]
         ]
       ]

@@ -71,7 +71,8 @@ use Rattle.lsp_survey.proofs.SessionSteps.{message_noted, other_unsaid}
 
 module _ (old new : Replay) (notes : List Noted) (walks : Walks old notes)
     (terms_are : new.events.docs.terms ≡ old.events.docs.terms)
-    (is_broken : new.broken ≡ old.broken) (is_passed : new.passed ≡ old.passed) where
+    (is_broken : new.broken ≡ old.broken) (is_passed : new.passed ≡ old.passed)
+    (unheard : new.unheard ≡ old.unheard) where
   abbrev terms : Terms
   terms = old.events.docs.terms
 
@@ -104,7 +105,7 @@ module _ (old new : Replay) (notes : List Noted) (walks : Walks old notes)
       kept_on (content side bytes) old new notes n (call_of enc kind act) walks
       (reads, refl) clean (ap (call_of enc kind) means)
       terms_are holds counted is_broken
-      (noted.4 ∙ ap (λ (s : Side). sides_read s old.sides) (sym is_by)) is_passed
+      (noted.4 ∙ ap (λ (s : Side). sides_read s old.sides) (sym is_by)) is_passed unheard
       (noted.0 enc kind)
       (act_done terms old.marks.map.entries new.marks.map.entries events sent place walks.marked
       clean refl
@@ -132,7 +133,7 @@ module _ (old new : Replay) (notes : List Noted) (walks : Walks old notes)
       let call : Call = shows uri version text in
       let n : Noted = record { event = snapshot uri version text; malformed = None } in
       kept_on raw old new notes n (Some call) walks (reads, whole) clean refl terms_are holds counted
-      is_broken noted.4 is_passed
+      is_broken noted.4 is_passed unheard
       (subst (λ (w : Notes). AreAfter (Some call) old.notes.map.entries w.map.entries)
       (sym noted.0) (notes_stay call old.notes.map.entries refl))
       (shown_done terms old.marks.map.entries new.marks.map.entries events uri version text
@@ -216,19 +217,19 @@ pub kept_heard : (raw : Raw) (old new : Replay) (notes : List Noted)
     (given : lent.Heard) (m : session.State) (d : docs.State) (c : Counts) → Walks old notes
     → d.terms ≡ old.events.docs.terms
     → new.events.session ≡ m → new.events.docs ≡ d → new.events.counts ≡ c
-    → new.broken ≡ old.broken → new.passed ≡ old.passed
+    → new.broken ≡ old.broken → new.passed ≡ old.passed → new.unheard ≡ old.unheard
     → Keeps raw old.events.docs.terms old.events.counts given m d c
     (kept_of old.events.docs.terms (events_of notes))
     → ((event : Event) → AreCounts c (events_of notes ++ event ∷ []) → IsHeard event given
     → NotesKept (place_of (events_of notes) event) given old new)
     → Hears raw old.events.docs.terms new notes heard.Kept
 kept_heard raw old new notes given m d c walks terms_are same_m same_d same_c
-    is_broken is_passed k noted =
+    is_broken is_passed unheard k noted =
     let events : List Event = events_of notes in
     let before : List Event = kept_of old.events.docs.terms events in
     by_event old new notes walks
-    (ap (λ (w : docs.State). w.terms) same_d ∙ terms_are) is_broken is_passed raw given k.event k.reads
-    k.is_heard k.answers k.whole k.clean
+    (ap (λ (w : docs.State). w.terms) same_d ∙ terms_are) is_broken is_passed unheard raw given
+    k.event k.reads k.is_heard k.answers k.whole k.clean
     (subst (λ (w : session.State). Holds w new.events.docs (before ++ k.event ∷ [])) (sym same_m)
     (subst (λ (w : docs.State). Holds m w (before ++ k.event ∷ [])) (sym same_d) k.holds))
     (subst (λ (w : Counts). AreCounts w (events ++ k.event ∷ [])) (sym same_c)
@@ -242,9 +243,10 @@ pub still_walks : (old new : Replay) (notes : List Noted) → Walks old notes
     → Holds new.events.session new.events.docs (kept_of old.events.docs.terms (events_of notes))
     → new.events.counts ≡ old.events.counts → new.notes ≡ old.notes → new.broken ≡ old.broken
     → new.marks ≡ old.marks → new.openings ≡ old.openings → new.said ≡ old.said
-    → new.sides ≡ old.sides → new.passed ≡ old.passed → Walks new notes
+    → new.sides ≡ old.sides → new.passed ≡ old.passed → new.unheard ≡ old.unheard
+    → Walks new notes
 still_walks old new notes walks terms_are holds counts notes_are is_broken marks openings said sides
-    passed =
+    passed unheard =
     let terms : Terms = old.events.docs.terms in
     let events : List Event = events_of notes in
     subst (λ (t : Terms). WalksBy t new notes) (sym terms_are) (record {
@@ -258,6 +260,7 @@ still_walks old new notes walks terms_are holds counts notes_are is_broken marks
       sided = sides ∙ walks.sided;
       passed = λ side k. ap (λ (p : Passed). has_passed p side (id_view k)) passed
           ∙ walks.passed side k;
+      unheard = unheard ∙ walks.unheard;
     })
 
 module _ (old new : Replay) (notes : List Noted) (given : Judged) (walks : Walks old notes) where

@@ -1,5 +1,5 @@
 -- What is noted of the requests that were passed over, with one event more.
-use Rattle.std.specs.Prelude.{◌&&◌, ◌==◌, if◌then◌else◌, option_and_then, unwrap_or}
+use Rattle.std.specs.Prelude.{◌&&◌, ◌||◌, ◌==◌, if◌then◌else◌, option_and_then, unwrap_or}
 use Rattle.std.proofs.Common.{◌≡◌, ℕ, Bool, true, false, List, Option, Some, None, refl, sym, ap}
 use Rattle.std.proofs.Common.{subst, ◌∙◌}
 use Rattle.serde_json.specs.Data.{Data}
@@ -20,7 +20,8 @@ use Rattle.lsp_types.specs.declared.side.Side.{Side}
 use Rattle.lsp_types.specs.declared.side.Side.TheVariants.{Editor, Server}
 use Rattle.lsp_verdict.specs.Event.{Event, message, fault, snapshot}
 use Rattle.lsp_verdict.specs.Offences.{Noted, answered_by, asked_by, asked_from, follows_passed}
-use Rattle.lsp_verdict.specs.Offences.{is_any_passed, is_passed, passes, request_id}
+use Rattle.lsp_verdict.specs.Offences.{is_any_passed, is_initialized_by, is_passed, is_unheard}
+use Rattle.lsp_verdict.specs.Offences.{passes, request_id, tells_initialized}
 
 -- ---- one request is noted, or no more
 
@@ -121,7 +122,21 @@ answered_alike (notification method params) = refl
 answered_alike (response id (result value)) = refl
 answered_alike (response id (error code)) = refl
 
+tells_alike : (m : Message) → tells_initialized (outline m) ≡ tells_initialized m
+tells_alike (request id method params) = refl
+tells_alike (notification method params) = refl
+tells_alike (response id (result value)) = refl
+tells_alike (response id (error code)) = refl
+
 module _ (by : Side) (said : Message) (event : Event) (is : IsMessageOf by said event) where
+  pub message_initialized : (same_side Editor by && tells_initialized said)
+      ≡ is_initialized_by event
+  message_initialized =
+      ap (λ b. same_side Editor by && b) (sym (tells_alike said)
+      ∙ ap tells_initialized (sym is.3) ∙ tells_alike is.0.message)
+      ∙ ap (λ s. same_side Editor s && tells_initialized is.0.message) (sym is.2)
+      ∙ ap is_initialized_by (sym is.1)
+
   same_id_in : response_id said ≡ response_id is.0.message
   same_id_in = sym (answered_alike said) ∙ ap response_id (sym is.3) ∙ answered_alike is.0.message
 
@@ -168,11 +183,12 @@ pub kept_passes : (event : Event) (malformed : Option Message) (old new : Passed
     → ArePassed None event malformed old new
 kept_passes event malformed old new same side k = ap (λ p. has_passed p side (id_view k)) same
 
--- ---- what follows from a request that was passed over
+-- ---- what follows from a message that was passed over
 
 module _ (terms : Terms) (before : List Noted) (p : Passed)
     (are : (side : Side) (k : Id) → has_passed p side (id_view k)
-    ≡ is_passed terms side (id_view k) before) where
+    ≡ is_passed terms side (id_view k) before) (unheard : Bool)
+    (told : unheard ≡ is_unheard terms before) where
   any_passed : (side : Side) (m : lent.Message) → has_any p side (response_id (message_view m))
       ≡ is_any_passed terms side (response_id (message_view m)) before
   any_passed side (sends.Request id method params) = refl
@@ -183,12 +199,20 @@ module _ (terms : Terms) (before : List Noted) (p : Passed)
   pub passed_late : (rule : ℕ) (by : Side) (m : lent.Message) (event : Event)
       → IsMessageOf by (message_view m) event
       → (rule == rules.RESPONSE_TO_NO_OPEN_REQUEST
-      && has_any p (other_side by) (response_id (message_view m)))
+      && has_any p (other_side by) (response_id (message_view m))
+      || rule == rules.INITIALIZED_NOT_FIRST && unheard)
       ≡ follows_passed terms rule before event
   passed_late rule by m event is =
-      ap (λ b. rule == rules.RESPONSE_TO_NO_OPEN_REQUEST && b) (any_passed (other_side by) m)
+      ap (λ b. rule == rules.RESPONSE_TO_NO_OPEN_REQUEST && b
+      || rule == rules.INITIALIZED_NOT_FIRST && unheard) (any_passed (other_side by) m)
+      ∙ ap (λ b. rule == rules.RESPONSE_TO_NO_OPEN_REQUEST
+      && is_any_passed terms (other_side by) (response_id (message_view m)) before
+      || rule == rules.INITIALIZED_NOT_FIRST && b) told
       ∙ ap (λ o. rule == rules.RESPONSE_TO_NO_OPEN_REQUEST
-      && is_any_passed terms (other_side by) o before) (same_id_in by (message_view m) event is)
+      && is_any_passed terms (other_side by) o before
+      || rule == rules.INITIALIZED_NOT_FIRST && is_unheard terms before)
+      (same_id_in by (message_view m) event is)
       ∙ ap (λ s. rule == rules.RESPONSE_TO_NO_OPEN_REQUEST
-      && is_any_passed terms (other_side s) (response_id is.0.message) before) (sym is.2)
+      && is_any_passed terms (other_side s) (response_id is.0.message) before
+      || rule == rules.INITIALIZED_NOT_FIRST && is_unheard terms before) (sym is.2)
       ∙ ap (follows_passed terms rule before) (sym is.1)

@@ -16,7 +16,7 @@ use Rattle.lsp_survey.specs.Passed.{ArePassed}
 use Rattle.lsp_survey.specs.Sides.{sides_after, sides_of}
 use Rattle.lsp_survey.specs.SessionNoting.{AreNotes}
 use Rattle.lsp_survey.specs.Walking.{WalksBy, Walks, offence_of, PassesOver}
-use Rattle.lsp_survey.specs.Walking.{IsOffending, Offends, IsHeard, Hears}
+use Rattle.lsp_survey.specs.Walking.{IsFound, IsOffence, IsOffending, Offends, IsHeard, Hears}
 use Rattle.lsp_survey.specs.declared.notes.marks.Marks.{Marks}
 use Rattle.lsp_survey.specs.declared.notes.openings.Openings.{Openings}
 use Rattle.lsp_survey.specs.declared.offending.Judged.{Judged}
@@ -33,13 +33,14 @@ use Rattle.lsp_verdict.specs.Given.{given_offence}
 use Rattle.lsp_verdict.specs.LookBack.{first_of}
 use Rattle.lsp_verdict.specs.Offences.{Noted, IsNoted, asks, breaks_handshake, broken_by}
 use Rattle.lsp_verdict.specs.Offences.{brought_by, events_of, follows_bytes, is_lost, is_on_lost}
-use Rattle.lsp_verdict.specs.Offences.{is_reopened, left_by}
+use Rattle.lsp_verdict.specs.Offences.{is_initialized_by, is_reopened, is_unheard, left_by}
 use Rattle.lsp_verdict.specs.Offences.{kept_of}
 use Rattle.lsp_verdict.specs.Offences.{answered_by, asked_by, follows_passed, is_passed}
 use Rattle.lsp_verdict.specs.Offences.{may_answer, passes, rule_at}
 use Rattle.lsp_verdict.specs.Offences.{said_at}
 use Rattle.lsp_verdict.specs.Placed.{Raw}
 use Rattle.lsp_verdict.specs.Verdict.{whose}
+use Rattle.lsp_verdict.specs.declared.offence.Offence as code
 use Rattle.lsp_verdict.specs.declared.verdict.Who.{Who}
 use Rattle.lsp_survey.proofs.MarkSteps.{refused_leaves}
 use Rattle.lsp_survey.proofs.OpeningSteps.{refused_opens}
@@ -48,6 +49,7 @@ use Rattle.lsp_survey.proofs.PassedSteps.{kept_passes}
 use Rattle.lsp_survey.proofs.SidesSteps.{sides_pushed}
 use Rattle.lsp_verdict.proofs.Offences.Steps.{broken-push, events_of-push, is_lost-push}
 use Rattle.lsp_verdict.proofs.Offences.Steps.{is_passed-push, kept-push, kept-refused}
+use Rattle.lsp_verdict.proofs.Offences.Steps.{unheard-push}
 
 -- ---- what is noted
 
@@ -79,6 +81,34 @@ broken_pushed terms notes n =
     (breaks_at (rule_at terms (events_of notes) n.event) n.malformed
     (may_answer (kept_of terms (events_of notes)) n.event))
 
+-- an event that offends by this rule, or is kept, is an `initialized` that is passed over
+abbrev unheard_with : Option ℕ → Event → Bool
+unheard_with None e = false
+unheard_with (Some rule) e = is_initialized_by e
+
+unheard_at : (o : Option ℕ) (e : Event)
+    → is_some (if is_initialized_by e then o else None) ≡ unheard_with o e
+unheard_at None e = by_test (is_initialized_by e)
+  where
+    no_rule : Option ℕ
+    no_rule = None
+
+    by_test : (b : Bool) → is_some (if b then no_rule else no_rule) ≡ false
+    by_test true = refl
+    by_test false = refl
+unheard_at (Some rule) e = by_test (is_initialized_by e)
+  where
+    by_test : (b : Bool) → is_some (if b then Some rule else None) ≡ b
+    by_test true = refl
+    by_test false = refl
+
+unheard_pushed : (terms : Terms) (notes : List Noted) (n : Noted)
+    → is_unheard terms (notes ++ n ∷ [])
+    ≡ (is_unheard terms notes || unheard_with (rule_at terms (events_of notes) n.event) n.event)
+unheard_pushed terms notes n = unheard-push terms notes n
+    ∙ ap (λ (b : Bool). is_unheard terms notes || b)
+    (unheard_at (rule_at terms (events_of notes) n.event) n.event)
+
 -- what is noted lost is lost
 pub noted_lost : (terms : Terms) (w : Replay) (notes : List Noted) (said : Option Call)
     → WalksBy terms w notes → is_noted_lost w.notes.map.entries said
@@ -101,6 +131,7 @@ record Steps (terms : Terms) (old new : Replay) (notes : List Noted) (n : Noted)
       (may_answer (kept_of terms (events_of notes)) n.event))
   pub sides : new.sides ≡ sides_after n.event old.sides
   pub passed : ArePassed rule n.event n.malformed old.passed new.passed
+  pub unheard : new.unheard ≡ (old.unheard || unheard_with rule n.event)
   pub noted : Leaves rule (option_and_then brought_by n.malformed)
       (is_reopened terms (calls (kept_of terms (events_of notes))) said) said
       old.notes.map.entries new.notes.map.entries
@@ -148,12 +179,21 @@ walks_on terms old new notes n rule said walks s =
           ∙ ap (λ (b : Bool). unwrap_or (option_and_then does rule) b) (walks.passed side k)
           ∙ ap (λ (o : Option ℕ). unwrap_or (option_and_then does o) was) (sym s.rule_is)
           ∙ sym (is_passed-push terms side (id_view k) notes n);
+      unheard =
+          s.unheard
+          ∙ ap (λ (b : Bool). b || unheard_with rule n.event) walks.unheard
+          ∙ ap (λ (o : Option ℕ). is_unheard terms notes || unheard_with o n.event) (sym s.rule_is)
+          ∙ sym (unheard_pushed terms notes n);
       marked = subst (AreMarks terms new.marks.map.entries) (sym (events_of-push notes n)) s.marked;
       opened = subst (AreOpenings terms new.openings) (sym (events_of-push notes n)) s.opened;
       said = subst (AreNotes terms new.said) (sym (events_of-push notes n)) s.told;
     })
 
 -- ---- an event that offends
+
+pub found_offends : (offence : code.Offence) (offending : OffendingEvent) (given : Judged)
+    → IsFound offence offending given → IsOffence given
+found_offends offence offending given found = subst IsOffence (sym found.1) tt
 
 -- what is kept is as it was after it
 kept_holds : (terms : Terms) (notes : List Noted) (n : Noted) (rule : ℕ) (m : session.State)
@@ -180,7 +220,7 @@ passed_over raw old new notes n by rule says enc kind IsEvent IsSuch given walks
     let terms : Terms = old.events.docs.terms in
     let late : Bool = follows_passed terms rule notes n.event
     || follows_bytes rule (events_of notes) n.event in
-    let found : Offends raw terms notes n p.found = record {
+    let found : Offends raw terms notes n p.found.value = record {
       rule = rule;
       offends = rule_is;
       is = p.offence enc kind notes n.event is_event walks
@@ -192,7 +232,7 @@ passed_over raw old new notes n by rule says enc kind IsEvent IsSuch given walks
           ∙ ap (λ (w : Who). given_offence (offence_of terms notes w rule
           (is_on_lost terms notes (said_at terms (events_of notes) n.event)) late))
           (sym whose_is);
-      is_such = such p.found.offending p.is_such;
+      is_such = such p.found.value.offending p.is_such;
     } in
     record {
       n = n;
@@ -211,6 +251,7 @@ passed_over raw old new notes n by rule says enc kind IsEvent IsSuch given walks
         is_broken = p.is_broken n.event (kept_of terms (events_of notes)) is_event walks.holds;
         sides = p.sides n.event is_event;
         passed = p.passed n.event is_event;
+        unheard = p.unheard n.event is_event;
         noted = p.noted enc kind (kept_of terms (events_of notes)) walks.holds;
         marked = refused_leaves terms new.marks.map.entries (events_of notes) n.event rule
             (subst (λ (m : Marks). AreMarks terms m.map.entries (events_of notes)) (sym p.marks)
@@ -249,6 +290,7 @@ pub kept_on : (raw : Raw) (old new : Replay) (notes : List Noted) (n : Noted) (s
     (kept_of old.events.docs.terms (events_of notes) ++ n.event ∷ [])
     → AreCounts new.events.counts (events_of notes ++ n.event ∷ []) → new.broken ≡ old.broken
     → new.sides ≡ sides_after n.event old.sides → new.passed ≡ old.passed
+    → new.unheard ≡ old.unheard
     → Leaves None (option_and_then brought_by n.malformed) false said old.notes.map.entries
     new.notes.map.entries
     → AreMarks old.events.docs.terms new.marks.map.entries (events_of notes ++ n.event ∷ [])
@@ -256,7 +298,7 @@ pub kept_on : (raw : Raw) (old new : Replay) (notes : List Noted) (n : Noted) (s
     → AreNotes old.events.docs.terms new.said (events_of notes ++ n.event ∷ [])
     → Hears raw old.events.docs.terms new notes heard.Kept
 kept_on raw old new notes n said walks is_noted rule_is said_is terms_are holds counted is_broken
-    sides passed noted marked opened told =
+    sides passed unheard noted marked opened told =
     let terms : Terms = old.events.docs.terms in
     record {
       n = n;
@@ -271,6 +313,7 @@ kept_on raw old new notes n said walks is_noted rule_is said_is terms_are holds 
         is_broken = is_broken ∙ or_false old.broken;
         sides = sides;
         passed = kept_passes n.event n.malformed old.passed new.passed passed;
+        unheard = unheard ∙ or_false old.unheard;
         noted = noted;
         marked = marked;
         opened = opened;

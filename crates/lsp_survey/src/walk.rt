@@ -13,17 +13,19 @@ ghost use Rattle.lsp_verdict.specs.Given.{given_offence, offence_view};
 ghost use Rattle.lsp_verdict.specs.Offences.{IsReading, Noted, breaks_handshake, events_of};
 ghost use Rattle.lsp_verdict.specs.Offences.{follows_bytes, is_handshake_lost, may_answer};
 ghost use Rattle.lsp_verdict.specs.Offences.{follows_passed, wants_handshake, wants_text};
+ghost use Rattle.lsp_verdict.specs.Offences.{tells_initialized};
 ghost use Rattle.lsp_verdict.specs.Placed.{Reads};
 ghost use Rattle.lsp_verdict.specs.Verdict as spec;
 ghost use Rattle.lsp_replay.specs.Lines.{IsHeard};
 ghost use Rattle.lsp_replay.specs.Places.{place_of};
-ghost use Rattle.lsp_session.specs.Sent.{other_side, response_id};
+ghost use Rattle.lsp_session.specs.Sent.{other_side, response_id, same_side};
 ghost use Rattle.lsp_survey.specs.Passed.{has_any};
 ghost use Rattle.lsp_survey.specs.Sides.{sides_failed};
 ghost use Rattle.lsp_types.specs.declared.rules.TheConstants as rules;
+ghost use Rattle.lsp_types.specs.declared.side.Side.TheVariants.{Editor};
 ghost use Rattle.lsp_verdict.specs.Lent.{raw_view};
 ghost use Rattle.lsp_survey.specs.Ending.{lack_by};
-ghost use Rattle.lsp_survey.specs.Walking.{Counted, Hears, IsLine, IsMessageOf, IsOffence};
+ghost use Rattle.lsp_survey.specs.Walking.{Counted, Hears, IsFound, IsLine, IsMessageOf, IsOffence};
 ghost use Rattle.lsp_survey.specs.Walking.{IsRefused, IsShown, IsUnread, NotesKept, NotesMessage};
 ghost use Rattle.lsp_survey.specs.Walking.{NotesSnapshot, PassesOver, Walks, offence_of};
 
@@ -56,6 +58,8 @@ pub(crate) struct Replay {
     sides: Sides,
     /// Which requests were passed over.
     passed: Passed,
+    /// Whether the editor's `initialized` was passed over.
+    unheard: bool,
     /// Which kept events left the documents as they are.
     pub marks: Marks,
     /// Which documents they opened and closed last.
@@ -76,6 +80,7 @@ impl Replay {
             broken: false,
             sides: Sides::new(),
             passed: Passed::new(alloc),
+            unheard: false,
             marks: Marks::new(alloc),
             openings: Openings::new(alloc),
             said: SessionNotes::new(alloc),
@@ -131,16 +136,14 @@ impl Replay {
     /// Takes over the event that was heard last and is kept.
     fn keep(&mut self, kept: replay::Heard<'_>) -> Result<Judged, Memory>
         ensures same { (self.new.events ≡ self.old.events) × (self.new.broken ≡ self.old.broken)
-            × (self.new.passed ≡ self.old.passed) }
+            × (self.new.passed ≡ self.old.passed) × (self.new.unheard ≡ self.old.unheard) }
         ensures keeps { IfOk result (λ heard. (heard ≡ Judged.Kept)
             × ((before : List Event) (event : Event)
             → AreCounts self.old.events.counts (before ++ event ∷ []) → IsHeard event kept.entry
             → NotesKept (place_of before event) kept.entry self.old self.new)) }
     {
         let place = EventPlace::of(&self.events.counts, &kept);
-        let noted = self.note(place, &kept);
-        drop(kept);
-        noted?;
+        self.note(place, &kept)?;
         Ok(Judged::Kept)
     }
 
@@ -153,7 +156,7 @@ impl Replay {
         lines: Lines,
     ) -> Result<Judged, Memory>
         ensures same { (self.new.events ≡ self.old.events) × (self.new.broken ≡ self.old.broken)
-            × (self.new.passed ≡ self.old.passed) }
+            × (self.new.passed ≡ self.old.passed) × (self.new.unheard ≡ self.old.unheard) }
         ensures keeps { IfOk result (λ heard. (heard ≡ Judged.Kept)
             × ((before : List Event) (event : Event)
             → AreCounts self.old.events.counts (before ++ event ∷ []) → IsHeard event kept.entry
@@ -175,7 +178,7 @@ impl Replay {
     /// Notes the event of this place, which was heard and is kept.
     fn note(&mut self, place: EventPlace, kept: &replay::Heard<'_>) -> Result<(), Memory>
         ensures same { (self.new.events ≡ self.old.events) × (self.new.broken ≡ self.old.broken)
-            × (self.new.passed ≡ self.old.passed) }
+            × (self.new.passed ≡ self.old.passed) × (self.new.unheard ≡ self.old.unheard) }
         ensures noted { OnOk result (NotesKept place kept.now self.old self.new) }
     {
         match kept {
@@ -201,7 +204,7 @@ impl Replay {
         answer: Match,
     ) -> Result<(), Memory>
         ensures same { (self.new.events ≡ self.old.events) × (self.new.broken ≡ self.old.broken)
-            × (self.new.passed ≡ self.old.passed) }
+            × (self.new.passed ≡ self.old.passed) × (self.new.unheard ≡ self.old.unheard) }
         ensures noted { OnOk result
             (NotesSnapshot place uri.now version answer self.old self.new) }
     {
@@ -212,7 +215,7 @@ impl Replay {
     /// Notes the message of this place, which was heard and is kept.
     fn note_message(&mut self, place: EventPlace, side: Side, spoken: &Spoken) -> Result<(), Memory>
         ensures same { (self.new.events ≡ self.old.events) × (self.new.broken ≡ self.old.broken)
-            × (self.new.passed ≡ self.old.passed) }
+            × (self.new.passed ≡ self.old.passed) × (self.new.unheard ≡ self.old.unheard) }
         ensures noted { OnOk result (NotesMessage place side (message_view spoken.now.message)
             (act_view spoken.now.act) self.old self.new) }
     {
@@ -235,7 +238,9 @@ impl Replay {
             → Hears (raw_view raw.entry) self.old.events.docs.terms self.new before heard) }
     {
         match refused {
-            Refused::Message { side, rule, spoken } => self.refuse_message(side, rule, spoken),
+            Refused::Message { side, rule, spoken } => self.refuse_message(
+                alloc, side, rule, spoken,
+            ),
             Refused::Rule(rule) => self.refuse_raw(alloc, rule, raw),
             Refused::Memory => Err(Memory),
         }
@@ -251,7 +256,7 @@ impl Replay {
     {
         match raw {
             Raw::Content { side, content } => self.refuse_content(alloc, side, rule, content),
-            Raw::Broken { side, .. } => Ok(self.refuse_frames(side, rule)),
+            Raw::Broken { side, .. } => self.refuse_frames(alloc, side, rule),
             Raw::Snapshot { version, uri, text } => {
                 self.refuse_snapshot(alloc, rule, version, uri, text)
             }
@@ -259,22 +264,25 @@ impl Replay {
     }
 
     /// Skips a fault of the frames of a side.
-    fn refuse_frames(&mut self, side: Side, rule: u16) -> Judged
+    fn refuse_frames(&mut self, alloc: Global, side: Side, rule: u16) -> Result<Judged, Memory>
         ensures terms { self.new.events.docs.terms ≡ self.old.events.docs.terms }
-        ensures offends { IsOffence result }
-        ensures passes { PassesOver self.old self.new (spec.who_of side) rule None
+        ensures offends { IfOk result IsOffence }
+        ensures passes { IfOk result (PassesOver self.old self.new (spec.who_of side) rule None
             (λ enc kind. None) (λ event. event ≡ fault side rule)
-            (λ what. what ≡ OffendingEvent.Frames side) result }
+            (λ what. what ≡ OffendingEvent.Frames side)) }
     {
         let offence = self.refuse_fault(side, rule, false);
-        Judged::Offence(FoundOffence {
-            offence,
-            offending: OffendingEvent::Frames(side),
-        })
+        found(alloc, offence, OffendingEvent::Frames(side))
     }
 
     /// Skips a message that offends by this rule.
-    fn refuse_message(&mut self, side: Side, rule: u16, spoken: Spoken) -> Result<Judged, Memory>
+    fn refuse_message(
+        &mut self,
+        alloc: Global,
+        side: Side,
+        rule: u16,
+        spoken: Spoken,
+    ) -> Result<Judged, Memory>
         ensures terms { self.new.events.docs.terms ≡ self.old.events.docs.terms }
         ensures offends { IfOk result IsOffence }
         ensures passes { IfOk result
@@ -283,6 +291,7 @@ impl Replay {
             (IsMessageOf side (message_view spoken.message)) (λ what. what ≡ OffendingEvent.Message side spoken)) }
     {
         let breaks = breaks_handshake(false, rule);
+        let unheard = self.unheard_after(side, &spoken.message);
         let other = reopens(&self.events.docs, &spoken.act);
         let on_lost = is_on_lost(&self.notes, &spoken.act)?;
         let late = self.message_follows(side, rule, &spoken.message);
@@ -291,10 +300,8 @@ impl Replay {
         self.sides = self.sides.after_message(side);
         note_refused_act(&mut self.notes, rule, other, &spoken.act)?;
         self.passed.note(side, rule, &spoken.message)?;
-        Ok(Judged::Offence(FoundOffence {
-            offence,
-            offending: OffendingEvent::Message { side, spoken },
-        }))
+        self.unheard = unheard;
+        found(alloc, offence, OffendingEvent::Message { side, spoken })
     }
 
     /// Skips a content that breaks this rule.
@@ -322,10 +329,7 @@ impl Replay {
         note_malformed(&mut self.notes, rule, brings)?;
         self.passed.note_asked(side, asked)?;
         let content = Vec::from_slice(alloc, content)?;
-        Ok(Judged::Offence(FoundOffence {
-            offence,
-            offending: OffendingEvent::Content { side, content },
-        }))
+        found(alloc, offence, OffendingEvent::Content { side, content })
     }
 
     /// Skips a snapshot that offends by this rule.
@@ -351,10 +355,11 @@ impl Replay {
         note_refused(&mut self.notes, rule, uri, false, false)?;
         let uri = String::from_str(alloc, uri)?;
         let text = String::from_str(alloc, text)?;
-        Ok(Judged::Offence(FoundOffence {
+        found(
+            alloc,
             offence,
-            offending: OffendingEvent::Snapshot { version, uri, text },
-        }))
+            OffendingEvent::Snapshot { version, uri, text },
+        )
     }
 
     /// Counts a frame or a content of a side that breaks this rule, and gives its offence; the
@@ -366,6 +371,7 @@ impl Replay {
         ensures openings { self.new.openings ≡ self.old.openings }
         ensures said { self.new.said ≡ self.old.said }
         ensures passed { self.new.passed ≡ self.old.passed }
+        ensures unheard { self.new.unheard ≡ self.old.unheard }
         ensures sides { self.new.sides ≡ sides_failed side rule self.old.sides }
         ensures broken { (kept : List Event)
             → Holds self.old.events.session self.old.events.docs kept
@@ -393,6 +399,7 @@ impl Replay {
         ensures openings { self.new.openings ≡ self.old.openings }
         ensures said { self.new.said ≡ self.old.said }
         ensures passed { self.new.passed ≡ self.old.passed }
+        ensures unheard { self.new.unheard ≡ self.old.unheard }
         ensures sides { self.new.sides ≡ self.old.sides }
         ensures broken { self.new.broken ≡ (self.old.broken || breaks) }
         ensures offence { (before : List Noted) → Walks self.old before
@@ -405,7 +412,7 @@ impl Replay {
         offence
     }
 
-    /// Whether an offence of this message by this rule follows from a request that was passed over,
+    /// Whether an offence of this message by this rule follows from a message that was passed over,
     /// or from the broken frames of the other side.
     fn message_follows(&self, side: Side, rule: u16, message: &Message) -> bool
         ensures { (before : List Noted) (event : Event) → Walks self.now before
@@ -413,9 +420,36 @@ impl Replay {
             → result ≡ (follows_passed self.now.events.docs.terms rule before event
             || follows_bytes rule (events_of before) event) }
     {
-        let passed = self.answers_passed(side, rule, message);
+        let passed = self.follows_passed(side, rule, message);
         let late = self.sides.message_follows(side, rule);
         passed || late
+    }
+
+    /// Whether it follows from a message that was passed over: it answers a request, or wants
+    /// `initialized` before it.
+    fn follows_passed(&self, side: Side, rule: u16, message: &Message) -> bool
+        ensures { (before : List Noted) (event : Event) → Walks self.now before
+            → IsMessageOf side (message_view message.now) event
+            → result ≡ follows_passed self.now.events.docs.terms rule before event }
+    {
+        let answers = self.answers_passed(side, rule, message);
+        let wants = self.wants_initialized(rule);
+        answers || wants
+    }
+
+    /// Whether the rule is broken since `initialized` was passed over.
+    fn wants_initialized(&self, rule: u16) -> bool
+        ensures { result ≡ (rule == rules.INITIALIZED_NOT_FIRST && self.now.unheard) }
+    {
+        rule == rules::INITIALIZED_NOT_FIRST && self.unheard
+    }
+
+    /// Whether an `initialized` is passed over once this message of this side is.
+    fn unheard_after(&self, side: Side, message: &Message) -> bool
+        ensures { result ≡ (self.now.unheard
+            || (same_side Editor side && tells_initialized (message_view message.now))) }
+    {
+        self.unheard || is_initialized(side, message)
     }
 
     /// Whether a message of this side that breaks this rule answers a request that was passed over.
@@ -470,5 +504,34 @@ impl Replay {
             Side::Editor => false,
             Side::Server => self.events.session.awaits_initialize(),
         }
+    }
+}
+
+/// That this event offends.
+fn found(alloc: Global, offence: Offence, offending: OffendingEvent) -> Result<Judged, Memory>
+    ensures { IfOk result (IsFound offence offending) }
+{
+    let found = Box::new(alloc, FoundOffence { offence, offending })?;
+    Ok(Judged::Offence(found))
+}
+
+/// Whether a message of this side is the editor's `initialized`.
+fn is_initialized(side: Side, message: &Message) -> bool
+    ensures { result ≡ (same_side Editor side && tells_initialized (message_view message.now)) }
+{
+    match side {
+        Side::Editor => tells_initialized(message),
+        Side::Server => false,
+    }
+}
+
+/// Whether a message is a notification `initialized`.
+fn tells_initialized(message: &Message) -> bool
+    ensures { result ≡ tells_initialized (message_view message.now) }
+{
+    match message {
+        Message::Request { .. } => false,
+        Message::Notification { method, .. } => method.as_str() == "initialized",
+        Message::Response { .. } => false,
     }
 }

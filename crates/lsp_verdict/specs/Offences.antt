@@ -292,12 +292,35 @@ abbrev pub is_any_passed : Terms → Side → Option Ident → List Noted → Bo
 is_any_passed terms side None before = false
 is_any_passed terms side (Some id) before = is_passed terms side id before
 
--- **an offence of this event, by this rule, follows from a request that was passed over**: it is
--- the answer to it
+-- ---- `initialized` is passed over
+
+-- the message is a notification `initialized`
+abbrev pub tells_initialized : Message → Bool
+tells_initialized (request id method params) = false
+tells_initialized (notification method params) = bytes_eq method (codes "initialized")
+tells_initialized (response id reply) = false
+
+-- the event is one of the editor's
+abbrev pub is_initialized_by : Event → Bool
+is_initialized_by (message m) = same_side Editor m.side && tells_initialized m.message
+is_initialized_by (fault side rule) = false
+is_initialized_by (snapshot uri number text) = false
+
+abbrev pub unheard_by : Terms → List Noted → Noted → Option ℕ
+unheard_by terms before n =
+    if is_initialized_by n.event then rule_at terms (events_of before) n.event else None
+
+-- **the editor's `initialized` was passed over**: once one is kept, no 403 is broken any more
+abbrev pub is_unheard : Terms → List Noted → Bool
+is_unheard terms before = is_some (first_of (unheard_by terms) before)
+
+-- **an offence of this event, by this rule, follows from a message that was passed over**: it is
+-- the answer to a request, or wants `initialized` before it
 abbrev pub follows_passed : Terms → ℕ → List Noted → Event → Bool
 follows_passed terms rule before (message m) =
     rule == rules.RESPONSE_TO_NO_OPEN_REQUEST
     && is_any_passed terms (other_side m.side) (response_id m.message) before
+    || rule == rules.INITIALIZED_NOT_FIRST && is_unheard terms before
 follows_passed terms rule before (fault side code) = false
 follows_passed terms rule before (snapshot uri number text) = false
 

@@ -1,7 +1,7 @@
 -- All offences of a session: which events are kept, and what is listed.
 use Rattle.std.specs.Prelude.{option_map, option_and_then, ◌&&◌, ◌||◌, ◌==◌, not, is_some, if◌then◌else◌}
 use Rattle.std.specs.Prelude.{nat_le}
-use Rattle.std.specs.List.{cons_option, filter_map, list_any}
+use Rattle.std.specs.List.{cons_option, filter_map}
 use Rattle.std.specs.Option.{option_or}
 use Rattle.std.specs.Str.{bytes_eq}
 use Rattle.std.proofs.Common.{◌≡◌, ℕ, Bool, true, false, List, [], ◌∷◌, ◌++◌, Option, Some, None, refl, sym, ap, ◌∙◌, append_assoc, append-nil}
@@ -23,10 +23,11 @@ use Rattle.lsp_verdict.specs.Offences.{is_reopened, said_at, renews, left_lost, 
 use Rattle.lsp_verdict.specs.Offences.{brought_by, lost_by}
 use Rattle.lsp_verdict.specs.Offences.{last_or, is_lost, asks, breaks_handshake, may_answer}
 use Rattle.lsp_verdict.specs.Offences.{broken_by, is_handshake_lost}
-use Rattle.lsp_verdict.specs.Offences.{is_frame_fault, has_broken, unread_by, is_unread}
+use Rattle.lsp_verdict.specs.Offences.{has_broken, unread_by, is_unread}
 use Rattle.lsp_verdict.specs.Offences.{wants_other, follows_bytes, wants_handshake, wants_text}
 use Rattle.lsp_verdict.specs.Offences.{is_on_lost, asked_by, answered_by, passes, passed_by}
 use Rattle.lsp_verdict.specs.Offences.{is_passed, is_any_passed, follows_passed, follows}
+use Rattle.lsp_verdict.specs.Offences.{is_initialized_by, is_unheard, unheard_by}
 use Rattle.lsp_verdict.specs.Offences.{offence_by, offence_at, offences}
 use Rattle.lsp_verdict.specs.Verdict.{Verdict, offence, no_by, no_at, first_no}
 use Rattle.lsp_verdict.proofs.Finding.{nothing_from, nothing_at, map_none}
@@ -271,11 +272,28 @@ none_passed terms side id before clean =
     (ap (λ (ns : List Noted). first_of (no_at terms) (events_of ns)) (sym cut) ∙ clean)) in
     absurd (cc (sym passed ∙ none)))
 
+either_none : (b : Bool) (o : Option ℕ) → o ≡ None → (if b then o else None) ≡ None
+either_none true o none = none
+either_none false o none = refl
+
+none_unheard : (terms : Terms) (before : List Noted) → IsClean terms before
+    → is_unheard terms before ≡ false
+none_unheard terms before clean =
+    ap (λ (o : Option ℕ). is_some o) (nothing_from (unheard_by terms) [] before
+    (λ front after n cut. either_none (is_initialized_by n.event)
+    (rule_at terms (events_of front) n.event) (clean_rule terms front after n
+    (ap (λ (ns : List Noted). first_of (no_at terms) (events_of ns)) (sym cut) ∙ clean))))
+
 no_answer : (terms : Terms) (rule : ℕ) (before : List Noted) (e : Event) → IsClean terms before
     → follows_passed terms rule before e ≡ false
 no_answer terms rule before (message m) clean =
-    ap (λ (b : Bool). rule == rules.RESPONSE_TO_NO_OPEN_REQUEST && b)
-    (by_id (response_id m.message)) ∙ and-false (rule == rules.RESPONSE_TO_NO_OPEN_REQUEST)
+    ap (λ (b : Bool). rule == rules.RESPONSE_TO_NO_OPEN_REQUEST && b
+    || rule == rules.INITIALIZED_NOT_FIRST && is_unheard terms before)
+    (by_id (response_id m.message))
+    ∙ ap (λ (b : Bool). b || rule == rules.INITIALIZED_NOT_FIRST && is_unheard terms before)
+    (and-false (rule == rules.RESPONSE_TO_NO_OPEN_REQUEST))
+    ∙ ap (λ (b : Bool). rule == rules.INITIALIZED_NOT_FIRST && b) (none_unheard terms before clean)
+    ∙ and-false (rule == rules.INITIALIZED_NOT_FIRST)
   where
     by_id : (o : Option Ident) → is_any_passed terms (other_side m.side) o before ≡ false
     by_id None = refl

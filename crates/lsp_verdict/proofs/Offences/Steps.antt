@@ -15,6 +15,7 @@ use Rattle.lsp_verdict.specs.LookBack.{first_of, each_of}
 use Rattle.lsp_verdict.specs.Offences.{Noted, events_of, kept_of, rule_at, lost_by, last_or, is_lost}
 use Rattle.lsp_verdict.specs.Offences.{broken_by, offence_at, offences, is_frame_fault, has_broken}
 use Rattle.lsp_verdict.specs.Offences.{unread_by, is_unread, passed_by, is_passed}
+use Rattle.lsp_verdict.specs.Offences.{is_unheard, unheard_by}
 use Rattle.lsp_verdict.proofs.LookBackLemmas.{first_of-snoc, each_of-snoc}
 use Rattle.lsp_verdict.proofs.Offences.Offending.{kept_more}
 
@@ -59,6 +60,13 @@ some_or (Some x) b = refl
 -- a handshake was broken by this event, or before
 pub broken-push : (terms : Terms) (notes : List Noted) (n : Noted) → is_some (first_of (broken_by terms) (notes ++ n ∷ [])) ≡ (is_some (first_of (broken_by terms) notes) || is_some (broken_by terms notes n))
 broken-push terms notes n = ap is_some (first_of-snoc (broken_by terms) notes n) ∙ some_or (first_of (broken_by terms) notes) (broken_by terms notes n)
+
+-- an `initialized` was passed over by this event, or before
+pub unheard-push : (terms : Terms) (notes : List Noted) (n : Noted)
+    → is_unheard terms (notes ++ n ∷ [])
+    ≡ (is_unheard terms notes || is_some (unheard_by terms notes n))
+unheard-push terms notes n = ap is_some (first_of-snoc (unheard_by terms) notes n)
+    ∙ some_or (first_of (unheard_by terms) notes) (unheard_by terms notes n)
 
 -- the events of the notes
 pub events_of-push : (notes : List Noted) (n : Noted) → events_of (notes ++ n ∷ []) ≡ events_of notes ++ n.event ∷ []

@@ -1,6 +1,6 @@
 -- All that is wrong with a log, against its verdict.
 use Rattle.std.specs.Prelude.{map, ◌&&◌, not, option_map, option_to_list, unwrap_or}
-use Rattle.std.specs.List.{AllZip, list_any}
+use Rattle.std.specs.List.{AllZip}
 use Rattle.std.specs.Option.{option_or}
 use Rattle.std.proofs.Common.{◌≡◌, ◌⊎◌, ℕ, Bool, true, false, List, [], ◌∷◌, ◌++◌, Option, Some, None, inl, inr, refl, sym, ap, subst, ◌∙◌}
 use Rattle.std.proofs.Math.Bool.{and-true}
@@ -16,21 +16,19 @@ use Rattle.lsp_log.specs.Log.{Record}
 use Rattle.lsp_log.specs.declared.fault.LogCode.{LogCode}
 use Rattle.lsp_verdict.specs.Complete.{completed, IsVerdictBy}
 use Rattle.lsp_verdict.specs.Event.{Event, message, fault, snapshot, sent_in}
-use Rattle.lsp_verdict.specs.LookBack.{first_from}
 use Rattle.lsp_verdict.specs.OffenceLaws.{SurveyAgrees, SomeSurvey, OneSurvey}
 use Rattle.lsp_verdict.specs.Offences.{Noted, Offence, events_of, kept_of, IsReading, IsMalformed}
 use Rattle.lsp_verdict.specs.Offences.{IsNoted, IsNotedSession}
 use Rattle.lsp_verdict.specs.Outcome.{ending, IsVerdict, log_terms}
 use Rattle.lsp_verdict.specs.Placed.{Raw, content, broken, show, Placed, Reads, joined}
 use Rattle.lsp_verdict.specs.Survey.{ends_inside, rests_listed, lacks_listed, first_ends, ends_listed, by_itself, found_in, first_verdict, IsSurvey}
-use Rattle.lsp_verdict.specs.Verdict.{Verdict, yes, Summary, summary, Ending, bad_log_of, rest_of, no_at, first_no, no_by, no_next, verdict}
+use Rattle.lsp_verdict.specs.Verdict.{Verdict, yes, Summary, summary, Ending, bad_log_of, rest_of, first_no, no_by, no_next, verdict}
 use Rattle.lsp_verdict.specs.declared.completeness.Completeness.{Completeness}
 use Rattle.lsp_verdict.specs.declared.completeness.Completeness.TheVariants.{Ignored, Required}
 use Rattle.lsp_verdict.specs.declared.verdict.Who.TheVariants as who
 use Rattle.lsp_verdict.proofs.Below.{one_log, some_log, some_stream, one_message, not_both, message_or_rule}
 use Rattle.lsp_verdict.proofs.Completing.{one_complete_verdict}
 use Rattle.lsp_verdict.proofs.Logs.{one_verdict}
-use Rattle.lsp_verdict.proofs.LookBackLemmas.{or_none_parts}
 use Rattle.lsp_verdict.proofs.Offences.Offending.{all_are_kept, first_listed, no_frame_fault}
 use Rattle.lsp_verdict.proofs.Offences.Offending.{nothing_listed}
 use Rattle.lsp_verdict.proofs.OneEvent.{one_read, some_read}

@@ -235,9 +235,20 @@ no_handshake = refl
 
 -- what the server sends cannot be read while an `initialize` is open: it may be the answer
 unread_answer : all_of (I1 ∷ fault Server 201 ∷ N1 ∷ A1 ∷ REQ ∷ [])
-    ≡ cause 201 who.Server 1 2 ∷ after_it 402 who.Editor 2 3 ∷ cause 403 who.Editor 3 5 ∷ []
+    ≡ cause 201 who.Server 1 2 ∷ after_it 402 who.Editor 2 3 ∷ after_it 403 who.Editor 3 5 ∷ []
 unfolding value punctuate lex content word after_number number_of scan_numeral chars
 unread_answer = refl
+
+-- an `initialized` that comes too early is passed over: all that wants it follows, until one is kept
+early_initialized : all_of (I1 ∷ N1 ∷ A1 ∷ REQ ∷ N1 ∷ REQ ∷ [])
+    ≡ cause 402 who.Editor 2 2 ∷ after_it 403 who.Editor 3 4 ∷ []
+unfolding value punctuate lex content word after_number number_of scan_numeral chars
+early_initialized = refl
+
+no_initialized : all_of (I1 ∷ A1 ∷ REQ ∷ LOG ∷ [])
+    ≡ cause 403 who.Editor 2 3 ∷ []
+unfolding value punctuate lex content word after_number number_of scan_numeral chars
+no_initialized = refl
 
 -- ---- bytes that fail
 

@@ -8,7 +8,7 @@ use Rattle.lsp_survey.specs.declared.notes.openings.Openings.{Openings}
 use Rattle.lsp_facts.specs.Fact.{Fact, facts_view}
 use Rattle.lsp_explain.specs.Standing.{terms_in}
 use Rattle.lsp_explain.specs.Unopened.{similar_fact}
-use Rattle.lsp_explain.proofs.unopened.push_similar.Goals as goal
+use Rattle.lsp_explain.proofs.unopened.push_spelled.Goals as goal
 
 pub returns : goal.returns
 returns c =
@@ -16,17 +16,17 @@ returns c =
     let old = facts_view c.args.facts.now.items in
     let first = c.last_opened.result.0.now in
     let second = c.last_opened.result.1.now in
-    on_ok_weaker c.push_similar_of-2.result
+    on_ok_weaker c.push_spelled_of-2.result
     (λ says before stands.
     let opened = subst (λ (o : Openings). AreOpenings terms o before) (sym c.openings.ensures)
     stands.opened in
-    let each = similar_fact terms before c.args.uri.now in
+    let each = similar_fact terms before c.args.sought.now.size c.args.sought.now.spelling.items in
     says before stands
     ∙ ap (λ (l : List Fact). l ++ flat_map each (ons_view second))
-    (c.in_ok-push_similar_of.ensures before stands)
+    (c.in_ok-push_spelled_of.ensures before stands)
     ∙ append_assoc old (flat_map each (ons_view first)) (flat_map each (ons_view second))
     ∙ ap (λ (l : List Fact). old ++ l) (sym (flat_map-append each (ons_view first)
     (ons_view second))
     ∙ ap (flat_map each) (sym (map-append on_view first second)
     ∙ c.last_opened.ensures terms before opened)))
-    c.push_similar_of-2.ensures
+    c.push_spelled_of-2.ensures

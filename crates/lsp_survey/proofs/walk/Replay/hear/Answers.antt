@@ -19,7 +19,7 @@ returns-in-Ok-clause-heard c =
     c.in-Ok.kept c.hear.new.self.session c.hear.new.self.docs
     c.hear.new.self.counts walks c.in-Ok.ensures.terms
     (λ i. (same i).session) (λ i. (same i).docs) (λ i. (same i).counts) c.keep.ensures.same.1
-    c.keep.ensures.same.2
+    c.keep.ensures.same.2 c.keep.ensures.same.3
     (c.in-Ok.ensures.ok kept walks.holds)
     (λ event counted heard.
     noted_after (place_of (events_of before) event) c.in-Ok.kept (record old {
@@ -38,7 +38,7 @@ returns-in-Err-clause-heard c =
     (λ given heard before walks.
     let kept = kept_of old.events.docs.terms (events_of before) in
     let still = still_walks old mid before walks same (c.in-Err.ensures.err kept walks.holds)
-    c.in-Err.ensures.uncounted refl refl refl refl refl refl refl in
+    c.in-Err.ensures.uncounted refl refl refl refl refl refl refl refl in
     let refused = subst (λ (t : Terms). IsRefused raw t before c.in-Err.refused) (sym same)
     (c.in-Err.ensures.rule kept walks.holds) in
     subst (λ (t : Terms). Hears raw t c.pass_over.new.self before given) same

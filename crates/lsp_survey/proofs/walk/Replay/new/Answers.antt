@@ -12,4 +12,5 @@ returns-clause-walks c = record {
   said = c.new-7.ensures c.new.result.docs.terms;
   sided = c.new-3.ensures;
   passed = c.new-4.ensures;
+  unheard = refl;
 }

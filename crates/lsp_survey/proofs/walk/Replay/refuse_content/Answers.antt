@@ -1,5 +1,10 @@
 use Rattle.std.specs.Prelude.{List, Option, ℕ, option_map, string_bytes, ◌||◌}
 use Rattle.std.proofs.Common.{◌≡◌, ◌∙◌, false, None, Some, refl, sym, ap, subst}
+use Rattle.std.proofs.lemmas.Result.{IfOk-weaker}
+use Rattle.lsp_verdict.specs.Given.{offence_view}
+use Rattle.lsp_survey.specs.declared.offending.FoundOffence.{FoundOffence}
+use Rattle.lsp_survey.specs.Walking.{IsUnread}
+use Rattle.std.proofs.Math.Bool.{or-false}
 use Rattle.lsp_survey.specs.Notes.{Leaves}
 use Rattle.lsp_rpc.specs.Ident.{Ident, id_view}
 use Rattle.lsp_survey.specs.Passed.{ArePassed, SetsAny}
@@ -11,8 +16,9 @@ use Rattle.lsp_survey.specs.declared.notes.note.Notes.{Notes}
 use Rattle.lsp_verdict.specs.Given.{given_offence}
 use Rattle.lsp_verdict.specs.Event.{Event, fault}
 use Rattle.lsp_verdict.specs.Offences.{asks, breaks_handshake, events_of, follows_bytes}
-use Rattle.lsp_verdict.specs.Offences.{follows_passed, may_answer}
+use Rattle.lsp_verdict.specs.Offences.{follows_passed, is_initialized_by, may_answer}
 use Rattle.lsp_verdict.specs.Verdict.{who_of}
+use Rattle.lsp_survey.proofs.Passing.{found_offends}
 use Rattle.lsp_survey.proofs.walk.Replay.refuse_content.Goals as goal
 
 pub returns-clause-passes : goal.returns-clause-passes
@@ -22,13 +28,15 @@ returns-clause-passes c =
     let rule = c.args.rule in
     let read = c.in_ok-asks.ensures in
     let malformed = read.0 in
-    let meant = read.2 in (
+    let meant = read.2 in
+    IfOk-weaker c.found.result _ _ (λ heard given. (
       malformed,
       read.1,
       record {
-        found = _;
-        is_given = refl;
-        is_such = (refl, c.in_ok-content.ensures.items);
+        found = given.0;
+        is_given = given.1;
+        is_such = subst (λ (f : FoundOffence). IsUnread c.args.side c.args.content.now f.offending)
+            (sym given.2) (refl, c.in_ok-content.ensures.items);
         counted = record {
           session = refused.counted.session;
           documents = refused.counted.documents;
@@ -53,12 +61,20 @@ returns-clause-passes c =
             meant.asked (subst (λ (p : Passed). SetsAny c.args.side
             (option_map id_view c.in_ok-asks.field-0.asked) p c.note_asked.new.self) refused.passed
             c.in_ok-note_asked.ensures)));
+        unheard = λ event is. refused.unheard ∙ sym (or-false old.unheard)
+            ∙ ap (λ e. old.unheard || is_initialized_by e) (sym is);
         marks = refused.marks;
         openings = refused.openings;
         said = refused.said;
-        offence = λ enc kind notes event is w. refused.offence notes w
+        offence = λ enc kind notes event is w.
+            ap (λ (f : FoundOffence). offence_view f.offence) given.2
+            ∙ refused.offence notes w
             ∙ ap (λ e. given_offence (offence_of old.events.docs.terms notes (who_of c.args.side)
             rule false (follows_passed old.events.docs.terms rule notes e
             || follows_bytes rule (events_of notes) e))) (sym is);
       },
-    )
+    )) c.found.ensures
+
+pub returns-clause-offends : goal.returns-clause-offends
+returns-clause-offends c =
+    IfOk-weaker c.found.result _ _ (λ given found. found_offends _ _ given found) c.found.ensures
