@@ -1,6 +1,6 @@
 //! Explains the verdict on a log.
 ghost use Rattle.std.specs.Prelude.{◌≡◌, ◌+◌, ◌++◌, List, [], ℕ, None, Ok, Err, IfOk, IfSome, OnOk};
-ghost use Rattle.std.specs.Prelude.{option_map, codes, string_bytes};
+ghost use Rattle.std.specs.Prelude.{Box, option_map, codes, string_bytes};
 ghost use Rattle.std.specs.Io.KnownBytes.{IsAtEnd};
 ghost use Rattle.lsp_frame.specs.Bounds.{Bounds, IsInRange};
 ghost use Rattle.lsp_frame.specs.Told.{Told, Took};

@@ -1,6 +1,6 @@
 //! Explains all that is wrong with a log.
 ghost use Rattle.std.specs.Prelude.{◌≡◌, ◌+◌, ◌++◌, ◌∷◌, [], List, string_bytes, map, codes};
-ghost use Rattle.std.specs.Prelude.{decimal, option_map, Ok, IfOk, OnOk};
+ghost use Rattle.std.specs.Prelude.{Box, decimal, option_map, Ok, IfOk, OnOk};
 ghost use Rattle.std.specs.List.{flat_map};
 ghost use Rattle.lsp_frame.specs.Bounds.{Bounds, IsInRange};
 ghost use Rattle.lsp_frame.specs.Told.{Told};
