@@ -88,21 +88,24 @@ module _ (which : ComparedText) (terms : Terms) where
   none_from : (before es : List Event) → first_from (no_at terms) before es ≡ None
       → first_from (answer_at which terms) before es ≡ None
   none_from before [] none = refl
-  none_from before (e ∷ es) none = by_rule (offence terms before e) refl
+  none_from before (e ∷ es) none =
+      by_rule (λ later. none_from (before ++ e ∷ []) es later) (offence terms before e) refl
     where
-      by_rule : (o : Option ℕ) → offence terms before e ≡ o
+      by_rule : (first_from (no_at terms) (before ++ e ∷ []) es ≡ None
+          → first_from (answer_at which terms) (before ++ e ∷ []) es ≡ None)
+          → (o : Option ℕ) → offence terms before e ≡ o
           → first_from (answer_at which terms) before (e ∷ es) ≡ None
-      by_rule (Some rule) is =
+      by_rule others (Some rule) is =
           let here : no_at terms before e ≡ None =
           (or_none_parts (no_at terms before e)
           (first_from (no_at terms) (before ++ e ∷ []) es) none).0 in
           let bad : option_map (no_by before e) (Some rule) ≡ None =
           ap (option_map (no_by before e)) (sym is) ∙ here in absurd cc
-      by_rule None is =
+      by_rule others None is =
           ap (λ (o : Option ℕ).
           option_or (option_map (λ rule. answer_of which (texts_at terms before e rule)) o)
           (first_from (answer_at which terms) (before ++ e ∷ []) es)) is
-          ∙ none_from (before ++ e ∷ []) es
+          ∙ others
           (or_none_parts (no_at terms before e)
           (first_from (no_at terms) (before ++ e ∷ []) es) none).1
 

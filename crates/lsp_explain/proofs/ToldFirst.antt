@@ -8,7 +8,6 @@ use Rattle.std.proofs.Common.{append-nil}
 use Rattle.lsp_docs.specs.Terms.{Terms}
 use Rattle.lsp_frame.specs.Bounds.{Bounds}
 use Rattle.lsp_frame.specs.Told.{Told}
-use Rattle.lsp_survey.specs.Asking.{Numbered, numbered}
 use Rattle.lsp_survey.specs.Reads.{SoFar, GaveEvent, BrokeOff, Ended}
 use Rattle.lsp_survey.specs.declared.survey_reader.SurveyEnd.{SurveyEnd}
 use Rattle.lsp_survey.specs.declared.offending.FoundOffence.{FoundOffence}

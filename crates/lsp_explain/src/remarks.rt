@@ -196,17 +196,17 @@ fn push_unshown(alloc: Global, lines: &mut String, unshown: &[String]) -> Result
         ≡ string_bytes lines.old ++ flat_map unshown_line (names_view unshown.now)) }
 {
     for uri in unshown {
-        push_unshown_line(alloc, lines, uri)?;
+        push_unshown_line(alloc, lines, uri.as_str())?;
     }
     Ok(())
 }
 
-fn push_unshown_line(alloc: Global, lines: &mut String, uri: &String) -> Result<(), Memory>
+fn push_unshown_line(alloc: Global, lines: &mut String, uri: &str) -> Result<(), Memory>
     ensures { OnOk result (string_bytes lines.new
-        ≡ string_bytes lines.old ++ unshown_line (string_bytes uri.now)) }
+        ≡ string_bytes lines.old ++ unshown_line uri.now) }
 {
     write!(lines, "note no-snapshot ")?;
-    push_quoted(alloc, lines, uri.as_str())?;
+    push_quoted(alloc, lines, uri)?;
     writeln!(lines)?;
     Ok(())
 }
