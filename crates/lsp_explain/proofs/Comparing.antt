@@ -1,4 +1,6 @@
 -- The two whole texts of the first offence that a run finds.
+use Rattle.std.specs.Prelude.{Box}
+use Rattle.std.specs.Global.{Global}
 use Rattle.std.specs.Prelude.{option_and_then, option_map, unwrap_or, if◌then◌else◌, Bool, true}
 use Rattle.std.specs.Prelude.{false, chars, string_bytes, ℤ, String, map}
 use Rattle.std.specs.Global.{Global}
@@ -86,21 +88,24 @@ module _ (which : ComparedText) (terms : Terms) where
   none_from : (before es : List Event) → first_from (no_at terms) before es ≡ None
       → first_from (answer_at which terms) before es ≡ None
   none_from before [] none = refl
-  none_from before (e ∷ es) none = by_rule (offence terms before e) refl
+  none_from before (e ∷ es) none =
+      by_rule (λ later. none_from (before ++ e ∷ []) es later) (offence terms before e) refl
     where
-      by_rule : (o : Option ℕ) → offence terms before e ≡ o
+      by_rule : (first_from (no_at terms) (before ++ e ∷ []) es ≡ None
+          → first_from (answer_at which terms) (before ++ e ∷ []) es ≡ None)
+          → (o : Option ℕ) → offence terms before e ≡ o
           → first_from (answer_at which terms) before (e ∷ es) ≡ None
-      by_rule (Some rule) is =
+      by_rule others (Some rule) is =
           let here : no_at terms before e ≡ None =
           (or_none_parts (no_at terms before e)
           (first_from (no_at terms) (before ++ e ∷ []) es) none).0 in
           let bad : option_map (no_by before e) (Some rule) ≡ None =
           ap (option_map (no_by before e)) (sym is) ∙ here in absurd cc
-      by_rule None is =
+      by_rule others None is =
           ap (λ (o : Option ℕ).
           option_or (option_map (λ rule. answer_of which (texts_at terms before e rule)) o)
           (first_from (answer_at which terms) (before ++ e ∷ []) es)) is
-          ∙ none_from (before ++ e ∷ []) es
+          ∙ others
           (or_none_parts (no_at terms before e)
           (first_from (no_at terms) (before ++ e ∷ []) es) none).1
 
@@ -214,13 +219,14 @@ reads_on limits e start now past notes ignored given = record {
 
 -- one of the texts is found
 pub text_found : (which : ComparedText) (limits : Bounds) (e : SurveyReader) (start now : Told)
-    (past : List Raw) (notes : List Noted) (found : FoundOffence) (answer : TextAnswer)
+    (past : List Raw) (notes : List Noted) (boxed : Box FoundOffence Global) (answer : TextAnswer)
     → offences (terms_in e) notes ≡ []
-    → GaveEvent limits e start now past notes [] (heard.Offence found)
-    → IsAnswer which e found answer
+    → GaveEvent limits e start now past notes [] (heard.Offence boxed)
+    → IsAnswer which e boxed.value answer
     → OfRead limits start now (λ log. AnswersCompared limits log which answer)
     × (now.failures ≡ start.failures)
-text_found which limits e start now past notes found answer clean given is =
+text_found which limits e start now past notes boxed answer clean given is =
+    let found : FoundOffence = boxed.value in
     let own = e.log.log.format in
     let terms = terms_in e in
     let before : List Event = events_of notes in

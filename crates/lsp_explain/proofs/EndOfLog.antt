@@ -107,7 +107,8 @@ module _ (e : SurveyReader) (completeness : Completeness) (limits : Bounds) (log
   pub whole : IsSurveyOf e completeness limits log found bad terms (raws_of hs) (notes_of hs)
       → offences terms (notes_of hs) ≡ []
       → (is : IsWhole)
-      × (noticed_before (log_terms limits is.format) is.heard ≡ noticed terms (events_of (notes_of hs)))
+      × (noticed_before (log_terms limits is.format) is.heard
+      ≡ noticed terms (events_of (notes_of hs)))
   whole sv none =
       let p = sv.survey in
       let own = log_terms limits p.format in

@@ -7,7 +7,6 @@ use Rattle.lsp_docs.specs.Terms.{Terms}
 use Rattle.lsp_frame.specs.Bounds.{Bounds}
 use Rattle.lsp_frame.specs.declared.format.Format.{Format}
 use Rattle.lsp_log.specs.Log.{Record}
-use Rattle.lsp_survey.specs.Asking.{Numbered, numbered}
 use Rattle.lsp_types.specs.declared.side.Side.TheVariants.{Editor, Server}
 use Rattle.lsp_replay.specs.LogEvents.{HasGiven}
 use Rattle.lsp_verdict.specs.LookBack.{each_from}
@@ -18,11 +17,13 @@ use Rattle.lsp_verdict.specs.Survey.{by_itself, ends_listed}
 use Rattle.lsp_verdict.specs.Verdict.{Verdict, Ending, Summary, bad_log_of, summary}
 use Rattle.lsp_verdict.specs.declared.completeness.Completeness.{Completeness}
 use Rattle.lsp_verdict.proofs.Below.{some_stream}
+use Rattle.lsp_explain.specs.Remarks.{Noticed, noticed}
 use Rattle.lsp_explain.specs.Explained.{Heard, Breach, Explained, Explains, raws_of, notes_of}
 use Rattle.lsp_explain.specs.Explained.{before_first, breach, breach_at, breaches, noticed_before}
 use Rattle.lsp_explain.specs.Explained.{IsExplained}
 use Rattle.lsp_facts.specs.Fact.{Fact}
 use Rattle.lsp_facts.specs.FlawFacts.{Rests, log_facts}
+use Rattle.lsp_explain.specs.Remarks.{Noticed, noticed}
 use Rattle.lsp_explain.specs.RunSteps.{RestsBehind}
 use Rattle.lsp_explain.proofs.Explaining.{Hears, hears, offence_of, offences_are, breaches-first}
 use Rattle.lsp_explain.proofs.Explaining.{raws-append, noted-append}

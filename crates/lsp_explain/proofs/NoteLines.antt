@@ -1,21 +1,26 @@
 -- The lines of notes, one kind after another.
-use Rattle.std.specs.Prelude.{map, Option, Some, None, option_to_list}
+use Rattle.std.specs.Prelude.{map, Option, Some, None, option_to_list, string_bytes, String}
+use Rattle.std.specs.Prelude.{if◌then◌else◌}
+use Rattle.std.specs.Global.{Global}
 use Rattle.std.specs.List.{flat_map}
-use Rattle.std.proofs.Common.{◌≡◌, ◌+◌, ℕ, List, ◌++◌, length, length-append, refl, sym, ap, ◌∙◌}
+use Rattle.std.proofs.Common.{◌≡◌, ◌<◌, ◌+◌, ℕ, List, [], ◌∷◌, ◌++◌, length, length-append, refl}
+use Rattle.std.proofs.Common.{sym, ap, ◌∙◌, true, false, take, get_or}
 use Rattle.std.proofs.Common.{append-nil, append_assoc}
-use Rattle.std.proofs.lemmas.List.{length-map}
+use Rattle.std.proofs.lemmas.List.{length-map, map-append, take_more}
 use Rattle.std.proofs.lemmas.List.Concat.{flat_map-append}
 use Rattle.std.proofs.lemmas.List.Folds.{flat_map-map}
 use Rattle.lsp_survey.specs.Misuses.{Misused, misuses}
 use Rattle.lsp_session.specs.Negotiation.{encoding}
 use Rattle.lsp_replay.specs.declared.heard.EventPlace.{EventPlace}
-use Rattle.lsp_survey.specs.Asking.{Numbered, sents}
+use Rattle.lsp_survey.specs.Asking.{sents}
 use Rattle.lsp_survey.specs.Remarks.{abrupt_exit, older_encoding}
 use Rattle.lsp_types.specs.declared.position.Encoding.{Encoding}
 use Rattle.lsp_verdict.specs.Verdict.{Verdict}
 use Rattle.lsp_explain.specs.Remarks.{Remark, calls_wrongly, count_line, exit_remarks, line_if}
 use Rattle.lsp_explain.specs.Remarks.{misuse_line, name_remarks, other_name, remark_line}
-use Rattle.lsp_explain.specs.Remarks.{Noticed, remark_lines, remarks_of, uncompared}
+use Rattle.lsp_explain.specs.Remarks.{Noticed, compares_nothing, is_yes, lacks_snapshot}
+use Rattle.lsp_explain.specs.Remarks.{remark_lines, remarks_of, says_little, uncompared}
+use Rattle.lsp_explain.specs.Remarks.{unshown_line}
 
 abbrev lines : List Remark → List ℕ
 lines remarks = flat_map remark_line remarks
@@ -61,6 +66,37 @@ all_lines start one two three four five calls exit name little count e1 e2 e3 e4
     e5 ∙ ap (λ w. w ++ count_line count) fourth
     ∙ append_assoc start (lines all) (count_line count)
     ∙ ap (λ k. start ++ (lines all ++ count_line k)) (counted ∙ sym size)
+
+-- ---- documents without a snapshot
+
+-- one line more
+pub one_line : (start : List ℕ) (uris : List (String Global)) (i : ℕ) (u : String Global)
+    (old new : List ℕ) → i < length uris → u ≡ get_or uris i u
+    → old ≡ start ++ flat_map unshown_line (map string_bytes (take i uris))
+    → new ≡ old ++ unshown_line (string_bytes u)
+    → new ≡ start ++ flat_map unshown_line (map string_bytes (take (i + 1) uris))
+one_line start uris i u old new lt is before now =
+    let front : List ℕ = flat_map unshown_line (map string_bytes (take i uris)) in
+    let whole : flat_map unshown_line (map string_bytes (take (i + 1) uris))
+    ≡ front ++ unshown_line (string_bytes u) =
+    ap (λ l. flat_map unshown_line (map string_bytes l)) (take_more uris i u lt)
+    ∙ ap (flat_map unshown_line) (map-append string_bytes (take i uris) (get_or uris i u ∷ []))
+    ∙ flat_map-append unshown_line (map string_bytes (take i uris))
+    (string_bytes (get_or uris i u) ∷ [])
+    ∙ ap (λ w. front ++ w) (append-nil (unshown_line (string_bytes (get_or uris i u))))
+    ∙ ap (λ (v : String Global). front ++ unshown_line (string_bytes v)) (sym is) in
+    now ∙ ap (λ w. w ++ unshown_line (string_bytes u)) before
+    ∙ append_assoc start front (unshown_line (string_bytes u))
+    ∙ ap (λ w. start ++ w) (sym whole)
+
+-- of a Yes where a snapshot was compared, they are the lines of these documents
+pub unshown_lines : (v : Verdict) (uris : List (List ℕ)) → says_little v ≡ false
+    → is_yes v ≡ true → flat_map unshown_line uris ≡ lines (uncompared v uris)
+unshown_lines v uris much yes =
+    sym (flat_map-map remark_line lacks_snapshot uris)
+    ∙ ap (λ b. lines (if b then map lacks_snapshot uris else [])) (sym yes)
+    ∙ ap (λ b. lines (if b then compares_nothing ∷ []
+    else (if is_yes v then map lacks_snapshot uris else []))) (sym much)
 
 -- ---- which notes there are
 

@@ -1,4 +1,6 @@
 -- What a run tells of the first offence that it finds.
+use Rattle.std.specs.Prelude.{Box}
+use Rattle.std.specs.Global.{Global}
 use Rattle.std.proofs.Common.{◌≡◌, ℕ, ◌+◌, ◌<◌, ◌^◌, true, List, [], ◌∷◌, ◌++◌, length, Option}
 use Rattle.std.proofs.Common.{Some, refl, sym, ap, ◌∙◌, subst, string_bytes, arith}
 use Rattle.lsp_docs.specs.Terms.{Terms}
@@ -92,6 +94,15 @@ fault_shown limits s records rests rest terms kept rule raw (what.Message by spo
 fault_shown limits s records rests rest terms kept rule raw (what.Snapshot version uri text) is
     ended seen behind = tt
 
+-- what a box has was found
+pub finds_boxed : (limits : Bounds) (e : SurveyReader) (start now : Told) (past : List Raw)
+    (notes : List Noted) (prior : List Offence) (found : FoundOffence)
+    (boxed : Box FoundOffence Global) → boxed.value ≡ found
+    → (given : GaveEvent limits e start now past notes prior (heard.Offence boxed))
+    → Finds given.raw (terms_in e) notes given.n found
+finds_boxed limits e start now past notes prior found boxed same given =
+    subst (Finds given.raw (terms_in e) notes given.n) same given.is_heard
+
 module _ (e : SurveyReader) (found : FoundOffence) (x : Explanation) (rest said : List ℕ)
     (text : string_bytes x.text ≡ report (offence_view found.offence).no ++ said)
     (named : verdict_view x.verdict ≡ (offence_view found.offence).no)
@@ -152,14 +163,15 @@ module _ (e : SurveyReader) (found : FoundOffence) (x : Explanation) (rest said 
 
   pub tells : SeenOf e found rest
       → (limits : Bounds) (start now : Told) (hs : List Heard) (prior : List Offence)
-      (given : GaveEvent limits e start now (raws_of hs) (notes_of hs) prior (heard.Offence found))
+      (boxed : Box FoundOffence Global) (same : boxed.value ≡ found)
+      (given : GaveEvent limits e start now (raws_of hs) (notes_of hs) prior (heard.Offence boxed))
       → Tells limits given.so_far.records (terms_in e) hs (record {
         raw = given.raw;
         note = given.n;
       }) found x
-  tells seen limits start now hs prior given =
+  tells seen limits start now hs prior boxed same given =
       let terms = terms_in e in
-      let f = given.is_heard in
+      let f = finds_boxed limits e start now (raws_of hs) (notes_of hs) prior found boxed same given in
       let shows_fault : (rests : Rests) → RestsBehind limits given.so_far.records rests
       → ShowsFault rests found.offending rest = λ rests behind.
       fault_shown limits e given.so_far.records rests rest terms
@@ -169,6 +181,6 @@ module _ (e : SurveyReader) (found : FoundOffence) (x : Explanation) (rest said 
         raw = given.raw;
         note = given.n;
       }) given.is_noted.0 (few_before limits e start now (raws_of hs ++ given.raw ∷ [])
-      (notes_of hs) given.n (prior ++ found_in (heard.Offence found)) given.so_far) shows_fault
+      (notes_of hs) given.n (prior ++ found_in (heard.Offence boxed)) given.so_far) shows_fault
       terms refl f
       (stands_before e (notes_of hs) given.n f.rule given.so_far.walks f.offends)

@@ -1,4 +1,6 @@
 -- The first offence that a run finds explains the log.
+use Rattle.std.specs.Prelude.{Box}
+use Rattle.std.specs.Global.{Global}
 use Rattle.std.specs.Prelude.{option_map, string_bytes}
 use Rattle.std.specs.List.{AllZip, cons_option}
 use Rattle.std.proofs.Common.{◌≡◌, ℕ, List, [], ◌∷◌, ◌++◌, Option, Some, refl, sym, ap, ◌∙◌, subst}
@@ -6,7 +8,6 @@ use Rattle.std.proofs.Common.{append-nil}
 use Rattle.lsp_docs.specs.Terms.{Terms}
 use Rattle.lsp_frame.specs.Bounds.{Bounds}
 use Rattle.lsp_frame.specs.Told.{Told}
-use Rattle.lsp_survey.specs.Asking.{Numbered, numbered}
 use Rattle.lsp_survey.specs.Reads.{SoFar, GaveEvent, BrokeOff, Ended}
 use Rattle.lsp_survey.specs.declared.survey_reader.SurveyEnd.{SurveyEnd}
 use Rattle.lsp_survey.specs.declared.offending.FoundOffence.{FoundOffence}
@@ -54,7 +55,7 @@ abbrev notes_on : Verdict → Noticed → List ℕ
 notes_on v n = remark_lines (remarks_of v n)
 
 module _ (completeness : Completeness) (limits : Bounds) (e : SurveyReader) (start now : Told)
-    (hs : List Heard) (found : FoundOffence) (x y : Explanation) where
+    (hs : List Heard) (found : Box FoundOffence Global) (x y : Explanation) where
   module _ (given : GaveEvent limits e start now (raws_of hs) (notes_of hs) []
       (heard.Offence found)) (noted : AllZip IsNoted (raws_of hs) (notes_of hs)) where
     abbrev own : Terms
@@ -66,16 +67,16 @@ module _ (completeness : Completeness) (limits : Bounds) (e : SurveyReader) (sta
     raws_here : raws_of hs ++ given.raw ∷ [] ≡ raws_of (hs ++ here ∷ [])
     raws_here = sym (raws-append hs (here ∷ []))
 
-    module _ (t : Tells limits given.so_far.records own hs here found x) (adds : AddsNotes e x y)
+    module _ (t : Tells limits given.so_far.records own hs here found.value x) (adds : AddsNotes e x y)
       where
         -- nothing was found before
         clean : breaches own hs ≡ []
         clean =
             let listed : offences own (notes_of hs) ++ cons_option
-            (offence_at own (notes_of hs) given.n) [] ≡ offence_view found.offence ∷ [] =
+            (offence_at own (notes_of hs) given.n) [] ≡ offence_view found.value.offence ∷ [] =
             sym (offences-push own (notes_of hs) given.n) ∙ sym given.so_far.lists in
             no_breach own hs (nothing_before (offences own (notes_of hs))
-            (offence_by own (notes_of hs) given.n t.rule) (offence_view found.offence)
+            (offence_by own (notes_of hs) given.n t.rule) (offence_view found.value.offence)
             (cons_option (offence_at own (notes_of hs) given.n) [])
             (ap (λ (o : Option ℕ). cons_option (option_map (offence_by own (notes_of hs) given.n) o)
             []) t.offends) listed)
@@ -138,9 +139,9 @@ module _ (completeness : Completeness) (limits : Bounds) (e : SurveyReader) (sta
               (λ log. IsExplanation completeness limits log (verdict_view y.verdict)
               (string_bytes y.text)) of_log
               (so_far_given completeness limits e start now (raws_of hs ++ given.raw ∷ [])
-              (notes_of hs ++ given.n ∷ []) (offence_view found.offence ∷ []) given.so_far);
+              (notes_of hs ++ given.n ∷ []) (offence_view found.value.offence ∷ []) given.so_far);
           failures = so_far_failures completeness limits e start now (raws_of hs ++ given.raw ∷ [])
-              (notes_of hs ++ given.n ∷ []) (offence_view found.offence ∷ []) given.so_far;
+              (notes_of hs ++ given.n ∷ []) (offence_view found.value.offence ∷ []) given.so_far;
           ended = λ s yes. let same : verdict_view (verdicts.Yes s)
               ≡ no_by (events_of (notes_of hs)) given.n.event t.rule =
               ap verdict_view (sym yes ∙ adds.verdict_is) ∙ t.verdict_is ∙ t.no_is in absurd cc;

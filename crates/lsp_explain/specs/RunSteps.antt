@@ -1,4 +1,6 @@
 -- What the steps of a run that explains a log answer.
+use Rattle.std.specs.Prelude.{Box}
+use Rattle.std.specs.Global.{Global}
 use Rattle.std.specs.Prelude.{◌≡◌, ℕ, List, [], ◌++◌, Option, Some, Result, Ok, Err, string_bytes}
 use Rattle.std.specs.Io.KnownBytes.{IsAtEnd}
 use Rattle.lsp_frame.specs.Bounds.{Bounds}
@@ -88,8 +90,9 @@ pub record Tells (limits : Bounds) (records : List Record) (terms : Terms) (hs :
 abbrev pub TellsOf : SurveyReader → FoundOffence → Explanation → Type 0
 TellsOf e found x =
     (limits : Bounds) (start now : Told) (hs : List Heard) (prior : List Offence)
+    (boxed : Box FoundOffence Global) (same : boxed.value ≡ found)
     (given : GaveEvent limits e start now (raws_of hs) (notes_of hs) prior
-    (heard.Offence found))
+    (heard.Offence boxed))
     → Tells limits given.so_far.records (terms_in e) hs (record {
       raw = given.raw;
       note = given.n;

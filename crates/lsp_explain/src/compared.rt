@@ -87,7 +87,7 @@ fn text_by<R: Source>(
                     return Ok(answer);
                 }
             }
-            NextJudged::End(end) => return Ok(answer_at(end)),
+            NextJudged::End(end) => return Ok(answer_at(Box::into_inner(end))),
         }
     }
 }
@@ -101,8 +101,8 @@ fn text_heard(
 ) -> Result<Option<TextAnswer>, Memory>
     ensures kept { result ≡ Ok None → heard ≡ Judged.Kept }
     ensures told { IfOk result
-        (λ answer. IfSome answer (λ x. (found : FoundOffence) × (heard ≡ Judged.Offence found)
-        × IsAnswer which events.now found (answer_view x))) }
+        (λ answer. IfSome answer (λ x. (found : Box FoundOffence Global)
+        × (heard ≡ Judged.Offence found) × IsAnswer which events.now found.value (answer_view x))) }
 {
     match heard {
         Judged::Kept => Ok(None),

@@ -113,15 +113,24 @@ fn push_exit(lines: &mut String, exit: Option<EventPlace>) -> Result<usize, Memo
         ≡ string_bytes lines.old ++ line_if (option_map exits_abruptly exit)) }
     ensures count { IfOk result (λ count. count ≡ length (exit_remarks exit)) }
 {
-    let Some(EventPlace { event, who, number }) = exit else {
+    let Some(place) = exit else {
         return Ok(0);
     };
+    push_exit_at(lines, place)?;
+    Ok(1)
+}
+
+fn push_exit_at(lines: &mut String, place: EventPlace) -> Result<(), Memory>
+    ensures { OnOk result (string_bytes lines.new
+        ≡ string_bytes lines.old ++ remark_line (exits_abruptly place)) }
+{
+    let EventPlace { event, who, number } = place;
     let name = who_name(who);
     writeln!(
         lines,
         "note exit-without-shutdown event {event} {name} {number}"
     )?;
-    Ok(1)
+    Ok(())
 }
 
 /// Adds the line of an encoding that is named in the older way, if there is one; how many lines
@@ -187,17 +196,17 @@ fn push_unshown(alloc: Global, lines: &mut String, unshown: &[String]) -> Result
         ≡ string_bytes lines.old ++ flat_map unshown_line (names_view unshown.now)) }
 {
     for uri in unshown {
-        push_unshown_line(alloc, lines, uri)?;
+        push_unshown_line(alloc, lines, uri.as_str())?;
     }
     Ok(())
 }
 
-fn push_unshown_line(alloc: Global, lines: &mut String, uri: &String) -> Result<(), Memory>
+fn push_unshown_line(alloc: Global, lines: &mut String, uri: &str) -> Result<(), Memory>
     ensures { OnOk result (string_bytes lines.new
-        ≡ string_bytes lines.old ++ unshown_line (string_bytes uri.now)) }
+        ≡ string_bytes lines.old ++ unshown_line uri.now) }
 {
     write!(lines, "note no-snapshot ")?;
-    push_quoted(alloc, lines, uri.as_str())?;
+    push_quoted(alloc, lines, uri)?;
     writeln!(lines)?;
     Ok(())
 }

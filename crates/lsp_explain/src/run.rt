@@ -125,7 +125,7 @@ fn explain_first<R: Source>(
                     return Ok(explanation);
                 }
             }
-            NextJudged::End(end) => return Ok(explain_end(alloc, events, end)?),
+            NextJudged::End(end) => return Ok(explain_end(alloc, events, Box::into_inner(end))?),
         }
     }
 }
@@ -138,8 +138,8 @@ fn explain_heard(
 ) -> Result<Option<Explanation>, Memory>
     ensures kept { result ≡ Ok None → heard ≡ Judged.Kept }
     ensures told { IfOk result
-        (λ answer. IfSome answer (λ x. (found : FoundOffence) × (heard ≡ Judged.Offence found)
-        × TellsFirst events.now found x)) }
+        (λ answer. IfSome answer (λ x. (found : Box FoundOffence Global)
+        × (heard ≡ Judged.Offence found) × TellsFirst events.now found.value x)) }
 {
     match heard {
         Judged::Kept => Ok(None),

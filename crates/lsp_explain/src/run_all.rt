@@ -111,7 +111,7 @@ fn explain_events<R: Source, W: Sink>(
     loop {
         match events.next(reader)? {
             NextJudged::Event(heard) => explain_heard(alloc, events, writer, tally, heard)?,
-            NextJudged::End(end) => return Ok(end),
+            NextJudged::End(end) => return Ok(Box::into_inner(end)),
         }
     }
 }
@@ -145,8 +145,9 @@ fn explain_cause<W: Sink>(
     writer: &mut W,
     found: &FoundOffence,
 ) -> Result<(), RunFault>
-    ensures { TellsHeard events.now (Judged.Offence found.now) (W.told writer.old)
-        (W.told writer.new) result }
+    ensures { (boxed : Box FoundOffence Global) → boxed.value ≡ found.now
+        → TellsHeard events.now (Judged.Offence boxed) (W.told writer.old) (W.told writer.new)
+        result }
 {
     if found.offence.follows {
         return Ok(());

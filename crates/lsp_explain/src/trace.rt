@@ -344,9 +344,16 @@ fn trace_document(
         ≡ spec.document_traced (steps terms uri.now before) snapshots.now until rule
         (facts_view facts.old.items)) }
 {
-    let setters = marks.setters(uri);
-    put_setter(facts, last_place(setters))?;
-    push_texts(facts, marks.agreed(uri), setters, snapshots, until, rule)
+    let setters = marks.setters(uri)?;
+    put_setter(facts, last_place(setters.as_slice()))?;
+    push_texts(
+        facts,
+        marks.agreed(uri),
+        setters.as_slice(),
+        snapshots,
+        until,
+        rule,
+    )
 }
 
 /// The place of the last of these messages, which set the held version.

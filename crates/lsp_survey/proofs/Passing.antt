@@ -16,7 +16,7 @@ use Rattle.lsp_survey.specs.Passed.{ArePassed}
 use Rattle.lsp_survey.specs.Sides.{sides_after, sides_of}
 use Rattle.lsp_survey.specs.SessionNoting.{AreNotes}
 use Rattle.lsp_survey.specs.Walking.{WalksBy, Walks, offence_of, PassesOver}
-use Rattle.lsp_survey.specs.Walking.{IsOffending, Offends, IsHeard, Hears}
+use Rattle.lsp_survey.specs.Walking.{IsFound, IsOffence, IsOffending, Offends, IsHeard, Hears}
 use Rattle.lsp_survey.specs.declared.notes.marks.Marks.{Marks}
 use Rattle.lsp_survey.specs.declared.notes.openings.Openings.{Openings}
 use Rattle.lsp_survey.specs.declared.offending.Judged.{Judged}
@@ -40,6 +40,7 @@ use Rattle.lsp_verdict.specs.Offences.{may_answer, passes, rule_at}
 use Rattle.lsp_verdict.specs.Offences.{said_at}
 use Rattle.lsp_verdict.specs.Placed.{Raw}
 use Rattle.lsp_verdict.specs.Verdict.{whose}
+use Rattle.lsp_verdict.specs.declared.offence.Offence as code
 use Rattle.lsp_verdict.specs.declared.verdict.Who.{Who}
 use Rattle.lsp_survey.proofs.MarkSteps.{refused_leaves}
 use Rattle.lsp_survey.proofs.OpeningSteps.{refused_opens}
@@ -89,7 +90,10 @@ unheard_at : (o : Option ℕ) (e : Event)
     → is_some (if is_initialized_by e then o else None) ≡ unheard_with o e
 unheard_at None e = by_test (is_initialized_by e)
   where
-    by_test : (b : Bool) → is_some {A = ℕ} (if b then None else None) ≡ false
+    no_rule : Option ℕ
+    no_rule = None
+
+    by_test : (b : Bool) → is_some (if b then no_rule else no_rule) ≡ false
     by_test true = refl
     by_test false = refl
 unheard_at (Some rule) e = by_test (is_initialized_by e)
@@ -187,6 +191,10 @@ walks_on terms old new notes n rule said walks s =
 
 -- ---- an event that offends
 
+pub found_offends : (offence : code.Offence) (offending : OffendingEvent) (given : Judged)
+    → IsFound offence offending given → IsOffence given
+found_offends offence offending given found = subst IsOffence (sym found.1) tt
+
 -- what is kept is as it was after it
 kept_holds : (terms : Terms) (notes : List Noted) (n : Noted) (rule : ℕ) (m : session.State)
     (d : docs.State) → rule_at terms (events_of notes) n.event ≡ Some rule
@@ -212,7 +220,7 @@ passed_over raw old new notes n by rule says enc kind IsEvent IsSuch given walks
     let terms : Terms = old.events.docs.terms in
     let late : Bool = follows_passed terms rule notes n.event
     || follows_bytes rule (events_of notes) n.event in
-    let found : Offends raw terms notes n p.found = record {
+    let found : Offends raw terms notes n p.found.value = record {
       rule = rule;
       offends = rule_is;
       is = p.offence enc kind notes n.event is_event walks
@@ -224,7 +232,7 @@ passed_over raw old new notes n by rule says enc kind IsEvent IsSuch given walks
           ∙ ap (λ (w : Who). given_offence (offence_of terms notes w rule
           (is_on_lost terms notes (said_at terms (events_of notes) n.event)) late))
           (sym whose_is);
-      is_such = such p.found.offending p.is_such;
+      is_such = such p.found.value.offending p.is_such;
     } in
     record {
       n = n;

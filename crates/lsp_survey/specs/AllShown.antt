@@ -125,7 +125,7 @@ GivesLine lines completeness limits e start now past before found text (next.Eve
     (gave : GaveEvent limits e start now past before found given)
     × IsLine lines (events_of before) gave.n.event given text
 GivesLine lines completeness limits e start now past before found text (next.End end) =
-    Ended completeness limits e start now past before found end
+    Ended completeness limits e start now past before found end.value
 
 -- or reading broke off, of a log of this format that has these records first
 abbrev pub PullsLine : Lines → Option Format → List Record → Completeness → Bounds → SurveyReader
@@ -140,7 +140,7 @@ PullsLine lines format front completeness limits e start now past before found t
 -- what is written of an event: this line where it is kept, or its offence
 abbrev pub lines_by : List ℕ → Judged → List ℕ
 lines_by text heard.Kept = text
-lines_by text (heard.Offence found) = lines_of Every (offence_view found.offence ∷ [])
+lines_by text (heard.Offence found) = lines_of Every (offence_view found.value.offence ∷ [])
 
 -- ---- the run
 

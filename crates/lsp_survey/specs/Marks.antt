@@ -1,6 +1,6 @@
 -- What the marks of documents say about each URI.
 use Rattle.std.specs.Prelude.{◌≡◌, ℕ, ℤ, int_lt, Bool, false, not, List, [], ◌∷◌, if◌then◌else◌}
-use Rattle.std.specs.Prelude.{Option, Some, None, unwrap_or, String}
+use Rattle.std.specs.Prelude.{Option, Some, None, unwrap_or, slice_get, string_bytes, String}
 use Rattle.std.specs.Global.{Global}
 use Rattle.std.specs.Map.{lookup}
 use Rattle.std.specs.Ordering.{int_eq}
@@ -46,6 +46,12 @@ rest_of (e ∷ es) = es
 -- what is marked of this URI
 abbrev pub marked_in : List (String Global × Mark) → List ℕ → Marked
 marked_in es uri = unwrap_or (held_by mark_view es uri) unmarked
+
+-- at this place there is what is marked of the URI
+abbrev pub IsAt : List (String Global × Mark) → List ℕ → ℕ → Type 0
+IsAt es uri at =
+    (key : String Global) × (mark : Mark) × (slice_get es at ≡ Some (key, mark))
+    × (string_bytes key ≡ uri) × (lookup (λ k. bytes_eq uri (string_bytes k)) es ≡ Some mark)
 
 -- one more step of the URI, and all others are as they were
 abbrev pub StepsOn : List ℕ → Step → List (String Global × Mark) → List (String Global × Mark)

@@ -81,12 +81,12 @@ pub record Finds (raw : Raw) (terms : Terms) (before : List Noted) (n : Noted)
 
 abbrev pub IsHeardAs : Raw → Terms → List Noted → Noted → Judged → Type 0
 IsHeardAs raw terms before n heard.Kept = rule_at terms (events_of before) n.event ≡ None
-IsHeardAs raw terms before n (heard.Offence found) = Finds raw terms before n found
+IsHeardAs raw terms before n (heard.Offence found) = Finds raw terms before n found.value
 
 -- the offence that was found, if any
 abbrev pub found_in : Judged → List Offence
 found_in heard.Kept = []
-found_in (heard.Offence found) = offence_view found.offence ∷ []
+found_in (heard.Offence found) = offence_view found.value.offence ∷ []
 
 -- a fault of the frames of this side was heard
 abbrev pub IsBroken : SurveyReader → Side → Type 0
@@ -175,7 +175,7 @@ abbrev pub Gives : Completeness → Bounds → SurveyReader → Told → Told �
 Gives completeness limits e start now past before found (next.Event given) =
     GaveEvent limits e start now past before found given
 Gives completeness limits e start now past before found (next.End end) =
-    Ended completeness limits e start now past before found end
+    Ended completeness limits e start now past before found end.value
 
 abbrev pub Pulls : Completeness → Bounds → SurveyReader → Told → Told → List Raw → List Noted
     → List Offence → Result NextJudged RunFault → Type 0
@@ -223,4 +223,4 @@ abbrev pub GivesBehind : List Record → Completeness → Bounds → SurveyReade
 GivesBehind front completeness limits e start now past before found (next.Event given) =
     GaveBehind front limits e start now past before found given
 GivesBehind front completeness limits e start now past before found (next.End end) =
-    EndedBehind front completeness limits e start now past before found end
+    EndedBehind front completeness limits e start now past before found end.value

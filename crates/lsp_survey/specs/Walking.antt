@@ -1,6 +1,7 @@
 -- What a walk over the events of a session holds, and how one more event is heard.
 use Rattle.std.specs.Prelude.{◌≡◌, ℕ, ℤ, List, [], ◌∷◌, ◌++◌, Bool, ◌&&◌, ◌||◌, Option, Some}
-use Rattle.std.specs.Prelude.{None, is_some, option_and_then, string_bytes, unwrap_or}
+use Rattle.std.specs.Prelude.{Box, None, is_some, option_and_then, string_bytes, unwrap_or}
+use Rattle.std.specs.Global.{Global}
 use Rattle.lsp_docs.specs.Calls.{Call}
 use Rattle.lsp_docs.specs.Terms.{Terms}
 use Rattle.lsp_docs.specs.declared.snapshot.Match.{Match}
@@ -47,6 +48,7 @@ use Rattle.lsp_verdict.specs.Placed.{Raw, content, broken, show}
 use Rattle.lsp_verdict.specs.Shown.{line_at}
 use Rattle.lsp_verdict.specs.Verdict.{no_next, whose}
 use Rattle.lsp_verdict.specs.declared.lines.Lines.{Lines}
+use Rattle.lsp_verdict.specs.declared.offence.Offence as code
 use Rattle.lsp_verdict.specs.declared.verdict.Who.{Who}
 
 -- ---- what is held
@@ -144,9 +146,9 @@ IsShown number uri text other = ⊥
 pub record PassesOver (old new : Replay) (by : Who) (rule : ℕ) (malformed : Option Message)
     (says : Encoding → SyncKind → Option Call) (IsEvent : Event → Type 0)
     (IsSuch : OffendingEvent → Type 0) (given : Judged) : Type 0 where
-  pub found : FoundOffence
+  pub found : Box FoundOffence Global
   pub is_given : given ≡ heard.Offence found
-  pub is_such : IsSuch found.offending
+  pub is_such : IsSuch found.value.offending
   pub counted : Counted old new by
   pub is_broken : (event : Event) (kept : List Event) → IsEvent event
       → Holds old.events.session old.events.docs kept
@@ -167,13 +169,19 @@ pub record PassesOver (old new : Replay) (by : Who) (rule : ℕ) (malformed : Op
   pub said : new.said ≡ old.said
   pub offence : (enc : Encoding) (kind : SyncKind) (notes : List Noted) (event : Event)
       → IsEvent event → Walks old notes
-      → offence_view found.offence
+      → offence_view found.value.offence
       ≡ given_offence (offence_of old.events.docs.terms notes by rule
       (is_noted_lost old.notes.map.entries (says enc kind))
       (follows_passed old.events.docs.terms rule notes event
       || follows_bytes rule (events_of notes) event))
 
 -- ---- what was heard
+
+-- this offence of this event was found
+abbrev pub IsFound : code.Offence → OffendingEvent → Judged → Type 0
+IsFound offence offending given =
+    (found : Box FoundOffence Global) × (given ≡ heard.Offence found)
+    × (found.value ≡ record { offence = offence; offending = offending })
 
 -- what was found is this event, which offends by the rule after these kept events
 abbrev pub IsOffending : Raw → Terms → List Event → ℕ → OffendingEvent → Type 0
@@ -196,7 +204,7 @@ pub record Offends (raw : Raw) (terms : Terms) (before : List Noted) (n : Noted)
 
 abbrev pub IsHeard : Raw → Terms → List Noted → Noted → Judged → Type 0
 IsHeard raw terms before n heard.Kept = rule_at terms (events_of before) n.event ≡ None
-IsHeard raw terms before n (heard.Offence found) = Offends raw terms before n found
+IsHeard raw terms before n (heard.Offence found) = Offends raw terms before n found.value
 
 -- **one more event was heard after these**
 pub record Hears (raw : Raw) (terms : Terms) (w : Replay) (before : List Noted)

@@ -38,5 +38,5 @@ pub enum Judged {
     /// It is kept.
     Kept,
     /// It offends after the kept events before it, and is skipped.
-    Offence(FoundOffence),
+    Offence(Box<FoundOffence>),
 }

@@ -122,7 +122,7 @@ fn list_events<R: Source, W: Sink>(
     loop {
         match events.next(reader)? {
             NextJudged::Event(heard) => list_heard(alloc, writer, listing, tally, heard)?,
-            NextJudged::End(end) => return Ok(end),
+            NextJudged::End(end) => return Ok(Box::into_inner(end)),
         }
     }
 }

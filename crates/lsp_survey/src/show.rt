@@ -102,7 +102,7 @@ fn show_events<R: Source, W: Sink>(
     loop {
         match events.show_next(reader, &mut line, lines)? {
             NextJudged::Event(heard) => show_heard(alloc, writer, line.as_str(), tally, heard)?,
-            NextJudged::End(end) => return Ok(end),
+            NextJudged::End(end) => return Ok(Box::into_inner(end)),
         }
     }
 }

@@ -55,7 +55,7 @@ pub enum NextJudged {
     /// An event.
     Event(Judged),
     /// Its end.
-    End(SurveyEnd),
+    End(Box<SurveyEnd>),
 }
 
 /// How a log ends.
@@ -242,7 +242,15 @@ impl SurveyReader {
 
     /// The result of the end of the log.
     #[inline(never)]
-    fn end(&self, end: replay::End) -> Result<SurveyEnd, Memory>
+    fn end(&self, end: replay::End) -> Result<Box<SurveyEnd>, Memory>
+        ensures { IfOk result (λ told. EndIs self.now end told.value) }
+    {
+        let told = self.ending(end)?;
+        Ok(Box::new(self.alloc, told)?)
+    }
+
+    /// What is told of the end of the log.
+    fn ending(&self, end: replay::End) -> Result<SurveyEnd, Memory>
         ensures { IfOk result (λ told. EndIs self.now end told) }
     {
         match end {

@@ -79,7 +79,7 @@ fn text_by<R: Source>(
     loop {
         match events.next(reader)? {
             NextJudged::Event(heard) => drop(heard),
-            NextJudged::End(end) => return Ok(answer_at(end)),
+            NextJudged::End(end) => return Ok(answer_at(Box::into_inner(end))),
         }
         if events.walk.events.counts.editor == number {
             return Ok(TextAnswer::held(alloc, &events.walk.events.docs, uri)?);

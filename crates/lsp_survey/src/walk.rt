@@ -25,7 +25,7 @@ ghost use Rattle.lsp_types.specs.declared.rules.TheConstants as rules;
 ghost use Rattle.lsp_types.specs.declared.side.Side.TheVariants.{Editor};
 ghost use Rattle.lsp_verdict.specs.Lent.{raw_view};
 ghost use Rattle.lsp_survey.specs.Ending.{lack_by};
-ghost use Rattle.lsp_survey.specs.Walking.{Counted, Hears, IsLine, IsMessageOf, IsOffence};
+ghost use Rattle.lsp_survey.specs.Walking.{Counted, Hears, IsFound, IsLine, IsMessageOf, IsOffence};
 ghost use Rattle.lsp_survey.specs.Walking.{IsRefused, IsShown, IsUnread, NotesKept, NotesMessage};
 ghost use Rattle.lsp_survey.specs.Walking.{NotesSnapshot, PassesOver, Walks, offence_of};
 
@@ -143,9 +143,7 @@ impl Replay {
             → NotesKept (place_of before event) kept.entry self.old self.new)) }
     {
         let place = EventPlace::of(&self.events.counts, &kept);
-        let noted = self.note(place, &kept);
-        drop(kept);
-        noted?;
+        self.note(place, &kept)?;
         Ok(Judged::Kept)
     }
 
@@ -240,7 +238,9 @@ impl Replay {
             → Hears (raw_view raw.entry) self.old.events.docs.terms self.new before heard) }
     {
         match refused {
-            Refused::Message { side, rule, spoken } => self.refuse_message(side, rule, spoken),
+            Refused::Message { side, rule, spoken } => self.refuse_message(
+                alloc, side, rule, spoken,
+            ),
             Refused::Rule(rule) => self.refuse_raw(alloc, rule, raw),
             Refused::Memory => Err(Memory),
         }
@@ -256,7 +256,7 @@ impl Replay {
     {
         match raw {
             Raw::Content { side, content } => self.refuse_content(alloc, side, rule, content),
-            Raw::Broken { side, .. } => Ok(self.refuse_frames(side, rule)),
+            Raw::Broken { side, .. } => self.refuse_frames(alloc, side, rule),
             Raw::Snapshot { version, uri, text } => {
                 self.refuse_snapshot(alloc, rule, version, uri, text)
             }
@@ -264,22 +264,25 @@ impl Replay {
     }
 
     /// Skips a fault of the frames of a side.
-    fn refuse_frames(&mut self, side: Side, rule: u16) -> Judged
+    fn refuse_frames(&mut self, alloc: Global, side: Side, rule: u16) -> Result<Judged, Memory>
         ensures terms { self.new.events.docs.terms ≡ self.old.events.docs.terms }
-        ensures offends { IsOffence result }
-        ensures passes { PassesOver self.old self.new (spec.who_of side) rule None
+        ensures offends { IfOk result IsOffence }
+        ensures passes { IfOk result (PassesOver self.old self.new (spec.who_of side) rule None
             (λ enc kind. None) (λ event. event ≡ fault side rule)
-            (λ what. what ≡ OffendingEvent.Frames side) result }
+            (λ what. what ≡ OffendingEvent.Frames side)) }
     {
         let offence = self.refuse_fault(side, rule, false);
-        Judged::Offence(FoundOffence {
-            offence,
-            offending: OffendingEvent::Frames(side),
-        })
+        found(alloc, offence, OffendingEvent::Frames(side))
     }
 
     /// Skips a message that offends by this rule.
-    fn refuse_message(&mut self, side: Side, rule: u16, spoken: Spoken) -> Result<Judged, Memory>
+    fn refuse_message(
+        &mut self,
+        alloc: Global,
+        side: Side,
+        rule: u16,
+        spoken: Spoken,
+    ) -> Result<Judged, Memory>
         ensures terms { self.new.events.docs.terms ≡ self.old.events.docs.terms }
         ensures offends { IfOk result IsOffence }
         ensures passes { IfOk result
@@ -288,7 +291,7 @@ impl Replay {
             (IsMessageOf side (message_view spoken.message)) (λ what. what ≡ OffendingEvent.Message side spoken)) }
     {
         let breaks = breaks_handshake(false, rule);
-        let told = is_initialized(side, &spoken.message);
+        let unheard = self.unheard_after(side, &spoken.message);
         let other = reopens(&self.events.docs, &spoken.act);
         let on_lost = is_on_lost(&self.notes, &spoken.act)?;
         let late = self.message_follows(side, rule, &spoken.message);
@@ -297,11 +300,8 @@ impl Replay {
         self.sides = self.sides.after_message(side);
         note_refused_act(&mut self.notes, rule, other, &spoken.act)?;
         self.passed.note(side, rule, &spoken.message)?;
-        self.unheard = self.unheard || told;
-        Ok(Judged::Offence(FoundOffence {
-            offence,
-            offending: OffendingEvent::Message { side, spoken },
-        }))
+        self.unheard = unheard;
+        found(alloc, offence, OffendingEvent::Message { side, spoken })
     }
 
     /// Skips a content that breaks this rule.
@@ -329,10 +329,7 @@ impl Replay {
         note_malformed(&mut self.notes, rule, brings)?;
         self.passed.note_asked(side, asked)?;
         let content = Vec::from_slice(alloc, content)?;
-        Ok(Judged::Offence(FoundOffence {
-            offence,
-            offending: OffendingEvent::Content { side, content },
-        }))
+        found(alloc, offence, OffendingEvent::Content { side, content })
     }
 
     /// Skips a snapshot that offends by this rule.
@@ -358,10 +355,11 @@ impl Replay {
         note_refused(&mut self.notes, rule, uri, false, false)?;
         let uri = String::from_str(alloc, uri)?;
         let text = String::from_str(alloc, text)?;
-        Ok(Judged::Offence(FoundOffence {
+        found(
+            alloc,
             offence,
-            offending: OffendingEvent::Snapshot { version, uri, text },
-        }))
+            OffendingEvent::Snapshot { version, uri, text },
+        )
     }
 
     /// Counts a frame or a content of a side that breaks this rule, and gives its offence; the
@@ -446,6 +444,14 @@ impl Replay {
         rule == rules::INITIALIZED_NOT_FIRST && self.unheard
     }
 
+    /// Whether an `initialized` is passed over once this message of this side is.
+    fn unheard_after(&self, side: Side, message: &Message) -> bool
+        ensures { result ≡ (self.now.unheard
+            || (same_side Editor side && tells_initialized (message_view message.now))) }
+    {
+        self.unheard || is_initialized(side, message)
+    }
+
     /// Whether a message of this side that breaks this rule answers a request that was passed over.
     fn answers_passed(&self, side: Side, rule: u16, message: &Message) -> bool
         ensures { result ≡ (rule == rules.RESPONSE_TO_NO_OPEN_REQUEST
@@ -499,6 +505,14 @@ impl Replay {
             Side::Server => self.events.session.awaits_initialize(),
         }
     }
+}
+
+/// That this event offends.
+fn found(alloc: Global, offence: Offence, offending: OffendingEvent) -> Result<Judged, Memory>
+    ensures { IfOk result (IsFound offence offending) }
+{
+    let found = Box::new(alloc, FoundOffence { offence, offending })?;
+    Ok(Judged::Offence(found))
 }
 
 /// Whether a message of this side is the editor's `initialized`.

@@ -34,8 +34,8 @@ ASK name = codes "{\"jsonrpc\":\"2.0\",\"id\":9,\"method\":\"" ++ name ++ codes 
 
 -- Kate's `shutdown`, and the `exit` after it
 shutdown_notified : notes_before (START ++ E (NOTIFY (codes "shutdown")) ∷ EX ∷ [])
-    ≡ codes "note as-notification \"shutdown\" event 4\n"
-    ++ codes "note exit-without-shutdown event 5\nnotes 2\n"
+    ≡ codes "note as-notification \"shutdown\" event 4 editor 3\n"
+    ++ codes "note exit-without-shutdown event 5 editor 4\nnotes 2\n"
 unfolding value punctuate lex content word after_number number_of scan_numeral chars digits
     escape_byte
 shutdown_notified = refl
@@ -44,10 +44,10 @@ shutdown_notified = refl
 asked_and_told : notes_before (START ++ E (NOTIFY (codes "textDocument/hover"))
     ∷ S (ASK (codes "textDocument/publishDiagnostics")) ∷ E (NOTIFY (codes "textDocument/hover"))
     ∷ S (NOTIFY (codes "textDocument/didSave")) ∷ E (ASK (codes "workspace/configuration")) ∷ [])
-    ≡ codes "note as-notification \"textDocument/hover\" event 4\n"
-    ++ codes "note as-request \"textDocument/publishDiagnostics\" event 5\n"
-    ++ codes "note by-server \"textDocument/didSave\" event 7\n"
-    ++ codes "note by-editor \"workspace/configuration\" event 8\nnotes 4\n"
+    ≡ codes "note as-notification \"textDocument/hover\" event 4 editor 3\n"
+    ++ codes "note as-request \"textDocument/publishDiagnostics\" event 5 server 2\n"
+    ++ codes "note by-server \"textDocument/didSave\" event 7 server 3\n"
+    ++ codes "note by-editor \"workspace/configuration\" event 8 editor 5\nnotes 4\n"
 unfolding value punctuate lex content word after_number number_of scan_numeral chars digits
     escape_byte
 asked_and_told = refl
@@ -66,7 +66,8 @@ unfolding value punctuate lex content word after_number number_of scan_numeral c
     escape_byte
 stopped = refl
 
-never_began : notes_before (EX ∷ []) ≡ codes "note exit-without-shutdown event 1\nnotes 1\n"
+never_began : notes_before (EX ∷ [])
+    ≡ codes "note exit-without-shutdown event 1 editor 1\nnotes 1\n"
 unfolding value punctuate lex content word after_number number_of scan_numeral chars digits
     escape_byte
 never_began = refl

@@ -1,19 +1,19 @@
 //! What left a document as it is: which messages set its versions, which equal snapshot has the
 //! greatest version, and which snapshots wait.
 ghost use Rattle.std.specs.Prelude.{◌≡◌, ◌++◌, ◌∷◌, [], None, OnOk, if◌then◌else◌, ℤ, false};
-ghost use Rattle.std.specs.Prelude.{int_lt, not, option_map};
+ghost use Rattle.std.specs.Prelude.{int_lt, not, option_map, IfOk};
 ghost use Rattle.std.specs.List.{find};
 ghost use Rattle.std.specs.Map.{lookup};
 ghost use Rattle.std.specs.Ordering.{int_eq};
 ghost use Rattle.lsp_survey.specs.Marking.{above, is_set_to, last_shown, most_setters, newer};
 ghost use Rattle.lsp_survey.specs.Marking.{newer_of, next_rank, rank_of, stepped, touches, unmarked};
-ghost use Rattle.lsp_survey.specs.LastOnes.{with_room};
 ghost use Rattle.lsp_survey.specs.Marks.{is_first_reached, mark_view, rest_of, waiting_in};
 
+use crate::notes::last_ones::make_room;
 use lsp_replay::EventPlace;
 use lsp_rpc::Memory;
 use std::alloc::Global;
-use std::collections::BTreeMap;
+use std::collections::{BTreeMap, VecDeque};
 
 /// How many of the messages that set a version are held at most: the one of the held version, and
 /// those of as many versions before it as are ever kept.
@@ -59,7 +59,7 @@ type WaitMap = BTreeMap<i32, Vec<EventPlace>>;
 /// What is marked of a document.
 #[derive(Drop)]
 pub(crate) struct Mark {
-    setters: Vec<Setter>,
+    setters: VecDeque<Setter>,
     rank: u64,
     agreed: Option<Shown>,
     waiting: WaitMap,
@@ -71,7 +71,7 @@ impl Mark {
         ensures { mark_view result ≡ unmarked }
     {
         Mark {
-            setters: Vec::new(alloc),
+            setters: VecDeque::new(alloc),
             rank: 0,
             agreed: None,
             waiting: BTreeMap::new(alloc),
@@ -79,10 +79,13 @@ impl Mark {
     }
 
     /// The messages that set the last versions of the standing opening, in order.
-    pub(crate) fn setters(&self) -> &[Setter]
-        ensures { result.now ≡ (mark_view self.now).setters }
+    pub(crate) fn setters(&self, alloc: Global) -> Result<Vec<Setter>, Memory>
+        ensures { IfOk result (λ setters. setters.items ≡ (mark_view self.now).setters) }
     {
-        self.setters.as_slice()
+        let (first, second) = self.setters.as_slices();
+        let mut setters = Vec::from_slice(alloc, first)?;
+        setters.extend_from_slice(second)?;
+        Ok(setters)
     }
 
     /// The equal snapshot of the greatest version.
@@ -130,8 +133,8 @@ impl Mark {
     {
         let rank = next_rank(self.rank);
         let shown = last_of(&self.waiting, version, rank);
-        make_room(&mut self.setters);
-        self.setters.push(Setter {
+        make_room(&mut self.setters, MOST_SETTERS);
+        self.setters.push_back(Setter {
             place,
             version,
             rank,
@@ -147,7 +150,7 @@ impl Mark {
         ensures { mark_view self.new
             ≡ stepped (touches Touch.Compared place version) (mark_view self.old) }
     {
-        let rank = rank_of(self.setters.as_slice(), version);
+        let rank = rank_of(&self.setters, version);
         let shown = Shown {
             place,
             version,
@@ -164,19 +167,9 @@ fn next_rank(rank: u64) -> u64
     rank.saturating_add(1)
 }
 
-/// Drops the oldest message where no more are held.
-fn make_room(setters: &mut Vec<Setter>)
-    ensures { setters.new.items ≡ with_room most_setters setters.old.items }
-{
-    if setters.len() < MOST_SETTERS {
-        return;
-    }
-    let _oldest = setters.remove(0);
-}
-
 /// Which version of its opening this is by one of these messages; 0 where none of them set it.
-fn rank_of(setters: &[Setter], version: i32) -> u64
-    ensures { result ≡ rank_of version setters.now }
+fn rank_of(setters: &VecDeque<Setter>, version: i32) -> u64
+    ensures { result ≡ rank_of version setters.now.items }
 {
     match setter_of(setters, version) {
         Some(setter) => setter.rank,
@@ -185,8 +178,8 @@ fn rank_of(setters: &[Setter], version: i32) -> u64
 }
 
 /// The first of the messages that set this version.
-fn setter_of(setters: &[Setter], version: i32) -> Option<&Setter>
-    ensures { option_map (λ s. s.now) result ≡ find (is_set_to version) setters.now }
+fn setter_of(setters: &VecDeque<Setter>, version: i32) -> Option<&Setter>
+    ensures { option_map (λ s. s.now) result ≡ find (is_set_to version) setters.now.items }
 {
     setters.iter().find(|setter| is_set_to(setter, version))
 }

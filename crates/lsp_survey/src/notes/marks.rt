@@ -1,5 +1,5 @@
 //! The marks of documents, by URI.
-ghost use Rattle.std.specs.Prelude.{◌≡◌, [], List, OnOk};
+ghost use Rattle.std.specs.Prelude.{◌≡◌, [], true, List, IfNone, IfOk, IfSome, OnOk};
 ghost use Rattle.lsp_docs.specs.Terms.{Terms};
 ghost use Rattle.lsp_rpc.specs.View.{act_view};
 ghost use Rattle.lsp_types.specs.declared.change.SyncKind.{SyncKind};
@@ -8,7 +8,7 @@ ghost use Rattle.lsp_verdict.specs.Calls.{call_of};
 ghost use Rattle.lsp_verdict.specs.Event.{Event};
 ghost use Rattle.lsp_survey.specs.Marking.{agreed, closed, recent, steps, touches, unmarked};
 ghost use Rattle.lsp_survey.specs.Marking.{waiting_for};
-ghost use Rattle.lsp_survey.specs.Marks.{AreMarks, DoneBy, ShownBy, StepsOn, marked_in};
+ghost use Rattle.lsp_survey.specs.Marks.{AreMarks, DoneBy, IsAt, ShownBy, StepsOn, marked_in};
 
 use crate::notes::mark::{Mark, Setter, Shown, Touch};
 use indexmap::IndexMap;
@@ -27,6 +27,8 @@ type MarkMap = IndexMap<String, Mark>;
 #[derive(Drop)]
 pub struct Marks {
     map: MarkMap,
+    /// Where in the map the document is that was marked last.
+    last: usize,
 }
 
 impl Marks {
@@ -36,18 +38,24 @@ impl Marks {
     {
         Marks {
             map: IndexMap::new(alloc),
+            last: 0,
         }
     }
 
     /// The messages that set the last versions of a URI, in order, the held one last; at most 17,
     /// and none where it isn't open.
-    pub fn setters(&self, uri: &str) -> &[Setter]
-        ensures { (terms : Terms) (events : List Event) → AreMarks terms self.now.map.entries events
-            → result.now ≡ recent (steps terms uri.now events) }
+    ///
+    /// # Errors
+    /// `Memory` where memory was refused.
+    pub fn setters(&self, uri: &str) -> Result<Vec<Setter>, Memory>
+        ensures { IfOk result (λ setters. (terms : Terms) (events : List Event)
+            → AreMarks terms self.now.map.entries events
+            → setters.items ≡ recent (steps terms uri.now events)) }
     {
+        let alloc = *self.map.allocator();
         match self.map.get(uri) {
-            Some(mark) => mark.setters(),
-            None => &[],
+            Some(mark) => mark.setters(alloc),
+            None => Ok(Vec::new(alloc)),
         }
     }
 
@@ -85,10 +93,10 @@ impl Marks {
     {
         match act {
             Act::DidOpen { uri, version, .. } => {
-                touch(&mut self.map, uri.as_str(), Touch::Reached, place, *version)
+                self.touch(uri.as_str(), Touch::Reached, place, *version)
             }
             Act::DidChange { uri, version, .. } => {
-                touch(&mut self.map, uri.as_str(), Touch::Reached, place, *version)
+                self.touch(uri.as_str(), Touch::Reached, place, *version)
             }
             Act::DidClose { uri } => {
                 close(&mut self.map, uri.as_str());
@@ -113,28 +121,69 @@ impl Marks {
             self.new.map.entries) }
     {
         match answer {
-            Match::Equal => touch(&mut self.map, uri, Touch::Compared, place, version),
-            Match::Waits => touch(&mut self.map, uri, Touch::Awaited, place, version),
+            Match::Equal => self.touch(uri, Touch::Compared, place, version),
+            Match::Waits => self.touch(uri, Touch::Awaited, place, version),
             Match::Missed => Ok(()),
         }
     }
+
+    /// Marks that the event of this place touches a document, at this version.
+    fn touch(
+        &mut self,
+        uri: &str,
+        touch: Touch,
+        place: EventPlace,
+        version: i32,
+    ) -> Result<(), Memory>
+        ensures { OnOk result (StepsOn uri.now
+            (touches touch place version) self.old.map.entries self.new.map.entries) }
+    {
+        let Some(at) = find(&self.map, self.last, uri) else {
+            return touch_first(&mut self.map, uri, touch, place, version);
+        };
+        self.last = at;
+        touch_at(&mut self.map, at, uri, touch, place, version)
+    }
 }
 
-/// Marks that the event of this place touches a document, at this version.
-fn touch(
+/// Where in the map the document of this URI is, if anything is marked of it. The document there
+/// is looked at first; mostly it is the one.
+fn find(map: &MarkMap, first: usize, uri: &str) -> Option<usize>
+    ensures none { IfNone result (marked_in map.now.entries uri.now ≡ unmarked) }
+    ensures found { IfSome result (IsAt map.now.entries uri.now) }
+{
+    if is_at(map, first, uri) {
+        return Some(first);
+    }
+    let (at, _, _) = map.get_full(uri)?;
+    Some(at)
+}
+
+/// Whether the document there has this URI.
+fn is_at(map: &MarkMap, at: usize, uri: &str) -> bool
+    ensures { result ≡ true → IsAt map.now.entries uri.now at }
+{
+    match map.get_index(at) {
+        Some((key, _)) => key.as_str() == uri,
+        None => false,
+    }
+}
+
+/// Marks that the event of this place touches the document there, which has this URI.
+fn touch_at(
     map: &mut MarkMap,
+    at: usize,
     uri: &str,
     touch: Touch,
     place: EventPlace,
     version: i32,
 ) -> Result<(), Memory>
+    requires { IsAt map.old.entries uri.now at }
     ensures { OnOk result (StepsOn uri.now
         (touches touch place version) map.old.entries map.new.entries) }
 {
     let alloc = *map.allocator();
-    let Some(mark) = map.get_mut(uri) else {
-        return touch_first(map, uri, touch, place, version);
-    };
+    let mark = map.get_index_mut(at).unwrap();
     mark.touch(alloc, touch, place, version)
 }
 

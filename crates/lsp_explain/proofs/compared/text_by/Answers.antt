@@ -43,8 +43,8 @@ returns-in-End g c = λ limits start so.
     let gave = rw c.in-End.is at (c.in_ok-heard.ensures.answer limits start inv.past inv.notes
     [] inv.so_far) in
     text_none c.loop-heard.events.completeness c.args.which limits c.next.new.self start
-    (g.R.Source.told c.next.new.reader) inv.past inv.notes c.in-End.end _ inv.ignored
-    c.answer_at.ensures gave
+    (g.R.Source.told c.next.new.reader) inv.past inv.notes c.in-End.end.value _ inv.ignored
+    (rw c.into_inner.ensures at c.answer_at.ensures) gave
 
 pub loop-heard-preserved : goal.loop-heard-preserved
 loop-heard-preserved g c = λ limits start so.
@@ -53,13 +53,13 @@ loop-heard-preserved g c = λ limits start so.
     let gave = rw c.in-Event.is at (c.in_ok-heard.ensures.answer limits start inv.past inv.notes
     [] inv.so_far) in
     let given = subst (GaveEvent limits c.next.new.self start now inv.past inv.notes [])
-    (c.in_ok-answer.ensures.kept (ap (λ o. Ok o) c.in_default.is)) gave in
+    (c.in_ok-answer-in-Event.ensures.kept (ap (λ o. Ok o) c.in_default.is)) gave in
     reads_on limits c.next.new.self start now inv.past inv.notes
     (c.in_ok-heard.ensures.completeness ∙ inv.ignored) given
 
-pub returns-in_err-answer : goal.returns-in_err-answer
-returns-in_err-answer g c =
-    let from = c.from_residual-in_err-answer in
+pub returns-in_err-answer-in-Event : goal.returns-in_err-answer-in-Event
+returns-in_err-answer-in-Event g c =
+    let from = c.from_residual-in_err-answer-in-Event in
     let p = err_from_is_err_and from.result from.ensures.1 in
     rw (p.1, p.2) (λ limits start so.
     let inv = c.loop-heard.invariant limits start so in
@@ -74,7 +74,7 @@ pub returns-in-Some : goal.returns-in-Some
 returns-in-Some g c = λ limits start so.
     let inv = c.loop-heard.invariant limits start so in
     let now = g.R.Source.told c.next.new.reader in
-    let told = rw c.in-Some.is at c.in_ok-answer.ensures.told in
+    let told = rw c.in-Some.is at c.in_ok-answer-in-Event.ensures.told in
     let gave = rw c.in-Event.is at (c.in_ok-heard.ensures.answer limits start inv.past inv.notes
     [] inv.so_far) in
     let given = subst (GaveEvent limits c.next.new.self start now inv.past inv.notes [])

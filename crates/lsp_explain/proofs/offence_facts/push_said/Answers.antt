@@ -16,7 +16,8 @@ returns c = IfOk-weaker c.push_details.result _ _
     let facts = facts_view c.in_ok-facts.facts.items in
     let named = string_bytes c.push_event.new.lines in (
       facts,
-      λ rests shows. c.in_ok-facts.ensures raw event before stands number reads is offends rests
+      λ rests shows. c.in_ok-facts.ensures raw event before stands
+          (c.place_in-place.ensures ∙ number) reads is offends rests
           shows,
       says
           ∙ ap (λ xs. named ++ (fact_lines (facts_view xs)

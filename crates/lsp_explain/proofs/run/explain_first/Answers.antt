@@ -34,7 +34,7 @@ returns-in-Some g c = record {
       let plain = told.2 in
       told_first c.args.events.now.completeness limits c.next.new.self start now inv.hs told.0
       plain.0 c.in-Some.explanation given inv.so_far.are_noted
-      (plain.1 limits start now inv.hs [] given) plain.2;
+      (plain.1 limits start now inv.hs [] told.0 refl given) plain.2;
 }
 
 pub loop-heard-preserved : goal.loop-heard-preserved
@@ -68,9 +68,11 @@ returns-in-End g c = record {
       let ended = rw c.in-End.is at (c.in_ok-heard.ensures.answer limits start (raws_of inv.hs)
       (notes_of inv.hs) [] inv.so_far) in
       let own = subst (λ k. Ended k limits c.next.new.self start now (raws_of inv.hs)
-      (notes_of inv.hs) [] c.in-End.end) inv.wanted ended in
-      end_told c.args.events.now.completeness limits c.next.new.self start now inv.hs c.in-End.end
-      c.in_ok-explain_end-in-End.field-0 own c.in_ok-explain_end-in-End.ensures;
+      (notes_of inv.hs) [] c.in-End.end.value) inv.wanted ended in
+      end_told c.args.events.now.completeness limits c.next.new.self start now inv.hs
+      c.in-End.end.value
+      c.in_ok-explain_end-in-End.field-0 own
+      (rw c.into_inner.ensures at c.in_ok-explain_end-in-End.ensures);
 }
 
 pub returns-in_err-heard : goal.returns-in_err-heard

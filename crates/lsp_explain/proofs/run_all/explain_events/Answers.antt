@@ -74,7 +74,7 @@ returns-in_err-explain_heard-in-Event g c =
     (c.in_err-explain_heard-in-Event.ensures.tells limits start now inv.hs inv.found gave.0))
 
 pub returns-in-End : goal.returns-in-End
-returns-in-End g c = λ limits start so.
+returns-in-End g c = rw c.into_inner.ensures (λ limits start so.
     let inv = c.loop-heard.invariant limits start so in
     let ended = rw c.in-End.is at (c.in_ok-heard.ensures.answer limits start (raws_of inv.hs)
     (notes_of inv.hs) inv.found inv.so_far) in
@@ -83,5 +83,5 @@ returns-in-End g c = λ limits start so.
     ended_telling c.args.events.now.completeness limits c.loop-heard.events c.next.new.self
     c.loop-heard.tally start (g.R.Source.told c.loop-heard.reader)
     (g.R.Source.told c.next.new.reader) (g.W.Sink.told c.args.writer.now)
-    (g.W.Sink.told c.loop-heard.writer) inv c.in-End.end c.in_ok-heard.ensures.terms ended
-    behind
+    (g.W.Sink.told c.loop-heard.writer) inv c.in-End.end.value c.in_ok-heard.ensures.terms ended
+    behind)

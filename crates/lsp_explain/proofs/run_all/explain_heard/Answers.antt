@@ -1,4 +1,4 @@
-use Rattle.std.proofs.Common.{[], sym, subst}
+use Rattle.std.proofs.Common.{[], refl, sym, subst}
 use Rattle.std.specs.List.{AllZip}
 use Rattle.lsp_explain.specs.Standing.{terms_in}
 use Rattle.lsp_frame.proofs.Writing.{wrote_nothing}
@@ -22,4 +22,4 @@ pub returns-in-Offence-clause-tells : goal.returns-in-Offence-clause-tells
 returns-in-Offence-clause-tells g c =
     subst (λ h. TellsHeard c.args.events.now h (g.W.Sink.told c.args.writer.now)
     (g.W.Sink.told c.explain_cause.new.writer) c.explain_cause.result) (sym c.in-Offence.is)
-    c.explain_cause.ensures
+    (c.explain_cause.ensures c.in-Offence.found refl)

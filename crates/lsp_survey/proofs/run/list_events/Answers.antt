@@ -83,7 +83,7 @@ returns-in_err-list_heard-in-Event g c =
     inv.wrote more _ begins failures c.in_err-list_heard-in-Event.ensures.tells)
 
 pub returns-in-End : goal.returns-in-End
-returns-in-End g c = λ limits start so.
+returns-in-End g c = rw c.into_inner.ensures (λ limits start so.
     let inv = c.loop-heard.invariant limits start so in
     let k = c.args.events.now.completeness in
     let gave = rw c.in-End.is at (c.in_ok-heard.ensures.answer limits start inv.past inv.notes
@@ -97,4 +97,4 @@ returns-in-End g c = λ limits start so.
           inv.same gave;
       tally = inv.tally;
       wrote = inv.wrote;
-    }
+    })

@@ -86,7 +86,7 @@ returns-in_err-show_heard-in-Event g c =
     c.as_str.result.now c.as_str.ensures.value c.in_err-show_heard-in-Event.ensures.tells)
 
 pub returns-in-End : goal.returns-in-End
-returns-in-End g c = λ limits start so.
+returns-in-End g c = rw c.into_inner.ensures (λ limits start so.
     let inv = c.loop-line.invariant limits start so in
     let gave = rw c.in-End.is at (c.in_ok-heard.ensures.answer limits start inv.past inv.notes
     inv.found inv.so_far) in
@@ -101,4 +101,4 @@ returns-in-End g c = λ limits start so.
       wrote = subst (λ (t : Terms). Wrote (g.W.Sink.told c.args.writer.now)
           (g.W.Sink.told c.loop-line.writer) (bytes_of (events_shown c.args.lines t inv.notes)))
           (sym c.in_ok-heard.ensures.terms) inv.wrote;
-    }
+    })

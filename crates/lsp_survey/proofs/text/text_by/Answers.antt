@@ -48,7 +48,7 @@ returns-in-End g c = λ limits start so.
     inv.found inv.so_far) in
     text_none c.loop-heard.events.completeness limits c.next.new.self start
     (g.R.Source.told c.next.new.reader) c.args.number c.args.uri.now inv.past inv.notes inv.found
-    c.in-End.end _ inv.ignored inv.few c.answer_at.ensures gave
+    c.in-End.end.value _ inv.ignored inv.few (rw c.into_inner.ensures at c.answer_at.ensures) gave
 
 pub loop-heard-preserved : goal.loop-heard-preserved
 loop-heard-preserved g c = λ limits start so.

@@ -87,7 +87,7 @@ returns-in_ok-end-in-Ok-End-clause-answer g c = λ limits start past before foun
     let told = rw (c.in-Ok-End.is, c.in-Ok-End.field-0-is) at c.next.follows.holds-at-none in
     let f = record c.args.self.now { log = c.next.follows.lender-at-none } in
     ended_next c.args.self.now.completeness limits c.args.self.now f start _ _ past before found
-    c.in-Ok-End.end c.in_ok-end-in-Ok-End.field-0 so told refl refl
+    c.in-Ok-End.end c.in_ok-end-in-Ok-End.field-0.value so told refl refl
     c.in_ok-end-in-Ok-End.ensures
 
 pub returns-in_ok-end-in-Ok-End-clause-later : goal.returns-in_ok-end-in-Ok-End-clause-later
@@ -95,5 +95,5 @@ returns-in_ok-end-in-Ok-End-clause-later g c = λ limits start past before found
     let told = rw (c.in-Ok-End.is, c.in-Ok-End.field-0-is) at c.next.follows.holds-at-none in
     let f = record c.args.self.now { log = c.next.follows.lender-at-none } in
     ended_next_behind c.args.self.now.completeness limits c.args.self.now f start _ _ past before
-    found c.in-Ok-End.end c.in_ok-end-in-Ok-End.field-0 so told refl refl
+    found c.in-Ok-End.end c.in_ok-end-in-Ok-End.field-0.value so told refl refl
     c.in_ok-end-in-Ok-End.ensures

@@ -11,7 +11,8 @@ pub returns-then-answers : goal.returns-then-answers
 returns-then-answers c = λ before event walks is.
     let replay = c.args.self.now in
     let rule = c.args.rule in
-    ap (λ answers. answers || rule == rules.INITIALIZED_NOT_FIRST && replay.unheard)
+    c.if-answers.true
+    ∙ ap (λ answers. answers || rule == rules.INITIALIZED_NOT_FIRST && replay.unheard)
     (sym c.if-answers.true ∙ c.answers_passed-answers.ensures)
     ∙ passed_late replay.events.docs.terms before replay.passed walks.passed replay.unheard
     walks.unheard rule c.args.side c.args.message.now event is

@@ -7,7 +7,8 @@ use Rattle.lsp_survey.proofs.walk.Replay.message_follows.Goals as goal
 
 pub returns-then-passed : goal.returns-then-passed
 returns-then-passed c = λ before event walks is.
-    ap (λ passed. passed || follows_bytes c.args.rule (events_of before) event)
+    c.if-passed.true
+    ∙ ap (λ passed. passed || follows_bytes c.args.rule (events_of before) event)
     (sym c.if-passed.true ∙ c.follows_passed-passed.ensures before event walks is)
 
 pub returns-else-passed : goal.returns-else-passed

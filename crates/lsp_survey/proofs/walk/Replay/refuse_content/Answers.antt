@@ -1,5 +1,9 @@
 use Rattle.std.specs.Prelude.{List, Option, ℕ, option_map, string_bytes, ◌||◌}
 use Rattle.std.proofs.Common.{◌≡◌, ◌∙◌, false, None, Some, refl, sym, ap, subst}
+use Rattle.std.proofs.lemmas.Result.{IfOk-weaker}
+use Rattle.lsp_verdict.specs.Given.{offence_view}
+use Rattle.lsp_survey.specs.declared.offending.FoundOffence.{FoundOffence}
+use Rattle.lsp_survey.specs.Walking.{IsUnread}
 use Rattle.std.proofs.Math.Bool.{or-false}
 use Rattle.lsp_survey.specs.Notes.{Leaves}
 use Rattle.lsp_rpc.specs.Ident.{Ident, id_view}
@@ -14,6 +18,7 @@ use Rattle.lsp_verdict.specs.Event.{Event, fault}
 use Rattle.lsp_verdict.specs.Offences.{asks, breaks_handshake, events_of, follows_bytes}
 use Rattle.lsp_verdict.specs.Offences.{follows_passed, is_initialized_by, may_answer}
 use Rattle.lsp_verdict.specs.Verdict.{who_of}
+use Rattle.lsp_survey.proofs.Passing.{found_offends}
 use Rattle.lsp_survey.proofs.walk.Replay.refuse_content.Goals as goal
 
 pub returns-clause-passes : goal.returns-clause-passes
@@ -23,13 +28,15 @@ returns-clause-passes c =
     let rule = c.args.rule in
     let read = c.in_ok-asks.ensures in
     let malformed = read.0 in
-    let meant = read.2 in (
+    let meant = read.2 in
+    IfOk-weaker c.found.result _ _ (λ heard given. (
       malformed,
       read.1,
       record {
-        found = _;
-        is_given = refl;
-        is_such = (refl, c.in_ok-content.ensures.items);
+        found = given.0;
+        is_given = given.1;
+        is_such = subst (λ (f : FoundOffence). IsUnread c.args.side c.args.content.now f.offending)
+            (sym given.2) (refl, c.in_ok-content.ensures.items);
         counted = record {
           session = refused.counted.session;
           documents = refused.counted.documents;
@@ -59,9 +66,15 @@ returns-clause-passes c =
         marks = refused.marks;
         openings = refused.openings;
         said = refused.said;
-        offence = λ enc kind notes event is w. refused.offence notes w
+        offence = λ enc kind notes event is w.
+            ap (λ (f : FoundOffence). offence_view f.offence) given.2
+            ∙ refused.offence notes w
             ∙ ap (λ e. given_offence (offence_of old.events.docs.terms notes (who_of c.args.side)
             rule false (follows_passed old.events.docs.terms rule notes e
             || follows_bytes rule (events_of notes) e))) (sym is);
       },
-    )
+    )) c.found.ensures
+
+pub returns-clause-offends : goal.returns-clause-offends
+returns-clause-offends c =
+    IfOk-weaker c.found.result _ _ (λ given found. found_offends _ _ given found) c.found.ensures

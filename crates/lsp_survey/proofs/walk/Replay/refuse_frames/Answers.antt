@@ -1,5 +1,8 @@
 use Rattle.std.specs.Prelude.{◌||◌}
 use Rattle.std.proofs.Common.{◌≡◌, ◌∙◌, false, None, Some, refl, sym, ap, subst}
+use Rattle.std.proofs.lemmas.Result.{IfOk-weaker}
+use Rattle.lsp_verdict.specs.Given.{offence_view}
+use Rattle.lsp_survey.specs.declared.offending.FoundOffence.{FoundOffence}
 use Rattle.std.proofs.Math.Bool.{or-false}
 use Rattle.lsp_survey.specs.Notes.{Leaves}
 use Rattle.lsp_survey.specs.Sides.{sides_after}
@@ -11,6 +14,7 @@ use Rattle.lsp_verdict.specs.Offences.{follows_passed, is_initialized_by, may_an
 use Rattle.lsp_verdict.specs.Verdict.{who_of}
 use Rattle.lsp_survey.proofs.Noting.{nothing_said}
 use Rattle.lsp_survey.proofs.PassedSteps.{fault_passes}
+use Rattle.lsp_survey.proofs.Passing.{found_offends}
 use Rattle.lsp_survey.proofs.walk.Replay.refuse_frames.Goals as goal
 
 pub returns-clause-passes : goal.returns-clause-passes
@@ -18,10 +22,10 @@ returns-clause-passes c =
     let refused = c.refuse_fault-offence.ensures in
     let old = c.args.self.now in
     let rule = c.args.rule in
-    record {
-      found = _;
-      is_given = refl;
-      is_such = refl;
+    IfOk-weaker c.found.result _ _ (λ heard given. record {
+      found = given.0;
+      is_given = given.1;
+      is_such = ap (λ (f : FoundOffence). f.offending) given.2;
       counted = refused.counted;
       is_broken = λ event kept is holds. refused.broken kept holds
           ∙ ap (λ e. old.broken || (breaks_handshake false rule || may_answer kept e)) (sym is);
@@ -35,8 +39,14 @@ returns-clause-passes c =
       marks = refused.marks;
       openings = refused.openings;
       said = refused.said;
-      offence = λ enc kind notes event is w. refused.offence notes w
+      offence = λ enc kind notes event is w.
+          ap (λ (f : FoundOffence). offence_view f.offence) given.2
+          ∙ refused.offence notes w
           ∙ ap (λ e. given_offence (offence_of old.events.docs.terms notes (who_of c.args.side) rule
           false (follows_passed old.events.docs.terms rule notes e
           || follows_bytes rule (events_of notes) e))) (sym is);
-    }
+    }) c.found.ensures
+
+pub returns-clause-offends : goal.returns-clause-offends
+returns-clause-offends c =
+    IfOk-weaker c.found.result _ _ (λ given found. found_offends _ _ given found) c.found.ensures

@@ -1,5 +1,8 @@
 use Rattle.std.specs.Prelude.{◌&&◌, ◌||◌}
 use Rattle.std.proofs.Common.{◌≡◌, ◌∙◌, Bool, Some, None, false, refl, sym, ap, subst}
+use Rattle.std.proofs.lemmas.Result.{IfOk-weaker}
+use Rattle.lsp_verdict.specs.Given.{offence_view}
+use Rattle.lsp_survey.specs.declared.offending.FoundOffence.{FoundOffence}
 use Rattle.lsp_rpc.specs.View.{act_view, message_view}
 use Rattle.lsp_survey.specs.Notes.{Leaves, is_noted_lost}
 use Rattle.lsp_survey.specs.Passed.{Passes}
@@ -13,6 +16,7 @@ use Rattle.lsp_verdict.specs.Offences.{wants_handshake, wants_text}
 use Rattle.lsp_verdict.specs.Verdict.{no_next, who_of}
 use Rattle.lsp_survey.proofs.PassedSteps.{message_initialized, message_passes}
 use Rattle.lsp_survey.proofs.SidesSteps.{message_after, message_answers}
+use Rattle.lsp_survey.proofs.Passing.{found_offends}
 use Rattle.lsp_survey.proofs.walk.Replay.refuse_message.Goals as goal
 
 pub returns-clause-passes : goal.returns-clause-passes
@@ -22,10 +26,10 @@ returns-clause-passes c =
     let side = c.args.side in
     let rule = c.args.rule in
     let said = message_view c.args.spoken.message in
-    record {
-      found = _;
-      is_given = refl;
-      is_such = refl;
+    IfOk-weaker c.found.result _ _ (λ heard given. record {
+      found = given.0;
+      is_given = given.1;
+      is_such = ap (λ (f : FoundOffence). f.offending) given.2;
       counted = let counted = rw c.who_of.ensures at refused.counted in record {
         session = counted.session;
         documents = counted.documents;
@@ -40,9 +44,8 @@ returns-clause-passes c =
           c.note.new.self (subst (λ (p : Passed). Passes rule side said p c.note.new.self)
           refused.passed c.in_ok-note.ensures);
       unheard = λ event is.
-          ap (λ b. b || c.is_initialized-told.result) refused.unheard
-          ∙ ap (λ b. old.unheard || b) (c.is_initialized-told.ensures
-          ∙ message_initialized side said event is);
+          c.unheard_after-unheard.ensures
+          ∙ ap (λ b. old.unheard || b) (message_initialized side said event is);
       noted = λ enc kind kept holds.
           let call = call_of enc kind (act_view c.args.spoken.act) in
           let leaves = subst (λ (w : Notes). Leaves (Some rule) None c.reopens-other.result call
@@ -56,7 +59,8 @@ returns-clause-passes c =
       said = refused.said;
       offence = λ enc kind notes event is walks.
           let lost = wants_handshake rule && is_handshake_lost old.events.docs.terms notes in
-          (rw c.who_of.ensures at refused.offence notes walks)
+          ap (λ (f : FoundOffence). offence_view f.offence) given.2
+          ∙ (rw c.who_of.ensures at refused.offence notes walks)
           ∙ ap (λ b. given_offence (record {
             no = no_next rule (who_of side) (events_of notes);
             follows = b;
@@ -67,4 +71,8 @@ returns-clause-passes c =
           ∙ ap (λ late. lost || (wants_text rule && is_noted_lost old.notes.map.entries
           (call_of enc kind (act_view c.args.spoken.act)) || late))
           (c.message_follows-late.ensures notes event walks is));
-    }
+    }) c.found.ensures
+
+pub returns-clause-offends : goal.returns-clause-offends
+returns-clause-offends c =
+    IfOk-weaker c.found.result _ _ (λ given found. found_offends _ _ given found) c.found.ensures

@@ -17,9 +17,11 @@ returns-in-Content-clause-heard c =
 pub returns-in-Broken-clause-heard : goal.returns-in-Broken-clause-heard
 returns-in-Broken-clause-heard c =
     let at = c.in-Broken in
-    rw at.is (λ before walks refused.
-    frames_refused c.args.self.now c.refuse_frames.new.self before c.refuse_frames.result walks
-    at.side _ c.args.rule refused c.refuse_frames.ensures.passes)
+    rw at.is (IfOk-weaker c.refuse_frames.result _ _
+    (λ given passes before walks refused.
+    frames_refused c.args.self.now c.refuse_frames.new.self before given walks at.side _ c.args.rule
+    refused passes)
+    c.refuse_frames.ensures.passes)
 
 pub returns-in-Snapshot-clause-heard : goal.returns-in-Snapshot-clause-heard
 returns-in-Snapshot-clause-heard c =

@@ -3,6 +3,10 @@ use Rattle.std.proofs.Common.{◌≡◌, None, Some, false, refl, sym, ap, subst
 use Rattle.std.proofs.Math.Bool.{or-false}
 use Rattle.std.proofs.lemmas.Int.{to_z-of_z}
 use mir.Val.{SFits}
+use Rattle.std.proofs.lemmas.Result.{IfOk-weaker}
+use Rattle.lsp_verdict.specs.Given.{offence_view}
+use Rattle.lsp_survey.specs.declared.offending.FoundOffence.{FoundOffence}
+use Rattle.lsp_survey.specs.Walking.{IsShown}
 use Rattle.lsp_docs.specs.Calls.{shows}
 use Rattle.lsp_survey.specs.Notes.{Leaves, is_noted_lost}
 use Rattle.lsp_rpc.specs.Ident.{id_view}
@@ -18,6 +22,7 @@ use Rattle.lsp_verdict.specs.Offences.{is_initialized_by}
 use Rattle.lsp_verdict.specs.Offences.{may_answer, passes, wants_handshake, wants_text}
 use Rattle.lsp_verdict.specs.Verdict.{no_next}
 use Rattle.lsp_verdict.specs.declared.verdict.Who.TheVariants as who
+use Rattle.lsp_survey.proofs.Passing.{found_offends}
 use Rattle.lsp_survey.proofs.walk.Replay.refuse_snapshot.Goals as goal
 
 pub returns-clause-passes : goal.returns-clause-passes
@@ -28,14 +33,15 @@ returns-clause-passes c =
     let rule = c.args.rule in
     let call = shows c.args.uri.now c.args.version (chars c.args.text.now) in
     let is_lost = c.in_ok-on_lost.ensures in
-    record {
-      found = _;
-      is_given = refl;
-      is_such = (
-        to_z-of_z w32 c.args.version fits,
-        c.in_ok-uri.ensures.ok,
-        c.in_ok-text.ensures.ok,
-      );
+    IfOk-weaker c.found.result _ _ (λ heard given. record {
+      found = given.0;
+      is_given = given.1;
+      is_such = subst (λ (f : FoundOffence). IsShown c.args.version c.args.uri.now c.args.text.now
+          f.offending) (sym given.2) (
+            to_z-of_z w32 c.args.version fits,
+            c.in_ok-uri.ensures.ok,
+            c.in_ok-text.ensures.ok,
+          );
       counted = record {
         session = refused.counted.session;
         documents = refused.counted.documents;
@@ -61,7 +67,8 @@ returns-clause-passes c =
       said = refused.said;
       offence = λ enc kind notes event is walks.
           let lost = wants_handshake rule && is_handshake_lost old.events.docs.terms notes in
-          refused.offence notes walks
+          ap (λ (f : FoundOffence). offence_view f.offence) given.2
+          ∙ refused.offence notes walks
           ∙ ap (λ b. given_offence (record {
             no = no_next rule who.Snapshot (events_of notes);
             follows = b;
@@ -71,4 +78,8 @@ returns-clause-passes c =
           ∙ ap (λ e. lost || (wants_text rule && is_noted_lost old.notes.map.entries (Some call)
           || (follows_passed old.events.docs.terms rule notes e
           || follows_bytes rule (events_of notes) e))) (sym is));
-    }
+    }) c.found.ensures
+
+pub returns-clause-offends : goal.returns-clause-offends
+returns-clause-offends c =
+    IfOk-weaker c.found.result _ _ (λ given found. found_offends _ _ given found) c.found.ensures
