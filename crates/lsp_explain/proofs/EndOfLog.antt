@@ -209,7 +209,8 @@ module _ (completeness : Completeness) (limits : Bounds) (e : SurveyReader) (sta
         judges = ap verdict_view adds.verdict_is ∙ judges;
         says =
             adds.text_is (events_of (notes_of hs)) (stands_after e (notes_of hs) ended.walks)
-            ∙ ap (λ l. l ++ remark_lines (remarks_of (verdict_view plain.verdict) noticed_here)) says
+            ∙ ap (λ l. l ++ remark_lines (remarks_of (verdict_view plain.verdict) noticed_here))
+            says
             ∙ ap (λ v. text ++ remark_lines (remarks_of v noticed_here)) judges
             ∙ ap (λ l. text ++ remark_lines (remarks_of (first_verdict found bad s) l)) (sym w.1);
       }) ended.whole

@@ -92,9 +92,9 @@ one_line start uris i u old new lt is before now =
 -- of a Yes where a snapshot was compared, they are the lines of these documents
 pub unshown_lines : (v : Verdict) (uris : List (List ℕ)) → says_little v ≡ false
     → is_yes v ≡ true → flat_map unshown_line uris ≡ lines (uncompared v uris)
-unshown_lines v uris much yes =
+unshown_lines v uris much said =
     sym (flat_map-map remark_line lacks_snapshot uris)
-    ∙ ap (λ b. lines (if b then map lacks_snapshot uris else [])) (sym yes)
+    ∙ ap (λ b. lines (if b then map lacks_snapshot uris else [])) (sym said)
     ∙ ap (λ b. lines (if b then compares_nothing ∷ []
     else (if is_yes v then map lacks_snapshot uris else []))) (sym much)
 

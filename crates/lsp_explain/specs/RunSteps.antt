@@ -86,11 +86,15 @@ pub record Tells (limits : Bounds) (records : List Record) (terms : Terms) (hs :
   pub verdict_is : verdict_view x.verdict ≡ told.no
   pub text_is : string_bytes x.text ≡ report told.no ++ said_of told
 
+-- what was found, in its box
+abbrev pub Boxed : Type 0
+Boxed = Box FoundOffence Global
+
 -- what was found is told, whatever was heard before it
 abbrev pub TellsOf : SurveyReader → FoundOffence → Explanation → Type 0
 TellsOf e found x =
     (limits : Bounds) (start now : Told) (hs : List Heard) (prior : List Offence)
-    (boxed : Box FoundOffence Global) (same : boxed.value ≡ found)
+    (boxed : Boxed) (same : boxed.value ≡ found)
     (given : GaveEvent limits e start now (raws_of hs) (notes_of hs) prior
     (heard.Offence boxed))
     → Tells limits given.so_far.records (terms_in e) hs (record {

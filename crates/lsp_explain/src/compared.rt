@@ -1,5 +1,5 @@
 //! The whole texts of a verdict that says that two texts differ.
-ghost use Rattle.std.specs.Prelude.{◌≡◌, [], None, Ok, IfOk, IfSome, option_map};
+ghost use Rattle.std.specs.Prelude.{◌≡◌, Box, [], None, Ok, IfOk, IfSome, option_map};
 ghost use Rattle.lsp_docs.specs.Terms.{Terms};
 ghost use Rattle.lsp_frame.specs.Bounds.{Bounds};
 ghost use Rattle.lsp_frame.specs.Told.{Told};
@@ -9,6 +9,7 @@ ghost use Rattle.lsp_survey.specs.Reads.{IsFresh, SoFar};
 ghost use Rattle.lsp_verdict.specs.Given.{verdict_view};
 ghost use Rattle.lsp_explain.specs.Compared as spec;
 ghost use Rattle.lsp_explain.specs.Compared.{AnswersCompared, AreTexts, IsAnswer, sound_answer};
+ghost use Rattle.lsp_explain.specs.RunSteps.{Boxed};
 
 use lsp_facts::{TwoTexts, message_texts, shown_texts};
 use lsp_frame::{Limits, Sink, Source};
@@ -101,8 +102,8 @@ fn text_heard(
 ) -> Result<Option<TextAnswer>, Memory>
     ensures kept { result ≡ Ok None → heard ≡ Judged.Kept }
     ensures told { IfOk result
-        (λ answer. IfSome answer (λ x. (found : Box FoundOffence Global)
-        × (heard ≡ Judged.Offence found) × IsAnswer which events.now found.value (answer_view x))) }
+        (λ answer. IfSome answer (λ x. (found : Boxed) × (heard ≡ Judged.Offence found)
+        × IsAnswer which events.now found.value (answer_view x))) }
 {
     match heard {
         Judged::Kept => Ok(None),

@@ -1,11 +1,12 @@
 //! The notes on a session, which change no verdict.
 ghost use Rattle.std.specs.Prelude.{◌≡◌, ◌++◌, List, Some, OnOk, IfOk, length, map, option_map};
-ghost use Rattle.std.specs.Prelude.{string_bytes};
+ghost use Rattle.std.specs.Prelude.{◌∷◌, codes, string_bytes};
 ghost use Rattle.std.specs.List.{flat_map};
 ghost use Rattle.lsp_survey.specs.Misuses.{misused_view, misused_views};
 ghost use Rattle.lsp_verdict.specs.Event.{Event};
 ghost use Rattle.lsp_verdict.specs.Given.{verdict_view};
-ghost use Rattle.lsp_verdict.specs.Report.{encoding_name};
+ghost use Rattle.lsp_verdict.specs.Report.{encoding_name, line};
+ghost use Rattle.lsp_facts.specs.Lines.{place_words};
 ghost use Rattle.lsp_explain.specs.Remarks as spec;
 ghost use Rattle.lsp_explain.specs.Remarks.{calls_wrongly, count_line, exit_remarks, exits_abruptly};
 ghost use Rattle.lsp_explain.specs.Remarks.{line_if, misuse_line, name_remarks, names_another};
@@ -124,12 +125,17 @@ fn push_exit_at(lines: &mut String, place: EventPlace) -> Result<(), Memory>
     ensures { OnOk result (string_bytes lines.new
         ≡ string_bytes lines.old ++ remark_line (exits_abruptly place)) }
 {
+    push_placed(lines, "exit-without-shutdown", place)
+}
+
+/// Adds the line of a note on the event of a place.
+fn push_placed(lines: &mut String, note: &str, place: EventPlace) -> Result<(), Memory>
+    ensures { OnOk result (string_bytes lines.new ≡ string_bytes lines.old
+        ++ line (codes "note" ∷ note.now ∷ place_words place)) }
+{
     let EventPlace { event, who, number } = place;
     let name = who_name(who);
-    writeln!(
-        lines,
-        "note exit-without-shutdown event {event} {name} {number}"
-    )?;
+    writeln!(lines, "note {note} event {event} {name} {number}")?;
     Ok(())
 }
 

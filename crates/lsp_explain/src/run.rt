@@ -1,6 +1,6 @@
 //! Explains the verdict on a log.
 ghost use Rattle.std.specs.Prelude.{◌≡◌, ◌+◌, ◌++◌, List, [], ℕ, None, Ok, Err, IfOk, IfSome, OnOk};
-ghost use Rattle.std.specs.Prelude.{option_map, codes, string_bytes};
+ghost use Rattle.std.specs.Prelude.{Box, option_map, codes, string_bytes};
 ghost use Rattle.std.specs.Io.KnownBytes.{IsAtEnd};
 ghost use Rattle.lsp_frame.specs.Bounds.{Bounds, IsInRange};
 ghost use Rattle.lsp_frame.specs.Told.{Told, Took};
@@ -19,7 +19,7 @@ ghost use Rattle.lsp_explain.specs.Explained.{flaw_lines, said_of};
 ghost use Rattle.lsp_facts.specs.FlawFacts.{Rests, flaw_facts, rest_of, side_by};
 ghost use Rattle.lsp_facts.specs.Lines.{fact_lines, usual_line};
 ghost use Rattle.lsp_explain.specs.RunSteps.{AddsNotes, EndsWhole, ExplainsLog, IsSound, TellsEnd};
-ghost use Rattle.lsp_explain.specs.RunSteps.{TellsFirst, TellsOf, flaw_held, side_of};
+ghost use Rattle.lsp_explain.specs.RunSteps.{Boxed, TellsFirst, TellsOf, flaw_held, side_of};
 ghost use Rattle.lsp_explain.specs.RunSteps.{summary_behind};
 ghost use Rattle.lsp_explain.specs.Standing.{StandsAfter, terms_in};
 
@@ -138,8 +138,8 @@ fn explain_heard(
 ) -> Result<Option<Explanation>, Memory>
     ensures kept { result ≡ Ok None → heard ≡ Judged.Kept }
     ensures told { IfOk result
-        (λ answer. IfSome answer (λ x. (found : Box FoundOffence Global)
-        × (heard ≡ Judged.Offence found) × TellsFirst events.now found.value x)) }
+        (λ answer. IfSome answer (λ x. (found : Boxed) × (heard ≡ Judged.Offence found)
+        × TellsFirst events.now found.value x)) }
 {
     match heard {
         Judged::Kept => Ok(None),

@@ -1,6 +1,6 @@
 //! Explains all that is wrong with a log.
 ghost use Rattle.std.specs.Prelude.{◌≡◌, ◌+◌, ◌++◌, ◌∷◌, [], List, string_bytes, map, codes};
-ghost use Rattle.std.specs.Prelude.{decimal, option_map, Ok, IfOk, OnOk};
+ghost use Rattle.std.specs.Prelude.{Box, decimal, option_map, Ok, IfOk, OnOk};
 ghost use Rattle.std.specs.List.{flat_map};
 ghost use Rattle.lsp_frame.specs.Bounds.{Bounds, IsInRange};
 ghost use Rattle.lsp_frame.specs.Told.{Told};
@@ -16,7 +16,7 @@ ghost use Rattle.lsp_explain.specs.AllExplained.{ExplainsAll, cause_lines};
 ghost use Rattle.lsp_explain.specs.AllSteps.{CausesTold, IsClosing, IsLast, TellsAll, TellsCauses};
 ghost use Rattle.lsp_explain.specs.AllSteps.{TellsHeard, ends_said};
 ghost use Rattle.lsp_explain.specs.Explained.{flaw_lines};
-ghost use Rattle.lsp_explain.specs.RunSteps.{flaw_held, rests_held};
+ghost use Rattle.lsp_explain.specs.RunSteps.{Boxed, flaw_held, rests_held};
 ghost use Rattle.lsp_explain.specs.Standing.{StandsAfter, terms_in};
 
 use crate::run::{Explanation, explain_found, explain_listed, explain_sound, flaw_text, side_by};
@@ -145,7 +145,7 @@ fn explain_cause<W: Sink>(
     writer: &mut W,
     found: &FoundOffence,
 ) -> Result<(), RunFault>
-    ensures { (boxed : Box FoundOffence Global) → boxed.value ≡ found.now
+    ensures { (boxed : Boxed) → boxed.value ≡ found.now
         → TellsHeard events.now (Judged.Offence boxed) (W.told writer.old) (W.told writer.new)
         result }
 {

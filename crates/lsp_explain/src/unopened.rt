@@ -78,7 +78,7 @@ fn push_similar(
         → facts_view facts.new.items ≡ facts_view facts.old.items
         ++ spec.similar_facts (terms_in events.now) before uri.now) }
 {
-    let sought = sought(alloc, uri)?;
+    let sought = Sought::of(alloc, uri)?;
     push_spelled(alloc, facts, events, &sought)
 }
 
@@ -168,15 +168,17 @@ struct Sought {
     spelling: Vec<u8>,
 }
 
-fn sought(alloc: Global, uri: &str) -> Result<Sought, Memory>
-    ensures { IfOk result (λ sought. (sought.size ≡ length uri.now)
-        × (sought.spelling.items ≡ spelled.folded uri.now)) }
-{
-    let spelling = folded(alloc, uri)?;
-    Ok(Sought {
-        size: uri.len(),
-        spelling,
-    })
+impl Sought {
+    fn of(alloc: Global, uri: &str) -> Result<Sought, Memory>
+        ensures { IfOk result (λ sought. (sought.size ≡ length uri.now)
+            × (sought.spelling.items ≡ spelled.folded uri.now)) }
+    {
+        let spelling = folded(alloc, uri)?;
+        Ok(Sought {
+            size: uri.len(),
+            spelling,
+        })
+    }
 }
 
 /// Whether a URI differs from the sought one in its spelling alone, and is at most three times as
