@@ -28,7 +28,7 @@ mod text_answer;
 pub use event::{EventOutcome, run_event};
 pub use event_laws::{event_is_numbered, one_event, some_event};
 pub use events::Events;
-pub use fault::Refused;
+pub use fault::{Fault, Refused};
 pub use frames::run_frames;
 pub use heard::{EventPlace, Heard};
 pub use lines::{fill_event_line, write_event_line};
