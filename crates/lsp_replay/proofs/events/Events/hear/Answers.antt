@@ -16,7 +16,7 @@ returns-in_ok-spoken-in-Content-clause-ok g c =
     let hear = c.in_ok-spoken-in-Content in
     rw at.is (λ events holds.
     message_keeps at.side at.content.now hear.spoken c.args.self.now.docs.terms
-    c.args.self.now.counts c.add.new.counts c.hear_content.new.self.session
+    c.args.self.now.counts c.add.new.self c.hear_content.new.self.session
     c.hear_content.new.self.docs events (hear.ensures.ok events holds)
     (λ all event counts own. c.add.ensures all event
     (subst (λ (w : Counts). AreCounts w all) (sym hear.ensures.counts) counts)
