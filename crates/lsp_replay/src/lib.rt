@@ -16,7 +16,7 @@ mod summary;
 mod text_answer;
 
 pub use events::Events;
-pub use fault::Refused;
+pub use fault::{Fault, Refused};
 pub use heard::{EventPlace, Heard};
 pub use lines::{fill_event_line, write_event_line};
 pub use log_events::{End, LogEvents, Next};

@@ -3,6 +3,7 @@ ghost use Rattle.std.specs.Prelude.{◌≡◌, ◌&&◌, ◌||◌, [], Bool, Lis
 ghost use Rattle.std.specs.Prelude.{Option, chars, ℕ, ◌==◌, ◌++◌, ◌∷◌, ◌<◌, ◌^◌, length, string_bytes};
 ghost use Rattle.lsp_docs.specs.Calls.{shows};
 ghost use Rattle.lsp_docs.specs.Terms.{terms_of};
+ghost use Rattle.lsp_replay.specs.Apart.{Says};
 ghost use Rattle.lsp_replay.specs.Standing.{Holds};
 ghost use Rattle.lsp_rpc.specs.Message.{Message as AMessage};
 ghost use Rattle.lsp_rpc.specs.View.{act_view, message_view};
@@ -15,7 +16,9 @@ ghost use Rattle.lsp_verdict.specs.Offences.{follows_bytes, is_handshake_lost, m
 ghost use Rattle.lsp_verdict.specs.Offences.{follows_passed, wants_handshake, wants_text};
 ghost use Rattle.lsp_verdict.specs.Offences.{tells_initialized};
 ghost use Rattle.lsp_verdict.specs.Placed.{Reads};
+ghost use Rattle.lsp_verdict.specs.Placed as placed;
 ghost use Rattle.lsp_verdict.specs.Verdict as spec;
+ghost use Rattle.lsp_verdict.specs.Verdict.{whose};
 ghost use Rattle.lsp_replay.specs.Lines.{IsHeard};
 ghost use Rattle.lsp_replay.specs.Places.{place_of};
 ghost use Rattle.lsp_session.specs.Sent.{other_side, response_id, same_side};
@@ -94,10 +97,87 @@ impl Replay {
         ensures heard { IfOk result (λ heard. (before : List Noted) → Walks self.old before
             → Hears (raw_view raw.entry) self.old.events.docs.terms self.new before heard) }
     {
+        match raw {
+            Raw::Content { side, content } => self.hear_content(alloc, side, content),
+            _ => self.hear_other(alloc, raw),
+        }
+    }
+
+    /// Hears the next event, which is not a content.
+    fn hear_other(&mut self, alloc: Global, raw: Raw<'_>) -> Result<Judged, Memory>
+        ensures terms { self.new.events.docs.terms ≡ self.old.events.docs.terms }
+        ensures heard { IfOk result (λ heard. (before : List Noted) → Walks self.old before
+            → Hears (raw_view raw.entry) self.old.events.docs.terms self.new before heard) }
+    {
         match self.events.hear(raw) {
             Ok(kept) => self.keep(kept),
             Err(refused) => self.pass_over(alloc, raw, refused),
         }
+    }
+
+    /// Hears the next event, a content of this side.
+    fn hear_content(
+        &mut self,
+        alloc: Global,
+        side: Side,
+        content: &[u8],
+    ) -> Result<Judged, Memory>
+        ensures terms { self.new.events.docs.terms ≡ self.old.events.docs.terms }
+        ensures heard { IfOk result (λ heard. (before : List Noted) → Walks self.old before
+            → Hears (placed.content side content.now) self.old.events.docs.terms self.new before
+            heard) }
+    {
+        match self.events.read(side, content) {
+            Ok(spoken) => self.hear_message(alloc, side, content, spoken),
+            Err(refused) => self.pass_over(alloc, Raw::Content { side, content }, refused),
+        }
+    }
+
+    /// Hears the message that the next event is, a content of this side. Where it is kept it is only
+    /// lent, never moved.
+    fn hear_message(
+        &mut self,
+        alloc: Global,
+        side: Side,
+        content: &[u8],
+        spoken: Spoken,
+    ) -> Result<Judged, Memory>
+        ensures terms { self.new.events.docs.terms ≡ self.old.events.docs.terms }
+        ensures heard { IfOk result (λ heard. (before : List Noted) → Walks self.old before
+            → Says self.old.events.session side content.now (message_view spoken.message)
+            (act_view spoken.act)
+            → Hears (placed.content side content.now) self.old.events.docs.terms self.new before
+            heard) }
+    {
+        match self.events.follow(side, &spoken) {
+            Ok(()) => self.keep_message(side, &spoken),
+            Err(fault) => {
+                let refused = fault.refuse(side, spoken);
+                self.pass_over(alloc, Raw::Content { side, content }, refused)
+            }
+        }
+    }
+
+    /// Counts a message of this side that was followed, and takes it over.
+    fn keep_message(&mut self, side: Side, spoken: &Spoken) -> Result<Judged, Memory>
+        ensures same { (self.new.events.session ≡ self.old.events.session)
+            × (self.new.events.docs ≡ self.old.events.docs) × (self.new.broken ≡ self.old.broken)
+            × (self.new.passed ≡ self.old.passed) × (self.new.unheard ≡ self.old.unheard) }
+        ensures counts { (before : List Event) (event : Event)
+            → AreCounts self.old.events.counts before → whose event ≡ spec.who_of side
+            → AreCounts self.new.events.counts (before ++ event ∷ []) }
+        ensures keeps { IfOk result (λ heard. (heard ≡ Judged.Kept)
+            × ((before : List Event) (event : Event)
+            → AreCounts self.new.events.counts (before ++ event ∷ [])
+            → spec.who_of side ≡ whose event
+            → NotesMessage (place_of before event) side (message_view spoken.now.message)
+            (act_view spoken.now.act) self.old self.new)) }
+    {
+        let who = who_of(side);
+        self.events.counts.add(who);
+        let place = EventPlace::last(&self.events.counts, who);
+        self.note_message(place, side, spoken)?;
+        Ok(Judged::Kept)
     }
 
     /// Hears the next event as [`hear`](Replay::hear) does, and makes the text the line of one that
