@@ -28,3 +28,6 @@ returns-in-Ok c =
 
 pub returns-in-Some : goal.returns-in-Some
 returns-in-Some c = near_starts c.args.limits.now c.args.bytes.now c.min.result c.in-Some.size c.in-Some.ensures
+
+pub returns-in-Some-2 : goal.returns-in-Some-2
+returns-in-Some-2 c = near_starts c.args.limits.now c.args.bytes.now c.min.result c.in-Some-2.size c.in-Some-2.ensures
