@@ -10,7 +10,6 @@ use Rattle.lsp_frame.specs.Start.{StartsWithHeader, StartsWithNone}
 use Rattle.lsp_frame.specs.Told.{Told, Gave}
 use Rattle.lsp_frame.specs.Decoder.{State, StandsFor, empty, room_for, taken}
 use Rattle.lsp_frame.proofs.Pulls.{taken_open}
-use borrow.Rule.Slice.PartMut.{put_mid}
 use Rattle.lsp_frame.specs.Pulling.{Misses, MissesNone, window_of, GavePast, PassesAll}
 use Rattle.lsp_frame.specs.declared.decoder.Missing.{Missing}
 use Rattle.lsp_frame.specs.declared.start.FrameSize.{FrameSize}
@@ -164,18 +163,7 @@ emptied limits items left start end more fault s is none full =
     ∙ ap (λ (n : ℕ). record (empty limits) { room = n }) full
     ∙ ap (λ (x : State). record (empty x.limits) { room = room_for x more }) is
 
--- ---- a window before the rest
-
--- a window of the bytes before a place leaves those after it
-pub window_in_front : (items slice window tail : List ℕ) (start len : ℕ) → slice ≡ items → length window ≡ start
-    → start ≤ len → len ≡ length items
-    → take len (put_mid 0 start slice window ++ tail) ≡ window ++ drop start items
-window_in_front items slice window tail start len same is within full =
-    let written : List ℕ = put_mid 0 start slice window in
-    let all : length written ≡ len =
-    omega (arith, length-append window (drop start slice), length-drop start slice, ap length same,
-    is, within, full) in
-    take_at written tail len all ∙ ap (λ (w : List ℕ). window ++ drop start w) same
+-- ---- a content that stays where it is
 
 -- so much room is there already
 room_same : (limits : Bounds) (items : List ℕ) (start end more : ℕ) (fault : Option ℕ) → more ≤ start
@@ -185,7 +173,7 @@ room_same limits items start end more fault room from fits =
     omega (arith, length-drop start (take end items), length-take end items, room, from, fits)
 
 -- the same rest after other bytes
-rest_same : (items left : List ℕ) (start end : ℕ) → drop start left ≡ drop start items
+pub rest_same : (items left : List ℕ) (start end : ℕ) → drop start left ≡ drop start items
     → drop start (take end left) ≡ drop start (take end items)
 rest_same items left start end same =
     sym (drop_take start end left) ∙ ap (take (end - start)) same ∙ drop_take start end items

@@ -1,9 +1,9 @@
 -- The header part of any fields, and one that begins with the default content type.
-use Rattle.std.proofs.Common.{◌≡◌, ℕ, ◌+◌, ◌<◌, ◌≤◌, Bool, true, false, List, [], ◌∷◌, ◌++◌, length, take, refl, sym, ap, subst, ◌∙◌, append_assoc, arith, inl, inr}
+use Rattle.std.proofs.Common.{◌≡◌, ℕ, ◌+◌, ◌-◌, ◌<◌, ◌≤◌, Bool, true, false, List, [], ◌∷◌, ◌++◌, length, take, refl, sym, ap, subst, ◌∙◌, append_assoc, arith, inl, inr}
 use Rattle.std.specs.Prelude.{Ok, ◌||◌}
 use Rattle.std.specs.List.{flat_map, list_all, AllByRecursion}
-use Rattle.std.proofs.lemmas.Bool.{cases_lt, and_from, and_parts, true≢false}
-use Rattle.std.proofs.lemmas.List.{length-append}
+use Rattle.std.proofs.lemmas.Bool.{cases_lt, and_from, and_parts}
+use Rattle.std.proofs.lemmas.List.{length-append, length-take}
 use Rattle.std.proofs.lemmas.List.Folds.{list_all-append}
 use Rattle.std.proofs.lemmas.List.Sums.{list_all-from_AllPass}
 use Rattle.lsp_frame.specs.Bounds.{Bounds}
@@ -95,7 +95,7 @@ after_line : (fs : List Field) (more back : List ℕ) → AllByRecursion IsField
 after_line fs [] back each later e =
     let tails : flat_map line fs ++ line_end ≡ 13 ∷ 10 ∷ back = cc e in
     ends_first fs back each tails
-after_line fs (x ∷ []) back each later e = let wrong : 10 ≡ 13 = cc e in absurd (omega arith)
+after_line fs (x ∷ []) back each later e = let wrong : ◌≡◌ {A = ℕ} 10 13 = cc e in absurd (omega (arith, wrong))
 after_line fs (x ∷ y ∷ more) back each later e =
     let tails : flat_map line fs ++ line_end ≡ more ++ (blank_line ++ back) = cc e in
     later more tails
@@ -103,13 +103,17 @@ after_line fs (x ∷ y ∷ more) back each later e =
 ends_once : (fs : List Field) (back : List ℕ) → AllByRecursion IsField fs → (front : List ℕ)
     → flat_map line fs ++ line_end ≡ front ++ (blank_line ++ back) → back ≡ []
 ends_once [] back each front e =
-    absurd (omega (arith, ap length e, length-append front (blank_line ++ back),
-    length-append blank_line back))
+    absurd (omega (
+      arith,
+      ap length e,
+      length-append front (blank_line ++ back),
+      length-append blank_line back,
+    ))
 ends_once (f ∷ fs) back each front e =
     let rest = flat_map line fs ++ line_end in
     let m = return_after (unended f) front (10 ∷ rest) (10 ∷ 13 ∷ 10 ∷ back)
     (unended_solid f each.0) (sym (line_cut f rest) ∙ sym (cons_lines f fs) ∙ e) in
-    after_line fs m.0 back each.1 (λ other same. ends_once fs back each.1 other same) m.2.1
+    after_line fs m.0 back each.1 (λ other same. ends_once fs back each.1 other same) m.2
 
 ends_so : (f : Field) (fs : List Field)
     → (front : List ℕ) × (flat_map line (f ∷ fs) ++ line_end ≡ front ++ blank_line)
@@ -118,7 +122,7 @@ ends_so f (g ∷ fs) =
     let last = ends_so g fs in (
       line f ++ last.0,
       cons_lines f (g ∷ fs) ∙ ap (λ (w : List ℕ). line f ++ w) last.1
-      ∙ sym (append_assoc (line f) last.0 blank_line),
+          ∙ sym (append_assoc (line f) last.0 blank_line),
     )
 
 spelled_part : (limits : Bounds) (header : List ℕ) (f : Field) (fs : List Field)
@@ -156,12 +160,19 @@ typed_starts limits bytes rest size whole short starts =
     let h = size.header in
     let header = take h rest in
     let cut : take (57 + h) (line usual_type ++ rest) ≡ line usual_type ++ header =
-    take_beyond (57 + h) (line usual_type) rest (omega arith) in
+    take_beyond (57 + h) (line usual_type) rest (omega arith)
+    ∙ ap (λ (k : ℕ). line usual_type ++ take k rest) (let e : 57 + h - 57 ≡ h = omega arith in e) in
     let front : take (57 + h) bytes ≡ line usual_type ++ header = ap (take (57 + h)) whole ∙ cut in
     let fits = starts.fits in
     let len : length (line usual_type ++ header) ≤ length bytes =
-    omega (arith, ap length front, ap length whole, length-append (line usual_type) rest,
-    length-append (line usual_type) header, fits) in
+    omega (
+      arith,
+      ap length whole,
+      length-append (line usual_type) rest,
+      length-append (line usual_type) header,
+      length-take h rest,
+      fits,
+    ) in
     let both = typed_says limits header size.content (omega (arith, len, short)) starts.says in
     record {
       fits = omega (arith, ap length whole, length-append (line usual_type) rest, fits);

@@ -4,7 +4,7 @@ use Rattle.std.specs.Prelude.{codes, decimal}
 use Rattle.std.proofs.lemmas.List.{take-append-drop, take_all, length-drop}
 use Rattle.lsp_frame.specs.Header.{blank_line}
 use Rattle.lsp_frame.specs.Told.{Told, Took, after_failure}
-use Rattle.lsp_frame.specs.Sink.{Wrote, Stopped, Writes, canonical}
+use Rattle.lsp_frame.specs.Sink.{Wrote, Stopped, Writes}
 use Rattle.lsp_frame.proofs.Telling.{took_nothing, took_then}
 
 pub wrote_nothing : (a : Told) → Wrote a a []
@@ -83,12 +83,3 @@ header_is len digits start first second whole back front =
     ∙ front
     ∙ ap (λ (w : List ℕ). codes "Content-Length: " ++ w)
     (back ∙ ap (λ (w : List ℕ). decimal len ++ w) filled_end)
-
--- a canonical frame is its header part and its content
-pub frame_parts : (content : List ℕ)
-    → (codes "Content-Length: " ++ (decimal (length content) ++ blank_line)) ++ content
-    ≡ canonical content
-frame_parts content =
-    append_assoc (codes "Content-Length: ") (decimal (length content) ++ blank_line) content
-    ∙ ap (λ (w : List ℕ). codes "Content-Length: " ++ w)
-    (append_assoc (decimal (length content)) blank_line content)

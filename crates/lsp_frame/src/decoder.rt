@@ -196,7 +196,22 @@ fn go_past<R: Source>(source: &mut R, window: &mut [u8], most: usize) -> Result<
     Ok(past)
 }
 
-/// Takes this many bytes of a source over those before a place in a buffer, as [`go_past`] does.
+/// Takes this many bytes of a source over those before a place, as [`go_past`] does.
+fn go_past_before<R: Source>(
+    source: &mut R,
+    bytes: &mut [u8],
+    start: usize,
+    most: usize,
+) -> Result<usize, Failed>
+    requires { (0 < start) × (start ≤ length bytes.old) }
+    ensures past { GoesPast (R.told source.old) (R.told source.new) most result }
+    ensures rest { drop start bytes.new ≡ drop start bytes.old }
+    ensures len { length bytes.new ≡ length bytes.old }
+{
+    go_past(source, &mut bytes[..start], most)
+}
+
+/// The same in a buffer.
 fn go_past_over<R: Source>(
     source: &mut R,
     buffer: &mut Vec<u8>,
@@ -208,7 +223,7 @@ fn go_past_over<R: Source>(
     ensures rest { drop start buffer.new.items ≡ drop start buffer.old.items }
     ensures len { length buffer.new.items ≡ length buffer.old.items }
 {
-    go_past(source, &mut buffer[..start], most)
+    go_past_before(source, buffer, start, most)
 }
 
 impl Decoder {
@@ -368,9 +383,9 @@ impl Decoder {
                 self.ahead = None;
                 Ok(true)
             }
-            Err(failed) => {
+            Err(Failed) => {
                 self.settle();
-                Err(failed.into())
+                Err(PullFault::Read)
             }
         }
     }

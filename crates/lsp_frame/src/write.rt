@@ -7,7 +7,6 @@ use crate::io::{Failed, Sink};
 use itoa::{Buffer, write_digits};
 use thiserror::Error;
 
-
 /// A call of the sink failed, so that the bytes written are only the first of those due.
 #[derive(Clone, Copy, Debug, PartialEq, Eq, Error)]
 #[error("a write failed")]

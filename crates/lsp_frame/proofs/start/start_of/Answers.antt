@@ -29,5 +29,5 @@ returns-in-Ok c =
 pub returns-in-Some : goal.returns-in-Some
 returns-in-Some c = near_starts c.args.limits.now c.args.bytes.now c.min.result c.in-Some.size c.in-Some.ensures
 
-pub returns-in-Some-2 : goal.returns-in-Some-2
-returns-in-Some-2 c = near_starts c.args.limits.now c.args.bytes.now c.min.result c.in-Some-2.size c.in-Some-2.ensures
+pub returns-in-Some-typed_size : goal.returns-in-Some-typed_size
+returns-in-Some-typed_size c = near_starts c.args.limits.now c.args.bytes.now c.min.result c.in-Some-typed_size.size c.in-Some-typed_size.ensures

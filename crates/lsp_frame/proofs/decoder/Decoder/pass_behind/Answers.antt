@@ -1,4 +1,4 @@
-use Rattle.std.proofs.Common.{◌≡◌, ◌+◌, ◌-◌, ◌≤◌, ap, length, [], arith, ◌∙◌}
+use Rattle.std.proofs.Common.{◌+◌, ◌-◌, ◌≤◌, length, arith, ◌∙◌}
 use Rattle.lsp_frame.specs.Pulling.{window_of}
 use Rattle.lsp_frame.proofs.Passing.{passed, emptied}
 use Rattle.lsp_frame.proofs.Pulls.{pulled_len, room_is}
