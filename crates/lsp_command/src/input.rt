@@ -8,6 +8,7 @@ ghost use Rattle.lsp_command.specs.Beginnings.{kept};
 ghost use Rattle.lsp_command.specs.Ports.{first_bytes, input_error};
 
 use crate::beginning::Beginning;
+use crate::command_line::Task;
 use crate::io_state::IoState;
 use crate::pace::Supply;
 use lsp_frame::{Failed, Source};
@@ -17,6 +18,15 @@ use std::io::{BufRead, BufReader, Read};
 
 /// How many bytes are asked for at once.
 const GATHERED: usize = 65_536;
+
+/// How many bytes are read ahead of a run of this task. Frames are read in pieces of that size, so
+/// nothing is read ahead of them: each piece goes straight to the run.
+fn ahead_of(task: &Task<'_>) -> usize {
+    match task {
+        Task::Frames(_) => 0,
+        _ => GATHERED,
+    }
+}
 
 /// How many bytes are appended at once, at most. They come from what was read ahead, so that no
 /// more than these are ever zeroed before they are written over.
@@ -33,10 +43,11 @@ pub struct BufferedInput<'a, R> {
 }
 
 impl<'a, R: Read + Drop> BufferedInput<'a, R> {
-    /// A source that has not failed and has given nothing yet.
+    /// A source for a run of this task, that has not failed and has given nothing yet.
     pub fn new(
         alloc: Global,
         reader: R,
+        task: &Task<'_>,
         supply: &'a Supply,
     ) -> Result<BufferedInput<'a, R>, AllocError>
         ensures remaining { IfOk result (λ input.
@@ -47,7 +58,8 @@ impl<'a, R: Read + Drop> BufferedInput<'a, R> {
             (⟦<BufferedInput<'a, R> as Source>⟧.told input).failures ≡ 0) }
     {
         Ok(BufferedInput {
-            reader: BufReader::with_capacity(alloc, GATHERED, reader).map_err(|_| AllocError)?,
+            reader: BufReader::with_capacity(alloc, ahead_of(task), reader)
+                .map_err(|_| AllocError)?,
             beginning: Beginning::new(),
             tally: IoState::new(),
             supply,
