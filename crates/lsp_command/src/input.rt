@@ -19,18 +19,26 @@ use std::io::{BufRead, BufReader, Read};
 /// How many bytes are asked for at once.
 const GATHERED: usize = 65_536;
 
-/// How many bytes are read ahead of a run of this task. Frames are read in pieces of that size, so
-/// nothing is read ahead of them: each piece goes straight to the run.
-fn ahead_of(task: &Task<'_>) -> usize {
-    match task {
-        Task::Frames(_) => 0,
-        _ => GATHERED,
-    }
-}
-
 /// How many bytes are appended at once, at most. They come from what was read ahead, so that no
 /// more than these are ever zeroed before they are written over.
 const PIECE: usize = 2_048;
+
+/// A reader of what a run of this task asks for. Frames are asked for by as much as is read ahead of
+/// other tasks, so nothing is read ahead of them: each piece goes straight to the run.
+fn reader_for<R: Read + Drop>(
+    alloc: Global,
+    reader: R,
+    task: &Task<'_>,
+) -> Result<BufReader<R>, AllocError>
+    ensures { IfOk result (λ ahead. Consumes (R.remaining reader)
+        (⟦<BufReader<R> as Read>⟧.remaining ahead) []) }
+{
+    match task {
+        // With room for a byte, since the bytes of a reader without room are not known.
+        Task::Frames(_) => BufReader::with_capacity(alloc, 1, reader).map_err(|_| AllocError),
+        _ => BufReader::with_capacity(alloc, GATHERED, reader).map_err(|_| AllocError),
+    }
+}
 
 /// A source over a reader of std, which reads ahead. It keeps what the reader gave first, and the
 /// error by which it last failed, and notes whether anything is left of what was read ahead.
@@ -58,8 +66,7 @@ impl<'a, R: Read + Drop> BufferedInput<'a, R> {
             (⟦<BufferedInput<'a, R> as Source>⟧.told input).failures ≡ 0) }
     {
         Ok(BufferedInput {
-            reader: BufReader::with_capacity(alloc, ahead_of(task), reader)
-                .map_err(|_| AllocError)?,
+            reader: reader_for(alloc, reader, task)?,
             beginning: Beginning::new(),
             tally: IoState::new(),
             supply,

@@ -40,6 +40,7 @@ fn digits_in_front(bytes: &[u8]) -> usize
 
 /// The size of the frame whose header part the bytes begin with, where that is the one line
 /// `Content-Length: ` and digits, which is the common case.
+#[inline(always)]
 fn plain_size(limits: &Limits, bytes: &[u8]) -> Option<FrameSize>
     requires { IsInRange limits.now }
     ensures { IfSome result (λ size. StartsWithHeader limits.now bytes.now size) }
@@ -61,6 +62,7 @@ fn plain_size(limits: &Limits, bytes: &[u8]) -> Option<FrameSize>
 
 /// The same where the line of the default content type comes first. Whatever else stands there is
 /// left to [`read_header`].
+#[inline(never)]
 fn typed_size(limits: &Limits, bytes: &[u8]) -> Option<FrameSize>
     requires range { IsInRange limits.now }
     requires near { length bytes.now ≤ limits.now.header }
