@@ -41,6 +41,10 @@ impl<S: TextStore> History<S> {
         }
     }
 
+    pub(crate) fn alloc(&self) -> Global {
+        *self.revisions.allocator()
+    }
+
     /// Whether one is of this version.
     pub(crate) fn has(&self, version: i32) -> bool
         ensures { result ≡ list_any (is_at version) self.now }
