@@ -1,4 +1,4 @@
-use Rattle.std.proofs.Common.{ap, ◌∙◌, sym, subst, List, ◌++◌, ◌∷◌, [], w32, rules}
+use Rattle.std.proofs.Common.{◌≡◌, None, ap, ◌∙◌, sym, subst, List, ◌++◌, ◌∷◌, [], w32, rules}
 use Rattle.std.proofs.lemmas.Int.{to_z-of_z}
 use mir.Val.{SFits}
 use Rattle.lsp_docs.specs.Calls.{Call, changes}
@@ -22,7 +22,7 @@ returns-in_err-change-clause-rule g c =
     let n = c.args.version in
     let cs = edits_of c.args.changes.now in
     let call = changes c.args.encoding c.args.kind uri n cs in
-    let told = simp to_z-of_z at c.texts.ensures in
+    let told = simp to_z-of_z at c.texts-due.ensures in
     let rule = simp to_z-of_z at c.in_err-change.ensures.rule in
     let same = change-due was.terms (queue_of uri was.waits.queues) _ c.args.encoding c.args.kind n
     cs (held_in uri was.documents) told in
@@ -53,7 +53,7 @@ returns-clause-accepted g c = λ calls h.
     let n = c.args.version in
     let cs = edits_of c.args.changes.now in
     let call = changes c.args.encoding c.args.kind uri n cs in
-    let told = simp to_z-of_z at c.texts.ensures in
+    let told = simp to_z-of_z at c.texts-due.ensures in
     let allowed = simp to_z-of_z at c.in_ok-change.ensures.allowed in
     let same = change-due was.terms (queue_of uri was.waits.queues) _ c.args.encoding c.args.kind n
     cs (held_in uri was.documents) told in
@@ -72,7 +72,7 @@ returns-clause-stands g c = λ calls h.
     let n = c.args.version in
     let cs = edits_of c.args.changes.now in
     let call = changes c.args.encoding c.args.kind uri n cs in
-    let told = simp to_z-of_z at c.texts.ensures in
+    let told = simp to_z-of_z at c.texts-due.ensures in
     let allowed = simp to_z-of_z at c.in_ok-change.ensures.allowed in
     let same = change-due was.terms (queue_of uri was.waits.queues) _ c.args.encoding c.args.kind n
     cs (held_in uri was.documents) told in

@@ -1,7 +1,7 @@
-use Rattle.std.proofs.Common.{◌≡◌, [], Some, option_map, string_bytes, sym, ap}
+use Rattle.std.proofs.Common.{◌≡◌, [], Some, None, option_map, string_bytes, sym, ap}
 use Rattle.std.proofs.Common.{subst, ◌∙◌, w32}
 use Rattle.std.specs.Map.{set_value}
-use Rattle.std.specs.Option.{option_copied}
+use Rattle.std.specs.Option.{option_copied, option_copied_mut}
 use Rattle.std.specs.Prelude.{unwrap_or}
 use Rattle.lsp_types.specs.Texts.{is_text}
 use Rattle.std.proofs.lemmas.Int.{to_z-of_z}
@@ -21,6 +21,16 @@ use Rattle.lsp_docs.proofs.opened.OpenDocuments.change.Goals as goal
 
 abbrev seen : (g : Over) → Document g.row.S.Denot → Version
 seen g d = versioned d.held.version (g.S.TextStore.content d.held.store)
+
+pub returns-in_default-clause-rule : goal.returns-in_default-clause-rule
+returns-in_default-clause-rule g c =
+    let uri = c.args.uri.now in
+    let absent = sym c.get_str_mut.ensures.value ∙ ap option_copied_mut c.in_default.is in
+    let none : held_in uri c.args.self.now.held ≡ None =
+    ap (λ s. held_in uri s.held) (sym c.self.view_is)
+    ∙ (held_in-of (seen g) uri c.self.inside.documents ∙ ap (option_map (seen g)) absent) in
+    ap (rule_with c.args.terms.limit c.args.terms.line_ends (unwrap_or (option_copied c.args.due) [])
+    c.args.encoding c.args.kind c.args.version (edits_of c.args.changes.now)) none
 
 pub returns-clause-held : goal.returns-clause-held
 returns-clause-held g c =
