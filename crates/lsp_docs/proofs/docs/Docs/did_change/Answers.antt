@@ -29,9 +29,9 @@ returns-in_err-change-clause-rule g c =
     let named : (calls : List Call) → Stands s calls
     → Names (call_rule s.terms calls call) c.in_err-change.field-0.0 =
     λ calls h. subst (λ x. Names (call_rule x.terms calls call) c.in_err-change.field-0.0)
-        c.self.view_is
-        (names-stands was calls call _ (subst (λ x. Stands x calls) (sym c.self.view_is) h)
-        (subst (λ r. Names r c.in_err-change.field-0.0) same rule)) in
+    c.self.view_is
+    (names-stands was calls call _ (subst (λ x. Stands x calls) (sym c.self.view_is) h)
+    (subst (λ r. Names r c.in_err-change.field-0.0) same rule)) in
     search rules
 
 pub returns-in_err-change-clause-memory : goal.returns-in_err-change-clause-memory
