@@ -30,7 +30,8 @@ ghost use Rattle.lsp_verdict.specs.Lent.{raw_view};
 ghost use Rattle.lsp_survey.specs.Ending.{lack_by};
 ghost use Rattle.lsp_survey.specs.Walking.{Counted, Hears, IsFound, IsLine, IsMessageOf, IsOffence};
 ghost use Rattle.lsp_survey.specs.Walking.{IsRefused, IsShown, IsUnread, NotesKept, NotesMessage};
-ghost use Rattle.lsp_survey.specs.Walking.{NotesSnapshot, PassesOver, Walks, offence_of};
+ghost use Rattle.lsp_survey.specs.Walking.{NotesSnapshot, PassesMessage, PassesOver, Walks};
+ghost use Rattle.lsp_survey.specs.Walking.{offence_of};
 
 use crate::notes::{
     Malformed, Marks, Notes, Openings, Passed, SessionNotes, Sides, breaks_handshake, is_on_lost,
@@ -361,9 +362,21 @@ impl Replay {
         ensures terms { self.new.events.docs.terms ≡ self.old.events.docs.terms }
         ensures offends { IfOk result IsOffence }
         ensures passes { IfOk result
-            (PassesOver self.old self.new (spec.who_of side) rule None
-            (λ enc kind. call_of enc kind (act_view spoken.act))
-            (IsMessageOf side (message_view spoken.message)) (λ what. what ≡ OffendingEvent.Message side spoken)) }
+            (PassesMessage self.old self.new side rule (act_view spoken.act)
+            (message_view spoken.message) (λ what. what ≡ OffendingEvent.Message side spoken)) }
+    {
+        let offence = self.pass_message(side, rule, &spoken)?;
+        found(alloc, offence, OffendingEvent::Message { side, spoken })
+    }
+
+    /// Counts and notes a message that offends by this rule, and gives its offence. The message is
+    /// lent, so that nothing of it is dropped where memory is refused.
+    fn pass_message(&mut self, side: Side, rule: u16, spoken: &Spoken) -> Result<Offence, Memory>
+        ensures terms { self.new.events.docs.terms ≡ self.old.events.docs.terms }
+        ensures passes { IfOk result (λ offence. (offending : OffendingEvent) (given : Judged)
+            → IsFound offence offending given
+            → PassesMessage self.old self.new side rule (act_view spoken.now.act)
+            (message_view spoken.now.message) (λ what. what ≡ offending) given) }
     {
         let breaks = breaks_handshake(false, rule);
         let unheard = self.unheard_after(side, &spoken.message);
@@ -376,7 +389,7 @@ impl Replay {
         note_refused_act(&mut self.notes, rule, other, &spoken.act)?;
         self.passed.note(side, rule, &spoken.message)?;
         self.unheard = unheard;
-        found(alloc, offence, OffendingEvent::Message { side, spoken })
+        Ok(offence)
     }
 
     /// Skips a content that breaks this rule.
