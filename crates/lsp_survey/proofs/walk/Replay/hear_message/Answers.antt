@@ -5,7 +5,6 @@ use Rattle.lsp_replay.proofs.Following.{message_keeps}
 use Rattle.lsp_replay.proofs.Hearing.{refused_as}
 use Rattle.lsp_replay.specs.Places.{place_of}
 use Rattle.lsp_replay.specs.declared.heard.Heard.TheVariants as lent
-use Rattle.lsp_rpc.specs.View.{act_view, message_view}
 use Rattle.lsp_verdict.specs.Counting.{AreCounts}
 use Rattle.lsp_verdict.specs.Offences.{events_of, kept_of}
 use Rattle.lsp_verdict.specs.Placed.{content}
@@ -55,9 +54,9 @@ returns-in-Err-clause-heard c =
     let kept = kept_of old.events.docs.terms (events_of before) in
     let still = still_walks old mid before walks same (followed.err bytes kept says walks.holds)
     followed.counts refl refl refl refl refl refl refl refl in
-    let refused = subst (λ (t : Terms). IsRefused (content side bytes) t before c.refuse.result)
-    (sym same)
-    (rw c.refuse.ensures (refused_as side bytes old.events.docs.terms kept spoken _
+    let refused = subst (λ (t : Terms).
+    IsRefused (content side bytes) t before c.refuse-refused.result) (sym same)
+    (rw c.refuse-refused.ensures (refused_as side bytes old.events.docs.terms kept spoken _
     (followed.rule bytes kept says walks.holds))) in
     subst (λ (t : Terms). Hears (content side bytes) t c.pass_over.new.self before given) same
     (heard before still refused))
