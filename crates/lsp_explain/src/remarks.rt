@@ -75,10 +75,8 @@ fn push_all(
     let names = push_name(alloc, lines, name)?;
     let old_names = push_renamed(alloc, lines, renamed)?;
     let uncompared = push_uncompared(alloc, lines, verdict, unshown)?;
-    push_count(
-        lines,
-        misuses.len() + exits + names + old_names + uncompared,
-    )
+    let count = misuses.len() + exits + names + old_names + uncompared;
+    push_count(lines, count)
 }
 
 /// Adds the lines of calls that LSP 3.17 has in another way than they were sent.

@@ -6,12 +6,12 @@ use Rattle.std.specs.Prelude.{unwrap_or}
 use Rattle.std.specs.List.{filter_map, flat_map}
 use Rattle.std.specs.Option.{option_or}
 use Rattle.std.specs.Str.{bytes_eq}
-use Rattle.serde_json.specs.Data.{Data}
-use Rattle.serde_json.specs.Find.{as_str}
+use Rattle.serde_json.specs.Data.{Data, Items}
+use Rattle.serde_json.specs.Find.{as_array, as_str}
 use Rattle.lsp_rpc.specs.Act.{Act, did_open, did_change}
 use Rattle.lsp_rpc.specs.Message.{Message, request, notification, response}
 use Rattle.lsp_rpc.specs.Outline.{outline}
-use Rattle.lsp_rpc.specs.Params.{array_of, both, required}
+use Rattle.lsp_rpc.specs.Params.{all_of, both, required}
 use Rattle.lsp_rpc.specs.Reading.{Reads}
 use Rattle.lsp_types.specs.declared.side.Side.{Side}
 use Rattle.lsp_types.specs.declared.side.Side.TheVariants.{Editor, Server}
@@ -37,9 +37,13 @@ move gone uri = record { uri = uri; is_gone = gone }
 abbrev pub each_move : Bool → List (List ℕ) → List Move
 each_move gone uris = map (move gone) uris
 
+-- the files that params list
+abbrev pub files_in : Data → Option Items
+files_in params = required (codes "files") as_array params
+
 -- the member of this name of each file, where every file has it
 abbrev pub uris_at : List ℕ → Data → Option (List (List ℕ))
-uris_at name params = required (codes "files") (array_of (required name as_str)) params
+uris_at name params = option_and_then (all_of (required name as_str)) (files_in params)
 
 -- files of these URIs got those
 abbrev pub renames : List (List ℕ) → List (List ℕ) → List Move

@@ -1,8 +1,8 @@
 //! Documents that are opened or changed under a URI that they lost when their file was renamed.
-ghost use Rattle.std.specs.Prelude.{◌≡◌, [], ◌∷◌, IfOk, OnOk, codes, option_map};
+ghost use Rattle.std.specs.Prelude.{◌≡◌, [], ◌∷◌, IfOk, OnOk, option_map};
 ghost use Rattle.std.specs.List.{filter_map};
 ghost use Rattle.std.specs.Option.{option_or};
-ghost use Rattle.serde_json.specs.Find.{as_array, as_str};
+ghost use Rattle.serde_json.specs.Find.{as_str};
 ghost use Rattle.serde_json.specs.View.{items_view, view};
 ghost use Rattle.lsp_rpc.specs.Message.{Message as AMessage};
 ghost use Rattle.lsp_rpc.specs.Params.{all_of, required};
@@ -258,16 +258,16 @@ fn uris_at(alloc: Global, params: &Value, name: &str) -> Result<Option<Vec<Strin
     ensures { IfOk result (λ uris. option_map (λ us. names_view us.items) uris
         ≡ spec.uris_at name.now (view params.now)) }
 {
-    match files_in(params) {
-        Some(files) => each_uri(alloc, files, name),
-        None => Ok(None),
-    }
+    let Some(files) = files_in(params) else {
+        return Ok(None);
+    };
+    each_uri(alloc, files, name)
 }
 
 /// The files that params list.
 fn files_in(params: &Value) -> Option<&[Value]>
     ensures { option_map (λ files. items_view files.now) result
-        ≡ required (codes "files") as_array (view params.now) }
+        ≡ spec.files_in (view params.now) }
 {
     let files = params.get("files")?.as_array()?;
     Some(files.as_slice())
