@@ -15,6 +15,7 @@ use Rattle.serde_json.specs.Data.{Data}
 use Rattle.lsp_rpc.specs.Act.{Act}
 use Rattle.lsp_rpc.specs.Message.{Message, request, notification, response, result, error}
 use Rattle.lsp_rpc.specs.Outline.{outline}
+use Rattle.lsp_rpc.specs.Params.{both}
 use Rattle.lsp_rpc.specs.Reading.{Reads}
 use Rattle.lsp_session.specs.Sent.{Sent}
 use Rattle.lsp_types.specs.declared.side.Side.{Side}
@@ -28,7 +29,7 @@ use Rattle.lsp_survey.specs.Renames.{AreRenames, Move, Moves, RenamesBy, Renames
 use Rattle.lsp_survey.specs.Renames.{each_move, gone_by, is_gone, is_on_files, most_moves, moves}
 use Rattle.lsp_survey.specs.Renames.{moves_at, moves_by, moves_in, moves_of, moves_view}
 use Rattle.lsp_survey.specs.Renames.{notifies_files, or_none, renamed_at, renamed_by, renamed_held}
-use Rattle.lsp_survey.specs.Renames.{renames_in, tells_files}
+use Rattle.lsp_survey.specs.Renames.{renames, renames_in, tells_files, uris_at}
 use Rattle.lsp_survey.specs.Touched.{names_view}
 use Rattle.lsp_survey.specs.declared.notes.renames.Move as held
 use Rattle.lsp_survey.specs.declared.notes.renames.Renames.{Renames}
@@ -65,6 +66,17 @@ pub both_moves : (one two : List Move) (old mid new : List held.Move) → Moves 
 both_moves one two old mid new first second before are =
     second (before ++ one) (first before are)
     ∙ ap (last_ones most_moves) (append_assoc before one two)
+
+-- files of these URIs got those, in turn
+pub renames_given : (params : Data) (olds news : List (List ℕ))
+    → uris_at (codes "oldUri") params ≡ Some olds → uris_at (codes "newUri") params ≡ Some news
+    → (old mid new : List held.Move) → Moves (each_move true olds) old mid
+    → Moves (each_move false news) mid new → Moves (or_none (renames_in params)) old new
+renames_given params olds news is_old is_new old mid new first second =
+    let whole : or_none (renames_in params) ≡ each_move true olds ++ each_move false news =
+    λ i. or_none (both renames (is_old i) (is_new i)) in
+    subst (λ (w : List Move). Moves w old new) (sym whole)
+    (both_moves (each_move true olds) (each_move false news) old mid new first second)
 
 -- ---- a message that says nothing of files
 

@@ -10,7 +10,8 @@ pub returns-in-Ok : goal.returns-in-Ok
 returns-in-Ok c =
     let bytes = c.args.content.now in
     on_ok_weaker c.add_message-added.result
-    (λ added m reads. subst (λ w. Moves (moves_in w) c.args.moves.now.items _)
+    (λ added m reads. subst (λ w. Moves (moves_in w) c.args.moves.now.items
+    c.add_message-added.new.moves.items)
     (one_message bytes (message_view c.in-Ok.message) m c.in-Ok.ensures.ok reads) added)
     c.add_message-added.ensures
 
