@@ -1,6 +1,6 @@
 -- A task fails where its run does.
 use Rattle.std.proofs.Common.{◌≡◌, ◌∙◌, ℕ, Result, Ok, Err, ap, refl, sym}
-use Rattle.lsp_replay.specs.declared.event.EventOutcome.{EventOutcome}
+use Rattle.lsp_judge.specs.declared.event.EventOutcome.{EventOutcome}
 use Rattle.lsp_verdict.specs.RunIo.{source_failures, sink_failures}
 use Rattle.lsp_verdict.specs.declared.outcome.Outcome.{Outcome}
 use Rattle.lsp_verdict.specs.declared.outcome.RunFault.{RunFault}

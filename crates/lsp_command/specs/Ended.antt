@@ -1,6 +1,6 @@
 -- How a task ends, by how its run ended.
 use Rattle.std.specs.Prelude.{Result, Ok, Err}
-use Rattle.lsp_replay.specs.declared.event.EventOutcome.{EventOutcome}
+use Rattle.lsp_judge.specs.declared.event.EventOutcome.{EventOutcome}
 use Rattle.lsp_verdict.specs.declared.outcome.Outcome.{Outcome}
 use Rattle.lsp_verdict.specs.declared.outcome.RunFault.{RunFault}
 use Rattle.lsp_command.specs.declared.task_outcome.TaskOutcome.{TaskOutcome}

@@ -2,8 +2,8 @@
 use Rattle.std.specs.Prelude.{ℕ, Result, Ok, Err}
 use Rattle.clap.specs.declared.error.kind.ErrorKind.{ErrorKind}
 use Rattle.clap.specs.declared.error.kind.ErrorKind.TheVariants as kinds
-use Rattle.lsp_replay.specs.declared.event.EventOutcome.{EventOutcome}
-use Rattle.lsp_replay.specs.declared.event.EventOutcome.TheVariants as events
+use Rattle.lsp_judge.specs.declared.event.EventOutcome.{EventOutcome}
+use Rattle.lsp_judge.specs.declared.event.EventOutcome.TheVariants as events
 use Rattle.lsp_command.specs.declared.task_outcome.TaskOutcome.{TaskOutcome}
 use Rattle.lsp_command.specs.declared.task_outcome.TaskOutcome.TheVariants as tasks
 use Rattle.lsp_verdict.specs.declared.outcome.Outcome.{Outcome}

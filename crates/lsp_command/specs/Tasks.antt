@@ -5,8 +5,8 @@ use Rattle.std.specs.Int.NonZero.{non_zero_u64_get}
 use Rattle.lsp_frame.specs.Bounds.{Bounds}
 use Rattle.lsp_frame.specs.Told.{Told, KeepsBytes, after_failure}
 use Rattle.lsp_verdict.specs.Given.{verdict_view}
-use Rattle.lsp_replay.specs.Event.{IsEvent, BeginsEvent}
-use Rattle.lsp_replay.specs.Normal.{EndsNormal, BeginsNormal}
+use Rattle.lsp_judge.specs.Event.{IsEvent, BeginsEvent}
+use Rattle.lsp_judge.specs.Normal.{EndsNormal, BeginsNormal}
 use Rattle.lsp_verdict.specs.Complete.{IsVerdictBy}
 use Rattle.lsp_verdict.specs.Ports.{IsOutput, IsSilent, OfInput, Ports}
 use Rattle.lsp_verdict.specs.RunIo.{source_failures, sink_failures}
@@ -14,7 +14,7 @@ use Rattle.lsp_verdict.specs.TextAfter.{AnswersText}
 use Rattle.lsp_judge.specs.Checked.{Checked}
 use Rattle.lsp_judge.specs.ShownLog.{Showed}
 use Rattle.lsp_judge.specs.UpgradedLog.{UpgradesLog}
-use Rattle.lsp_replay.specs.StreamRun.{IsRun, BeginsRun}
+use Rattle.lsp_judge.specs.StreamRun.{IsRun, BeginsRun}
 use Rattle.lsp_replay.specs.TextAnswers.{WritesText}
 use Rattle.lsp_explain.specs.AllExplained.{ExplainsAll}
 use Rattle.lsp_explain.specs.Compared.{AnswersCompared}
@@ -31,8 +31,8 @@ use Rattle.lsp_verdict.specs.declared.outcome.RunFault.TheVariants as faults
 use Rattle.lsp_verdict.specs.declared.verdict.Summary.{Summary}
 use Rattle.lsp_verdict.specs.declared.verdict.Verdict.{Verdict}
 use Rattle.lsp_verdict.specs.declared.verdict.Verdict.TheVariants as verdicts
-use Rattle.lsp_replay.specs.declared.event.EventOutcome.{EventOutcome}
-use Rattle.lsp_replay.specs.declared.event.EventOutcome.TheVariants as events
+use Rattle.lsp_judge.specs.declared.event.EventOutcome.{EventOutcome}
+use Rattle.lsp_judge.specs.declared.event.EventOutcome.TheVariants as events
 use Rattle.lsp_command.specs.Ended.{of_event, of_run}
 use Rattle.lsp_command.specs.declared.task_outcome.TaskOutcome.{TaskOutcome}
 use Rattle.lsp_command.specs.declared.command_line.task.Task.{Task}

@@ -10,3 +10,7 @@ pub mod ShownLogs
 pub mod UpgradedLogs
 pub mod TextRuns
 pub mod Finals
+pub mod SameLimits
+pub mod Framing
+pub mod Forming
+pub mod Seeking

@@ -8,3 +8,13 @@ pub mod Ending
 pub mod LogEvents
 pub mod ShownLog
 pub mod UpgradedLog
+pub mod StreamParts
+pub mod StreamRun
+pub mod StreamSteps
+pub mod StreamLaws
+pub mod Normal
+pub mod NormalSteps
+pub mod NormalLaws
+pub mod Event
+pub mod EventSteps
+pub mod EventLaws

@@ -3,32 +3,42 @@
 //! `run_check` reads a log and writes the report of the verdict on it, `run_check_complete` that
 //! where its session must be complete, and `run_show` writes a line for each event before that.
 //! `run_upgrade` writes a log again in format 2, up to its verdict. `Judge` takes the records of a
-//! log one by one, `report_of` prints a verdict. `run_frames` reads one raw stream, one direction
-//! of a session, and says what its frames are. What a session is and means is defined in
-//! `lsp_verdict`, how its events are heard in `lsp_replay`, and the runs that judge nothing in
-//! `lsp_replay`; the public names of the first and the last are exported again here.
+//! log one by one, and `report_of` prints a verdict.
+//!
+//! Three runs judge nothing: `run_frames` reads one raw stream, one direction of a session, and
+//! says what its frames are; `run_normal` writes the normal form of a log; and `run_event` writes
+//! the content of one of its events.
+//!
+//! What a session is and means is defined in `lsp_verdict`, whose public names are exported again
+//! here, and how its events are heard in `lsp_replay`.
 #![tactic(auto)]
 
 mod check;
 mod contents;
 mod ending;
+mod event;
+mod event_laws;
 mod event_reader;
+mod frames;
 mod judge;
+mod normal;
+mod normal_laws;
+mod pieces;
 mod ruling;
 mod show;
 mod show_laws;
+mod stream_laws;
 mod text;
 mod upgrade;
 
 pub use check::{run_check, run_check_complete};
+pub use event::{EventOutcome, run_event};
+pub use event_laws::{event_is_numbered, one_event, some_event};
+pub use frames::run_frames;
 pub use judge::Judge;
 pub use lsp_frame::{Format, Input, Limits, Output};
 pub use lsp_log::LogCode;
-pub use lsp_replay::{
-    EventOutcome, TextAnswer, event_is_numbered, normal_form_keeps_events,
-    normal_form_keeps_verdict, normal_form_stays, one_event, one_normal_form, one_run, run_event,
-    run_frames, run_normal, some_event, some_normal_form, some_run,
-};
+pub use lsp_replay::TextAnswer;
 pub use lsp_verdict::{
     Completeness, Lines, Mode, OpenDocument, Outcome, RunFault, StreamFault, Summary, Verdict, Who,
     bad_log_means_fault, both_yes_agree, complete_means_ended, complete_means_fault,
@@ -39,7 +49,13 @@ pub use lsp_verdict::{
     some_session, some_upgrade, some_verdict, stream_report, upgrade_keeps_yes, upgrade_stays,
     yes_means_kept,
 };
+pub use normal::run_normal;
+pub use normal_laws::{
+    normal_form_keeps_events, normal_form_keeps_verdict, normal_form_stays, one_normal_form,
+    some_normal_form,
+};
 pub use show::{run_show, run_show_long};
 pub use show_laws::one_shown;
+pub use stream_laws::{one_run, some_run};
 pub use text::{run_text, text_after};
 pub use upgrade::run_upgrade;

@@ -8,7 +8,7 @@ use Rattle.lsp_replay.specs.declared.streams.Due.{Due}
 use Rattle.lsp_replay.specs.declared.streams.Due.TheVariants as next
 use Rattle.lsp_replay.specs.declared.streams.PendingEvents.{PendingEvents}
 use Rattle.lsp_replay.specs.declared.streams.PendingEvents.TheVariants as turn
-use Rattle.lsp_replay.proofs.Framing.Found.{frame_step}
+use Rattle.lsp_replay.proofs.FrameSteps.{frame_step}
 use Rattle.lsp_types.specs.declared.side.Side.{Side}
 use Rattle.lsp_types.specs.declared.side.Side.TheVariants.{Editor, Server}
 

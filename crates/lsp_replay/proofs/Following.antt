@@ -1,5 +1,7 @@
 -- One more event that doesn't offend.
 use Rattle.std.proofs.Common.{◌≡◌, ℕ, List, [], ◌∷◌, ◌++◌, None, sym, ap, subst, ◌∙◌, append-nil}
+use Rattle.lsp_rpc.specs.View.{act_view, message_view}
+use Rattle.lsp_rpc.specs.declared.act.Spoken.{Spoken}
 use Rattle.std.specs.Prelude.{ℤ, option_map}
 use Rattle.std.specs.Option.{option_or}
 use Rattle.lsp_types.specs.declared.side.Side.{Side}
@@ -10,6 +12,7 @@ use Rattle.lsp_docs.specs.State as docs
 use Rattle.lsp_docs.specs.Terms.{Terms}
 use Rattle.lsp_verdict.specs.Calls.{call_at, calls}
 use Rattle.lsp_verdict.specs.Contents.{ReadsAs}
+use Rattle.lsp_verdict.specs.Counting.{AreCounts}
 use Rattle.lsp_verdict.specs.Event.{Event, message, fault, snapshot, sent_in}
 use Rattle.lsp_verdict.specs.Lent.{whose_raw}
 use Rattle.lsp_verdict.specs.Placed.{Raw, content, broken, show, Reads}
@@ -17,8 +20,9 @@ use Rattle.lsp_verdict.specs.Verdict.{offence, first_no, no_at, no_by, whose, wh
 use Rattle.lsp_verdict.specs.declared.counts.Counts.{Counts}
 use Rattle.lsp_verdict.proofs.LookBackLemmas.{first_of-snoc, each_of-snoc}
 use Rattle.lsp_verdict.proofs.Messages.{sent_in-append}
-use Rattle.lsp_replay.specs.Standing.{Holds, Follows, Keeps}
+use Rattle.lsp_replay.specs.Standing.{Holds, Follows, Hears, Keeps}
 use Rattle.lsp_replay.specs.declared.heard.Heard.{Heard}
+use Rattle.lsp_replay.specs.declared.heard.Heard.TheVariants as heard
 
 -- an event that a content is read as is its side's
 pub whose_content : (side : Side) (bytes : List ℕ) (e : Event) → ReadsAs side bytes e
@@ -32,6 +36,25 @@ pub whose_read : (raw : Raw) (e : Event) → Reads raw e → whose e ≡ whose_r
 whose_read (content side bytes) e reads = whose_content side bytes e reads
 whose_read (broken side rule) e reads = ap whose reads
 whose_read (show n uri t) e reads = ap whose reads
+
+-- a message that was followed and counted is kept
+pub message_keeps : (side : Side) (bytes : List ℕ) (spoken : Spoken) (terms : Terms)
+    (before after : Counts) (m : session.State) (d : docs.State) (events : List Event)
+    → Hears side bytes (message_view spoken.message) (act_view spoken.act) terms m d events
+    → ((all : List Event) (event : Event) → AreCounts before all → whose event ≡ who_of side
+    → AreCounts after (all ++ event ∷ []))
+    → Keeps (content side bytes) terms before (heard.Message side spoken) m d after events
+message_keeps side bytes spoken terms before after m d events h counts = record {
+  event = message h.sent;
+  reads = h.reads;
+  is_heard = (h.reads.by, h.says, h.means);
+  answers = tt;
+  whole = h.has_value;
+  clean = h.clean;
+  holds = h.holds;
+  counted = λ all counted. counts all (message h.sent) counted
+      (whose_content side bytes (message h.sent) h.reads);
+}
 
 clean_on : (terms : Terms) (events : List Event) (e : Event) → first_no terms events ≡ None
     → offence terms events e ≡ None → first_no terms (events ++ e ∷ []) ≡ None

@@ -6,11 +6,8 @@ pub mod Reached
 pub mod EventPlaces
 pub mod TextRuns
 pub mod Listing
-pub mod SameLimits
-pub mod Framing
-pub mod Forming
-pub mod Seeking
 pub mod Giving
+pub mod FrameSteps
 pub mod Fewer
 pub mod Streaming
 pub mod Pulling

@@ -4,16 +4,6 @@ pub mod Standing
 pub mod Places
 pub mod Lines
 pub mod TextAnswers
-pub mod StreamParts
-pub mod StreamRun
-pub mod StreamSteps
-pub mod StreamLaws
-pub mod Normal
-pub mod NormalSteps
-pub mod NormalLaws
-pub mod Event
-pub mod EventSteps
-pub mod EventLaws
 pub mod Streams
 pub mod Lending
 pub mod LogEvents

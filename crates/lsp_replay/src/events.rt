@@ -99,6 +99,23 @@ impl<S: TextStore> Events<S> {
         }
     }
 
+    /// Reads a content of a side with what it means. It is heard once it is followed.
+    ///
+    /// # Errors
+    /// `Rule` by the least of 201 to 209 that the content breaks, and `Memory` where memory was
+    /// refused.
+    pub fn read(&mut self, side: Side, content: &[u8]) -> Result<Spoken, Refused>
+        ensures session { self.new.session ≡ self.old.session }
+        ensures docs { self.new.docs ≡ self.old.docs }
+        ensures counts { self.new.counts ≡ self.old.counts }
+        ensures ok { IfOk result (λ spoken. Says self.old.session side content.now
+            (message_view spoken.message) (act_view spoken.act)) }
+        ensures rule { IfErr result (λ refused. (terms : Terms) (events : List Event)
+            → RefusesContent side content.now terms events refused) }
+    {
+        spoken_in(&self.session, &mut self.messages, side, content)
+    }
+
     /// Reads a content of a side, admits the message that it is, and takes over what that says
     /// about a document.
     fn hear_content(&mut self, side: Side, content: &[u8]) -> Result<Spoken, Refused>
@@ -122,8 +139,13 @@ impl<S: TextStore> Events<S> {
         }
     }
 
-    /// Admits the message that a content is, and takes over what it says about a document.
-    fn follow(&mut self, side: Side, spoken: &Spoken) -> Result<(), Fault>
+    /// Admits the message that a content is, and takes over what it says about a document. The
+    /// counts stay.
+    ///
+    /// # Errors
+    /// `Rule` by the least of the rules 301 to 702 that the message offends, and `Memory` where
+    /// memory was refused. What is held stays, so that the event after it can be heard.
+    pub fn follow(&mut self, side: Side, spoken: &Spoken) -> Result<(), Fault>
         ensures terms { self.new.docs.terms ≡ self.old.docs.terms }
         ensures counts { self.new.counts ≡ self.old.counts }
         ensures ok { OnOk result ((content : List ℕ) (events : List Event)

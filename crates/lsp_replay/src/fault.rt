@@ -68,14 +68,14 @@ impl From<DocFault> for Refused {
 
 /// Why a message is refused: by its least rule, or since memory was refused.
 #[derive(Clone, Copy, Debug, PartialEq, Eq)]
-pub(crate) enum Fault {
+pub enum Fault {
     Rule(u16),
     Memory,
 }
 
 impl Fault {
     /// The refusal of this message of a side.
-    pub(crate) fn refuse(self, side: Side, spoken: Spoken) -> Refused
+    pub fn refuse(self, side: Side, spoken: Spoken) -> Refused
         ensures { result ≡ refused_by self side spoken }
     {
         match self {

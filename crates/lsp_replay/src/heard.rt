@@ -45,7 +45,15 @@ impl EventPlace {
             → AreCounts counts.now (before ++ event ∷ [])
             → IsHeard event heard.now → result ≡ place_of before event }
     {
-        let who = whose(heard);
+        EventPlace::last(counts, whose(heard))
+    }
+
+    /// Where the event of theirs stands that was counted last, after which the counts are these.
+    pub fn last(counts: &Counts, who: Who) -> EventPlace
+        ensures { (before : List Event) (event : Event)
+            → AreCounts counts.now (before ++ event ∷ [])
+            → who ≡ spec.whose event → result ≡ place_of before event }
+    {
         EventPlace {
             event: counts.all,
             who,

@@ -58,7 +58,7 @@ use Rattle.lsp_verdict.specs.Contents.{IsSent}
 use Rattle.lsp_verdict.specs.Event.{Event, message, fault, snapshot, sent_in}
 use Rattle.lsp_verdict.specs.Offences.{Noted, IsMalformed, IsReading, events_of, kept_of, rule_at}
 use Rattle.lsp_verdict.specs.Placed.{Raw, content, broken, show, Reads}
-use Rattle.lsp_verdict.specs.Verdict.{offence, who_of}
+use Rattle.lsp_verdict.specs.Verdict.{offence, who_of, whose}
 use Rattle.lsp_verdict.specs.declared.verdict.Who.TheVariants as who
 use Rattle.lsp_verdict.proofs.Offences.Steps.{kept-push}
 use Rattle.lsp_survey.proofs.MarkSteps.{act_done, shown_done}
@@ -264,6 +264,27 @@ still_walks old new notes walks terms_are holds counts notes_are is_broken marks
           ∙ walks.passed side k;
       unheard = unheard ∙ walks.unheard;
     })
+
+-- a walk that only read a content is where it was
+pub read_walks : (old new : Replay) (notes : List Noted) → Walks old notes
+    → new ≡ record old { events = new.events } → new.events.session ≡ old.events.session
+    → new.events.docs ≡ old.events.docs → new.events.counts ≡ old.events.counts
+    → Walks new notes
+read_walks old new notes walks same session_is docs_are counts_are =
+    let kept = kept_of old.events.docs.terms (events_of notes) in
+    still_walks old new notes walks (ap (λ (d : docs.State). d.terms) docs_are)
+    (subst (λ (s : session.State). Holds s new.events.docs kept) (sym session_is)
+    (subst (λ (d : docs.State). Holds old.events.session d kept) (sym docs_are) walks.holds))
+    counts_are (λ i. (same i).notes) (λ i. (same i).broken) (λ i. (same i).marks)
+    (λ i. (same i).openings) (λ i. (same i).said) (λ i. (same i).sides) (λ i. (same i).passed)
+    (λ i. (same i).unheard)
+
+-- whose a message is that was heard
+pub heard_by : (event : Event) (side : Side) (spoken : Spoken)
+    → IsHeard event (kept.Message side spoken) → whose event ≡ who_of side
+heard_by (message sent) side spoken is = ap who_of is.0
+heard_by (fault by rule) side spoken is = absurd is
+heard_by (snapshot uri number text) side spoken is = absurd is
 
 module _ (old new : Replay) (notes : List Noted) (given : Judged) (walks : Walks old notes) where
   -- a fault of the frames

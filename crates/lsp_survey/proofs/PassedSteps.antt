@@ -18,7 +18,7 @@ use Rattle.lsp_survey.specs.declared.notes.passed.Passed.{Passed}
 use Rattle.lsp_types.specs.declared.rules.TheConstants as rules
 use Rattle.lsp_types.specs.declared.side.Side.{Side}
 use Rattle.lsp_types.specs.declared.side.Side.TheVariants.{Editor, Server}
-use Rattle.lsp_verdict.specs.Event.{Event, message, fault, snapshot}
+use Rattle.lsp_verdict.specs.Event.{Event, fault}
 use Rattle.lsp_verdict.specs.Offences.{Noted, answered_by, asked_by, asked_from, follows_passed}
 use Rattle.lsp_verdict.specs.Offences.{is_any_passed, is_initialized_by, is_passed, is_unheard}
 use Rattle.lsp_verdict.specs.Offences.{passes, request_id, tells_initialized}

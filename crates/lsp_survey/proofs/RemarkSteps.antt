@@ -4,14 +4,13 @@ use Rattle.std.specs.Prelude.{is_some, if◌then◌else◌, Result, Ok, Err, OnO
 use Rattle.std.specs.List.{cons_option, filter_map, list_any}
 use Rattle.std.specs.Option.{option_or}
 use Rattle.std.specs.Str.{bytes_eq}
-use Rattle.std.proofs.Common.{◌≡◌, ℕ, Bool, List, [], ◌∷◌, ◌++◌, Option, Some, None, inl, inr, refl}
+use Rattle.std.proofs.Common.{◌≡◌, ℕ, List, [], ◌∷◌, ◌++◌, Option, Some, None, inl, inr, refl}
 use Rattle.std.proofs.Common.{sym, ap, ◌∙◌, append-nil}
 use Rattle.std.proofs.lemmas.List.{map-append}
 use Rattle.std.proofs.lemmas.List.Elements.{filter_map-append}
 use Rattle.std.proofs.lemmas.Option.{same_Some}
 use Rattle.serde_json.specs.Data.{Data}
 use Rattle.lsp_rpc.specs.Act.{Offer}
-use Rattle.lsp_rpc.specs.Ident.{Ident}
 use Rattle.lsp_rpc.specs.Message.{Message, request, notification, response, result, error}
 use Rattle.lsp_rpc.specs.Outline.{outline, without_params}
 use Rattle.lsp_session.specs.Handshake.{Settled, first_settled, is_done, offer_to, open_initializes}
@@ -29,7 +28,7 @@ use Rattle.lsp_verdict.proofs.Offences.Steps.{last_behind}
 use Rattle.lsp_survey.specs.Asking.{Numbered, numbered_as, sents}
 use Rattle.lsp_survey.specs.Misuses.{Misused, has_method, misuse_at, misuse_in, misused_views}
 use Rattle.lsp_survey.specs.Misuses.{misuses, misuses_after, with_misuse}
-use Rattle.lsp_survey.specs.Remarks.{AreRemarks, Remarked, abrupt, abrupt_by, older_encoding}
+use Rattle.lsp_survey.specs.Remarks.{AreRemarks, Remarked, abrupt_by}
 use Rattle.lsp_survey.specs.Remarks.{older_held, older_in, older_of}
 use Rattle.lsp_replay.specs.declared.heard.EventPlace.{EventPlace}
 use Rattle.lsp_survey.specs.declared.notes.misuses.Misused as code

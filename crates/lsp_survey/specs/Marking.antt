@@ -1,7 +1,7 @@
 -- Which events left a document as it is: the messages that set its versions, the equal snapshot of
 -- the greatest version, and the snapshots that wait.
-use Rattle.std.specs.Prelude.{ℕ, ℤ, int_lt, nat_lt, ◌+◌, ◌-◌, List, [], ◌∷◌, ◌++◌, length}
-use Rattle.std.specs.Prelude.{drop, filter, slice_get, Bool}
+use Rattle.std.specs.Prelude.{ℕ, ℤ, int_lt, ◌+◌, ◌-◌, List, [], ◌∷◌, ◌++◌, length}
+use Rattle.std.specs.Prelude.{filter, slice_get, Bool}
 use Rattle.std.specs.Prelude.{true, false, ◌&&◌, not, if◌then◌else◌, Option, Some, None, option_map}
 use Rattle.std.specs.Prelude.{option_and_then, is_none}
 use Rattle.std.specs.List.{find, list_any}

@@ -1,10 +1,9 @@
 -- What is noted of the requests that were passed over.
-use Rattle.std.specs.Prelude.{◌≡◌, ℕ, List, Bool, true, false, ◌&&◌, if◌then◌else◌, Option, Some}
+use Rattle.std.specs.Prelude.{◌≡◌, ℕ, Bool, true, false, ◌&&◌, if◌then◌else◌, Option, Some}
 use Rattle.std.specs.Prelude.{None, is_some, option_and_then, unwrap_or}
 use Rattle.lsp_rpc.specs.Ident.{Ident, id_view, same_id}
 use Rattle.lsp_rpc.specs.Message.{Message}
 use Rattle.lsp_rpc.specs.declared.message.Id.{Id}
-use Rattle.lsp_session.specs.Requests.{names}
 use Rattle.lsp_session.specs.Sent.{answered_from, same_side}
 use Rattle.lsp_survey.specs.SessionNoting.{asked_in}
 use Rattle.lsp_survey.specs.declared.notes.passed.Passed.{Passed}

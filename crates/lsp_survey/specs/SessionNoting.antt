@@ -1,6 +1,6 @@
 -- What is noted of requests and phases, and for which messages it stands.
 use Rattle.std.specs.Prelude.{◌≡◌, ℕ, List, ◌++◌, map, Option}
-use Rattle.std.specs.Prelude.{unwrap_or, option_to_list, option_map}
+use Rattle.std.specs.Prelude.{unwrap_or, option_to_list}
 use Rattle.std.specs.Map.{lookup}
 use Rattle.lsp_docs.specs.Terms.{Terms}
 use Rattle.lsp_rpc.specs.Act.{Act}
@@ -12,7 +12,7 @@ use Rattle.lsp_session.specs.Sent.{Sent, answered_from}
 use Rattle.lsp_types.specs.declared.side.Side.{Side}
 use Rattle.lsp_types.specs.declared.side.Side.TheVariants.{Editor, Server}
 use Rattle.lsp_verdict.specs.Event.{Event}
-use Rattle.lsp_survey.specs.Asking.{Numbered, Reply, asks, asked, replies, replied, reply_of}
+use Rattle.lsp_survey.specs.Asking.{Numbered, Reply, asks, asked, replies, reply_of}
 use Rattle.lsp_survey.specs.Asking.{most_replies, leads, numbered, sents, since}
 use Rattle.lsp_survey.specs.LastOnes.{last_ones}
 use Rattle.lsp_survey.specs.Remarks.{AreRemarks, Remarked}

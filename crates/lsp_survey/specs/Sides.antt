@@ -1,5 +1,5 @@
 -- What is noted of the bytes of both sides.
-use Rattle.std.specs.Prelude.{◌≡◌, ℕ, List, Bool, false, ◌||◌, ◌==◌, nat_le, if◌then◌else◌}
+use Rattle.std.specs.Prelude.{ℕ, List, false, ◌||◌, ◌==◌, nat_le, if◌then◌else◌}
 use Rattle.lsp_session.specs.Sent.{same_side}
 use Rattle.lsp_types.specs.declared.rules.TheConstants as rules
 use Rattle.lsp_types.specs.declared.side.Side.{Side}

@@ -46,7 +46,7 @@ use Rattle.lsp_verdict.specs.Offences.{follows_passed, is_passed, may_answer, of
 use Rattle.lsp_verdict.specs.Offences.{wants_handshake, wants_text}
 use Rattle.lsp_verdict.specs.Placed.{Raw, content, broken, show}
 use Rattle.lsp_verdict.specs.Shown.{line_at}
-use Rattle.lsp_verdict.specs.Verdict.{no_next, whose}
+use Rattle.lsp_verdict.specs.Verdict.{no_next, who_of, whose}
 use Rattle.lsp_verdict.specs.declared.lines.Lines.{Lines}
 use Rattle.lsp_verdict.specs.declared.offence.Offence as code
 use Rattle.lsp_verdict.specs.declared.verdict.Who.{Who}
@@ -180,6 +180,13 @@ pub record PassesOver (old new : Replay) (by : Who) (rule : ℕ) (malformed : Op
       (is_noted_lost old.notes.map.entries (says enc kind))
       (follows_passed old.events.docs.terms rule notes event
       || follows_bytes rule (events_of notes) event))
+
+-- a message of a side that means this act was skipped, which offends by this rule
+abbrev pub PassesMessage : Replay → Replay → Side → ℕ → Act → Message
+    → (OffendingEvent → Type 0) → Judged → Type 0
+PassesMessage old new side rule act said =
+    PassesOver old new (who_of side) rule None (λ enc kind. call_of enc kind act)
+    (IsMessageOf side said)
 
 -- ---- what was heard
 

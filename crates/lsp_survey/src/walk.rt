@@ -3,6 +3,7 @@ ghost use Rattle.std.specs.Prelude.{◌≡◌, ◌&&◌, ◌||◌, [], Bool, Lis
 ghost use Rattle.std.specs.Prelude.{Option, chars, ℕ, ◌==◌, ◌++◌, ◌∷◌, ◌<◌, ◌^◌, length, string_bytes};
 ghost use Rattle.lsp_docs.specs.Calls.{shows};
 ghost use Rattle.lsp_docs.specs.Terms.{terms_of};
+ghost use Rattle.lsp_replay.specs.Apart.{Says};
 ghost use Rattle.lsp_replay.specs.Standing.{Holds};
 ghost use Rattle.lsp_rpc.specs.Message.{Message as AMessage};
 ghost use Rattle.lsp_rpc.specs.View.{act_view, message_view};
@@ -15,7 +16,9 @@ ghost use Rattle.lsp_verdict.specs.Offences.{follows_bytes, is_handshake_lost, m
 ghost use Rattle.lsp_verdict.specs.Offences.{follows_passed, wants_handshake, wants_text};
 ghost use Rattle.lsp_verdict.specs.Offences.{tells_initialized};
 ghost use Rattle.lsp_verdict.specs.Placed.{Reads};
+ghost use Rattle.lsp_verdict.specs.Placed as placed;
 ghost use Rattle.lsp_verdict.specs.Verdict as spec;
+ghost use Rattle.lsp_verdict.specs.Verdict.{whose};
 ghost use Rattle.lsp_replay.specs.Lines.{IsHeard};
 ghost use Rattle.lsp_replay.specs.Places.{place_of};
 ghost use Rattle.lsp_session.specs.Sent.{other_side, response_id, same_side};
@@ -27,8 +30,8 @@ ghost use Rattle.lsp_verdict.specs.Lent.{raw_view};
 ghost use Rattle.lsp_survey.specs.Ending.{lack_by};
 ghost use Rattle.lsp_survey.specs.Walking.{Counted, Hears, IsFound, IsLine, IsMessageOf, IsOffence};
 ghost use Rattle.lsp_survey.specs.Walking.{IsRefused, IsShown, IsUnread, NotesKept, NotesMessage};
-ghost use Rattle.lsp_survey.specs.Walking.{NotesSnapshot, PassesOver, Walks, content_in};
-ghost use Rattle.lsp_survey.specs.Walking.{offence_of};
+ghost use Rattle.lsp_survey.specs.Walking.{NotesSnapshot, PassesMessage, PassesOver, Walks};
+ghost use Rattle.lsp_survey.specs.Walking.{content_in, offence_of};
 
 use crate::notes::{
     Malformed, Marks, Notes, Openings, Passed, SessionNotes, Sides, breaks_handshake, is_on_lost,
@@ -94,10 +97,93 @@ impl Replay {
         ensures heard { IfOk result (λ heard. (before : List Noted) → Walks self.old before
             → Hears (raw_view raw.entry) self.old.events.docs.terms self.new before heard) }
     {
+        match raw {
+            Raw::Content { side, content } => self.hear_content(alloc, side, content),
+            _ => self.hear_other(alloc, raw),
+        }
+    }
+
+    /// Hears the next event, which is not a content.
+    fn hear_other(&mut self, alloc: Global, raw: Raw<'_>) -> Result<Judged, Memory>
+        ensures terms { self.new.events.docs.terms ≡ self.old.events.docs.terms }
+        ensures heard { IfOk result (λ heard. (before : List Noted) → Walks self.old before
+            → Hears (raw_view raw.entry) self.old.events.docs.terms self.new before heard) }
+    {
         match self.events.hear(raw) {
             Ok(kept) => self.keep(raw, kept),
             Err(refused) => self.pass_over(alloc, raw, refused),
         }
+    }
+
+    /// Hears the next event, a content of this side.
+    fn hear_content(
+        &mut self,
+        alloc: Global,
+        side: Side,
+        content: &[u8],
+    ) -> Result<Judged, Memory>
+        ensures terms { self.new.events.docs.terms ≡ self.old.events.docs.terms }
+        ensures heard { IfOk result (λ heard. (before : List Noted) → Walks self.old before
+            → Hears (placed.content side content.now) self.old.events.docs.terms self.new before
+            heard) }
+    {
+        match self.events.read(side, content) {
+            Ok(spoken) => self.hear_message(alloc, side, content, spoken),
+            Err(refused) => self.pass_over(alloc, Raw::Content { side, content }, refused),
+        }
+    }
+
+    /// Hears the message that the next event is, a content of this side. Where it is kept it is only
+    /// lent, never moved.
+    fn hear_message(
+        &mut self,
+        alloc: Global,
+        side: Side,
+        content: &[u8],
+        spoken: Spoken,
+    ) -> Result<Judged, Memory>
+        ensures terms { self.new.events.docs.terms ≡ self.old.events.docs.terms }
+        ensures heard { IfOk result (λ heard. (before : List Noted) → Walks self.old before
+            → Says self.old.events.session side content.now (message_view spoken.message)
+            (act_view spoken.act)
+            → Hears (placed.content side content.now) self.old.events.docs.terms self.new before
+            heard) }
+    {
+        match self.events.follow(side, &spoken) {
+            Ok(()) => self.keep_message(side, content, &spoken),
+            Err(fault) => {
+                let refused = fault.refuse(side, spoken);
+                self.pass_over(alloc, Raw::Content { side, content }, refused)
+            }
+        }
+    }
+
+    /// Counts a message of this side, which this content is and which was followed, and takes it
+    /// over.
+    fn keep_message(
+        &mut self,
+        side: Side,
+        content: &[u8],
+        spoken: &Spoken,
+    ) -> Result<Judged, Memory>
+        ensures same { (self.new.events.session ≡ self.old.events.session)
+            × (self.new.events.docs ≡ self.old.events.docs) × (self.new.broken ≡ self.old.broken)
+            × (self.new.passed ≡ self.old.passed) × (self.new.unheard ≡ self.old.unheard) }
+        ensures counts { (before : List Event) (event : Event)
+            → AreCounts self.old.events.counts before → whose event ≡ spec.who_of side
+            → AreCounts self.new.events.counts (before ++ event ∷ []) }
+        ensures keeps { IfOk result (λ heard. (heard ≡ Judged.Kept)
+            × ((before : List Event) (event : Event)
+            → AreCounts self.new.events.counts (before ++ event ∷ [])
+            → spec.who_of side ≡ whose event
+            → NotesMessage (place_of before event) side content.now
+            (message_view spoken.now.message) (act_view spoken.now.act) self.old self.new)) }
+    {
+        let who = who_of(side);
+        self.events.counts.add(who);
+        let place = EventPlace::last(&self.events.counts, who);
+        self.note_message(place, side, content, spoken)?;
+        Ok(Judged::Kept)
     }
 
     /// Hears the next event as [`hear`](Replay::hear) does, and makes the text the line of one that
@@ -303,9 +389,21 @@ impl Replay {
         ensures terms { self.new.events.docs.terms ≡ self.old.events.docs.terms }
         ensures offends { IfOk result IsOffence }
         ensures passes { IfOk result
-            (PassesOver self.old self.new (spec.who_of side) rule None
-            (λ enc kind. call_of enc kind (act_view spoken.act))
-            (IsMessageOf side (message_view spoken.message)) (λ what. what ≡ OffendingEvent.Message side spoken)) }
+            (PassesMessage self.old self.new side rule (act_view spoken.act)
+            (message_view spoken.message) (λ what. what ≡ OffendingEvent.Message side spoken)) }
+    {
+        let offence = self.pass_message(side, rule, &spoken)?;
+        found(alloc, offence, OffendingEvent::Message { side, spoken })
+    }
+
+    /// Counts and notes a message that offends by this rule, and gives its offence. The message is
+    /// lent, so that nothing of it is dropped where memory is refused.
+    fn pass_message(&mut self, side: Side, rule: u16, spoken: &Spoken) -> Result<Offence, Memory>
+        ensures terms { self.new.events.docs.terms ≡ self.old.events.docs.terms }
+        ensures passes { IfOk result (λ offence. (offending : OffendingEvent) (given : Judged)
+            → IsFound offence offending given
+            → PassesMessage self.old self.new side rule (act_view spoken.now.act)
+            (message_view spoken.now.message) (λ what. what ≡ offending) given) }
     {
         let breaks = breaks_handshake(false, rule);
         let unheard = self.unheard_after(side, &spoken.message);
@@ -318,7 +416,7 @@ impl Replay {
         note_refused_act(&mut self.notes, rule, other, &spoken.act)?;
         self.passed.note(side, rule, &spoken.message)?;
         self.unheard = unheard;
-        found(alloc, offence, OffendingEvent::Message { side, spoken })
+        Ok(offence)
     }
 
     /// Skips a content that breaks this rule.

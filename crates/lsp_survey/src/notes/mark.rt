@@ -132,7 +132,6 @@ impl Mark {
             ≡ stepped (touches Touch.Reached place version) (mark_view self.old)) }
     {
         let rank = next_rank(self.rank);
-        let shown = last_of(&self.waiting, version, rank);
         make_room(&mut self.setters, MOST_SETTERS);
         self.setters.push_back(Setter {
             place,
@@ -140,9 +139,26 @@ impl Mark {
             rank,
         })?;
         self.rank = rank;
+        self.meet(version, rank);
+        Ok(())
+    }
+
+    /// Marks that the document is at this version, of this rank: the snapshots that waited for it
+    /// or for one before it wait no more, and those of it were equal. Mostly none waits.
+    fn meet(&mut self, version: i32, rank: u64)
+        ensures setters { self.new.setters ≡ self.old.setters }
+        ensures rank { self.new.rank ≡ self.old.rank }
+        ensures agreed { self.new.agreed ≡ newer_of self.old.agreed (last_shown version rank
+            (waiting_in self.old.waiting.entries version)) }
+        ensures waiting { (number : ℤ) → waiting_in self.new.waiting.entries number
+            ≡ above version (waiting_in self.old.waiting.entries) number }
+    {
+        if self.waiting.is_empty() {
+            return;
+        }
+        let shown = last_of(&self.waiting, version, rank);
         self.agreed = newer_of(self.agreed, shown);
         drop_reached(&mut self.waiting, version);
-        Ok(())
     }
 
     /// Marks that the event of this place is an equal snapshot of this version.

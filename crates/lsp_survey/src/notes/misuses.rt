@@ -1,5 +1,5 @@
 //! Calls that LSP 3.17 has in another way than they were sent.
-ghost use Rattle.std.specs.Prelude.{◌≡◌, OnOk, option_map, string_bytes};
+ghost use Rattle.std.specs.Prelude.{◌≡◌, OnOk, Some, option_map, string_bytes};
 ghost use Rattle.lsp_session.specs.Sent as sent;
 ghost use Rattle.std.specs.List.{list_any};
 ghost use Rattle.std.specs.Str.{bytes_eq};
@@ -120,9 +120,24 @@ fn note_call(
         ≡ with_misuse (misused_views found.old.items)
         (option_map (misused place (string_bytes method.now)) misuse)) }
 {
-    let Some(misuse) = misuse else {
-        return Ok(());
-    };
+    match misuse {
+        Some(misuse) => add_misused(found, place, misuse, method),
+        None => Ok(()),
+    }
+}
+
+/// Adds a call, the event of this place, that is misused so.
+#[inline(never)]
+fn add_misused(
+    found: &mut Vec<Misused>,
+    place: EventPlace,
+    misuse: Misuse,
+    method: &String,
+) -> Result<(), Memory>
+    ensures { OnOk result (misused_views found.new.items
+        ≡ with_misuse (misused_views found.old.items)
+        (Some (misused place (string_bytes method.now) misuse))) }
+{
     if is_found(found.as_slice(), method.as_str()) {
         return Ok(());
     }

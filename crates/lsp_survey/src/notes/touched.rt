@@ -94,6 +94,7 @@ fn others(alloc: Global, names: &[String], known: &[String]) -> Result<Vec<Strin
 }
 
 /// Adds a document, where it is another one and there is room.
+#[inline(always)]
 fn add(names: &mut Vec<String>, uri: &str) -> Result<(), Memory>
     ensures { OnOk result (names_view names.new.items
         ≡ with_name (names_view names.old.items) uri.now) }
@@ -107,12 +108,14 @@ fn add(names: &mut Vec<String>, uri: &str) -> Result<(), Memory>
 }
 
 /// Whether one of these documents has the URI.
+#[inline(always)]
 fn has_name(names: &[String], uri: &str) -> bool
     ensures { result ≡ has_name uri.now (names_view names.now) }
 {
     any_named(names, uri)
 }
 
+#[inline(always)]
 fn any_named(names: &[String], uri: &str) -> bool
     ensures { result ≡ list_any (λ name. bytes_eq (string_bytes name) uri.now) names.now }
 {

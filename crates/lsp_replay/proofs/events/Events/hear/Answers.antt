@@ -4,9 +4,9 @@ use Rattle.std.proofs.lemmas.Result.{err_from_is_err_and}
 use mir.Val.{SFits}
 use Rattle.lsp_verdict.specs.Calls.{calls}
 use Rattle.lsp_verdict.specs.Counting.{AreCounts}
-use Rattle.lsp_verdict.specs.Event.{message, snapshot}
+use Rattle.lsp_verdict.specs.Event.{snapshot}
 use Rattle.lsp_verdict.specs.declared.counts.Counts.{Counts}
-use Rattle.lsp_replay.proofs.Following.{shown_holds, whose_content}
+use Rattle.lsp_replay.proofs.Following.{message_keeps, shown_holds}
 use Rattle.lsp_replay.proofs.Hearing.{snapshot_refused}
 use Rattle.lsp_replay.proofs.events.Events.hear.Goals as goal
 
@@ -15,19 +15,12 @@ returns-in_ok-spoken-in-Content-clause-ok g c =
     let at = c.in-Content in
     let hear = c.in_ok-spoken-in-Content in
     rw at.is (λ events holds.
-    let h = hear.ensures.ok events holds in
-    record {
-      event = message h.sent;
-      reads = h.reads;
-      is_heard = (h.reads.by, h.says, h.means);
-      answers = tt;
-      whole = h.has_value;
-      clean = h.clean;
-      holds = h.holds;
-      counted = λ all counts. c.add.ensures all (message h.sent)
-          (subst (λ (w : Counts). AreCounts w all) (sym hear.ensures.counts) counts)
-          (whose_content at.side at.content.now (message h.sent) h.reads ∙ sym c.who_of.ensures);
-    })
+    message_keeps at.side at.content.now hear.spoken c.args.self.now.docs.terms
+    c.args.self.now.counts c.add.new.self c.hear_content.new.self.session
+    c.hear_content.new.self.docs events (hear.ensures.ok events holds)
+    (λ all event counts own. c.add.ensures all event
+    (subst (λ (w : Counts). AreCounts w all) (sym hear.ensures.counts) counts)
+    (own ∙ sym c.who_of.ensures)))
 
 pub returns-in_err-spoken-in-Content-clause-rule : goal.returns-in_err-spoken-in-Content-clause-rule
 returns-in_err-spoken-in-Content-clause-rule g c =

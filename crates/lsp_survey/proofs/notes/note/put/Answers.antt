@@ -1,5 +1,4 @@
 use Rattle.std.proofs.Common.{Some}
-use Rattle.lsp_survey.specs.declared.notes.note.Spelling.{Spelling}
 use Rattle.lsp_survey.proofs.Putting.{puts_by}
 use Rattle.std.specs.Prelude.{Vec, ℕ}
 use Rattle.std.specs.Global.{Global}

@@ -1,8 +1,5 @@
 use Rattle.std.specs.Prelude.{◌&&◌, ◌||◌, ◌==◌}
 use Rattle.std.proofs.Common.{◌∙◌, sym, ap}
-use Rattle.lsp_rpc.specs.View.{message_view}
-use Rattle.lsp_session.specs.Sent.{other_side, response_id}
-use Rattle.lsp_survey.specs.Passed.{has_any}
 use Rattle.lsp_survey.proofs.PassedSteps.{passed_late}
 use Rattle.lsp_types.specs.declared.rules.TheConstants as rules
 use Rattle.lsp_survey.proofs.walk.Replay.follows_passed.Goals as goal

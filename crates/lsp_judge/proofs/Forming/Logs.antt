@@ -1,0 +1,389 @@
+-- The normal form of a log, against that of the events that were given.
+use Rattle.std.specs.Option.{option_or}
+use Rattle.std.proofs.Common.{◌≡◌, ℕ, ◌+◌, ◌-◌, ◌<◌, List, [], ◌∷◌, ◌++◌, length, map, Option, Some}
+use Rattle.std.proofs.Common.{None, Ok, Err, refl, sym, ap, subst, ◌∙◌, append_assoc, append-nil}
+use Rattle.std.proofs.Common.{arith}
+use Rattle.std.proofs.lemmas.List.{length_push, length-map, length-append}
+use Rattle.lsp_frame.specs.Bounds.{Bounds}
+use Rattle.lsp_frame.specs.Sink.{Wrote, Stopped}
+use Rattle.lsp_frame.specs.Told.{Told}
+use Rattle.lsp_frame.specs.declared.format.Format.{Format}
+use Rattle.lsp_frame.proofs.Telling.{took_nothing, took_then}
+use Rattle.lsp_frame.proofs.Writing.{wrote_nothing, wrote_then}
+use Rattle.lsp_log.specs.Log.{Record, first_line}
+use Rattle.lsp_log.specs.declared.fault.LogCode.{LogCode}
+use Rattle.lsp_replay.specs.LogEvents as log_events
+use Rattle.lsp_replay.specs.LogEvents.{Gives, HasGiven, IsLogOf, Opens, flaw_of}
+use Rattle.lsp_judge.specs.Normal.{form_of, fault_of, EndsNormal, BeginsNormal, IsNormal}
+use Rattle.lsp_judge.specs.NormalSteps.{mark, CarriesCapped, spelled, IsLate, EndsLog, EndsWhole}
+use Rattle.lsp_judge.specs.NormalSteps.{WritesEvent, SoFar, Ended, BrokeOff}
+use Rattle.lsp_verdict.specs.Lent.{raw_view}
+use Rattle.lsp_replay.specs.declared.log_events.End.{End}
+use Rattle.lsp_replay.specs.declared.log_events.End.TheVariants.{Sound, Bad}
+use Rattle.lsp_replay.specs.declared.log_events.LogEvents.{LogEvents}
+use Rattle.lsp_replay.specs.declared.log_events.Next.TheVariants as next
+use Rattle.lsp_verdict.specs.declared.raw.Raw as code
+use Rattle.lsp_verdict.specs.Counting.{AreCounts}
+use Rattle.lsp_types.specs.declared.side.Side.TheVariants.{Editor, Server}
+use Rattle.lsp_verdict.specs.Outcome.{HasRest, ending, format_or_one}
+use Rattle.lsp_verdict.specs.Placed.{Raw, joined}
+use Rattle.lsp_verdict.specs.RunIo.{BreaksOff, failures_after, sink_failures_after}
+use Rattle.lsp_verdict.specs.Verdict.{Verdict, bad_log}
+use Rattle.lsp_verdict.specs.declared.counts.Counts.{Counts}
+use Rattle.lsp_verdict.specs.declared.outcome.Outcome.{Outcome}
+use Rattle.lsp_verdict.specs.declared.outcome.Outcome.TheVariants.{Done, Judged, Stream, NoDocument}
+use Rattle.lsp_verdict.specs.declared.outcome.Outcome.TheVariants.{NoDifference, TooFew}
+use Rattle.lsp_verdict.specs.declared.outcome.RunFault.{RunFault}
+use Rattle.lsp_verdict.specs.declared.outcome.RunFault.TheVariants as faults
+use Rattle.lsp_verdict.specs.declared.verdict.Verdict.TheVariants as verdicts
+use Rattle.lsp_verdict.proofs.Below.{some_stream}
+use Rattle.lsp_verdict.proofs.ExactCounts.{capped_is, raws_within}
+use Rattle.lsp_verdict.proofs.PlacedLemmas.{placed_whole}
+use Rattle.lsp_verdict.proofs.RunReading.{read_map}
+use Rattle.lsp_judge.proofs.Forming.Counts.{end_exact, carries_exact}
+use Rattle.lsp_judge.proofs.Forming.Forms.{one_broken, one_sound, spelled_behind, spelled_broken}
+use Rattle.lsp_judge.proofs.Forming.OneForm.{broken_normal, due_first}
+use Rattle.lsp_replay.proofs.Pulling.{log_of, reads_failures, reads_given}
+
+-- ---- an outcome, and a fault
+
+-- an outcome that carries a fault is not `Done`
+carried : (outcome : Outcome) (v : Verdict) → CarriesCapped outcome (Some v) → outcome ≡ Done → ⊥
+carried Done v carries e = absurd cc
+carried (Judged w) v carries e = absurd cc
+carried (Stream frame fault) v carries e = absurd cc
+carried NoDocument v carries e = absurd cc
+carried TooFew v carries e = absurd cc
+carried NoDifference v carries e = absurd cc
+
+late_source : (fault : RunFault) (n : ℕ) → IsLate fault → n ≡ failures_after fault n
+late_source faults.Read n late = absurd late
+late_source faults.Write n late = refl
+late_source faults.Memory n late = refl
+
+-- a fault after what was written
+failures_along : (fault : RunFault) (a b c : ℕ) → b ≡ a → c ≡ sink_failures_after fault b
+    → c ≡ sink_failures_after fault a
+failures_along fault a b c same is = is ∙ ap (sink_failures_after fault) same
+
+-- a fault of the reader or of memory, where no write failed
+unwritten_sink : (fault : RunFault) (n : ℕ) → (fault ≡ faults.Write → ⊥)
+    → n ≡ sink_failures_after fault n
+unwritten_sink faults.Read n none = refl
+unwritten_sink faults.Memory n none = refl
+unwritten_sink faults.Write n none = absurd (none refl)
+
+-- ---- nothing was written
+
+-- reading broke off before the first record
+pub none_read : (limits : Bounds) (start now sink : Told) (fault : RunFault)
+    → BreaksOff limits start now fault → BrokeOff limits start now sink sink fault
+none_read limits start now sink fault broke = record {
+  cut_short = (
+    [],
+    took_nothing sink,
+    read_map limits start now (λ log. Unit {0})
+        (λ log. BeginsNormal limits log []) (λ log u out due_fault normal. (out, refl))
+        broke.of_read,
+  );
+  source = broke.failures;
+  sink = unwritten_sink fault sink.failures broke.unwritten;
+}
+
+-- the first line was not written whole
+pub head_cut : (limits : Bounds) (e : LogEvents) (start now sink new : Told)
+    → Opens limits start now e → Stopped sink new (first_line (format_or_one e.log.format))
+    → BrokeOff limits start now sink new faults.Write
+head_cut limits e start now sink new (records, due, reads) stopped = record {
+  cut_short = (
+    stopped.front,
+    stopped.took,
+    read_map limits start now (HasGiven limits e.log.format records [])
+        (λ log. BeginsNormal limits log stopped.front)
+        (λ log has. due_first limits reads.stands.range log e.log.format records [] has
+        stopped.front stopped.back
+        (append-nil (first_line (format_or_one e.log.format)) ∙ stopped.whole))
+        (reads_given limits e.log.format e start now records [] due reads),
+  );
+  source = reads_failures limits e.log.format e start now records [] due reads;
+  sink = stopped.failures;
+}
+
+-- none of the events was given
+pub none_formed : (limits : Bounds) (e : LogEvents) (counts : Counts) (start now old : Told)
+    → Opens limits start now e → AreCounts counts []
+    → SoFar limits e.log.format e counts start now old old
+none_formed limits e counts start now old (records, due, reads) counted =
+    record {
+      records = records;
+      given = [];
+      due = due;
+      reads = reads;
+      sound = refl;
+      counted = counted;
+      wrote = wrote_nothing old;
+    }
+
+-- ---- one event more
+
+module _ (limits : Bounds) (format : Option Format) (old new : LogEvents) (counts : Counts)
+    (start before now sink_before sink_now : Told)
+    (so : SoFar limits format old counts start before sink_before sink_now) where
+  -- its records are written after those before
+  wrote_more : (raw : Raw) (sink_new : Told)
+      → Wrote sink_now sink_new (spelled limits.chunk (raw ∷ []))
+      → Wrote sink_before sink_new (spelled limits.chunk (so.given ++ raw ∷ []))
+  wrote_more raw sink_new wrote =
+      subst (Wrote sink_before sink_new)
+      (sym (spelled_behind limits.chunk so.given (raw ∷ []) so.sound))
+      (wrote_then sink_before sink_now sink_new (spelled limits.chunk so.given)
+      (spelled limits.chunk (raw ∷ [])) so.wrote wrote)
+
+  pub one_formed : (raw : code.Raw) (counted_now : Counts) (size : ℕ) (sink_new : Told)
+      → size ≡ limits.chunk → Gives limits format new start now so.records so.given
+      (Ok (next.Event raw)) → WritesEvent size counted_now sink_now sink_new so.given (raw_view raw)
+      (Ok None)
+      → SoFar limits format new counted_now start now sink_before sink_new
+  one_formed raw counted_now size sink_new is (more, due, reads) (none, counted, wrote) = record {
+    records = so.records ++ more;
+    given = so.given ++ raw_view raw ∷ [];
+    due = due;
+    reads = reads;
+    sound = one_sound (raw_view raw) so.given none so.sound;
+    counted = counted;
+    wrote = wrote_more (raw_view raw) sink_new
+        (subst (λ (n : ℕ). Wrote sink_now sink_new (spelled n (raw_view raw ∷ []))) is wrote);
+  }
+
+  -- and it is one more than before, of no more than the log has bytes
+  pub fewer : (raw : code.Raw) (counted_now : Counts) (size : ℕ) (sink_new : Told)
+      → Gives limits format new start now so.records so.given (Ok (next.Event raw))
+      → WritesEvent size counted_now sink_now sink_new so.given (raw_view raw) (Ok None)
+      → (limits.log + 1) - counted_now.all < (limits.log + 1) - counts.all
+  fewer raw counted_now size sink_new (more, due, reads) (none, counted, wrote) =
+      let given : List Raw = so.given ++ raw_view raw ∷ [] in
+      let of_log = reads_given limits format new start now (so.records ++ more) given due reads in
+      let has : HasGiven limits format (so.records ++ more) given of_log.bytes =
+      of_log.holds of_log.bytes ([], sym (append-nil of_log.bytes), λ end. refl) in
+      let few = raws_within limits of_log.bytes format has.records has.log_fault
+      (given ++ has.later) has.is_log has.placed in
+      let longer = length_push so.given (raw_view raw) in
+      let all = length-append given has.later in
+      let high = reads.stands.range.log_high in
+      let is_old : counts.all ≡ length so.given =
+      so.counted.all ∙ capped_is (length (map mark so.given))
+      (omega (arith, length-map so.given mark, few, longer, all, high))
+      ∙ length-map so.given mark in
+      let is_new : counted_now.all ≡ length given =
+      counted.all ∙ capped_is (length (map mark given))
+      (omega (arith, length-map given mark, few, all, high)) ∙ length-map given mark in
+      omega (arith, is_old, is_new, few, longer, all)
+
+  module _ (sink : Told) (head : Wrote sink sink_before (first_line (format_or_one format))) where
+    line : List ℕ
+    line = first_line (format_or_one format)
+
+    -- a fault of the frames ends the normal form
+    pub fault_ends : (raw : code.Raw) (counted_now : Counts) (size : ℕ) (outcome : Outcome)
+        (sink_new : Told) → Gives limits format new start now so.records so.given
+        (Ok (next.Event raw)) → WritesEvent size counted_now sink_now sink_new so.given
+        (raw_view raw) (Ok (Some outcome))
+        → Ended limits start now sink sink_new outcome
+    unfolding line
+    fault_ends raw counted_now size outcome sink_new (more, due, reads)
+        (stays, (verdict, is, carries)) =
+        let given : List Raw = so.given ++ raw_view raw ∷ [] in
+        let form : List ℕ = form_of (format_or_one format) limits.chunk given in
+        let breaks = one_broken (raw_view raw) so.given verdict is so.sound in
+        let same : spelled limits.chunk given ≡ spelled limits.chunk so.given =
+        spelled_behind limits.chunk so.given (raw_view raw ∷ []) so.sound
+        ∙ ap (λ (w : List ℕ). spelled limits.chunk so.given ++ w)
+        (spelled_broken limits.chunk so.given (raw_view raw) verdict is)
+        ∙ append-nil (spelled limits.chunk so.given) in
+        let wrote : Wrote sink sink_now form =
+        wrote_then sink sink_before sink_now line (spelled limits.chunk given) head
+        (subst (Wrote sink_before sink_now) (sym same) so.wrote) in
+        let all = subst (λ (t : Told). Wrote sink t form) (sym stays) wrote in
+        record {
+          normal = (
+            form,
+            all.took,
+            read_map limits start now (HasGiven limits format (so.records ++ more) given)
+                (λ log. EndsNormal limits log form outcome)
+                (λ log has.
+                let normal = broken_normal limits reads.stands.range log format (so.records ++ more)
+                given has verdict breaks in (
+                  Some verdict,
+                  normal.0,
+                  carries_exact outcome (Some verdict) (ap Some normal.1) carries,
+                ))
+                (reads_given limits format new start now (so.records ++ more) given due reads),
+          );
+          done = λ done. absurd (carried outcome verdict carries done);
+          source = reads_failures limits format new start now (so.records ++ more) given due reads;
+          sink = all.failures;
+        }
+
+    -- its records were not written whole
+    pub part_written : (raw : code.Raw) (counted_now : Counts) (size : ℕ) (fault : RunFault)
+        (sink_new : Told) → size ≡ limits.chunk
+        → Gives limits format new start now so.records so.given (Ok (next.Event raw))
+        → WritesEvent size counted_now sink_now sink_new so.given (raw_view raw) (Err fault)
+        → BrokeOff limits start now sink sink_new fault
+    unfolding line
+    part_written raw counted_now size fault sink_new is (more, due, reads) (none, late, part) =
+        let given : List Raw = so.given ++ raw_view raw ∷ [] in
+        let before_it : List ℕ = line ++ spelled limits.chunk so.given in
+        let wrote : Wrote sink sink_now before_it =
+        wrote_then sink sink_before sink_now line (spelled limits.chunk so.given) head
+        so.wrote in
+        let due_now : spelled limits.chunk (raw_view raw ∷ []) ≡ part.front ++ part.back =
+        ap (λ (n : ℕ). spelled n (raw_view raw ∷ [])) (sym is) ∙ part.whole in
+        let whole : form_of (format_or_one format) limits.chunk given
+        ≡ (before_it ++ part.front) ++ part.back =
+        ap (λ (w : List ℕ). line ++ w)
+        (spelled_behind limits.chunk so.given (raw_view raw ∷ []) so.sound)
+        ∙ ap (λ (w : List ℕ). line ++ (spelled limits.chunk so.given ++ w)) due_now
+        ∙ sym (append_assoc line (spelled limits.chunk so.given) (part.front ++ part.back))
+        ∙ sym (append_assoc before_it part.front part.back) in
+        record {
+          cut_short = (
+            before_it ++ part.front,
+            took_then sink sink_now sink_new before_it part.front wrote.took part.took,
+            read_map limits start now (HasGiven limits format (so.records ++ more) given)
+                (λ log. BeginsNormal limits log (before_it ++ part.front))
+                (λ log has. due_first limits reads.stands.range log format (so.records ++ more)
+                given has (before_it ++ part.front) part.back whole)
+                (reads_given limits format new start now (so.records ++ more) given due reads),
+          );
+          source = reads_failures limits format new start now (so.records ++ more) given due reads
+              ∙ late_source fault start.failures late;
+          sink = failures_along fault sink.failures sink_now.failures sink_new.failures
+              wrote.failures part.failures;
+        }
+
+    wrote_given : Wrote sink sink_now (form_of (format_or_one format) limits.chunk so.given)
+    unfolding line
+    wrote_given = wrote_then sink sink_before sink_now line (spelled limits.chunk so.given) head
+        so.wrote
+
+    -- reading broke off
+    pub broke_off : (fault : RunFault)
+        → Gives limits format new start now so.records so.given (Err fault)
+        → BrokeOff limits start now sink sink_now fault
+    broke_off fault (more, broke) =
+        let form : List ℕ = form_of (format_or_one format) limits.chunk so.given in
+        record {
+          cut_short = (
+            form,
+            wrote_given.took,
+            read_map limits start now (HasGiven limits format (so.records ++ more) so.given)
+                (λ log. BeginsNormal limits log form)
+                (λ log has. due_first limits so.reads.stands.range log format (so.records ++ more)
+                so.given has form [] (sym (append-nil form))) broke.of_read,
+          );
+          source = broke.failures;
+          sink = failures_along fault sink.failures sink_now.failures sink_now.failures
+              wrote_given.failures (unwritten_sink fault sink_now.failures broke.unwritten);
+        }
+
+    module _ (more : List Record) (end : End)
+        (ended : log_events.Ended limits format new start now (so.records ++ more) so.given end)
+      where
+        records : List Record
+        records = so.records ++ more
+
+        form : List ℕ
+        form = form_of (format_or_one format) limits.chunk so.given
+
+        -- the normal form of a log of these records, after which it ends
+        normal_of : (log : List ℕ) (editor server : List ℕ)
+            → IsLogOf new.log limits records (flaw_of end) log
+            → HasRest limits (joined Editor records) editor
+            → HasRest limits (joined Server records) server
+            → IsNormal limits log form (fault_of so.given (ending (flaw_of end) editor server))
+        unfolding records form
+        normal_of log editor server is editor_rest server_rest = record {
+          format = new.log.format;
+          records = records;
+          log_fault = flaw_of end;
+          raws = so.given;
+          editor = editor;
+          server = server;
+          is_log = log_of limits new.log records (flaw_of end) log is;
+          placed = placed_whole limits records so.given [] refl ended.reads.stands.placed;
+          editor_rest = editor_rest;
+          server_rest = server_rest;
+          ends = refl;
+          written = ap (λ (f : Option Format). form_of (format_or_one f) limits.chunk so.given)
+              (sym ended.reads.format_is);
+        }
+
+    -- the log ended without a fault
+    log_ends : (outcome : Outcome)
+        → (gives : Gives limits format new start now so.records so.given (Ok (next.End Sound)))
+        → EndsWhole limits (so.records ++ gives.0) so.given outcome
+        → Ended limits start now sink sink_now outcome
+    unfolding records form normal_of
+    log_ends outcome (more, ended) ends =
+        let all : List Record = so.records ++ more in
+        let placed = placed_whole limits all so.given [] refl ended.reads.stands.placed in
+        let due : Option Verdict = fault_of so.given (ending None ends.editor ends.server) in
+        let written : List ℕ = form_of (format_or_one format) limits.chunk so.given in
+        record {
+          normal = (
+            written,
+            wrote_given.took,
+            read_map limits start now (IsLogOf new.log limits all None)
+                (λ log. EndsNormal limits log written outcome)
+                (λ log is. (
+                  due,
+                  normal_of more Sound ended log ends.editor ends.server is ends.editor_rest
+                      ends.server_rest,
+                  carries_exact outcome due
+                      (end_exact limits so.reads.stands.range log new.log.format all so.given
+                      ends.editor ends.server is placed so.sound) ends.carries,
+                )) ended.ends.of_read,
+          );
+          done = λ done. ended.ends.met refl;
+          source = ended.ends.failures;
+          sink = wrote_given.failures;
+        }
+
+    -- the log has a fault
+    bad_ends : (number : ℕ) (fault : LogCode)
+        → Gives limits format new start now so.records so.given (Ok (next.End (Bad number fault)))
+        → Ended limits start now sink sink_now (Judged (verdicts.BadLog number fault))
+    unfolding records form normal_of
+    bad_ends number fault (more, ended) =
+        let all : List Record = so.records ++ more in
+        let written : List ℕ = form_of (format_or_one format) limits.chunk so.given in
+        let outcome : Outcome = Judged (verdicts.BadLog number fault) in
+        let editor = some_stream limits (joined Editor all) in
+        let server = some_stream limits (joined Server all) in
+        record {
+          normal = (
+            written,
+            wrote_given.took,
+            read_map limits start now (IsLogOf new.log limits all (Some (number, fault)))
+                (λ log. EndsNormal limits log written outcome)
+                (λ log is. (
+                  fault_of so.given (ending (Some (number, fault)) editor.1 server.1),
+                  normal_of more (Bad number fault) ended log editor.1 server.1 is
+                      (editor.0, editor.2, editor.3) (server.0, server.2, server.3),
+                  ap (λ (o : Option Verdict). option_or o (Some (bad_log number fault))) so.sound,
+                )) ended.ends.of_read,
+          );
+          done = λ done. absurd (cc done);
+          source = ended.ends.failures;
+          sink = wrote_given.failures;
+        }
+
+    pub end_formed : (end : End) (outcome : Outcome)
+        → (gives : Gives limits format new start now so.records so.given (Ok (next.End end)))
+        → EndsLog limits (so.records ++ gives.0) so.given end outcome
+        → Ended limits start now sink sink_now outcome
+    end_formed Sound outcome gives ends = log_ends outcome gives ends
+    end_formed (Bad number fault) outcome gives is =
+        subst (λ (o : Outcome). Ended limits start now sink sink_now o) (sym is)
+        (bad_ends number fault gives)

@@ -1,0 +1,155 @@
+-- A run with what comes after its parts.
+use Rattle.std.proofs.Common.{◌≡◌, ℕ, ◌+◌, ◌<◌, List, [], ◌∷◌, ◌++◌, length, Bool, true, false}
+use Rattle.std.proofs.Common.{Option, Some, None, Err, replicate, refl, sym, subst, ◌∙◌}
+use Rattle.std.proofs.Common.{append_assoc, arith, inl, inr}
+use Rattle.std.specs.Io.KnownBytes.{IsAtEnd}
+use Rattle.std.proofs.lemmas.Bool.{false≢true, lt-ltb}
+use Rattle.std.proofs.lemmas.List.{length-append, length-replicate}
+use Rattle.lsp_frame.specs.Bounds.{Bounds}
+use Rattle.lsp_frame.specs.Sink.{Wrote, Stopped}
+use Rattle.lsp_frame.specs.Told.{Told, Took}
+use Rattle.lsp_frame.proofs.Writing.{wrote_then, stopped_then}
+use Rattle.lsp_judge.specs.StreamParts.{RunsThrough}
+use Rattle.lsp_verdict.specs.RunIo.{OfRead, GoesOn, Tells}
+use Rattle.lsp_judge.specs.StreamRun.{fault_of, HasParts, closing, IsRun, BeginsRun}
+use Rattle.lsp_judge.specs.StreamSteps.{WroteParts, BrokeOff}
+use Rattle.lsp_verdict.specs.declared.outcome.Mode.{Mode}
+use Rattle.lsp_verdict.specs.declared.outcome.Outcome.{Outcome}
+use Rattle.lsp_verdict.specs.declared.outcome.Outcome.TheVariants.{Done}
+use Rattle.lsp_verdict.specs.declared.outcome.RunFault.{RunFault}
+use Rattle.lsp_verdict.specs.declared.outcome.RunFault.TheVariants.{Read, Write, Memory}
+use Rattle.lsp_verdict.proofs.RunReading.{read_map}
+use Rattle.lsp_judge.proofs.Framing.Due.{due_is, due_begins}
+
+-- all that is due is written
+abbrev pub WroteRun : Bounds → Mode → Told → Told → Told → Told → Outcome → Type 0
+WroteRun limits mode before after sink_before sink_after outcome =
+    (out : List ℕ) × Took sink_before sink_after out
+    × OfRead limits before after (λ stream. IsRun limits mode stream out outcome)
+
+-- what is written begins what is due
+abbrev pub BeganRun : Bounds → Mode → Told → Told → Told → Told → Type 0
+BeganRun limits mode before after sink_before sink_after =
+    (out : List ℕ) × Took sink_before sink_after out
+    × OfRead limits before after (λ stream. BeginsRun limits mode stream out)
+
+pub ran : (limits : Bounds) (mode : Mode) (before after sink_before sink_mid sink_after : Told)
+    (outcome : Outcome) → WroteParts limits mode before after sink_before sink_mid outcome
+    → Wrote sink_mid sink_after (closing mode outcome)
+    → WroteRun limits mode before after sink_before sink_after outcome
+ran limits mode before after sink_before sink_mid sink_after outcome parts closed = (
+  parts.parts ++ closing mode outcome,
+  (wrote_then sink_before sink_mid sink_after parts.parts (closing mode outcome) parts.wrote
+      closed).took,
+  read_map limits before after _ _ (λ stream has. (parts.parts, has, refl)) parts.due,
+)
+
+-- what is due after the parts goes on as what is written does
+due_on : (limits : Bounds) (mode : Mode) (stream parts written left : List ℕ) (outcome : Outcome)
+    → parts ++ closing mode outcome ≡ written ++ left → HasParts limits mode stream parts outcome
+    → BeginsRun limits mode stream written
+due_on limits mode stream parts written left outcome whole has =
+    λ out other run. (left, due_is limits mode stream parts out outcome other has run ∙ whole)
+
+-- a prefix of what comes after the parts was written
+closing_stopped : (limits : Bounds) (mode : Mode)
+    (before after sink_before sink_mid sink_after : Told) (outcome : Outcome)
+    → WroteParts limits mode before after sink_before sink_mid outcome
+    → Stopped sink_mid sink_after (closing mode outcome)
+    → BeganRun limits mode before after sink_before sink_after
+closing_stopped limits mode before after sink_before sink_mid sink_after outcome parts stopped =
+    let all = stopped_then sink_before sink_mid sink_after parts.parts (closing mode outcome)
+    parts.wrote stopped in (
+      all.front,
+      all.took,
+      read_map limits before after _ _
+          (λ stream. due_on limits mode stream parts.parts all.front all.back outcome all.whole)
+          parts.due,
+    )
+
+-- nothing of what comes after the parts was written
+closing_refused : (limits : Bounds) (mode : Mode) (before after sink_before sink_after : Told)
+    (outcome : Outcome) → WroteParts limits mode before after sink_before sink_after outcome
+    → BeganRun limits mode before after sink_before sink_after
+closing_refused limits mode before after sink_before sink_after outcome parts = (
+  parts.parts,
+  parts.wrote.took,
+  read_map limits before after _ _
+      (λ stream. due_on limits mode stream parts.parts parts.parts (closing mode outcome) outcome
+      refl) parts.due,
+)
+
+-- the parts were broken off
+pub broken : (limits : Bounds) (mode : Mode) (before after sink_before sink_after : Told)
+    (fault : RunFault) → BrokeOff limits mode before after sink_before sink_after fault
+    → BeganRun limits mode before after sink_before sink_after
+broken limits mode before after sink_before sink_after fault off = (
+  off.written,
+  off.wrote,
+  record {
+    bytes = off.bytes;
+    ended = false;
+    read = off.read;
+    holds = λ stream goes out outcome run.
+        let b = due_begins limits mode off.bytes off.contents off.rest (off.written ++ off.left)
+        goes.0 out outcome off.frames off.within off.are_parts
+        (subst (λ (w : List ℕ). IsRun limits mode w out outcome) goes.1 run) in
+        (off.left ++ b.0, b.1 ∙ append_assoc off.written off.left b.0);
+  },
+)
+
+-- a run stopped after the parts
+pub closing_cut : (limits : Bounds) (mode : Mode)
+    (before after sink_before sink_mid sink_after : Told) (outcome : Outcome) (fault : RunFault)
+    → WroteParts limits mode before after sink_before sink_mid outcome
+    → Tells sink_mid sink_after (closing mode outcome) (Err fault)
+    → BeganRun limits mode before after sink_before sink_after
+closing_cut limits mode before after sink_before sink_mid sink_after outcome Write parts closes =
+    closing_stopped limits mode before after sink_before sink_mid sink_after outcome parts closes
+closing_cut limits mode before after sink_before sink_mid sink_after outcome Memory parts closes =
+    subst (λ (t : Told). BeganRun limits mode before after sink_before t) (sym closes)
+    (closing_refused limits mode before after sink_before sink_mid outcome parts)
+closing_cut limits mode before after sink_before sink_mid sink_after outcome Read parts closes =
+    absurd closes
+
+-- ---- what is done was read to its end
+
+not_done : (mode : Mode) (frame : ℕ) (contents : List (List ℕ)) (fault : Option ℕ)
+    (rest parts : List ℕ) → RunsThrough mode frame contents (fault_of fault true rest) parts Done
+    → ⊥
+not_done mode frame [] None rest parts run = absurd (cc run.1)
+not_done mode frame [] (Some rule) rest parts run = absurd (cc run.1)
+not_done mode frame (c ∷ cs) fault rest parts (inl x) =
+    not_done mode (frame + 1) cs fault rest x.1 x.3
+not_done mode frame (c ∷ cs) fault rest parts (inr x) = absurd (cc x.3)
+
+-- a stream that goes on past the limit isn't done
+long_not_done : (limits : Bounds) (mode : Mode) (stream parts : List ℕ) → limits.log < length stream
+    → HasParts limits mode stream parts Done → ⊥
+long_not_done limits mode stream parts long has =
+    not_done mode 1 has.contents has.fault has.rest parts
+    (subst (λ (b : Bool). RunsThrough mode 1 has.contents (fault_of has.fault b has.rest) parts
+    Done) (lt-ltb limits.log (length stream) long) has.runs_through)
+
+at_end_if : (ended : Bool) (end : Option (List ℕ)) → (ended ≡ true → IsAtEnd end)
+    → (ended ≡ false → ⊥) → IsAtEnd end
+at_end_if true end is not = is refl
+at_end_if false end is not = absurd (not refl)
+
+goes_on : (bytes more : List ℕ) (ended : Bool) → ended ≡ false → GoesOn bytes ended (bytes ++ more)
+goes_on bytes more ended is = (more, refl, λ e. absurd (false≢true (sym is ∙ e)))
+
+pub done_at_end : (limits : Bounds) (mode : Mode) (before after sink_before sink_after : Told)
+    (outcome : Outcome) → WroteParts limits mode before after sink_before sink_after outcome
+    → outcome ≡ Done → IsAtEnd after.bytes
+done_at_end limits mode before after sink_before sink_after outcome parts done =
+    let due = parts.due in
+    at_end_if due.ended after.bytes due.read.end
+    (λ open_end.
+    let more = replicate (limits.log + 1) 0 in
+    let stream = due.bytes ++ more in
+    let long : limits.log < length stream =
+    omega (arith, length-append due.bytes more, length-replicate {A = ℕ} (limits.log + 1) 0) in
+    long_not_done limits mode stream parts.parts long
+    (subst (λ (o : Outcome). HasParts limits mode stream parts.parts o) done
+    (due.holds stream (goes_on due.bytes more due.ended open_end))))

@@ -1,0 +1,12 @@
+use Rattle.std.proofs.lemmas.Result.{err_from_is_err_and}
+use Rattle.lsp_judge.proofs.Seeking.Logs.{none_passed}
+use Rattle.lsp_judge.proofs.event.find_event.Goals as goal
+
+pub returns-in_err-events : goal.returns-in_err-events
+returns-in_err-events g c =
+    let p = err_from_is_err_and c.from_residual.result c.from_residual.ensures.1 in
+    rw (p.1, p.2) c.in_err-events.ensures.err
+
+pub returns : goal.returns
+returns g c = c.find_next.ensures c.args.limits _ c.args.number
+    (none_passed c.args.limits c.in_ok-events.events _ _ c.args.number c.in_ok-events.ensures.ok)

@@ -1,0 +1,62 @@
+-- The content of one event of a log.
+use Rattle.std.specs.Prelude.{◌≡◌, ℕ, ◌-◌, List, [], ◌++◌, Option, Some, None, slice_get}
+use Rattle.lsp_frame.specs.Bounds.{Bounds}
+use Rattle.lsp_frame.specs.declared.format.Format.{Format}
+use Rattle.lsp_log.specs.declared.fault.LogCode.{LogCode}
+use Rattle.lsp_log.specs.Log.{Record, IsLog}
+use Rattle.lsp_judge.specs.declared.event.EventOutcome.{EventOutcome}
+use Rattle.lsp_judge.specs.declared.event.EventOutcome.TheVariants.{Done, NoContent, FewerEvents}
+use Rattle.lsp_judge.specs.declared.event.EventOutcome.TheVariants.{BadLog}
+use Rattle.lsp_verdict.specs.Placed.{Raw, content, broken, show, Placed}
+
+-- ---- one event
+
+-- what an event holds: the content of a message, or the text of a snapshot; a fault of the frames
+-- holds nothing
+abbrev pub content_of : Raw → List ℕ
+content_of (content side bytes) = bytes
+content_of (broken side rule) = []
+content_of (show number uri text) = text
+
+-- how a run ends that was asked for this event
+abbrev pub outcome_of : Raw → EventOutcome
+outcome_of (content side bytes) = Done
+outcome_of (broken side rule) = NoContent
+outcome_of (show number uri text) = Done
+
+-- how it ends where there is no such event: a fault of the log is named
+abbrev pub without : Option (ℕ × LogCode) → EventOutcome
+without None = FewerEvents
+without (Some flaw) = BadLog flaw.0 flaw.1
+
+abbrev pub content_at : Option Raw → List ℕ
+content_at None = []
+content_at (Some raw) = content_of raw
+
+abbrev pub outcome_at : Option Raw → Option (ℕ × LogCode) → EventOutcome
+outcome_at None flaw = without flaw
+outcome_at (Some raw) flaw = outcome_of raw
+
+-- the n-th event, from 1
+abbrev pub event_at : ℕ → List Raw → Option Raw
+event_at n raws = slice_get raws (n - 1)
+
+-- ---- the event of a log
+
+-- **what is due for the n-th event of a log**, whatever of its events offends: what this event
+-- holds, and how the run ends
+pub record IsEvent (limits : Bounds) (log : List ℕ) (n : ℕ) (out : List ℕ)
+    (outcome : EventOutcome) : Type 0 where
+  pub format : Option Format
+  pub records : List Record
+  pub log_fault : Option (ℕ × LogCode)
+  pub raws : List Raw
+  pub is_log : IsLog limits log format records log_fault
+  pub placed : Placed limits records raws
+  pub written : out ≡ content_at (event_at n raws)
+  pub ends : outcome ≡ outcome_at (event_at n raws) log_fault
+
+-- these bytes begin what is due for the n-th event of a log
+abbrev pub BeginsEvent : Bounds → List ℕ → ℕ → List ℕ → Type 0
+BeginsEvent limits log n front =
+    (outcome : EventOutcome) × (left : List ℕ) × IsEvent limits log n (front ++ left) outcome

@@ -1,0 +1,149 @@
+-- What the steps of a run that writes a normal form answer.
+use Rattle.std.specs.Prelude.{◌≡◌, ℕ, List, [], ◌∷◌, ◌++◌, chars, map, option_map, Option, Some}
+use Rattle.std.specs.Prelude.{None, Result, Ok, Err}
+use Rattle.std.specs.Io.KnownBytes.{IsAtEnd}
+use Rattle.std.specs.List.{flat_map}
+use Rattle.lsp_frame.specs.Bounds.{Bounds}
+use Rattle.lsp_frame.specs.Sink.{Wrote}
+use Rattle.lsp_frame.specs.Told.{Told, Took}
+use Rattle.lsp_frame.specs.declared.format.Format.{Format}
+use Rattle.lsp_types.specs.declared.side.Side.TheVariants.{Editor, Server}
+use Rattle.lsp_log.specs.Log.{Record, spelling, first_line}
+use Rattle.lsp_replay.specs.LogEvents.{Reads}
+use Rattle.lsp_judge.specs.Normal.{records_of, no_at, first_broken, fault_of, EndsNormal}
+use Rattle.lsp_judge.specs.Normal.{BeginsNormal}
+use Rattle.lsp_replay.specs.declared.log_events.End.{End}
+use Rattle.lsp_replay.specs.declared.log_events.End.TheVariants.{Sound, Bad}
+use Rattle.lsp_replay.specs.declared.log_events.LogEvents.{LogEvents}
+use Rattle.lsp_verdict.specs.Counting.{AreCounts}
+use Rattle.lsp_verdict.specs.Event as event
+use Rattle.lsp_verdict.specs.Event.{Event}
+use Rattle.lsp_verdict.specs.Given.{verdict_view, as_given}
+use Rattle.lsp_verdict.specs.Outcome.{HasRest, ending, format_or_one}
+use Rattle.lsp_verdict.specs.Placed.{Raw, content, broken, show, joined}
+use Rattle.lsp_verdict.specs.RunIo.{OfRead, failures_after, sink_failures_after}
+use Rattle.lsp_verdict.specs.Verdict.{Verdict}
+use Rattle.lsp_verdict.specs.declared.counts.Counts.{Counts}
+use Rattle.lsp_verdict.specs.declared.outcome.Outcome.{Outcome}
+use Rattle.lsp_verdict.specs.declared.outcome.Outcome.TheVariants.{Done, Judged, Stream, NoDocument}
+use Rattle.lsp_verdict.specs.declared.outcome.Outcome.TheVariants.{NoDifference, TooFew}
+use Rattle.lsp_verdict.specs.declared.outcome.RunFault.{RunFault}
+use Rattle.lsp_verdict.specs.declared.outcome.RunFault.TheVariants as faults
+use Rattle.lsp_verdict.specs.declared.verdict.Verdict.TheVariants as verdicts
+
+-- an event that replaces one that is not read, by which it is counted
+abbrev pub mark : Raw → Event
+mark (content side bytes) = event.fault side 0
+mark (broken side rule) = event.fault side rule
+mark (show number uri text) = event.snapshot uri number (chars text)
+
+abbrev pub Counted : Counts → List Raw → Type 0
+Counted counts raws = AreCounts counts (map mark raws)
+
+-- the outcome carries the fault as its verdict, its numbers as they are counted
+abbrev pub CarriesCapped : Outcome → Option Verdict → Type 0
+CarriesCapped Done fault = fault ≡ None
+CarriesCapped (Judged v) fault = option_map as_given fault ≡ Some (verdict_view v)
+CarriesCapped (Stream frame fault) _ = ⊥
+CarriesCapped NoDocument fault = ⊥
+CarriesCapped TooFew fault = ⊥
+CarriesCapped NoDifference fault = ⊥
+
+-- the records of these events, as they are written
+abbrev pub spelled : ℕ → List Raw → List ℕ
+spelled size raws = flat_map spelling (records_of size raws)
+
+-- a prefix of these bytes is written, and this was the fault
+pub record WroteFront (old new : Told) (due : List ℕ) (fault : RunFault) : Type 0 where
+  pub front : List ℕ
+  pub back : List ℕ
+  pub whole : due ≡ front ++ back
+  pub took : Took old new front
+  pub failures : new.failures ≡ sink_failures_after fault old.failures
+
+-- a fault of the writer or of memory, not of the reader
+abbrev pub IsLate : RunFault → Type 0
+IsLate faults.Read = ⊥
+IsLate faults.Write = Unit {0}
+IsLate faults.Memory = Unit {0}
+
+-- ---- one event
+
+-- its records are written and it is counted; or it is a fault of the frames, and the outcome
+-- carries the No at it
+abbrev pub WritesEvent : ℕ → Counts → Told → Told → List Raw → Raw
+    → Result (Option Outcome) RunFault → Type 0
+WritesEvent size counts old new before raw (Ok None) =
+    (no_at before raw ≡ None) × Counted counts (before ++ raw ∷ [])
+    × Wrote old new (spelled size (raw ∷ []))
+WritesEvent size counts old new before raw (Ok (Some outcome)) =
+    (new ≡ old) × ((verdict : Verdict) × (no_at before raw ≡ Some verdict)
+    × CarriesCapped outcome (Some verdict))
+WritesEvent size counts old new before raw (Err fault) =
+    (no_at before raw ≡ None) × IsLate fault × WroteFront old new (spelled size (raw ∷ [])) fault
+
+-- ---- the events of a log
+
+-- the outcome is that of a log that ends after these records, which bring these events, without a
+-- fault
+pub record EndsWhole (limits : Bounds) (records : List Record) (raws : List Raw)
+    (outcome : Outcome) : Type 0 where
+  pub editor : List ℕ
+  pub server : List ℕ
+  pub editor_rest : HasRest limits (joined Editor records) editor
+  pub server_rest : HasRest limits (joined Server records) server
+  pub carries : CarriesCapped outcome (fault_of raws (ending None editor server))
+
+-- the outcome is that of a log that ends so after these records
+abbrev pub EndsLog : Bounds → List Record → List Raw → End → Outcome → Type 0
+EndsLog limits records raws Sound outcome = EndsWhole limits records raws outcome
+EndsLog limits records raws (Bad number fault) outcome =
+    outcome ≡ Judged (verdicts.BadLog number fault)
+
+-- the first line of the log's format is written
+abbrev pub WroteHead : LogEvents → Told → Told → Type 0
+WroteHead e old new = Wrote old new (first_line (format_or_one e.log.format))
+
+-- the events given are written and counted, and none of them is a fault of the frames
+pub record SoFar (limits : Bounds) (format : Option Format) (e : LogEvents) (counts : Counts)
+    (start now old new : Told) : Type 0 where
+  pub records : List Record
+  pub given : List Raw
+  pub due : List Raw
+  pub reads : Reads limits format e start now records given due
+  pub sound : first_broken given ≡ None
+  pub counted : Counted counts given
+  pub wrote : Wrote old new (spelled limits.chunk given)
+
+-- ---- a run
+
+-- the normal form of the log is written, and the outcome carries its fault
+abbrev pub WroteNormal : Bounds → Told → Told → Told → Told → Outcome → Type 0
+WroteNormal limits before now sink_before sink_now outcome =
+    (out : List ℕ) × Took sink_before sink_now out
+    × OfRead limits before now (λ log. EndsNormal limits log out outcome)
+
+-- what is written begins the normal form of the log
+abbrev pub BeganNormal : Bounds → Told → Told → Told → Told → Type 0
+BeganNormal limits before now sink_before sink_now =
+    (out : List ℕ) × Took sink_before sink_now out
+    × OfRead limits before now (λ log. BeginsNormal limits log out)
+
+pub record Ended (limits : Bounds) (before now sink_before sink_now : Told)
+    (outcome : Outcome) : Type 0 where
+  pub normal : WroteNormal limits before now sink_before sink_now outcome
+  pub done : outcome ≡ Done → IsAtEnd now.bytes
+  pub source : now.failures ≡ before.failures
+  pub sink : sink_now.failures ≡ sink_before.failures
+
+pub record BrokeOff (limits : Bounds) (before now sink_before sink_now : Told)
+    (fault : RunFault) : Type 0 where
+  pub cut_short : BeganNormal limits before now sink_before sink_now
+  pub source : now.failures ≡ failures_after fault before.failures
+  pub sink : sink_now.failures ≡ sink_failures_after fault sink_before.failures
+
+abbrev pub Forms : Bounds → Told → Told → Told → Told → Result Outcome RunFault → Type 0
+Forms limits before now sink_before sink_now (Ok outcome) =
+    Ended limits before now sink_before sink_now outcome
+Forms limits before now sink_before sink_now (Err fault) =
+    BrokeOff limits before now sink_before sink_now fault

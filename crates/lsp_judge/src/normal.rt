@@ -1,0 +1,178 @@
+//! The normal form of a log: each message as its canonical frame, in full records.
+ghost use Rattle.std.specs.Prelude.{◌≡◌, ◌+◌, [], ℕ, List, Some, None, Ok, IfOk, OnErr};
+ghost use Rattle.std.specs.Io.KnownBytes.{IsAtEnd};
+ghost use Rattle.lsp_frame.specs.Bounds.{Bounds};
+ghost use Rattle.lsp_frame.specs.Told.{Told, Took};
+ghost use Rattle.lsp_log.specs.Log as log;
+ghost use Rattle.lsp_replay.specs.LogEvents.{Opens};
+ghost use Rattle.lsp_judge.specs.Normal as normal;
+ghost use Rattle.lsp_judge.specs.Normal.{first_broken, EndsNormal, BeginsNormal};
+ghost use Rattle.lsp_judge.specs.NormalSteps.{Counted, CarriesCapped, EndsLog, EndsWhole, Forms};
+ghost use Rattle.lsp_judge.specs.NormalSteps.{WritesEvent, WroteHead};
+ghost use Rattle.lsp_replay.specs.Streams.{Stands};
+ghost use Rattle.lsp_verdict.specs.Lent.{raw_view};
+ghost use Rattle.lsp_verdict.specs.Placed.{Raw as PlacedRaw};
+ghost use Rattle.lsp_verdict.specs.RunIo.{OfRead, GaveAtMost, source_failures, sink_failures};
+
+use crate::pieces::Pieces;
+use lsp_frame::{Format, Limits, Sink, Source};
+use lsp_log::{write_head_of, write_snapshot};
+use lsp_replay::{End, LogEvents, Next};
+use lsp_rpc::Side;
+use lsp_types::rules;
+use lsp_verdict::{Counts, Outcome, Raw, RunFault, Verdict, Who, who_of};
+use std::alloc::Global;
+
+/// No at the event that comes next, with the number that the side's next message has.
+fn no_next(counts: &Counts, rule: u16, side: Side) -> Outcome
+    ensures { (raws : List PlacedRaw) → Counted counts.now raws
+        → CarriesCapped result (Some (normal.no_next rule side raws)) }
+{
+    let who = who_of(side);
+    let (number, event) = counts.next(who);
+    Outcome::Judged(Verdict::No {
+        rule,
+        who,
+        number,
+        event,
+    })
+}
+
+/// Writes the records of an event and counts it, or gives the No at a fault of the frames.
+fn write_event<W: Sink>(
+    writer: &mut W,
+    pieces: &mut Pieces,
+    counts: &mut Counts,
+    raw: &Raw<'_>,
+) -> Result<Option<Outcome>, RunFault>
+    ensures size { pieces.new ≡ pieces.old }
+    ensures answer { (before : List PlacedRaw) → Counted counts.old before
+        → WritesEvent pieces.old counts.new (W.told writer.old) (W.told writer.new) before
+        (raw_view raw.now) result }
+{
+    match raw {
+        Raw::Content { side, content } => {
+            pieces.write(writer, *side, content)?;
+            counts.add(who_of(*side));
+            Ok(None)
+        }
+        Raw::Broken { side, rule } => Ok(Some(no_next(counts, *rule, *side))),
+        Raw::Snapshot { version, uri, text } => {
+            write_snapshot(writer, *version, uri, text)?;
+            counts.add(Who::Snapshot);
+            Ok(None)
+        }
+    }
+}
+
+/// The outcome where the log ends without a fault, after events that were counted.
+fn sound_outcome(events: &LogEvents, counts: &Counts) -> Outcome
+    ensures { (limits : Bounds) (records : List log.Record) (given : List PlacedRaw)
+        → Stands limits events.now.streams records given [] → Counted counts.now given
+        → first_broken given ≡ None → EndsWhole limits records given result }
+{
+    if events.ends_inside(Side::Editor) {
+        return no_next(counts, rules::STREAM_ENDS_INSIDE_FRAME, Side::Editor);
+    }
+    if events.ends_inside(Side::Server) {
+        return no_next(counts, rules::STREAM_ENDS_INSIDE_FRAME, Side::Server);
+    }
+    Outcome::Done
+}
+
+/// The outcome where the log ends so, after events that were counted.
+fn outcome_at(events: &LogEvents, counts: &Counts, end: End) -> Outcome
+    ensures { (limits : Bounds) (records : List log.Record) (given : List PlacedRaw)
+        → Stands limits events.now.streams records given [] → Counted counts.now given
+        → first_broken given ≡ None → EndsLog limits records given end result }
+{
+    match end {
+        End::Sound => sound_outcome(events, counts),
+        End::Bad { number, fault } => Outcome::Judged(Verdict::BadLog { number, fault }),
+    }
+}
+
+/// Writes the normal form of a log.
+fn write_normal<R: Source, W: Sink>(
+    alloc: Global,
+    reader: &mut R,
+    writer: &mut W,
+    limits: Limits,
+) -> Result<Outcome, RunFault>
+    ensures { Forms limits (R.told reader.old) (R.told reader.new) (W.told writer.old)
+        (W.told writer.new) result }
+{
+    let mut events = LogEvents::open(alloc, reader, limits)?;
+    write_head_of(writer, events.format().unwrap_or(Format::One))?;
+    write_events(alloc, reader, writer, limits, &mut events)
+}
+
+/// Writes the records of the events of a log.
+fn write_events<R: Source, W: Sink>(
+    alloc: Global,
+    reader: &mut R,
+    writer: &mut W,
+    limits: Limits,
+    events: &mut LogEvents,
+) -> Result<Outcome, RunFault>
+    requires { (start : Told) × Opens limits start (R.told reader.old) events.old }
+    ensures { (start sink : Told) → Opens limits start (R.told reader.old) events.old
+        → WroteHead events.old sink (W.told writer.old)
+        → Forms limits start (R.told reader.new) sink (W.told writer.new) result }
+{
+    let size = limits.chunk() as usize;
+    let mut pieces = Pieces::new(alloc, size);
+    let mut counts = Counts::new();
+    loop {
+        match events.next(reader) {
+            Err(fault) => return Err(fault),
+            Ok(Next::End(end)) => return Ok(outcome_at(events, &counts, end)),
+            Ok(Next::Event(raw)) => {
+                if let Some(outcome) = write_event(writer, &mut pieces, &mut counts, &raw)? {
+                    return Ok(outcome);
+                }
+            }
+        }
+    }
+}
+
+/// Writes the normal form of a log: the first line of its format, and for each of its events the
+/// records of it.
+///
+/// A content is written as its canonical frame (LSP 3.17, "Base Protocol"), in records of its side
+/// that are full but for the last; a snapshot is written as it is. Contents are kept byte for byte
+/// and are not read as JSON, and nothing is judged. A fault of a side's frames or of the log ends
+/// the normal form after the records of the events before it, and so do bytes at the end that are
+/// not a whole frame; the outcome is then the verdict at that fault, and else `Done`.
+///
+/// The answer is `Read` where the source failed, `Write` where the sink did, and `Memory` where
+/// memory was refused; what was written before stays written.
+pub fn run_normal<R: Source, W: Sink>(
+    alloc: Global,
+    reader: &mut R,
+    writer: &mut W,
+    limits: Limits,
+) -> Result<Outcome, RunFault>
+    // The normal form of the log read, however it continues where its end was not met, is written,
+    // and nothing else; the outcome carries the fault that ends it.
+    ensures written { IfOk result
+        (λ outcome. (out : List ℕ) × Took (W.told writer.old) (W.told writer.new) out
+        × OfRead limits (R.told reader.old) (R.told reader.new)
+        (λ log. EndsNormal limits log out outcome)) }
+    // All was well only where the source's end was met.
+    ensures done { result ≡ Ok Outcome.Done → IsAtEnd (R.told reader.new).bytes }
+
+    // What is written before a fault begins the normal form of the log read.
+    ensures fault { OnErr result ((out : List ℕ) × Took (W.told writer.old) (W.told writer.new) out
+        × OfRead limits (R.told reader.old) (R.told reader.new)
+        (λ log. BeginsNormal limits log out)) }
+    ensures source_failures { (R.told reader.new).failures
+        ≡ source_failures result (R.told reader.old).failures }
+    ensures sink_failures { (W.told writer.new).failures
+        ≡ sink_failures result (W.told writer.old).failures }
+    // At most one byte past the limit is read.
+    ensures limit { GaveAtMost (limits.log + 1) (R.told reader.old) (R.told reader.new) }
+{
+    let outcome = write_normal(alloc, reader, writer, limits)?;
+    Ok(outcome)
+}

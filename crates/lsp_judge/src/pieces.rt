@@ -1,0 +1,106 @@
+//! Contents as the records of a log.
+ghost use Rattle.std.specs.Prelude.{◌≡◌, ◌+◌, ◌<◌, ◌++◌, codes, decimal, string_bytes};
+ghost use Rattle.std.specs.Prelude.{OnOk};
+ghost use Rattle.std.specs.List.{flat_map};
+ghost use Rattle.lsp_frame.specs.Header.{blank_line};
+ghost use Rattle.lsp_frame.specs.Sink.{canonical, Writes};
+ghost use Rattle.lsp_log.specs.Log.{spelling};
+ghost use Rattle.lsp_judge.specs.Normal.{chunks};
+ghost use Rattle.lsp_verdict.specs.RunIo.{Tells};
+
+use itoa::Buffer;
+use lsp_frame::{Sink, WriteFault};
+use lsp_log::write_chunk;
+use lsp_rpc::{Memory, Side};
+use lsp_verdict::RunFault;
+use std::alloc::Global;
+use std::marker::Model;
+
+/// Writes contents as canonical frames (LSP 3.17, "Base Protocol") in records of a log, each of
+/// which is full but for a frame's last.
+///
+/// A frame's header part is made in one text, and its content is written from where it stands.
+#[derive(Drop)]
+pub(crate) struct Pieces {
+    /// How many bytes a full record has.
+    size: usize,
+    head: String,
+}
+
+impl Model for Pieces {
+    ghost use Rattle.std.specs.Prelude.{ℕ, ◌<◌};
+
+    ghost Value = { ℕ };
+
+    ghost view = { λ a. a.size };
+
+    ghost invariant = { λ a. 0 < a.size };
+}
+
+impl Pieces {
+    /// Records are full at this many bytes.
+    pub(crate) fn new(alloc: Global, size: usize) -> Pieces
+        requires { 0 < size }
+        ensures { result ≡ size }
+    {
+        Pieces {
+            size,
+            head: String::new(alloc),
+        }
+    }
+
+    /// Writes the canonical frame of a content as records of its side.
+    pub(crate) fn write<W: Sink>(
+        &mut self,
+        writer: &mut W,
+        side: Side,
+        content: &[u8],
+    ) -> Result<(), RunFault>
+        ensures size { self.new ≡ self.old }
+        ensures tells { Tells (W.told writer.old) (W.told writer.new)
+            (flat_map spelling (chunks self.old side (canonical content.now))) result }
+    {
+        fill_head(&mut self.head, content.len())?;
+        write_cut(writer, side, self.size, self.head.as_bytes(), content)?;
+        Ok(())
+    }
+}
+
+/// Makes the text the header part of the canonical frame of a content of this length.
+fn fill_head(head: &mut String, len: usize) -> Result<(), Memory>
+    ensures { OnOk result (string_bytes head.new ≡ codes "Content-Length: " ++ decimal len
+        ++ blank_line) }
+{
+    head.clear();
+    head.push_str("Content-Length: ")?;
+    head.push_str(Buffer::new().format(len))?;
+    head.push_str("\r\n\r\n")?;
+    Ok(())
+}
+
+/// Writes bytes that are in two parts as records of a side.
+fn write_cut<W: Sink>(
+    writer: &mut W,
+    side: Side,
+    size: usize,
+    front: &[u8],
+    back: &[u8],
+) -> Result<(), WriteFault>
+    requires { 0 < size }
+    ensures { Writes (W.told writer.old)
+        (W.told writer.new)
+        result (flat_map spelling (chunks size side (front.now ++ back.now))) }
+{
+    let mut front = front;
+    let mut back = back;
+    loop {
+        let first = front.len().min(size);
+        let second = back.len().min(size - first);
+        if first + second == 0 {
+            return Ok(());
+        }
+        write_chunk(writer, side, &front[..first], &back[..second])?;
+        front = &front[first..];
+        back = &back[second..];
+    }
+}
