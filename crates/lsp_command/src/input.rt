@@ -8,6 +8,7 @@ ghost use Rattle.lsp_command.specs.Beginnings.{kept};
 ghost use Rattle.lsp_command.specs.Ports.{first_bytes, input_error};
 
 use crate::beginning::Beginning;
+use crate::command_line::Task;
 use crate::io_state::IoState;
 use crate::pace::Supply;
 use lsp_frame::{Failed, Source};
@@ -22,6 +23,23 @@ const GATHERED: usize = 65_536;
 /// more than these are ever zeroed before they are written over.
 const PIECE: usize = 2_048;
 
+/// A reader of what a run of this task asks for. Frames are asked for by as much as is read ahead of
+/// other tasks, so nothing is read ahead of them: each piece goes straight to the run.
+fn reader_for<R: Read + Drop>(
+    alloc: Global,
+    reader: R,
+    task: &Task<'_>,
+) -> Result<BufReader<R>, AllocError>
+    ensures { IfOk result (λ ahead. Consumes (R.remaining reader)
+        (⟦<BufReader<R> as Read>⟧.remaining ahead) []) }
+{
+    match task {
+        // With room for a byte, since the bytes of a reader without room are not known.
+        Task::Frames(_) => BufReader::with_capacity(alloc, 1, reader).map_err(|_| AllocError),
+        _ => BufReader::with_capacity(alloc, GATHERED, reader).map_err(|_| AllocError),
+    }
+}
+
 /// A source over a reader of std, which reads ahead. It keeps what the reader gave first, and the
 /// error by which it last failed, and notes whether anything is left of what was read ahead.
 #[derive(Drop)]
@@ -33,10 +51,11 @@ pub struct BufferedInput<'a, R> {
 }
 
 impl<'a, R: Read + Drop> BufferedInput<'a, R> {
-    /// A source that has not failed and has given nothing yet.
+    /// A source for a run of this task, that has not failed and has given nothing yet.
     pub fn new(
         alloc: Global,
         reader: R,
+        task: &Task<'_>,
         supply: &'a Supply,
     ) -> Result<BufferedInput<'a, R>, AllocError>
         ensures remaining { IfOk result (λ input.
@@ -47,7 +66,7 @@ impl<'a, R: Read + Drop> BufferedInput<'a, R> {
             (⟦<BufferedInput<'a, R> as Source>⟧.told input).failures ≡ 0) }
     {
         Ok(BufferedInput {
-            reader: BufReader::with_capacity(alloc, GATHERED, reader).map_err(|_| AllocError)?,
+            reader: reader_for(alloc, reader, task)?,
             beginning: Beginning::new(),
             tally: IoState::new(),
             supply,

@@ -135,7 +135,10 @@ impl<'a, W: Write + Drop> Sink for BufferedOutput<'a, W> {
     /// also where that was so when bytes were passed on after the last put. The writer is called
     /// only where the bytes don't fit after those that were gathered, or what is gathered is due.
     fn put(&mut self, bytes: &[u8]) -> Result<usize, Failed> {
-        if let Some(error) = self.late.take() {
+        // Asked first, since taking nothing costs more than a short put.
+        if self.late.is_some()
+            && let Some(error) = self.late.take()
+        {
             return self.tally.count(Err(error));
         }
         let answer = taken(self.writer.write(bytes), bytes.len());

@@ -1,6 +1,6 @@
 -- Clauses on results.
 use Rattle.std.proofs.Common.{Result, Ok, Err}
-use Rattle.std.specs.Prelude.{OnOk, IfOk}
+use Rattle.std.specs.Prelude.{OnOk, OnErr, IfOk}
 
 pub on_ok_two : {U E : Type 0} {P Q R : Type 0} (r : Result U E) → (P → Q → R) → OnOk r P → OnOk r Q
     → OnOk r R
@@ -11,3 +11,8 @@ pub if_ok_both : {X E : Type 0} (r : Result X E) (P Q S : X → Type 0) → ((x 
     → IfOk r P → IfOk r Q → IfOk r S
 if_ok_both (Ok x) P Q S f p q = f x p q
 if_ok_both (Err e) P Q S f p q = p
+
+pub on_err_two : {U E : Type 0} {P Q R : Type 0} (r : Result U E) → (P → Q → R) → OnErr r P
+    → OnErr r Q → OnErr r R
+on_err_two (Ok u) f h k = tt
+on_err_two (Err e) f h k = f h k

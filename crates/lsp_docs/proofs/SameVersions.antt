@@ -21,7 +21,7 @@ use Rattle.lsp_text.specs.SameText.{same_text}
 use Rattle.lsp_docs.specs.Rules.{differs, version_rule, text_rule, change_rule, rule_of, first_row}
 use Rattle.lsp_docs.specs.Rules.{fits_kind}
 use Rattle.lsp_docs.specs.Snapshots.{texts_at}
-use Rattle.lsp_docs.specs.State.{SameOrder, SameVersions}
+use Rattle.lsp_docs.specs.State.{SameOrder, SameVersions, due_rule, rule_with}
 use Rattle.lsp_docs.proofs.Words.{filter-all}
 
 pub same-of : (vs ws : List Version) → vs ≡ ws → SameVersions vs ws
@@ -138,6 +138,25 @@ differs-texts ends v (s ∷ vs) =
         ]
 
 -- ---- rules
+
+-- the texts of the version are those that are due
+due-texts : (ends : LineEnds) (n : ℤ) (vs : List Version) (r : Result Text ℕ)
+    → due_rule ends (texts_at n vs) r ≡ text_rule ends vs n r
+due-texts ends n vs (Ok t) =
+    ap (λ b. if b then Some 702 else None) (sym (differs-texts ends (versioned n t) vs))
+due-texts ends n vs (Err rule) = refl
+
+pub change-due : (terms : Terms) (vs : List Version) (due : List Text) (enc : Encoding)
+    (k : SyncKind) (n : ℤ) (cs : List Edit) (o : Option Version) → due ≡ texts_at n vs
+    → rule_with terms.limit terms.line_ends due enc k n cs o ≡ change_rule terms vs enc k n cs o
+change-due terms vs due enc k n cs None is = refl
+change-due terms vs due enc k n cs (Some v) is =
+    ap (λ r. first_row ((not (int_lt v.number n), Some 603) ∷ (
+      not (fits_kind k cs),
+      Some 604,
+    ) ∷ (true, r) ∷ []))
+    (ap (λ d. due_rule terms.line_ends d (applied terms.limit enc v.text cs)) is
+    ∙ due-texts terms.line_ends n vs (applied terms.limit enc v.text cs))
 
 module _ (vs ws : List Version) (h : SameVersions vs ws) where
   version-same : (ends : LineEnds) (v : Version) → version_rule ends vs v ≡ version_rule ends ws v

@@ -1,13 +1,10 @@
 -- What stands for a list of calls, from one accepted call to the next.
 use Rattle.std.proofs.Common.{◌≡◌, ℕ, ◌+◌, ◌≤◌, Bool, true, false, ◌&&◌, List, [], ◌∷◌, ◌++◌}
 use Rattle.std.proofs.Common.{length, refl, sym, ap, ◌∙◌, Option, Some, None, inl, inr, append-nil}
-use Rattle.std.proofs.Common.{subst, Result, Ok, arith, true≢false}
-use Rattle.std.proofs.lemmas.Bool.{or_parts, cases_Bool}
-use Rattle.std.proofs.lemmas.Bool.Decides.{Decides-int_eq}
-use Rattle.std.specs.Prelude.{if◌then◌else◌, ℤ, not, is_some, int_lt, option_to_list}
+use Rattle.std.proofs.Common.{subst, Ok}
+use Rattle.std.proofs.lemmas.Bool.{cases_Bool}
+use Rattle.std.specs.Prelude.{if◌then◌else◌, ℤ, not, is_some, option_to_list}
 use Rattle.std.specs.Str.{bytes_eq}
-use Rattle.std.specs.Ordering.{int_eq}
-use Rattle.std.specs.List.{list_any}
 use Rattle.std.proofs.lemmas.Option.{none-some}
 use Rattle.lsp_types.specs.declared.position.Encoding.{Encoding}
 use Rattle.lsp_types.specs.declared.change.SyncKind.{SyncKind}
@@ -17,17 +14,16 @@ use Rattle.lsp_docs.specs.Terms.{Terms}
 use Rattle.lsp_text.specs.Edits.{Edit, applied}
 use Rattle.lsp_docs.specs.Calls.{Bytes, Call, opens, changes, closes, saves, shows, uri_of}
 use Rattle.lsp_docs.specs.Calls.{is_close, is_change}
-use Rattle.lsp_docs.specs.Documents.{Version, versioned, held, Held, documents, is_at}
+use Rattle.lsp_docs.specs.Documents.{Version, versioned, held, Held, documents}
 use Rattle.lsp_docs.specs.Kept.{past, last_of, kept}
 use Rattle.lsp_docs.specs.Snapshots.{is_ahead, has_number, shown_entry, waiting, versions_of}
 use Rattle.lsp_docs.specs.Missed.{missed_at}
 use Rattle.lsp_types.specs.declared.line_ends.LineEnds.{LineEnds}
 use Rattle.lsp_text.specs.SameText.{same_text}
-use Rattle.lsp_docs.specs.Rules.{rule_of, call_rule, version_rule, text_rule, differs, fits_kind}
-use Rattle.lsp_docs.specs.Rules.{change_rule}
+use Rattle.lsp_docs.specs.Rules.{rule_of, call_rule}
 use Rattle.lsp_docs.specs.State.{State, Waits, held_in, set_in, without, queue_of, reached}
 use Rattle.lsp_docs.specs.State.{missed_one, Kept, kept_in, KeepsSame, KeepsOn, KeepsNone, Stands}
-use Rattle.lsp_docs.specs.State.{rule_at, text_in, changed_at, early_rule, IsAdded, IsReleased}
+use Rattle.lsp_docs.specs.State.{rule_at, text_in, IsAdded, IsReleased}
 use Rattle.lsp_docs.specs.State.{capped}
 use Rattle.lsp_docs.specs.Fault.{Names}
 use Rattle.lsp_docs.specs.Answer.{answer_of}
@@ -37,10 +33,10 @@ use Rattle.lsp_docs.proofs.Words.{uri_is, uri_flip, unchanged}
 use Rattle.lsp_docs.proofs.HeldSteps.{held-snoc}
 use Rattle.lsp_docs.proofs.DocumentSteps.{documents-push, held-documents, all_stay, all_saved}
 use Rattle.lsp_docs.proofs.DocumentSteps.{all_shown, closed_is, changed_is}
-use Rattle.lsp_docs.proofs.WaitingSteps.{change_parts, none_row}
+use Rattle.lsp_docs.proofs.WaitingSteps.{change_parts}
 use Rattle.lsp_docs.proofs.Standing.{accepted-push, documents-distinct, waits-opened, waits-changed}
 use Rattle.lsp_docs.proofs.Standing.{waits-closed, waits-kept, waits-shown, waits-missed}
-use Rattle.lsp_docs.proofs.Rising.{last-few, last-none, last-empty, last-snoc}
+use Rattle.lsp_docs.proofs.Rising.{last-few, last-empty, last-snoc}
 use Rattle.lsp_docs.proofs.SameVersions.{rule-same}
 use Rattle.lsp_docs.proofs.Past.{past-same, past-changed, past-closed, reached-number}
 
@@ -132,24 +128,6 @@ kept-closed s calls u ks drops h uri =
           (sym (past-same s.terms uri calls (closes u) (uri_flip uri u ∙ p) refl)))
     ]
 
--- nothing is ever kept: the old versions are those that are kept on
-pub keeps-none : (most : ℕ) (u : Bytes) (h : Option Version) (ks : List Kept) → most ≡ 0
-    → KeepsOn most u h ks ks
-keeps-none most u h ks none few uri =
-    elim (cases_Bool (bytes_eq u uri)) [
-      | inl p ↦
-          let empty : kept_in uri ks ≡ [] =
-          ap (λ x. kept_in x ks) (sym (uri_is u uri p))
-          ∙ is_empty (kept_in u ks) most few none in
-          rw p (empty ∙ (sym (last-none (kept_in uri ks ++ option_to_list h))
-          ∙ ap (λ m. last_of m (kept_in uri ks ++ option_to_list h)) (sym none)))
-      | inr p ↦ rw p refl
-    ]
-  where
-    is_empty : (vs : List Version) (most : ℕ) → length vs ≤ most → most ≡ 0 → vs ≡ []
-    is_empty [] most few none = refl
-    is_empty (v ∷ vs) most few none = absurd (omega (arith, few, none))
-
 pub Stands-opened : (s : State) (calls : List Call) (u : Bytes) (n : ℤ) (t : Text) (ks : List Kept)
     → rule_at s (opens u n t) ≡ None → KeepsSame s.kept ks → Stands s calls
     → Stands (stated s.terms (s.documents ++ record {
@@ -171,7 +149,8 @@ Stands-opened s calls u n t ks e same h =
 
 pub Stands-changed : (s : State) (calls : List Call) (enc : Encoding) (k : SyncKind) (u : Bytes)
     (n : ℤ) (cs : List Edit) (t : Text) (ks : List Kept)
-    → rule_at s (changes enc k u n cs) ≡ None → changed_at s enc u cs ≡ Ok t
+    → rule_at s (changes enc k u n cs) ≡ None
+    → applied s.terms.limit enc (text_in (held_in u s.documents)) cs ≡ Ok t
     → KeepsOn s.terms.kept u (held_in u s.documents) s.kept ks → Stands s calls
     → Stands (stated s.terms (set_in u (versioned n t) s.documents) ks (reached u n s.waits))
     (calls ++ changes enc k u n cs ∷ [])
@@ -337,56 +316,6 @@ module _ (s : State) (calls : List Call) (u : Bytes) (n : ℤ) (t : Text)
         (missed_now false false behind other);
   }
 
--- ---- rules of a change
-
-pub early-rule : (terms : Terms) (ws : List Version) (enc : Encoding) (k : SyncKind) (n : ℤ)
-    (cs : List Edit) (o : Option Version) (r : ℕ) → early_rule k n cs o ≡ Some r
-    → change_rule terms ws enc k n cs o ≡ Some r
-early-rule terms ws enc k n cs None r e = e
-early-rule terms ws enc k n cs (Some v) r e =
-    elim (cases_Bool (not (int_lt v.number n))) [
-      | inl p ↦ rw p (early_first (not (int_lt v.number n)) _ r e p)
-      | inr p ↦ elim (cases_Bool (not (fits_kind k cs))) [
-        | inl q ↦ rw (p, q) (early_second (not (int_lt v.number n)) (not (fits_kind k cs)) r e p q)
-        | inr q ↦ absurd (early_none (not (int_lt v.number n)) (not (fits_kind k cs)) r e p q)
-      ]
-    ]
-  where
-    early_first : (b : Bool) (rest : Option ℕ) (r : ℕ) → (if b then Some 603 else rest) ≡ Some r
-        → b ≡ true → Some 603 ≡ Some r
-    early_first true rest r e p = e
-    early_first false rest r e p = absurd (true≢false (sym p))
-
-    early_second : (b d : Bool) (r : ℕ)
-        → (if b then Some 603 else (if d then Some 604 else None)) ≡ Some r → b ≡ false → d ≡ true
-        → Some 604 ≡ Some r
-    early_second false true r e p q = e
-    early_second true d r e p q = absurd (true≢false p)
-    early_second false false r e p q = absurd (true≢false (sym q))
-
-    early_none : (b d : Bool) (r : ℕ)
-        → (if b then Some 603 else (if d then Some 604 else None)) ≡ Some r → b ≡ false → d ≡ false
-        → ⊥
-    early_none false false r e p q = none-some r e
-    early_none true d r e p q = absurd (true≢false p)
-    early_none false true r e p q = absurd (true≢false q)
-
--- a change that no early rule refuses is judged by its text
-pub late-rule : (terms : Terms) (ws : List Version) (enc : Encoding) (k : SyncKind) (n : ℤ)
-    (cs : List Edit) (o : Option Version) → early_rule k n cs o ≡ None
-    → (is_some o ≡ true)
-    × (change_rule terms ws enc k n cs o
-    ≡ text_rule terms.line_ends ws n (applied terms.limit enc (text_in o) cs))
-late-rule terms ws enc k n cs None e = absurd (let r : ℕ = 602 in none-some r (sym e))
-late-rule terms ws enc k n cs (Some v) e =
-    let first = none_row (not (int_lt v.number n)) 603 _ e in
-    let second = none_row (not (fits_kind k cs)) 604 _ first.1 in
-    (refl, rw (first.0, second.0) refl)
-
-pub version-agrees : (ends : LineEnds) (ws : List Version) (v : Version)
-    → list_any (differs ends v) ws ≡ false → version_rule ends ws v ≡ None
-version-agrees ends ws v p = rw p refl
-
 -- ---- rules of a close, a save and a snapshot
 
 pub close-none : (terms : Terms) (o : Option Version) (ks ws : List Version) (u : Bytes)
@@ -419,28 +348,3 @@ pub save-closed : (terms : Terms) (o : Option Version) (ks ws : List Version) (u
 save-closed terms None ks ws u None e = refl
 save-closed terms None ks ws u (Some t) e = refl
 save-closed terms (Some v) ks ws u t e = absurd (none-some v (sym e))
-
-eq_flip : (a b : ℤ) → int_eq a b ≡ int_eq b a
-eq_flip a b =
-    elim (cases_Bool (int_eq a b)) [
-      | inl p ↦ rw ((Decides-int_eq a b).0 p) refl
-      | inr p ↦ elim (cases_Bool (int_eq b a)) [
-        | inl q ↦ rw ((Decides-int_eq b a).0 q) refl
-        | inr q ↦ p ∙ sym q
-      ]
-    ]
-
-not_differs : (ends : LineEnds) (n : ℤ) (t : Text) (ws : List Version)
-    → list_any (λ w. int_eq w.number n) ws ≡ false
-    → list_any (differs ends (versioned n t)) ws ≡ false
-not_differs ends n t [] h = refl
-not_differs ends n t (w ∷ ws) h =
-    let parts = or_parts (int_eq w.number n) (list_any (λ w. int_eq w.number n) ws) h in
-    rw (eq_flip n w.number ∙ parts.0) (not_differs ends n t ws parts.1)
-
--- no snapshot waits for the version: the text alone decides
-pub text-quiet : (ends : LineEnds) (ws : List Version) (n : ℤ) (r : Result Text ℕ) (t : Text)
-    → r ≡ Ok t → list_any (is_at n) ws ≡ false → text_rule ends ws n r ≡ None
-text-quiet ends ws n r t made h =
-    ap (text_rule ends ws n) made
-    ∙ version-agrees ends ws (versioned n t) (not_differs ends n t ws h)

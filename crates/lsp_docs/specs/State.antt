@@ -1,13 +1,16 @@
 -- What documents hold, and the calls that this stands for.
 use Rattle.std.specs.Prelude.{◌≡◌, ℕ, ℤ, ◌+◌, ◌-◌, ◌^◌, ◌≤◌, min, List, [], ◌∷◌, ◌++◌, filter}
-use Rattle.std.specs.Prelude.{length, Bool, false, if◌then◌else◌, Option, Some, None}
-use Rattle.std.specs.Prelude.{option_to_list, Result, Ok}
+use Rattle.std.specs.Prelude.{length, Bool, false, not, if◌then◌else◌, Option, Some, None}
+use Rattle.std.specs.Prelude.{option_to_list, Result, Ok, Err}
+use Rattle.std.specs.List.{list_any}
 use Rattle.std.specs.Str.{bytes_eq}
+use Rattle.lsp_types.specs.declared.line_ends.LineEnds.{LineEnds}
 use Rattle.lsp_types.specs.declared.position.Encoding.{Encoding}
 use Rattle.lsp_types.specs.declared.change.SyncKind.{SyncKind}
 use Rattle.lsp_docs.specs.Terms.{Terms}
 use Rattle.lsp_docs.specs.Texts.{Text}
 use Rattle.lsp_text.specs.Edits.{Edit, applied}
+use Rattle.lsp_text.specs.SameText.{same_text}
 use Rattle.lsp_docs.specs.Calls.{Bytes, Call, uri_of}
 use Rattle.lsp_docs.specs.Documents.{Version, versioned, is_after, is_at, is_before, Held}
 use Rattle.lsp_docs.specs.Documents.{documents}
@@ -15,6 +18,7 @@ use Rattle.lsp_docs.specs.Kept.{kept, last_of}
 use Rattle.lsp_docs.specs.Snapshots.{waiting, versions_of}
 use Rattle.lsp_docs.specs.Rules.{rule_of, rule_of_change, AreAccepted}
 use Rattle.lsp_docs.specs.Missed.{missed}
+use Rattle.lsp_types.specs.declared.rules.TheConstants as rules
 
 -- the snapshots of one URI that wait
 pub record Queue : Type 0 where
@@ -135,28 +139,26 @@ missed_one w = record { queues = w.queues; missed = capped (w.missed + 1) }
 
 -- ---- changes
 
-abbrev pub with_held : List Held → List Kept → State → State
-with_held hs ks s = record { terms = s.terms; documents = hs; kept = ks; waits = s.waits }
-
 abbrev pub text_in : Option Version → Text
 text_in None = []
 text_in (Some v) = v.text
 
--- the held text with the changes made
-abbrev pub changed_at : State → Encoding → Bytes → List Edit → Result Text ℕ
-changed_at s enc uri cs = applied s.terms.limit enc (text_in (held_in uri s.documents)) cs
-
--- the URI is now at this version, with the text that the changes made, and its held version is kept
-pub record IsChanged (old new : State) (uri : Bytes) (number : ℤ) (r : Result Text ℕ) : Type 0 where
-  pub text : Text
-  pub made : r ≡ Ok text
-  pub kept : List Kept
-  pub is : new ≡ with_held (set_in uri (versioned number text) old.documents) kept old
-  pub keeps : KeepsOn old.terms.kept uri (held_in uri old.documents) old.kept kept
-
 -- the rules of a change that don't look at its text
 abbrev pub early_rule : SyncKind → ℤ → List Edit → Option Version → Option ℕ
 early_rule kind number cs h = rule_of_change kind number cs (λ v. None) h
+
+-- what refuses the changes of a text, where snapshots with these texts wait for the version that
+-- they lead to: 605 to 607, or else 702
+abbrev pub due_rule : LineEnds → List Text → Result Text ℕ → Option ℕ
+due_rule ends due (Err rule) = Some rule
+due_rule ends due (Ok t) = if list_any (λ d. not (same_text ends t d)) due
+    then Some rules.SNAPSHOT_DIFFERS else None
+
+-- the rule that a change breaks there
+abbrev pub rule_with : ℕ → LineEnds → List Text → Encoding → SyncKind → ℤ → List Edit
+    → Option Version → Option ℕ
+rule_with limit ends due enc kind number cs h =
+    rule_of_change kind number cs (λ v. due_rule ends due (applied limit enc v.text cs)) h
 
 -- ---- standing for a list of calls
 

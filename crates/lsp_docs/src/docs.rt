@@ -1,7 +1,7 @@
 //! The open documents of a session.
 
-ghost use Rattle.std.specs.Prelude.{◌≡◌, [], ◌++◌, ◌∷◌, List, None, Some, Ok, Err, true, false};
-ghost use Rattle.std.specs.Prelude.{length, not, map, slice_get, is_some, nat_lt, IfErr, IfOk};
+ghost use Rattle.std.specs.Prelude.{◌≡◌, [], ◌++◌, ◌∷◌, List, None, Some, Ok, Err, false};
+ghost use Rattle.std.specs.Prelude.{length, not, map, slice_get, nat_lt, IfErr, IfOk};
 ghost use Rattle.std.specs.Prelude.{OnOk, OnErr, option_map};
 ghost use Rattle.std.specs.List.{list_any};
 ghost use Rattle.std.specs.Str.{chars};
@@ -13,24 +13,24 @@ ghost use Rattle.lsp_docs.specs.Kept.{kept};
 ghost use Rattle.lsp_docs.specs.Opened.{or_nothing};
 ghost use Rattle.lsp_docs.specs.Snapshots.{texts_at, waiting, unmatched, versions_of};
 ghost use Rattle.lsp_docs.specs.Others.{other_than};
-ghost use Rattle.lsp_docs.specs.Rules.{differs, show_rule, text_rule, call_rule};
+ghost use Rattle.lsp_docs.specs.Rules.{differs, show_rule, call_rule};
 ghost use Rattle.lsp_docs.specs.Stored.{texts_of};
-ghost use Rattle.lsp_docs.specs.State.{capped, held_in, kept_in, queue_of, set_in, changed_at};
-ghost use Rattle.lsp_docs.specs.State.{early_rule, IsChanged, with_held, rule_at, Stands};
-ghost use Rattle.lsp_docs.specs.Fault.{Names, IsRule, Breaks};
-ghost use Rattle.lsp_text.specs.Changes.{edits_of, edit_of};
+ghost use Rattle.lsp_docs.specs.State.{capped, held_in, kept_in, queue_of, early_rule, rule_at};
+ghost use Rattle.lsp_docs.specs.State.{Stands};
+ghost use Rattle.lsp_docs.specs.Fault.{Names, IsRule};
+ghost use Rattle.lsp_text.specs.Changes.{edits_of};
 ghost use Rattle.lsp_docs.specs.Answer.{answer_of};
 
 use crate::document::Document;
 use crate::fault::DocFault;
-use crate::kind::fits_kind;
 use crate::open_uris::OpenUris;
 use crate::opened::OpenDocuments;
 use crate::revision::has_text;
 use crate::snapshot::Match;
+use crate::terms::Terms;
 use crate::waiting::Waiting;
 use lsp_frame::{Format, Limits};
-use lsp_text::{TextStore, change_all};
+use lsp_text::TextStore;
 use lsp_types::{Change, Encoding, LineEnds, Memory, SyncKind, rules};
 use std::alloc::Global;
 use std::marker::Model;
@@ -43,9 +43,7 @@ use std::marker::Model;
 /// memory, changes nothing.
 #[derive(Drop)]
 pub struct Docs<S: TextStore> {
-    limit: u64,
-    kept: usize,
-    line_ends: LineEnds,
+    terms: Terms,
     documents: OpenDocuments<S>,
     waiting: Waiting,
 }
@@ -56,7 +54,11 @@ impl<S: TextStore> Model for Docs<S> {
     ghost Value = { State };
 
     ghost view = { λ d. record {
-      terms = record { limit = d.limit; kept = d.kept; line_ends = d.line_ends };
+      terms = record {
+        limit = d.terms.limit;
+        kept = d.terms.kept;
+        line_ends = d.terms.line_ends;
+      };
       documents = d.documents.held;
       kept = d.documents.kept;
       waits = d.waiting;
@@ -80,9 +82,11 @@ impl<S: TextStore> Docs<S> {
         ensures stands { Stands result [] }
     {
         Docs {
-            limit: limits.document(),
-            kept: kept_of(format),
-            line_ends: limits.line_ends(),
+            terms: Terms {
+                limit: limits.document(),
+                kept: kept_of(format),
+                line_ends: limits.line_ends(),
+            },
             documents: OpenDocuments::new(alloc),
             waiting: Waiting::new(alloc),
         }
@@ -141,14 +145,14 @@ impl<S: TextStore> Docs<S> {
     pub fn limit(&self) -> u64
         ensures { result ≡ self.now.terms.limit }
     {
-        self.limit
+        self.terms.limit
     }
 
     /// Whether texts are compared with their line ends.
     pub fn line_ends(&self) -> LineEnds
         ensures { result ≡ self.now.terms.line_ends }
     {
-        self.line_ends
+        self.terms.line_ends
     }
 
     /// The numbers of the versions that are kept of a URI before the held one, the oldest first;
@@ -173,7 +177,7 @@ impl<S: TextStore> Docs<S> {
             (kept self.now.terms uri.now calls) (held self.now.terms uri.now calls) }
     {
         match self.get(uri) {
-            Some(document) => document.other(self.line_ends, version, text),
+            Some(document) => document.other(self.terms.line_ends, version, text),
             None => None,
         }
     }
@@ -266,10 +270,9 @@ impl<S: TextStore> Docs<S> {
             ≡ None) }
         ensures err { OnErr result (self.new ≡ self.old) }
     {
-        if let Some(rule) = self.change_rule(kind, uri, version, changes) {
-            return Err(DocFault::Rule(rule));
-        }
-        self.set_text(encoding, uri, version, changes)?;
+        let due = self.waiting.texts(uri, version);
+        self.documents
+            .change(self.terms, encoding, kind, uri, version, changes, due)?;
         self.waiting.reach(uri, version);
         Ok(())
     }
@@ -318,7 +321,7 @@ impl<S: TextStore> Docs<S> {
         let Some(document) = self.get(uri) else {
             return Ok(());
         };
-        if has_text(self.line_ends, &document.held.store, text) {
+        if has_text(self.terms.line_ends, &document.held.store, text) {
             Ok(())
         } else {
             Err(DocFault::Rule(rules::SAVED_TEXT_DIFFERS))
@@ -379,7 +382,7 @@ impl<S: TextStore> Docs<S> {
         ensures rule_only { IfErr result IsRule }
     {
         match self.get(uri) {
-            Some(document) => document.judge(self.line_ends, version, text),
+            Some(document) => document.judge(self.terms.line_ends, version, text),
             None => Ok(Match::Waits),
         }
     }
@@ -400,7 +403,7 @@ impl<S: TextStore> Docs<S> {
     {
         if self.get(uri).is_some() {
             Some(rules::DOCUMENT_ALREADY_OPEN)
-        } else if is_over(self.limit, text) {
+        } else if is_over(self.terms.limit, text) {
             Some(rules::DOCUMENT_OVER_LIMIT)
         } else if self.contradicts(uri, version, text) {
             Some(rules::SNAPSHOT_DIFFERS)
@@ -416,144 +419,9 @@ impl<S: TextStore> Docs<S> {
             (queue_of uri.now self.now.waits.queues) }
     {
         match self.waiting.texts(uri, version) {
-            Some(texts) => texts.any_is_not(self.line_ends, text),
+            Some(texts) => texts.any_is_not(self.terms.line_ends, text),
             None => false,
         }
-    }
-
-    /// Whether a snapshot that waits for this version has another text.
-    fn refutes(&self, uri: &str, version: i32, store: &S) -> bool
-        ensures { result ≡ list_any
-            (differs self.now.terms.line_ends (versioned version (S.content store.now)))
-            (queue_of uri.now self.now.waits.queues) }
-    {
-        match self.waiting.texts(uri, version) {
-            Some(texts) => texts.any_differs(self.line_ends, store),
-            None => false,
-        }
-    }
-
-    /// The rule that a change breaks, whatever text it leads to.
-    fn change_rule(
-        &self,
-        kind: SyncKind,
-        uri: &str,
-        version: i32,
-        changes: &[Change],
-    ) -> Option<u16>
-        ensures { result ≡ early_rule kind version (edits_of changes.now)
-            (held_in uri.now self.now.documents) }
-    {
-        let Some(document) = self.get(uri) else {
-            return Some(rules::DOCUMENT_NOT_OPEN);
-        };
-        if version <= document.held.version {
-            Some(rules::VERSION_DOES_NOT_RISE)
-        } else if !fits_kind(kind, changes) {
-            Some(rules::CHANGE_NOT_OF_KIND)
-        } else {
-            None
-        }
-    }
-
-    /// Makes the changes, which no waiting snapshot of the version may contradict.
-    fn set_text(
-        &mut self,
-        encoding: Encoding,
-        uri: &str,
-        version: i32,
-        changes: &[Change],
-    ) -> Result<(), DocFault>
-        requires { is_some (held_in uri.now self.old.documents) ≡ true }
-        ensures ok { OnOk result
-            (IsChanged self.old self.new uri.now version
-            (changed_at self.old encoding uri.now (edits_of changes.now))) }
-        ensures allowed { OnOk result (text_rule self.old.terms.line_ends
-            (queue_of uri.now self.old.waits.queues) version
-            (changed_at self.old encoding uri.now (edits_of changes.now)) ≡ None) }
-        ensures rule { IfErr result
-            (Names (text_rule self.old.terms.line_ends
-            (queue_of uri.now self.old.waits.queues) version
-            (changed_at self.old encoding uri.now (edits_of changes.now)))) }
-        ensures err { OnErr result (self.new ≡ self.old) }
-    {
-        if self.kept == 0 && changes.len() == 1 && !self.waiting.is_due(uri, version) {
-            self.change_held(encoding, uri, version, &changes[0])
-        } else {
-            self.change_copy(encoding, uri, version, changes)
-        }
-    }
-
-    /// Makes one change in the held store, which a refused change leaves as it is, where no version
-    /// is kept.
-    fn change_held(
-        &mut self,
-        encoding: Encoding,
-        uri: &str,
-        version: i32,
-        change: &Change,
-    ) -> Result<(), DocFault>
-        requires open { is_some (held_in uri.now self.old.documents) ≡ true }
-        requires none { self.old.terms.kept ≡ 0 }
-        ensures ok { OnOk result
-            (IsChanged self.old self.new uri.now version
-            (changed_at self.old encoding uri.now (edit_of change.now ∷ []))) }
-        ensures fault { IfErr result
-            (Breaks (changed_at self.old encoding uri.now (edit_of change.now ∷ []))) }
-        ensures err { OnErr result (self.new ≡ self.old) }
-    {
-        self.documents
-            .change(self.limit, encoding, uri, version, change)
-    }
-
-    /// Makes the changes in a copy, which replaces the held store if no waiting snapshot
-    /// contradicts it.
-    fn change_copy(
-        &mut self,
-        encoding: Encoding,
-        uri: &str,
-        version: i32,
-        changes: &[Change],
-    ) -> Result<(), DocFault>
-        requires { is_some (held_in uri.now self.old.documents) ≡ true }
-        ensures ok { OnOk result
-            (IsChanged self.old self.new uri.now version
-            (changed_at self.old encoding uri.now (edits_of changes.now))) }
-        ensures allowed { OnOk result (text_rule self.old.terms.line_ends
-            (queue_of uri.now self.old.waits.queues) version
-            (changed_at self.old encoding uri.now (edits_of changes.now)) ≡ None) }
-        ensures rule { IfErr result
-            (Names (text_rule self.old.terms.line_ends
-            (queue_of uri.now self.old.waits.queues) version
-            (changed_at self.old encoding uri.now (edits_of changes.now)))) }
-        ensures err { OnErr result (self.new ≡ self.old) }
-    {
-        let changed = self.changed_store(encoding, uri, changes)?;
-        if self.refutes(uri, version, &changed) {
-            return Err(DocFault::Rule(rules::SNAPSHOT_DIFFERS));
-        }
-        self.documents.revise(self.kept, uri, version, changed)?;
-        Ok(())
-    }
-
-    /// A copy of the held store with the changes made.
-    fn changed_store(
-        &self,
-        encoding: Encoding,
-        uri: &str,
-        changes: &[Change],
-    ) -> Result<S, DocFault>
-        requires { is_some (held_in uri.now self.now.documents) ≡ true }
-        ensures ok { IfOk result
-            (λ store. changed_at self.now encoding uri.now (edits_of changes.now)
-            ≡ Ok (S.content store)) }
-        ensures fault { IfErr result
-            (Breaks (changed_at self.now encoding uri.now (edits_of changes.now))) }
-    {
-        let document = self.get(uri).unwrap();
-        let mut store = document.held.store.copy(self.documents.alloc())?;
-        change_all(&mut store, encoding, changes, self.limit)?;
-        Ok(store)
     }
 }
 

@@ -1,21 +1,27 @@
 //! One open document.
 
 ghost use Rattle.std.specs.Prelude.{◌≡◌, ◌≤◌, None, Some, [], ◌++◌, ◌∷◌, length, option_map, IfErr};
-ghost use Rattle.std.specs.Prelude.{IfOk, OnOk, OnErr};
+ghost use Rattle.std.specs.Prelude.{IfOk, OnOk, OnErr, Ok, Err, unwrap_or};
+ghost use Rattle.std.specs.Option.{option_copied};
 ghost use Rattle.std.specs.Str.{chars};
+ghost use Rattle.lsp_text.specs.Changes.{edits_of};
+ghost use Rattle.lsp_text.specs.Edits.{applied};
 ghost use Rattle.lsp_docs.specs.Documents.{versioned};
 ghost use Rattle.lsp_docs.specs.Kept.{last_of};
 ghost use Rattle.lsp_docs.specs.Rules.{show_rule};
 ghost use Rattle.lsp_docs.specs.Answer.{answer_of};
 ghost use Rattle.lsp_docs.specs.Fault.{IsRule, Names};
 ghost use Rattle.lsp_docs.specs.Others.{other_than};
+ghost use Rattle.lsp_docs.specs.State.{due_rule, early_rule, rule_with};
 
 use crate::fault::DocFault;
 use crate::history::History;
+use crate::kind::fits_kind;
 use crate::revision::Revision;
-use crate::snapshot::Match;
+use crate::snapshot::{Match, Texts, refutes};
+use crate::terms::Terms;
 use lsp_text::TextStore;
-use lsp_types::{LineEnds, rules};
+use lsp_types::{Change, Encoding, LineEnds, SyncKind, rules};
 use std::alloc::{AllocError, Global};
 
 /// The version that is held of a document, and those that are kept of what was held before.
@@ -39,7 +45,7 @@ impl<S: TextStore> Document<S> {
     }
 
     /// Replaces the held version, which is kept as the last of at most this many.
-    pub(crate) fn revise(&mut self, most: usize, version: i32, store: S) -> Result<(), AllocError>
+    fn revise(&mut self, most: usize, version: i32, store: S) -> Result<(), AllocError>
         ensures version { OnOk result (self.new.held.version ≡ version) }
         ensures store { OnOk result (S.content self.new.held.store ≡ S.content store) }
         ensures kept { OnOk result (length self.old.kept ≤ most
@@ -53,6 +59,135 @@ impl<S: TextStore> Document<S> {
             return Ok(());
         }
         self.kept.revise(most, &mut self.held, next)
+    }
+
+    /// Makes the changes in order, each in the text that the one before left. The version is that
+    /// of the text after all of them, and `due` are the texts of the snapshots that wait for it. A
+    /// refused change leaves the document as it is.
+    pub(crate) fn change(
+        &mut self,
+        terms: Terms,
+        encoding: Encoding,
+        kind: SyncKind,
+        version: i32,
+        changes: &[Change],
+        due: Option<&Texts>,
+    ) -> Result<(), DocFault>
+        ensures version { OnOk result (self.new.held.version ≡ version) }
+        ensures store { OnOk result
+            (applied terms.limit encoding (S.content self.old.held.store) (edits_of changes.now)
+            ≡ Ok (S.content self.new.held.store)) }
+        ensures kept { OnOk result (length self.old.kept ≤ terms.kept
+            → self.new.kept ≡ last_of terms.kept (self.old.kept
+            ++ versioned self.old.held.version (S.content self.old.held.store) ∷ [])) }
+        ensures allowed { OnOk result
+            (rule_with terms.limit terms.line_ends (unwrap_or (option_copied due.entry) [])
+            encoding kind version (edits_of changes.now)
+            (Some (versioned self.old.held.version (S.content self.old.held.store))) ≡ None) }
+        ensures rule { IfErr result
+            (Names (rule_with terms.limit terms.line_ends (unwrap_or (option_copied due.entry) [])
+            encoding kind version (edits_of changes.now)
+            (Some (versioned self.old.held.version (S.content self.old.held.store))))) }
+        ensures memory { result ≡ Err DocFault.Memory
+            → early_rule kind version (edits_of changes.now)
+            (Some (versioned self.old.held.version (S.content self.old.held.store))) ≡ None }
+        ensures err_held { OnErr result
+            (versioned self.new.held.version (S.content self.new.held.store)
+            ≡ versioned self.old.held.version (S.content self.old.held.store)) }
+        ensures err_kept { OnErr result (self.new.kept ≡ self.old.kept) }
+    {
+        if let Some(rule) = self.change_rule(kind, version, changes) {
+            return Err(DocFault::Rule(rule));
+        }
+        self.set_text(terms, encoding, version, changes, due)
+    }
+
+    /// The rule that a change breaks, whatever text it leads to.
+    fn change_rule(&self, kind: SyncKind, version: i32, changes: &[Change]) -> Option<u16>
+        ensures { result ≡ early_rule kind version (edits_of changes.now)
+            (Some (versioned self.now.held.version (S.content self.now.held.store))) }
+    {
+        if version <= self.held.version {
+            Some(rules::VERSION_DOES_NOT_RISE)
+        } else if !fits_kind(kind, changes) {
+            Some(rules::CHANGE_NOT_OF_KIND)
+        } else {
+            None
+        }
+    }
+
+    /// Makes the changes, which no text that is due may contradict. Where no version is kept, one
+    /// change is made in the held store, which a refused change leaves as it is.
+    fn set_text(
+        &mut self,
+        terms: Terms,
+        encoding: Encoding,
+        version: i32,
+        changes: &[Change],
+        due: Option<&Texts>,
+    ) -> Result<(), DocFault>
+        ensures version { OnOk result (self.new.held.version ≡ version) }
+        ensures store { OnOk result
+            (applied terms.limit encoding (S.content self.old.held.store) (edits_of changes.now)
+            ≡ Ok (S.content self.new.held.store)) }
+        ensures kept { OnOk result (length self.old.kept ≤ terms.kept
+            → self.new.kept ≡ last_of terms.kept (self.old.kept
+            ++ versioned self.old.held.version (S.content self.old.held.store) ∷ [])) }
+        ensures allowed { OnOk result
+            (due_rule terms.line_ends (unwrap_or (option_copied due.entry) [])
+            (applied terms.limit encoding (S.content self.old.held.store) (edits_of changes.now))
+            ≡ None) }
+        ensures rule { IfErr result
+            (Names (due_rule terms.line_ends (unwrap_or (option_copied due.entry) [])
+            (applied terms.limit encoding (S.content self.old.held.store)
+            (edits_of changes.now)))) }
+        ensures err_held { OnErr result
+            (versioned self.new.held.version (S.content self.new.held.store)
+            ≡ versioned self.old.held.version (S.content self.old.held.store)) }
+        ensures err_kept { OnErr result (self.new.kept ≡ self.old.kept) }
+    {
+        if terms.kept == 0 && changes.len() == 1 && due.is_none() {
+            self.held
+                .change(terms.limit, encoding, version, &changes[0])
+        } else {
+            self.change_copy(terms, encoding, version, changes, due)
+        }
+    }
+
+    /// Makes the changes in a copy, which replaces the held store if no text that is due
+    /// contradicts it.
+    fn change_copy(
+        &mut self,
+        terms: Terms,
+        encoding: Encoding,
+        version: i32,
+        changes: &[Change],
+        due: Option<&Texts>,
+    ) -> Result<(), DocFault>
+        ensures version { OnOk result (self.new.held.version ≡ version) }
+        ensures store { OnOk result
+            (applied terms.limit encoding (S.content self.old.held.store) (edits_of changes.now)
+            ≡ Ok (S.content self.new.held.store)) }
+        ensures kept { OnOk result (length self.old.kept ≤ terms.kept
+            → self.new.kept ≡ last_of terms.kept (self.old.kept
+            ++ versioned self.old.held.version (S.content self.old.held.store) ∷ [])) }
+        ensures allowed { OnOk result
+            (due_rule terms.line_ends (unwrap_or (option_copied due.entry) [])
+            (applied terms.limit encoding (S.content self.old.held.store) (edits_of changes.now))
+            ≡ None) }
+        ensures rule { IfErr result
+            (Names (due_rule terms.line_ends (unwrap_or (option_copied due.entry) [])
+            (applied terms.limit encoding (S.content self.old.held.store)
+            (edits_of changes.now)))) }
+        ensures err { OnErr result (self.new ≡ self.old) }
+    {
+        let alloc = self.kept.alloc();
+        let changed = self.held.changed(alloc, terms.limit, encoding, changes)?;
+        if refutes(due, terms.line_ends, &changed) {
+            return Err(DocFault::Rule(rules::SNAPSHOT_DIFFERS));
+        }
+        self.revise(terms.kept, version, changed)?;
+        Ok(())
     }
 
     /// Judges a snapshot by what is held and kept.

@@ -13,13 +13,14 @@ use crate::revision::Revision;
 use lsp_text::TextStore;
 use lsp_types::LineEnds;
 use std::alloc::{AllocError, Global};
+use std::collections::VecDeque;
 use std::marker::Model;
 use std::mem;
 
 /// The versions that are kept of a document, oldest first.
 #[derive(Drop)]
 pub(crate) struct History<S: TextStore> {
-    revisions: Vec<Revision<S>>,
+    revisions: VecDeque<Revision<S>>,
 }
 
 impl<S: TextStore> Model for History<S> {
@@ -37,22 +38,26 @@ impl<S: TextStore> History<S> {
         ensures { result ≡ [] }
     {
         History {
-            revisions: Vec::new(alloc),
+            revisions: VecDeque::new(alloc),
         }
+    }
+
+    pub(crate) fn alloc(&self) -> Global {
+        *self.revisions.allocator()
     }
 
     /// Whether one is of this version.
     pub(crate) fn has(&self, version: i32) -> bool
         ensures { result ≡ list_any (is_at version) self.now }
     {
-        any_at(self.revisions.as_slice(), version)
+        any_at(&self.revisions, version)
     }
 
     /// Whether each is of a greater version.
     pub(crate) fn is_after(&self, version: i32) -> bool
         ensures { result ≡ list_all (is_after version) self.now }
     {
-        all_after(self.revisions.as_slice(), version)
+        all_after(&self.revisions, version)
     }
 
     /// Whether one is of this version and has another text.
@@ -60,7 +65,7 @@ impl<S: TextStore> History<S> {
         ensures { result ≡ list_any
             (λ w. differs line_ends w (versioned version (chars text.now))) self.now }
     {
-        any_differs(self.revisions.as_slice(), line_ends, version, text)
+        any_differs(&self.revisions, line_ends, version, text)
     }
 
     /// The text of the one that is of this version and has another text.
@@ -68,14 +73,21 @@ impl<S: TextStore> History<S> {
         ensures { option_map (λ store. S.content store.now) result
             ≡ other_in line_ends (versioned version (chars text.now)) self.now }
     {
-        first_other(self.revisions.as_slice(), line_ends, version, text)
+        match first_other(&self.revisions, line_ends, version, text) {
+            Some(revision) => Some(&revision.store),
+            None => None,
+        }
     }
 
     /// The numbers of the versions.
     pub(crate) fn numbers(&self, alloc: Global) -> Result<Vec<i32>, AllocError>
         ensures { IfOk result (λ numbers. numbers.items ≡ map (λ v. v.number) self.now) }
     {
-        numbers_of(self.revisions.as_slice(), alloc)
+        let (first, second) = self.revisions.as_slices();
+        let mut numbers = Vec::new(alloc);
+        add_numbers(&mut numbers, first)?;
+        add_numbers(&mut numbers, second)?;
+        Ok(numbers)
     }
 
     /// Replaces the held version, which is kept from now on as the last of at most this many.
@@ -93,76 +105,72 @@ impl<S: TextStore> History<S> {
     {
         self.revisions.reserve(1)?;
         let last = mem::replace(held, next);
-        self.revisions.push_reserved(last);
+        self.revisions.push_back_reserved(last);
         if self.revisions.len() > most {
-            let _ = self.revisions.remove(0);
+            let _ = self.revisions.pop_front();
         }
         Ok(())
     }
 }
 
 /// Whether one is of this version.
-fn any_at<S: TextStore>(revisions: &[Revision<S>], version: i32) -> bool
+fn any_at<S: TextStore>(revisions: &VecDeque<Revision<S>>, version: i32) -> bool
     ensures { result ≡ list_any
-        (λ r. is_at version (versioned r.version (S.content r.store))) revisions.now }
+        (λ r. is_at version (versioned r.version (S.content r.store))) revisions.now.items }
 {
     revisions.iter().any(|r| r.version == version)
 }
 
 /// Whether each is of a greater version.
-fn all_after<S: TextStore>(revisions: &[Revision<S>], version: i32) -> bool
+fn all_after<S: TextStore>(revisions: &VecDeque<Revision<S>>, version: i32) -> bool
     ensures { result ≡ list_all
-        (λ r. is_after version (versioned r.version (S.content r.store))) revisions.now }
+        (λ r. is_after version (versioned r.version (S.content r.store))) revisions.now.items }
 {
     revisions.iter().all(|r| version < r.version)
 }
 
 /// Whether one is of this version and has another text.
 fn any_differs<S: TextStore>(
-    revisions: &[Revision<S>],
+    revisions: &VecDeque<Revision<S>>,
     line_ends: LineEnds,
     version: i32,
     text: &str,
 ) -> bool
     ensures { result ≡ list_any
         (λ r. differs line_ends (versioned r.version (S.content r.store))
-        (versioned version (chars text.now))) revisions.now }
+        (versioned version (chars text.now))) revisions.now.items }
 {
     revisions
         .iter()
         .any(|r| r.differs(line_ends, version, text))
 }
 
-/// The text of the first that is of this version and has another text.
+/// The first that is of this version and has another text.
 fn first_other<'a, S: TextStore>(
-    revisions: &'a [Revision<S>],
+    revisions: &'a VecDeque<Revision<S>>,
     line_ends: LineEnds,
     version: i32,
     text: &str,
-) -> Option<&'a S>
-    ensures { option_map (λ store. S.content store.now) result
-        ≡ option_map (λ r. S.content r.store)
-        (find (λ r. differs_from line_ends (versioned version (chars text.now))
-        (versioned r.version (S.content r.store))) revisions.now) }
+) -> Option<&'a Revision<S>>
+    ensures { option_map (λ r. r.now) result
+        ≡ find (λ r. differs_from line_ends (versioned version (chars text.now))
+        (versioned r.version (S.content r.store))) revisions.now.items }
 {
-    for revision in revisions {
-        if revision.differs(line_ends, version, text) {
-            return Some(&revision.store);
-        }
-    }
-    None
+    revisions
+        .iter()
+        .find(|r| r.differs(line_ends, version, text))
 }
 
-/// Their numbers.
-fn numbers_of<S: TextStore>(
+/// Puts their numbers after others.
+fn add_numbers<S: TextStore>(
+    numbers: &mut Vec<i32>,
     revisions: &[Revision<S>],
-    alloc: Global,
-) -> Result<Vec<i32>, AllocError>
-    ensures { IfOk result (λ numbers. numbers.items ≡ map (λ r. r.version) revisions.now) }
+) -> Result<(), AllocError>
+    ensures { OnOk result (numbers.new.items
+        ≡ numbers.old.items ++ map (λ r. r.version) revisions.now) }
 {
-    let mut numbers = Vec::new(alloc);
     for revision in revisions {
         numbers.push(revision.version)?;
     }
-    Ok(numbers)
+    Ok(())
 }

@@ -19,6 +19,7 @@ mod opened;
 mod queue;
 mod revision;
 mod snapshot;
+mod terms;
 mod waiting;
 
 pub use docs::Docs;

@@ -1,20 +1,23 @@
 //! The documents that are open, in the order in which they were opened.
 
-ghost use Rattle.std.specs.Prelude.{◌≡◌, [], ◌++◌, ◌∷◌, None, true, false, length, map, slice_get};
-ghost use Rattle.std.specs.Prelude.{is_some, IfErr, OnOk, OnErr, option_map};
-ghost use Rattle.lsp_text.specs.Changes.{edit_of};
+ghost use Rattle.std.specs.Prelude.{◌≡◌, [], ◌++◌, ◌∷◌, None, false, length, map, slice_get};
+ghost use Rattle.std.specs.Prelude.{is_some, Err, IfErr, OnOk, OnErr, option_map, unwrap_or};
+ghost use Rattle.std.specs.Option.{option_copied};
+ghost use Rattle.lsp_text.specs.Changes.{edits_of};
 ghost use Rattle.lsp_text.specs.Edits.{applied};
 ghost use Rattle.lsp_docs.specs.Documents.{versioned};
-ghost use Rattle.lsp_docs.specs.Fault.{Breaks};
+ghost use Rattle.lsp_docs.specs.Fault.{Names};
 ghost use Rattle.lsp_docs.specs.Opened.{IsSet, or_nothing};
-ghost use Rattle.lsp_docs.specs.State.{KeepsNone, KeepsOn, KeepsSame, held_in, kept_in, set_in};
-ghost use Rattle.lsp_docs.specs.State.{text_in, without};
+ghost use Rattle.lsp_docs.specs.State.{KeepsNone, KeepsOn, KeepsSame, held_in, kept_in};
+ghost use Rattle.lsp_docs.specs.State.{early_rule, rule_with, text_in, without};
 
 use crate::document::Document;
 use crate::fault::DocFault;
 use crate::open_uris::OpenUris;
+use crate::snapshot::Texts;
+use crate::terms::Terms;
 use lsp_text::TextStore;
-use lsp_types::{Change, Encoding, OrderedMap};
+use lsp_types::{Change, Encoding, OrderedMap, SyncKind, rules};
 use std::alloc::{AllocError, Global};
 use std::marker::Model;
 
@@ -110,45 +113,39 @@ impl<S: TextStore> OpenDocuments<S> {
         self.documents.remove_str(uri).is_some()
     }
 
-    /// Replaces the held version, which is kept as the last of at most this many.
-    pub(crate) fn revise(
-        &mut self,
-        most: usize,
-        uri: &str,
-        version: i32,
-        store: S,
-    ) -> Result<(), AllocError>
-        requires { is_some (held_in uri.now self.old.held) ≡ true }
-        ensures held { OnOk result (self.new.held
-            ≡ set_in uri.now (versioned version (S.content store)) self.old.held) }
-        ensures kept { OnOk result
-            (KeepsOn most uri.now (held_in uri.now self.old.held) self.old.kept self.new.kept) }
-        ensures err { OnErr result (self.new ≡ self.old) }
-    {
-        let document = self.documents.get_str_mut(uri).unwrap();
-        document.revise(most, version, store)
-    }
-
-    /// Makes one change in the held store, which a refused change leaves as it is.
+    /// Makes the changes of a document, where `due` are the texts of the snapshots that wait for the
+    /// version. A refused change leaves the document as it is.
     pub(crate) fn change(
         &mut self,
-        limit: u64,
+        terms: Terms,
         encoding: Encoding,
+        kind: SyncKind,
         uri: &str,
         version: i32,
-        change: &Change,
+        changes: &[Change],
+        due: Option<&Texts>,
     ) -> Result<(), DocFault>
-        requires { is_some (held_in uri.now self.old.held) ≡ true }
-        ensures ok { OnOk result (IsSet self.old.held self.new.held uri.now version
-            (applied limit encoding (text_in (held_in uri.now self.old.held))
-            (edit_of change.now ∷ []))) }
-        ensures kept { self.new.kept ≡ self.old.kept }
-        ensures fault { IfErr result
-            (Breaks (applied limit encoding (text_in (held_in uri.now self.old.held))
-            (edit_of change.now ∷ []))) }
+        ensures held { OnOk result (IsSet self.old.held self.new.held uri.now version
+            (applied terms.limit encoding (text_in (held_in uri.now self.old.held))
+            (edits_of changes.now))) }
+        ensures kept { OnOk result
+            (KeepsOn terms.kept uri.now (held_in uri.now self.old.held) self.old.kept
+            self.new.kept) }
+        ensures allowed { OnOk result
+            (rule_with terms.limit terms.line_ends (unwrap_or (option_copied due.entry) [])
+            encoding kind version (edits_of changes.now) (held_in uri.now self.old.held)
+            ≡ None) }
+        ensures rule { IfErr result
+            (Names (rule_with terms.limit terms.line_ends (unwrap_or (option_copied due.entry) [])
+            encoding kind version (edits_of changes.now) (held_in uri.now self.old.held))) }
+        ensures memory { result ≡ Err DocFault.Memory
+            → early_rule kind version (edits_of changes.now) (held_in uri.now self.old.held)
+            ≡ None }
         ensures err { OnErr result (self.new ≡ self.old) }
     {
-        let document = self.documents.get_str_mut(uri).unwrap();
-        document.held.change(limit, encoding, version, change)
+        let Some(document) = self.documents.get_str_mut(uri) else {
+            return Err(DocFault::Rule(rules::DOCUMENT_NOT_OPEN));
+        };
+        document.change(terms, encoding, kind, version, changes, due)
     }
 }

@@ -2,12 +2,11 @@
 
 ghost use Rattle.std.specs.Prelude.{◌≡◌, [], ◌++◌, ◌∷◌, None, true, length, filter, int_lt};
 ghost use Rattle.std.specs.Prelude.{if◌then◌else◌, unwrap_or, IfOk, OnOk, OnErr};
-ghost use Rattle.std.specs.List.{list_any};
 ghost use Rattle.std.specs.Map.{lookup};
 ghost use Rattle.std.specs.Option.{option_copied};
 ghost use Rattle.std.specs.Ordering.{int_eq, int_cmp};
 ghost use Rattle.std.specs.BTreeMap.{IsOrdered};
-ghost use Rattle.lsp_docs.specs.Documents.{versioned, is_after, is_at, is_before};
+ghost use Rattle.lsp_docs.specs.Documents.{versioned, is_after, is_before};
 ghost use Rattle.lsp_docs.specs.Snapshots.{texts_at};
 ghost use Rattle.lsp_docs.specs.State.{SameOrder, SameVersions, capped};
 ghost use Rattle.lsp_docs.specs.Stored.{text_of, versions_in, is_first_within, rest_of};
@@ -77,16 +76,6 @@ impl SnapshotQueue {
             count = count.saturating_add(texts.len() as u64);
         }
         count
-    }
-
-    /// Whether one waits for this version.
-    pub(crate) fn is_due(&self, version: i32) -> bool
-        ensures { result ≡ list_any (is_at version) self.now }
-    {
-        match self.texts.get(&version) {
-            Some(texts) => texts.len() > 0,
-            None => false,
-        }
     }
 
     /// The texts of those that wait for this version, in the order in which they came.

@@ -1,18 +1,19 @@
 //! One version of a document.
 
-ghost use Rattle.std.specs.Prelude.{◌≡◌, Ok, [], ◌∷◌, option_map, IfErr, OnOk, OnErr};
+ghost use Rattle.std.specs.Prelude.{◌≡◌, Ok, [], ◌∷◌, option_map, IfErr, IfOk, OnOk, OnErr};
 ghost use Rattle.std.specs.Str.{chars};
 ghost use Rattle.lsp_text.specs.Edits.{applied};
 ghost use Rattle.lsp_text.specs.SameText.{same_text};
-ghost use Rattle.lsp_text.specs.Changes.{edit_of};
+ghost use Rattle.lsp_text.specs.Changes.{edit_of, edits_of};
 ghost use Rattle.lsp_docs.specs.Documents.{versioned};
 ghost use Rattle.lsp_docs.specs.Rules.{differs};
 ghost use Rattle.lsp_docs.specs.Fault.{Breaks};
 ghost use Rattle.lsp_docs.specs.Others.{other_in};
 
 use crate::fault::DocFault;
-use lsp_text::{TextStore, change};
+use lsp_text::{TextStore, change, change_all};
 use lsp_types::{Change, Encoding, LineEnds};
+use std::alloc::Global;
 
 /// A text at its version.
 #[derive(Drop)]
@@ -49,6 +50,25 @@ impl<S: TextStore> Revision<S> {
         )?;
         self.version = version;
         Ok(())
+    }
+
+    /// A copy of its store with the changes made.
+    pub(crate) fn changed(
+        &self,
+        alloc: Global,
+        limit: u64,
+        encoding: Encoding,
+        changes: &[Change],
+    ) -> Result<S, DocFault>
+        ensures ok { IfOk result
+            (λ store. applied limit encoding (S.content self.now.store) (edits_of changes.now)
+            ≡ Ok (S.content store)) }
+        ensures fault { IfErr result
+            (Breaks (applied limit encoding (S.content self.now.store) (edits_of changes.now))) }
+    {
+        let mut store = self.store.copy(alloc)?;
+        change_all(&mut store, encoding, changes, limit)?;
+        Ok(store)
     }
 
     /// Whether it is of this version and has another text.

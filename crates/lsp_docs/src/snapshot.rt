@@ -1,8 +1,9 @@
 //! Snapshots, and how they compare with a text.
 
 ghost use Rattle.std.specs.Prelude.{◌≡◌, [], ◌++◌, ◌∷◌, length, not, string_bytes, IfOk, OnOk};
-ghost use Rattle.std.specs.Prelude.{OnErr};
+ghost use Rattle.std.specs.Prelude.{OnErr, unwrap_or};
 ghost use Rattle.std.specs.List.{list_any};
+ghost use Rattle.std.specs.Option.{option_copied};
 ghost use Rattle.std.specs.Str.{chars};
 ghost use Rattle.lsp_text.specs.SameText.{same_text};
 ghost use Rattle.lsp_docs.specs.Stored.{are_mixed, text_of, texts_of};
@@ -123,6 +124,17 @@ impl Texts {
             LineEnds::Exact => self.mixed,
             LineEnds::Ignored => self.mixed_lines,
         }
+    }
+}
+
+/// Whether one of the texts that are due is another than the store has.
+pub(crate) fn refutes<S: TextStore>(due: Option<&Texts>, line_ends: LineEnds, store: &S) -> bool
+    ensures { result ≡ list_any (λ t. not (same_text line_ends (S.content store.now) t))
+        (unwrap_or (option_copied due.entry) []) }
+{
+    match due {
+        Some(texts) => texts.any_differs(line_ends, store),
+        None => false,
     }
 }
 

@@ -2,11 +2,10 @@
 
 ghost use Rattle.std.specs.Prelude.{◌≡◌, ◌+◌, [], length, filter, None, OnOk, OnErr, string_bytes};
 ghost use Rattle.std.specs.Prelude.{unwrap_or};
-ghost use Rattle.std.specs.List.{list_any};
 ghost use Rattle.std.specs.Map.{lookup};
 ghost use Rattle.std.specs.Option.{option_copied};
 ghost use Rattle.std.specs.Str.{chars, bytes_eq};
-ghost use Rattle.lsp_docs.specs.Documents.{versioned, is_after, is_at, is_before};
+ghost use Rattle.lsp_docs.specs.Documents.{versioned, is_after, is_before};
 ghost use Rattle.lsp_docs.specs.Snapshots.{texts_at};
 ghost use Rattle.lsp_docs.specs.State.{capped, queue_of, keep_in, IsAdded, IsReleased, total};
 ghost use Rattle.lsp_docs.specs.State.{reached, missed_one};
@@ -44,16 +43,6 @@ impl Waiting {
         Waiting {
             snapshots: IndexMap::new(alloc),
             missed: 0,
-        }
-    }
-
-    /// Whether a snapshot of a URI waits for this version.
-    pub(crate) fn is_due(&self, uri: &str, version: i32) -> bool
-        ensures { result ≡ list_any (is_at version) (queue_of uri.now self.now.queues) }
-    {
-        match queue_for(&self.snapshots, uri) {
-            Some(queue) => queue.is_due(version),
-            None => false,
         }
     }
 

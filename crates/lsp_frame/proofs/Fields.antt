@@ -22,7 +22,7 @@ pub record Parts (bytes : List ℕ) (f : Field) (rest : List ℕ) : Type 0 where
   pub value_len : prefix_len is_text (f.value ++ 13 ∷ 10 ∷ rest) ≡ length f.value
   pub after_value : drop (length f.value) (f.value ++ 13 ∷ 10 ∷ rest) ≡ 13 ∷ 10 ∷ rest
 
-line_is : (f : Field) (rest : List ℕ) → line f ++ rest ≡ f.name ++ 58 ∷ (f.value ++ 13 ∷ 10 ∷ rest)
+pub line_is : (f : Field) (rest : List ℕ) → line f ++ rest ≡ f.name ++ 58 ∷ (f.value ++ 13 ∷ 10 ∷ rest)
 line_is f rest =
     append_assoc f.name (58 ∷ (f.value ++ line_end)) rest
     ∙ ap (λ (w : List ℕ). f.name ++ 58 ∷ w) (append_assoc f.value line_end rest)

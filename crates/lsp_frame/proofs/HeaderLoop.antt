@@ -51,7 +51,7 @@ and_true : (b : Bool) → b ≡ b && true
 and_true true = refl
 and_true false = refl
 
-usual_is : IsField usual_type
+pub usual_is : IsField usual_type
 usual_is = record {
   named = omega arith;
   token = AllPass-from_list_all is_token (codes "Content-Type") refl;

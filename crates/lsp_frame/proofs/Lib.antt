@@ -7,6 +7,7 @@ pub mod Starts
 pub mod Readings
 pub mod Canonical
 pub mod PlainHeaders
+pub mod TypedHeaders
 pub mod Steps
 pub mod Pulls
 pub mod Passing

@@ -8,7 +8,8 @@ use Rattle.lsp_frame.specs.Header.{blank_line}
 use Rattle.lsp_frame.specs.Frame.{IsHeader, IsFrame}
 use Rattle.lsp_frame.specs.Start.{StartsWithHeader, StartsWithNone}
 use Rattle.lsp_frame.specs.Told.{Told, Gave}
-use Rattle.lsp_frame.specs.Decoder.{State, StandsFor, empty, room_for}
+use Rattle.lsp_frame.specs.Decoder.{State, StandsFor, empty, room_for, taken}
+use Rattle.lsp_frame.proofs.Pulls.{taken_open}
 use Rattle.lsp_frame.specs.Pulling.{Misses, MissesNone, window_of, GavePast, PassesAll}
 use Rattle.lsp_frame.specs.declared.decoder.Missing.{Missing}
 use Rattle.lsp_frame.specs.declared.start.FrameSize.{FrameSize}
@@ -16,7 +17,7 @@ use Rattle.lsp_frame.proofs.Frames.{frames_more, frames_push, says_along}
 use Rattle.lsp_frame.proofs.Splits.{split_front}
 use Rattle.lsp_frame.proofs.Starts.{header_stays, front_of, unfinished_content}
 use Rattle.lsp_frame.specs.Buffer.{AheadStands}
-use Rattle.lsp_frame.proofs.Steps.{open_rest, state_at}
+use Rattle.lsp_frame.proofs.Steps.{drop_take, open_rest, state_at}
 use Rattle.lsp_frame.proofs.Telling.{gave_nothing, gave_then}
 
 -- ---- what is missing
@@ -161,3 +162,43 @@ emptied limits items left start end more fault s is none full =
     ap (λ (f : Option ℕ). state_at limits left 0 0 f) (ap (λ (x : State). x.fault) is ∙ none)
     ∙ ap (λ (n : ℕ). record (empty limits) { room = n }) full
     ∙ ap (λ (x : State). record (empty x.limits) { room = room_for x more }) is
+
+-- ---- a content that stays where it is
+
+-- so much room is there already
+room_same : (limits : Bounds) (items : List ℕ) (start end more : ℕ) (fault : Option ℕ) → more ≤ start
+    → start ≤ end → end ≤ length items
+    → room_for (state_at limits items start end fault) more ≡ length items
+room_same limits items start end more fault room from fits =
+    omega (arith, length-drop start (take end items), length-take end items, room, from, fits)
+
+-- the same rest after other bytes
+pub rest_same : (items left : List ℕ) (start end : ℕ) → drop start left ≡ drop start items
+    → drop start (take end left) ≡ drop start (take end items)
+rest_same items left start end same =
+    sym (drop_take start end left) ∙ ap (take (end - start)) same ∙ drop_take start end items
+
+-- a decoder that holds nothing, in the same room
+pub emptied_in_place : (limits : Bounds) (items left : List ℕ) (start end more : ℕ)
+    (fault : Option ℕ) (s : State) → state_at limits items start end fault ≡ s → s.fault ≡ None
+    → more ≤ start → start ≤ end → end ≤ length items → length left ≡ length items
+    → state_at limits left 0 0 fault ≡ record (empty s.limits) { room = room_for s more }
+emptied_in_place limits items left start end more fault s is none room from fits len =
+    emptied limits items left start end more fault s is none
+    (len ∙ sym (room_same limits items start end more fault room from fits))
+
+-- a decoder whose rest was moved to the front
+pub settled : (limits : Bounds) (items left : List ℕ) (start end more : ℕ) (fault : Option ℕ)
+    (old new : State) → state_at limits items start end fault ≡ old → old.fault ≡ None
+    → more ≤ start → start ≤ end → end ≤ length items → drop start left ≡ drop start items
+    → length left ≡ length items
+    → new ≡ record (state_at limits left start end fault) { kept = [] } → new ≡ taken old more []
+settled limits items left start end more fault old new is none room from fits same len moved =
+    let now = state_at limits items start end fault in
+    let rest : drop start (take end left) ≡ now.rest ++ [] =
+    rest_same items left start end same ∙ sym (append-nil now.rest) in
+    moved
+    ∙ taken_open fault now more (length left) (drop start (take end left)) [] refl
+    (ap (λ (x : State). x.fault) is ∙ none) rest
+    (len ∙ sym (room_same limits items start end more fault room from fits))
+    ∙ ap (λ (x : State). taken x more []) is

@@ -1,6 +1,8 @@
 -- Puts one after another.
-use Rattle.std.proofs.Common.{◌≡◌, ℕ, List, [], ◌++◌, take, drop, Result, Ok, Err, refl, sym, ap, ◌∙◌, append_assoc}
-use Rattle.std.proofs.lemmas.List.{take-append-drop}
+use Rattle.std.proofs.Common.{◌≡◌, ℕ, ◌-◌, List, [], ◌++◌, length, take, drop, Result, Ok, Err, refl, sym, ap, ◌∙◌, append_assoc, arith}
+use Rattle.std.specs.Prelude.{codes, decimal}
+use Rattle.std.proofs.lemmas.List.{take-append-drop, take_all, length-drop}
+use Rattle.lsp_frame.specs.Header.{blank_line}
 use Rattle.lsp_frame.specs.Told.{Told, Took, after_failure}
 use Rattle.lsp_frame.specs.Sink.{Wrote, Stopped, Writes}
 use Rattle.lsp_frame.proofs.Telling.{took_nothing, took_then}
@@ -66,3 +68,18 @@ stopped_third a b c d w x y z p q s =
 pub writes_four : {X E : Type 0} (a b c d e : Told) (r : Result X E) (w x y z : List ℕ) → Wrote a b w → Wrote b c x → Wrote c d y → Writes d e r z → Writes a e r (four w x y z)
 writes_four a b c d e r w x y z p q s t =
     writes_then a b e r w (x ++ y ++ z) p (writes_then b d e r (x ++ y) z (wrote_then b c d x y q s) t)
+
+-- ---- the header part of a canonical frame, filled from its end
+
+filled_end : drop 24 (codes "Content-Length: 00000000\r\n\r\n") ≡ blank_line
+filled_end = refl
+
+pub header_is : (len digits start : ℕ) (first second : List ℕ) → length second ≡ 28
+    → drop digits first ≡ decimal len ++ drop 24 (codes "Content-Length: 00000000\r\n\r\n")
+    → drop start second ≡ codes "Content-Length: " ++ drop digits first
+    → take (28 - start) (drop start second) ≡ codes "Content-Length: " ++ (decimal len ++ blank_line)
+header_is len digits start first second whole back front =
+    take_all (28 - start) (drop start second) (omega (arith, whole, length-drop start second))
+    ∙ front
+    ∙ ap (λ (w : List ℕ). codes "Content-Length: " ++ w)
+    (back ∙ ap (λ (w : List ℕ). decimal len ++ w) filled_end)

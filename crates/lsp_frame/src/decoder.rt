@@ -8,6 +8,7 @@ ghost use Rattle.lsp_frame.specs.Frame.{Frames, IsStream};
 ghost use Rattle.lsp_frame.specs.Decoder.{empty, pushed, FitsIn, held_of, finish_of, StandsFor};
 ghost use Rattle.lsp_frame.specs.Buffer.{Advances, ReadsAhead, last_of};
 ghost use Rattle.lsp_frame.specs.Pulling.{Pulls, PullFails, Misses, MissesNone, GoesPast, Passes};
+ghost use Rattle.lsp_frame.specs.Pulling.{window_of};
 ghost use Rattle.lsp_frame.specs.Start.{StartsWithHeader, StartsWithNone};
 ghost use Rattle.lsp_frame.specs.Lending.{LendsContent};
 ghost use Rattle.lsp_frame.specs.Front.{HoldsRest};
@@ -195,6 +196,36 @@ fn go_past<R: Source>(source: &mut R, window: &mut [u8], most: usize) -> Result<
     Ok(past)
 }
 
+/// Takes this many bytes of a source over those before a place, as [`go_past`] does.
+fn go_past_before<R: Source>(
+    source: &mut R,
+    bytes: &mut [u8],
+    start: usize,
+    most: usize,
+) -> Result<usize, Failed>
+    requires { (0 < start) × (start ≤ length bytes.old) }
+    ensures past { GoesPast (R.told source.old) (R.told source.new) most result }
+    ensures rest { drop start bytes.new ≡ drop start bytes.old }
+    ensures len { length bytes.new ≡ length bytes.old }
+{
+    go_past(source, &mut bytes[..start], most)
+}
+
+/// The same in a buffer.
+fn go_past_over<R: Source>(
+    source: &mut R,
+    buffer: &mut Vec<u8>,
+    start: usize,
+    most: usize,
+) -> Result<usize, Failed>
+    requires { (0 < start) × (start ≤ vec_len buffer.old) }
+    ensures past { GoesPast (R.told source.old) (R.told source.new) most result }
+    ensures rest { drop start buffer.new.items ≡ drop start buffer.old.items }
+    ensures len { length buffer.new.items ≡ length buffer.old.items }
+{
+    go_past_before(source, buffer, start, most)
+}
+
 impl Decoder {
     /// A decoder of a stream's first byte. It takes memory from `alloc` as bytes are pushed.
     pub fn new(alloc: Global, limits: Limits) -> Decoder
@@ -321,6 +352,59 @@ impl Decoder {
     /// it is given, but not lent, and never held as a whole. `false` where the source ended before,
     /// and nothing is given then.
     pub fn pass<R: Source>(&mut self, source: &mut R, missing: Missing) -> Result<bool, PullFault>
+        requires { Misses self.old missing }
+        ensures { Passes self.old self.new (R.told source.old) (R.told source.new) missing result }
+    {
+        if missing.bytes.min(WINDOW) <= self.start {
+            return self.pass_in_front(source, missing);
+        }
+        self.pass_behind(source, missing)
+    }
+
+    /// Does what [`Decoder::pass`] says, through a window of the bytes of frames given. The content
+    /// is moved only where the source ends before it does.
+    fn pass_in_front<R: Source>(
+        &mut self,
+        source: &mut R,
+        missing: Missing,
+    ) -> Result<bool, PullFault>
+        requires misses { Misses self.old missing }
+        requires room { window_of missing ≤ length self.old.kept }
+        ensures { Passes self.old self.new (R.told source.old) (R.told source.new) missing result }
+    {
+        match go_past_over(source, &mut self.buffer, self.start, missing.bytes) {
+            Ok(past) if past < missing.bytes => {
+                self.settle();
+                Ok(false)
+            }
+            Ok(_) => {
+                self.start = 0;
+                self.end = 0;
+                self.ahead = None;
+                Ok(true)
+            }
+            Err(Failed) => {
+                self.settle();
+                Err(PullFault::Read)
+            }
+        }
+    }
+
+    /// Moves the rest to the front.
+    fn settle(&mut self)
+        ensures { self.new ≡ record self.old { kept = [] } }
+    {
+        to_front(&mut self.buffer, self.start, self.end);
+        self.end -= self.start;
+        self.start = 0;
+    }
+
+    /// Does what [`Decoder::pass`] says, through a window after the rest.
+    fn pass_behind<R: Source>(
+        &mut self,
+        source: &mut R,
+        missing: Missing,
+    ) -> Result<bool, PullFault>
         requires { Misses self.old missing }
         ensures { Passes self.old self.new (R.told source.old) (R.told source.new) missing result }
     {

@@ -106,7 +106,7 @@ fn fits_charsets(field: &Field<'_>) -> bool
 
 /// The bytes after the line of the default content type, if they begin with it (LSP 3.17, "Header
 /// Part"). The line says what is so without it, so nothing of it is counted.
-fn after_usual_type(bytes: &[u8]) -> Option<&[u8]>
+pub(crate) fn after_usual_type(bytes: &[u8]) -> Option<&[u8]>
     ensures { IfSome result (λ rest. bytes.now ≡ line usual_type ++ rest.now) }
 {
     let rest = bytes.strip_prefix(b"Content-Type: application/vscode-jsonrpc; charset=utf-8\r\n")?;

@@ -6,7 +6,7 @@ ghost use Rattle.lsp_frame.specs.Bounds.{IsInRange};
 ghost use Rattle.lsp_frame.specs.Start.{StartsAs, StartsWithHeader};
 
 use crate::bytes::number_up_to;
-use crate::header::read_header;
+use crate::header::{after_usual_type, read_header};
 use crate::limits::Limits;
 use lsp_types::rules;
 use memchr::memmem;
@@ -39,8 +39,8 @@ fn digits_in_front(bytes: &[u8]) -> usize
 }
 
 /// The size of the frame whose header part the bytes begin with, where that is the one line
-/// `Content-Length: ` and digits, which is the common case. Whatever else stands there is left to
-/// [`read_header`].
+/// `Content-Length: ` and digits, which is the common case.
+#[inline(always)]
 fn plain_size(limits: &Limits, bytes: &[u8]) -> Option<FrameSize>
     requires { IsInRange limits.now }
     ensures { IfSome result (λ size. StartsWithHeader limits.now bytes.now size) }
@@ -60,6 +60,22 @@ fn plain_size(limits: &Limits, bytes: &[u8]) -> Option<FrameSize>
     })
 }
 
+/// The same where the line of the default content type comes first. Whatever else stands there is
+/// left to [`read_header`].
+#[inline(never)]
+fn typed_size(limits: &Limits, bytes: &[u8]) -> Option<FrameSize>
+    requires range { IsInRange limits.now }
+    requires near { length bytes.now ≤ limits.now.header }
+    ensures { IfSome result (λ size. StartsWithHeader limits.now bytes.now size) }
+{
+    let rest = after_usual_type(bytes)?;
+    let size = plain_size(limits, rest)?;
+    Some(FrameSize {
+        header: bytes.len() - rest.len() + size.header,
+        content: size.content,
+    })
+}
+
 /// What the bytes begin with.
 pub(crate) fn start_of(limits: &Limits, bytes: &[u8]) -> Start
     ensures { StartsAs limits.now bytes.now result }
@@ -67,6 +83,9 @@ pub(crate) fn start_of(limits: &Limits, bytes: &[u8]) -> Start
     let most = limits.header() as usize;
     let near = &bytes[..bytes.len().min(most)];
     if let Some(size) = plain_size(limits, near) {
+        return Start::Header(size);
+    }
+    if let Some(size) = typed_size(limits, near) {
         return Start::Header(size);
     }
     let Some(at) = memmem::find(near, b"\r\n\r\n") else {

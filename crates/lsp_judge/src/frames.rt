@@ -26,6 +26,10 @@ use std::alloc::Global;
 /// How many bytes are requested from the source at once.
 const PIECE: u64 = 65_536;
 
+/// How many bytes a content has at least that is let go where only its length is due. A shorter one
+/// is held, since moving it costs less than one more call of the source.
+const LONG: usize = 4_096;
+
 /// How many bytes a line of numbers has at most: two numbers of 20 digits, a space, and an end.
 const LINE: usize = 42;
 
@@ -141,8 +145,8 @@ fn write_found<W: Sink>(
     }
 }
 
-/// The next content, where only its length is due, many bytes of it are missing, and at most this
-/// many may be read.
+/// The next content, where only its length is due, it is long, and at least one byte of it is
+/// missing and at most this many are.
 fn long_content(decoder: &Decoder, mode: Mode, left: u64) -> Option<Missing>
     ensures { IfSome result (λ missing. IsLong decoder.now mode left missing) }
 {
@@ -150,7 +154,7 @@ fn long_content(decoder: &Decoder, mode: Mode, left: u64) -> Option<Missing>
         return None;
     }
     let missing = decoder.missing()?;
-    if !(PIECE..=left).contains(&(missing.bytes as u64)) {
+    if missing.content < LONG || missing.bytes as u64 > left {
         return None;
     }
     Some(missing)

@@ -173,9 +173,15 @@ block_width enc bs s n offset u sums is end =
 pub block_plain_width : (enc : Encoding) (bs : List ℕ) (s : Sums) (offset : ℕ) → IsUtf8 bs → s ≡ sums_of bs → IsCharBoundary bs offset → s.chars ≡ s.bytes → offset ≡ units enc (chars (take offset bs))
 block_plain_width enc bs s offset u sums b same = sym (plain_front enc bs offset u (same_counts bs s sums same) b)
 
-pub column_fits : (enc : Encoding) (bs : List ℕ) (s : Sums) (n column : ℕ) → IsUtf8 bs → s ≡ sums_of bs → n ≡ amount_in (Units enc) s → column < n → length bs ≤ 4096 → column < 2 ^ 32
-column_fits enc bs s n column u sums is lt short =
-    omega (arith, width_is enc bs s n u sums is, units_le_bytes enc (chars bs), units-utf8_text bs u)
+pub width_fits : (enc : Encoding) (bs : List ℕ) (s : Sums) (n : ℕ) → IsUtf8 bs → s ≡ sums_of bs
+    → n ≡ amount_in (Units enc) s → length bs ≤ 4096 → n < 2 ^ 32
+width_fits enc bs s n u sums is short =
+    omega (
+      arith,
+      width_is enc bs s n u sums is,
+      units_le_bytes enc (chars bs),
+      units-utf8_text bs u,
+    )
 
 -- ---- an edit that only moves places
 

@@ -1,7 +1,7 @@
 -- Units of a text, byte by byte.
 use Rattle.std.proofs.Common.{◌≡◌, ◌≢◌, ◌<◌, ◌≤◌, ◌+◌, ◌-◌, ℕ, Bool, false, List, length, take}
 use Rattle.std.proofs.Common.{drop, get_or, refl, sym, ap, subst, ◌∙◌, ⊎_elim, arith, take-add}
-use Rattle.std.proofs.lemmas.List.{take_more}
+use Rattle.std.proofs.lemmas.List.{take_all, take_more}
 use Rattle.std.proofs.lemmas.List.Sums.{sum_by-append, sum_by_push}
 use Rattle.std.proofs.lemmas.Bool.{cases_lt, false≢true}
 use Rattle.std.specs.Bool.{IsTrue}
@@ -63,6 +63,46 @@ pair_passed enc bs column at left width h within is le =
             le,
           );
     }
+
+-- none of the last bytes, of a line that brings this much
+pub last_passed : (enc : Encoding) (bs : List ℕ) (width : ℕ) → width ≡ sum_by (byte_units enc) bs
+    → IsPassed enc bs width (length bs) 0
+last_passed enc bs width is = record {
+  within = omega arith;
+  left_is = omega (arith, is, ap (sum_by (byte_units enc)) (take_all (length bs) bs (omega arith)));
+}
+
+-- two blocks fewer
+pub pair_behind : (enc : Encoding) (bs : List ℕ) (width at behind more : ℕ)
+    → IsPassed enc bs width at behind → 64 ≤ at
+    → more ≡ sum_by (byte_units enc) (take 32 (drop (at - 64) bs))
+    + sum_by (byte_units enc) (take 32 (drop (at - 64 + 32) bs))
+    → IsPassed enc bs width (at - 64) (behind + more)
+pair_behind enc bs width at behind more h some is =
+    let f = byte_units enc in
+    let k = at - 64 in
+    let place : k + 32 + 32 ≡ at = omega arith in
+    record {
+      within = omega (arith, h.within);
+      left_is =
+          omega (
+            arith,
+            h.left_is,
+            is,
+            ap (λ n. sum_by f (take n bs)) place,
+            ap (sum_by f) (take-add (k + 32) 32 bs),
+            sum_by-append f (take (k + 32) bs) (take 32 (drop (k + 32) bs)),
+            ap (sum_by f) (take-add k 32 bs),
+            sum_by-append f (take k bs) (take 32 (drop k bs)),
+          );
+    }
+
+-- what the last bytes bring beyond the units after a column is left of it
+pub column_passed : (enc : Encoding) (bs : List ℕ) (width column at behind after : ℕ)
+    → IsPassed enc bs width at behind → column ≤ width → after ≡ width - column → after ≤ behind
+    → IsPassed enc bs column at (behind - after)
+column_passed enc bs width column at behind after h le is some =
+    record { within = h.within; left_is = omega (arith, h.left_is, le, is, some) }
 
 -- a byte that goes on with a character brings nothing
 inside_byte : (enc : Encoding) (x : ℕ) → enc ≢ Utf8 → 128 ≤ x → x < 192 → byte_units enc x ≡ 0

@@ -15,7 +15,7 @@ ghost use Rattle.lsp_text.specs.SameText.{BeginsOtherwise, due, with_feeds};
 ghost use Rattle.lsp_text.specs.Parts.{CanReplace, IsReplacedOr, KeepsEnds};
 ghost use Rattle.lsp_text.specs.Parts.{IsCutInto, IsCutPlace};
 
-use crate::columns::offset_in_line;
+use crate::columns::offset_in_counted;
 use crate::ends::{end_len_before, is_whole, move_places, places_of};
 use crate::part::{LineEnd, Part};
 use crate::reading::width_of;
@@ -89,13 +89,14 @@ impl Part for Block {
 
     fn offset_of(&self, encoding: Encoding, column: u64) -> Option<usize> {
         let held: &BlockText = &self.text;
-        if held.sums.by(Measure::Units(encoding)) <= column {
+        let width = held.sums.by(Measure::Units(encoding));
+        if width <= column {
             return Some(held.sums.bytes as usize);
         }
         if held.sums.chars == held.sums.bytes {
             return Some(column as usize);
         }
-        offset_in_line(self.as_str(), encoding, column as u32)
+        offset_in_counted(self.as_str(), encoding, column as u32, width as u32)
     }
 
     fn units_before(&self, encoding: Encoding, offset: usize) -> u64 {

@@ -1,9 +1,11 @@
 //! Columns of a line, which count units of an encoding, as offsets in its bytes.
 
-ghost use Rattle.std.specs.Prelude.{◌≡◌, ◌≢◌, None, MatchOption};
+ghost use Rattle.std.specs.Prelude.{◌≡◌, ◌≢◌, ◌≤◌, ℕ, None, MatchOption};
+ghost use Rattle.std.specs.List.{sum_by};
 ghost use Rattle.std.specs.Str.{chars};
 ghost use Rattle.lsp_text.specs.Places.{units, units_of_char, place_in_line};
-ghost use Rattle.lsp_text.specs.Offsets.{IsOffset, IsSkipped, IsPassed};
+ghost use Rattle.lsp_text.specs.Offsets.{IsOffset, IsSkipped, IsPassed, byte_units};
+ghost use Rattle.lsp_types.specs.declared.position.Encoding as encodings;
 
 use crate::lanes::{is_continuation, units_in, units_in_both};
 use lsp_types::Encoding;
@@ -40,6 +42,96 @@ fn offset_of_byte(line: &str, column: u32) -> Option<usize>
     }
 }
 
+/// The same in a line that has this many units: from its end on, where the column is nearer to
+/// that.
+pub(crate) fn offset_in_counted(
+    line: &str,
+    encoding: Encoding,
+    column: u32,
+    width: u32,
+) -> Option<usize>
+    requires width { width ≡ units encoding (chars line.now) }
+    requires within { column ≤ width }
+    ensures { MatchOption result (place_in_line encoding (chars line.now) column ≡ None)
+        (IsOffset encoding line.now column) }
+{
+    match encoding {
+        Encoding::Utf8 => offset_of_byte(line, column),
+        Encoding::Utf16 | Encoding::Utf32 => offset_from_nearer(line, encoding, column, width),
+    }
+}
+
+/// The same from the nearer end on.
+fn offset_from_nearer(line: &str, encoding: Encoding, column: u32, width: u32) -> Option<usize>
+    requires wide { encoding ≢ Encoding.Utf8 }
+    requires width { width ≡ units encoding (chars line.now) }
+    requires within { column ≤ width }
+    ensures { MatchOption result (place_in_line encoding (chars line.now) column ≡ None)
+        (IsOffset encoding line.now column) }
+{
+    if column < width - column {
+        offset_past_blocks(line, encoding, column)
+    } else {
+        offset_from_end(line, encoding, column, width)
+    }
+}
+
+/// The same from the end on.
+fn offset_from_end(line: &str, encoding: Encoding, column: u32, width: u32) -> Option<usize>
+    requires wide { encoding ≢ Encoding.Utf8 }
+    requires width { width ≡ units encoding (chars line.now) }
+    requires within { column ≤ width }
+    ensures { MatchOption result (place_in_line encoding (chars line.now) column ≡ None)
+        (IsOffset encoding line.now column) }
+{
+    let skipped = skip_to_end(line, encoding, column, width);
+    let (_, rest) = line.split_at(skipped.bytes);
+    let offset = offset_past_blocks(rest, encoding, skipped.left)?;
+    Some(skipped.bytes + offset)
+}
+
+/// The bytes before the blocks at the end that the column lies in or before, and the rest of the
+/// character in which they end.
+fn skip_to_end(line: &str, encoding: Encoding, column: u32, width: u32) -> Skipped
+    requires wide { encoding ≢ Encoding.Utf8 }
+    requires width { width ≡ units encoding (chars line.now) }
+    requires within { column ≤ width }
+    ensures { IsSkipped encoding line.now column result.bytes result.left }
+{
+    let passed = pass_to_end(line.as_bytes(), encoding, column, width);
+    Skipped {
+        bytes: boundary_from(line, passed.bytes),
+        left: passed.left,
+    }
+}
+
+/// The bytes before the fewest pairs of blocks at the end that bring the units after a column.
+fn pass_to_end(bytes: &[u8], encoding: Encoding, column: u32, width: u32) -> Skipped
+    requires width { width ≡ sum_by (byte_units encoding) bytes.now }
+    requires within { column ≤ width }
+    ensures { IsPassed encoding bytes.now column result.bytes result.left }
+{
+    let after = width - column;
+    let mut at = bytes.len();
+    let mut behind = 0;
+    while behind < after {
+        if at < 64 {
+            return Skipped {
+                bytes: 0,
+                left: column,
+            };
+        }
+        at -= 64;
+        let first = u8x32::from_slice(&bytes[at..]);
+        let second = u8x32::from_slice(&bytes[at + 32..]);
+        behind += units_in_both(first, second, encoding);
+    }
+    Skipped {
+        bytes: at,
+        left: behind - after,
+    }
+}
+
 /// The same by whole blocks, and then by characters.
 fn offset_past_blocks(line: &str, encoding: Encoding, column: u32) -> Option<usize>
     requires { encoding ≢ Encoding.Utf8 }
@@ -57,16 +149,24 @@ fn skip_blocks(line: &str, encoding: Encoding, column: u32) -> Skipped
     requires { encoding ≢ Encoding.Utf8 }
     ensures { IsSkipped encoding line.now column result.bytes result.left }
 {
+    let passed = pass_blocks(line.as_bytes(), encoding, column);
+    Skipped {
+        bytes: boundary_from(line, passed.bytes),
+        left: passed.left,
+    }
+}
+
+/// The end of the character inside which a place lies, or the place itself.
+fn boundary_from(line: &str, place: usize) -> usize
+    ensures { (enc : encodings.Encoding) (column left : ℕ) → enc ≢ Encoding.Utf8
+        → IsPassed enc line.now column place left → IsSkipped enc line.now column result left }
+{
     let bytes = line.as_bytes();
-    let passed = pass_blocks(bytes, encoding, column);
-    let mut at = passed.bytes;
+    let mut at = place;
     while at < bytes.len() && is_continuation(bytes[at]) {
         at += 1;
     }
-    Skipped {
-        bytes: at,
-        left: passed.left,
-    }
+    at
 }
 
 /// Whole blocks before a column.

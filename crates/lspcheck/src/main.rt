@@ -72,7 +72,8 @@ fn run_on<R: Print + Eprint + AllocGlobal, I: Read + Drop>(
 ) -> Ended {
     let alloc = rt.alloc();
     let supply = Supply::new();
-    let Ok(mut input) = BufferedInput::new(alloc, Watched::new(progress, input), &supply) else {
+    let watched = Watched::new(progress, input);
+    let Ok(mut input) = BufferedInput::new(alloc, watched, &request.task, &supply) else {
         return Ended::by(RunFault::Memory);
     };
     let output = MakingWay::new(progress, io::writer(rt));

@@ -28,3 +28,6 @@ returns-in-Ok c =
 
 pub returns-in-Some : goal.returns-in-Some
 returns-in-Some c = near_starts c.args.limits.now c.args.bytes.now c.min.result c.in-Some.size c.in-Some.ensures
+
+pub returns-in-Some-typed_size : goal.returns-in-Some-typed_size
+returns-in-Some-typed_size c = near_starts c.args.limits.now c.args.bytes.now c.min.result c.in-Some-typed_size.size c.in-Some-typed_size.ensures

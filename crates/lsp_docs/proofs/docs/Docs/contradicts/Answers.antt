@@ -18,7 +18,7 @@ returns-in-Some g c =
     let text = chars c.args.text.now in
     let v = versioned c.args.version text in
     let uri = c.args.uri.now in
-    let ends = c.self.inside.line_ends in
+    let ends = c.self.inside.terms.line_ends in
     let test : Text → Bool = λ t. not (same_text ends text t) in
     let told = simp to_z-of_z at c.in-Some.ensures in
     c.any_is_not.ensures
@@ -33,7 +33,7 @@ returns-in-None g c =
     let text = chars c.args.text.now in
     let v = versioned c.args.version text in
     let uri = c.args.uri.now in
-    let ends = c.self.inside.line_ends in
+    let ends = c.self.inside.terms.line_ends in
     let test : Text → Bool = λ t. not (same_text ends text t) in
     let told = simp to_z-of_z at c.in-None.ensures in
     ap (list_any test) told

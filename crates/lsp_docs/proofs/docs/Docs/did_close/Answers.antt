@@ -22,7 +22,7 @@ returns-then-not-remove-clause-rule g c = λ calls h.
 pub returns-then-not-remove-clause-err : goal.returns-then-not-remove-clause-err
 returns-then-not-remove-clause-err g c =
     let out : c.remove.result ≡ false = search rules in
-    ap (λ l. stated (terms_in c.self.inside.limit c.self.inside.kept c.self.inside.line_ends) l.held
+    ap (λ l. stated (terms_in c.self.inside.terms.limit c.self.inside.terms.kept c.self.inside.terms.line_ends) l.held
     l.kept c.self.inside.waiting) (c.remove.ensures.absent out) ∙ c.self.view_is
 
 pub returns-clause-accepted : goal.returns-clause-accepted
@@ -50,8 +50,8 @@ returns-clause-stands g c = λ calls h.
     let counted = subst (λ x. c.release.new.self.missed
     ≡ capped (x.waits.missed + length (queue_of uri x.waits.queues))) c.self.view_is
     c.release.ensures.missed in
-    subst (λ l. Stands (stated (terms_in c.self.inside.limit c.self.inside.kept
-    c.self.inside.line_ends) l c.remove.new.self.kept c.release.new.self)
+    subst (λ l. Stands (stated (terms_in c.self.inside.terms.limit c.self.inside.terms.kept
+    c.self.inside.terms.line_ends) l c.remove.new.self.kept c.release.new.self)
     (calls ++ closes uri ∷ [])) (sym c.remove.ensures.held)
     (subst (λ x. Stands (stated x.terms (without uri x.documents) c.remove.new.self.kept
     c.release.new.self) (calls ++ closes uri ∷ [])) (sym c.self.view_is)

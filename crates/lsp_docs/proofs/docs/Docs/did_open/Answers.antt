@@ -55,11 +55,11 @@ returns-clause-stands g c = λ calls h.
     let same : KeepsSame s.kept c.insert.new.self.kept =
     subst (λ x. KeepsSame x.kept c.insert.new.self.kept) c.self.view_is
     c.in_ok-insert.ensures.kept in
-    subst (λ w. Stands (stated (terms_in c.self.inside.limit c.self.inside.kept
-    c.self.inside.line_ends) c.insert.new.self.held c.insert.new.self.kept w)
+    subst (λ w. Stands (stated (terms_in c.self.inside.terms.limit c.self.inside.terms.kept
+    c.self.inside.terms.line_ends) c.insert.new.self.held c.insert.new.self.kept w)
     (calls ++ call ∷ [])) (sym re)
-    (subst (λ l. Stands (stated (terms_in c.self.inside.limit c.self.inside.kept
-    c.self.inside.line_ends) l c.insert.new.self.kept (reached uri n c.self.inside.waiting))
+    (subst (λ l. Stands (stated (terms_in c.self.inside.terms.limit c.self.inside.terms.kept
+    c.self.inside.terms.line_ends) l c.insert.new.self.kept (reached uri n c.self.inside.waiting))
     (calls ++ call ∷ [])) (sym ins)
     (subst (λ x. Stands (stated x.terms (x.documents ++ record {
       uri = uri;

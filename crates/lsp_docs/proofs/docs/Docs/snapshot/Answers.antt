@@ -95,8 +95,8 @@ returns-in-Missed-clause-stands g c = λ calls h.
     let allowed = simp to_z-of_z at c.in_ok-judge.ensures.allowed in
     let said = missed-passed n (kept_in uri s.kept) (held_in uri s.documents)
     (sym answer ∙ c.in-Missed.is) in
-    subst (λ w. Stands (stated (terms_in c.self.inside.limit c.self.inside.kept
-    c.self.inside.line_ends) c.self.inside.documents.held c.self.inside.documents.kept w)
+    subst (λ w. Stands (stated (terms_in c.self.inside.terms.limit c.self.inside.terms.kept
+    c.self.inside.terms.line_ends) c.self.inside.documents.held c.self.inside.documents.kept w)
     (calls ++ call ∷ [])) (sym c.miss.ensures)
     (subst (λ x. Stands (stated x.terms x.documents x.kept (missed_one x.waits))
     (calls ++ call ∷ [])) (sym c.self.view_is)

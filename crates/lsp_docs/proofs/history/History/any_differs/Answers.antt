@@ -13,11 +13,8 @@ returns g c =
     let fits : SFits w32 c.args.version = c.ranges.version in
     let tested = simp to_z-of_z at c.any_differs.ensures in
     tested
-    ∙ (ap (list_any (λ r. differs c.args.line_ends
-    (versioned r.version (g.S.TextStore.content r.store))
-    (versioned c.args.version (chars c.args.text.now)))) c.as_slice.ensures.value
     ∙ (sym (any-map (λ w. differs c.args.line_ends w
     (versioned c.args.version (chars c.args.text.now)))
     (λ r. versioned r.version (g.S.TextStore.content r.store)) c.self.inside.revisions.items)
     ∙ ap (list_any (λ w. differs c.args.line_ends w
-    (versioned c.args.version (chars c.args.text.now)))) c.self.view_is))
+    (versioned c.args.version (chars c.args.text.now)))) c.self.view_is)

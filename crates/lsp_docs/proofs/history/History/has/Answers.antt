@@ -11,8 +11,6 @@ returns g c =
     let fits : SFits w32 c.args.version = c.ranges.version in
     let tested = simp to_z-of_z at c.any_at.ensures in
     tested
-    ∙ (ap (list_any (λ r. is_at c.args.version
-    (versioned r.version (g.S.TextStore.content r.store)))) c.as_slice.ensures.value
     ∙ (sym (any-map (is_at c.args.version) (λ r.
     versioned r.version (g.S.TextStore.content r.store)) c.self.inside.revisions.items)
-    ∙ ap (list_any (is_at c.args.version)) c.self.view_is))
+    ∙ ap (list_any (is_at c.args.version)) c.self.view_is)

@@ -11,8 +11,6 @@ returns g c =
     let fits : SFits w32 c.args.version = c.ranges.version in
     let tested = simp to_z-of_z at c.all_after.ensures in
     tested
-    ∙ (ap (list_all (λ r. is_after c.args.version
-    (versioned r.version (g.S.TextStore.content r.store)))) c.as_slice.ensures.value
     ∙ (sym (list_all-map (is_after c.args.version)
     (λ r. versioned r.version (g.S.TextStore.content r.store)) c.self.inside.revisions.items)
-    ∙ ap (list_all (is_after c.args.version)) c.self.view_is))
+    ∙ ap (list_all (is_after c.args.version)) c.self.view_is)

@@ -1,14 +1,15 @@
-use Rattle.std.proofs.Common.{◌≡◌, List, ap, sym, ◌∙◌, map, subst}
-use Rattle.std.specs.Prelude.{ℤ, IfOk}
+use Rattle.std.proofs.Common.{◌++◌, ap, sym, ◌∙◌, map}
+use Rattle.std.proofs.lemmas.List.{map-append}
 use Rattle.lsp_docs.specs.Documents.{Version, versioned}
 use Rattle.lsp_docs.proofs.Others.{map-seen}
 use Rattle.lsp_docs.proofs.history.History.numbers.Goals as goal
 
 pub returns : goal.returns
 returns g c =
-    subst (λ (l : List ℤ). IfOk c.numbers_of.result (λ numbers. numbers.items ≡ l))
-    (ap (map (λ r. r.version)) c.as_slice.ensures.value
+    c.in_ok-add_numbers-2.ensures
+    ∙ (ap (λ l. l ++ map (λ r. r.version) c.as_slices.result.1.now) c.in_ok-add_numbers.ensures
+    ∙ (sym (map-append (λ r. r.version) c.as_slices.result.0.now c.as_slices.result.1.now)
+    ∙ (ap (map (λ r. r.version)) c.as_slices.ensures.items
     ∙ (sym (map-seen (λ (v : Version). v.number)
     (λ r. versioned r.version (g.S.TextStore.content r.store)) c.self.inside.revisions.items)
-    ∙ ap (map (λ (v : Version). v.number)) c.self.view_is))
-    c.numbers_of.ensures
+    ∙ ap (map (λ (v : Version). v.number)) c.self.view_is))))

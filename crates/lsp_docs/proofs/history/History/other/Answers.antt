@@ -9,20 +9,32 @@ use Rattle.lsp_docs.specs.Others.{differs_from, other_in}
 use Rattle.lsp_docs.proofs.Others.{find-map, map-twice}
 use Rattle.lsp_docs.proofs.history.History.other.Goals as goal
 
-pub returns : goal.returns
-returns g c =
+pub returns-in-Some : goal.returns-in-Some
+returns-in-Some g c =
     let fits : SFits w32 c.args.version = c.ranges.version in
     let s = versioned c.args.version (chars c.args.text.now) in
-    let told = simp to_z-of_z at c.first_other.ensures in
+    let told = simp to_z-of_z at c.in-Some.ensures in
     let items = c.self.inside.revisions.items in
-    told
-    ∙ (ap (λ l. option_map (λ r. g.S.TextStore.content r.store)
-    (find (λ r. differs_from c.args.line_ends s
-    (versioned r.version (g.S.TextStore.content r.store))) l)) c.as_slice.ensures.value
+    ap (option_map (λ r. g.S.TextStore.content r.store)) told
     ∙ (sym (ap (option_map (λ (v : Version). v.text))
     (find-map (differs_from c.args.line_ends s)
     (λ r. versioned r.version (g.S.TextStore.content r.store)) items)
     ∙ map-twice (λ (v : Version). v.text) (λ r. versioned r.version (g.S.TextStore.content r.store))
     (find (λ r. differs_from c.args.line_ends s
     (versioned r.version (g.S.TextStore.content r.store))) items))
-    ∙ ap (other_in c.args.line_ends s) c.self.view_is))
+    ∙ ap (other_in c.args.line_ends s) c.self.view_is)
+
+pub returns-in-None : goal.returns-in-None
+returns-in-None g c =
+    let fits : SFits w32 c.args.version = c.ranges.version in
+    let s = versioned c.args.version (chars c.args.text.now) in
+    let told = simp to_z-of_z at c.in-None.ensures in
+    let items = c.self.inside.revisions.items in
+    ap (option_map (λ r. g.S.TextStore.content r.store)) told
+    ∙ (sym (ap (option_map (λ (v : Version). v.text))
+    (find-map (differs_from c.args.line_ends s)
+    (λ r. versioned r.version (g.S.TextStore.content r.store)) items)
+    ∙ map-twice (λ (v : Version). v.text) (λ r. versioned r.version (g.S.TextStore.content r.store))
+    (find (λ r. differs_from c.args.line_ends s
+    (versioned r.version (g.S.TextStore.content r.store))) items))
+    ∙ ap (other_in c.args.line_ends s) c.self.view_is)

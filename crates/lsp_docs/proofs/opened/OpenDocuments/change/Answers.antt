@@ -1,93 +1,135 @@
-use Rattle.std.proofs.Common.{◌≡◌, ◌∷◌, [], Some, is_some, option_map, string_bytes, refl, sym, ap}
-use Rattle.std.proofs.Common.{subst, ◌∙◌, w32, rules}
-use Rattle.std.specs.Map.{lookup}
-use Rattle.std.specs.Option.{option_copied_mut}
+use Rattle.std.proofs.Common.{◌≡◌, [], Some, None, option_map, string_bytes, sym, ap}
+use Rattle.std.proofs.Common.{subst, ◌∙◌, w32}
+use Rattle.std.specs.Map.{set_value}
+use Rattle.std.specs.Option.{option_copied, option_copied_mut}
+use Rattle.std.specs.Prelude.{unwrap_or}
 use Rattle.lsp_types.specs.Texts.{is_text}
 use Rattle.std.proofs.lemmas.Int.{to_z-of_z}
 use mir.Val.{SFits}
-use Rattle.std.proofs.lemmas.Result.{on_err_weaker, IfErr-weaker}
-use Rattle.lsp_text.specs.Changes.{edit_of}
+use Rattle.std.proofs.lemmas.Result.{on_ok_weaker, IfErr-weaker}
+use Rattle.lsp_text.specs.Changes.{edits_of}
 use Rattle.lsp_text.specs.Edits.{applied}
 use Rattle.lsp_docs.specs.declared.document.Document.{Document}
 use Rattle.lsp_docs.specs.Documents.{Version, versioned}
-use Rattle.lsp_docs.specs.Fault.{Breaks}
-use Rattle.lsp_docs.specs.State.{held_in, set_in, text_in}
-use Rattle.lsp_docs.proofs.Entries.{held_in-of, held-set, written-same}
-use Rattle.lsp_docs.proofs.Faults.{on_ok_two}
+use Rattle.lsp_docs.specs.Fault.{Names}
+use Rattle.lsp_docs.specs.Opened.{kept_of}
+use Rattle.lsp_docs.specs.State.{KeepsOn, early_rule, held_in, rule_with, set_in, text_in}
+use Rattle.lsp_docs.proofs.Entries.{held_in-of, held-set, keeps-on, written-same}
+use Rattle.lsp_docs.proofs.Faults.{on_ok_two, on_err_two}
 use Rattle.lsp_docs.proofs.opened.OpenDocuments.change.Given.{Over}
-use Rattle.lsp_docs.proofs.opened.OpenDocuments.change.Goals.{After-unwrap-document}
 use Rattle.lsp_docs.proofs.opened.OpenDocuments.change.Goals as goal
 
 abbrev seen : (g : Over) → Document g.row.S.Denot → Version
 seen g d = versioned d.held.version (g.S.TextStore.content d.held.store)
 
-module _ (g : Over) (c : After-unwrap-document g) where
-  found : lookup (is_text c.args.uri.now) c.self.inside.documents
-      ≡ Some c.unwrap-document.result.now
-  found = sym (ap option_copied_mut (sym c.unwrap-document.ensures) ∙ c.get_str_mut.ensures.value)
-
-  is_now : held_in c.args.uri.now c.args.self.now.held ≡ Some (seen g c.unwrap-document.result.now)
-  is_now = ap (λ s. held_in c.args.uri.now s.held) (sym c.self.view_is)
-      ∙ (held_in-of (seen g) c.args.uri.now c.self.inside.documents
-      ∙ ap (option_map (seen g)) found)
-
-pub unwrap-document-requires : goal.unwrap-document-requires
-unwrap-document-requires g c =
-    search (
-      rules,
-      ap is_some (sym (held_in-of (seen g) c.args.uri.now c.self.inside.documents)
-          ∙ ap (λ s. held_in c.args.uri.now s.held) c.self.view_is) ∙ c.requires,
-      c.get_str_mut.ensures.value,
-    )
-
-pub returns-clause-ok : goal.returns-clause-ok
-returns-clause-ok g c =
-    let now = (goal.at.returns-clause-ok g c).After-unwrap-document in
+pub returns-in_default-clause-rule : goal.returns-in_default-clause-rule
+returns-in_default-clause-rule g c =
     let uri = c.args.uri.now in
-    let d : Document g.row.S.Denot =
-    record { held = c.change.new.self; kept = c.unwrap-document.result.now.kept } in
+    let absent = sym c.get_str_mut.ensures.value ∙ ap option_copied_mut c.in_default.is in
+    let none : held_in uri c.args.self.now.held ≡ None =
+    ap (λ s. held_in uri s.held) (sym c.self.view_is)
+    ∙ (held_in-of (seen g) uri c.self.inside.documents ∙ ap (option_map (seen g)) absent) in
+    ap (rule_with c.args.terms.limit c.args.terms.line_ends (unwrap_or (option_copied c.args.due) [])
+    c.args.encoding c.args.kind c.args.version (edits_of c.args.changes.now)) none
+
+pub returns-clause-held : goal.returns-clause-held
+returns-clause-held g c =
     let fits : SFits w32 c.args.version = c.ranges.version in
+    let uri = c.args.uri.now in
+    let cs = edits_of c.args.changes.now in
+    let documents = c.self.inside.documents in
+    let d = c.in-Some.document.now in
+    let made = c.change.new.self in
+    let is_now : held_in uri c.args.self.now.held ≡ Some (seen g d) =
+    ap (λ s. held_in uri s.held) (sym c.self.view_is)
+    ∙ (held_in-of (seen g) uri documents ∙ ap (option_map (seen g)) (sym c.in-Some.ensures.value)) in
     let version = simp to_z-of_z at c.change.ensures.version in
     on_ok_two c.change.result (λ a b. record {
-      text = g.S.TextStore.content c.change.new.self.store;
-      is_made = ap (λ o. applied c.args.limit c.args.encoding (text_in o)
-          (edit_of c.args.change.now ∷ [])) (is_now g now) ∙ a;
-      is = held-set (seen g) uri d c.self.inside.documents
-          ∙ (ap (λ s. set_in uri (seen g d) s.held) c.self.view_is
-          ∙ ap (λ n. set_in uri (versioned n (g.S.TextStore.content c.change.new.self.store))
+      text = g.S.TextStore.content made.held.store;
+      is_made = ap (λ o. applied c.args.terms.limit c.args.encoding (text_in o) cs) is_now ∙ a;
+      is = held-set (seen g) uri made documents
+          ∙ (ap (λ s. set_in uri (seen g made) s.held) c.self.view_is
+          ∙ ap (λ n. set_in uri (versioned n (g.S.TextStore.content made.held.store))
           c.args.self.now.held) b);
-    }) c.change.ensures.ok version
-
-pub returns-clause-fault : goal.returns-clause-fault
-returns-clause-fault g c =
-    let now = (goal.at.returns-clause-fault g c).After-unwrap-document in
-    IfErr-weaker c.change.result _ _
-    (λ e. subst (λ o. Breaks (applied c.args.limit c.args.encoding (text_in o)
-    (edit_of c.args.change.now ∷ [])) e) (sym (is_now g now))) c.change.ensures.fault
+    }) c.change.ensures.store version
 
 pub returns-clause-kept : goal.returns-clause-kept
 returns-clause-kept g c =
-    let now = (goal.at.returns-clause-kept g c).After-unwrap-document in
-    let d : Document g.row.S.Denot =
-    record { held = c.change.new.self; kept = c.unwrap-document.result.now.kept } in
-    written-same (λ e. record {
-      uri = string_bytes e.0;
-      versions = e.1.kept;
-    }) c.args.uri.now d c.unwrap-document.result.now (λ k. refl) c.self.inside.documents
-    (found g now)
-    ∙ ap (λ s. s.kept) c.self.view_is
+    let uri = c.args.uri.now in
+    let most = c.args.terms.kept in
+    let documents = c.self.inside.documents in
+    let d = c.in-Some.document.now in
+    let h = held_in uri c.args.self.now.held in
+    let found = sym c.in-Some.ensures.value in
+    let is_now : h ≡ Some (seen g d) =
+    ap (λ s. held_in uri s.held) (sym c.self.view_is)
+    ∙ (held_in-of (seen g) uri documents ∙ ap (option_map (seen g)) found) in
+    on_ok_weaker c.change.result (λ k.
+    subst (λ l. KeepsOn most uri h l (kept_of (λ d. d.kept)
+    (set_value (is_text uri) documents c.change.new.self))) (ap (λ s. s.kept) c.self.view_is)
+    (keeps-on (λ d. d.kept) most h (seen g d) uri c.change.new.self d documents found is_now k))
+    c.change.ensures.kept
+
+pub returns-clause-allowed : goal.returns-clause-allowed
+returns-clause-allowed g c =
+    let fits : SFits w32 c.args.version = c.ranges.version in
+    let uri = c.args.uri.now in
+    let d = c.in-Some.document.now in
+    let is_now : held_in uri c.args.self.now.held ≡ Some (seen g d) =
+    ap (λ s. held_in uri s.held) (sym c.self.view_is)
+    ∙ (held_in-of (seen g) uri c.self.inside.documents
+    ∙ ap (option_map (seen g)) (sym c.in-Some.ensures.value)) in
+    let allowed = simp to_z-of_z at c.change.ensures.allowed in
+    on_ok_weaker c.change.result (λ a.
+    ap (rule_with c.args.terms.limit c.args.terms.line_ends
+    (unwrap_or (option_copied c.args.due) []) c.args.encoding c.args.kind c.args.version
+    (edits_of c.args.changes.now)) is_now ∙ a) allowed
+
+pub returns-clause-rule : goal.returns-clause-rule
+returns-clause-rule g c =
+    let fits : SFits w32 c.args.version = c.ranges.version in
+    let uri = c.args.uri.now in
+    let d = c.in-Some.document.now in
+    let is_now : held_in uri c.args.self.now.held ≡ Some (seen g d) =
+    ap (λ s. held_in uri s.held) (sym c.self.view_is)
+    ∙ (held_in-of (seen g) uri c.self.inside.documents
+    ∙ ap (option_map (seen g)) (sym c.in-Some.ensures.value)) in
+    let rule = simp to_z-of_z at c.change.ensures.rule in
+    IfErr-weaker c.change.result _ _
+    (λ e. subst (λ o. Names (rule_with c.args.terms.limit c.args.terms.line_ends
+    (unwrap_or (option_copied c.args.due) []) c.args.encoding c.args.kind c.args.version
+    (edits_of c.args.changes.now) o) e) (sym is_now)) rule
+
+pub returns-clause-memory : goal.returns-clause-memory
+returns-clause-memory g c = λ refused.
+    let fits : SFits w32 c.args.version = c.ranges.version in
+    let uri = c.args.uri.now in
+    let d = c.in-Some.document.now in
+    let is_now : held_in uri c.args.self.now.held ≡ Some (seen g d) =
+    ap (λ s. held_in uri s.held) (sym c.self.view_is)
+    ∙ (held_in-of (seen g) uri c.self.inside.documents
+    ∙ ap (option_map (seen g)) (sym c.in-Some.ensures.value)) in
+    let early = simp to_z-of_z at c.change.ensures.memory in
+    ap (early_rule c.args.kind c.args.version (edits_of c.args.changes.now)) is_now
+    ∙ early refused
 
 pub returns-clause-err : goal.returns-clause-err
 returns-clause-err g c =
-    let now = (goal.at.returns-clause-err g c).After-unwrap-document in
-    let d : Document g.row.S.Denot =
-    record { held = c.change.new.self; kept = c.unwrap-document.result.now.kept } in
-    on_err_weaker c.change.result (λ p.
-    let same_held = written-same (λ e. record { uri = string_bytes e.0; version = seen g e.1 })
-    c.args.uri.now d c.unwrap-document.result.now
-    (λ k i. record {
+    let uri = c.args.uri.now in
+    let documents = c.self.inside.documents in
+    let made = c.change.new.self in
+    let d = c.in-Some.document.now in
+    let found = sym c.in-Some.ensures.value in
+    on_err_two c.change.result (λ p q.
+    let same_held = written-same (λ x. record { uri = string_bytes x.0; version = seen g x.1 }) uri
+    made d (λ k. ap (λ v. record {
       uri = string_bytes k;
-      version = versioned (p.0 i) (p.1 i);
-    }) c.self.inside.documents (found g now) ∙ ap (λ s. s.held) c.self.view_is in
-    λ i. record { held = same_held i; kept = returns-clause-kept g c i })
-    c.change.ensures.err
+      version = v;
+    }) p) documents found in
+    let same_kept = written-same (λ x. record { uri = string_bytes x.0; versions = x.1.kept }) uri
+    made d (λ k. ap (λ vs. record {
+      uri = string_bytes k;
+      versions = vs;
+    }) q) documents found in
+    (λ i. record { held = same_held i; kept = same_kept i }) ∙ c.self.view_is)
+    c.change.ensures.err_held c.change.ensures.err_kept

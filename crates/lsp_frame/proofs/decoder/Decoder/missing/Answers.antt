@@ -1,4 +1,4 @@
-use Rattle.std.proofs.Common.{◌≡◌, ◌-◌, length, arith, ap, sym, ◌∙◌, drop, take}
+use Rattle.std.proofs.Common.{◌≡◌, ◌-◌, length, arith, ap, sym, ◌∙◌, take}
 use Rattle.std.proofs.lemmas.List.{length-drop, length-take}
 use Rattle.lsp_frame.specs.Decoder.{State}
 use Rattle.lsp_frame.proofs.Passing.{misses, no_header_misses, whole_misses}

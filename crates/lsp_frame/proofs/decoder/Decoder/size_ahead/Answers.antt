@@ -1,4 +1,4 @@
-use Rattle.std.proofs.Common.{sym, ap, subst, ◌∙◌, List, ℕ}
+use Rattle.std.proofs.Common.{subst, List, ℕ}
 use Rattle.lsp_frame.specs.Decoder.{State}
 use Rattle.lsp_frame.specs.Start.{StartsAs, StartsWithHeader, StartsWithNone}
 use Rattle.lsp_frame.proofs.Starts.{none_at}

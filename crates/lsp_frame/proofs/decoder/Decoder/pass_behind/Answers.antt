@@ -1,8 +1,8 @@
-use Rattle.std.proofs.Common.{◌≡◌, ◌+◌, ◌-◌, ◌≤◌, ap, length, [], arith, ◌∙◌}
+use Rattle.std.proofs.Common.{◌+◌, ◌-◌, ◌≤◌, length, arith, ◌∙◌}
 use Rattle.lsp_frame.specs.Pulling.{window_of}
 use Rattle.lsp_frame.proofs.Passing.{passed, emptied}
 use Rattle.lsp_frame.proofs.Pulls.{pulled_len, room_is}
-use Rattle.lsp_frame.proofs.decoder.Decoder.pass.Goals as goal
+use Rattle.lsp_frame.proofs.decoder.Decoder.pass_behind.Goals as goal
 
 pub returns : goal.returns
 returns g c =
