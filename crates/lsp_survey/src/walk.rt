@@ -116,12 +116,7 @@ impl Replay {
     }
 
     /// Hears the next event, a content of this side.
-    fn hear_content(
-        &mut self,
-        alloc: Global,
-        side: Side,
-        content: &[u8],
-    ) -> Result<Judged, Memory>
+    fn hear_content(&mut self, alloc: Global, side: Side, content: &[u8]) -> Result<Judged, Memory>
         ensures terms { self.new.events.docs.terms ≡ self.old.events.docs.terms }
         ensures heard { IfOk result (λ heard. (before : List Noted) → Walks self.old before
             → Hears (placed.content side content.now) self.old.events.docs.terms self.new before

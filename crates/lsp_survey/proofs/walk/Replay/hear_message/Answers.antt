@@ -55,9 +55,9 @@ returns-in-Err-clause-heard c =
     let kept = kept_of old.events.docs.terms (events_of before) in
     let still = still_walks old mid before walks same (followed.err bytes kept says walks.holds)
     followed.counts refl refl refl refl refl refl refl refl in
-    let refused = subst (λ (t : Terms). IsRefused (content side bytes) t before c.refuse.result)
-    (sym same)
-    (rw c.refuse.ensures (refused_as side bytes old.events.docs.terms kept spoken _
+    let refused = subst (λ (t : Terms).
+    IsRefused (content side bytes) t before c.refuse-refused.result) (sym same)
+    (rw c.refuse-refused.ensures (refused_as side bytes old.events.docs.terms kept spoken _
     (followed.rule bytes kept says walks.holds))) in
     subst (λ (t : Terms). Hears (content side bytes) t c.pass_over.new.self before given) same
     (heard before still refused))
