@@ -1,97 +1,102 @@
 -- Renamed files, worked on short sessions.
-use Rattle.std.proofs.Common.{◌≡◌, ℕ, List, [], ◌∷◌, ◌++◌, Option, Some, None, refl, codes}
 use Rattle.std.specs.Prelude.{pos}
-use Rattle.serde_json.specs.Read.{read}
+use Rattle.std.proofs.Common.{◌≡◌, ℕ, List, [], ◌∷◌, Some, None, refl, codes}
+use Rattle.serde_json.specs.Data.{Data, Items, array, item, member, no_items, no_members, object}
+use Rattle.serde_json.specs.Data.{string}
 use Rattle.lsp_rpc.specs.Act.{Act, did_change, did_close, did_open, other}
 use Rattle.lsp_rpc.specs.Message.{notification}
-use Rattle.lsp_session.specs.Sent.{Sent}
 use Rattle.lsp_types.specs.declared.side.Side.{Side}
 use Rattle.lsp_types.specs.declared.side.Side.TheVariants as sides
 use Rattle.lsp_verdict.specs.declared.verdict.Who.TheVariants.{Editor}
 use Rattle.lsp_replay.specs.declared.heard.EventPlace.{EventPlace}
-use Rattle.std.specs.Float.Numeral.{scan_numeral}
-use Rattle.std.specs.Str.{chars}
-use Rattle.json.specs.Json.{value}
-use Rattle.json.specs.Lex.{punctuate, lex}
-use Rattle.json.specs.Text.{content}
-use Rattle.json.specs.Word.{word, after_number}
-use Rattle.serde_json.specs.Read.{number_of}
 use Rattle.lsp_survey.specs.Asking.{Numbered}
-use Rattle.lsp_survey.specs.Renames.{Renamed, renamed, renamed_to}
+use Rattle.lsp_survey.specs.Renames.{renamed, renamed_to}
 
 abbrev at : ℕ → EventPlace
 at n = record { event = n; who = Editor; number = n }
 
--- the event of this number, a notification of this method with these params and this act
-abbrev tells : Side → ℕ → List ℕ → List ℕ → Act → Numbered
-tells side n method params act = record {
+-- the event of this number: a notification of this method about these files, with this act
+abbrev tells : Side → ℕ → List ℕ → Data → Act → Numbered
+tells side n method files act = record {
   place = at n;
-  sent = record { side = side; message = notification method (read params); act = act };
+  sent = record {
+    side = side;
+    message = notification method (Some (object (member (codes "files") files no_members)));
+    act = act;
+  };
 }
 
-abbrev RENAMED : ℕ → List ℕ → Numbered
-RENAMED n params = tells sides.Editor n (codes "workspace/didRenameFiles") params other
+abbrev has_renamed : ℕ → Items → Numbered
+has_renamed n files =
+    tells sides.Editor n (codes "workspace/didRenameFiles") (array files) other
 
-abbrev CREATED : ℕ → List ℕ → Numbered
-CREATED n params = tells sides.Editor n (codes "workspace/didCreateFiles") params other
+abbrev has_created : ℕ → Items → Numbered
+has_created n files =
+    tells sides.Editor n (codes "workspace/didCreateFiles") (array files) other
 
-abbrev CHANGED : ℕ → List ℕ → Numbered
-CHANGED n uri = tells sides.Editor n (codes "m") [] (did_change uri (pos 2) [])
+abbrev changes : ℕ → List ℕ → Numbered
+changes n uri = tells sides.Editor n (codes "m") (array no_items) (did_change uri (pos 2) [])
 
-abbrev OPENED : ℕ → List ℕ → Numbered
-OPENED n uri = tells sides.Editor n (codes "m") [] (did_open uri (pos 1) [])
+abbrev opens : ℕ → List ℕ → Numbered
+opens n uri = tells sides.Editor n (codes "m") (array no_items) (did_open uri (pos 1) [])
 
-abbrev CLOSED : ℕ → List ℕ → Numbered
-CLOSED n uri = tells sides.Editor n (codes "m") [] (did_close uri)
+abbrev closes : ℕ → List ℕ → Numbered
+closes n uri = tells sides.Editor n (codes "m") (array no_items) (did_close uri)
 
-abbrev A_TO_B : List ℕ
-A_TO_B = codes "{\"files\":[{\"oldUri\":\"a\",\"newUri\":\"b\"}]}"
+-- a file that was renamed, and one that was created
+abbrev from_to : List ℕ → List ℕ → Data
+from_to old new =
+    object (member (codes "newUri") (string new) (member (codes "oldUri") (string old) no_members))
 
-abbrev B_TO_A : List ℕ
-B_TO_A = codes "{\"files\":[{\"oldUri\":\"b\",\"newUri\":\"a\"}]}"
+abbrev named : List ℕ → List ℕ → Data
+named key uri = object (member key (string uri) no_members)
+
+abbrev a : List ℕ
+a = codes "a"
+
+abbrev b : List ℕ
+b = codes "b"
+
+abbrev one : Data → Items
+one file = item file no_items
 
 -- the first message under the old URI
-old_name : renamed (RENAMED 1 A_TO_B ∷ CLOSED 2 (codes "a") ∷ OPENED 3 (codes "b")
-    ∷ CHANGED 4 (codes "a") ∷ CHANGED 5 (codes "a") ∷ [])
-    ≡ Some (renamed_to (at 4) (codes "a"))
-unfolding value punctuate lex content word after_number number_of scan_numeral chars
+old_name : renamed (has_renamed 1 (one (from_to a b)) ∷ closes 2 a ∷ opens 3 b ∷ changes 4 a
+    ∷ changes 5 a ∷ []) ≡ Some (renamed_to (at 4) a)
 old_name = refl
 
--- under the new one, and before the rename
-new_name : renamed (CHANGED 1 (codes "a") ∷ RENAMED 2 A_TO_B ∷ CLOSED 3 (codes "a")
-    ∷ OPENED 4 (codes "b") ∷ []) ≡ None
-unfolding value punctuate lex content word after_number number_of scan_numeral chars
+opened_again : renamed (has_renamed 1 (one (from_to a b)) ∷ closes 2 a ∷ opens 3 a ∷ [])
+    ≡ Some (renamed_to (at 3) a)
+opened_again = refl
+
+-- before the rename, and under the new URI
+new_name : renamed (changes 1 a ∷ has_renamed 2 (one (from_to a b)) ∷ closes 3 a ∷ opens 4 b ∷ [])
+    ≡ None
 new_name = refl
 
--- renamed back
-back : renamed (RENAMED 1 A_TO_B ∷ RENAMED 2 B_TO_A ∷ CHANGED 3 (codes "a")
-    ∷ OPENED 4 (codes "b") ∷ []) ≡ Some (renamed_to (at 4) (codes "b"))
-unfolding value punctuate lex content word after_number number_of scan_numeral chars
+-- renamed back: now the other URI is gone
+back : renamed (has_renamed 1 (one (from_to a b)) ∷ has_renamed 2 (one (from_to b a))
+    ∷ changes 3 a ∷ opens 4 b ∷ []) ≡ Some (renamed_to (at 4) b)
 back = refl
 
 -- created again
-created : renamed (RENAMED 1 A_TO_B ∷ CREATED 2 (codes "{\"files\":[{\"uri\":\"a\"}]}")
-    ∷ CHANGED 3 (codes "a") ∷ []) ≡ None
-unfolding value punctuate lex content word after_number number_of scan_numeral chars
+created : renamed (has_renamed 1 (one (from_to a b)) ∷ has_created 2 (one (named (codes "uri") a))
+    ∷ changes 3 a ∷ []) ≡ None
 created = refl
 
 -- two files that exchange their names
-exchanged : renamed (RENAMED 1
-    (codes "{\"files\":[{\"oldUri\":\"a\",\"newUri\":\"b\"},{\"oldUri\":\"b\",\"newUri\":\"a\"}]}")
-    ∷ CHANGED 2 (codes "a") ∷ CHANGED 3 (codes "b") ∷ []) ≡ None
-unfolding value punctuate lex content word after_number number_of scan_numeral chars
+exchanged : renamed (has_renamed 1 (item (from_to a b) (one (from_to b a))) ∷ changes 2 a
+    ∷ changes 3 b ∷ []) ≡ None
 exchanged = refl
 
--- a file without its new name, and files that are no array
-shapeless : renamed (RENAMED 1
-    (codes "{\"files\":[{\"oldUri\":\"a\",\"newUri\":\"b\"},{\"oldUri\":\"c\"}]}")
-    ∷ RENAMED 2 (codes "{\"files\":{\"oldUri\":\"a\",\"newUri\":\"b\"}}")
-    ∷ CHANGED 3 (codes "a") ∷ []) ≡ None
-unfolding value punctuate lex content word after_number number_of scan_numeral chars
+-- a file without its new URI, and files that are no array
+shapeless : renamed (has_renamed 1 (item (from_to a b) (one (named (codes "oldUri") a)))
+    ∷ tells sides.Editor 2 (codes "workspace/didRenameFiles") (from_to a b) other
+    ∷ changes 3 a ∷ []) ≡ None
 shapeless = refl
 
--- the server says nothing of files
-by_server : renamed (tells sides.Server 1 (codes "workspace/didRenameFiles") A_TO_B other
-    ∷ CHANGED 2 (codes "a") ∷ []) ≡ None
-unfolding value punctuate lex content word after_number number_of scan_numeral chars
-by_server = refl
+-- the server says nothing of files, and a rename that may not happen nothing either
+untold : renamed (tells sides.Server 1 (codes "workspace/didRenameFiles") (array (one (from_to a b)))
+    other ∷ tells sides.Editor 2 (codes "workspace/willRenameFiles") (array (one (from_to a b))) other
+    ∷ changes 3 a ∷ []) ≡ None
+untold = refl
