@@ -99,7 +99,8 @@ module _ (old new : Replay) (notes : List Noted) (walks : Walks old notes)
       let place : EventPlace = place_of events (message sent) in
       let told : SaysOn place by bytes said act
       (sent_in (kept_of terms (events ++ message sent ∷ []))) old.said new.said =
-      subst (λ (es : List Event). SaysOn place by bytes said act (sent_in es) old.said new.said) more
+      subst (λ (es : List Event).
+      SaysOn place by bytes said act (sent_in es) old.said new.said) more
       (noted.3 (sent_in (before ++ message sent ∷ [])) holds.sent) in
       let n : Noted = record { event = message sent; malformed = None } in
       kept_on (content side bytes) old new notes n (call_of enc kind act) walks
@@ -189,7 +190,8 @@ pub noted_after : (place : EventPlace) (bytes : List ℕ) (given : lent.Heard)
     → mid.marks ≡ old.marks → mid.openings ≡ old.openings → mid.said ≡ old.said
     → mid.sides ≡ old.sides → NotesKept place bytes given mid new
     → NotesKept place bytes given old new
-noted_after place bytes (kept.Message side spoken) mid old new notes marks openings said sides noted =
+noted_after place bytes (kept.Message side spoken) mid old new notes marks openings said sides
+    noted =
     let act : Act = act_view spoken.act in (
       λ enc kind. subst (λ (w : Notes).
           AreAfter (call_of enc kind act) w.map.entries new.notes.map.entries) notes

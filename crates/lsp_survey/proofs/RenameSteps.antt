@@ -1,13 +1,13 @@
 -- What is noted of renamed files, with one message more.
-use Rattle.std.specs.Prelude.{◌||◌, if◌then◌else◌, option_and_then, option_map, unwrap_or}
+use Rattle.std.specs.Prelude.{◌||◌, if◌then◌else◌}
 use Rattle.std.specs.Prelude.{string_bytes, String}
 use Rattle.std.specs.Global.{Global}
-use Rattle.std.specs.List.{cons_option, filter_map, flat_map}
+use Rattle.std.specs.List.{filter_map}
 use Rattle.std.specs.Option.{option_or}
 use Rattle.std.specs.Str.{bytes_eq}
 use Rattle.std.proofs.Common.{◌≡◌, ◌<◌, ◌+◌, ℕ, Bool, true, false, List, [], ◌∷◌, ◌++◌, Option}
 use Rattle.std.proofs.Common.{Some, None, refl, sym, ap, subst, ◌∙◌, append-nil, append_assoc}
-use Rattle.std.proofs.Common.{codes, take, get_or, length, map}
+use Rattle.std.proofs.Common.{codes, take, get_or, length}
 use Rattle.std.proofs.lemmas.List.{map-append, take_more}
 use Rattle.std.proofs.lemmas.List.Concat.{flat_map-append}
 use Rattle.std.proofs.lemmas.List.Elements.{filter_map-append}
@@ -26,8 +26,8 @@ use Rattle.lsp_replay.specs.declared.heard.EventPlace.{EventPlace}
 use Rattle.lsp_survey.specs.Asking.{Numbered, numbered_as}
 use Rattle.lsp_survey.specs.LastOnes.{last_ones}
 use Rattle.lsp_survey.specs.Renames.{AreRenames, Move, Moves, RenamesBy, RenamesIn, creations_in}
-use Rattle.lsp_survey.specs.Renames.{each_move, gone_by, is_gone, is_on_files, most_moves, moves}
-use Rattle.lsp_survey.specs.Renames.{moves_at, moves_by, moves_in, moves_of, moves_view}
+use Rattle.lsp_survey.specs.Renames.{each_move, gone_by, most_moves, moves}
+use Rattle.lsp_survey.specs.Renames.{moves_at, moves_by, moves_in, moves_view}
 use Rattle.lsp_survey.specs.Renames.{notifies_files, or_none, renamed_at, renamed_by, renamed_held}
 use Rattle.lsp_survey.specs.Renames.{renames, renames_in, tells_files, uris_at}
 use Rattle.lsp_survey.specs.Touched.{names_view}

@@ -96,7 +96,8 @@ shapeless : renamed (has_renamed 1 (item (from_to a b) (one (named (codes "oldUr
 shapeless = refl
 
 -- the server says nothing of files, and a rename that may not happen nothing either
-untold : renamed (tells sides.Server 1 (codes "workspace/didRenameFiles") (array (one (from_to a b)))
-    other ∷ tells sides.Editor 2 (codes "workspace/willRenameFiles") (array (one (from_to a b))) other
+untold : renamed (tells sides.Server 1 (codes "workspace/didRenameFiles")
+    (array (one (from_to a b))) other
+    ∷ tells sides.Editor 2 (codes "workspace/willRenameFiles") (array (one (from_to a b))) other
     ∷ changes 3 a ∷ []) ≡ None
 untold = refl

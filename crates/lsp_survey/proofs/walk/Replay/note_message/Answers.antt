@@ -1,8 +1,6 @@
 use Rattle.std.specs.Prelude.{unwrap_or}
-use Rattle.std.proofs.Common.{◌∙◌, subst, sym}
-use Rattle.lsp_session.specs.Handshake.{is_done}
+use Rattle.std.proofs.Common.{◌∙◌}
 use Rattle.lsp_survey.specs.Asking.{leads}
-use Rattle.lsp_survey.specs.Remarks.{Remarked}
 use Rattle.lsp_survey.proofs.RemarkSteps.{on_ok_four}
 use Rattle.lsp_survey.proofs.walk.Replay.note_message.Goals as goal
 
