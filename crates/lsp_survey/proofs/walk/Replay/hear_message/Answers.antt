@@ -5,7 +5,6 @@ use Rattle.lsp_replay.proofs.Following.{message_keeps}
 use Rattle.lsp_replay.proofs.Hearing.{refused_as}
 use Rattle.lsp_replay.specs.Places.{place_of}
 use Rattle.lsp_replay.specs.declared.heard.Heard.TheVariants as lent
-use Rattle.lsp_rpc.specs.View.{act_view, message_view}
 use Rattle.lsp_verdict.specs.Counting.{AreCounts}
 use Rattle.lsp_verdict.specs.Offences.{events_of, kept_of}
 use Rattle.lsp_verdict.specs.Placed.{content}
