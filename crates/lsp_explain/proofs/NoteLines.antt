@@ -14,11 +14,13 @@ use Rattle.lsp_session.specs.Negotiation.{encoding}
 use Rattle.lsp_replay.specs.declared.heard.EventPlace.{EventPlace}
 use Rattle.lsp_survey.specs.Asking.{sents}
 use Rattle.lsp_survey.specs.Remarks.{abrupt_exit, older_encoding}
+use Rattle.lsp_survey.specs.Renames.{Renamed, renamed}
 use Rattle.lsp_types.specs.declared.position.Encoding.{Encoding}
 use Rattle.lsp_verdict.specs.Verdict.{Verdict}
 use Rattle.lsp_explain.specs.Remarks.{Remark, calls_wrongly, count_line, exit_remarks, line_if}
 use Rattle.lsp_explain.specs.Remarks.{misuse_line, name_remarks, other_name, remark_line}
 use Rattle.lsp_explain.specs.Remarks.{Noticed, compares_nothing, is_yes, lacks_snapshot}
+use Rattle.lsp_explain.specs.Remarks.{old_name_remarks}
 use Rattle.lsp_explain.specs.Remarks.{remark_lines, remarks_of, says_little, uncompared}
 use Rattle.lsp_explain.specs.Remarks.{unshown_line}
 
@@ -39,31 +41,38 @@ if_line None = refl
 if_line (Some remark) = sym (append-nil (remark_line remark))
 
 -- **the lines of all kinds, and how many they are**
-pub all_lines : (start one two three four five : List ℕ) (calls : List Misused)
-    (exit name : Option Remark) (little : List Remark) (count : ℕ)
+pub all_lines : (start one two three four five six : List ℕ) (calls : List Misused)
+    (exit name renamed : Option Remark) (little : List Remark) (count : ℕ)
     → one ≡ start ++ flat_map misuse_line calls → two ≡ one ++ line_if exit
-    → three ≡ two ++ line_if name → four ≡ three ++ lines little → five ≡ four ++ count_line count
+    → three ≡ two ++ line_if name → four ≡ three ++ line_if renamed → five ≡ four ++ lines little
+    → six ≡ five ++ count_line count
     → count ≡ length calls + length (option_to_list exit) + length (option_to_list name)
-    + length little
-    → five ≡ start ++ remark_lines (map calls_wrongly calls ++ option_to_list exit
-    ++ option_to_list name ++ little)
-all_lines start one two three four five calls exit name little count e1 e2 e3 e4 e5 counted =
+    + length (option_to_list renamed) + length little
+    → six ≡ start ++ remark_lines (map calls_wrongly calls ++ option_to_list exit
+    ++ option_to_list name ++ option_to_list renamed ++ little)
+all_lines start one two three four five six calls exit name renamed little count e1 e2 e3 e4 e5 e6
+    counted =
     let exits : List Remark = option_to_list exit in
     let names : List Remark = option_to_list name in
+    let olds : List Remark = option_to_list renamed in
     let wrong : List Remark = map calls_wrongly calls in
     let first : one ≡ start ++ lines wrong =
     e1 ∙ ap (λ w. start ++ w) (sym (flat_map-map remark_line calls_wrongly calls)) in
     let second = more start one two wrong exits first (e2 ∙ ap (λ w. one ++ w) (if_line exit)) in
     let third = more start two three (wrong ++ exits) names second
     (e3 ∙ ap (λ w. two ++ w) (if_line name)) in
-    let fourth = more start three four (wrong ++ exits ++ names) little third e4 in
-    let all : List Remark = wrong ++ exits ++ names ++ little in
-    let size : length all ≡ length calls + length exits + length names + length little =
-    length-append (wrong ++ exits ++ names) little
-    ∙ ap (λ k. k + length little) (length-append (wrong ++ exits) names
+    let fourth = more start three four (wrong ++ exits ++ names) olds third
+    (e4 ∙ ap (λ w. three ++ w) (if_line renamed)) in
+    let fifth = more start four five (wrong ++ exits ++ names ++ olds) little fourth e5 in
+    let all : List Remark = wrong ++ exits ++ names ++ olds ++ little in
+    let size : length all
+    ≡ length calls + length exits + length names + length olds + length little =
+    length-append (wrong ++ exits ++ names ++ olds) little
+    ∙ ap (λ k. k + length little) (length-append (wrong ++ exits ++ names) olds
+    ∙ ap (λ k. k + length olds) (length-append (wrong ++ exits) names
     ∙ ap (λ k. k + length names) (length-append wrong exits
-    ∙ ap (λ k. k + length exits) (length-map calls calls_wrongly))) in
-    e5 ∙ ap (λ w. w ++ count_line count) fourth
+    ∙ ap (λ k. k + length exits) (length-map calls calls_wrongly)))) in
+    e6 ∙ ap (λ w. w ++ count_line count) fifth
     ∙ append_assoc start (lines all) (count_line count)
     ∙ ap (λ k. start ++ (lines all ++ count_line k)) (counted ∙ sym size)
 
@@ -102,14 +111,16 @@ unshown_lines v uris much said =
 
 -- **what is held of these gives the notes on them**
 pub remarks_are : (v : Verdict) (n : Noticed) (calls : List Misused) (exit : Option EventPlace)
-    (name older : Option (List ℕ)) (agreed : Option Encoding) (unshown : List (List ℕ))
+    (name older : Option (List ℕ)) (agreed : Option Encoding) (old_name : Option Renamed)
+    (unshown : List (List ℕ))
     → calls ≡ misuses n.said → exit ≡ abrupt_exit n.said → name ≡ other_name older agreed
     → older ≡ older_encoding (sents n.said) → agreed ≡ encoding (sents n.said)
-    → unshown ≡ n.unshown
-    → map calls_wrongly calls ++ exit_remarks exit ++ name_remarks name ++ uncompared v unshown
+    → old_name ≡ renamed n.said → unshown ≡ n.unshown
+    → map calls_wrongly calls ++ exit_remarks exit ++ name_remarks name
+    ++ old_name_remarks old_name ++ uncompared v unshown
     ≡ remarks_of v n
-remarks_are v n calls exit name older agreed unshown e1 e2 e3 e4 e5 e6 =
+remarks_are v n calls exit name older agreed old_name unshown e1 e2 e3 e4 e5 e6 e7 =
     let same : name ≡ other_name (older_encoding (sents n.said)) (encoding (sents n.said)) =
     e3 ∙ (λ i. other_name (e4 i) (e5 i)) in
     λ i. map calls_wrongly (e1 i) ++ exit_remarks (e2 i) ++ name_remarks (same i)
-    ++ uncompared v (e6 i)
+    ++ old_name_remarks (e6 i) ++ uncompared v (e7 i)

@@ -10,6 +10,7 @@ use Rattle.lsp_docs.specs.Terms.{Terms}
 use Rattle.lsp_survey.specs.Asking.{Numbered, numbered, sents}
 use Rattle.lsp_survey.specs.Misuses.{Misused, misuses}
 use Rattle.lsp_survey.specs.Remarks.{abrupt_exit, older_encoding}
+use Rattle.lsp_survey.specs.Renames.{Renamed, renamed}
 use Rattle.lsp_survey.specs.Touched.{unshown}
 use Rattle.lsp_verdict.specs.Event.{Event}
 use Rattle.lsp_survey.specs.declared.notes.misuses.Misuse.{Misuse}
@@ -22,12 +23,14 @@ use Rattle.lsp_verdict.specs.Report.{encoding_name, line}
 use Rattle.lsp_verdict.specs.Verdict.{Verdict, yes, no, bad_log}
 
 -- a call that LSP 3.17 has in another way than it was sent; `exit` without `shutdown`, by the event
--- of this place; an older `offsetEncoding` that names another encoding than the agreed one; no
--- snapshot was compared, or there is none of a document that was changed
+-- of this place; an older `offsetEncoding` that names another encoding than the agreed one; a
+-- message about a document under a URI that its file lost when it was renamed; no snapshot was
+-- compared, or there is none of a document that was changed
 pub data Remark : Type 0 where
   calls_wrongly : Misused → Remark
   exits_abruptly : EventPlace → Remark
   names_another : List ℕ → Remark
+  uses_old_name : Renamed → Remark
   compares_nothing : Remark
   lacks_snapshot : List ℕ → Remark
 
@@ -67,6 +70,9 @@ exit_remarks exit = option_to_list (option_map exits_abruptly exit)
 abbrev pub name_remarks : Option (List ℕ) → List Remark
 name_remarks name = option_to_list (option_map names_another name)
 
+abbrev pub old_name_remarks : Option Renamed → List Remark
+old_name_remarks found = option_to_list (option_map uses_old_name found)
+
 -- what the notes are on: messages, and the documents that were changed and have no snapshot
 pub record Noticed : Type 0 where
   pub said : List Numbered
@@ -81,6 +87,7 @@ abbrev pub remarks_of : Verdict → Noticed → List Remark
 remarks_of v n =
     map calls_wrongly (misuses n.said) ++ exit_remarks (abrupt_exit n.said)
     ++ name_remarks (other_name (older_encoding (sents n.said)) (encoding (sents n.said)))
+    ++ old_name_remarks (renamed n.said)
     ++ uncompared v n.unshown
 
 -- ---- their lines
@@ -95,6 +102,9 @@ abbrev pub misuse_line : Misused → List ℕ
 misuse_line x =
     line (codes "note" ∷ misuse_name x.misuse ∷ quoted x.method ∷ place_words x.place)
 
+abbrev pub renamed_line : Renamed → List ℕ
+renamed_line x = line (codes "note" ∷ codes "renamed" ∷ quoted x.uri ∷ place_words x.place)
+
 abbrev pub unshown_line : List ℕ → List ℕ
 unshown_line uri = line (codes "note" ∷ codes "no-snapshot" ∷ quoted uri ∷ [])
 
@@ -104,6 +114,7 @@ remark_line (exits_abruptly place) =
     line (codes "note" ∷ codes "exit-without-shutdown" ∷ place_words place)
 remark_line (names_another name) =
     line (codes "note" ∷ codes "offset-encoding" ∷ quoted name ∷ [])
+remark_line (uses_old_name x) = renamed_line x
 remark_line compares_nothing = line (codes "note" ∷ codes "nothing-compared" ∷ [])
 remark_line (lacks_snapshot uri) = unshown_line uri
 

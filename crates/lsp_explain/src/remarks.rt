@@ -10,14 +10,16 @@ ghost use Rattle.lsp_facts.specs.Lines.{place_words};
 ghost use Rattle.lsp_explain.specs.Remarks as spec;
 ghost use Rattle.lsp_explain.specs.Remarks.{calls_wrongly, count_line, exit_remarks, exits_abruptly};
 ghost use Rattle.lsp_explain.specs.Remarks.{line_if, misuse_line, name_remarks, names_another};
-ghost use Rattle.lsp_explain.specs.Remarks.{noticed, remark_line, remark_lines, remarks_of};
-ghost use Rattle.lsp_explain.specs.Remarks.{uncompared, unshown_line};
+ghost use Rattle.lsp_explain.specs.Remarks.{noticed, old_name_remarks, remark_line, remark_lines};
+ghost use Rattle.lsp_explain.specs.Remarks.{remarks_of, renamed_line, uncompared, unshown_line};
+ghost use Rattle.lsp_explain.specs.Remarks.{uses_old_name};
+ghost use Rattle.lsp_survey.specs.Renames.{renamed_view};
 ghost use Rattle.lsp_survey.specs.Touched.{names_view};
 ghost use Rattle.lsp_explain.specs.Standing.{StandsAfter, terms_in};
 
 use lsp_replay::EventPlace;
 use lsp_rpc::{Encoding, Memory, push_quoted};
-use lsp_survey::{Misuse, Misused, SurveyReader};
+use lsp_survey::{Misuse, Misused, Renamed, SurveyReader};
 use lsp_verdict::{Verdict, who_name};
 use std::alloc::Global;
 use std::fmt::Write;
@@ -45,6 +47,7 @@ pub(crate) fn push_remarks(
         notes.misuses(),
         notes.abrupt_exit(),
         name,
+        notes.renamed(),
         unshown.as_slice(),
         verdict,
     )
@@ -57,19 +60,23 @@ fn push_all(
     misuses: &[Misused],
     exit: Option<EventPlace>,
     name: Option<&str>,
+    renamed: Option<&Renamed>,
     unshown: &[String],
     verdict: &Verdict,
 ) -> Result<(), Memory>
     ensures { OnOk result (string_bytes lines.new ≡ string_bytes lines.old
         ++ remark_lines (map calls_wrongly (misused_views misuses.now) ++ exit_remarks exit
         ++ name_remarks (option_map (λ s. s.now) name.entry)
+        ++ old_name_remarks (option_map (λ r. renamed_view r.now) renamed.entry)
         ++ uncompared (verdict_view verdict.now) (names_view unshown.now))) }
 {
     push_misuses(alloc, lines, misuses)?;
     let exits = push_exit(lines, exit)?;
     let names = push_name(alloc, lines, name)?;
+    let old_names = push_renamed(alloc, lines, renamed)?;
     let uncompared = push_uncompared(alloc, lines, verdict, unshown)?;
-    push_count(lines, misuses.len() + exits + names + uncompared)
+    let count = misuses.len() + exits + names + old_names + uncompared;
+    push_count(lines, count)
 }
 
 /// Adds the lines of calls that LSP 3.17 has in another way than they were sent.
@@ -154,6 +161,37 @@ fn push_name(alloc: Global, lines: &mut String, name: Option<&str>) -> Result<us
     push_quoted(alloc, lines, name)?;
     writeln!(lines)?;
     Ok(1)
+}
+
+/// Adds the line of a message about a document under a URI that its file lost when it was renamed,
+/// if there is one; how many lines these are.
+fn push_renamed(
+    alloc: Global,
+    lines: &mut String,
+    renamed: Option<&Renamed>,
+) -> Result<usize, Memory>
+    ensures text { OnOk result (string_bytes lines.new ≡ string_bytes lines.old ++ line_if
+        (option_map uses_old_name (option_map (λ r. renamed_view r.now) renamed.entry))) }
+    ensures count { IfOk result (λ count. count
+        ≡ length (old_name_remarks (option_map (λ r. renamed_view r.now) renamed.entry))) }
+{
+    let Some(renamed) = renamed else {
+        return Ok(0);
+    };
+    push_renamed_line(alloc, lines, renamed)?;
+    Ok(1)
+}
+
+fn push_renamed_line(alloc: Global, lines: &mut String, renamed: &Renamed) -> Result<(), Memory>
+    ensures { OnOk result (string_bytes lines.new
+        ≡ string_bytes lines.old ++ renamed_line (renamed_view renamed.now)) }
+{
+    let EventPlace { event, who, number } = renamed.place;
+    let who = who_name(who);
+    write!(lines, "note renamed ")?;
+    push_quoted(alloc, lines, renamed.uri.as_str())?;
+    writeln!(lines, " event {event} {who} {number}")?;
+    Ok(())
 }
 
 /// Adds the line of a Yes where no snapshot was compared, or else those of the documents that were

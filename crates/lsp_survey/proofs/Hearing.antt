@@ -38,7 +38,7 @@ use Rattle.lsp_survey.specs.declared.notes.sides.Sides.{Sides}
 use Rattle.lsp_survey.specs.Notes.{AreAfter, is_noted}
 use Rattle.lsp_survey.specs.Walking.{Walks, WalksBy, IsRefused, IsShown, IsUnread, PassesOver}
 use Rattle.lsp_survey.specs.Walking.{IsMessageOf, IsOffending, Hears, NotesKept, NotesMessage}
-use Rattle.lsp_survey.specs.Walking.{NotesSnapshot}
+use Rattle.lsp_survey.specs.Walking.{NotesSnapshot, content_in}
 use Rattle.lsp_replay.specs.Places.{place_of}
 use Rattle.lsp_survey.specs.Passed.{has_passed}
 use Rattle.lsp_survey.specs.Sides.{sides_read}
@@ -88,7 +88,7 @@ module _ (old new : Replay) (notes : List Noted) (walks : Walks old notes)
       → rule_at terms events (message sent) ≡ None
       → Holds new.events.session new.events.docs (before ++ message sent ∷ [])
       → AreCounts new.events.counts (events ++ message sent ∷ [])
-      → NotesMessage (place_of events (message sent)) by said act old new
+      → NotesMessage (place_of events (message sent)) by bytes said act old new
       → Hears (content side bytes) terms new notes heard.Kept
   message_heard side by bytes sent said act reads is_by says has_value means clean holds counted
       noted =
@@ -97,9 +97,10 @@ module _ (old new : Replay) (notes : List Noted) (walks : Walks old notes)
       let more : before ++ message sent ∷ [] ≡ kept_of terms (events ++ message sent ∷ []) =
       sym (kept-push terms events (message sent) clean) in
       let place : EventPlace = place_of events (message sent) in
-      let told : SaysOn place by said
+      let told : SaysOn place by bytes said act
       (sent_in (kept_of terms (events ++ message sent ∷ []))) old.said new.said =
-      subst (λ (es : List Event). SaysOn place by said (sent_in es) old.said new.said) more
+      subst (λ (es : List Event).
+      SaysOn place by bytes said act (sent_in es) old.said new.said) more
       (noted.3 (sent_in (before ++ message sent ∷ [])) holds.sent) in
       let n : Noted = record { event = message sent; malformed = None } in
       kept_on (content side bytes) old new notes n (call_of enc kind act) walks
@@ -114,9 +115,9 @@ module _ (old new : Replay) (notes : List Noted) (walks : Walks old notes)
       (act_opened terms old.openings new.openings events sent place walks.opened clean refl
       (λ e k. subst (λ (a : Act). OpensBy place (call_of e k a) old.openings new.openings)
       (sym means) (noted.2 e k)))
-      (message_noted terms old.said new.said events sent said place walks.said clean refl says
-      has_value
-      (subst (λ (s : Side). SaysOn place s said
+      (message_noted terms old.said new.said events sent bytes said act place walks.said clean refl
+      reads.reads says means has_value
+      (subst (λ (s : Side). SaysOn place s bytes said act
       (sent_in (kept_of terms (events ++ message sent ∷ []))) old.said new.said)
       (sym is_by) told))
 
@@ -148,7 +149,7 @@ module _ (old new : Replay) (notes : List Noted) (walks : Walks old notes)
       → offence terms before event ≡ None
       → Holds new.events.session new.events.docs (before ++ event ∷ [])
       → AreCounts new.events.counts (events ++ event ∷ [])
-      → NotesKept (place_of events event) given old new
+      → NotesKept (place_of events event) (content_in raw) given old new
       → Hears raw terms new notes heard.Kept
   by_event (content side bytes) (kept.Message by spoken) (message sent) reads is answers whole clean
       holds counted noted =
@@ -183,11 +184,14 @@ module _ (old new : Replay) (notes : List Noted) (walks : Walks old notes)
       noted
 
 -- what was noted before is all that matters
-pub noted_after : (place : EventPlace) (given : lent.Heard) (mid old new : Replay)
+pub noted_after : (place : EventPlace) (bytes : List ℕ) (given : lent.Heard)
+    (mid old new : Replay)
     → mid.notes ≡ old.notes
     → mid.marks ≡ old.marks → mid.openings ≡ old.openings → mid.said ≡ old.said
-    → mid.sides ≡ old.sides → NotesKept place given mid new → NotesKept place given old new
-noted_after place (kept.Message side spoken) mid old new notes marks openings said sides noted =
+    → mid.sides ≡ old.sides → NotesKept place bytes given mid new
+    → NotesKept place bytes given old new
+noted_after place bytes (kept.Message side spoken) mid old new notes marks openings said sides
+    noted =
     let act : Act = act_view spoken.act in (
       λ enc kind. subst (λ (w : Notes).
           AreAfter (call_of enc kind act) w.map.entries new.notes.map.entries) notes
@@ -198,12 +202,12 @@ noted_after place (kept.Message side spoken) mid old new notes marks openings sa
       λ enc kind. subst (λ (w : Openings). OpensBy place (call_of enc kind act) w new.openings)
           openings (noted.2 enc kind),
       λ sents stands. subst (λ (w : SessionNotes).
-          SaysOn place side (message_view spoken.message) sents w new.said) said
+          SaysOn place side bytes (message_view spoken.message) act sents w new.said) said
           (noted.3 sents stands),
       noted.4 ∙ ap (λ (s : Sides). sides_read side s) sides,
     )
-noted_after place (kept.Snapshot version uri text answer) mid old new notes marks openings said
-    sides noted = (
+noted_after place bytes (kept.Snapshot version uri text answer) mid old new notes marks openings
+    said sides noted = (
       noted.0 ∙ notes,
       subst (λ (w : Marks).
           ShownBy place uri.now version answer w.map.entries new.marks.map.entries) marks noted.1,
@@ -221,7 +225,7 @@ pub kept_heard : (raw : Raw) (old new : Replay) (notes : List Noted)
     → Keeps raw old.events.docs.terms old.events.counts given m d c
     (kept_of old.events.docs.terms (events_of notes))
     → ((event : Event) → AreCounts c (events_of notes ++ event ∷ []) → IsHeard event given
-    → NotesKept (place_of (events_of notes) event) given old new)
+    → NotesKept (place_of (events_of notes) event) (content_in raw) given old new)
     → Hears raw old.events.docs.terms new notes heard.Kept
 kept_heard raw old new notes given m d c walks terms_are same_m same_d same_c
     is_broken is_passed unheard k noted =

@@ -8,6 +8,8 @@ pub mod MarksWorked
 pub mod TouchedSteps
 pub mod OpeningSteps
 pub mod RemarkSteps
+pub mod RenameSteps
+pub mod RenamesWorked
 pub mod SessionSteps
 pub mod Waiting
 pub mod SidesSteps

@@ -34,10 +34,10 @@ use Rattle.lsp_replay.specs.declared.heard.EventPlace.{EventPlace}
 use Rattle.lsp_survey.specs.declared.notes.misuses.Misused as code
 use Rattle.lsp_survey.specs.declared.notes.remarks.Remarks.{Remarks}
 
-pub on_ok_three : {U E : Type 0} {P Q R S : Type 0} (r : Result U E) → (P → Q → R → S)
-    → OnOk r P → OnOk r Q → OnOk r R → OnOk r S
-on_ok_three (Ok u) f p q s = f p q s
-on_ok_three (Err e) f p q s = tt
+pub on_ok_four : {U E : Type 0} {P Q R S T : Type 0} (r : Result U E) → (P → Q → R → S → T)
+    → OnOk r P → OnOk r Q → OnOk r R → OnOk r S → OnOk r T
+on_ok_four (Ok u) f p q r s = f p q r s
+on_ok_four (Err e) f p q r s = tt
 
 pub filter_map-snoc : {A X : Type 0} (f : A → Option X) (xs : List A) (x : A)
     → filter_map f (xs ++ x ∷ []) ≡ filter_map f xs ++ cons_option (f x) []

@@ -5,10 +5,12 @@ use Rattle.std.specs.List.{cons_option, filter_map}
 use Rattle.std.proofs.Common.{◌≡◌, ℕ, List, [], ◌∷◌, ◌++◌, Option, Some, None, refl, sym, ap, ◌∙◌}
 use Rattle.std.proofs.Common.{subst, append-nil}
 use Rattle.lsp_docs.specs.Terms.{Terms}
+use Rattle.lsp_rpc.specs.Act.{Act}
 use Rattle.lsp_rpc.specs.Ident.{Ident, id_view}
 use Rattle.lsp_rpc.specs.Message.{Message, request, notification, response, result, error}
 use Rattle.lsp_replay.specs.Standing.{HasValue}
 use Rattle.lsp_rpc.specs.Outline.{outline, without_params}
+use Rattle.lsp_rpc.specs.Reading.{Reads}
 use Rattle.lsp_session.specs.Handshake.{is_done, open_initializes, phase}
 use Rattle.lsp_session.specs.Sent.{Sent, answered_from}
 use Rattle.lsp_session.specs.declared.phase.Phase.{Phase}
@@ -27,12 +29,14 @@ use Rattle.lsp_survey.specs.Asking.{most_replies, leads, leads_by}
 use Rattle.lsp_survey.specs.LastOnes.{last_ones}
 use Rattle.lsp_replay.specs.Places.{place_of}
 use Rattle.lsp_survey.specs.Remarks.{Remarked}
+use Rattle.lsp_survey.specs.Renames.{RenamesBy}
 use Rattle.lsp_survey.specs.SessionNoting.{asked_in, Exchanges, IsExchange, SaysOn, SessionStands}
 use Rattle.lsp_survey.specs.SessionNoting.{AreNotes}
 use Rattle.lsp_survey.specs.declared.notes.exchange.Exchange.{Exchange}
 use Rattle.lsp_replay.specs.declared.heard.EventPlace.{EventPlace}
 use Rattle.lsp_survey.specs.declared.notes.session_notes.SessionNotes.{SessionNotes}
 use Rattle.lsp_survey.proofs.RemarkSteps.{filter_map-snoc, remarked}
+use Rattle.lsp_survey.proofs.RenameSteps.{renames_more}
 
 -- ---- the kept messages
 
@@ -165,15 +169,16 @@ other_unsaid terms s before e are is =
     by_rule None = refl
     by_rule (Some rule) = refl
 
--- **a message that is kept**
+-- **a message that is kept**, which this content is
 pub message_noted : (terms : Terms) (old new : SessionNotes) (before : List Event) (m : Sent)
-    (said : Message) (p : EventPlace) → AreNotes terms old before
+    (bytes : List ℕ) (said : Message) (act : Act) (p : EventPlace) → AreNotes terms old before
     → rule_at terms before (message m) ≡ None
-    → p ≡ place_of before (message m) → outline m.message ≡ outline said
-    → HasValue (kept_of terms before) said m.message
-    → SaysOn p m.side said (sent_in (kept_of terms (before ++ message m ∷ []))) old new
+    → p ≡ place_of before (message m) → Reads bytes m.message → outline m.message ≡ outline said
+    → m.act ≡ act → HasValue (kept_of terms before) said m.message
+    → SaysOn p m.side bytes said act (sent_in (kept_of terms (before ++ message m ∷ []))) old new
     → AreNotes terms new (before ++ message m ∷ [])
-message_noted terms old new before m said p are kept number same has_value says =
+message_noted terms old new before m bytes said act p are kept number reads same means has_value
+    says =
     subst (SessionStands new) (sym whole) (record {
       editor = exchanged Editor p m said same old.editor new.editor ms are.editor says.editor;
       server = exchanged Server p m said same old.server new.server ms are.server says.server;
@@ -186,6 +191,9 @@ message_noted terms old new before m said p are kept number same has_value says 
       remarks_are = remarked p m said ms old.remarks new.remarks same value are.remarks_are
           (subst (λ (q : Phase). Remarked p m.side said q (phase sents_behind)
           (is_done sents_behind) old.remarks new.remarks) are.phase_is more);
+      renames_are = renames_more p m ms old.renames new.renames are.renames_are
+          (subst (λ (a : Act). RenamesBy p m.side m.message a old.renames new.renames) (sym means)
+          (says.renamed m.message reads same));
     })
   where
     ms : List Numbered

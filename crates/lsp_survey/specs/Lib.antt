@@ -9,6 +9,7 @@ pub mod Openings
 pub mod StandardMethods
 pub mod Misuses
 pub mod Remarks
+pub mod Renames
 pub mod SessionNoting
 pub mod Passed
 pub mod Sides

@@ -1,8 +1,9 @@
 -- What is noted of requests and phases, and for which messages it stands.
-use Rattle.std.specs.Prelude.{◌≡◌, List, ◌++◌, map, Option}
+use Rattle.std.specs.Prelude.{◌≡◌, ℕ, List, ◌++◌, map, Option}
 use Rattle.std.specs.Prelude.{unwrap_or, option_to_list}
 use Rattle.std.specs.Map.{lookup}
 use Rattle.lsp_docs.specs.Terms.{Terms}
+use Rattle.lsp_rpc.specs.Act.{Act}
 use Rattle.lsp_rpc.specs.Ident.{Ident, id_view, same_id}
 use Rattle.lsp_rpc.specs.Message.{Message}
 use Rattle.lsp_rpc.specs.declared.message.Id.{Id}
@@ -15,6 +16,7 @@ use Rattle.lsp_survey.specs.Asking.{Numbered, Reply, asks, asked, replies, reply
 use Rattle.lsp_survey.specs.Asking.{most_replies, leads, numbered, sents, since}
 use Rattle.lsp_survey.specs.LastOnes.{last_ones}
 use Rattle.lsp_survey.specs.Remarks.{AreRemarks, Remarked}
+use Rattle.lsp_survey.specs.Renames.{AreRenames, RenamesIn}
 use Rattle.lsp_survey.specs.declared.notes.exchange.Exchange.{Exchange}
 use Rattle.lsp_survey.specs.declared.notes.exchange.Given.{Given}
 use Rattle.lsp_replay.specs.declared.heard.EventPlace.{EventPlace}
@@ -56,9 +58,12 @@ pub record SessionStands (s : SessionNotes) (said : List Numbered) : Type 0 wher
   pub phase_is : s.phase ≡ phase (sents said)
   pub since_is : s.since ≡ since said
   pub remarks_are : AreRemarks s.remarks said
+  pub renames_are : AreRenames s.renames said
 
--- one more message of the sender, the event of this place, with which the session has these
-pub record SaysOn (p : EventPlace) (sender : Side) (m : Message) (behind : List Sent)
+-- one more message of the sender, the event of this place, which this content is and means this
+-- act, with which the session has these
+pub record SaysOn (p : EventPlace) (sender : Side) (bytes : List ℕ) (m : Message) (act : Act)
+    (behind : List Sent)
     (old new : SessionNotes) : Type 0 where
   pub editor : Exchanges Editor p sender m old.editor new.editor
   pub server : Exchanges Server p sender m old.server new.server
@@ -66,6 +71,7 @@ pub record SaysOn (p : EventPlace) (sender : Side) (m : Message) (behind : List 
   pub since_is : new.since ≡ unwrap_or (leads p old.phase (phase behind)) old.since
   pub remarked : Remarked p sender m old.phase (phase behind) (is_done behind) old.remarks
       new.remarks
+  pub renamed : RenamesIn p sender bytes m act old.renames new.renames
 
 -- **they stand for the kept messages of these events**
 abbrev pub AreNotes : Terms → SessionNotes → List Event → Type 0

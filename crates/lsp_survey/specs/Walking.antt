@@ -78,9 +78,15 @@ Walks w notes = WalksBy w.events.docs.terms w notes
 abbrev pub IsRefused : Raw → Terms → List Noted → Refused → Type 0
 IsRefused raw terms before refused = Refuses raw terms (kept_of terms (events_of before)) refused
 
--- a message of the side that is kept, the event of this place, was noted
-abbrev pub NotesMessage : EventPlace → Side → Message → Act → Replay → Replay → Type 0
-NotesMessage place side said act old new =
+-- the content that it is
+abbrev pub content_in : Raw → List ℕ
+content_in (content side bytes) = bytes
+content_in (broken side rule) = []
+content_in (show number uri text) = []
+
+-- a message of the side that is kept, the event of this place, which this content is, was noted
+abbrev pub NotesMessage : EventPlace → Side → List ℕ → Message → Act → Replay → Replay → Type 0
+NotesMessage place side bytes said act old new =
     ((enc : Encoding) (kind : SyncKind)
     → AreAfter (call_of enc kind act) old.notes.map.entries new.notes.map.entries)
     × ((enc : Encoding) (kind : SyncKind)
@@ -88,7 +94,7 @@ NotesMessage place side said act old new =
     × ((enc : Encoding) (kind : SyncKind)
     → OpensBy place (call_of enc kind act) old.openings new.openings)
     × ((sents : List Sent) → Stands new.events.session sents
-    → SaysOn place side said sents old.said new.said)
+    → SaysOn place side bytes said act sents old.said new.said)
     × (new.sides ≡ sides_read side old.sides)
 
 -- a snapshot that is kept, the event of this place, was noted as it was answered
@@ -100,11 +106,11 @@ NotesSnapshot place uri version answer old new =
     × (new.said ≡ old.said)
     × (new.sides ≡ old.sides)
 
--- the event that is kept, of this place, was noted
-abbrev pub NotesKept : EventPlace → events.Heard → Replay → Replay → Type 0
-NotesKept place (kept.Message side spoken) old new =
-    NotesMessage place side (message_view spoken.message) (act_view spoken.act) old new
-NotesKept place (kept.Snapshot version uri text answer) old new =
+-- the event that is kept, of this place, was noted; this content is the message that it is
+abbrev pub NotesKept : EventPlace → List ℕ → events.Heard → Replay → Replay → Type 0
+NotesKept place bytes (kept.Message side spoken) old new =
+    NotesMessage place side bytes (message_view spoken.message) (act_view spoken.act) old new
+NotesKept place bytes (kept.Snapshot version uri text answer) old new =
     NotesSnapshot place uri.now version answer old new
 
 -- one more event of theirs was counted; the result of the kept events is as it was

@@ -7,7 +7,8 @@
 //! defined in `lsp_verdict`.
 //!
 //! What is noted of the events on the way, as which one set a version of a document, is in `notes`:
-//! [`Marks`], [`Openings`], [`SessionNotes`] and [`Misused`] lend it to who explains a session.
+//! [`Marks`], [`Openings`], [`SessionNotes`], [`Misused`] and [`Renamed`] lend it to who explains a
+//! session.
 #![tactic(auto)]
 
 mod laws;
@@ -24,8 +25,8 @@ mod walk;
 pub use laws::{all_shown_is_report, one_all_shown, one_kept_text};
 pub use lsp_verdict::Listing;
 pub use notes::{
-    Closing, DocumentEvent, Marks, Misuse, Misused, Openings, SessionNotes, Setter, Shown, folded,
-    uri_in,
+    Closing, DocumentEvent, Marks, Misuse, Misused, Openings, Renamed, SessionNotes, Setter, Shown,
+    folded, uri_in,
 };
 pub use offence_count::OffenceCount;
 pub use offending::{FoundOffence, Judged, OffendingEvent};

@@ -31,7 +31,7 @@ ghost use Rattle.lsp_survey.specs.Ending.{lack_by};
 ghost use Rattle.lsp_survey.specs.Walking.{Counted, Hears, IsFound, IsLine, IsMessageOf, IsOffence};
 ghost use Rattle.lsp_survey.specs.Walking.{IsRefused, IsShown, IsUnread, NotesKept, NotesMessage};
 ghost use Rattle.lsp_survey.specs.Walking.{NotesSnapshot, PassesMessage, PassesOver, Walks};
-ghost use Rattle.lsp_survey.specs.Walking.{offence_of};
+ghost use Rattle.lsp_survey.specs.Walking.{content_in, offence_of};
 
 use crate::notes::{
     Malformed, Marks, Notes, Openings, Passed, SessionNotes, Sides, breaks_handshake, is_on_lost,
@@ -110,7 +110,7 @@ impl Replay {
             → Hears (raw_view raw.entry) self.old.events.docs.terms self.new before heard) }
     {
         match self.events.hear(raw) {
-            Ok(kept) => self.keep(kept),
+            Ok(kept) => self.keep(raw, kept),
             Err(refused) => self.pass_over(alloc, raw, refused),
         }
     }
@@ -145,7 +145,7 @@ impl Replay {
             heard) }
     {
         match self.events.follow(side, &spoken) {
-            Ok(()) => self.keep_message(side, &spoken),
+            Ok(()) => self.keep_message(side, content, &spoken),
             Err(fault) => {
                 let refused = fault.refuse(side, spoken);
                 self.pass_over(alloc, Raw::Content { side, content }, refused)
@@ -153,8 +153,14 @@ impl Replay {
         }
     }
 
-    /// Counts a message of this side that was followed, and takes it over.
-    fn keep_message(&mut self, side: Side, spoken: &Spoken) -> Result<Judged, Memory>
+    /// Counts a message of this side, which this content is and which was followed, and takes it
+    /// over.
+    fn keep_message(
+        &mut self,
+        side: Side,
+        content: &[u8],
+        spoken: &Spoken,
+    ) -> Result<Judged, Memory>
         ensures same { (self.new.events.session ≡ self.old.events.session)
             × (self.new.events.docs ≡ self.old.events.docs) × (self.new.broken ≡ self.old.broken)
             × (self.new.passed ≡ self.old.passed) × (self.new.unheard ≡ self.old.unheard) }
@@ -165,13 +171,13 @@ impl Replay {
             × ((before : List Event) (event : Event)
             → AreCounts self.new.events.counts (before ++ event ∷ [])
             → spec.who_of side ≡ whose event
-            → NotesMessage (place_of before event) side (message_view spoken.now.message)
-            (act_view spoken.now.act) self.old self.new)) }
+            → NotesMessage (place_of before event) side content.now
+            (message_view spoken.now.message) (act_view spoken.now.act) self.old self.new)) }
     {
         let who = who_of(side);
         self.events.counts.add(who);
         let place = EventPlace::last(&self.events.counts, who);
-        self.note_message(place, side, spoken)?;
+        self.note_message(place, side, content, spoken)?;
         Ok(Judged::Kept)
     }
 
@@ -193,7 +199,7 @@ impl Replay {
             → IsLine lines (events_of before) event heard (string_bytes line.new)) }
     {
         match self.events.hear(raw) {
-            Ok(kept) => self.keep_shown(alloc, kept, line, lines),
+            Ok(kept) => self.keep_shown(alloc, raw, kept, line, lines),
             Err(refused) => self.pass_over(alloc, raw, refused),
         }
     }
@@ -210,16 +216,17 @@ impl Replay {
     }
 
     /// Takes over the event that was heard last and is kept.
-    fn keep(&mut self, kept: replay::Heard<'_>) -> Result<Judged, Memory>
+    fn keep(&mut self, raw: Raw<'_>, kept: replay::Heard<'_>) -> Result<Judged, Memory>
         ensures same { (self.new.events ≡ self.old.events) × (self.new.broken ≡ self.old.broken)
             × (self.new.passed ≡ self.old.passed) × (self.new.unheard ≡ self.old.unheard) }
         ensures keeps { IfOk result (λ heard. (heard ≡ Judged.Kept)
             × ((before : List Event) (event : Event)
             → AreCounts self.old.events.counts (before ++ event ∷ []) → IsHeard event kept.entry
-            → NotesKept (place_of before event) kept.entry self.old self.new)) }
+            → NotesKept (place_of before event) (content_in (raw_view raw.entry)) kept.entry
+            self.old self.new)) }
     {
         let place = EventPlace::of(&self.events.counts, &kept);
-        self.note(place, &kept)?;
+        self.note(place, content_in(raw), &kept)?;
         Ok(Judged::Kept)
     }
 
@@ -227,6 +234,7 @@ impl Replay {
     fn keep_shown(
         &mut self,
         alloc: Global,
+        raw: Raw<'_>,
         kept: replay::Heard<'_>,
         line: &mut String,
         lines: Lines,
@@ -236,7 +244,8 @@ impl Replay {
         ensures keeps { IfOk result (λ heard. (heard ≡ Judged.Kept)
             × ((before : List Event) (event : Event)
             → AreCounts self.old.events.counts (before ++ event ∷ []) → IsHeard event kept.entry
-            → NotesKept (place_of before event) kept.entry self.old self.new)) }
+            → NotesKept (place_of before event) (content_in (raw_view raw.entry)) kept.entry
+            self.old self.new)) }
         ensures line { IfOk result (λ heard. (before : List Event) (event : Event)
             → AreCounts self.old.events.counts (before ++ event ∷ [])
             → IsHeard event kept.entry → length (before ++ event ∷ []) < 2 ^ 64
@@ -244,21 +253,28 @@ impl Replay {
     {
         let place = EventPlace::of(&self.events.counts, &kept);
         let filled = fill_event_line(alloc, line, lines, place, &kept);
-        let noted = self.note(place, &kept);
+        let noted = self.note(place, content_in(raw), &kept);
         drop(kept);
         filled?;
         noted?;
         Ok(Judged::Kept)
     }
 
-    /// Notes the event of this place, which was heard and is kept.
-    fn note(&mut self, place: EventPlace, kept: &replay::Heard<'_>) -> Result<(), Memory>
+    /// Notes the event of this place, which was heard and is kept; this content is its message.
+    fn note(
+        &mut self,
+        place: EventPlace,
+        content: &[u8],
+        kept: &replay::Heard<'_>,
+    ) -> Result<(), Memory>
         ensures same { (self.new.events ≡ self.old.events) × (self.new.broken ≡ self.old.broken)
             × (self.new.passed ≡ self.old.passed) × (self.new.unheard ≡ self.old.unheard) }
-        ensures noted { OnOk result (NotesKept place kept.now self.old self.new) }
+        ensures noted { OnOk result (NotesKept place content.now kept.now self.old self.new) }
     {
         match kept {
-            replay::Heard::Message { side, spoken } => self.note_message(place, *side, spoken),
+            replay::Heard::Message { side, spoken } => {
+                self.note_message(place, *side, content, spoken)
+            }
             replay::Heard::Snapshot {
                 version,
                 uri,
@@ -288,12 +304,18 @@ impl Replay {
         self.marks.keep_snapshot(place, uri, version, answer)
     }
 
-    /// Notes the message of this place, which was heard and is kept.
-    fn note_message(&mut self, place: EventPlace, side: Side, spoken: &Spoken) -> Result<(), Memory>
+    /// Notes the message of this place, which this content is, and which was heard and is kept.
+    fn note_message(
+        &mut self,
+        place: EventPlace,
+        side: Side,
+        content: &[u8],
+        spoken: &Spoken,
+    ) -> Result<(), Memory>
         ensures same { (self.new.events ≡ self.old.events) × (self.new.broken ≡ self.old.broken)
             × (self.new.passed ≡ self.old.passed) × (self.new.unheard ≡ self.old.unheard) }
-        ensures noted { OnOk result (NotesMessage place side (message_view spoken.now.message)
-            (act_view spoken.now.act) self.old self.new) }
+        ensures noted { OnOk result (NotesMessage place side content.now
+            (message_view spoken.now.message) (act_view spoken.now.act) self.old self.new) }
     {
         let phase = self.events.session.phase();
         let done = self.events.session.is_done();
@@ -301,7 +323,7 @@ impl Replay {
         note_kept_act(&mut self.notes, &spoken.act)?;
         self.marks.keep_act(place, &spoken.act)?;
         self.openings.keep_act(place, &spoken.act)?;
-        self.said.keep(place, side, &spoken.message, phase, done)
+        self.said.keep(place, side, content, spoken, phase, done)
     }
 
     /// Skips the event that was refused so.
@@ -592,6 +614,17 @@ impl Replay {
             Side::Editor => false,
             Side::Server => self.events.session.awaits_initialize(),
         }
+    }
+}
+
+/// The content that an event is; none of a fault of the frames, and none of a snapshot.
+fn content_in(raw: Raw<'_>) -> &[u8]
+    ensures { result.now ≡ content_in (raw_view raw.entry) }
+{
+    match raw {
+        Raw::Content { content, .. } => content,
+        Raw::Broken { .. } => &[],
+        Raw::Snapshot { .. } => &[],
     }
 }
 

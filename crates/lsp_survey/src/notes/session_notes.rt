@@ -2,19 +2,21 @@
 ghost use Rattle.std.specs.Prelude.{◌≡◌, [], List, OnOk, option_map, unwrap_or};
 ghost use Rattle.lsp_docs.specs.Terms.{Terms};
 ghost use Rattle.lsp_rpc.specs.Ident.{id_view};
-ghost use Rattle.lsp_rpc.specs.View.{message_view};
+ghost use Rattle.lsp_rpc.specs.View.{act_view, message_view};
 ghost use Rattle.lsp_verdict.specs.Event.{Event};
 ghost use Rattle.lsp_survey.specs.Asking.{answered, asked, leads, numbered, same_phase, sents};
 ghost use Rattle.lsp_survey.specs.Asking.{since};
 ghost use Rattle.lsp_survey.specs.Misuses.{misused_views, misuses};
 ghost use Rattle.lsp_survey.specs.Remarks.{Remarked, abrupt_exit, older_encoding};
+ghost use Rattle.lsp_survey.specs.Renames.{RenamesIn, renamed, renamed_view};
 ghost use Rattle.lsp_survey.specs.SessionNoting.{AreNotes, Exchanges};
 
 use crate::notes::exchange::Exchange;
 use crate::notes::misuses::Misused;
 use crate::notes::remarks::Remarks;
+use crate::notes::renames::{Renamed, Renames};
 use lsp_replay::EventPlace;
-use lsp_rpc::{Id, Memory, Message, Side};
+use lsp_rpc::{Id, Memory, Message, Side, Spoken};
 use lsp_session::Phase;
 use std::alloc::Global;
 
@@ -30,6 +32,7 @@ pub struct SessionNotes {
     phase: Phase,
     since: Option<EventPlace>,
     remarks: Remarks,
+    renames: Renames,
 }
 
 impl SessionNotes {
@@ -43,6 +46,7 @@ impl SessionNotes {
             phase: Phase::Fresh,
             since: None,
             remarks: Remarks::new(alloc),
+            renames: Renames::new(alloc),
         }
     }
 
@@ -104,12 +108,49 @@ impl SessionNotes {
         self.remarks.older_encoding()
     }
 
-    /// Notes a message that is kept, the event of this place, after which the session is in this
-    /// phase, and the handshake is settled or is not.
+    /// The first message that opens or changes a document under a URI whose file was renamed.
+    pub fn renamed(&self) -> Option<&Renamed>
+        ensures { (terms : Terms) (events : List Event) → AreNotes terms self.now events
+            → option_map (λ r. renamed_view r.now) result ≡ renamed (numbered terms events) }
+    {
+        self.renames.renamed()
+    }
+
+    /// Notes a message that is kept, the event of this place, which this content is, and after
+    /// which the session is in this phase, and the handshake is settled or is not.
     ///
     /// # Errors
     /// `Memory` where memory was refused; nothing is then known of the requests.
     pub(crate) fn keep(
+        &mut self,
+        place: EventPlace,
+        side: Side,
+        content: &[u8],
+        spoken: &Spoken,
+        phase: Phase,
+        done: bool,
+    ) -> Result<(), Memory>
+        ensures editor { OnOk result
+            (Exchanges Side.Editor place side
+            (message_view spoken.now.message) self.old.editor self.new.editor) }
+        ensures server { OnOk result
+            (Exchanges Side.Server place side
+            (message_view spoken.now.message) self.old.server self.new.server) }
+        ensures phase { self.new.phase ≡ phase }
+        ensures since { self.new.since
+            ≡ unwrap_or (leads place self.old.phase phase) self.old.since }
+        ensures remarks { OnOk result (Remarked place side (message_view spoken.now.message)
+            self.old.phase phase done self.old.remarks self.new.remarks) }
+        ensures renames { OnOk result (RenamesIn place side content.now
+            (message_view spoken.now.message) (act_view spoken.now.act) self.old.renames
+            self.new.renames) }
+    {
+        self.keep_message(place, side, &spoken.message, phase, done)?;
+        self.renames.keep(place, side, content, spoken)
+    }
+
+    /// Notes a message that is kept, apart from what it says of files.
+    fn keep_message(
         &mut self,
         place: EventPlace,
         side: Side,
@@ -128,6 +169,7 @@ impl SessionNotes {
             ≡ unwrap_or (leads place self.old.phase phase) self.old.since }
         ensures remarks { OnOk result (Remarked place side (message_view message.now)
             self.old.phase phase done self.old.remarks self.new.remarks) }
+        ensures renames { self.new.renames ≡ self.old.renames }
     {
         let before = self.phase;
         if !is_same(before, phase) {
@@ -150,6 +192,7 @@ impl SessionNotes {
         ensures phase { self.new.phase ≡ self.old.phase }
         ensures since { self.new.since ≡ self.old.since }
         ensures remarks { self.new.remarks ≡ self.old.remarks }
+        ensures renames { self.new.renames ≡ self.old.renames }
     {
         match message {
             Message::Request { id, .. } => match side {

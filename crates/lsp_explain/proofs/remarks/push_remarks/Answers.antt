@@ -8,6 +8,7 @@ use Rattle.lsp_survey.specs.Openings.{AreOpenings}
 use Rattle.lsp_survey.specs.Touched.{names_view}
 use Rattle.lsp_survey.specs.declared.notes.openings.Openings.{Openings}
 use Rattle.lsp_survey.specs.Misuses.{misused_views}
+use Rattle.lsp_survey.specs.Renames.{renamed_view}
 use Rattle.lsp_survey.specs.SessionNoting.{AreNotes}
 use Rattle.lsp_survey.specs.declared.notes.session_notes.SessionNotes.{SessionNotes}
 use Rattle.lsp_survey.proofs.SessionSteps.{sents-numbered}
@@ -36,10 +37,11 @@ returns c =
     (misused_views c.misuses.result.now) c.abrupt_exit.result
     (option_map (λ s. s.now) c.other_name-name.result)
     (option_map (λ s. s.now) c.older_encoding.result) c.encoding.result
-    (names_view c.as_slice.result.now)
+    (option_map (λ r. renamed_view r.now) c.renamed.result) (names_view c.as_slice.result.now)
     (c.misuses.ensures terms before noted) (c.abrupt_exit.ensures terms before noted)
     c.other_name-name.ensures (c.older_encoding.ensures terms before noted)
     (c.encoding.ensures (sent_in (kept_of terms before)) held
     ∙ ap (λ (l : List Sent). encoding l) (sym (sents-numbered terms before)))
+    (c.renamed.ensures terms before noted)
     (ap names_view c.as_slice.ensures.value ∙ c.in_ok-unshown.ensures terms before opened)))
     c.push_all.ensures

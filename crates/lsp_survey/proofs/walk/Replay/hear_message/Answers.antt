@@ -34,7 +34,7 @@ returns-in-Ok-clause-heard c =
     (λ all event counted own. c.keep_message.ensures.counts all event
     (subst (λ (w : Counts). AreCounts w all) (sym followed.counts) counted) own))
     (λ event counted is.
-    noted_after (place_of (events_of before) event) (lent.Message side spoken) (record old {
+    noted_after (place_of (events_of before) event) bytes (lent.Message side spoken) (record old {
       events = c.follow.new.self;
     }) old new refl refl refl refl refl
     (keeps.1 (events_of before) event counted (sym (heard_by event side spoken is))))))

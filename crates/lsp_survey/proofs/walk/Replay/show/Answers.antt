@@ -4,7 +4,7 @@ use Rattle.lsp_docs.specs.Terms.{Terms}
 use Rattle.lsp_verdict.specs.Lent.{raw_view}
 use Rattle.lsp_verdict.specs.Offences.{events_of, kept_of}
 use Rattle.lsp_replay.specs.Places.{place_of}
-use Rattle.lsp_survey.specs.Walking.{Hears, IsOffence, IsRefused}
+use Rattle.lsp_survey.specs.Walking.{Hears, IsOffence, IsRefused, content_in}
 use Rattle.lsp_survey.proofs.Hearing.{kept_heard, noted_after, still_walks}
 use Rattle.lsp_survey.proofs.Showing.{no_line, same_read}
 use Rattle.lsp_survey.proofs.walk.Replay.show.Goals as goal
@@ -23,7 +23,8 @@ returns-in-Ok-clause-heard c =
     c.keep_shown.ensures.same.2 c.keep_shown.ensures.same.3
     (c.in-Ok.ensures.ok kept walks.holds)
     (λ event counted heard.
-    noted_after (place_of (events_of before) event) c.in-Ok.kept (record old {
+    noted_after (place_of (events_of before) event) (content_in (raw_view c.args.raw))
+    c.in-Ok.kept (record old {
       events = c.hear.new.self;
     }) old c.keep_shown.new.self refl refl refl refl refl
     (keeps.1 (events_of before) event counted heard))))
