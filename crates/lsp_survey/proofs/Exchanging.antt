@@ -38,6 +38,12 @@ updates_in {X} eq agrees id t at w old new says k =
     ∙ ap (λ (o : Option X). cond (same_id id (id_view k)) w o)
     (lookup_in (eq k) (id_view k) (agrees k) old)
 
+-- one of the two, as a test says
+pub or_if : {X : Type 0} (b : Bool) (x : X) (o : Option X)
+    → (if b then Some x else o) ≡ option_or (if b then Some x else None) o
+or_if true x o = refl
+or_if false x o = refl
+
 -- ---- answers
 
 -- each of these is there

@@ -30,7 +30,7 @@ use Rattle.lsp_survey.specs.LastOnes.{last_ones}
 use Rattle.lsp_replay.specs.Places.{place_of}
 use Rattle.lsp_survey.specs.Remarks.{Remarked}
 use Rattle.lsp_survey.specs.Renames.{RenamesBy}
-use Rattle.lsp_survey.specs.SessionNoting.{asked_in, Exchanges, IsExchange, SaysOn, SessionStands}
+use Rattle.lsp_survey.specs.SessionNoting.{place_in, Exchanges, IsExchange, SaysOn, SessionStands}
 use Rattle.lsp_survey.specs.SessionNoting.{AreNotes}
 use Rattle.lsp_survey.specs.declared.notes.exchange.Exchange.{Exchange}
 use Rattle.lsp_replay.specs.declared.heard.EventPlace.{EventPlace}
@@ -107,7 +107,7 @@ module _ (side : Side) (p : EventPlace) (m : Sent) (said : Message)
       asked_is = λ k.
           more.asked k
           ∙ ap (λ (o : Option (Option EventPlace)).
-          unwrap_or o (asked_in old.asked.entries (id_view k)))
+          unwrap_or o (place_in old.asked (id_view k)))
           (same_asks (id_view k))
           ∙ ap (unwrap_or (asks side (id_view k) p m.side m.message)) (is.asked_is k)
           ∙ sym (ap (last_or None) (filter_map-snoc (asks_by side (id_view k)) before

@@ -1,6 +1,7 @@
 -- What is noted of requests and phases, and for which messages it stands.
-use Rattle.std.specs.Prelude.{◌≡◌, ℕ, List, ◌++◌, map, Option}
+use Rattle.std.specs.Prelude.{◌≡◌, ℕ, List, ◌++◌, map, Option, Some, None, if◌then◌else◌}
 use Rattle.std.specs.Prelude.{unwrap_or, option_to_list}
+use Rattle.std.specs.Option.{option_or}
 use Rattle.std.specs.Map.{lookup}
 use Rattle.lsp_docs.specs.Terms.{Terms}
 use Rattle.lsp_rpc.specs.Act.{Act}
@@ -17,6 +18,8 @@ use Rattle.lsp_survey.specs.Asking.{most_replies, leads, numbered, sents, since}
 use Rattle.lsp_survey.specs.LastOnes.{last_ones}
 use Rattle.lsp_survey.specs.Remarks.{AreRemarks, Remarked}
 use Rattle.lsp_survey.specs.Renames.{AreRenames, RenamesIn}
+use Rattle.lsp_survey.specs.declared.notes.asked.Asked.{Asked}
+use Rattle.lsp_survey.specs.declared.notes.asked.AskedRequests.{AskedRequests}
 use Rattle.lsp_survey.specs.declared.notes.exchange.Exchange.{Exchange}
 use Rattle.lsp_survey.specs.declared.notes.exchange.Given.{Given}
 use Rattle.lsp_replay.specs.declared.heard.EventPlace.{EventPlace}
@@ -31,6 +34,15 @@ given_view g = record { id = id_view g.id; place = g.place }
 abbrev pub asked_in : {X : Type 0} → List (Id × X) → Ident → Option X
 asked_in es id = lookup (λ key. same_id id (id_view key)) es
 
+-- the place of the request that was asked last, if it has this id
+abbrev pub last_at : Option Asked → Ident → Option EventPlace
+last_at None id = None
+last_at (Some a) id = if same_id (id_view a.id) id then Some a.place else None
+
+-- the place of an open request
+abbrev pub place_in : AskedRequests → Ident → Option EventPlace
+place_in a id = option_or (last_at a.last id) (asked_in a.others.entries id)
+
 abbrev pub replies_in : Exchange → List Reply
 replies_in e = map given_view e.replies.items
 
@@ -38,15 +50,15 @@ replies_in e = map given_view e.replies.items
 pub record Exchanges (side : Side) (p : EventPlace) (sender : Side) (m : Message)
     (old new : Exchange) : Type
     0 where
-  pub asked : (k : Id) → asked_in new.asked.entries (id_view k)
-      ≡ unwrap_or (asks side (id_view k) p sender m) (asked_in old.asked.entries (id_view k))
+  pub asked : (k : Id) → place_in new.asked (id_view k)
+      ≡ unwrap_or (asks side (id_view k) p sender m) (place_in old.asked (id_view k))
   pub replies : (given : List Reply) → replies_in old ≡ last_ones most_replies given
       → replies_in new ≡ last_ones most_replies
       (given ++ option_to_list (reply_of p (answered_from side sender m)))
 
 -- what is noted of the side's requests is what these messages left of it
 pub record IsExchange (side : Side) (e : Exchange) (said : List Numbered) : Type 0 where
-  pub asked_is : (k : Id) → asked_in e.asked.entries (id_view k) ≡ asked side (id_view k) said
+  pub asked_is : (k : Id) → place_in e.asked (id_view k) ≡ asked side (id_view k) said
   pub replies_are : replies_in e ≡ last_ones most_replies (replies side said)
 
 -- ---- a session

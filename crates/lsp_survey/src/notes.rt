@@ -9,6 +9,7 @@
 //! whether it may follow from an earlier one, and
 //! [`breaks_handshake`] whether it leaves the handshake lost.
 
+mod asked;
 mod by_id;
 mod documents;
 mod exchange;

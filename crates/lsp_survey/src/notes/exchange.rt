@@ -6,11 +6,10 @@ ghost use Rattle.lsp_rpc.specs.declared.message.Id.{Id as AnId};
 ghost use Rattle.lsp_survey.specs.Asking.{Reply, is_short, last_reply, most_replies, replied};
 ghost use Rattle.lsp_survey.specs.Asking.{reply_of};
 ghost use Rattle.lsp_survey.specs.LastOnes.{last_ones};
-ghost use Rattle.lsp_survey.specs.SessionNoting.{asked_in, given_view, replies_in};
+ghost use Rattle.lsp_survey.specs.SessionNoting.{given_view, place_in, replies_in};
 
-use crate::notes::by_id::{forget, put};
+use crate::notes::asked::AskedRequests;
 use crate::notes::last_ones::make_room;
-use indexmap::IndexMap;
 use lsp_replay::EventPlace;
 use lsp_rpc::{Id, Memory, copy_id, same_id};
 use std::alloc::Global;
@@ -33,27 +32,27 @@ pub(crate) struct Given {
 /// with a short id.
 #[derive(Drop)]
 pub(crate) struct Exchange {
-    asked: IndexMap<Id, EventPlace>,
+    asked: AskedRequests,
     replies: VecDeque<Given>,
 }
 
 impl Exchange {
     /// Nothing was asked.
     pub(crate) fn new(alloc: Global) -> Exchange
-        ensures asked { (k : AnId) → asked_in result.asked.entries (id_view k) ≡ None }
+        ensures asked { (k : AnId) → place_in result.asked (id_view k) ≡ None }
         ensures replies { replies_in result ≡ [] }
     {
         Exchange {
-            asked: IndexMap::new(alloc),
+            asked: AskedRequests::new(alloc),
             replies: VecDeque::new(alloc),
         }
     }
 
     /// The place of the open request with this id.
     pub(crate) fn asked(&self, id: &Id) -> Option<EventPlace>
-        ensures { result ≡ asked_in self.now.asked.entries (id_view id.now) }
+        ensures { result ≡ place_in self.now.asked (id_view id.now) }
     {
-        self.asked.get(id).copied()
+        self.asked.place(id)
     }
 
     /// The place of the last answer that is held to a request with this id.
@@ -66,25 +65,25 @@ impl Exchange {
 
     /// The event of this place asks a request.
     pub(crate) fn ask(&mut self, id: &Id, place: EventPlace) -> Result<(), Memory>
-        ensures asked { OnOk result ((k : AnId) → asked_in self.new.asked.entries (id_view k)
-            ≡ (if same_id (id_view id.now)
-            (id_view k) then Some place else asked_in self.old.asked.entries (id_view k))) }
+        ensures asked { OnOk result ((k : AnId) → place_in self.new.asked (id_view k)
+            ≡ (if same_id (id_view id.now) (id_view k) then Some place
+            else place_in self.old.asked (id_view k))) }
         ensures replies { self.new.replies ≡ self.old.replies }
     {
-        put(&mut self.asked, id, place)
+        self.asked.add(id, place)
     }
 
     /// The event of this place answers a request.
     pub(crate) fn answer(&mut self, id: &Id, place: EventPlace) -> Result<(), Memory>
-        ensures asked { (k : AnId) → asked_in self.new.asked.entries (id_view k)
-            ≡ (if same_id (id_view id.now)
-            (id_view k) then None else asked_in self.old.asked.entries (id_view k)) }
+        ensures asked { (k : AnId) → place_in self.new.asked (id_view k)
+            ≡ (if same_id (id_view id.now) (id_view k) then None
+            else place_in self.old.asked (id_view k)) }
         ensures replies { OnOk result ((given : List Reply)
             → replies_in self.old ≡ last_ones most_replies given
             → replies_in self.new ≡ last_ones most_replies (given
             ++ option_to_list (reply_of place (Some (id_view id.now))))) }
     {
-        forget(&mut self.asked, id);
+        self.asked.remove(id);
         if is_short(id) {
             push(&mut self.replies, id, place)
         } else {
