@@ -98,6 +98,7 @@ impl SurveyReader {
     ///
     /// # Errors
     /// `Read` where the source failed, and `Memory` where memory was refused.
+    #[inline(always)]
     pub fn next<R: Source>(&mut self, reader: &mut R) -> Result<NextJudged, RunFault>
         ensures completeness { self.new.completeness ≡ self.old.completeness }
         ensures terms { self.new.walk.events.docs.terms ≡ self.old.walk.events.docs.terms }

@@ -106,7 +106,6 @@ impl Mark {
     }
 
     /// Marks that the event of this place touches the document, at this version.
-    #[inline(always)]
     pub(crate) fn touch(
         &mut self,
         alloc: Global,
@@ -128,7 +127,6 @@ impl Mark {
     }
 
     /// Marks that the event of this place brings the document to this version.
-    #[inline(always)]
     fn reach(&mut self, place: EventPlace, version: i32) -> Result<(), Memory>
         ensures { OnOk result (mark_view self.new
             ≡ stepped (touches Touch.Reached place version) (mark_view self.old)) }
