@@ -4,6 +4,7 @@ ghost use Rattle.std.specs.Prelude.{Option, chars, ℕ, ◌==◌, ◌++◌, ◌�
 ghost use Rattle.lsp_docs.specs.Calls.{shows};
 ghost use Rattle.lsp_docs.specs.Terms.{terms_of};
 ghost use Rattle.lsp_replay.specs.Apart.{Says};
+ghost use Rattle.lsp_replay.specs.Faults.{refused_by};
 ghost use Rattle.lsp_replay.specs.Standing.{Holds};
 ghost use Rattle.lsp_rpc.specs.Message.{Message as AMessage};
 ghost use Rattle.lsp_rpc.specs.View.{act_view, message_view};
@@ -42,7 +43,7 @@ use crate::offending::{FoundOffence, Judged, OffendingEvent};
 use lsp_docs::Match;
 use lsp_frame::{Format, Limits};
 use lsp_replay as replay;
-use lsp_replay::{EventPlace, Events, Refused, fill_event_line};
+use lsp_replay::{EventPlace, Events, Fault, Refused, fill_event_line};
 use lsp_rpc::{Memory, Message, Side, Spoken};
 use lsp_text::Lined;
 use lsp_types::rules;
@@ -104,6 +105,7 @@ impl Replay {
     }
 
     /// Hears the next event, which is not a content.
+    #[inline(never)]
     fn hear_other(&mut self, alloc: Global, raw: Raw<'_>) -> Result<Judged, Memory>
         ensures terms { self.new.events.docs.terms ≡ self.old.events.docs.terms }
         ensures heard { IfOk result (λ heard. (before : List Noted) → Walks self.old before
@@ -146,11 +148,29 @@ impl Replay {
     {
         match self.events.follow(side, &spoken) {
             Ok(()) => self.keep_message(side, content, &spoken),
-            Err(fault) => {
-                let refused = fault.refuse(side, spoken);
-                self.pass_over(alloc, Raw::Content { side, content }, refused)
-            }
+            Err(fault) => self.pass_over_message(alloc, side, content, spoken, fault),
         }
+    }
+
+    /// Skips a message of this side, which this content is and which was refused so.
+    #[inline(never)]
+    fn pass_over_message(
+        &mut self,
+        alloc: Global,
+        side: Side,
+        content: &[u8],
+        spoken: Spoken,
+        fault: Fault,
+    ) -> Result<Judged, Memory>
+        ensures terms { self.new.events.docs.terms ≡ self.old.events.docs.terms }
+        ensures heard { IfOk result (λ heard. (before : List Noted) → Walks self.old before
+            → IsRefused (placed.content side content.now) self.old.events.docs.terms before
+            (refused_by fault side spoken)
+            → Hears (placed.content side content.now) self.old.events.docs.terms self.new before
+            heard) }
+    {
+        let refused = fault.refuse(side, spoken);
+        self.pass_over(alloc, Raw::Content { side, content }, refused)
     }
 
     /// Counts a message of this side, which this content is and which was followed, and takes it

@@ -3,6 +3,7 @@ use Rattle.std.proofs.lemmas.Result.{IfOk-weaker}
 use Rattle.lsp_docs.specs.Terms.{Terms}
 use Rattle.lsp_replay.proofs.Following.{message_keeps}
 use Rattle.lsp_replay.proofs.Hearing.{refused_as}
+use Rattle.lsp_replay.specs.Faults.{refused_by}
 use Rattle.lsp_replay.specs.Places.{place_of}
 use Rattle.lsp_replay.specs.declared.heard.Heard.TheVariants as lent
 use Rattle.lsp_verdict.specs.Counting.{AreCounts}
@@ -49,15 +50,15 @@ returns-in-Err-clause-heard c =
     let spoken = c.args.spoken in
     let followed = c.in-Err.ensures in
     let same = followed.terms in
-    IfOk-weaker c.pass_over.result _ _
+    IfOk-weaker c.pass_over_message.result _ _
     (λ given heard before walks says.
     let kept = kept_of old.events.docs.terms (events_of before) in
     let still = still_walks old mid before walks same (followed.err bytes kept says walks.holds)
     followed.counts refl refl refl refl refl refl refl refl in
     let refused = subst (λ (t : Terms).
-    IsRefused (content side bytes) t before c.refuse-refused.result) (sym same)
-    (rw c.refuse-refused.ensures (refused_as side bytes old.events.docs.terms kept spoken _
-    (followed.rule bytes kept says walks.holds))) in
-    subst (λ (t : Terms). Hears (content side bytes) t c.pass_over.new.self before given) same
-    (heard before still refused))
-    c.pass_over.ensures.heard
+    IsRefused (content side bytes) t before (refused_by c.in-Err.fault side spoken)) (sym same)
+    (refused_as side bytes old.events.docs.terms kept spoken _
+    (followed.rule bytes kept says walks.holds)) in
+    subst (λ (t : Terms). Hears (content side bytes) t c.pass_over_message.new.self before given)
+    same (heard before still refused))
+    c.pass_over_message.ensures.heard
