@@ -66,8 +66,21 @@ impl AskedRequests {
         remove_other(&mut self.others, id);
     }
 
-    /// Puts the request that was asked last with the others.
+    /// Puts the request that was asked last with the others. Mostly it was answered, and is gone.
     fn settle(&mut self) -> Result<(), Memory>
+        ensures last { OnOk result (self.new.last ≡ None) }
+        ensures others { OnOk result ((k : AnId) → asked_in self.new.others.entries (id_view k)
+            ≡ place_in self.old (id_view k)) }
+    {
+        if self.last.is_none() {
+            return Ok(());
+        }
+        self.settle_last()
+    }
+
+    /// Puts the request that was asked last with the others, if there is one.
+    #[inline(never)]
+    fn settle_last(&mut self) -> Result<(), Memory>
         ensures last { OnOk result (self.new.last ≡ None) }
         ensures others { OnOk result ((k : AnId) → asked_in self.new.others.entries (id_view k)
             ≡ place_in self.old (id_view k)) }
