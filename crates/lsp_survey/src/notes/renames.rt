@@ -96,6 +96,9 @@ impl Renames {
         ensures renamed { OnOk result (renamed_held self.new ≡ option_or (renamed_held self.old)
             (spec.renamed_by place (moves_view self.old.moves.items) (act_view act.now))) }
     {
+        if self.moves.is_empty() {
+            return Ok(());
+        }
         if self.renamed.is_some() {
             return Ok(());
         }
