@@ -5,6 +5,7 @@ pub mod Offers
 pub mod MadeChanges
 pub mod Refusals
 pub mod AtEdges
+pub mod Finding
 pub mod OtherTexts
 pub mod DocumentRules
 pub mod Refused

@@ -26,6 +26,11 @@ unfinished_header limits bytes none short = record {
   ];
 }
 
+-- no byte holds it
+pub none_in_nothing : (limits : Bounds) (bytes : List ℕ) → length bytes ≡ 0 → HoldsNoBlank (take limits.header bytes)
+none_in_nothing limits bytes none front back e =
+    absurd (omega (arith, none, ap length e, length-take limits.header bytes, length-append front (blank_line ++ back), length-append blank_line back))
+
 pub too_long : (limits : Bounds) (bytes : List ℕ) → HoldsNoBlank (take limits.header bytes) → limits.header ≤ length bytes → Breaks limits bytes 101
 too_long limits bytes none long = inl (refl, record { long = long; endless = none })
 

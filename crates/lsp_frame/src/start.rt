@@ -81,6 +81,10 @@ pub(crate) fn start_of(limits: &Limits, bytes: &[u8]) -> Start
     ensures { StartsAs limits.now bytes.now result }
 {
     let most = limits.header() as usize;
+    // Asked first, since it is so after each frame that ends a piece.
+    if bytes.is_empty() {
+        return Start::Unfinished;
+    }
     let near = &bytes[..bytes.len().min(most)];
     if let Some(size) = plain_size(limits, near) {
         return Start::Header(size);

@@ -9,7 +9,7 @@ use lsp_verdict::{Completeness, Lines, Listing, Mode};
 use std::num::NonZeroU64;
 
 /// What to do with what is read.
-#[derive(Clone, Copy, Debug)]
+#[derive(Clone, Copy)]
 pub enum Task<'a> {
     /// To judge a recorded session, which must be complete or not.
     Check(Completeness),

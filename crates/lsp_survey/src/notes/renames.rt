@@ -91,6 +91,7 @@ impl Renames {
     }
 
     /// Notes an act, of the event of this place, if it is the first under a URI that is gone.
+    /// Mostly nothing is held of files.
     fn keep_act(&mut self, place: EventPlace, act: &Act) -> Result<(), Memory>
         ensures moves { self.new.moves ≡ self.old.moves }
         ensures renamed { OnOk result (renamed_held self.new ≡ option_or (renamed_held self.old)
@@ -99,6 +100,16 @@ impl Renames {
         if self.moves.is_empty() {
             return Ok(());
         }
+        self.keep_first(place, act)
+    }
+
+    /// Notes the same where something is held of files.
+    #[inline(never)]
+    fn keep_first(&mut self, place: EventPlace, act: &Act) -> Result<(), Memory>
+        ensures moves { self.new.moves ≡ self.old.moves }
+        ensures renamed { OnOk result (renamed_held self.new ≡ option_or (renamed_held self.old)
+            (spec.renamed_by place (moves_view self.old.moves.items) (act_view act.now))) }
+    {
         if self.renamed.is_some() {
             return Ok(());
         }

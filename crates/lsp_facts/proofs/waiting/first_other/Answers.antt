@@ -5,7 +5,8 @@ use Rattle.std.specs.Option.{option_map}
 use Rattle.std.specs.Str.{chars}
 use Rattle.std.proofs.lemmas.List.{take_all}
 use Rattle.lsp_docs.specs.Stored.{text_of}
-use Rattle.lsp_docs.proofs.Others.{find-here, find-map, find-more}
+use Rattle.lsp_docs.proofs.Others.{find-map}
+use Rattle.lsp_facts.proofs.Finding.{find-here, find-more}
 use Rattle.lsp_facts.specs.Refuting.{is_other}
 use Rattle.lsp_facts.proofs.waiting.first_other.Goals as goal
 

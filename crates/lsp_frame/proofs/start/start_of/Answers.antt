@@ -1,6 +1,6 @@
-use Rattle.lsp_frame.proofs.Starts.{near_is, none_near, none_ahead, unfinished_header, too_long, found, bad_header}
+use Rattle.lsp_frame.proofs.Starts.{near_is, none_in_nothing, none_near, none_ahead, unfinished_header, too_long, found, bad_header}
 use Rattle.lsp_frame.proofs.PlainHeaders.{near_starts}
-use Rattle.std.proofs.Common.{arith, ◌+◌}
+use Rattle.std.proofs.Common.{◌≡◌, ◌+◌, arith, length, rules}
 use Rattle.lsp_frame.proofs.start.start_of.Goals as goal
 
 pub returns-then-bytes-most : goal.returns-then-bytes-most
@@ -31,3 +31,12 @@ returns-in-Some c = near_starts c.args.limits.now c.args.bytes.now c.min.result 
 
 pub returns-in-Some-typed_size : goal.returns-in-Some-typed_size
 returns-in-Some-typed_size c = near_starts c.args.limits.now c.args.bytes.now c.min.result c.in-Some-typed_size.size c.in-Some-typed_size.ensures
+
+pub returns-then-is_empty : goal.returns-then-is_empty
+returns-then-is_empty c =
+    let limits = c.args.limits.now in
+    let bytes = c.args.bytes.now in
+    let nothing : length bytes ≡ 0 = search (rules, c.is_empty.ensures, c.if-is_empty.true) in
+    let none = none_in_nothing limits bytes nothing in
+    let low = c.header-most.ensures.range.header_low in
+    (unfinished_header limits bytes none (omega (arith, low, nothing)), none_ahead limits bytes none)
