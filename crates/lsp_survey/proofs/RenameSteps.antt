@@ -1,5 +1,5 @@
 -- What is noted of renamed files, with one message more.
-use Rattle.std.specs.Prelude.{◌||◌, if◌then◌else◌, option_and_then}
+use Rattle.std.specs.Prelude.{◌||◌, if◌then◌else◌}
 use Rattle.std.specs.Prelude.{string_bytes, String}
 use Rattle.std.specs.Global.{Global}
 use Rattle.std.specs.List.{filter_map}
@@ -26,8 +26,7 @@ use Rattle.lsp_replay.specs.declared.heard.EventPlace.{EventPlace}
 use Rattle.lsp_survey.specs.Asking.{Numbered, numbered_as}
 use Rattle.lsp_survey.specs.LastOnes.{last_ones}
 use Rattle.lsp_survey.specs.Renames.{AreRenames, Move, Moves, RenamesBy, RenamesIn, creations_in}
-use Rattle.lsp_survey.specs.Renames.{Renamed, each_move, edited_by, gone_by, is_gone, most_moves}
-use Rattle.lsp_survey.specs.Renames.{moves, renamed_to}
+use Rattle.lsp_survey.specs.Renames.{each_move, gone_by, most_moves, moves}
 use Rattle.lsp_survey.specs.Renames.{moves_at, moves_by, moves_in, moves_view}
 use Rattle.lsp_survey.specs.Renames.{notifies_files, or_none, renamed_at, renamed_by, renamed_held}
 use Rattle.lsp_survey.specs.Renames.{renames, renames_in, tells_files, uris_at}
@@ -56,22 +55,6 @@ renames_more p m before old new are by = record {
       ∙ (λ i. option_or (are.renamed_is i) (renamed_by p (are.moves_are i) m.act))
       ∙ sym (first_of-snoc renamed_at before (numbered_as p m));
 }
-
--- where nothing is held of moves, no URI is gone
-none_gone : (p : EventPlace) (uri : Option (List ℕ))
-    → option_and_then (λ u. if is_gone u [] then Some (renamed_to p u) else None) uri ≡ None
-none_gone p None = refl
-none_gone p (Some uri) = refl
-
-or_nothing : (found : Option Renamed) → option_or found None ≡ found
-or_nothing None = refl
-or_nothing (Some r) = refl
-
-pub none_renamed : (p : EventPlace) (moved : List held.Move) (act : Act) (found : Option Renamed)
-    → length moved ≡ 0 → found ≡ option_or found (renamed_by p (moves_view moved) act)
-none_renamed p [] act found none =
-    sym (ap (option_or found) (none_gone p (edited_by act)) ∙ or_nothing found)
-none_renamed p (m ∷ ms) act found none = absurd cc
 
 -- ---- what is held of moves
 
