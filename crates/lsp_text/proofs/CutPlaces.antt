@@ -1,5 +1,5 @@
 -- Where a text may be cut into blocks.
-use Rattle.std.proofs.Common.{◌≡◌, ◌≢◌, ◌<◌, ◌≤◌, ◌+◌, ◌-◌, ◌&&◌, ℕ, Bool, false, List, [], ◌∷◌, ◌++◌, length, take, drop, get_or, refl, sym, ap, ◌∙◌, ⊎_elim, arith, length-append, append_assoc}
+use Rattle.std.proofs.Common.{◌≡◌, ◌≢◌, ◌<◌, ◌≤◌, ◌+◌, ◌-◌, ◌&&◌, ℕ, Bool, false, List, [], ◌∷◌, ◌++◌, length, take, drop, get_or, refl, sym, ap, subst, ◌∙◌, ⊎_elim, arith, length-append, append_assoc}
 use Rattle.std.proofs.lemmas.List.{append-nil, take-append-drop, take_more, drop_more}
 use Rattle.std.proofs.lemmas.Bool.{and_right, cases_lt, ne_eqb}
 use Rattle.std.specs.Str.{IsUtf8, IsCharBoundary}
@@ -7,7 +7,7 @@ use Rattle.std.proofs.lemmas.Str.{IsUtf8-past_char, IsUtf8-take, IsUtf8-drop, Is
 use lib.Utf8.{encodes, encode}
 use Rattle.lsp_text.specs.Lines.{is_feed, is_return, starts_with_feed}
 use Rattle.lsp_text.specs.Ends.{ends_with_return, joins}
-use Rattle.lsp_text.specs.Parts.{joined, AreParts, IsCutInto, IsCutPlace}
+use Rattle.lsp_text.specs.Parts.{joined, AreParts, MakeUp, IsCutPlace}
 use Rattle.lsp_text.proofs.Parts.{joined-append, joins-front, joins-farther, ends_with_return-append, AreParts-append}
 
 -- the last of the first bytes
@@ -77,17 +77,18 @@ cut_before_other bs n some b lt ne = record { some = omega arith; boundary = b; 
 
 -- ---- a text that is cut into parts, block by block
 
--- the parts so far, after others, and the rest of the text
-pub record IsCutSoFar (old : List (List ℕ)) (text rest : List ℕ) (new : List (List ℕ)) : Type 0 where
-  pub fresh : List (List ℕ)
-  pub items : new ≡ old ++ fresh
-  pub text_is : text ≡ joined fresh ++ rest
-  pub parts : AreParts fresh
-  pub apart : joins (joined fresh) rest ≡ false
+-- the parts so far, and the rest of the text
+pub record IsCutSoFar (text rest : List ℕ) (ps : List (List ℕ)) : Type 0 where
+  pub text_is : text ≡ joined ps ++ rest
+  pub parts : AreParts ps
+  pub apart : joins (joined ps) rest ≡ false
   pub utf8 : IsUtf8 rest
 
-pub nothing_cut : (old : List (List ℕ)) (text : List ℕ) → IsUtf8 text → IsCutSoFar old text text old
-nothing_cut old text u = record { fresh = []; items = sym (append-nil old); text_is = refl; parts = tt; apart = refl; utf8 = u }
+pub nothing_cut : (text : List ℕ) (ps : List (List ℕ)) → IsUtf8 text → ps ≡ []
+    → IsCutSoFar text text ps
+nothing_cut text ps u is =
+    subst (IsCutSoFar text text) (sym is)
+    (record { text_is = refl; parts = tt; apart = refl; utf8 = u })
 
 one_part : (p : List ℕ) → IsUtf8 p → AreParts (p ∷ [])
 one_part p u = (u, and_right (ends_with_return false p) false refl, tt)
@@ -102,29 +103,33 @@ pub AreParts-push : (ps : List (List ℕ)) (p : List ℕ) → AreParts ps → Is
 AreParts-push ps p h u apart = AreParts-append ps (p ∷ []) h (one_part p u) (ap (joins (joined ps)) (joined-one p) ∙ apart)
 
 -- one part more
-pub one_cut : (old : List (List ℕ)) (text rest : List ℕ) (new more : List (List ℕ)) (at : ℕ) → IsCutSoFar old text rest new → IsCutPlace rest at → more ≡ new ++ take at rest ∷ [] →
-    IsCutSoFar old text (drop at rest) more
-one_cut old text rest new more at h cut is =
+pub one_cut : (text rest : List ℕ) (ps more : List (List ℕ)) (at : ℕ) → IsCutSoFar text rest ps
+    → IsCutPlace rest at → more ≡ ps ++ take at rest ∷ [] → IsCutSoFar text (drop at rest) more
+one_cut text rest ps more at h cut is =
     let p = take at rest in
     let q = drop at rest in
     let whole : p ++ q ≡ rest = take-append-drop at rest in
-    let apart : joins (joined h.fresh) (p ++ q) ≡ false = ap (joins (joined h.fresh)) whole ∙ h.apart in
+    let apart : joins (joined ps) (p ++ q) ≡ false = ap (joins (joined ps)) whole ∙ h.apart in
+    let pushed : joined more ≡ joined ps ++ p = ap joined is ∙ joined-push ps p in
     record {
-      fresh = h.fresh ++ p ∷ [];
-      items = is ∙ ap (λ (xs : List (List ℕ)). xs ++ p ∷ []) h.items ∙ append_assoc old h.fresh (p ∷ []);
-      text_is = h.text_is ∙ ap (λ (x : List ℕ). joined h.fresh ++ x) (sym whole) ∙ sym (append_assoc (joined h.fresh) p q) ∙ ap (λ (x : List ℕ). x ++ q) (sym (joined-push h.fresh p));
-      parts = AreParts-push h.fresh p h.parts (IsUtf8-take rest at h.utf8 cut.boundary) (joins-front (joined h.fresh) p q apart);
-      apart = ap (λ (x : List ℕ). joins x q) (joined-push h.fresh p) ∙ joins-farther (joined h.fresh) p q apart cut.apart;
+      text_is =
+          h.text_is ∙ ap (λ (x : List ℕ). joined ps ++ x) (sym whole)
+          ∙ sym (append_assoc (joined ps) p q) ∙ ap (λ (x : List ℕ). x ++ q) (sym pushed);
+      parts =
+          subst AreParts (sym is)
+          (AreParts-push ps p h.parts (IsUtf8-take rest at h.utf8 cut.boundary)
+          (joins-front (joined ps) p q apart));
+      apart =
+          ap (λ (x : List ℕ). joins x q) pushed ∙ joins-farther (joined ps) p q apart cut.apart;
       utf8 = IsUtf8-drop rest at h.utf8 cut.boundary;
     }
 
 -- and the last
-pub all_cut : (old : List (List ℕ)) (text rest : List ℕ) (new more : List (List ℕ)) → IsCutSoFar old text rest new → more ≡ new ++ rest ∷ [] → IsCutInto old text more
-all_cut old text rest new more h is =
+pub all_cut : (text rest : List ℕ) (ps more : List (List ℕ)) → IsCutSoFar text rest ps
+    → more ≡ ps ++ rest ∷ [] → MakeUp more text
+all_cut text rest ps more h is =
     record {
-      fresh = h.fresh ++ rest ∷ [];
-      items = is ∙ ap (λ (xs : List (List ℕ)). xs ++ rest ∷ []) h.items ∙ append_assoc old h.fresh (rest ∷ []);
-      text = joined-push h.fresh rest ∙ sym h.text_is;
-      parts = AreParts-push h.fresh rest h.parts h.utf8 h.apart;
-      some = omega (arith, length-append h.fresh (rest ∷ []));
+      some = omega (arith, ap length is, length-append ps (rest ∷ []));
+      parts = subst AreParts (sym is) (AreParts-push ps rest h.parts h.utf8 h.apart);
+      text = ap joined is ∙ joined-push ps rest ∙ sym h.text_is;
     }

@@ -17,7 +17,6 @@ pub mod SameByLines
 pub mod WorkedSameTexts
 pub mod Differing
 pub mod BlockPlaces
-pub mod ChunkTexts
 pub mod CutPlaces
 pub mod EndCounts
 pub mod EndPlaces

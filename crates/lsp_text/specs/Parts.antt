@@ -70,14 +70,6 @@ abbrev pub IsReplacedOr : List ℕ → ℕ → ℕ → List ℕ → List ℕ →
 IsReplacedOr old from to text new true = new ≡ replace_range old from to text
 IsReplacedOr old from to text new false = new ≡ old
 
--- a text in parts after others
-pub record IsCutInto (old : List (List ℕ)) (bs : List ℕ) (new : List (List ℕ)) : Type 0 where
-  pub fresh : List (List ℕ)
-  pub items : new ≡ old ++ fresh
-  pub text : joined fresh ≡ bs
-  pub parts : AreParts fresh
-  pub some : 0 < length fresh
-
 -- a text may be cut at a place
 pub record IsCutPlace (bs : List ℕ) (at : ℕ) : Type 0 where
   pub some : 0 < at

@@ -13,7 +13,7 @@ ghost use Rattle.lsp_text.specs.Ends.{IsNear};
 ghost use Rattle.lsp_text.specs.Sums.{sums_of};
 ghost use Rattle.lsp_text.specs.SameText.{BeginsOtherwise, due, with_feeds};
 ghost use Rattle.lsp_text.specs.Parts.{CanReplace, IsReplacedOr, KeepsEnds};
-ghost use Rattle.lsp_text.specs.Parts.{IsCutInto, IsCutPlace};
+ghost use Rattle.lsp_text.specs.Parts.{IsCutPlace};
 
 use crate::columns::offset_in_counted;
 use crate::ends::{end_len_before, is_whole, move_places, places_of};
@@ -126,6 +126,32 @@ impl Part for Block {
         };
         replace_shared(&mut self.text, from, to, inserted, sums)?;
         Ok(true)
+    }
+
+    fn cut(alloc: Global, whole: &str) -> Result<Vec<Block>, AllocError> {
+        let mut blocks = Vec::new(alloc);
+        let mut rest = whole;
+        while rest.len() > FULL {
+            let (block, tail) = rest.split_at(cut_place(rest));
+            blocks.push(Block::new(alloc, block)?)?;
+            rest = tail;
+        }
+        blocks.push(Block::new(alloc, rest)?)?;
+        Ok(blocks)
+    }
+
+    fn between(
+        alloc: Global,
+        first: &Block,
+        from: usize,
+        inserted: &str,
+        last: &Block,
+        to: usize,
+    ) -> Result<Vec<Block>, AllocError> {
+        let (front, _) = first.as_str().split_at(from);
+        let (_, back) = last.as_str().split_at(to);
+        let whole = in_one(alloc, front, inserted, back)?;
+        Block::cut(alloc, whole.as_str())
     }
 
     fn push_to(&self, out: &mut String) -> Result<(), AllocError> {
@@ -297,18 +323,16 @@ fn spliced(held: &BlockText, from: usize, to: usize, text: &str) -> Result<Strin
     Ok(whole)
 }
 
-/// Cuts a text into blocks after others.
-pub(crate) fn cut_into(alloc: Global, blocks: &mut Vec<Block>, text: &str) -> Result<(), AllocError>
-    ensures { OnOk result (IsCutInto blocks.old.items text.now blocks.new.items) }
+/// Three texts in one.
+fn in_one(alloc: Global, front: &str, text: &str, back: &str) -> Result<String, AllocError>
+    ensures { IfOk result (λ whole. string_bytes whole ≡ (front.now ++ text.now) ++ back.now) }
 {
-    let mut rest = text;
-    while rest.len() > FULL {
-        let (block, tail) = rest.split_at(cut_place(rest));
-        blocks.push(Block::new(alloc, block)?)?;
-        rest = tail;
-    }
-    blocks.push(Block::new(alloc, rest)?)?;
-    Ok(())
+    let room = front.len().saturating_add(text.len());
+    let mut whole = String::with_capacity(alloc, room.saturating_add(back.len()))?;
+    whole.push_str(front)?;
+    whole.push_str(text)?;
+    whole.push_str(back)?;
+    Ok(whole)
 }
 
 /// A place in a long text, at no character's inside and not between CR and LF.

@@ -2,7 +2,7 @@
 
 ghost use Rattle.std.specs.Prelude.{◌≡◌, ◌+◌, ◌-◌, ◌<◌, ◌≤◌, ◌^◌, ◌++◌, ℕ, List, length, take, map};
 ghost use Rattle.std.specs.Prelude.{drop, false, None, MatchOption, IfSome, IfOk, OnOk, OnErr};
-ghost use Rattle.std.specs.List.{replace_range};
+ghost use Rattle.std.specs.List.{replace_range, splice};
 ghost use Rattle.std.specs.Str.{chars, IsUtf8, IsCharBoundary};
 ghost use Rattle.std.specs.String.{string_bytes};
 ghost use Rattle.lsp_text.specs.Places.{units, place_in_line};
@@ -10,14 +10,14 @@ ghost use Rattle.lsp_text.specs.Offsets.{IsOffset};
 ghost use Rattle.lsp_text.specs.Ends.{ends_in, IsLineEnd, IsNear};
 ghost use Rattle.lsp_text.specs.Sums.{sums_of};
 ghost use Rattle.lsp_text.specs.SameText.{BeginsOtherwise, due, with_feeds};
-ghost use Rattle.lsp_text.specs.Parts.{joined, AreParts, CanReplace};
-ghost use Rattle.lsp_text.specs.Parts.{IsReplacedOr, CanReplaceIn, IsReplacedInOr, IsFound};
+ghost use Rattle.lsp_text.specs.Parts.{joined, MakeUp, AreParts, CanReplace, IsReplacedOr};
+ghost use Rattle.lsp_text.specs.Parts.{CanReplaceIn, IsReplacedIn, IsReplacedInOr, IsFound};
 ghost use Rattle.lsp_text.specs.Parts.{IsFoundBefore, IsSpot};
 
 use crate::same::LinesLeft;
 use crate::sums::{Measure, Sums};
 use lsp_types::Encoding;
-use std::alloc::AllocError;
+use std::alloc::{AllocError, Global};
 
 /// A line end of a text: the bytes before it, those up to after it, and the rest of its block.
 #[derive(Clone, Copy)]
@@ -72,6 +72,26 @@ pub(crate) trait Part: Drop {
         ensures ok { IfOk result
             (IsReplacedOr (text self.old) from to inserted.now (text self.new)) }
         ensures err { OnErr result (text self.new ≡ text self.old) };
+
+    /// A text in parts.
+    fn cut(alloc: Global, whole: &str) -> Result<Vec<Self>, AllocError>
+        ensures { IfOk result (λ parts. MakeUp (map text parts.items) whole.now) };
+
+    /// The first bytes of a part, a text, and the bytes of a part from one on, in parts.
+    fn between(
+        alloc: Global,
+        first: &Self,
+        from: usize,
+        inserted: &str,
+        last: &Self,
+        to: usize,
+    ) -> Result<Vec<Self>, AllocError>
+        requires from { IsCharBoundary (text first.now) from }
+        requires to { IsCharBoundary (text last.now) to }
+        requires fits { length ((take from (text first.now) ++ inserted.now)
+            ++ drop to (text last.now)) < 2 ^ 64 }
+        ensures { IfOk result (λ parts. MakeUp (map text parts.items)
+            ((take from (text first.now) ++ inserted.now) ++ drop to (text last.now))) };
 
     /// Writes its text after another.
     fn push_to(&self, out: &mut String) -> Result<(), AllocError>
@@ -190,6 +210,70 @@ pub(crate) fn replace_in<T: Part>(
     }
     let new = parts[spot.index].sums();
     Ok(Some(sums.exchanged(old, new)))
+}
+
+/// Replaces some bytes of parts by a text, in one part where it can. Answers the sums of all.
+pub(crate) fn replace_in_parts<T: Part>(
+    alloc: Global,
+    parts: &mut Vec<T>,
+    sums: Sums,
+    from: usize,
+    to: usize,
+    text: &str,
+) -> Result<Sums, AllocError>
+    requires { CanReplaceIn (map T.text parts.old.items) sums from to text.now }
+    ensures ok { IfOk result (IsReplacedIn (map T.text parts.old.items) from to text.now
+        (map T.text parts.new.items)) }
+    ensures err { OnErr result (map T.text parts.new.items ≡ map T.text parts.old.items) }
+{
+    match replace_in(parts, sums, from, to, text)? {
+        Some(sums) => Ok(sums),
+        None => rebuild(alloc, parts, from, to, text),
+    }
+}
+
+/// The same with parts that are cut again.
+fn rebuild<T: Part>(
+    alloc: Global,
+    parts: &mut Vec<T>,
+    from: usize,
+    to: usize,
+    text: &str,
+) -> Result<Sums, AllocError>
+    requires { CanReplaceIn (map T.text parts.old.items)
+        (sums_of (joined (map T.text parts.old.items))) from to text.now }
+    ensures ok { IfOk result (IsReplacedIn (map T.text parts.old.items) from to text.now
+        (map T.text parts.new.items)) }
+    ensures err { OnErr result (parts.new.items ≡ parts.old.items) }
+{
+    let a = find_before(parts, from);
+    let b = find(parts, Measure::Units(Encoding::Utf8), to as u64);
+    let fresh = T::between(
+        alloc,
+        &parts[a.index],
+        a.left as usize,
+        text,
+        &parts[b.index],
+        b.left as usize,
+    )?;
+    put(parts, a.index, b.index + 1, fresh)?;
+    Ok(sums_in(parts))
+}
+
+/// Replaces by parts those from `first` up to `end`.
+fn put<T: Part>(
+    parts: &mut Vec<T>,
+    first: usize,
+    end: usize,
+    fresh: Vec<T>,
+) -> Result<(), AllocError>
+    requires order { first ≤ end }
+    requires within { end ≤ length parts.old.items }
+    ensures ok { OnOk result (parts.new.items ≡ splice parts.old.items first end fresh.items) }
+    ensures err { OnErr result (parts.new.items ≡ parts.old.items) }
+{
+    parts.splice(first..end, fresh)?;
+    Ok(())
 }
 
 /// The sums of parts.

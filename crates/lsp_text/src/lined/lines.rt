@@ -16,12 +16,13 @@ ghost use Rattle.lsp_text.specs.Parts.{joined, CanReplace};
 ghost use Rattle.lsp_text.specs.LentLines.{IsLentLine, IsHeldLine, IsEndOf, IsOffsetIn};
 ghost use Rattle.lsp_text.specs.LentLines.{NoOffsetIn, IsFurther};
 
-use crate::chunk::{Chunk, chunks_in, replace_in_chunks};
+use crate::block::Block;
+use crate::chunk::Chunk;
 use crate::columns::offset_in_line;
 use crate::cut::FirstLine;
 use crate::part::{
-    Part, line_end_in, offset_in, push_all, rest_in, share_into, strip_all, sums_in, take_all,
-    units_before_in,
+    Part, line_end_in, offset_in, push_all, replace_in_parts, rest_in, share_into, strip_all,
+    sums_in, take_all, units_before_in,
 };
 use crate::same::{LinesLeft, is_taken, without_last_end};
 use crate::sums::{Measure, Sums};
@@ -32,7 +33,7 @@ use std::marker::Model;
 /// A text in chunks of blocks, and its sums.
 pub(crate) struct Lines {
     alloc: Global,
-    chunks: Vec<Chunk>,
+    chunks: Vec<Chunk<Chunk<Block>>>,
     sums: Sums,
 }
 
@@ -64,7 +65,7 @@ impl Lines {
     pub(super) fn of(alloc: Global, text: &str) -> Result<Lines, AllocError>
         ensures { IfOk result (λ lines. lines ≡ text.now) }
     {
-        let chunks = chunks_in(alloc, text)?;
+        let chunks = Chunk::cut(alloc, text)?;
         let sums = sums_in(&chunks);
         Ok(Lines {
             alloc,
@@ -239,7 +240,7 @@ impl Lines {
         if text.len() as u64 >= u64::MAX - self.sums.bytes {
             return Err(AllocError);
         }
-        self.sums = replace_in_chunks(self.alloc, &mut self.chunks, self.sums, from, to, text)?;
+        self.sums = replace_in_parts(self.alloc, &mut self.chunks, self.sums, from, to, text)?;
         Ok(())
     }
 }
@@ -249,7 +250,7 @@ impl Lines {
 /// of those characters has one byte.
 #[derive(Drop)]
 pub(crate) struct LentLine<'a> {
-    chunks: &'a [Chunk],
+    chunks: &'a [Chunk<Chunk<Block>>],
     sums: Sums,
     start: usize,
     end: usize,

@@ -1,25 +1,47 @@
-use Rattle.std.proofs.Common.{List, ℕ, ◌∷◌, [], ◌++◌, sym, ap, subst, ◌∙◌, arith}
+use Rattle.std.proofs.Common.{◌≡◌, ◌<◌, ◌≤◌, List, ℕ, ◌∷◌, [], ◌++◌, length, map, take, sym, ap}
+use Rattle.std.proofs.Common.{subst, ◌∙◌, arith}
+use Rattle.std.specs.List.{drop-map}
+use Rattle.std.proofs.lemmas.List.{length-map, take-map}
 use Rattle.lsp_text.specs.Parts.{joined, AreKept}
 use Rattle.lsp_text.proofs.Recuts.{AreChunked, can_chunk, one_chunked, all_chunked}
 use Rattle.lsp_text.proofs.chunk.chunks_of.Goals as goal
 
 pub of-requires : goal.of-requires
-of-requires c =
+of-requires g c =
+    let f = g.T.Part.text in
     let rest = c.loop-rest.rest in
-    subst AreKept (sym c.in_ok-tail.ensures.items)
-    (can_chunk c.loop-rest.chunks.items rest.items (joined c.args.blocks.items) 16 c.loop-rest.invariant c.requires.fits (omega arith) (omega (arith, rest.ok.0, c.len.ensures, c.loop-rest-test.true)))
+    let texts = map f rest.items in
+    let some : 16 ≤ length texts =
+    omega (arith, length-map rest.items f, rest.ok.0, c.len.ensures, c.loop-rest-test.true) in
+    let first : map f (take 16 rest.items) ≡ take 16 texts = sym (take-map f 16 rest.items) in
+    subst (λ xs. AreKept (map f xs)) (sym c.in_ok-tail.ensures.items)
+    (subst AreKept (sym first)
+    (can_chunk c.loop-rest.chunks.items texts (joined (map f c.args.parts.items)) 16
+    c.loop-rest.invariant c.requires.fits (omega arith) some))
 
 pub loop-rest-preserved : goal.loop-rest-preserved
-loop-rest-preserved c =
+loop-rest-preserved g c =
+    let f = g.T.Part.text in
     let chunks = c.loop-rest.chunks.items in
     let rest = c.loop-rest.rest in
+    let texts = map f rest.items in
     let more = c.push.new.self.items in
-    subst (λ (x : List (List ℕ)). AreChunked more x (joined c.args.blocks.items)) (sym c.in_ok-tail.ensures.tail)
-    (one_chunked chunks rest.items more (joined c.args.blocks.items) 16 c.loop-rest.invariant (omega (arith, rest.ok.0, c.len.ensures, c.loop-rest-test.true))
-    (c.in_ok-push.ensures.items ∙ ap (λ (x : List ℕ). chunks ++ x ∷ []) (c.in_ok-of.ensures ∙ ap joined c.in_ok-tail.ensures.items)))
+    let whole = joined (map f c.args.parts.items) in
+    let some : 16 < length texts =
+    omega (arith, length-map rest.items f, rest.ok.0, c.len.ensures, c.loop-rest-test.true) in
+    subst (λ xs. AreChunked more (map f xs) whole) (sym c.in_ok-tail.ensures.tail)
+    (subst (λ x. AreChunked more x whole) (drop-map f 16 rest.items)
+    (one_chunked chunks texts more whole 16 c.loop-rest.invariant some
+    (c.in_ok-push.ensures.items
+    ∙ ap (λ (x : List ℕ). chunks ++ x ∷ [])
+    (c.in_ok-of.ensures ∙ ap (λ xs. joined (map f xs)) c.in_ok-tail.ensures.items
+    ∙ ap joined (sym (take-map f 16 rest.items))))))
 
 pub returns : goal.returns
-returns c =
+returns g c =
+    let f = g.T.Part.text in
     let chunks = c.loop-rest.chunks.items in
-    all_chunked chunks c.loop-rest.rest.items c.push-2.new.self.items (joined c.args.blocks.items) c.loop-rest.invariant
-    (c.in_ok-push-2.ensures.items ∙ ap (λ (x : List ℕ). chunks ++ x ∷ []) c.in_ok-of-2.ensures)
+    all_chunked chunks (map f c.loop-rest.rest.items) c.push-2.new.self.items
+    (joined (map f c.args.parts.items)) c.loop-rest.invariant
+    (c.in_ok-push-2.ensures.items
+    ∙ ap (λ (x : List ℕ). chunks ++ x ∷ []) c.in_ok-of-2.ensures)

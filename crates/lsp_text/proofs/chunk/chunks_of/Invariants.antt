@@ -1,10 +1,12 @@
-use Rattle.std.proofs.Common.{length}
+use Rattle.std.proofs.Common.{length, map}
 use Rattle.lsp_text.specs.Parts.{joined}
 use Rattle.lsp_text.proofs.Recuts.{AreChunked}
 use Rattle.lsp_text.proofs.chunk.chunks_of.Given as goal
 
 abbrev pub invariant-loop-rest : goal.invariant-loop-rest
-invariant-loop-rest l = AreChunked l.chunks.items l.rest.items (joined l.fn.blocks.items)
+invariant-loop-rest g l =
+    AreChunked l.chunks.items (map g.T.Part.text l.rest.items)
+    (joined (map g.T.Part.text l.fn.parts.items))
 
 abbrev pub decreases-loop-rest : goal.decreases-loop-rest
-decreases-loop-rest l = length l.rest.items
+decreases-loop-rest g l = length l.rest.items

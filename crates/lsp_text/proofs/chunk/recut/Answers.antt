@@ -1,23 +1,77 @@
-use Rattle.std.proofs.Common.{◌≡◌, List, ℕ, ◌+◌, ◌++◌, take, drop, ap, ◌∙◌}
-use Rattle.std.proofs.lemmas.List.{take_rest}
-use Rattle.lsp_text.proofs.Recuts.{front_boundary, back_boundary, recut_made}
+use Rattle.std.proofs.Common.{◌≡◌, List, ℕ, ◌+◌, ◌++◌, length, map, take, drop, sym, ap, ◌∙◌}
+use Rattle.std.specs.List.{drop-map}
+use Rattle.std.proofs.lemmas.List.{map-append, take-map, take_rest}
+use Rattle.lsp_text.proofs.Recuts.{AreFound, first_cut, second_cut, cut_fits, cut_between}
+use Rattle.lsp_text.proofs.PartEdits.{part_of_found}
+use Rattle.lsp_text.proofs.chunk.recut.Given.{Over}
 use Rattle.lsp_text.proofs.chunk.recut.Goals as goal
+use Rattle.lsp_text.proofs.chunk.recut.Goals.{After-index-tail-b}
 
-pub split_at-requires : goal.split_at-requires
-split_at-requires c = front_boundary c.args.head.now c.args.from c.find_before-a.result c.index-head-a.result c.as_str.result.now c.find_before-a.ensures c.index-head-a.is c.as_str.ensures c.requires.from
+found : (g : Over) (c : After-index-tail-b g) → AreFound (map g.T.Part.text c.args.head.now)
+    (map g.T.Part.text c.args.tail.now) c.args.from c.args.to c.find_before-a.result
+    c.find-b.result (g.T.Part.text c.index-head-a.result) (g.T.Part.text c.index-tail-b.result)
+found g c =
+    let f = g.T.Part.text in
+    let a = c.find_before-a in
+    let b = c.find-b in
+    record {
+      before = a.ensures;
+      found = b.ensures;
+      first =
+          part_of_found f c.args.head.now a.result.index c.index-head-a.result a.ensures.index
+          c.index-head-a.is;
+      second =
+          part_of_found f c.args.tail.now b.result.index c.index-tail-b.result b.ensures.index
+          c.index-tail-b.is;
+    }
 
-pub split_at-requires-2 : goal.split_at-requires-2
-split_at-requires-2 c = back_boundary c.args.tail.now c.args.to c.find-b.result c.index-tail-b.result c.as_str-2.result.now c.requires.tail c.find-b.ensures c.index-tail-b.is c.as_str-2.ensures c.requires.to
+pub between-requires-clause-from : goal.between-requires-clause-from
+between-requires-clause-from g c =
+    let at = (goal.at.between-requires-clause-from g c).After-index-tail-b in
+    first_cut (map g.T.Part.text c.args.head.now) (map g.T.Part.text c.args.tail.now) c.args.from
+    c.args.to c.find_before-a.result c.find-b.result _ _ (found g at) c.requires.from
+
+pub between-requires-clause-to : goal.between-requires-clause-to
+between-requires-clause-to g c =
+    let at = (goal.at.between-requires-clause-to g c).After-index-tail-b in
+    second_cut (map g.T.Part.text c.args.head.now) (map g.T.Part.text c.args.tail.now) c.args.from
+    c.args.to c.find_before-a.result c.find-b.result _ _ (found g at) c.requires.tail.parts
+    c.requires.to
+
+pub between-requires-clause-fits : goal.between-requires-clause-fits
+between-requires-clause-fits g c =
+    let at = (goal.at.between-requires-clause-fits g c).After-index-tail-b in
+    cut_fits (map g.T.Part.text c.args.head.now) (map g.T.Part.text c.args.tail.now)
+    c.args.text.now c.args.from c.args.to c.find_before-a.result c.find-b.result _ _ (found g at)
+    c.requires.to.0 c.requires.fits
 
 pub returns : goal.returns
-returns c =
+returns g c =
+    let at = (goal.at.returns g c).After-index-tail-b in
+    let f = g.T.Part.text in
     let head = c.args.head.now in
     let tail = c.args.tail.now in
     let a = c.find_before-a.result in
     let b = c.find-b.result in
-    let two = c.cut_into.new.blocks.items in
-    let first : c.share_into.new.to.items ≡ take a.index head = c.in_ok-share_into.ensures ∙ ap (λ (x : List (List ℕ)). x ++ take a.index head) c.new-blocks.ensures.items in
-    let last : c.share_into-2.new.to.items ≡ two ++ drop (b.index + 1) tail = c.in_ok-share_into-2.ensures ∙ ap (λ (x : List (List ℕ)). two ++ x) (take_rest tail (b.index + 1)) in
-    recut_made head tail c.share_into.new.to.items two c.share_into-2.new.to.items c.args.text.now c.as_str-3.result.now c.index-head-a.result c.index-tail-b.result c.split_at.result.0.now c.split_at-2.result.1.now a b c.args.from
-    c.args.to c.requires.head c.requires.tail c.find_before-a.ensures c.find-b.ensures c.requires.to c.index-head-a.is c.index-tail-b.is (c.split_at.ensures.front ∙ ap (take a.left) c.as_str.ensures)
-    (c.split_at-2.ensures.back ∙ ap (drop b.left) c.as_str-2.ensures) (c.as_str-3.ensures.value ∙ c.in_ok-middle.ensures) first c.in_ok-cut_into.ensures last
+    let middle = c.in_ok-middle.middle.items in
+    let one : c.share_into.new.to.items ≡ take a.index head =
+    c.in_ok-share_into.ensures ∙ ap (λ xs. xs ++ take a.index head) c.new-parts.ensures.items in
+    let two : c.append.new.self.items ≡ take a.index head ++ middle =
+    c.in_ok-append.ensures.items ∙ ap (λ xs. xs ++ middle) one in
+    let three : c.share_into-2.new.to.items
+    ≡ (take a.index head ++ middle) ++ drop (b.index + 1) tail =
+    c.in_ok-share_into-2.ensures
+    ∙ ap (λ xs. c.append.new.self.items ++ xs) (take_rest tail (b.index + 1))
+    ∙ ap (λ xs. xs ++ drop (b.index + 1) tail) two in
+    let texts : map f c.share_into-2.new.to.items
+    ≡ (take a.index (map f head) ++ map f middle) ++ drop (b.index + 1) (map f tail) =
+    ap (map f) three
+    ∙ map-append f (take a.index head ++ middle) (drop (b.index + 1) tail)
+    ∙ ap (λ xs. xs ++ map f (drop (b.index + 1) tail))
+    (map-append f (take a.index head) middle
+    ∙ ap (λ xs. xs ++ map f middle) (sym (take-map f a.index head)))
+    ∙ ap (λ xs. (take a.index (map f head) ++ map f middle) ++ xs)
+    (sym (drop-map f (b.index + 1) tail)) in
+    cut_between (map f head) (map f tail) (map f middle) (map f c.share_into-2.new.to.items)
+    c.args.text.now c.args.from c.args.to a b _ _ (found g at) c.requires.head.parts
+    c.requires.tail.parts c.requires.to.0 c.in_ok-middle.ensures texts
