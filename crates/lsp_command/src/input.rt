@@ -51,7 +51,7 @@ pub struct BufferedInput<'a, R> {
 }
 
 impl<'a, R: Read + Drop> BufferedInput<'a, R> {
-    /// A source for a run of this task, that has not failed and has given nothing yet.
+    /// A source for a run of this task, which has not failed and has given nothing yet.
     pub fn new(
         alloc: Global,
         reader: R,

@@ -1,5 +1,5 @@
-//! From what the words of the command line ask for to a run, and from how the run ended to a status
-//! and to what is written about it to standard error.
+//! From the words of the command line to a run, and from the end of the run to a status and to what
+//! is written about it to standard error.
 //!
 //! `request_of` reads the words (module `command_line`), `run_task` does what they ask for over any
 //! source and sink, and `run_through` does it over a file or standard input and into

@@ -131,8 +131,8 @@ impl<'a, W: Write + Drop> Sink for BufferedOutput<'a, W> {
       failures = s.tally.failures;
     } };
 
-    /// Takes bytes as the trait says. It fails where the writer does, or takes none of some bytes,
-    /// also where that was so when bytes were passed on after the last put. The writer is called
+    /// Takes bytes as the trait says. It fails where the writer fails or takes none of some bytes,
+    /// even if that happened when bytes were passed on after the last put. The writer is called
     /// only where the bytes don't fit after those that were gathered, or what is gathered is due.
     fn put(&mut self, bytes: &[u8]) -> Result<usize, Failed> {
         // Asked first, since taking nothing costs more than a short put.

@@ -1,4 +1,4 @@
-//! What is said on standard error of how a run ended.
+//! What is said on standard error about how a run ended.
 ghost use Rattle.std.specs.Prelude.{◌≡◌, IfOk, IfErr, option_map, string_bytes};
 ghost use Rattle.lsp_verdict.specs.declared.outcome.RunFault.TheVariants as faults;
 ghost use Rattle.lsp_command.specs.Remarks.{remark_of, report_apart, run_report_apart};

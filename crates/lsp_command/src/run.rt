@@ -74,7 +74,7 @@ pub fn run_task<R: Source, W: Sink>(
     }
 }
 
-/// Does the task over an input and into an output. What the task wrote is passed on also where it
+/// Does the task over an input and into an output. What the task wrote is passed on even if it
 /// failed.
 pub fn run_through<'a, R: Read + Drop, W: Write + Drop>(
     alloc: Global,

@@ -59,7 +59,7 @@ pub fn status_of_task(ended: &Result<TaskOutcome, RunFault>) -> u8
 }
 
 /// The exit status where the words ask for no run: 0 for help and the version, 4 where memory was
-/// refused while they were read, and 64 where they don't parse.
+/// refused while they were read, and 64 for bad arguments.
 pub fn status_of_words(kind: ErrorKind) -> u8
     ensures { result ≡ status_of_words kind }
 {

@@ -39,7 +39,7 @@ use std::marker::Model;
 /// versions.
 ///
 /// It stands for the list of the calls that it accepted (LSP 3.17, "Text Document
-/// Synchronization"). URIs are compared byte for byte. A refused call, also one refused for lack of
+/// Synchronization"). URIs are compared byte for byte. A refused call, even one refused for lack of
 /// memory, changes nothing.
 #[derive(Drop)]
 pub struct Docs<S: TextStore> {
@@ -67,7 +67,7 @@ impl<S: TextStore> Model for Docs<S> {
 
 impl<S: TextStore> Docs<S> {
     /// No document is open. A text has at most `limits.document()` bytes of UTF-8, and no version
-    /// before the present one is kept, as in format 1.
+    /// before the current one is kept, as in format 1.
     pub fn new(alloc: Global, limits: Limits) -> Self
         ensures terms { result.terms ≡ terms_of limits Format.One }
         ensures stands { Stands result [] }
@@ -76,7 +76,7 @@ impl<S: TextStore> Docs<S> {
     }
 
     /// No document is open. A text has at most `limits.document()` bytes of UTF-8, and as many
-    /// versions before the present one are kept as in the logs of this format.
+    /// versions before the current one are kept as in the logs of this format.
     pub fn of_format(alloc: Global, limits: Limits, format: Format) -> Self
         ensures terms { result.terms ≡ terms_of limits format }
         ensures stands { Stands result [] }
@@ -168,8 +168,8 @@ impl<S: TextStore> Docs<S> {
         }
     }
 
-    /// The text that the server holds of a URI at this version, or that is kept of it, where it is
-    /// another than this one: what refuses a snapshot by 702.
+    /// The text that the server holds of a URI at this version, or that is kept of it, where it
+    /// differs from this one: it refuses a snapshot by 702.
     pub fn other_of(&self, uri: &str, version: i32, text: &str) -> Option<&S>
         ensures { (calls : List Call) → Stands self.now calls
             → option_map (λ store. S.content store.now) result
@@ -183,7 +183,7 @@ impl<S: TextStore> Docs<S> {
     }
 
     /// The texts of the snapshots that wait for this version of a URI, in the order in which they
-    /// came: one that is another text refuses an opening or a change by 702.
+    /// came: one with another text refuses an opening or a change by 702.
     pub fn waiting_texts(&self, uri: &str, version: i32) -> &[String]
         ensures { (calls : List Call) → Stands self.now calls
             → texts_of result.now ≡ texts_at version
@@ -215,7 +215,7 @@ impl<S: TextStore> Docs<S> {
     ///
     /// Refused by 601 where the URI is open, 607 where the text has more bytes of UTF-8 than the
     /// limit, 702 where a snapshot that waits for this version has another text; by the least of
-    /// them. Memory is asked for only where none of them applies.
+    /// them. Memory is requested only where none of them applies.
     pub fn did_open(&mut self, uri: &str, version: i32, text: &str) -> Result<(), DocFault>
         ensures stands { OnOk result ((calls : List Call) → Stands self.old calls
             → Stands self.new (calls ++ opens uri.now version (chars text.now) ∷ [])) }
@@ -246,7 +246,7 @@ impl<S: TextStore> Docs<S> {
     /// one, 604 where the kind allows no changes, or none with a span and one has it; then by the
     /// first change that fails: 605 a position inside a character, 606 a reversed span, 607 a text
     /// over the limit; then by 702 where a snapshot that waits for this version has another text.
-    /// Memory is asked for only where 602 to 604 don't apply.
+    /// Memory is requested only where 602 to 604 don't apply.
     pub fn did_change(
         &mut self,
         encoding: Encoding,
@@ -301,7 +301,7 @@ impl<S: TextStore> Docs<S> {
 
     /// Judges a saved text against the held one (LSP 3.17, "DidSaveTextDocument Notification").
     ///
-    /// Refused by 608 where the document is open, a text is given and it is another than the held
+    /// Refused by 608 where the document is open, and a text is given that differs from the held
     /// one.
     pub fn did_save(&self, uri: &str, text: Option<&str>) -> Result<(), DocFault>
         ensures stands { OnOk result ((calls : List Call) → Stands self.now calls
@@ -332,8 +332,7 @@ impl<S: TextStore> Docs<S> {
     /// version that is still to come. One whose version lies between kept ones is missed.
     ///
     /// Refused by 701 where its version is below the held one and each kept one, and by 702 where
-    /// its version is held or kept with another text. Memory is asked for only where it has to
-    /// wait.
+    /// its version is held or kept with another text. Memory is requested only where it must wait.
     pub fn snapshot(&mut self, uri: &str, version: i32, text: &str) -> Result<Match, DocFault>
         ensures stands { OnOk result ((calls : List Call) → Stands self.old calls
             → Stands self.new (calls ++ shows uri.now version (chars text.now) ∷ [])) }
@@ -432,7 +431,7 @@ fn is_over(limit: u64, text: &str) -> bool
     limit < text.len() as u64
 }
 
-/// How many versions before the present one a format keeps.
+/// How many versions before the current one a format keeps.
 fn kept_of(format: Format) -> usize
     ensures { result ≡ kept_by format }
 {

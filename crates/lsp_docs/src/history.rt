@@ -1,4 +1,4 @@
-//! The versions that a document had before the present one.
+//! The versions that a document had before the current one.
 
 ghost use Rattle.std.specs.Prelude.{◌≡◌, ◌≤◌, [], ◌++◌, ◌∷◌, length, map, option_map, IfOk, OnOk};
 ghost use Rattle.std.specs.Prelude.{OnErr};

@@ -127,7 +127,7 @@ impl Texts {
     }
 }
 
-/// Whether one of the texts that are due is another than the store has.
+/// Whether one of the texts that are due differs from that of the store.
 pub(crate) fn refutes<S: TextStore>(due: Option<&Texts>, line_ends: LineEnds, store: &S) -> bool
     ensures { result ≡ list_any (λ t. not (same_text line_ends (S.content store.now) t))
         (unwrap_or (option_copied due.entry) []) }

@@ -2,7 +2,7 @@
 
 use lsp_types::LineEnds;
 
-/// The terms on which documents are held, which a log's format and the limits give.
+/// The terms on which documents are held, as a log's format and the limits give them.
 #[derive(Clone, Copy)]
 pub(crate) struct Terms {
     /// The most bytes of UTF-8 that a text may have.

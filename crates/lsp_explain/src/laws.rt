@@ -15,7 +15,7 @@ pub fn explanation_of_yes_is_report()
     ensures { YesIsReport }
 {}
 
-/// What is explained of all that is wrong with a log are just the offences that follow from none.
+/// Of all that is wrong with a log, exactly the offences that follow from no other are explained.
 pub fn all_explained_are_causes()
     ensures { CausesAreExplained }
 {}

@@ -2,9 +2,9 @@
 //! is wrong.
 //!
 //! [`run_explain`] reads a log and explains the verdict on it, and [`run_explain_all`] all that is
-//! wrong with it. What is said about an offence are the facts of `lsp_facts`, whose public
-//! names are exported again here, with the earlier events that brought it. [`run_compared`] writes
-//! one of the two whole texts of a verdict that says that they differ.
+//! wrong with it. An offence is explained by the facts of `lsp_facts`, whose public names are
+//! exported again here, and by the earlier events that led to it. [`run_compared`] writes one of
+//! two whole texts, if the verdict says that they differ.
 #![tactic(auto)]
 
 mod compared;

@@ -79,7 +79,7 @@ fn push_all(
     push_count(lines, count)
 }
 
-/// Adds the lines of calls that LSP 3.17 has in another way than they were sent.
+/// Adds the lines of calls that were not sent as LSP 3.17 defines them.
 fn push_misuses(alloc: Global, lines: &mut String, misuses: &[Misused]) -> Result<(), Memory>
     ensures { OnOk result (string_bytes lines.new
         ≡ string_bytes lines.old ++ flat_map misuse_line (misused_views misuses.now)) }

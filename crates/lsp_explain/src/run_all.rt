@@ -30,8 +30,8 @@ use std::alloc::Global;
 
 /// Reads a log to its end, and explains each offence in it that follows from no earlier one: the
 /// two lines of its No, the line that names its event, and the facts on it. After them come the
-/// lines of a fault of the log with the number of its record, and how many offences were found. Of
-/// a log with nothing wrong it is the report of the verdict.
+/// lines of a fault of the log with the number of its record, and how many offences were found. For
+/// a log with nothing wrong, it is the report of the verdict.
 ///
 /// An event that offends is skipped, as if it had not been sent, and the next is judged after
 /// those that keep the rules. What is said about an offence is written when it is found.

@@ -1,4 +1,4 @@
-//! Which messages can have made texts differ.
+//! Which messages may have made texts differ.
 ghost use Rattle.std.specs.Prelude.{◌≡◌, ◌≤◌, ◌++◌, ◌∷◌, [], OnOk, length};
 ghost use Rattle.std.specs.List.{prefix_len};
 ghost use Rattle.lsp_survey.specs.Marking.{rank_or};
@@ -10,7 +10,7 @@ use lsp_replay::EventPlace;
 use lsp_rpc::Memory;
 use lsp_survey::{Setter, Shown};
 
-/// By which message the text came about that differs.
+/// Which message produced the text that differs.
 #[derive(Clone, Copy, Debug, PartialEq, Eq)]
 pub(crate) enum Until {
     /// The last one that set a version: the text is the held one.

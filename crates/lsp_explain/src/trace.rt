@@ -1,4 +1,4 @@
-//! Which event brought what: facts on an offence that name earlier events.
+//! Which events led to an offence: facts that name earlier events.
 ghost use Rattle.std.specs.Prelude.{◌≡◌, ◌≤◌, ◌++◌, ℕ, Some, chars, nat_lt, if◌then◌else◌, ◌∷◌, []};
 ghost use Rattle.std.specs.Prelude.{List, IfOk, OnOk, map, vec_len};
 ghost use Rattle.std.specs.Prelude.{option_and_then};

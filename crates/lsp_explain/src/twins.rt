@@ -1,4 +1,4 @@
-//! Ids that differ in their type alone.
+//! Ids that differ only in their type.
 ghost use Rattle.std.specs.Prelude.{◌≡◌, IfOk, option_map};
 ghost use Rattle.lsp_rpc.specs.Ident.{id_view, text as text_id};
 ghost use Rattle.lsp_explain.specs.Twins as spec;

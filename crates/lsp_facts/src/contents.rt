@@ -1,4 +1,5 @@
-//! Facts on contents that are not a message, and on messages whose params have another shape.
+//! Facts about contents that are not a message, and about messages whose params have the wrong
+//! shape.
 ghost use Rattle.std.specs.Prelude.{◌≡◌, ◌≤◌, ◌-◌, IfOk, IfSome, length};
 ghost use Rattle.std.specs.List.{prefix_len};
 ghost use Rattle.lsp_facts.specs.ContentFacts as spec;
@@ -80,8 +81,8 @@ fn break_facts(alloc: Global, content: &[u8]) -> Result<Vec<Fact>, Memory>
     }
 }
 
-/// How many bytes of a content come before the first one that cannot stand there in a JSON text of
-/// UTF-8; all if it ends too early.
+/// How many bytes of a content come before the first one that a JSON text of UTF-8 does not allow
+/// there; all if it ends too early.
 fn content_break(alloc: Global, content: &[u8]) -> Result<Option<usize>, Memory>
     ensures place { IfOk result (λ place. place ≡ spec.content_break content.now) }
     ensures within { IfOk result (λ place. IfSome place (λ n. n ≤ length content.now)) }

@@ -10,7 +10,7 @@ use lsp_types::{Encoding, Position, Span, SyncKind};
 /// places.
 #[derive(Debug, Drop, PartialEq, Eq)]
 pub enum Fact {
-    /// The document of which the message or the snapshot speaks, as it writes its URI.
+    /// The document that the message or the snapshot is about, as it writes its URI.
     Uri(String),
     /// The version that is held of it.
     Held(i32),
@@ -83,7 +83,7 @@ pub enum Fact {
         id: Id,
         method: String,
     },
-    /// The same, and the event that asked it.
+    /// The same, and the event that sent it.
     RequestBy {
         id: Id,
         method: String,
@@ -104,14 +104,14 @@ pub enum Fact {
         version: i32,
         place: EventPlace,
     },
-    /// The id of an open request that differs in its type alone, and the event that asked it.
+    /// The id of an open request that differs only in its type, and the event that sent it.
     Open {
         id: Id,
         place: EventPlace,
     },
     /// The event that answered a request of this id.
     Answered(EventPlace),
-    /// The event that asked the open request of this id.
+    /// The event that sent the open request of this id.
     Asked(EventPlace),
     /// The event that led to the phase.
     Since(EventPlace),
@@ -126,8 +126,8 @@ pub enum Fact {
     },
     /// The front of a content that is not a message.
     Begins(String),
-    /// How many bytes of a content come before the first one that cannot stand there, all of them
-    /// if it ends too early (RFC 8259).
+    /// How many bytes of a content come before the first one that JSON does not allow there, all of
+    /// them if it ends too early (RFC 8259).
     Breaks(u64),
     /// What comes before that place.
     Before(String),

@@ -1,4 +1,4 @@
-//! Where a text ends to be JSON (RFC 8259).
+//! Where a text is no longer JSON (RFC 8259).
 ghost use Rattle.std.specs.Prelude.{◌≡◌, ◌≤◌, ◌<◌, IfOk, IfSome, OnOk, length, nat_lt, option_map};
 ghost use Rattle.json.specs.Word.{is_space};
 ghost use Rattle.lsp_facts.specs.Grammar as spec;
@@ -203,7 +203,7 @@ fn after_e(byte: u8) -> Option<Number>
     is_digit(byte).then_some(Number::Exponent)
 }
 
-/// Where the number goes on.
+/// Where the number continues.
 fn in_number(number: Number, byte: u8) -> Option<Number>
     ensures { result ≡ spec.in_number number byte }
 {
@@ -432,8 +432,8 @@ fn is_whole(place: Place, opened: &[Around]) -> bool
     opened.is_empty() && is_end(place)
 }
 
-/// How many bytes of a text come before the first one that cannot stand there in a JSON text, all
-/// if it ends too early.
+/// How many bytes of a text come before the first one that a JSON text does not allow there, all if
+/// it ends too early.
 ///
 /// # Errors
 /// `Memory` where memory was refused.

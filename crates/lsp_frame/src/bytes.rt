@@ -1,4 +1,4 @@
-//! Small questions about bytes, which readers of header parts and of logs ask.
+//! Small tests of bytes, for the readers of header parts and of logs.
 ghost use Rattle.std.specs.Prelude.{◌≡◌, ◌≤◌, ◌<◌, ◌^◌, ◌∷◌, ℕ, List, true, MatchOption};
 ghost use Rattle.std.specs.List.{list_all};
 ghost use Rattle.std.specs.Char.{is_ascii_digit};
@@ -11,7 +11,7 @@ pub fn all_digits(bytes: &[u8]) -> bool
     bytes.iter().all(|byte| byte.is_ascii_digit())
 }
 
-/// The number that decimal digits write, where it is at most so great.
+/// The number that decimal digits write, if it is at most this great.
 pub fn number_up_to(digits: &[u8], most: u64) -> Option<u64>
     requires digits { list_all is_ascii_digit digits.now ≡ true }
     requires most { most < 2 ^ 32 }

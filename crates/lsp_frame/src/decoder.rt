@@ -21,7 +21,7 @@ use std::alloc::{AllocError, Global};
 use std::marker::Model;
 use thiserror::Error;
 
-/// How many bytes of a content that is let go are requested from a source at once.
+/// How many bytes of a content that is dropped are requested from a source at once.
 const WINDOW: usize = 65_536;
 
 /// A fault of a stream of frames, by its rule:
@@ -227,7 +227,7 @@ fn go_past_over<R: Source>(
 }
 
 impl Decoder {
-    /// A decoder of a stream's first byte. It takes memory from `alloc` as bytes are pushed.
+    /// A decoder at the start of a stream. It takes memory from `alloc` as bytes are pushed.
     pub fn new(alloc: Global, limits: Limits) -> Decoder
         ensures value { result ≡ empty limits }
         ensures stands { StandsFor result [] [] }
@@ -348,9 +348,9 @@ impl Decoder {
         })
     }
 
-    /// Takes what is missing of the next content straight from a source, and lets this content go:
-    /// it is given, but not lent, and never held as a whole. `false` where the source ended before,
-    /// and nothing is given then.
+    /// Takes what is missing of the next content straight from a source, and drops this content: it
+    /// is given, but not lent, and never held as a whole. `false` where the source ended before
+    /// that; then nothing is given.
     pub fn pass<R: Source>(&mut self, source: &mut R, missing: Missing) -> Result<bool, PullFault>
         requires { Misses self.old missing }
         ensures { Passes self.old self.new (R.told source.old) (R.told source.new) missing result }
@@ -361,8 +361,8 @@ impl Decoder {
         self.pass_behind(source, missing)
     }
 
-    /// Does what [`Decoder::pass`] says, through a window of the bytes of frames given. The content
-    /// is moved only where the source ends before it does.
+    /// Does what [`Decoder::pass`] says, through a window over the bytes of frames already given.
+    /// The content is moved only where the source ends before it does.
     fn pass_in_front<R: Source>(
         &mut self,
         source: &mut R,

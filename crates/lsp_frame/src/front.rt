@@ -1,4 +1,4 @@
-//! How a frame begins that has a fault.
+//! How a frame with a fault begins.
 ghost use Rattle.std.specs.Prelude.{◌≡◌};
 ghost use Rattle.lsp_frame.specs.Front.{header_front};
 
@@ -8,8 +8,8 @@ use memchr::memmem;
 const SHOWN_BYTES: usize = 64;
 
 /// The header part that the bytes begin with, up to the first CR LF CR LF, which is included, as
-/// far as the first 64 bytes go. After a fault this tells how the frame begins that has it, and
-/// stays, whatever follows.
+/// far as the first 64 bytes go. After a fault, this shows how the frame with the fault begins, and
+/// stays the same whatever follows.
 pub fn header_front(bytes: &[u8]) -> &[u8]
     ensures { result.now ≡ header_front bytes.now }
 {

@@ -105,7 +105,7 @@ fn fits_charsets(field: &Field<'_>) -> bool
 }
 
 /// The bytes after the line of the default content type, if they begin with it (LSP 3.17, "Header
-/// Part"). The line says what is so without it, so nothing of it is counted.
+/// Part"). The line only states the default, so it changes nothing.
 pub(crate) fn after_usual_type(bytes: &[u8]) -> Option<&[u8]>
     ensures { IfSome result (λ rest. bytes.now ≡ line usual_type ++ rest.now) }
 {

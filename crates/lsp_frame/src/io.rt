@@ -76,7 +76,7 @@ struct IoStats {
 }
 
 impl IoStats {
-    /// Counts a call by its answer, and gives that on.
+    /// Counts a call by its answer, and passes that through.
     fn count(&mut self, answer: Result<usize, Failed>) -> Result<usize, Failed>
         ensures same { result ≡ answer }
         ensures bytes { IfOk answer (λ n. Raises self.old.bytes self.new.bytes n) }

@@ -7,7 +7,7 @@ use crate::io::{Failed, Sink};
 use itoa::{Buffer, write_digits};
 use thiserror::Error;
 
-/// A call of the sink failed, so that the bytes written are only the first of those due.
+/// A call of the sink failed: what was written is only a prefix of what was due.
 #[derive(Clone, Copy, Debug, PartialEq, Eq, Error)]
 #[error("a write failed")]
 pub struct WriteFault;
@@ -18,7 +18,7 @@ impl From<Failed> for WriteFault {
     }
 }
 
-/// Writes all the bytes, in as many calls as the sink wants.
+/// Writes all the bytes, in as many calls as the sink needs.
 pub fn put_all<W: Sink>(writer: &mut W, bytes: &[u8]) -> Result<(), WriteFault>
     ensures { Writes (W.told writer.old) (W.told writer.new) result bytes.now }
 {

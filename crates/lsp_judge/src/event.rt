@@ -14,7 +14,7 @@ use lsp_replay::{End, LogEvents, Next};
 use lsp_verdict::{Raw, RunFault};
 use std::alloc::Global;
 
-/// How a run ended that was asked for one event, and met no fault of reading, writing or memory.
+/// How a run for one event ended, if not by a fault of reading, writing or memory.
 #[derive(Clone, Copy, Debug, PartialEq, Eq)]
 pub enum EventOutcome {
     /// What the event holds was written.

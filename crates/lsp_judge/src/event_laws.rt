@@ -1,12 +1,12 @@
 //! Laws of what is due for one event of a log, each the contract of a function that does nothing.
 ghost use Rattle.lsp_judge.specs.EventLaws.{EventIsNumbered, OneEvent, SomeEvent};
 
-/// For each log and each number something is due.
+/// Every log has an answer for the event of each number.
 pub fn some_event()
     ensures { SomeEvent }
 {}
 
-/// And one thing only.
+/// It has only one.
 pub fn one_event()
     ensures { OneEvent }
 {}

@@ -26,11 +26,11 @@ use std::alloc::Global;
 /// How many bytes are requested from the source at once.
 const PIECE: u64 = 65_536;
 
-/// How many bytes a content has at least that is let go where only its length is due. A shorter one
-/// is held, since moving it costs less than one more call of the source.
+/// The least length of a content that is dropped where only its length is due. A shorter one is
+/// held, since moving it costs less than one more call of the source.
 const LONG: usize = 4_096;
 
-/// How many bytes a line of numbers has at most: two numbers of 20 digits, a space, and an end.
+/// The most bytes of a line of numbers: two numbers of 20 digits, a space, and an end.
 const LINE: usize = 42;
 
 /// Puts the digits of a number into a line so that they end there, and gives where they start.
@@ -145,8 +145,8 @@ fn write_found<W: Sink>(
     }
 }
 
-/// The next content, where only its length is due, it is long, and at least one byte of it is
-/// missing and at most this many are.
+/// The next content, where only its length is due, it is long, and at least one and at most this
+/// many of its bytes are missing.
 fn long_content(decoder: &Decoder, mode: Mode, left: u64) -> Option<Missing>
     ensures { IfSome result (λ missing. IsLong decoder.now mode left missing) }
 {
@@ -160,7 +160,7 @@ fn long_content(decoder: &Decoder, mode: Mode, left: u64) -> Option<Missing>
     Some(missing)
 }
 
-/// Lets a long content go and writes its length. `false` where the source ended inside it.
+/// Drops a long content and writes its length. `false` where the source ended inside it.
 fn write_long<R: Source, W: Sink>(
     decoder: &mut Decoder,
     reader: &mut R,
@@ -272,8 +272,8 @@ fn write_closing<W: Sink>(
 /// mode says. In `Canonical` the report of a fault is the caller's to show; in the other modes it
 /// follows on the same sink.
 ///
-/// A stream of more bytes than the log limit is judged by its first that many; one byte more is
-/// read to see that it continues.
+/// A stream of more bytes than the log limit is judged by its bytes up to the limit; one more is
+/// read, to see that it continues.
 ///
 /// The answer is `Read` where the source failed, `Write` where the sink did, and `Memory` where
 /// memory was refused; what was written before stays written.

@@ -30,8 +30,8 @@ use std::marker::Model;
 
 /// Judges a recorded session of an editor and a language server, record by record.
 ///
-/// It stands for the records taken. From the first record on that brings an event which offends,
-/// it answers the No at that event; a No, a fault of the log and a refusal of memory stay.
+/// It stands for the records taken. Once a record brings an event that offends, it answers the No
+/// at that event; a No, a fault of the log and a refusal of memory stay.
 #[derive(Drop)]
 pub struct Judge<S: TextStore> {
     alloc: Global,
@@ -87,8 +87,8 @@ impl<S: TextStore> Judge<S> {
         }
     }
 
-    /// Takes the next record, and answers the No at the first event that offends, from the record
-    /// on that brings it.
+    /// Takes the next record, and answers the No at the first event that offends, once a record has
+    /// brought it.
     pub fn take(&mut self, next: Record) -> Result<Option<Verdict>, Memory>
         ensures keeps { KeepsAnswer self.old self.new
             (λ answer given. option_map verdict_view answer ≡ Some given) result }
@@ -124,7 +124,7 @@ impl<S: TextStore> Judge<S> {
     }
 
     /// The outcome of the session where the log has a fault after the records: the No that was
-    /// answered before, and else the fault.
+    /// answered before, or else the fault.
     pub fn bad_log(&mut self, number: u64, fault: LogCode) -> Verdict
         requires memory { WasRefused self.old.given → ⊥ }
         ensures keeps { KeepsAnswer self.old self.new (λ answer given. verdict_view answer ≡ given)
@@ -165,8 +165,8 @@ impl<S: TextStore> Judge<S> {
     }
 
     /// The verdict on the records taken, of a log without a fault whose session must be complete:
-    /// that of [`Judge::finish`], but in place of Yes a No by 303 where a request of the editor's
-    /// has no answer (JSON-RPC 2.0, section 4), else by 407 where the editor did not send `exit`
+    /// that of [`Judge::finish`], but instead of Yes a No by 303 where a request of the editor has
+    /// no answer (JSON-RPC 2.0, section 4), or else by 407 where the editor did not send `exit`
     /// (LSP 3.17, "Exit Notification").
     pub fn finish_complete(&mut self) -> Result<Verdict, Memory>
         ensures keeps { KeepsAnswer self.old self.new (λ answer given. verdict_view answer ≡ given)

@@ -1,9 +1,9 @@
 //! The judge of a recorded session: its events, which of them offends, and the verdict.
 //!
-//! `run_check` reads a log and writes the report of the verdict on it, `run_check_complete` that
-//! where its session must be complete, and `run_show` writes a line for each event before that.
-//! `run_upgrade` writes a log again in format 2, up to its verdict. `Judge` takes the records of a
-//! log one by one, and `report_of` prints a verdict.
+//! `run_check` reads a log and writes the report of the verdict on it. `run_check_complete` does so
+//! for a session that must be complete, and `run_show` first writes a line for each event before
+//! the verdict. `run_upgrade` writes a log again in format 2, up to its verdict. `Judge` takes the
+//! records of a log one by one, and `report_of` prints a verdict.
 //!
 //! Three runs judge nothing: `run_frames` reads one raw stream, one direction of a session, and
 //! says what its frames are; `run_normal` writes the normal form of a log; and `run_event` writes

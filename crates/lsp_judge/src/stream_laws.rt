@@ -6,7 +6,7 @@ pub fn some_run()
     ensures { SomeRun }
 {}
 
-/// No others are.
+/// No other output and outcome are due.
 pub fn one_run()
     ensures { OneRun }
 {}

@@ -17,8 +17,7 @@ use std::alloc::Global;
 /// verdict.
 ///
 /// # Errors
-/// `Read` where the source failed, `Memory` where memory was refused; `Write` is none of its
-/// answers.
+/// `Read` where the source failed, `Memory` where memory was refused; it never answers `Write`.
 pub fn text_after<R: Source>(
     alloc: Global,
     reader: &mut R,

@@ -61,7 +61,7 @@ impl Model for LogReader {
 }
 
 impl LogReader {
-    /// A reader by which nothing was read.
+    /// A reader that has read nothing.
     pub fn new(alloc: Global, limits: Limits) -> LogReader
         ensures value { result ≡ empty limits }
         ensures stands { StandsFor result [] [] }
@@ -96,9 +96,8 @@ impl LogReader {
         self.place
     }
 
-    /// After a fault of the log, what was found at its place: the line that is there, up to
-    /// its LF, which is included, as far as the log's first 64 bytes from there on go, and 14 of a
-    /// log whose first line is missing. Nothing is read for it.
+    /// After a fault of the log, the line at its place, its LF included, but at most its first 64
+    /// bytes, or 14 in a log whose first line is missing. Nothing is read for it.
     pub fn found(&self) -> &[u8]
         ensures value { result.now ≡ shown_by self.now }
         ensures stands { (bytes : List ℕ) (records : List log.Record) →
@@ -122,8 +121,8 @@ impl LogReader {
 
     /// The next record, or None where the log ends without a fault.
     ///
-    /// Of a log over its limit the bytes up to the limit are read, and one more that shows it.
-    /// Where these bytes end after a record or inside one, the fault is L6.
+    /// Of a log over its limit, the bytes up to the limit are read, and one more, which shows that
+    /// there are more. Where these bytes end after a record or inside one, the fault is L6.
     ///
     /// An answer that is not a record is kept: it is given from then on, and nothing more is read.
     ///

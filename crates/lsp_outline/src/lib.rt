@@ -1,8 +1,9 @@
-//! Messages read from the contents of a stream without building what nothing asks for.
+//! Messages read from the contents of a stream, without building what nothing needs.
 //!
-//! A `MessageReader` goes over the bytes of a content once: it reads a message without its params
-//! and the value that it answers, or a notification whose params are read with what it means. What
-//! it answers is what `lsp_rpc` says about the content, and `lsp_rpc` reads those that it declines.
+//! A `MessageReader` walks over the bytes of a content once. It reads a message without its params
+//! and without the value of its result; where the params of a notification are read, it also says
+//! what they mean. It answers exactly what `lsp_rpc` would, and leaves the contents that it
+//! declines to `lsp_rpc`.
 #![tactic(auto)]
 
 mod bytes;

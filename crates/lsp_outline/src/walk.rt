@@ -1,4 +1,4 @@
-//! Going past JSON values of which at most the kind is wanted.
+//! Skipping JSON values of which at most the kind is needed.
 ghost use Rattle.std.specs.Prelude.{◌≡◌, ◌∷◌, ◌+◌, ◌<◌, ◌≤◌, ℕ, List, drop, length, get_or, false};
 ghost use Rattle.std.specs.Prelude.{Some, IfSome, string_bytes};
 ghost use Rattle.json.specs.Lex.{lex, between, colon, begins_colon};

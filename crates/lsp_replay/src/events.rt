@@ -30,7 +30,7 @@ use lsp_text::TextStore;
 use lsp_verdict::{Counts, Raw, Who, who_of};
 use std::alloc::Global;
 
-/// What the events heard so far have come to, none of which offends after those before it.
+/// The result of the events heard so far, none of which offends after those before it.
 ///
 /// It stands for these events: the session for their messages, the documents for their calls, and
 /// the counts for how many they were, as far as each was counted.
@@ -62,7 +62,7 @@ impl<S: TextStore> Events<S> {
     /// # Errors
     /// `Message` by the least of the rules 301 to 702 that a message offends. `Rule` by that of a
     /// fault of the frames, by the least of 201 to 209 that a content breaks, and by the least of
-    /// 701 and 702 that a snapshot breaks. `Memory` where memory was refused, in place of whatever
+    /// 701 and 702 that a snapshot breaks. `Memory` where memory was refused, instead of whatever
     /// would be answered about a content or a snapshot. What is held and the counts stay, so that
     /// the event after it can be heard.
     pub fn hear<'a>(&mut self, raw: Raw<'a>) -> Result<Heard<'a>, Refused>

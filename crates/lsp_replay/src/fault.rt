@@ -66,7 +66,7 @@ impl From<DocFault> for Refused {
     }
 }
 
-/// Why a message is refused: by its least rule, or since memory was refused.
+/// Why a message is refused: by its least rule, or because memory was refused.
 #[derive(Clone, Copy, Debug, PartialEq, Eq)]
 pub enum Fault {
     Rule(u16),

@@ -39,7 +39,7 @@ pub struct EventPlace {
 }
 
 impl EventPlace {
-    /// Where the event stands that was heard last, after which the counts are these.
+    /// The place of the event that was heard last, where these are the counts after it.
     pub fn of(counts: &Counts, heard: &Heard<'_>) -> EventPlace
         ensures { (before : List Event) (event : Event)
             → AreCounts counts.now (before ++ event ∷ [])
@@ -48,7 +48,8 @@ impl EventPlace {
         EventPlace::last(counts, whose(heard))
     }
 
-    /// Where the event of theirs stands that was counted last, after which the counts are these.
+    /// The place of the last event of this origin that was counted, where these are the counts
+    /// after it.
     pub fn last(counts: &Counts, who: Who) -> EventPlace
         ensures { (before : List Event) (event : Event)
             → AreCounts counts.now (before ++ event ∷ [])

@@ -103,8 +103,8 @@ impl LogEvents {
         }
     }
 
-    /// The bytes of a side after its last whole frame. After a fault of its frames they go at least
-    /// as far as that is seen.
+    /// The bytes of a side after its last whole frame. After a fault of its frames, they reach at
+    /// least far enough to show it.
     pub fn rest(&self, side: Side) -> &[u8]
         ensures { result.now ≡ (decoder_of side self.now.streams).rest }
     {
@@ -118,16 +118,16 @@ impl LogEvents {
         self.streams.ends_inside(side)
     }
 
-    /// After a fault of the log, how many of its bytes precede that: the bad record begins there; 0
-    /// where the first line is missing.
+    /// After a fault of the log, how many of its bytes precede the fault: the bad record begins
+    /// there; 0 where the first line is missing.
     pub fn place(&self) -> u64
         ensures { result ≡ self.now.log.place }
     {
         self.log.place()
     }
 
-    /// After a fault of the log, the line at its place, its LF included, as far as the log's first
-    /// 64 bytes from there on go, and 14 of a log whose first line is missing.
+    /// After a fault of the log, the line at its place, its LF included, but at most its first 64
+    /// bytes, or 14 in a log whose first line is missing.
     pub fn found(&self) -> &[u8]
         ensures { result.now ≡ shown_by self.now.log }
     {

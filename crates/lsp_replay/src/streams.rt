@@ -132,8 +132,8 @@ impl Streams {
         }
     }
 
-    /// The bytes of a side after its last whole frame. After a fault of its frames they go at least
-    /// as far as that is seen.
+    /// The bytes of a side after its last whole frame. After a fault of its frames, they reach at
+    /// least far enough to show it.
     pub fn rest(&self, side: Side) -> &[u8]
         ensures { result.now ≡ (decoder_of side self.now).rest }
     {

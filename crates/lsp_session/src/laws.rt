@@ -40,8 +40,8 @@ pub fn result_unread()
     ensures { ResultUnread }
 {}
 
-/// The params of a message matter neither for the rule that it breaks nor for what a
-/// session keeps, but for what they mean.
+/// The params of a message matter neither for the rule that it breaks nor for what a session keeps,
+/// except by what they mean.
 pub fn params_unread()
     ensures { ParamsUnread }
 {}

@@ -7,7 +7,7 @@ use lsp_rpc::Id;
 use lsp_types::Walk;
 use std::marker::Model;
 
-/// The open requests that are still to come, in the order in which they were asked. Contracts see
+/// The open requests that are still to come, in the order in which they were sent. Contracts see
 /// the list.
 #[derive(Drop)]
 pub struct OpenRequests<'a> {

@@ -18,13 +18,13 @@ use std::marker::Model;
 pub struct OpenRequest {
     /// The id that the response will carry.
     pub id: Id,
-    /// The method that was asked for.
+    /// The method that was requested.
     pub method: String,
     /// Whether its sender cancelled it. A cancelled request still gets its response.
     pub cancelled: bool,
 }
 
-/// The open requests of one side, in the order in which they were asked. Contracts see the list.
+/// The open requests of one side, in the order in which they were sent. Contracts see the list.
 #[derive(Drop)]
 pub struct Pending {
     requests: OrderedMap<Id, OpenRequest>,
@@ -53,7 +53,7 @@ fn new_request(alloc: Global, id: &Id, method: &str) -> Result<OpenRequest, Memo
 }
 
 impl Pending {
-    /// No open requests. Takes no memory until the first is asked.
+    /// No open requests. Takes no memory until the first is added.
     pub fn new(alloc: Global) -> Self
         ensures { result ≡ [] }
     {
@@ -70,8 +70,8 @@ impl Pending {
         self.requests.len()
     }
 
-    /// The open request at this index, the one asked first at 0. [`Pending::walk`] finds all of
-    /// them faster.
+    /// The open request at this index, the one sent first at 0. [`Pending::walk`] finds all of them
+    /// faster.
     pub fn at(&self, index: usize) -> Option<&OpenRequest>
         ensures { option_map (λ request. request_view request.now) result
             ≡ slice_get self.now index }
@@ -80,7 +80,7 @@ impl Pending {
         Some(request)
     }
 
-    /// The open requests, one after another, in the order in which they were asked.
+    /// The open requests, one after another, in the order in which they were sent.
     pub fn walk(&self) -> OpenRequests<'_>
         ensures { result ≡ self.now }
     {
@@ -96,7 +96,7 @@ impl Pending {
     }
 
     /// Adds a request at the end. Rule 302: one with this id is open. A refusal changes nothing,
-    /// and memory is asked for only where no request has the id.
+    /// and memory is requested only where no request has the id.
     pub fn ask(&mut self, id: &Id, method: &str) -> Result<(), Refusal>
         ensures added { OnOk result
             (self.new ≡ self.old ++ new_entry (id_view id.now) method.now ∷ []) }
@@ -129,7 +129,7 @@ impl Pending {
         }
     }
 
-    /// Takes the request with this id out; the others keep their order. Answers `None`, and changes
+    /// Removes the request with this id; the others keep their order. Answers `None`, and changes
     /// nothing, where none is open.
     pub fn answer(&mut self, id: &Id) -> Option<OpenRequest>
         ensures found { option_map request_view result ≡ entry_of (id_view id.now) self.old }

@@ -77,11 +77,11 @@ impl Session {
         }
     }
 
-    /// Admits a message that breaks no rule, and else names the least rule that it breaks: 301 and
-    /// 302 on ids, 401 to 412 on who may send what, 501 to 504 on what is agreed (LSP 3.17, "Base
-    /// Protocol" and "Server lifecycle"). A refusal changes nothing. The act is what the message
-    /// means on its side. Memory is asked for only where the message breaks no rule but, maybe, 502
-    /// or 503.
+    /// Admits a message that breaks no rule, and otherwise names the least rule that it breaks: 301
+    /// and 302 on ids, 401 to 412 on who may send what, 501 to 504 on what is agreed (LSP 3.17,
+    /// "Base Protocol" and "Server lifecycle"). A refusal changes nothing. The act is what the
+    /// message means on its side. Memory is requested only where the message breaks no rule except,
+    /// perhaps, 502 or 503.
     pub fn admit(&mut self, side: Side, message: &Message, act: &Act) -> Result<(), Refusal>
         ensures admitted { OnOk result ((before : List Sent) → Stands self.old before
             → Stands self.new (before ++ sent side message.now act.now ∷ [])) }
@@ -217,7 +217,7 @@ impl Session {
         }
     }
 
-    /// The requests that this side has to answer.
+    /// The requests that this side must answer.
     fn asked_of(&self, side: Side) -> &Pending
         ensures { result.now ≡ by_state.open_of (other_side side) self.now }
     {

@@ -2,12 +2,13 @@
 ghost use Rattle.lsp_survey.specs.AllShown.{OneAllShown, ShowsReport};
 ghost use Rattle.lsp_survey.specs.KeptText.{OneKeptText};
 
-/// A log has one answer for the text after a message, past each event that offends.
+/// A log has only one answer for the text after a message, where each event that offends is
+/// skipped.
 pub fn one_kept_text()
     ensures { OneKeptText }
 {}
 
-/// All events of a log are shown in one way, by lines of one kind.
+/// All events of a log are shown in only one way for each kind of line.
 pub fn one_all_shown()
     ensures { OneAllShown }
 {}

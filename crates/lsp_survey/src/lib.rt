@@ -1,14 +1,14 @@
-//! All that is wrong with a session, and not only the first: an event that offends is skipped,
-//! as if it had not been sent, and the next is judged after those that keep the rules.
+//! All that is wrong with a session, and not only the first offence: an event that offends is
+//! skipped, as if it had not been sent, and the next is judged after those that keep the rules.
 //!
 //! `run_survey` reads a log and writes a report of all its offences, `run_text_all` the text that
-//! is held after a message of the editor's. An offence may follow from an earlier one that left a
-//! document, or the handshake, apart on the two sides; what is an offence, and what follows, is
-//! defined in `lsp_verdict`.
+//! is held after a message of the editor's. An offence may follow from an earlier one, after which
+//! the two sides no longer agree on a document or on the handshake; what is an offence, and what
+//! follows, is defined in `lsp_verdict`.
 //!
-//! What is noted of the events on the way, as which one set a version of a document, is in `notes`:
-//! [`Marks`], [`Openings`], [`SessionNotes`], [`Misused`] and [`Renamed`] lend it to who explains a
-//! session.
+//! What is noted about the events on the way, such as which one set a version of a document, is in
+//! `notes`: [`Marks`], [`Openings`], [`SessionNotes`], [`Misused`] and [`Renamed`] lend it to
+//! whoever explains a session.
 #![tactic(auto)]
 
 mod laws;

@@ -29,10 +29,10 @@ use std::alloc::Global;
 
 /// Reads a log to its end, and writes the report of all that is wrong with it: two lines for each
 /// offence that is listed, in order, those of a fault of the log, and how many offences were found.
-/// Of a log with nothing wrong it is the report of the verdict.
+/// For a log with nothing wrong, it is the report of the verdict.
 ///
-/// An event that offends is skipped, as if it had not been sent, and the next is judged after
-/// those that keep the rules. After a fault of a side's frames the other side is read on. The lines
+/// An event that offends is skipped, as if it had not been sent, and the next is judged after those
+/// that keep the rules. After a fault of a side's frames, the other side is still read. The lines
 /// of an offence are written when it is found.
 ///
 /// # Errors

@@ -1,4 +1,4 @@
-//! Shows all events of a log, past each that offends.
+//! Shows all events of a log, and each offence in its place.
 ghost use Rattle.std.specs.Prelude.{◌≡◌, ◌++◌, [], List};
 ghost use Rattle.lsp_frame.specs.Bounds.{Bounds, IsInRange};
 ghost use Rattle.lsp_frame.specs.Told.{Told};

@@ -1,4 +1,4 @@
-//! The events of a log, heard one by one past each that offends, up to its end.
+//! The events of a log, heard one by one up to its end; each that offends is skipped.
 ghost use Rattle.std.specs.Prelude.{◌≡◌, [], List, IfOk, IfErr, OnErr, option_map, string_bytes};
 ghost use Rattle.lsp_replay.specs.Standing.{Follows};
 ghost use Rattle.lsp_frame.specs.Bounds.{Bounds};
@@ -30,7 +30,7 @@ use lsp_text::Lined;
 use lsp_verdict::{Completeness, Lines, Offence, RunFault, Verdict};
 use std::alloc::Global;
 
-/// Reads the events of a log one by one, past each that offends, up to its end.
+/// Reads the events of a log one by one, up to its end, and skips each that offends.
 pub struct SurveyReader {
     alloc: Global,
     log: LogEvents,
@@ -203,8 +203,8 @@ impl SurveyReader {
         &self.walk.openings
     }
 
-    /// By which of the kept events heard so far requests were asked and answered, and which led to
-    /// the phase of the session.
+    /// Which of the kept events heard so far sent and answered requests, and which led to the phase
+    /// of the session.
     pub fn session_notes(&self) -> &SessionNotes
         ensures { result.now ≡ self.now.walk.said }
     {
@@ -213,8 +213,8 @@ impl SurveyReader {
 
     /// The bytes of a side after its last whole frame.
     ///
-    /// After a fault of its frames they go at least as far as that is seen, so that the header part
-    /// is known which has it; where there is none they are all that was read.
+    /// After a fault of its frames, they reach at least far enough to show the header part with the
+    /// fault; without one, they are all that was read.
     pub fn rest(&self, side: Side) -> &[u8]
         ensures held { result.now ≡ (decoder_of side self.now.log.streams).rest }
         ensures broken { (limits : Bounds) (start now : Told) (past : List Raw)
@@ -225,7 +225,7 @@ impl SurveyReader {
         self.log.rest(side)
     }
 
-    /// After a fault of the log, how many of its bytes come before that: the bad record begins
+    /// After a fault of the log, how many of its bytes precede the fault: the bad record begins
     /// there; 0 where the first line is missing.
     pub fn place(&self) -> u64
         ensures { result ≡ self.now.log.log.place }
@@ -233,8 +233,8 @@ impl SurveyReader {
         self.log.place()
     }
 
-    /// After a fault of the log, the line that is at its place, its LF included, as far as the
-    /// log's first 64 bytes from there on go, and 14 of a log whose first line is missing.
+    /// After a fault of the log, the line at its place, its LF included, but at most its first 64
+    /// bytes, or 14 in a log whose first line is missing.
     pub fn found(&self) -> &[u8]
         ensures { result.now ≡ shown_by self.now.log.log }
     {

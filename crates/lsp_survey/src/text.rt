@@ -1,4 +1,4 @@
-//! The text that is held after a message of the editor's, past each event that offends.
+//! The text that is held after a message of the editor, where each event that offends is skipped.
 ghost use Rattle.std.specs.Prelude.{◌≡◌, ◌<◌, [], option_map};
 ghost use Rattle.lsp_replay.specs.TextAnswers.{FindsText, WritesText, answer_view};
 ghost use Rattle.lsp_frame.specs.Bounds.{Bounds};

@@ -42,8 +42,7 @@ fn offset_of_byte(line: &str, column: u32) -> Option<usize>
     }
 }
 
-/// The same in a line that has this many units: from its end on, where the column is nearer to
-/// that.
+/// The same in a line of this many units, counted from its end where the column is nearer to that.
 pub(crate) fn offset_in_counted(
     line: &str,
     encoding: Encoding,
@@ -61,7 +60,7 @@ pub(crate) fn offset_in_counted(
     }
 }
 
-/// The same from the nearer end on.
+/// The same, counted from the nearer end.
 fn offset_from_nearer(line: &str, encoding: Encoding, column: u32, width: u32) -> Option<usize>
     requires wide { encoding ≢ Encoding.Utf8 }
     requires width { width ≡ units encoding (chars line.now) }
@@ -76,7 +75,7 @@ fn offset_from_nearer(line: &str, encoding: Encoding, column: u32, width: u32) -
     }
 }
 
-/// The same from the end on.
+/// The same, counted from the end.
 fn offset_from_end(line: &str, encoding: Encoding, column: u32, width: u32) -> Option<usize>
     requires wide { encoding ≢ Encoding.Utf8 }
     requires width { width ≡ units encoding (chars line.now) }

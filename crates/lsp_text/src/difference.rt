@@ -24,14 +24,14 @@ const BLOCK: usize = 256;
 #[derive(Clone, Copy, Debug, PartialEq, Eq)]
 pub struct Difference<'a, 'b> {
     /// The place in the held text. The column counts units of the encoding. Where the place lies
-    /// between a CR and a LF, these end the place's line together, and the column counts the CR, as
-    /// one unit. A number past 2^32 - 1 is told as that one.
+    /// between a CR and an LF, these end the place's line together, and the column counts the CR,
+    /// as one unit. A number above 2^32 - 1 is given as that one.
     pub at: Position,
     /// The line of the held text in which the place lies, its line end included. The end of a text
     /// lies in the last line, which is empty after a line end.
     pub held: &'a str,
-    /// The same of the other text. Its number differs where the place lies between a CR and a LF in
-    /// one of the texts, and so after a CR that ends a line by itself in the other.
+    /// The same of the other text. Its number differs where the place lies between a CR and an LF
+    /// in one of the texts, and so after a CR that ends a line by itself in the other.
     pub other: &'b str,
 }
 
@@ -163,7 +163,7 @@ fn line_start(text: &str, offset: usize) -> usize
 }
 
 /// The bytes before a place in which a line end is looked for: not its own CR where it lies before
-/// a LF.
+/// an LF.
 fn search_end(bytes: &[u8], offset: usize) -> usize
     requires { offset ≤ length bytes.now }
     ensures { IsSearchEnd bytes.now offset result }
@@ -175,7 +175,7 @@ fn search_end(bytes: &[u8], offset: usize) -> usize
     }
 }
 
-/// Whether a place lies between a CR and a LF.
+/// Whether a place lies between a CR and an LF.
 fn is_inside_end(bytes: &[u8], offset: usize) -> bool
     ensures { IsTrue result ↔ IsInsideEnd bytes.now offset }
 {

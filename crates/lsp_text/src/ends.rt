@@ -70,7 +70,7 @@ fn ends_at(bytes: &[u8], i: usize) -> bool
     bytes[i] == b'\n' || (bytes[i] == b'\r' && !is_feed_at(bytes, i + 1))
 }
 
-/// Whether a LF is at a place.
+/// Whether an LF is at a place.
 #[inline(always)]
 fn is_feed_at(bytes: &[u8], i: usize) -> bool
     requires { i ≤ length bytes.now }

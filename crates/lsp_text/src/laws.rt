@@ -9,13 +9,13 @@ ghost use Rattle.lsp_text.specs.SameText.{ExactTexts, FeedsEndLines, SameByLines
 ghost use Rattle.lsp_text.specs.SameText.{SameTexts};
 
 /// Every text has exactly one cut into lines, as LSP 3.17, "Text Documents", has them: each line
-/// but the last ends with CR LF, LF or CR, none has a line end inside, and no CR before a LF ends a
-/// line by itself.
+/// but the last ends with CR LF, LF or CR, none has a line end inside, and no CR before an LF ends
+/// a line by itself.
 pub fn lines_are_the_cut()
     ensures { LinesAreTheCut }
 {}
 
-/// The law of re-cutting: where a text ends with a line end, and no CR at its end meets a LF, its
+/// The law of re-cutting: where a text ends with a line end, and no CR at its end meets an LF, its
 /// lines stay when a text follows, and that text's lines come after them.
 pub fn lines_of_joined()
     ensures { LinesOfJoined }
@@ -46,7 +46,7 @@ pub fn one_difference()
     ensures { OneDifference }
 {}
 
-/// The position of a place denotes it, unless the place lies between a CR and a LF, or the line's
+/// The position of a place denotes it, unless the place lies between a CR and an LF, or the line's
 /// number or the column is past 2^32 - 1.
 pub fn places_have_positions()
     ensures { PlacesHavePositions }
@@ -75,7 +75,7 @@ pub fn exact_texts_are_equal()
     ensures { ExactTexts }
 {}
 
-/// Where line ends are ignored, a LF stands for the end of each line that has one, and no other
+/// Where line ends are ignored, an LF stands for the end of each line that has one, and no other
 /// character changes.
 pub fn feeds_end_lines()
     ensures { FeedsEndLines }

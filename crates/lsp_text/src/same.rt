@@ -31,7 +31,7 @@ pub fn same_lines(held: &str, text: &str) -> bool
     is_taken(take_lines(LinesLeft::Rest(whole), held), whole)
 }
 
-/// What is compared of a text where line ends do not count: its lines, with a LF between them.
+/// What is compared of a text where line ends do not count: its lines, with an LF between them.
 ///
 /// # Errors
 /// `Memory` where memory was refused.
@@ -42,7 +42,7 @@ pub fn compared_lines(alloc: Global, text: &str) -> Result<String, Memory>
     with_feeds(alloc, without_last_end(text))
 }
 
-/// A text with a LF for each of its line ends.
+/// A text with an LF for each of its line ends.
 fn with_feeds(alloc: Global, text: &str) -> Result<String, Memory>
     ensures { IfOk result (λ feeds. string_bytes feeds ≡ with_feeds text.now) }
 {

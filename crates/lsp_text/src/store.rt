@@ -20,9 +20,9 @@ pub struct Place {
 }
 
 /// A text, seen as its characters, however it is kept. Its lines are those of LSP 3.17, "Text
-/// Documents": they end with CR LF, LF or CR, and lines and columns count from zero. A refused call
-/// leaves the text as it was. `from_text`, `replace`, `replace_all`, `to_text` and `copy` may
-/// answer `Memory`, only where a growth was refused; the other calls take no memory.
+/// Documents": they end with CR LF, LF or CR, and lines and columns are counted from zero. A
+/// refused call leaves the text as it was. `from_text`, `replace`, `replace_all`, `to_text` and
+/// `copy` may answer `Memory`, only where a growth was refused; the other calls take no memory.
 pub trait TextStore: Drop {
     /// Its characters.
     ghost content: { Self → List ℕ };

@@ -1,4 +1,4 @@
-//! How much a text is.
+//! How large a text is, in each unit.
 
 ghost use Rattle.std.specs.Prelude.{◌≡◌, ◌+◌, ◌≤◌, ◌<◌, ◌^◌};
 ghost use Rattle.lsp_text.specs.Ends.{ends_in};

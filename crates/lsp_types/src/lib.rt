@@ -1,6 +1,5 @@
 //! What several layers share: plain types of the Language Server Protocol 3.17, the numbers of the
-//! rules, the error for refused memory, and a map that keeps its keys in the order in which they
-//! entered.
+//! rules, the error for refused memory, and a map that keeps its keys in insertion order.
 #![tactic(auto)]
 
 mod change;

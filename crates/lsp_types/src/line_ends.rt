@@ -6,6 +6,7 @@
 pub enum LineEnds {
     /// Line ends count: the same texts have the same characters.
     Exact,
-    /// Line ends do not count: CR LF, LF and CR are one, and one at the end of a text is none.
+    /// Line ends do not count: CR LF, LF and CR are equivalent, and a line end at the end of a text
+    /// is ignored.
     Ignored,
 }

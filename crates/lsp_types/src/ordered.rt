@@ -1,5 +1,4 @@
-//! A map that keeps its keys in the order in which they entered, with entering and leaving at the
-//! same cost whatever their number.
+//! A map that keeps its keys in insertion order; inserting and removing cost the same at any size.
 
 mod map;
 mod order;

@@ -83,7 +83,7 @@ impl<'a, R: Eprint> Progress<'a, R> {
     }
 }
 
-/// An input of which it is told how far it was read.
+/// An input that reports how far it was read.
 #[derive(Drop)]
 pub(crate) struct Watched<'a, 'b, R, I> {
     progress: &'b Progress<'a, R>,

@@ -246,7 +246,7 @@ fn request_in<'a>(matches: &ArgMatches<'a>) -> Option<Request<'a>>
 ///
 /// # Errors
 /// `OutOfMemory` where memory was refused; `DisplayHelp` and `DisplayVersion` where the words ask
-/// for these; anything else where they don't parse.
+/// for these; any other kind for bad arguments.
 pub fn request_of<'a>(alloc: Global, words: &'a [String]) -> Result<Request<'a>, Error>
     // The words parse by the command line, and the command found in them asks for the request.
     ensures ok { IfOk result (λ request.

@@ -18,8 +18,8 @@ pub(crate) struct Asked {
     place: EventPlace,
 }
 
-/// The open requests of one side. The one that was asked last is held apart: mostly it is answered
-/// before the next one is asked, and then no map is searched.
+/// The open requests of one side. The newest is held apart: usually it is answered before the next
+/// one is sent, and then no map is searched.
 #[derive(Drop)]
 pub(crate) struct AskedRequests {
     last: Option<Asked>,
@@ -56,7 +56,7 @@ impl AskedRequests {
         Ok(())
     }
 
-    /// Takes away the request with this id.
+    /// Removes the request with this id.
     pub(crate) fn remove(&mut self, id: &Id)
         ensures { (k : AnId) → place_in self.new (id_view k)
             ≡ (if same_id (id_view id.now) (id_view k) then None
@@ -66,7 +66,7 @@ impl AskedRequests {
         remove_other(&mut self.others, id);
     }
 
-    /// Puts the request that was asked last with the others. Mostly it was answered, and is gone.
+    /// Puts the newest request with the others. Usually it was answered, and there is none.
     fn settle(&mut self) -> Result<(), Memory>
         ensures last { OnOk result (self.new.last ≡ None) }
         ensures others { OnOk result ((k : AnId) → asked_in self.new.others.entries (id_view k)
@@ -78,7 +78,7 @@ impl AskedRequests {
         self.settle_last()
     }
 
-    /// Puts the request that was asked last with the others, if there is one.
+    /// Puts the newest request with the others, if there is one.
     #[inline(never)]
     fn settle_last(&mut self) -> Result<(), Memory>
         ensures last { OnOk result (self.new.last ≡ None) }
@@ -92,7 +92,7 @@ impl AskedRequests {
     }
 }
 
-/// The place of the request that was asked last, if it has this id.
+/// The place of the newest request, if it has this id.
 fn last_place(last: &Option<Asked>, id: &Id) -> Option<EventPlace>
     ensures { result ≡ last_at last.now (id_view id.now) }
 {
@@ -112,7 +112,7 @@ fn add_other(others: &mut IndexMap<Id, EventPlace>, asked: Asked) -> Result<(), 
     Ok(())
 }
 
-/// Takes away the request that was asked last, if it has this id.
+/// Removes the newest request, if it has this id.
 fn remove_last(last: &mut Option<Asked>, id: &Id)
     ensures { (k : AnId) → last_at last.new (id_view k)
         ≡ (if same_id (id_view id.now) (id_view k) then None else last_at last.old (id_view k)) }
@@ -122,7 +122,7 @@ fn remove_last(last: &mut Option<Asked>, id: &Id)
     }
 }
 
-/// Takes away the other request with this id.
+/// Removes the other request with this id.
 fn remove_other(others: &mut IndexMap<Id, EventPlace>, id: &Id)
     ensures { (k : AnId) → asked_in others.new.entries (id_view k)
         ≡ (if same_id (id_view id.now) (id_view k) then None

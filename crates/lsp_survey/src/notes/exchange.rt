@@ -1,4 +1,4 @@
-//! By which events the requests of one side were asked and answered.
+//! Which events sent the requests of one side, and which answered them.
 ghost use Rattle.std.specs.Prelude.{◌≡◌, ◌++◌, ◌∷◌, [], List, None, Some, OnOk, map, if◌then◌else◌};
 ghost use Rattle.std.specs.Prelude.{option_to_list};
 ghost use Rattle.lsp_rpc.specs.Ident.{id_view, same_id};
@@ -63,7 +63,7 @@ impl Exchange {
         last_in(second, id).or(last_in(first, id))
     }
 
-    /// The event of this place asks a request.
+    /// The event of this place sends a request.
     pub(crate) fn ask(&mut self, id: &Id, place: EventPlace) -> Result<(), Memory>
         ensures asked { OnOk result ((k : AnId) → place_in self.new.asked (id_view k)
             ≡ (if same_id (id_view id.now) (id_view k) then Some place

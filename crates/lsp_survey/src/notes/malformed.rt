@@ -1,4 +1,5 @@
-//! The message of a content that is refused though it is one: its params don't have their shape.
+//! The message of a content that is refused although it is a message: its params have the wrong
+//! shape.
 ghost use Rattle.std.specs.Prelude.{◌≡◌, IfOk, None, Option, Some, codes, if◌then◌else◌};
 ghost use Rattle.std.specs.Prelude.{option_map};
 ghost use Rattle.lsp_rpc.specs.Ident.{id_view};

@@ -144,7 +144,7 @@ impl Mark {
     }
 
     /// Marks that the document is at this version, of this rank: the snapshots that waited for it
-    /// or for one before it wait no more, and those of it were equal. Mostly none waits.
+    /// or for one before it wait no more, and those of it were equal. Usually none waits.
     fn meet(&mut self, version: i32, rank: u64)
         ensures setters { self.new.setters ≡ self.old.setters }
         ensures rank { self.new.rank ≡ self.old.rank }

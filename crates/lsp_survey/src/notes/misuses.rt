@@ -1,4 +1,4 @@
-//! Calls that LSP 3.17 has in another way than they were sent.
+//! Calls that were not sent as LSP 3.17 defines them.
 ghost use Rattle.std.specs.Prelude.{◌≡◌, OnOk, Some, option_map, string_bytes};
 ghost use Rattle.lsp_session.specs.Sent as sent;
 ghost use Rattle.std.specs.List.{list_any};
@@ -12,20 +12,20 @@ use crate::notes::standard_methods::{is_notification, is_request};
 use lsp_replay::EventPlace;
 use lsp_rpc::{Memory, Message, Side};
 
-/// In which other way than LSP 3.17 has it a call was sent.
+/// How a call was sent, instead of as LSP 3.17 defines it.
 #[derive(Clone, Copy, Debug, PartialEq, Eq)]
 pub enum Misuse {
     /// As a request, though its method is one of notifications.
     AsRequest,
     /// As a notification, though its method is one of requests.
     AsNotification,
-    /// By the editor, though only the server sends such.
+    /// By the editor, though only servers send it.
     ByEditor,
-    /// By the server, though only the editor sends such.
+    /// By the server, though only editors send it.
     ByServer,
 }
 
-/// A call that LSP 3.17 has in another way than it was sent.
+/// A call that was not sent as LSP 3.17 defines it.
 #[derive(Debug, Drop)]
 pub struct Misused {
     pub misuse: Misuse,

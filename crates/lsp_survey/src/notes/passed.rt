@@ -1,4 +1,4 @@
-//! Which requests were passed over, so that the answer to one meets none.
+//! Which requests were skipped, so that a response to one of them meets no open request.
 ghost use Rattle.std.specs.Prelude.{◌≡◌, OnOk, Some, false, option_map, true};
 ghost use Rattle.lsp_rpc.specs.Ident.{id_view};
 ghost use Rattle.lsp_rpc.specs.Message.{Reply, response};

@@ -14,8 +14,8 @@ use serde_json::Value;
 use std::alloc::Global;
 
 /// What is remarkable about the messages of a session, though it breaks no rule: which calls were
-/// sent in another way than LSP 3.17 has them, of each method the first; whether the editor sent
-/// `exit` without `shutdown`; and which encoding the answer to `initialize` names in the older way.
+/// not sent as LSP 3.17 defines them, of each method the first; whether the editor sent `exit`
+/// without `shutdown`; and which encoding the answer to `initialize` names in the older way.
 #[derive(Drop)]
 pub(crate) struct Remarks {
     misuses: Vec<Misused>,
@@ -37,7 +37,7 @@ impl Remarks {
         }
     }
 
-    /// The calls that were sent in another way than LSP 3.17 has them, of each method the first.
+    /// The calls that were not sent as LSP 3.17 defines them, of each method the first.
     pub(crate) fn misuses(&self) -> &[Misused]
         ensures { result.now ≡ self.now.misuses.items }
     {

@@ -25,11 +25,11 @@ use std::collections::VecDeque;
 /// How many of the last moves are held at most.
 const MOST_MOVES: usize = 128;
 
-/// What a notification of the editor's says of the file of a URI.
+/// What a notification of the editor says about the file of a URI.
 #[derive(Drop)]
 pub(crate) struct Move {
     uri: String,
-    /// It was renamed; otherwise there is one.
+    /// The file was renamed, and has another URI now; otherwise there is a file of this URI.
     is_gone: bool,
 }
 
@@ -69,7 +69,8 @@ impl Renames {
         self.renamed.as_ref()
     }
 
-    /// Takes over a message that is kept, the event of this place, which this content is.
+    /// Takes over a message that is kept, the event of this place, which was read from this
+    /// content.
     ///
     /// # Errors
     /// `Memory` where memory was refused.
@@ -91,7 +92,7 @@ impl Renames {
     }
 
     /// Notes an act, of the event of this place, if it is the first under a URI that is gone.
-    /// Mostly nothing is held of files.
+    /// Usually nothing is held about files.
     fn keep_act(&mut self, place: EventPlace, act: &Act) -> Result<(), Memory>
         ensures moves { self.new.moves ≡ self.old.moves }
         ensures renamed { OnOk result (renamed_held self.new ≡ option_or (renamed_held self.old)
@@ -103,7 +104,7 @@ impl Renames {
         self.keep_first(place, act)
     }
 
-    /// Notes the same where something is held of files.
+    /// Notes the same where something is held about files.
     #[inline(never)]
     fn keep_first(&mut self, place: EventPlace, act: &Act) -> Result<(), Memory>
         ensures moves { self.new.moves ≡ self.old.moves }
@@ -157,7 +158,7 @@ fn is_gone(moves: &VecDeque<Move>, uri: &str) -> bool
     gone_after(gone_after(false, first, uri), second, uri)
 }
 
-/// Whether it is gone after these moves, where it was before them or wasn't.
+/// Whether it is gone after these moves, given whether it was before them.
 fn gone_after(before: bool, moves: &[Move], uri: &str) -> bool
     ensures { result ≡ last_or before (filter_map (gone_by uri.now) (moves_view moves.now)) }
 {
@@ -196,7 +197,7 @@ fn is_on_files(method: &str) -> bool
     method == "workspace/didRenameFiles" || method == "workspace/didCreateFiles"
 }
 
-/// Adds what the message of a content says of files: reads it again, with its params.
+/// Adds what the message of a content says about files: reads it again, with its params.
 fn add_content(moves: &mut VecDeque<Move>, content: &[u8]) -> Result<(), Memory>
     ensures { OnOk result ((m : AMessage) → Reads content.now m
         → Moves (moves_in m) moves.old.items moves.new.items) }
@@ -212,7 +213,7 @@ fn add_content(moves: &mut VecDeque<Move>, content: &[u8]) -> Result<(), Memory>
     }
 }
 
-/// Adds what a message says of files.
+/// Adds what a message says about files.
 fn add_message(moves: &mut VecDeque<Move>, message: &Message) -> Result<(), Memory>
     ensures { OnOk result (Moves (moves_in (message_view message.now)) moves.old.items
         moves.new.items) }
@@ -226,7 +227,7 @@ fn add_message(moves: &mut VecDeque<Move>, message: &Message) -> Result<(), Memo
     }
 }
 
-/// Adds what a notification of this method with these params says of files.
+/// Adds what a notification of this method with these params says about files.
 fn add_params(moves: &mut VecDeque<Move>, method: &str, params: &Value) -> Result<(), Memory>
     ensures { OnOk result (Moves (or_none (moves_of method.now (view params.now)))
         moves.old.items moves.new.items) }
@@ -240,7 +241,7 @@ fn add_params(moves: &mut VecDeque<Move>, method: &str, params: &Value) -> Resul
     Ok(())
 }
 
-/// Adds the files that were renamed: their old URIs are gone, and there are files of the new ones.
+/// Adds the files that were renamed: their old URIs are gone, and their new ones exist.
 fn add_renames(moves: &mut VecDeque<Move>, params: &Value) -> Result<(), Memory>
     ensures { OnOk result (Moves (or_none (renames_in (view params.now))) moves.old.items
         moves.new.items) }
@@ -309,7 +310,7 @@ fn text_at<'a>(value: &'a Value, name: &str) -> Option<&'a str>
     value.get(name)?.as_str()
 }
 
-/// Adds that the files of these URIs are gone, or that there are some.
+/// Adds that the files of these URIs are gone, or that they exist.
 fn add_all(moves: &mut VecDeque<Move>, is_gone: bool, uris: &[String]) -> Result<(), Memory>
     ensures { OnOk result (Moves (each_move is_gone (names_view uris.now)) moves.old.items
         moves.new.items) }
@@ -320,8 +321,8 @@ fn add_all(moves: &mut VecDeque<Move>, is_gone: bool, uris: &[String]) -> Result
     Ok(())
 }
 
-/// Adds that the file of this URI is gone, or that there is one, after the others, of which the
-/// last ones stay.
+/// Adds after the others, of which the last ones stay, that the file of this URI is gone, or that
+/// it exists.
 fn add(moves: &mut VecDeque<Move>, is_gone: bool, uri: &str) -> Result<(), Memory>
     ensures { OnOk result (Moves (spec.move is_gone uri.now ∷ []) moves.old.items
         moves.new.items) }

@@ -1,4 +1,4 @@
-//! By which events requests were asked and answered, and which event led to the phase.
+//! Which events sent and answered requests, and which event led to the phase.
 ghost use Rattle.std.specs.Prelude.{◌≡◌, [], List, OnOk, option_map, unwrap_or};
 ghost use Rattle.lsp_docs.specs.Terms.{Terms};
 ghost use Rattle.lsp_rpc.specs.Ident.{id_view};
@@ -20,9 +20,9 @@ use lsp_rpc::{Id, Memory, Message, Side, Spoken};
 use lsp_session::Phase;
 use std::alloc::Global;
 
-/// By which events the requests of both sides were asked and answered, and which one led to the
-/// phase of the session. Of the answers to a side's requests the last 1,024 are held, where the id
-/// has at most 128 bytes. Also what is remarkable about the messages, though it breaks no rule.
+/// Which events sent and answered the requests of both sides, and which one led to the phase of the
+/// session. Of the answers to a side's requests, the last 1,024 whose id has at most 128 bytes are
+/// held. Also what is remarkable about the messages, though it breaks no rule.
 ///
 /// It stands for the events of a session of which those that offend are skipped.
 #[derive(Drop)]
@@ -50,7 +50,7 @@ impl SessionNotes {
         }
     }
 
-    /// The place of the event that asked the open request of this side with this id.
+    /// The place of the event that sent the open request of this side with this id.
     pub fn asked(&self, side: Side, id: &Id) -> Option<EventPlace>
         ensures { (terms : Terms) (events : List Event) → AreNotes terms self.now events
             → result ≡ asked side (id_view id.now) (numbered terms events) }
@@ -61,9 +61,8 @@ impl SessionNotes {
         }
     }
 
-    /// The place of the event that answered a request of this side with this id last,
-    /// where it is among the last 1,024 answers to requests of this side, and the id has at most
-    /// 128 bytes.
+    /// The place of the last event that answered a request of this side with this id, where it is
+    /// among the last 1,024 answers to requests of this side, and the id has at most 128 bytes.
     pub fn answered(&self, side: Side, id: &Id) -> Option<EventPlace>
         ensures { (terms : Terms) (events : List Event) → AreNotes terms self.now events
             → result ≡ answered side (id_view id.now) (numbered terms events) }
@@ -83,7 +82,7 @@ impl SessionNotes {
         self.since
     }
 
-    /// The calls that LSP 3.17 has in another way than they were sent, of each method the first.
+    /// The calls that were not sent as LSP 3.17 defines them, of each method the first.
     pub fn misuses(&self) -> &[Misused]
         ensures { (terms : Terms) (events : List Event) → AreNotes terms self.now events
             → misused_views result.now ≡ misuses (numbered terms events) }
@@ -116,8 +115,8 @@ impl SessionNotes {
         self.renames.renamed()
     }
 
-    /// Notes a message that is kept, the event of this place, which this content is, and after
-    /// which the session is in this phase, and the handshake is settled or is not.
+    /// Notes a message that is kept, the event of this place, which was read from this content, and
+    /// after which the session is in this phase, and the handshake is settled or is not.
     ///
     /// # Errors
     /// `Memory` where memory was refused; nothing is then known of the requests.
@@ -149,7 +148,7 @@ impl SessionNotes {
         self.renames.keep(place, side, content, spoken)
     }
 
-    /// Notes a message that is kept, apart from what it says of files.
+    /// Notes a message that is kept, apart from what it says about files.
     fn keep_message(
         &mut self,
         place: EventPlace,
@@ -181,7 +180,7 @@ impl SessionNotes {
         self.exchange(place, side, message)
     }
 
-    /// Notes what a message asks or answers.
+    /// Notes which request a message sends or answers.
     fn exchange(&mut self, place: EventPlace, side: Side, message: &Message) -> Result<(), Memory>
         ensures editor { OnOk result
             (Exchanges Side.Editor place side

@@ -102,7 +102,7 @@ impl Sides {
         }
     }
 
-    /// Whether a fault of this side by this rule follows from the content in front of it.
+    /// Whether a fault of this side by this rule follows from the content before it.
     pub(crate) fn fault_follows(self, side: Side, rule: u16) -> bool
         ensures { result ≡ (nat_le rule rules.CHARSET_NOT_UTF_8 && (side_in side self).unread) }
     {

@@ -1,4 +1,4 @@
-//! URIs that differ in their spelling alone.
+//! URIs that differ only in their spelling.
 ghost use Rattle.std.specs.Prelude.{◌≡◌, ◌++◌, IfOk, OnOk};
 ghost use Rattle.std.specs.List.{flat_map};
 ghost use Rattle.lsp_verdict.specs.Spelling as spec;
@@ -7,8 +7,8 @@ use lsp_rpc::Memory;
 use percent_encoding::percent_decode;
 use std::alloc::Global;
 
-/// A URI without what its spelling is free in: percent-encoding is decoded (RFC 3986, section 2.1),
-/// ASCII letters are small, and slashes are left out.
+/// A URI without what may differ between its spellings: percent-encoding is decoded (RFC 3986,
+/// section 2.1), ASCII letters are in lower case, and slashes are left out.
 ///
 /// # Errors
 /// `Memory` where memory was refused.

@@ -1,4 +1,4 @@
-//! The map: its entries, and the order in which their keys entered.
+//! The map: its entries, and the order in which their keys were inserted.
 
 ghost use Rattle.std.specs.Prelude.{◌≡◌, [], ◌++◌, ◌∷◌, length, is_some, slice_get, None, OnOk};
 ghost use Rattle.std.specs.Prelude.{OnErr, option_map};
@@ -18,14 +18,14 @@ use std::alloc::{AllocError, Global};
 use std::hash::Hash;
 use std::marker::Model;
 
-/// A map that keeps its keys in the order in which they entered. A key enters at the end, and may
-/// leave at any time; what that costs does not depend on how many there are. Contracts see the list
-/// of the keys with their values.
+/// A map that keeps its keys in insertion order. A key is added at the end, and may be removed at
+/// any time; the cost does not depend on how many there are. Contracts see the list of the keys
+/// with their values.
 #[derive(Drop)]
 pub struct OrderedMap<K: Eq + Hash, V> {
-    /// The entries. Where one leaves, the last moves to its place.
+    /// The entries. When one is removed, the last moves to its place.
     entries: IndexMap<K, V>,
-    /// Their places in the order in which they entered.
+    /// Their places, in insertion order.
     order: Order,
 }
 
@@ -41,7 +41,7 @@ impl<K: Eq + Hash, V> Model for OrderedMap<K, V> {
 }
 
 impl<K: Eq + Hash + Drop, V: Drop> OrderedMap<K, V> {
-    /// No keys. Takes no memory until the first enters.
+    /// No keys. Takes no memory until the first is added.
     pub fn new(alloc: Global) -> Self
         ensures { result ≡ [] }
     {
@@ -64,8 +64,8 @@ impl<K: Eq + Hash + Drop, V: Drop> OrderedMap<K, V> {
         self.entries.len()
     }
 
-    /// The key at this place in the order, from 0, and its value. Where keys have left, this walks
-    /// past those before it, one by one.
+    /// The key at this place in the order, from 0, and its value. Where keys were removed, this
+    /// walks over those before it, one by one.
     pub fn at(&self, index: usize) -> Option<(&K, &V)>
         ensures { option_map deref_pair result ≡ slice_get self.now index }
     {
@@ -104,7 +104,7 @@ impl<K: Eq + Hash + Drop, V: Drop> OrderedMap<K, V> {
         self.entries.get_mut(key)
     }
 
-    /// Lets a new key enter at the end.
+    /// Adds a new key at the end.
     pub fn push(&mut self, key: K, value: V) -> Result<(), AllocError>
         requires { lookup (K.eq key) self.old ≡ None }
         ensures ok { OnOk result (self.new ≡ self.old ++ (key, value) ∷ []) }
@@ -116,7 +116,7 @@ impl<K: Eq + Hash + Drop, V: Drop> OrderedMap<K, V> {
         Ok(())
     }
 
-    /// Lets a key leave, and gives its value. The others keep their order. Takes no memory.
+    /// Removes a key, and gives its value. The others keep their order. Takes no memory.
     pub fn remove(&mut self, key: &K) -> Option<V>
         ensures value { result ≡ lookup (K.eq key.now) self.old }
         ensures left { self.new ≡ remove_entry (K.eq key.now) self.old }
@@ -147,7 +147,7 @@ impl<V: Drop> OrderedMap<String, V> {
         self.entries.get_mut(key)
     }
 
-    /// Lets a key leave, by its text, and gives its value. The others keep their order. Takes no
+    /// Removes a key, by its text, and gives its value. The others keep their order. Takes no
     /// memory.
     pub fn remove_str(&mut self, key: &str) -> Option<V>
         ensures value { result ≡ lookup (is_text key.now) self.old }

@@ -1,4 +1,4 @@
-//! The order in which the keys of a map entered it, by the places of their entries.
+//! The insertion order of the keys of a map, by the places of their entries.
 
 ghost use Rattle.std.specs.Prelude.{◌≡◌, [], ◌++◌, ◌∷◌, ◌+◌, ◌-◌, ◌<◌, length, option_and_then};
 ghost use Rattle.std.specs.Prelude.{slice_get, vec_len, IfSome, OnOk, OnErr};
@@ -7,12 +7,12 @@ ghost use Rattle.lsp_types.specs.Places.{places_in, refilled, without_place, Are
 use std::alloc::{AllocError, Global};
 use std::marker::Model;
 
-/// The places of a map's entries, from 0 on, in the order in which their keys entered. Contracts
-/// see the list of the places.
+/// The places of a map's entries, from 0 on, in the insertion order of their keys. Contracts see
+/// the list of the places.
 #[derive(Drop)]
 pub(crate) struct Order {
-    /// The places in order. A key that leaves leaves its slot empty; the empty slots are given up
-    /// once more than half of all are empty.
+    /// The places in order. A key that is removed leaves its slot empty; the empty slots are given
+    /// up once more than half of all are empty.
     slots: Vec<Option<usize>>,
     /// The slot of each place.
     slot_of: Vec<usize>,
@@ -30,7 +30,7 @@ impl Model for Order {
 }
 
 impl Order {
-    /// No places. Takes no memory until the first enters.
+    /// No places. Takes no memory until the first is added.
     pub(crate) fn new(alloc: Global) -> Self
         ensures places { result ≡ [] }
         ensures order { IsOrder result 0 }
@@ -41,8 +41,8 @@ impl Order {
         }
     }
 
-    /// The place that stands here in the order, from 0. Where slots are empty, this looks through
-    /// those in front of it.
+    /// The place at this index in the order, from 0. Where slots are empty, this looks through
+    /// those before it.
     pub(crate) fn at(&self, index: usize) -> Option<usize>
         ensures { result ≡ slice_get self.now index }
     {
@@ -60,7 +60,7 @@ impl Order {
         self.slots.as_slice()
     }
 
-    /// Lets the next place enter at the end.
+    /// Adds the next place at the end.
     pub(crate) fn push(&mut self) -> Result<(), AllocError>
         ensures ok { OnOk result (self.new ≡ self.old ++ length self.old ∷ []) }
         ensures order { OnOk result (IsOrder self.new (length self.old + 1)) }
@@ -95,7 +95,7 @@ fn place_in(slots: &[Option<usize>], slot: usize) -> Option<usize>
     *slots.get(slot)?
 }
 
-/// The place that stands here among those in the slots.
+/// The place at this index among those in the slots.
 fn nth_place(slots: &[Option<usize>], index: usize) -> Option<usize>
     ensures { result ≡ slice_get (places_in slots.now) index }
 {
@@ -150,7 +150,7 @@ fn pack(slots: &mut Vec<Option<usize>>, slot_of: &mut Vec<usize>)
     number(slots.as_slice(), slot_of);
 }
 
-/// Notes for each place in the slots where it stands.
+/// Notes for each place the slot that it is in.
 fn number(slots: &[Option<usize>], slot_of: &mut Vec<usize>)
     requires { IsOrder (places_in slots.now) (vec_len slot_of.old) }
     ensures { AreTied slots.now slot_of.new.items }

@@ -1,4 +1,4 @@
-//! A walk over a map, in the order in which its keys entered.
+//! A walk over a map, in the insertion order of its keys.
 
 ghost use Rattle.std.specs.Prelude.{◌≡◌, drop, length, option_map, slice_get};
 ghost use Rattle.std.specs.Map.Iter.{deref_pair};
@@ -8,13 +8,13 @@ use indexmap::IndexMap;
 use std::hash::Hash;
 use std::marker::Model;
 
-/// The entries of a map that are still to come, in the order in which their keys entered. All of
-/// them cost as much as the map has slots, of which at most half are empty.
+/// The entries of a map that are still to come, in the insertion order of their keys. All of them
+/// cost as much as the map has slots, of which at most half are empty.
 #[derive(Drop)]
 pub struct Walk<'a, K: Eq + Hash, V> {
     entries: &'a IndexMap<K, V>,
     slots: &'a [Option<usize>],
-    /// The first slot that is not passed yet.
+    /// The first slot that was not visited yet.
     next: usize,
 }
 
