@@ -130,8 +130,8 @@ impl SurveyReader {
         }
     }
 
-    /// Hears the next event as [`next`](SurveyReader::next) does, and makes the text the line of one
-    /// that is kept.
+    /// Hears the next event as [`next`](SurveyReader::next) does, and makes the text the line of
+    /// one that is kept.
     ///
     /// # Errors
     /// Those of `next`.
