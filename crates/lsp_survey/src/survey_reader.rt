@@ -18,8 +18,8 @@ ghost use Rattle.lsp_survey.specs.AllShown.{PullsLine};
 
 use crate::notes::{Marks, Openings, SessionNotes};
 use crate::offending::Judged;
+use crate::replay::Replay;
 use crate::session_end::ends;
-use crate::walk::Replay;
 use lsp_docs::Docs;
 use lsp_frame::{Format, Limits, Source};
 use lsp_replay as replay;
