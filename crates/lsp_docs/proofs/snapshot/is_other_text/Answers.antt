@@ -6,7 +6,7 @@ use Rattle.lsp_types.specs.declared.line_ends.LineEnds.TheVariants.{Ignored}
 use Rattle.lsp_text.specs.SameText.{same_text}
 use Rattle.lsp_docs.specs.Stored.{text_of}
 use Rattle.lsp_docs.proofs.Others.{same_characters, same_where}
-use Rattle.lsp_facts.proofs.waiting.is_other.Goals as goal
+use Rattle.lsp_docs.proofs.snapshot.is_other_text.Goals as goal
 
 pub returns-in-Exact : goal.returns-in-Exact
 returns-in-Exact c =
