@@ -239,6 +239,11 @@ server_rest events editor server ruling e f told = (
   told,
 )
 
+pub no_rest : (events : List Event) (editor server : Bool) → false ≡ editor → false ≡ server
+    → RestIs None (rest_of events editor server)
+no_rest events editor server e f =
+    ap (λ b. rest_of events b server) (sym e) ∙ ap (rest_of events false) (sym f)
+
 pub lacks_some : (events : List Event) (rule : ℕ) (ruling : Ruling)
     → Some rule ≡ incomplete (sent_in events)
     → verdict_in ruling ≡ Some (as_given (no_next rule who.Editor events))

@@ -5,7 +5,6 @@ pub mod Records
 pub mod KeptEvents
 pub mod Answering
 pub mod Checking
-pub mod LogVerdicts
 pub mod LogEvents
 pub mod ShownLogs
 pub mod UpgradedLogs

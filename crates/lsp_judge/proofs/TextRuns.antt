@@ -32,8 +32,7 @@ use Rattle.lsp_judge.specs.LogEvents.{BeginsWith, BrokeOff, EndsAt, EndsBy, Foun
 use Rattle.lsp_replay.specs.Standing.{Follows}
 use Rattle.lsp_judge.specs.declared.event_reader.EventReader.{EventReader}
 use Rattle.lsp_judge.proofs.KeptEvents.{kept_clean, kept_no, kept_final}
-use Rattle.lsp_judge.proofs.LogVerdicts.{BeginsBy}
-use Rattle.lsp_judge.proofs.LogEvents.{so_far_by, so_far_clean, so_far_failures}
+use Rattle.lsp_judge.proofs.LogEvents.{BeginsBy, so_far_by, so_far_clean, so_far_failures}
 use Rattle.lsp_judge.proofs.LogEvents.{so_far_few, so_far_range}
 
 -- ---- the message came

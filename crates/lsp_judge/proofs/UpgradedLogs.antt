@@ -1,6 +1,6 @@
 -- The records of a log, written in format 2 as the judge accepts them.
-use Rattle.std.proofs.Common.{◌≡◌, ℕ, List, [], ◌∷◌, ◌++◌, Option, Some, None, Result, Ok}
-use Rattle.std.proofs.Common.{refl, sym, ap, subst, ◌∙◌, append_assoc, append-nil}
+use Rattle.std.proofs.Common.{◌≡◌, ◌<◌, ℕ, List, [], ◌∷◌, ◌++◌, Option, Some, None, Result, Ok}
+use Rattle.std.proofs.Common.{refl, sym, ap, subst, ◌∙◌, append_assoc, append-nil, arith}
 use Rattle.std.specs.Prelude.{option_map}
 use Rattle.lsp_frame.specs.Bounds.{Bounds, IsInRange, profile}
 use Rattle.lsp_frame.specs.Sink.{Wrote, Stopped}
@@ -12,10 +12,11 @@ use Rattle.lsp_frame.specs.declared.format.Format.TheVariants.{Two}
 use Rattle.lsp_docs.specs.Terms.{terms_of}
 use Rattle.lsp_log.specs.Log.{Record, Fits, spelling, IsLog, first_line}
 use Rattle.lsp_log.specs.Reader as reader
-use Rattle.lsp_log.specs.Reader.{empty}
+use Rattle.lsp_log.specs.Reader.{ahead, empty}
 use Rattle.lsp_log.specs.declared.fault.LogCode.{LogCode}
 use Rattle.lsp_verdict.specs.Entries as entries
-use Rattle.lsp_verdict.specs.Entries.{IsAt, EntryIs, HasRecords, HasFirst, IsKnown}
+use Rattle.lsp_verdict.specs.Entries.{IsAt, EntryIs, HasRecords, HasFirst, IsKnown, IsRecord}
+use Rattle.lsp_verdict.specs.Entries.{IfRecord}
 use Rattle.lsp_verdict.specs.Event.{Event}
 use Rattle.lsp_verdict.specs.Given.{verdict_view, as_given}
 use Rattle.lsp_verdict.specs.Outcome.{IsFinal, IsVerdict, Offends, format_or_one}
@@ -44,7 +45,7 @@ use Rattle.lsp_verdict.proofs.Lists.{not_nil}
 use Rattle.lsp_judge.specs.Standing as judge
 use Rattle.lsp_judge.specs.Standing.{Stands, StandsBy, is_given}
 use Rattle.lsp_judge.specs.UpgradedLog.{Accepting, HasTaken, Upgrading, FoundBehind, BrokeBehind}
-use Rattle.lsp_judge.specs.UpgradedLog.{UpgradedAll, UpgradedPart}
+use Rattle.lsp_judge.specs.UpgradedLog.{UpgradedAll, UpgradedPart, ahead_of}
 use Rattle.lsp_judge.specs.declared.ruling.Ruling.{Ruling}
 use Rattle.lsp_judge.specs.declared.ruling.Ruling.TheVariants.{No, BadLog, Memory}
 use Rattle.lsp_verdict.proofs.RunsJudged.{judged_as}
@@ -510,6 +511,15 @@ module _ (limits : Bounds) (start now old mid new : Told) (records : List Record
         source = taken.at.failures;
         sink = stopped.failures ∙ ap after_failure wrote.failures;
       }
+
+-- the entry read next leaves less ahead
+pub fewer_ahead : (before entry : Entry) (r_before r : reader.State) → IsRecord before
+    → IfRecord entry (ahead r < ahead r_before) → ahead_of entry r < ahead_of before r_before
+fewer_ahead (entry.Record x) (entry.Record y) r_before r is less = omega (arith, less)
+fewer_ahead (entry.Record x) entry.End r_before r is less = omega arith
+fewer_ahead (entry.Record x) (entry.Bad number fault) r_before r is less = omega arith
+fewer_ahead entry.End next r_before r is less = absurd is
+fewer_ahead (entry.Bad number fault) next r_before r is less = absurd is
 
 -- ---- the outcome
 
