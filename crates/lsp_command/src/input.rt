@@ -23,8 +23,8 @@ const GATHERED: usize = 65_536;
 /// more than these are ever zeroed before they are written over.
 const PIECE: usize = 2_048;
 
-/// A reader of what a run of this task asks for. Frames are asked for by as much as is read ahead of
-/// other tasks, so nothing is read ahead of them: each piece goes straight to the run.
+/// A reader of what a run of this task asks for. Frames are asked for by as much as is read ahead
+/// of other tasks, so nothing is read ahead of them: each piece goes straight to the run.
 fn reader_for<R: Read + Drop>(
     alloc: Global,
     reader: R,
@@ -123,8 +123,8 @@ impl<'a, R: Read> Source for BufferedInput<'a, R> {
         Ok(count)
     }
 
-    /// Appends bytes to the buffer as the trait says, at most [`PIECE`]: those that were read ahead,
-    /// straight from there, or if there are none, what the reader gives.
+    /// Appends bytes to the buffer as the trait says, at most [`PIECE`]: those that were read
+    /// ahead, straight from there, or if there are none, what the reader gives.
     fn pull_onto(&mut self, buffer: &mut Vec<u8>, most: usize) -> Result<usize, Failed>
         requires room { vec_len buffer.old + most ≤ vec_capacity buffer.old }
         ensures room { vec_capacity buffer.old ≤ vec_capacity buffer.new }

@@ -2,7 +2,7 @@
 use Rattle.std.proofs.Common.{◌≡◌, ℕ, ◌+◌, Bool, true, false, ◌||◌, List, [], ◌∷◌, ◌++◌, map}
 use Rattle.std.proofs.Common.{filter, length, refl, sym, ap, ◌∙◌, inl, inr, arith, true≢false}
 use Rattle.std.proofs.Common.{Option, Some, None, length-append, append_assoc, append-nil, subst}
-use Rattle.std.proofs.Common.{suc, ◌⊎◌}
+use Rattle.std.proofs.Common.{◌⊎◌}
 use Rattle.std.proofs.lemmas.Int.{ints}
 use Rattle.std.proofs.lemmas.Option.{none-some}
 use Rattle.std.proofs.lemmas.List.Folds.{list_any-append}
@@ -19,8 +19,7 @@ use Rattle.lsp_docs.specs.Documents.{Version, versioned, is_after, is_at, is_bef
 use Rattle.lsp_docs.specs.Snapshots.{texts_at}
 use Rattle.lsp_docs.specs.State.{SameOrder, SameVersions, capped}
 use Rattle.lsp_docs.specs.Stored.{versions_in, is_first_within, rest_of, first_before}
-use Rattle.std.proofs.lemmas.Bool.Decides.{nat_tests}
-use Rattle.std.specs.Prelude.{nat_lt, unwrap_or}
+use Rattle.std.specs.Prelude.{unwrap_or}
 use Rattle.std.proofs.lemmas.Bool.Decides.{Decides-int_eq}
 use Rattle.std.proofs.lemmas.Bool.{cases_Bool, not-true, not-false}
 use Rattle.std.proofs.lemmas.List.Elements.{filter-append}
@@ -122,13 +121,6 @@ module _ (n : ℤ) (q : Text → Bool) (test : Version → Bool)
             ∙ any_found es (tail_sorted e es h))
       ]
 
-above_zero : (n : ℕ) → true ≡ nat_lt 0 (suc n)
-above_zero n = grind (arith, nat_tests)
-
-pub any_text : (ts : List Text) → list_any (λ _. true) ts ≡ nat_lt 0 (length ts)
-any_text [] = refl
-any_text (t ∷ ts) = above_zero (length ts)
-
 eq_same : (n : ℤ) → int_eq n n ≡ true
 eq_same n = (Decides-int_eq n n).1 refl
 
@@ -145,13 +137,6 @@ due_found : (n : ℤ) (es : Entries) → IsStrictlySortedBy int_cmp (keys_of es)
     (lookup (int_eq n) es)
 due_found n es h = any_found n (λ _. true) (is_at n) (λ t. eq_same n) (λ v e. eq_flip n v.number e)
     es h
-
--- the queue's words of the two tests
-pub due-there : (n : ℤ) (es : Entries) (ts : List Text) → IsStrictlySortedBy int_cmp (keys_of es)
-    → lookup (int_eq n) es ≡ Some ts → nat_lt 0 (length ts) ≡ list_any (is_at n) (versions_in es)
-due-there n es ts h at =
-    sym (any_text ts) ∙ sym (due_found n es h
-    ∙ ap (found n (λ _. true) (is_at n) (λ t. eq_same n) (λ v e. eq_flip n v.number e)) at)
 
 pub due-absent : (n : ℤ) (es : Entries) → IsStrictlySortedBy int_cmp (keys_of es)
     → lookup (int_eq n) es ≡ None → false ≡ list_any (is_at n) (versions_in es)

@@ -1,16 +1,11 @@
 -- Clauses on results.
 use Rattle.std.proofs.Common.{Result, Ok, Err}
-use Rattle.std.specs.Prelude.{OnOk, OnErr, IfOk}
+use Rattle.std.specs.Prelude.{OnOk, OnErr}
 
 pub on_ok_two : {U E : Type 0} {P Q R : Type 0} (r : Result U E) → (P → Q → R) → OnOk r P → OnOk r Q
     → OnOk r R
 on_ok_two (Ok u) f h k = f h k
 on_ok_two (Err e) f h k = tt
-
-pub if_ok_both : {X E : Type 0} (r : Result X E) (P Q S : X → Type 0) → ((x : X) → P x → Q x → S x)
-    → IfOk r P → IfOk r Q → IfOk r S
-if_ok_both (Ok x) P Q S f p q = f x p q
-if_ok_both (Err e) P Q S f p q = p
 
 pub on_err_two : {U E : Type 0} {P Q R : Type 0} (r : Result U E) → (P → Q → R) → OnErr r P
     → OnErr r Q → OnErr r R

@@ -16,6 +16,7 @@ pub mod Rising
 pub mod Past
 pub mod Agreeing
 pub mod Bindings
+pub mod SetVersions
 pub mod Setters
 pub mod Unmatched
 pub mod Others

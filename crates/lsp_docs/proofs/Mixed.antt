@@ -1,6 +1,6 @@
 -- Texts of which two differ or none.
 use Rattle.std.proofs.Common.{◌≡◌, Bool, true, false, ◌||◌, List, [], ◌∷◌, ◌++◌, refl, sym, ap}
-use Rattle.std.proofs.Common.{◌∙◌, inl, inr, true≢false, ℕ, Some, string_bytes, String, Global}
+use Rattle.std.proofs.Common.{◌∙◌, inl, inr, ℕ, Some, string_bytes, String, Global}
 use Rattle.std.specs.Prelude.{not, slice_get}
 use Rattle.std.specs.List.{list_any}
 use Rattle.std.specs.Str.{bytes_eq, chars}
@@ -31,15 +31,6 @@ others ends text first (t ∷ ts) is =
     rw (others ends text first ts is)
     (ap (λ b. not b || list_any (λ t. not (same_text ends t first)) ts)
     (uri_flip (compared ends text) (compared ends t) ∙ ap (bytes_eq (compared ends t)) is))
-
--- where two differ, one is another than any text
-pub mixed_any : (ends : LineEnds) (text : Text) (ts : List Text) → are_mixed ends ts ≡ true
-    → any_other ends text ts ≡ true
-mixed_any ends text [] mixed = absurd (true≢false (sym mixed))
-mixed_any ends text (first ∷ ts) mixed = elim (cases_Bool (same_text ends text first)) [
-  | inl p ↦ rw p (others ends text first ts (same_is ends text first p) ∙ mixed)
-  | inr p ↦ rw p refl
-]
 
 -- where none do, the first speaks for all
 pub alike_any : (ends : LineEnds) (text first : Text) (ts : List Text)

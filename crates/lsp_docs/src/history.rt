@@ -42,6 +42,7 @@ impl<S: TextStore> History<S> {
         }
     }
 
+    /// The allocator of the list of versions.
     pub(crate) fn alloc(&self) -> Global {
         *self.revisions.allocator()
     }

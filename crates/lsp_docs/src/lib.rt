@@ -30,4 +30,4 @@ pub use laws::{
 };
 pub use open_uris::OpenUris;
 pub use revision::has_text;
-pub use snapshot::Match;
+pub use snapshot::{Match, is_other_text};

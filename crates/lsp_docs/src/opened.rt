@@ -50,6 +50,7 @@ impl<S: TextStore> OpenDocuments<S> {
         }
     }
 
+    /// The allocator of the map of documents.
     pub(crate) fn alloc(&self) -> Global {
         self.documents.allocator()
     }
@@ -79,6 +80,7 @@ impl<S: TextStore> OpenDocuments<S> {
         }
     }
 
+    /// The document of a URI, if it is open: its held version and text, and those kept before it.
     pub(crate) fn get(&self, uri: &str) -> Option<&Document<S>>
         ensures held { option_map
             (λ d. versioned d.now.held.version (S.content d.now.held.store)) result
@@ -113,8 +115,8 @@ impl<S: TextStore> OpenDocuments<S> {
         self.documents.remove_str(uri).is_some()
     }
 
-    /// Makes the changes of a document, where `due` are the texts of the snapshots that wait for the
-    /// version. A refused change leaves the document as it is.
+    /// Makes the changes of a document, where `due` are the texts of the snapshots that wait for
+    /// the version. A refused change leaves the document as it is.
     pub(crate) fn change(
         &mut self,
         terms: Terms,

@@ -111,7 +111,7 @@ impl Texts {
             return true;
         }
         match self.texts.first() {
-            Some(first) => is_not(line_ends, first, text),
+            Some(first) => is_other_text(line_ends, first, text),
             None => false,
         }
     }
@@ -145,8 +145,8 @@ fn is_other<S: TextStore>(line_ends: LineEnds, text: &String, store: &S) -> bool
     !has_text(line_ends, store, text.as_str())
 }
 
-/// Whether it is another text than this one.
-fn is_not(line_ends: LineEnds, other: &String, text: &str) -> bool
+/// Whether it is another text than this one, apart from line ends where these do not count.
+pub fn is_other_text(line_ends: LineEnds, other: &String, text: &str) -> bool
     ensures { result ≡ not (same_text line_ends (chars text.now) (text_of other.now)) }
 {
     match line_ends {

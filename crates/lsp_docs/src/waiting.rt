@@ -37,6 +37,7 @@ impl Model for Waiting {
 }
 
 impl Waiting {
+    /// No snapshot waits, and none was missed.
     pub(crate) fn new(alloc: Global) -> Self
         ensures { result ≡ record { queues = []; missed = 0 } }
     {

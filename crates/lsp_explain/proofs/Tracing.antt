@@ -2,7 +2,7 @@
 use Rattle.std.specs.Prelude.{nat_lt, map, insert, ◌==◌, if◌then◌else◌}
 use Rattle.std.specs.List.{remove}
 use Rattle.std.proofs.Common.{◌≡◌, ◌<◌, ◌≤◌, ℕ, Bool, true, false, List, [], ◌∷◌, ◌++◌, length}
-use Rattle.std.proofs.Common.{get_or, Some, refl, sym, ap, ◌∙◌, arith}
+use Rattle.std.proofs.Common.{get_or, Some, sym, ap, ◌∙◌, arith}
 use Rattle.std.proofs.lemmas.Bool.Decides.{nat_tests}
 use Rattle.lsp_docs.specs.Terms.{Terms}
 use Rattle.lsp_rpc.specs.Act.{Act}
@@ -68,13 +68,6 @@ second_set p (first ∷ second ∷ facts) taken put left now long at is without 
     ap (map fact_view) (puts ∙ ap (λ (l : List code.Fact). insert l 1 put) without)
     ∙ ap (λ (f : Fact). fact_view first ∷ f ∷ map fact_view facts)
     (is ∙ ap (λ (f : code.Fact). held_by p (fact_view f)) at)
-
--- where there is no second fact, they stay
-pub short_stays : (p : EventPlace) (facts : List code.Fact) → length facts < 2
-    → map fact_view facts ≡ with_setter (Some p) (map fact_view facts)
-short_stays p [] short = refl
-short_stays p (first ∷ []) short = refl
-short_stays p (first ∷ second ∷ facts) short = absurd (omega arith)
 
 -- under another rule than 702 no snapshot that differs is named
 pub names_no_texts : (done : List Step) (ps qs : List EventPlace) (until : Until) (rule : ℕ)

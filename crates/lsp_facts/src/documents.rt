@@ -47,15 +47,8 @@ pub fn act_facts<S: TextStore>(
     match act {
         Act::DidOpen { uri, version, text } => {
             let version = *version;
-            opening(
-                alloc,
-                docs,
-                encoding,
-                uri.as_str(),
-                version,
-                text.as_str(),
-                rule,
-            )
+            let text = text.as_str();
+            opening(alloc, docs, encoding, uri.as_str(), version, text, rule)
         }
         Act::DidChange {
             uri,

@@ -7,7 +7,8 @@
 //! a content that is not a message or has params of another shape, [`frame_facts`] and
 //! [`unfinished_facts`] on a stream whose frames have a fault or an end inside one, [`flaw_facts`]
 //! on a log that has a fault. [`refuting`] finds the snapshots whose texts refute a call, and
-//! [`message_texts`] and [`shown_texts`] give two whole texts that differ. [`push_details`] writes the lines of facts, and `write_event` the line that names an event.
+//! [`message_texts`] and [`shown_texts`] give two whole texts that differ. [`push_details`] adds
+//! the lines of facts, [`push_message_event`] and those next to it the line of an event.
 #![tactic(auto)]
 
 mod blame;

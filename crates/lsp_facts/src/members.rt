@@ -14,6 +14,7 @@ use serde_json::Value;
 use std::alloc::Global;
 
 impl Plain {
+    /// Whether a JSON value is such a plain value.
     pub(crate) fn fits(self, value: &Value) -> bool
         ensures { result ≡ spec.fits self (view value.now) }
     {

@@ -3,6 +3,7 @@
 /// What a plain value must be.
 #[derive(Clone, Copy)]
 pub(crate) enum Plain {
+    /// A string.
     Text,
     /// From -2,147,483,648 to 2,147,483,647 (LSP 3.17, Base Types).
     Integer,

@@ -13,10 +13,10 @@ ghost use Rattle.lsp_verdict.specs.Calls.{call_of};
 ghost use Rattle.lsp_facts.specs.Refuting as spec;
 
 use crate::making::{Made, make};
-use lsp_docs::Docs;
+use lsp_docs::{Docs, is_other_text};
 use lsp_replay::EventPlace;
 use lsp_rpc::Act;
-use lsp_text::{TextStore, same_lines};
+use lsp_text::TextStore;
 use lsp_types::{Change, Encoding, LineEnds, Memory};
 use std::alloc::Global;
 
@@ -111,7 +111,7 @@ fn is_other_at(line_ends: LineEnds, texts: &[String], index: usize, text: &str) 
         (slice_get (texts_of texts.now) index) }
 {
     match texts.get(index) {
-        Some(other) => is_other(line_ends, other, text),
+        Some(other) => is_other_text(line_ends, other, text),
         None => false,
     }
 }
@@ -126,19 +126,9 @@ pub(crate) fn first_other<'a>(
         ≡ spec.first_other line_ends (chars text.now) (texts_of texts.now) }
 {
     for other in texts {
-        if is_other(line_ends, other, text) {
+        if is_other_text(line_ends, other, text) {
             return Some(other.as_str());
         }
     }
     None
-}
-
-/// Whether it is another text than this one.
-fn is_other(line_ends: LineEnds, other: &String, text: &str) -> bool
-    ensures { result ≡ spec.is_other line_ends (chars text.now) (text_of other.now) }
-{
-    match line_ends {
-        LineEnds::Exact => other.as_str() != text,
-        LineEnds::Ignored => !same_lines(text, other.as_str()),
-    }
 }

@@ -1,6 +1,6 @@
 -- Reading a header part field by field.
-use Rattle.std.proofs.Common.{◌≡◌, ℕ, ◌<◌, List, [], ◌∷◌, ◌++◌, length, codes, refl, sym, ap, subst, ◌∙◌, append_assoc, append-nil, arith}
-use Rattle.std.proofs.lemmas.List.{length-append}
+use Rattle.std.proofs.Common.{◌≡◌, ℕ, List, [], ◌∷◌, ◌++◌, codes, refl, sym, ap, subst, ◌∙◌}
+use Rattle.std.proofs.Common.{append_assoc, append-nil, arith}
 use Rattle.std.proofs.lemmas.List.Sums.{AllPass-from_list_all}
 use Rattle.std.specs.List.{flat_map, list_all, AllByRecursion}
 use Rattle.lsp_frame.specs.declared.header.Lengths.{Lengths}
@@ -69,12 +69,6 @@ usual_more header rest after counted utf8 so_far begins =
     read_more header rest after usual_type counted counted utf8 utf8 so_far usual_is begins
     (λ values held. subst (λ (w : List (List ℕ)). Holds counted w) (sym (append-nil values)) held)
     (and_true utf8 ∙ ap (λ (b : Bool). utf8 && b) (sym usual_fits))
-
--- and it takes bytes
-pub usual_shortens : (rest after : List ℕ) → rest ≡ line usual_type ++ after
-    → length after < length rest
-usual_shortens rest after begins =
-    omega (arith, ap length begins, length-append (line usual_type) after)
 
 nothing_left : (gs : List Field) (rest : List ℕ) → AllByRecursion IsField gs → rest ≡ flat_map line gs ++ line_end → (rest ≡ line_end → ⊥) → NoFieldBegins rest → ⊥
 nothing_left [] rest each e goes_on none = goes_on e

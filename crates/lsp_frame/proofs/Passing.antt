@@ -1,7 +1,8 @@
 -- A content whose last bytes a source gives, and that is let go.
-use Rattle.std.proofs.Common.{◌≡◌, ℕ, ◌+◌, ◌-◌, ◌<◌, ◌≤◌, List, [], ◌∷◌, ◌++◌, length, take, drop, get_or, replicate, Option, Some, None, Ok, refl, sym, ap, subst, ◌∙◌, arith, append-nil, true, inl, inr}
-use Rattle.std.specs.Prelude.{is_some}
-use Rattle.std.proofs.lemmas.Bool.{cases_lt, true≢false}
+use Rattle.std.proofs.Common.{◌≡◌, ℕ, ◌+◌, ◌-◌, ◌<◌, ◌≤◌, List, [], ◌∷◌, ◌++◌, length, take, drop}
+use Rattle.std.proofs.Common.{get_or, replicate, Option, None, Ok, refl, sym, ap, subst, ◌∙◌, arith}
+use Rattle.std.proofs.Common.{append-nil, inl, inr}
+use Rattle.std.proofs.lemmas.Bool.{cases_lt}
 use Rattle.std.proofs.lemmas.List.{length-append, length-take, length-drop, length-replicate, take_all, take_at, take-append-drop, get_or_append_left, get_or-append_right, get_or-append-add, get_or-replicate}
 use Rattle.lsp_frame.specs.Bounds.{Bounds}
 use Rattle.lsp_frame.specs.Header.{blank_line}
@@ -16,7 +17,6 @@ use Rattle.lsp_frame.specs.declared.start.FrameSize.{FrameSize}
 use Rattle.lsp_frame.proofs.Frames.{frames_more, frames_push, says_along}
 use Rattle.lsp_frame.proofs.Splits.{split_front}
 use Rattle.lsp_frame.proofs.Starts.{header_stays, front_of, unfinished_content}
-use Rattle.lsp_frame.specs.Buffer.{AheadStands}
 use Rattle.lsp_frame.proofs.Steps.{drop_take, open_rest, state_at}
 use Rattle.lsp_frame.proofs.Telling.{gave_nothing, gave_then}
 
@@ -98,10 +98,6 @@ whole_misses s size starts whole missing misses =
     let unfinished = misses.unfinished [] misses.some in
     unfinished.no_frame (drop size.header (take n s.rest)) (drop n s.rest) (take n s.rest, append-nil s.rest ∙ sym (take-append-drop n s.rest), front.is_frame)
 
--- behind a fault nothing is missing
-pub fault_misses : (s : State) → is_some s.fault ≡ true → MissesNone s
-fault_misses s some missing misses = absurd (true≢false (sym some ∙ ap (λ (f : Option ℕ). is_some f) misses.no_fault))
-
 -- ---- what was given
 
 pub gone_nothing : (now : Told) → GavePast now now 0
@@ -140,20 +136,6 @@ passed old new before after missing n misses same past let_go =
       let_go = let_go;
       stands = λ bytes contents stands. subst (λ (s : State). StandsFor s (bytes ++ all.piece) (contents ++ frame.0 ∷ [])) (sym let_go) (passed_stands old (room_for old (window_of missing)) bytes all.piece contents frame.0 misses.no_fault frame.1 stands);
     }
-
-ahead_stands : (limits : Bounds) (rest : List ℕ) (ahead : Option FrameSize) (size : FrameSize) → ahead ≡ Some size → AheadStands limits rest ahead → StartsWithHeader limits rest size
-ahead_stands limits rest ahead size is stands = subst (AheadStands limits rest) is stands
-
--- ... in a buffer
-pub misses_at : (limits : Bounds) (items : List ℕ) (start end : ℕ) (fault : Option ℕ) (ahead : Option FrameSize) (size : FrameSize) (s : State) → state_at limits items start end fault ≡ s → fault ≡ None → ahead ≡ Some size → start ≤ end → end ≤ length items
-    → AheadStands limits (drop start (take end items)) ahead → end - start - size.header < size.content
-    → Misses s (record { content = size.content; bytes = size.content - (end - start - size.header) })
-misses_at limits items start end fault ahead size s is none some from fits stands short =
-    let now = state_at limits items start end fault in
-    let len : length now.rest ≡ end - start = omega (arith, length-drop start (take end items), length-take end items, from, fits) in
-    subst (λ (x : State). Misses x (record { content = size.content; bytes = size.content - (end - start - size.header) })) is
-    (subst (λ (n : ℕ). Misses now (record { content = size.content; bytes = size.content - (n - size.header) })) len
-    (misses now size none (ahead_stands limits now.rest ahead size some stands) (omega (arith, len, short))))
 
 -- a decoder that holds nothing
 pub emptied : (limits : Bounds) (items left : List ℕ) (start end more : ℕ) (fault : Option ℕ) (s : State) → state_at limits items start end fault ≡ s → s.fault ≡ None → length left ≡ room_for (state_at limits items start end fault) more

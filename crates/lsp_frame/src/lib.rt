@@ -33,4 +33,4 @@ pub use laws::{
 };
 pub use limits::Limits;
 pub use lsp_types::Memory;
-pub use write::{WriteFault, put_all, put_number, write_frame};
+pub use write::{WriteFault, put_all, write_frame};

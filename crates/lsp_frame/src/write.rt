@@ -4,7 +4,7 @@ ghost use Rattle.lsp_frame.specs.Header.{blank_line};
 ghost use Rattle.lsp_frame.specs.Sink.{Writes, canonical};
 
 use crate::io::{Failed, Sink};
-use itoa::{Buffer, write_digits};
+use itoa::write_digits;
 use thiserror::Error;
 
 /// A call of the sink failed: what was written is only a prefix of what was due.
@@ -28,14 +28,6 @@ pub fn put_all<W: Sink>(writer: &mut W, bytes: &[u8]) -> Result<(), WriteFault>
         rest = &rest[count..];
     }
     Ok(())
-}
-
-/// Writes the number in decimal digits, without leading zeros.
-pub fn put_number<W: Sink>(writer: &mut W, number: u64) -> Result<(), WriteFault>
-    ensures { Writes (W.told writer.old) (W.told writer.new) result (decimal number) }
-{
-    let mut buffer = Buffer::new();
-    put_all(writer, buffer.format(number).as_bytes())
 }
 
 /// Puts bytes into a line so that they end there, and gives where they start.

@@ -36,10 +36,6 @@ pub lex_close : (xs : List ℕ) → lex in_string (34 ∷ xs) ≡ lex between xs
 unfolding lex
 lex_close xs = refl
 
-pub lex_escape : (y : ℕ) (xs : List ℕ) → lex in_string (92 ∷ y ∷ xs) ≡ lex in_string xs
-unfolding lex
-lex_escape y xs = refl
-
 no_mark : (q b o s : Bool) (x : ℕ) (xs : List ℕ) (k : Mode → List Lexeme) → q ≡ false → b ≡ false
     → lex_byte in_string (cond q quote (cond b backslash (cond o operator (cond s space other)))) x
     xs k ≡ k in_string

@@ -1,20 +1,14 @@
 -- What a content says on its side, of what was read of it.
-use Rattle.std.proofs.Common.{◌≡◌, ℕ, List, Option, Some, None, inl, inr, refl}
+use Rattle.std.proofs.Common.{◌≡◌, ℕ, List, Option, Some, None, inr, refl}
 use Rattle.lsp_rpc.specs.Act.{Act}
 use Rattle.lsp_rpc.specs.Fault.{Names, rule_unless_read}
 use Rattle.lsp_rpc.specs.Message.{Message}
 use Rattle.lsp_rpc.specs.Params.{act_at}
-use Rattle.lsp_rpc.specs.Reading.{Reads, IsRefusal}
+use Rattle.lsp_rpc.specs.Reading.{Reads}
 use Rattle.lsp_rpc.specs.declared.fault.RpcFault.{RpcFault}
 use Rattle.lsp_rpc.specs.declared.fault.RpcFault.TheVariants.{Rule, Memory}
 use Rattle.lsp_outline.specs.Spoken.{IsUnspoken}
 use Rattle.lsp_types.specs.declared.side.Side.{Side}
-
--- a content that is no message says nothing
-pub unread : (side : Side) (content : List ℕ) (fault : RpcFault) → IsRefusal content fault
-    → IsUnspoken side content fault
-unread side content (Rule rule) breaks = inl breaks
-unread side content Memory h = tt
 
 -- nor does one whose params are not as its method has them
 bad_by : (side : Side) (content : List ℕ) (m : Message) (o : Option Act) (fault : RpcFault)

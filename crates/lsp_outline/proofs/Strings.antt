@@ -1,11 +1,11 @@
 -- The content of a string, at a place of the text.
-use Rattle.std.proofs.Common.{◌≡◌, ℕ, suc, ◌+◌, ◌-◌, ◌<◌, ◌≤◌, Bool, true, false, not, ◌||◌, cond}
+use Rattle.std.proofs.Common.{◌≡◌, ℕ, suc, ◌+◌, ◌-◌, ◌<◌, ◌≤◌, Bool, true, false, ◌||◌, cond}
 use Rattle.std.proofs.Common.{◌&&◌, ◌==◌, List, [], ◌∷◌, ◌++◌, length, take, drop, get_or, Option}
 use Rattle.std.proofs.Common.{Some, None, option_and_then, lt_of_not-le, refl, sym, ap, ◌∙◌, arith}
 use Rattle.std.proofs.lemmas.List.{drop_more, append_assoc, append-nil, drop-drop, get_or_past}
 use Rattle.std.proofs.lemmas.List.{length-drop}
 use Rattle.std.proofs.lemmas.List.Sums.{prefix_len-le-length}
-use Rattle.std.proofs.lemmas.Bool.{or_parts, not-true, ne_eqb, le-ltb}
+use Rattle.std.proofs.lemmas.Bool.{or_parts, not-true}
 use Rattle.std.proofs.lemmas.Str.{IsCharBoundary-after_ascii}
 use Rattle.std.specs.List.{prefix_len}
 use Rattle.std.specs.Str.{IsUtf8, IsCharBoundary}
@@ -216,12 +216,6 @@ pub after_quote : (d : List ℕ) (i : ℕ) → IsUtf8 d → get_or d i 0 ≡ 34 
 after_quote d i text mark =
     let within : i < length d = lt_of_not-le (λ past. omega (arith, get_or_past d i 0 past)) in
     IsCharBoundary-after_ascii d i text within (omega (arith, mark))
-
--- ---- what escapes pass
-
-pub hex_plain : (x : ℕ) → 48 ≤ x → (x ≡ 92 → ⊥) → is_plain x ≡ true
-hex_plain x l n = λ j. not (ne_eqb x 34 (λ e. omega arith) j || ne_eqb x 92 n j || le-ltb x 32
-    (omega arith) j)
 
 pub four_plain : (d : List ℕ) (i : ℕ) → i + 4 ≤ length d → is_plain (get_or d i 0) ≡ true
     → is_plain (get_or d (i + 1) 0) ≡ true → is_plain (get_or d (i + 2) 0) ≡ true

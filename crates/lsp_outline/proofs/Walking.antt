@@ -590,15 +590,6 @@ whole_value d from end last x before found behind past =
     (ap (λ ls. converted of_json (value max_depth (punctuate fresh ls))) (sym before)
     ∙ found.read fresh refl ∙ ap (λ ts. Some (x, ts)) (over d end last behind past))
 
-pub whole_object : (d : List ℕ) (from end last : ℕ) (ms : Members)
-    → lex between (drop from d) ≡ lex between d → get_or d from 0 ≡ 123
-    → AreMembers (max_depth - 1) d (from + 1) end ms
-    → lex between (drop last d) ≡ lex between (drop end d) → length d ≤ last
-    → read d ≡ Some (tree.object ms)
-whole_object d from end last ms before first rest behind past =
-    whole_value d from end last (tree.object ms) before
-    (object_value max_depth d from end ms first (omega arith) rest) behind past
-
 -- what reads as JSON has a byte at least
 pub some_content : (content : List ℕ) (x : Data) → read content ≡ Some x → 0 < length content
 unfolding lex punctuate value

@@ -20,6 +20,7 @@ pub(crate) trait Gathered: Drop {
     /// What the members leave.
     ghost gathers: { Members → Self → Type 0 };
 
+    /// Nothing gathered yet.
     fn none() -> Self
         ensures { gathers no_members result };
 

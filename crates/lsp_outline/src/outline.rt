@@ -148,6 +148,7 @@ pub struct MessageReader {
 }
 
 impl MessageReader {
+    /// A reader whose messages are held in memory from this allocator. It has read nothing.
     pub fn new(alloc: Global) -> MessageReader {
         MessageReader { alloc }
     }

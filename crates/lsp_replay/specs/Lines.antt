@@ -1,13 +1,11 @@
 -- The lines that show events, and their words.
-use Rattle.std.specs.Prelude.{◌≡◌, ℕ, List, [], ◌∷◌, ◌++◌, chars, length, unwrap_or}
+use Rattle.std.specs.Prelude.{◌≡◌, ℕ, List, [], ◌∷◌, ◌++◌, chars, unwrap_or}
 use Rattle.std.specs.List.{flat_map}
-use Rattle.lsp_docs.specs.State.{capped}
 use Rattle.lsp_rpc.specs.Outline.{outline}
 use Rattle.lsp_rpc.specs.View.{act_view, message_view}
 use Rattle.lsp_verdict.specs.declared.lines.Lines.{Lines}
 use Rattle.lsp_verdict.specs.Event.{Event, message, fault, snapshot}
 use Rattle.lsp_verdict.specs.Shown.{event_line}
-use Rattle.lsp_verdict.specs.Verdict.{belongs_to, count_of, whose}
 use Rattle.lsp_replay.specs.declared.heard.Heard.{Heard}
 use Rattle.lsp_replay.specs.declared.heard.Heard.TheVariants as heard
 use Rattle.lsp_replay.specs.declared.heard.EventPlace.{EventPlace}
@@ -23,11 +21,6 @@ IsHeard (fault side rule) given = ⊥
 IsHeard (snapshot uri number text) (heard.Message side spoken) = ⊥
 IsHeard (snapshot uri number text) (heard.Snapshot version name shown answer) =
     (uri ≡ name.now) × (number ≡ version) × (text ≡ chars shown.now)
-
--- the place of the event that comes after these, as it is counted
-pub record IsPlace (before : List Event) (event : Event) (place : EventPlace) : Type 0 where
-  pub among_all : place.event ≡ capped (length (before ++ event ∷ []))
-  pub among_own : place.number ≡ capped (count_of (belongs_to (whose event)) (before ++ event ∷ []))
 
 -- the line of the event at this place, empty for a fault
 abbrev pub line_of : Lines → EventPlace → Event → List ℕ

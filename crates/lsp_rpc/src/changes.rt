@@ -48,6 +48,10 @@ fn change_of(value: Value) -> Option<Change>
     Some(Change { span, text })
 }
 
+/// The changes that a JSON array lists (LSP 3.17, TextDocumentContentChangeEvent).
+///
+/// # Errors
+/// 209 where the value is not an array, or an item has another shape; `Memory`.
 pub(crate) fn changes_of(alloc: Global, value: Value) -> Result<Vec<Change>, RpcFault>
     ensures { Gives (λ v. changes_view v.items) rules.BAD_METHOD_PARAMS result
         (spec.array_of spec.change_at (view value)) }

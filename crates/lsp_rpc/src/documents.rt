@@ -27,6 +27,10 @@ fn version_of(document: &Value) -> Option<i32>
     integer_of(document.get("version")?)
 }
 
+/// The opening that params of this shape ask for (LSP 3.17, DidOpenTextDocumentParams).
+///
+/// # Errors
+/// 209 where the params have another shape; `Memory`.
 pub(crate) fn did_open_of(params: Value) -> Result<Act, RpcFault>
     ensures { Gives act_view rules.BAD_METHOD_PARAMS result (spec.did_open_at (view params)) }
 {
@@ -37,6 +41,10 @@ pub(crate) fn did_open_of(params: Value) -> Result<Act, RpcFault>
     Ok(Act::DidOpen { uri, version, text })
 }
 
+/// The change that params of this shape ask for (LSP 3.17, DidChangeTextDocumentParams).
+///
+/// # Errors
+/// 209 where the params have another shape; `Memory`.
 pub(crate) fn did_change_of(alloc: Global, params: Value) -> Result<Act, RpcFault>
     ensures { Gives act_view rules.BAD_METHOD_PARAMS result (spec.did_change_at (view params)) }
 {
@@ -51,6 +59,10 @@ pub(crate) fn did_change_of(alloc: Global, params: Value) -> Result<Act, RpcFaul
     })
 }
 
+/// The closing that params of this shape ask for (LSP 3.17, DidCloseTextDocumentParams).
+///
+/// # Errors
+/// 209 where the params have another shape; `Memory`.
 pub(crate) fn did_close_of(params: Value) -> Result<Act, RpcFault>
     ensures { Gives act_view rules.BAD_METHOD_PARAMS result (spec.did_close_at (view params)) }
 {
@@ -58,6 +70,10 @@ pub(crate) fn did_close_of(params: Value) -> Result<Act, RpcFault>
     Ok(Act::DidClose { uri })
 }
 
+/// The saving that params of this shape report (LSP 3.17, DidSaveTextDocumentParams).
+///
+/// # Errors
+/// 209 where the params have another shape; `Memory`.
 pub(crate) fn did_save_of(params: Value) -> Result<Act, RpcFault>
     ensures { Gives act_view rules.BAD_METHOD_PARAMS result (spec.did_save_at (view params)) }
 {

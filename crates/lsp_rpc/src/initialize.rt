@@ -61,6 +61,11 @@ fn offer_of(alloc: Global, params: Value) -> Result<Offer, RpcFault>
     Ok(Offer { encodings, token })
 }
 
+/// The `initialize` that params of this shape ask for, with what they offer (LSP 3.17,
+/// InitializeParams).
+///
+/// # Errors
+/// 209 where the params have another shape; `Memory`.
 pub(crate) fn initialize_of(alloc: Global, params: Value) -> Result<Act, RpcFault>
     ensures { Gives act_view rules.BAD_METHOD_PARAMS result (spec.initialize_at (view params)) }
 {

@@ -85,6 +85,7 @@ pub(crate) fn uinteger_of(value: &Value) -> Option<u32>
     }
 }
 
+/// The items of the array that the value is, moved out of it.
 pub(crate) fn items_of(value: Value) -> Option<Vec<Value>>
     ensures { option_map (λ v. items_view v.items) result ≡ as_array (view value) }
 {
@@ -94,6 +95,10 @@ pub(crate) fn items_of(value: Value) -> Option<Vec<Value>>
     }
 }
 
+/// The strings of the array that the value is, moved out of it.
+///
+/// # Errors
+/// 209 where the value is not an array of strings; `Memory`.
 pub(crate) fn strings_of(alloc: Global, value: Value) -> Result<Vec<String>, RpcFault>
     ensures { Gives (λ v. texts_view v.items)
         rules.BAD_METHOD_PARAMS result (spec.array_of as_str (view value)) }

@@ -9,6 +9,7 @@ ghost use Rattle.lsp_rpc.specs.Shape as shape;
 use crate::message::Id;
 use serde_json::Value;
 
+/// Whether the value is this string.
 pub(crate) fn is_text(value: &Value, text: &str) -> bool
     ensures { result ≡ shape.is_text text.now (view value.now) }
 {
@@ -18,6 +19,7 @@ pub(crate) fn is_text(value: &Value, text: &str) -> bool
     }
 }
 
+/// An integer from -2,147,483,648 to 2,147,483,647 (LSP 3.17, Base Types).
 pub(crate) fn integer_of(value: &Value) -> Option<i32>
     ensures { result ≡ as_integer (view value.now) }
 {
@@ -39,6 +41,7 @@ pub(crate) fn id_in(value: Value) -> Option<Id>
     }
 }
 
+/// Whether the value is an object or an array, as params must be (JSON-RPC 2.0, section 4.2).
 pub(crate) fn is_structure(value: &Value) -> bool
     ensures { result ≡ shape.is_structure (view value.now) }
 {

@@ -15,6 +15,10 @@ pub(crate) struct OpenInitialize {
     pub(crate) offer: Offer,
 }
 
+/// An open `initialize` of this id, with a copy of what it offers.
+///
+/// # Errors
+/// `Memory` where memory was refused.
 pub(crate) fn open_initialize(
     alloc: Global,
     id: &Id,

@@ -89,6 +89,7 @@ impl Pending {
         }
     }
 
+    /// Whether a request with this id is open.
     pub(crate) fn contains(&self, id: &Id) -> bool
         ensures { result ≡ has_id (id_view id.now) self.now }
     {

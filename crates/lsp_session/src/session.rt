@@ -1,6 +1,7 @@
 //! The messages of two sides, judged one after another (LSP 3.17, "Server lifecycle").
 ghost use Rattle.std.specs.Prelude.{◌≡◌, ℕ, Some, true, false, ◌++◌, ◌∷◌, [], List, None, IfErr};
-ghost use Rattle.std.specs.Prelude.{IfOk, OnOk, OnErr, map, not, option_map, option_to_list, Option};
+ghost use Rattle.std.specs.Prelude.{IfOk, OnOk, OnErr, Option, map, not, option_map};
+ghost use Rattle.std.specs.Prelude.{option_to_list};
 ghost use Rattle.lsp_rpc.specs.Ident.{id_view};
 ghost use Rattle.lsp_rpc.specs.View.{act_view, message_view, offer_view};
 ghost use Rattle.lsp_session.specs.ByState as by_state;

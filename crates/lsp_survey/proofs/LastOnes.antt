@@ -76,12 +76,3 @@ held-push view most old mid new x all some room more are =
         ≡ (if b then map view old else drop 1 (map view old))
     by_test true = refl
     by_test false = sym (drop-map view 1 old)
-
--- fewer than may be held are all
-pub few_held : {A : Type 0} (most : ℕ) (xs : List A)
-    → nat_lt (length (last_ones most xs)) most ≡ nat_lt (length xs) most
-few_held most xs = ap (λ (n : ℕ). nat_lt n most) (length-drop (length xs - most) xs)
-    ∙ less (length xs) most
-  where
-    less : (n m : ℕ) → nat_lt (n - (n - m)) m ≡ nat_lt n m
-    less n m = grind (arith, nat_tests)

@@ -27,7 +27,7 @@ use Rattle.lsp_survey.specs.Reads.{EndedBehind, EndIs, SoFar, Ended, IsSurveyOf,
 use Rattle.lsp_survey.specs.Walking.{Walks}
 use Rattle.lsp_survey.specs.declared.survey_reader.SurveyEnd.{SurveyEnd}
 use Rattle.lsp_survey.specs.declared.survey_reader.SurveyReader.{SurveyReader}
-use Rattle.lsp_survey.specs.declared.walk.Replay.{Replay}
+use Rattle.lsp_survey.specs.declared.replay.Replay.{Replay}
 use Rattle.lsp_verdict.specs.Event.{Event, sent_in}
 use Rattle.lsp_verdict.specs.Given.{offence_view, verdict_view}
 use Rattle.lsp_verdict.specs.LookBack.{each_from}

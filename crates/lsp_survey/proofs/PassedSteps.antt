@@ -5,7 +5,7 @@ use Rattle.std.proofs.Common.{subst, ◌∙◌}
 use Rattle.serde_json.specs.Data.{Data}
 use Rattle.lsp_docs.specs.Terms.{Terms}
 use Rattle.lsp_rpc.specs.Ident.{Ident, id_view, same_id}
-use Rattle.lsp_rpc.specs.Message.{Message, Reply, request, notification, response, result, error}
+use Rattle.lsp_rpc.specs.Message.{Message, request, notification, response, result, error}
 use Rattle.lsp_rpc.specs.Outline.{outline}
 use Rattle.lsp_rpc.specs.View.{message_view}
 use Rattle.lsp_rpc.specs.declared.message.Id.{Id}
@@ -29,16 +29,6 @@ set_true : (own old : Bool) → (if own then true else old)
     ≡ unwrap_or (if own then Some true else None) old
 set_true true old = refl
 set_true false old = refl
-
-set_false : (own told old : Bool) → told ≡ true → (if own then false else old)
-    ≡ unwrap_or (if own && told then Some false else None) old
-set_false true told old is = ap (λ b. unwrap_or (if b then Some false else None) old) (sym is)
-set_false false told old is = refl
-
-stays : (own told old : Bool) → told ≡ false
-    → old ≡ unwrap_or (if own && told then Some false else None) old
-stays true told old is = ap (λ b. unwrap_or (if b then Some false else None) old) (sym is)
-stays false told old is = refl
 
 -- what a side's request with this id comes to, if it is noted
 asked_sets : (by : Side) (o : Option Ident) (rule : ℕ) (old new : Passed) → SetsAny by o old new
@@ -70,43 +60,7 @@ module _ (rule : ℕ) (old new : Passed) where
   asked_passes Server id method params sets Server k =
       asked_sets Server (Some id) rule old new sets Server k
 
-  pub answered_passes : (by : Side) (id : Ident) (reply : Reply)
-      → (rule == rules.RESPONSE_TO_NO_OPEN_REQUEST) ≡ true
-      → Sets (other_side by) id false old new → Passes rule by (response (Some id) reply) old new
-  answered_passes Editor id reply is sets Editor k = sets Editor k
-  answered_passes Editor id reply is sets Server k =
-      sets Server k ∙ set_false (same_id id (id_view k))
-      (rule == rules.RESPONSE_TO_NO_OPEN_REQUEST) (has_passed old Server (id_view k)) is
-  answered_passes Server id reply is sets Editor k =
-      sets Editor k ∙ set_false (same_id id (id_view k))
-      (rule == rules.RESPONSE_TO_NO_OPEN_REQUEST) (has_passed old Editor (id_view k)) is
-  answered_passes Server id reply is sets Server k = sets Server k
-
 module _ (rule : ℕ) (old : Passed) where
-  pub other_passes : (by : Side) (id : Ident) (reply : Reply)
-      → (rule == rules.RESPONSE_TO_NO_OPEN_REQUEST) ≡ false
-      → Passes rule by (response (Some id) reply) old old
-  other_passes Editor id reply is Editor k = refl
-  other_passes Editor id reply is Server k =
-      stays (same_id id (id_view k)) (rule == rules.RESPONSE_TO_NO_OPEN_REQUEST)
-      (has_passed old Server (id_view k)) is
-  other_passes Server id reply is Editor k =
-      stays (same_id id (id_view k)) (rule == rules.RESPONSE_TO_NO_OPEN_REQUEST)
-      (has_passed old Editor (id_view k)) is
-  other_passes Server id reply is Server k = refl
-
-  pub null_passes : (by : Side) (reply : Reply) → Passes rule by (response None reply) old old
-  null_passes Editor reply Editor k = refl
-  null_passes Editor reply Server k = refl
-  null_passes Server reply Editor k = refl
-  null_passes Server reply Server k = refl
-
-  pub notified_passes : (by : Side) (method : List ℕ) (params : Option Data)
-      → Passes rule by (notification method params) old old
-  notified_passes Editor method params Editor k = refl
-  notified_passes Editor method params Server k = refl
-  notified_passes Server method params Editor k = refl
-  notified_passes Server method params Server k = refl
 
 -- ---- what an event does
 

@@ -29,7 +29,7 @@ use Rattle.lsp_survey.specs.declared.offending.Judged.{Judged}
 use Rattle.lsp_survey.specs.declared.offending.Judged.TheVariants as heard
 use Rattle.lsp_survey.specs.declared.offending.OffendingEvent.{OffendingEvent}
 use Rattle.lsp_survey.specs.declared.offending.OffendingEvent.TheVariants as what
-use Rattle.lsp_survey.specs.declared.walk.Replay.{Replay}
+use Rattle.lsp_survey.specs.declared.replay.Replay.{Replay}
 use Rattle.lsp_types.specs.declared.change.SyncKind.{SyncKind}
 use Rattle.lsp_types.specs.declared.position.Encoding.{Encoding}
 use Rattle.lsp_types.specs.declared.side.Side.{Side}

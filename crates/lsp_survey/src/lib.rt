@@ -15,12 +15,12 @@ mod laws;
 mod notes;
 mod offence_count;
 mod offending;
+mod replay;
 mod run;
 mod session_end;
 mod show;
 mod survey_reader;
 mod text;
-mod walk;
 
 pub use laws::{all_shown_is_report, one_all_shown, one_kept_text};
 pub use lsp_verdict::Listing;

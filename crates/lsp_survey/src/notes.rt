@@ -3,11 +3,11 @@
 //!
 //! [`Notes`] says which documents are lost: an offence left the held text another than the
 //! sender's. [`Sides`] says how the bytes of the two sides failed. [`Marks`] says which events left
-//! a document as it is, [`Openings`] which opened and closed documents last, and [`SessionNotes`] by
-//! which requests were asked and answered, which led to the phase, and what is remarkable about the
-//! messages, though it breaks no rule. Of an offence, [`wants_handshake`] and [`wants_text`] say
-//! whether it may follow from an earlier one, and
-//! [`breaks_handshake`] whether it leaves the handshake lost.
+//! a document as it is, [`Openings`] which opened and closed documents last, and [`SessionNotes`]
+//! by which requests were asked and answered, which led to the phase, and what is remarkable about
+//! the messages, though it breaks no rule. Of an offence, [`wants_handshake`] and [`wants_text`]
+//! say whether it may follow from an earlier one, and [`breaks_handshake`] whether it leaves the
+//! handshake lost.
 
 mod asked;
 mod by_id;

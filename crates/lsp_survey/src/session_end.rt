@@ -9,7 +9,7 @@ ghost use Rattle.lsp_verdict.specs.Offences.{Noted, events_of, kept_of};
 ghost use Rattle.lsp_verdict.specs.Verdict.{no_next};
 ghost use Rattle.lsp_types.specs.declared.rules.TheConstants as rules;
 
-use crate::walk::Replay;
+use crate::replay::Replay;
 use lsp_rpc::Memory;
 use lsp_types::rules;
 use lsp_verdict::{Completeness, Counts, Offence, Who};

@@ -18,8 +18,8 @@ ghost use Rattle.lsp_survey.specs.AllShown.{PullsLine};
 
 use crate::notes::{Marks, Openings, SessionNotes};
 use crate::offending::Judged;
+use crate::replay::Replay;
 use crate::session_end::ends;
-use crate::walk::Replay;
 use lsp_docs::Docs;
 use lsp_frame::{Format, Limits, Source};
 use lsp_replay as replay;
@@ -130,8 +130,8 @@ impl SurveyReader {
         }
     }
 
-    /// Hears the next event as [`next`](SurveyReader::next) does, and makes the text the line of one
-    /// that is kept.
+    /// Hears the next event as [`next`](SurveyReader::next) does, and makes the text the line of
+    /// one that is kept.
     ///
     /// # Errors
     /// Those of `next`.

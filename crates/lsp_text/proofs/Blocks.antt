@@ -97,13 +97,6 @@ pair_behind enc bs width at behind more h some is =
           );
     }
 
--- what the last bytes bring beyond the units after a column is left of it
-pub column_passed : (enc : Encoding) (bs : List ℕ) (width column at behind after : ℕ)
-    → IsPassed enc bs width at behind → column ≤ width → after ≡ width - column → after ≤ behind
-    → IsPassed enc bs column at (behind - after)
-column_passed enc bs width column at behind after h le is some =
-    record { within = h.within; left_is = omega (arith, h.left_is, le, is, some) }
-
 -- a byte that goes on with a character brings nothing
 inside_byte : (enc : Encoding) (x : ℕ) → enc ≢ Utf8 → 128 ≤ x → x < 192 → byte_units enc x ≡ 0
 inside_byte Utf8 x wide low high = absurd (wide refl)

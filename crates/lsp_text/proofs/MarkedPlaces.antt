@@ -1,7 +1,9 @@
 -- The places after line ends, by marks on the bytes that may end a line.
-use Rattle.std.proofs.Common.{◌≡◌, ◌≢◌, ◌↔◌, ◌<◌, ◌≤◌, ◌+◌, ◌-◌, ◌&&◌, ◌||◌, ℕ, zero, suc, Bool, true, false, cond, eqb, List, [], ◌∷◌, ◌++◌, length, take, drop, map, get_or, max, bit_or, refl, sym, ap, ◌∙◌, ⊎_elim, append_assoc, arith}
+use Rattle.std.proofs.Common.{◌≡◌, ◌≢◌, ◌↔◌, ◌<◌, ◌≤◌, ◌+◌, ◌-◌, ◌&&◌, ◌||◌, ℕ, zero, suc, Bool}
+use Rattle.std.proofs.Common.{true, false, cond, eqb, List, [], ◌∷◌, ◌++◌, length, take, drop, map}
+use Rattle.std.proofs.Common.{get_or, max, bit_or, refl, sym, ap, ◌∙◌, ⊎_elim, arith}
 use Rattle.std.proofs.lemmas.List.{drop_more, get_or_past}
-use Rattle.std.proofs.lemmas.Bool.{true≢false, false≢true, cond-true, cond-false, cases_lt, cases_eq}
+use Rattle.std.proofs.lemmas.Bool.{true≢false, false≢true, cond-false, cases_lt, cases_eq}
 use Rattle.std.proofs.lemmas.Simd.{get_or-chunk, length-chunk, bit_mask_l}
 use Rattle.std.proofs.lemmas.Nat.Bits.{bit_at_or, bit_at-zero}
 use Rattle.std.specs.Int.{bit_at}
@@ -14,11 +16,6 @@ use Rattle.lsp_text.specs.Ends.{is_end_at, is_mark, places_behind, IsMarked, Are
 places_at : (bs : List ℕ) (i : ℕ) → i < length bs →
     places_behind i (drop i bs) ≡ cond (is_end_at bs i) ((i + 1) ∷ places_behind (i + 1) (drop (i + 1) bs)) (places_behind (i + 1) (drop (i + 1) bs))
 places_at bs i lt = ap (places_behind i) (drop_more bs i 0 lt)
-
-pub end_pushed : (bs places : List ℕ) (i : ℕ) → i < length bs → is_end_at bs i ≡ true → ArePlacesTo bs i places (i + 1) (places ++ (i + 1) ∷ [])
-end_pushed bs places i lt is =
-    append_assoc places ((i + 1) ∷ []) (places_behind (i + 1) (drop (i + 1) bs))
-    ∙ ap (λ (xs : List ℕ). places ++ xs) (sym (places_at bs i lt ∙ cond-true _ _ _ is))
 
 pub not_pushed : (bs places : List ℕ) (i : ℕ) → i < length bs → is_end_at bs i ≡ false → ArePlacesTo bs i places (i + 1) places
 not_pushed bs places i lt is = ap (λ (xs : List ℕ). places ++ xs) (sym (places_at bs i lt ∙ cond-false _ _ _ is))

@@ -1,9 +1,9 @@
 -- Places that are moved, one after another.
-use Rattle.std.proofs.Common.{◌≡◌, ◌<◌, ◌≤◌, ◌+◌, ◌-◌, ℕ, List, [], ◌∷◌, ◌++◌, length, map, take, drop, get_or, set, sym, ap, subst, ◌∙◌, arith, append_assoc}
-use Rattle.std.specs.Prelude.{EachIndex, slice_index}
+use Rattle.std.proofs.Common.{◌≡◌, ◌<◌, ◌≤◌, ◌+◌, ◌-◌, ℕ, List, [], ◌∷◌, ◌++◌, length, map, take}
+use Rattle.std.proofs.Common.{drop, get_or, set, sym, ap, ◌∙◌, arith, append_assoc}
 use Rattle.std.proofs.lemmas.List.{append-nil, length-map, length-take-le, get_or-append_right, get_or-drop, set-append_right, drop_more, map_more, take_all, drop_all}
 use Rattle.std.proofs.lemmas.Bool.{cond-true, cond-false, lt-ltb, le-ltb}
-use Rattle.lsp_text.specs.Ends.{moved_place, CanMove}
+use Rattle.lsp_text.specs.Ends.{moved_place}
 
 -- some places are moved, and those after them not yet
 abbrev pub moved_to : (ℕ → ℕ) → List ℕ → ℕ → List ℕ
@@ -43,8 +43,3 @@ moved_behind from removed inserted place lt = sym (cond-true _ _ _ (lt-ltb from 
 
 pub moved_before : (from removed inserted place : ℕ) → place ≤ from → place ≡ moved_place from removed inserted place
 moved_before from removed inserted place le = sym (cond-false _ _ _ (le-ltb from place le))
-
-pub can_move : (f : ℕ → ℕ) (old now : List ℕ) (i from removed inserted : ℕ) → EachIndex old (λ k. CanMove from removed inserted (slice_index old k)) → now ≡ moved_to f old i → i < length old → from < get_or now i 0 →
-    (from + removed ≤ get_or now i 0) × (get_or now i 0 - removed + inserted < 65536)
-can_move f old now i from removed inserted each is lt less =
-    subst (λ (x : ℕ). CanMove from removed inserted x) (sym (next_place f old now i is lt)) (each i lt) less

@@ -38,9 +38,6 @@ pub with_feeds-return : (t : List ℕ) → starts_with_feed t ≡ false
     → with_feeds (13 ∷ t) ≡ 10 ∷ with_feeds t
 with_feeds-return t h = rw h refl
 
-pub with_feeds-both : (t : List ℕ) → with_feeds (13 ∷ 10 ∷ t) ≡ 10 ∷ with_feeds t
-with_feeds-both t = refl
-
 -- ---- one text before another
 
 step-append : (v : Bool) (y : ℕ) (w x z : List ℕ) → w ≡ x ++ z
@@ -464,17 +461,11 @@ line_taken d x None text is h =
 line_taken d x (Some next) text is h =
     is ∙ ap (λ (z : List ℕ). text ++ z) h ∙ sym (append_assoc text (10 ∷ []) (due next))
 
-pub line_differs : (d text : List ℕ) → BeginsOtherwise text d → BeginsOtherwise (text ++ 10 ∷ []) d
-line_differs d text apart rest e = apart (10 ∷ rest) (e ∙ append_assoc text (10 ∷ []) rest)
-
 -- some lines were taken, and these are left of them and of the text
 pub record AreTaken (lines rest : List ℕ) (left ahead : LinesLeft) : Type 0 where
   pub front : List ℕ
   pub lines_are : with_feeds lines ≡ front ++ with_feeds rest
   pub left_are : due left ≡ front ++ due ahead
-
-pub none_taken : (lines : List ℕ) (left : LinesLeft) → AreTaken lines lines left left
-none_taken lines left = record { front = []; lines_are = refl; left_are = refl }
 
 pub one_taken : (lines rest more line : List ℕ) (left ahead next : LinesLeft)
     → AreTaken lines rest left ahead → with_feeds rest ≡ (line ++ 10 ∷ []) ++ with_feeds more

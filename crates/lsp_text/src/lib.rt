@@ -2,10 +2,11 @@
 //!
 //! [`TextStore`] says what a store of a text is, and [`change`] and [`change_all`] make the changes
 //! of a `textDocument/didChange` in any of them. [`Plain`] keeps a text in one `String`,
-//! [`Lined`] in blocks, so that an edit moves few bytes and copies share the rest. [`measure`] counts
-//! characters and units of UTF-16, [`first_difference`] tells where two texts first differ, and
-//! [`line_at`], [`width_of`], [`char_inside`] and [`size_with`] read a text by its lines and columns.
-//! A store of one's own cuts lines with [`FirstLine`] and finds columns with [`offset_in_line`].
+//! [`Lined`] in blocks, so that an edit moves few bytes and copies share the rest. [`measure`]
+//! counts characters and units of UTF-16, [`first_difference`] tells where two texts first differ,
+//! and [`line_at`], [`width_of`], [`char_inside`] and [`size_with`] read a text by its lines and
+//! columns. A store of one's own cuts lines with [`FirstLine`] and finds columns with
+//! [`offset_in_line`].
 #![tactic(auto)]
 
 mod block;

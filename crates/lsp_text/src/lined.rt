@@ -5,10 +5,10 @@
 //! LF, and blocks are in *chunks*. Each block and each chunk knows its *sums*: its line ends,
 //! bytes, characters and units of UTF-16. A place is found by any of these: chunk by chunk, block
 //! by block, and then in one block, which also keeps the places after its line ends. Line `i`
-//! begins after line end `i - 1`. A long line goes over several blocks; beyond their sums, nothing is
-//! kept for it. An edit replaces bytes by others: in one block where it can, else in blocks
-//! cut again from the one before the edit to the one after it, so that a CR and a LF that it joins
-//! are in one block.
+//! begins after line end `i - 1`. A long line goes over several blocks; beyond their sums, nothing
+//! is kept for it. An edit replaces bytes by others: in one block where it can, else in blocks cut
+//! again from the one before the edit to the one after it, so that a CR and a LF that it joins are
+//! in one block.
 //!
 //! The text `a`, 4,990 times `x`, LF, `b`, once a LF was put after the CR that followed the `a`:
 //!

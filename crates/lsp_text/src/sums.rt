@@ -19,7 +19,9 @@ pub(crate) struct Sums {
 /// What places in a text are counted by: its line ends, or the units of an encoding.
 #[derive(Clone, Copy)]
 pub(crate) enum Measure {
+    /// Line ends.
     Ends,
+    /// Units of an encoding: bytes of UTF-8, units of UTF-16, or characters.
     Units(Encoding),
 }
 

@@ -2,7 +2,7 @@
 pub mod Text
 pub mod Ends
 pub mod UpTo
-use Rattle.std.proofs.Common.{◌≡◌, ℕ, List, ◌++◌, Option, refl, sym, ap, subst, Some, None, ◌⊎◌, inl, inr, ◌∙◌}
+use Rattle.std.proofs.Common.{◌≡◌, ℕ, List, ◌++◌, Option, refl, sym, ap, subst}
 use Rattle.lsp_frame.specs.Bounds.{Bounds, IsInRange}
 use Rattle.lsp_frame.specs.declared.format.Format.{Format}
 use Rattle.lsp_types.specs.declared.side.Side.TheVariants.{Editor, Server}
@@ -16,7 +16,6 @@ use Rattle.lsp_verdict.specs.Verdict.{Verdict, verdict}
 use Rattle.lsp_verdict.proofs.Below.{one_log, some_log, some_stream, records_come_first}
 use Rattle.lsp_verdict.proofs.Outcomes.{cuts_leave_verdict, offends_final, session_front}
 use Rattle.lsp_verdict.proofs.Sessions.{same_session, some_session}
-use Rattle.lsp_verdict.specs.Entries.{IsKnown}
 
 pub final_more : (limits : Bounds) (format : Format) (rs us more : List Record) (flaw : Option (ℕ × LogCode)) (v w : Verdict) → us ≡ rs ++ more → Offends limits format rs v → IsFinal limits format us flaw w → v ≡ w
 final_more limits format rs us more flaw v w whole p q = offends_final limits format rs more flaw v w p (subst (λ (x : List Record). IsFinal limits format x flaw w) whole q)
@@ -77,8 +76,3 @@ one_verdict limits sizes log v w p q =
 -- its terms are the same
 pub same_terms : (limits : Bounds) → IsInRange limits → (log : List ℕ) (v w : Verdict) → (p : IsVerdict limits log v) → (q : IsVerdict limits log w) → log_terms limits p.format ≡ log_terms limits q.format
 same_terms limits sizes log v w p q = ap (log_terms limits) (one_log limits sizes log p.format q.format p.records q.records p.fault q.fault p.is_log q.is_log).0
-
--- the terms of a log whose format is the one known
-pub known_terms : (limits : Bounds) (own : Format) (known format : Option Format) → own ≡ format_or_one known → IsKnown known format → (known ≡ None) ⊎ (log_terms limits format ≡ terms_of limits own)
-known_terms limits own None format is known = inl refl
-known_terms limits own (Some f) format is known = inr (ap (log_terms limits) known ∙ ap (terms_of limits) (sym is))

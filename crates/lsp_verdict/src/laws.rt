@@ -13,8 +13,8 @@ ghost use Rattle.lsp_verdict.specs.Upgraded.{UpgradeStays};
 /// Yes means: the log has no fault, both streams are complete frames, no message breaks the
 /// lifecycle, every response answers one earlier open request and none is answered twice, the
 /// versions of each open document rise, and after every prefix of the session each held text is
-/// the same as every snapshot that was recorded for its opening and version: it equals it where line
-/// ends count ([`exact_means_equal`]).
+/// the same as every snapshot that was recorded for its opening and version: it equals it where
+/// line ends count ([`exact_means_equal`]).
 pub fn yes_means_kept()
     ensures { YesMeansKept }
 {}

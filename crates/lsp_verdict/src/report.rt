@@ -143,6 +143,11 @@ fn summary_report(alloc: Global, summary: &Summary) -> Result<String, Memory>
     Ok(report)
 }
 
+/// The report of a No: the rule, whose event it is, its number among theirs, its number among all
+/// events, both from 1, and the rule's fixed text.
+///
+/// # Errors
+/// `Memory` where memory was refused.
 pub(crate) fn no_report(
     alloc: Global,
     rule: u16,

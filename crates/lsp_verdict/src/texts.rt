@@ -65,6 +65,7 @@ fn session_text(rule: u16) -> &'static str
     }
 }
 
+/// The code of a fault of a log in a report, `L1` to `L6`.
 pub(crate) fn code_name(code: LogCode) -> &'static str
     ensures { result.now ≡ code_name code }
 {

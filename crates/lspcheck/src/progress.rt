@@ -91,6 +91,7 @@ pub(crate) struct Watched<'a, 'b, R, I> {
 }
 
 impl<'a, 'b, R, I> Watched<'a, 'b, R, I> {
+    /// The input, whose bytes read are counted in `progress`.
     pub(crate) fn new(progress: &'b Progress<'a, R>, input: I) -> Watched<'a, 'b, R, I> {
         Watched { progress, input }
     }
@@ -114,6 +115,7 @@ pub(crate) struct MakingWay<'a, 'b, R, O> {
 }
 
 impl<'a, 'b, R, O> MakingWay<'a, 'b, R, O> {
+    /// The output, which takes the line of `progress` back before each write.
     pub(crate) fn new(progress: &'b Progress<'a, R>, output: O) -> MakingWay<'a, 'b, R, O> {
         MakingWay { progress, output }
     }

@@ -10,18 +10,18 @@ use Rattle.lsp_facts.proofs.Finding.{find-here, find-more}
 use Rattle.lsp_facts.specs.Refuting.{is_other}
 use Rattle.lsp_facts.proofs.waiting.first_other.Goals as goal
 
-pub returns-then-is_other : goal.returns-then-is_other
-returns-then-is_other c =
+pub returns-then-is_other_text : goal.returns-then-is_other_text
+returns-then-is_other_text c =
     let test = is_other c.args.line_ends (chars c.args.text.now) in
     let seen : String Global → Bool = λ s. test (text_of s) in
-    let here = find-here seen c.args.texts.now c.loop-other.other-index c.other-item.result c.loop-other-test.true c.other-item.is c.loop-other.invariant (sym c.is_other.ensures ∙ c.if-is_other.true) in
+    let here = find-here seen c.args.texts.now c.loop-other.other-index c.other-item.result c.loop-other-test.true c.other-item.is c.loop-other.invariant (sym c.is_other_text.ensures ∙ c.if-is_other_text.true) in
     ap (λ bs. Some (chars bs)) c.as_str.ensures.value ∙ sym (find-map test text_of c.args.texts.now ∙ ap (option_map text_of) here)
 
 pub loop-other-preserved : goal.loop-other-preserved
 loop-other-preserved c =
     let seen : String Global → Bool =
     λ s. is_other c.args.line_ends (chars c.args.text.now) (text_of s) in
-    find-more seen c.args.texts.now c.loop-other.other-index c.other-item.result c.loop-other-test.true c.other-item.is c.loop-other.invariant (sym c.is_other.ensures ∙ c.if-is_other.false)
+    find-more seen c.args.texts.now c.loop-other.other-index c.other-item.result c.loop-other-test.true c.other-item.is c.loop-other.invariant (sym c.is_other_text.ensures ∙ c.if-is_other_text.false)
 
 pub returns : goal.returns
 returns c =

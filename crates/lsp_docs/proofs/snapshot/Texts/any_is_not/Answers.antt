@@ -14,6 +14,6 @@ returns-in-Some c =
     ∙ c.if-are_mixed.false in
     let there : slice_get ss 0 ≡ Some first =
     ap (λ l. slice_get l 0) (sym c.deref.ensures.value) ∙ sym c.in-Some.ensures.value in
-    c.is_not.ensures
+    c.is_other_text.ensures
     ∙ (alike-first c.args.line_ends text ss first there alike
     ∙ ap (any_other c.args.line_ends text) c.self.view_is)

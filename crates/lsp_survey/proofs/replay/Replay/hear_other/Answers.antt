@@ -1,0 +1,47 @@
+use Rattle.std.proofs.Common.{refl, sym, subst}
+use Rattle.std.proofs.lemmas.Result.{IfOk-weaker}
+use Rattle.lsp_docs.specs.Terms.{Terms}
+use Rattle.lsp_verdict.specs.Lent.{raw_view}
+use Rattle.lsp_verdict.specs.Offences.{events_of, kept_of}
+use Rattle.lsp_replay.specs.Places.{place_of}
+use Rattle.lsp_survey.specs.Walking.{Hears, IsRefused, content_in}
+use Rattle.lsp_survey.proofs.Hearing.{kept_heard, noted_after, still_walks}
+use Rattle.lsp_survey.proofs.replay.Replay.hear_other.Goals as goal
+
+pub returns-in-Ok-clause-heard : goal.returns-in-Ok-clause-heard
+returns-in-Ok-clause-heard c =
+    let old = c.args.self.now in
+    IfOk-weaker c.keep.result _ _
+    (λ given keeps before walks.
+    let kept = kept_of old.events.docs.terms (events_of before) in
+    let same = c.keep.ensures.same.0 in
+    rw keeps.0 (kept_heard (raw_view c.args.raw) old c.keep.new.self before
+    c.in-Ok.kept c.hear.new.self.session c.hear.new.self.docs
+    c.hear.new.self.counts walks c.in-Ok.ensures.terms
+    (λ i. (same i).session) (λ i. (same i).docs) (λ i. (same i).counts) c.keep.ensures.same.1
+    c.keep.ensures.same.2 c.keep.ensures.same.3
+    (c.in-Ok.ensures.ok kept walks.holds)
+    (λ event counted heard.
+    noted_after (place_of (events_of before) event) (content_in (raw_view c.args.raw))
+    c.in-Ok.kept (record old {
+      events = c.hear.new.self;
+    }) old c.keep.new.self refl refl refl refl refl
+    (keeps.1 (events_of before) event counted heard))))
+    c.keep.ensures.keeps
+
+pub returns-in-Err-clause-heard : goal.returns-in-Err-clause-heard
+returns-in-Err-clause-heard c =
+    let old = c.args.self.now in
+    let mid = record old { events = c.hear.new.self } in
+    let raw = raw_view c.args.raw in
+    let same = c.in-Err.ensures.terms in
+    IfOk-weaker c.pass_over.result _ _
+    (λ given heard before walks.
+    let kept = kept_of old.events.docs.terms (events_of before) in
+    let still = still_walks old mid before walks same (c.in-Err.ensures.err kept walks.holds)
+    c.in-Err.ensures.uncounted refl refl refl refl refl refl refl refl in
+    let refused = subst (λ (t : Terms). IsRefused raw t before c.in-Err.refused) (sym same)
+    (c.in-Err.ensures.rule kept walks.holds) in
+    subst (λ (t : Terms). Hears raw t c.pass_over.new.self before given) same
+    (heard before still refused))
+    c.pass_over.ensures.heard
