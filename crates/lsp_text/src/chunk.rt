@@ -17,10 +17,10 @@ use std::marker::Model;
 use std::rc::Rc;
 
 /// The parts that a chunk is given at first.
-const FULL: usize = 16;
+const FULL: usize = 8;
 
 /// The parts of a chunk, at most.
-const MOST: usize = 32;
+const MOST: usize = 16;
 
 /// Some parts, one after another, and the sums of their text.
 #[derive(Drop)]

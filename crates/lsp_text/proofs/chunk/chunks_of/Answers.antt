@@ -11,12 +11,12 @@ of-requires g c =
     let f = g.T.Part.text in
     let rest = c.loop-rest.rest in
     let texts = map f rest.items in
-    let some : 16 ≤ length texts =
+    let some : 8 ≤ length texts =
     omega (arith, length-map rest.items f, rest.ok.0, c.len.ensures, c.loop-rest-test.true) in
-    let first : map f (take 16 rest.items) ≡ take 16 texts = sym (take-map f 16 rest.items) in
+    let first : map f (take 8 rest.items) ≡ take 8 texts = sym (take-map f 8 rest.items) in
     subst (λ xs. AreKept (map f xs)) (sym c.in_ok-tail.ensures.items)
     (subst AreKept (sym first)
-    (can_chunk c.loop-rest.chunks.items texts (joined (map f c.args.parts.items)) 16
+    (can_chunk c.loop-rest.chunks.items texts (joined (map f c.args.parts.items)) 8
     c.loop-rest.invariant c.requires.fits (omega arith) some))
 
 pub loop-rest-preserved : goal.loop-rest-preserved
@@ -27,15 +27,15 @@ loop-rest-preserved g c =
     let texts = map f rest.items in
     let more = c.push.new.self.items in
     let whole = joined (map f c.args.parts.items) in
-    let some : 16 < length texts =
+    let some : 8 < length texts =
     omega (arith, length-map rest.items f, rest.ok.0, c.len.ensures, c.loop-rest-test.true) in
     subst (λ xs. AreChunked more (map f xs) whole) (sym c.in_ok-tail.ensures.tail)
-    (subst (λ x. AreChunked more x whole) (drop-map f 16 rest.items)
-    (one_chunked chunks texts more whole 16 c.loop-rest.invariant some
+    (subst (λ x. AreChunked more x whole) (drop-map f 8 rest.items)
+    (one_chunked chunks texts more whole 8 c.loop-rest.invariant some
     (c.in_ok-push.ensures.items
     ∙ ap (λ (x : List ℕ). chunks ++ x ∷ [])
     (c.in_ok-of.ensures ∙ ap (λ xs. joined (map f xs)) c.in_ok-tail.ensures.items
-    ∙ ap joined (sym (take-map f 16 rest.items))))))
+    ∙ ap joined (sym (take-map f 8 rest.items))))))
 
 pub returns : goal.returns
 returns g c =

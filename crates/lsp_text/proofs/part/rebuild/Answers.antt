@@ -61,7 +61,7 @@ put-requires-clause-order g c =
     omega (
       arith,
       cut_order (texts g at) c.args.from c.args.to c.find_before-a.result c.find-b.result _ _
-      (found g at) c.requires.can.order c.requires.can.second.0,
+          (found g at) c.requires.can.order c.requires.can.second.0,
     )
 
 pub put-requires-clause-within : goal.put-requires-clause-within

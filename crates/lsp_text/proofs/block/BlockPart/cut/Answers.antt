@@ -15,7 +15,7 @@ new-requires c =
       arith,
       ap length c.split_at.ensures.front,
       length-take-le c.cut_place.result c.loop-rest.rest.now
-      c.cut_place.ensures.place.boundary.0,
+          c.cut_place.ensures.place.boundary.0,
       c.cut_place.ensures.most,
     )
 
