@@ -41,7 +41,7 @@ more_then : (P : List Record → Type 0) (records more : List Record)
 more_then P records more (rest, p) = (more ++ rest, subst P (append_assoc records more rest) p)
 
 -- the log is of the format that is known
-first_format : (limits : Bounds) (known : Option Format) (records : List Record) (log : List ℕ)
+pub first_format : (limits : Bounds) (known : Option Format) (records : List Record) (log : List ℕ)
     → IsSome known → (has : HasFirst limits known records log) → has.format ≡ known
 first_format limits None records log known has = absurd cc
 first_format limits (Some format) records log known has = has.is_known
@@ -115,81 +115,86 @@ reads_failures limits format e start now records given due h = by_end e.end h.re
 
 -- ---- one more entry
 
-known_record : (format : Option Format) (records : List Record) (next : Record)
+pub known_record : (format : Option Format) (records : List Record) (next : Record)
     → (format ≡ None → records ++ next ∷ [] ≡ []) → IsSome format
 known_record None [] next early = let none : next ∷ [] ≡ [] = early refl in absurd cc
 known_record None (r ∷ rs) next early =
     let none : r ∷ (rs ++ next ∷ []) ≡ [] = early refl in absurd cc
 known_record (Some f) records next early = refl
 
+-- a log that has one record more has these first
+pub fewer_first : (limits : Bounds) (known : Option Format) (records : List Record) (next : Record)
+    (log : List ℕ) → HasFirst limits known (records ++ next ∷ []) log
+    → HasFirst limits known records log
+fewer_first limits known records next log has = record {
+  format = has.format;
+  more = next ∷ has.more;
+  fault = has.fault;
+  is_log = subst (λ (rs : List Record). IsLog limits log has.format rs has.fault)
+      (append_assoc records (next ∷ []) has.more) has.is_log;
+  is_known = has.is_known;
+}
+
+-- less was known of its format before
+known_before : (limits : Bounds) (was known : Option Format) (records : List Record) (log : List ℕ)
+    → reader.KeepsFormat was known → HasFirst limits known records log
+    → HasFirst limits was records log
+known_before limits None known records log keeps has = record {
+  format = has.format;
+  more = has.more;
+  fault = has.fault;
+  is_log = has.is_log;
+  is_known = tt;
+}
+known_before limits (Some format) known records log keeps has =
+    subst (λ (f : Option Format). HasFirst limits f records log) (keeps format refl) has
+
 module _ (limits : Bounds) (start now : Told) (records : List Record) (given : List Raw) where
-  -- the next entry could not be read
-  pub unread_entry : (was : Bounds) (known : Option Format) (e : LogEvents) (s : State)
-      (fault : RunFault) → was ≡ limits → Stands limits s records given []
-      → entries.BrokeOff was start now known records fault
-      → Takes limits known e start now records given (Err fault)
-  unread_entry was known e s fault same h broke =
-      let here = subst (λ (b : Bounds). entries.BrokeOff b start now known records fault) same
-      broke in (
+  -- memory was refused for the record read next
+  pub refused_record : (e : LogEvents) (next : Record)
+      → IsIdle limits e start now (records ++ next ∷ []) records given
+      → entries.BrokeOff limits start now e.log.format records faults.Memory
+  refused_record e next h = record {
+    of_read = read_map limits start now (HasFirst limits e.log.format (records ++ next ∷ []))
+        (HasFirst limits e.log.format records) (fewer_first limits e.log.format records next)
+        (is_first e.log limits start now (records ++ next ∷ []) h.same h.at);
+    failures = h.at.failures;
+    unwritten = λ write. absurd cc;
+  }
+
+  -- the next entry could not be taken
+  pub untaken : (was known : Option Format) (e : LogEvents) (s : State) (fault : RunFault)
+      → reader.KeepsFormat was known → Stands limits s records given []
+      → entries.BrokeOff limits start now known records fault
+      → Takes limits was e start now records given (Err fault)
+  untaken was known e s fault keeps h broke =
+      let first = read_map limits start now (HasFirst limits known records)
+      (HasFirst limits was records) (λ log. known_before limits was known records log keeps)
+      broke.of_read in (
         record {
-          of_read = read_map limits start now (HasFirst limits known records) (λ log. Unit {0})
-              (λ log has. tt) here.of_read;
-          failures = here.failures;
-          unwritten = here.unwritten;
+          of_read = read_map limits start now (HasFirst limits was records) (λ log. Unit {0})
+              (λ log has. tt) first;
+          failures = broke.failures;
+          unwritten = broke.unwritten;
         },
         λ format is. record {
           of_read = read_map limits start now (HasFirst limits (Some format) records)
               (HasGiven limits (Some format) records given)
               (first_given limits (Some format) records given [] h.placed refl)
               (subst (λ (f : Option Format). OfRead limits start now (HasFirst limits f records)) is
-              here.of_read);
-          failures = here.failures;
-          unwritten = here.unwritten;
+              first);
+          failures = broke.failures;
+          unwritten = broke.unwritten;
         },
       )
 
-  -- memory was refused for a record
-  pub unpushed : (known : Option Format) (e : LogEvents) (r : reader.State) (s : State)
-      (next : Record) → r.limits ≡ limits → reader.KeepsFormat known r.format
-      → Stands limits s records given [] → IsAt r start now (records ++ next ∷ [])
-      → Takes limits known e start now records given (Err faults.Memory)
-  unpushed known e r s next same keeps h at =
-      let first = is_first r limits start now (records ++ next ∷ []) same at in (
-        record {
-          of_read = read_map limits start now (HasFirst limits r.format (records ++ next ∷ []))
-              (λ log. Unit {0}) (λ log has. tt) first;
-          failures = at.failures;
-          unwritten = λ write. absurd cc;
-        },
-        λ format is. record {
-          of_read = read_map limits start now (HasFirst limits (Some format) (records ++ next ∷ []))
-              (HasGiven limits (Some format) records given)
-              (λ log has. first_given limits (Some format) records given [] h.placed refl log
-              (fewer_first (Some format) next log has))
-              (subst (λ (f : Option Format). OfRead limits start now
-              (HasFirst limits f (records ++ next ∷ []))) (keeps format is) first);
-          failures = at.failures;
-          unwritten = λ write. absurd cc;
-        },
-      )
-    where
-      fewer_first : (f : Option Format) (last : Record) (log : List ℕ)
-          → HasFirst limits f (records ++ last ∷ []) log → HasFirst limits f records log
-      fewer_first f last log has = record {
-        format = has.format;
-        more = last ∷ has.more;
-        fault = has.fault;
-        is_log = subst (λ (rs : List Record). IsLog limits log has.format rs has.fault)
-            (append_assoc records (last ∷ []) has.more) has.is_log;
-        is_known = has.is_known;
-      }
-
-  module _ (e : LogEvents) (same : e.log.limits ≡ limits) where
+  module _ (e : LogEvents) where
     -- a record was taken
-    pub record_taken : (next : Record) → e.end ≡ None → IsAt e.log start now (records ++ next ∷ [])
+    pub record_taken : (next : Record) → e.log.limits ≡ limits → e.end ≡ None
+        → IsAt e.log start now (records ++ next ∷ [])
         → ((due : List Raw) × Stands limits e.streams (records ++ next ∷ []) given due)
         → Takes limits e.log.format e start now records given (Ok tt)
-    record_taken next none at (due, stands) = (
+    record_taken next same none at (due, stands) = (
       next ∷ [],
       due,
       record {
@@ -201,19 +206,28 @@ module _ (limits : Bounds) (start now : Told) (records : List Record) (given : L
       },
     )
 
-    -- the end was read
-    pub end_taken : (end : End) → e.end ≡ Some end → Stands limits e.streams records given []
-        → EndsBehind e.log limits start now records (flaw_of end)
+    -- the end was
+    pub end_taken : (end : End) → Ended limits e.log.format e start now records given end
         → Takes limits e.log.format e start now records given (Ok tt)
-    end_taken end is stands ends =
+    end_taken end ended =
         let all = none_more (λ rs. Reads limits e.log.format e start now rs given []) records
-        (record {
-          same = same;
-          format_is = refl;
-          read = subst (λ (o : Option End). HasRead o e.log limits start now records) (sym is) ends;
-          stands = stands;
-        }) in
+        ended.reads in
         (all.0, [], all.1)
+
+    -- it was read
+    pub ended_at : (end : End) → e.log.limits ≡ limits → e.end ≡ Some end
+        → Stands limits e.streams records given []
+        → EndsBehind e.log limits start now records (flaw_of end)
+        → Ended limits e.log.format e start now records given end
+    ended_at end same is stands ends = record {
+      reads = record {
+        same = same;
+        format_is = refl;
+        read = subst (λ (o : Option End). HasRead o e.log limits start now records) (sym is) ends;
+        stands = stands;
+      };
+      ends = ends;
+    }
 
 pub sound_end : (was limits : Bounds) (r : reader.State) (start now : Told) (records : List Record)
     → was ≡ limits → HasRecords was start now r.format records None → IsAtEnd now.bytes
@@ -297,11 +311,11 @@ end_found limits format start now records given e end is h =
 pub goes_on : (limits : Bounds) (format : Option Format) (start now : Told) (records : List Record)
     (given : List Raw) (e : LogEvents) → e.end ≡ None
     → Reads limits format e start now records given []
-    → IsIdle limits e start now records given × IsSome e.log.format
+    → IsIdle limits e start now records records given × IsSome e.log.format
 goes_on limits format start now records given e none h =
     let read : HasRead None e.log limits start now records =
     subst (λ (o : Option End). HasRead o e.log limits start now records) none h.read in
-    (record { same = h.same; at = read.0; stands = h.stands }, read.1)
+    (record { same = h.same; goes_on = none; at = read.0; stands = h.stands }, read.1)
 
 -- what was taken after these records
 pub took : (limits : Bounds) (format : Option Format) (start now : Told) (records : List Record)

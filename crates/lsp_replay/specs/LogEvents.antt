@@ -8,10 +8,13 @@ use Rattle.lsp_frame.specs.declared.format.Format.{Format}
 use Rattle.lsp_log.specs.Log.{Record, IsLog}
 use Rattle.lsp_log.specs.Reader as reader
 use Rattle.lsp_log.specs.Reader.{ahead}
+use Rattle.lsp_log.specs.Records.{record_view}
 use Rattle.lsp_log.specs.declared.fault.LogCode.{LogCode}
 use Rattle.lsp_replay.specs.Streams as streams
 use Rattle.lsp_replay.specs.Streams.{IsHeld, IsRaw, Stands}
 use Rattle.lsp_verdict.specs.Lent.{raw_view}
+use Rattle.lsp_replay.specs.declared.log_events.Entry.{Entry}
+use Rattle.lsp_replay.specs.declared.log_events.Entry.TheVariants as entry
 use Rattle.lsp_replay.specs.declared.log_events.End.{End}
 use Rattle.lsp_replay.specs.declared.log_events.End.TheVariants.{Sound, Bad}
 use Rattle.lsp_replay.specs.declared.log_events.LogEvents.{LogEvents}
@@ -19,6 +22,7 @@ use Rattle.lsp_replay.specs.declared.log_events.Next.{Next}
 use Rattle.lsp_replay.specs.declared.log_events.Next.TheVariants as next
 use Rattle.lsp_replay.specs.declared.log_events.Step.{Step}
 use Rattle.lsp_replay.specs.declared.log_events.Step.TheVariants as step
+use Rattle.lsp_verdict.specs.Entries as entries
 use Rattle.lsp_verdict.specs.Entries.{IsAt, ShowsFault}
 use Rattle.lsp_verdict.specs.Placed.{Raw, Placed}
 use Rattle.lsp_verdict.specs.RunIo.{OfRead, BreaksOff, failures_after}
@@ -132,12 +136,29 @@ Finds limits format e start now records given (Ok (step.End end)) =
 Finds limits format e start now records given (Err fault) =
     (more : List Record) × BrokeOff limits start now format (records ++ more) given fault
 
--- these records were taken, all of their events were given, and the log continues
-pub record IsIdle (limits : Bounds) (e : LogEvents) (start now : Told) (records : List Record)
-    (given : List Raw) : Type 0 where
+-- these records were read, of which these were pushed and all of their events given; and the end of
+-- the log was not read
+pub record IsIdle (limits : Bounds) (e : LogEvents) (start now : Told)
+    (read records : List Record) (given : List Raw) : Type 0 where
   pub same : e.log.limits ≡ limits
-  pub at : IsAt e.log start now records
+  pub goes_on : e.end ≡ None
+  pub at : IsAt e.log start now read
   pub stands : Stands limits e.streams records given []
+
+-- this entry was read after these records
+abbrev pub IsNext : Bounds → LogEvents → Told → Told → List Record → List Raw → Entry → Type 0
+IsNext limits e start now records given (entry.Record next) =
+    IsIdle limits e start now (records ++ record_view next ∷ []) records given
+IsNext limits e start now records given (entry.End end) =
+    Ended limits e.log.format e start now records given end
+
+-- one more entry was read, or reading broke off
+abbrev pub Brings : Bounds → Option Format → LogEvents → Told → Told → List Record → List Raw
+    → Result Entry RunFault → Type 0
+Brings limits known e start now records given (Ok next) =
+    IsNext limits e start now records given next
+Brings limits known e start now records given (Err fault) =
+    entries.BrokeOff limits start now known records fault
 
 -- one more record was taken, or the end of the log; or reading broke off
 abbrev pub Takes : Bounds → Option Format → LogEvents → Told → Told → List Record → List Raw

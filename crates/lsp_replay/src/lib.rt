@@ -19,7 +19,7 @@ pub use events::Events;
 pub use fault::{Fault, Refused};
 pub use heard::{EventPlace, Heard};
 pub use lines::{fill_event_line, write_event_line};
-pub use log_events::{End, LogEvents, Next};
+pub use log_events::{End, Entry, LogEvents, Next};
 pub use streams::Streams;
 pub use summary::summary_of;
 pub use text_answer::TextAnswer;

@@ -1,5 +1,5 @@
 //! The events of a log one after another, before their contents are read.
-ghost use Rattle.std.specs.Prelude.{◌≡◌, ◌<◌, IfOk, IfErr, List, None, Option, OnOk, Ok};
+ghost use Rattle.std.specs.Prelude.{◌≡◌, ◌<◌, [], IfOk, IfErr, List, None, Option, OnOk, Ok};
 ghost use Rattle.std.specs.Borrow.{sem};
 ghost use Rattle.lsp_frame.specs.Bounds.{Bounds};
 ghost use Rattle.lsp_frame.specs.Told.{Told};
@@ -8,16 +8,16 @@ ghost use Rattle.lsp_log.specs.Log as log;
 ghost use Rattle.lsp_log.specs.Reader.{KeepsFormat, shown_by};
 ghost use Rattle.lsp_verdict.specs.Placed as placed;
 ghost use Rattle.lsp_verdict.specs.RunIo.{BreaksOff};
-ghost use Rattle.lsp_replay.specs.LogEvents.{Finds, HoldsStep, IsIdle, Opens, Reads, Takes};
+ghost use Rattle.lsp_replay.specs.LogEvents.{Brings, Finds, HoldsStep, IsIdle, Opens, Reads, Takes};
 ghost use Rattle.lsp_replay.specs.LogEvents.{unread};
 ghost use Rattle.lsp_replay.specs.LogLending.{LendsNext};
 ghost use Rattle.lsp_replay.specs.Streams.{decoder_of, ends_inside};
 
 use crate::streams::{Due, Streams};
 use lsp_frame::{Format, Limits, Source};
-use lsp_log::{LogCode, LogReader};
+use lsp_log::{LogCode, LogFault, LogReader, Record};
 use lsp_rpc::Side;
-use lsp_verdict::{Entry, Raw, RunFault, next_entry};
+use lsp_verdict::{Raw, RunFault};
 use std::alloc::Global;
 
 /// What a log has next.
@@ -26,6 +26,15 @@ pub enum Next<'a> {
     /// An event.
     Event(Raw<'a>),
     /// Its end.
+    End(End),
+}
+
+/// An entry of a log.
+#[derive(Drop)]
+pub enum Entry {
+    /// A record.
+    Record(Record),
+    /// The end of the log.
     End(End),
 }
 
@@ -54,12 +63,25 @@ pub(crate) enum Step {
 #[derive(Drop)]
 pub struct LogEvents {
     log: LogReader,
-    streams: Streams,
+    /// The events of the records that were read and pushed.
+    pub streams: Streams,
     /// The end of the log, once it was read.
     end: Option<End>,
 }
 
 impl LogEvents {
+    /// The events of a log of which nothing was read.
+    pub fn new(alloc: Global, limits: Limits) -> LogEvents
+        ensures end { result.end ≡ None }
+        ensures idle { (start : Told) → IsIdle limits result start start [] [] [] }
+    {
+        LogEvents {
+            log: LogReader::new(alloc, limits),
+            streams: Streams::new(alloc, limits),
+            end: None,
+        }
+    }
+
     /// Reads a log up to its first record, and with it the log's format.
     ///
     /// # Errors
@@ -72,11 +94,7 @@ impl LogEvents {
         ensures ok { IfOk result (Opens limits (R.told reader.old) (R.told reader.new)) }
         ensures err { IfErr result (BreaksOff limits (R.told reader.old) (R.told reader.new)) }
     {
-        let mut events = LogEvents {
-            log: LogReader::new(alloc, limits),
-            streams: Streams::new(alloc, limits),
-            end: None,
-        };
+        let mut events = LogEvents::new(alloc, limits);
         events.take(reader)?;
         Ok(events)
     }
@@ -161,15 +179,49 @@ impl LogEvents {
         ensures less { OnOk result (unread self.new < unread self.old) }
         ensures answer { (limits : Bounds) (start : Told) (records : List log.Record)
             (given : List placed.Raw)
-            → IsIdle limits self.old start (R.told reader.old) records given
+            → IsIdle limits self.old start (R.told reader.old) records records given
             → Takes limits self.old.log.format self.new start
             (R.told reader.new) records given result }
     {
-        match next_entry(&mut self.log, reader)? {
+        match self.read(reader)? {
             Entry::Record(record) => self.streams.push(record)?,
-            Entry::End => self.end = Some(End::Sound),
-            Entry::Bad { number, fault } => self.end = Some(End::Bad { number, fault }),
+            Entry::End(_) => (),
         }
         Ok(())
+    }
+
+    /// Reads the next entry of the log, all of whose events so far were given. A record's own
+    /// events are given once it is pushed to the streams.
+    ///
+    /// # Errors
+    /// `Read` where the source failed, and `Memory` where memory was refused.
+    pub fn read<R: Source>(&mut self, reader: &mut R) -> Result<Entry, RunFault>
+        requires { self.old.end ≡ None }
+        ensures streams { self.new.streams ≡ self.old.streams }
+        ensures format { KeepsFormat self.old.log.format self.new.log.format }
+        // An entry leaves less to read, so that a caller's loop ends.
+        ensures less { OnOk result (unread self.new < unread self.old) }
+        ensures answer { (limits : Bounds) (start : Told) (records : List log.Record)
+            (given : List placed.Raw)
+            → IsIdle limits self.old start (R.told reader.old) records records given
+            → Brings limits self.old.log.format self.new start (R.told reader.new) records given
+            result }
+    {
+        match self.log.next(reader) {
+            Ok(Some(record)) => Ok(Entry::Record(record)),
+            Ok(None) => {
+                self.end = Some(End::Sound);
+                Ok(Entry::End(End::Sound))
+            }
+            Err(LogFault::Bad {
+                number,
+                code: fault,
+            }) => {
+                self.end = Some(End::Bad { number, fault });
+                Ok(Entry::End(End::Bad { number, fault }))
+            }
+            Err(LogFault::Read) => Err(RunFault::Read),
+            Err(LogFault::Memory) => Err(RunFault::Memory),
+        }
     }
 }

@@ -13,7 +13,7 @@ use Rattle.lsp_frame.specs.declared.format.Format.{Format}
 use Rattle.lsp_log.specs.Log.{Record, chunk, shown, Fits, head_of, in_range, is_i32, is_within, IsLog}
 use Rattle.lsp_log.specs.Reader as reader
 use Rattle.lsp_log.specs.Place.{found_behind}
-use Rattle.lsp_log.specs.Reader.{empty, shown_by, kept_by, kept_in, StandsFor, StandsAt, Begins, MayFollow, KeepsFormat, Given}
+use Rattle.lsp_log.specs.Reader.{empty, shown_by, kept_by, kept_in, StandsFor, StandsAt, Begins, MayFollow, Given}
 use Rattle.lsp_log.specs.Records.{record_view}
 use Rattle.lsp_log.specs.declared.fault.LogCode.{LogCode}
 use Rattle.lsp_log.specs.declared.fault.LogFault.{LogFault}
@@ -24,12 +24,10 @@ use Rattle.lsp_log.specs.declared.record.Record as code
 use Rattle.lsp_log.proofs.Callers.{begins_open}
 use Rattle.lsp_log.proofs.Reading.{left_at}
 use Rattle.lsp_verdict.specs.RunIo.{OfRead, failures_after}
-use Rattle.lsp_verdict.specs.declared.entry.Entry.{Entry}
-use Rattle.lsp_verdict.specs.declared.entry.Entry.TheVariants as entry
 use Rattle.lsp_verdict.specs.declared.outcome.RunFault.{RunFault}
 use Rattle.lsp_verdict.specs.declared.outcome.RunFault.TheVariants as faults
 use Rattle.lsp_verdict.proofs.Below.{some_log, records_come_first}
-use Rattle.lsp_verdict.specs.Entries.{IsAt, HasRecords, HasFirst, IsKnown, BrokeOff, ShowsFault, IsRecord, IfRecord}
+use Rattle.lsp_verdict.specs.Entries.{IsAt, HasRecords, HasFirst, BrokeOff, ShowsFault}
 
 -- ---- the log read
 
@@ -80,11 +78,6 @@ is_first r limits start now records same a =
     subst (λ (b : Bounds). OfRead b start now (HasFirst b r.format records)) same
     (of_bytes r.limits start now a.bytes (HasFirst r.limits r.format records) a.gave within (λ more follows. first_at r start now records a more))
 
-pub for_record : (e : Entry) (P : Type 0) → IsRecord e → IfRecord e P → P
-for_record (entry.Record next) P is holds = holds
-for_record entry.End P is holds = absurd is
-for_record (entry.Bad number fault) P is holds = absurd is
-
 -- ---- an entry that is a record may be written
 
 last_fits : (limits : Bounds) (rs : List Record) (r : Record) → AllByRecursion (Fits limits) (rs ++ r ∷ []) → Fits limits r
@@ -124,11 +117,6 @@ at_start r limits start new stands = record { bytes = []; gave = gave_nothing st
 
 no_format : (s : reader.State) → s.format ≡ None → IsSome s.format → ⊥
 no_format s none known = let same : false ≡ true = subst IsSome none known in absurd cc
-
--- a format that stays is the one known
-pub keeps_known : (old new : Option Format) → KeepsFormat old new → IsKnown old new
-keeps_known None new keeps = tt
-keeps_known (Some format) new keeps = keeps format refl
 
 module _ (r s : reader.State) (start mid now : Told) (records : List Record) (a : IsAt r start mid records) (same : s.limits ≡ r.limits) where
   pub record_next : (next : code.Record) → kept_by s ≡ None → IsSome s.format → Given s mid now (Ok (Some next)) a.bytes records → IsAt s start now (records ++ record_view next ∷ [])
