@@ -24,6 +24,7 @@ use Rattle.lsp_verdict.specs.RunIo.{OfRead}
 use Rattle.lsp_verdict.specs.declared.outcome.RunFault.{RunFault}
 use Rattle.lsp_verdict.specs.declared.outcome.RunFault.TheVariants as faults
 use Rattle.lsp_verdict.proofs.Entries.{is_first}
+use Rattle.lsp_verdict.proofs.Lists.{not_nil}
 use Rattle.lsp_verdict.proofs.Outcomes.{placed_front}
 use Rattle.lsp_verdict.proofs.RunReading.{read_map}
 use Rattle.lsp_verdict.proofs.Sessions.{some_placed}
@@ -117,9 +118,7 @@ reads_failures limits format e start now records given due h = by_end e.end h.re
 
 pub known_record : (format : Option Format) (records : List Record) (next : Record)
     → (format ≡ None → records ++ next ∷ [] ≡ []) → IsSome format
-known_record None [] next early = let none : next ∷ [] ≡ [] = early refl in absurd cc
-known_record None (r ∷ rs) next early =
-    let none : r ∷ (rs ++ next ∷ []) ≡ [] = early refl in absurd cc
+known_record None records next early = absurd (not_nil records next (early refl))
 known_record (Some f) records next early = refl
 
 -- a log that has one record more has these first

@@ -213,12 +213,13 @@ impl LogEvents {
                 self.end = Some(End::Sound);
                 Ok(Entry::End(End::Sound))
             }
-            Err(LogFault::Bad {
-                number,
-                code: fault,
-            }) => {
-                self.end = Some(End::Bad { number, fault });
-                Ok(Entry::End(End::Bad { number, fault }))
+            Err(LogFault::Bad { number, code }) => {
+                let end = End::Bad {
+                    number,
+                    fault: code,
+                };
+                self.end = Some(end);
+                Ok(Entry::End(end))
             }
             Err(LogFault::Read) => Err(RunFault::Read),
             Err(LogFault::Memory) => Err(RunFault::Memory),

@@ -33,7 +33,7 @@ pub returns-in-Err-Bad-clause-answer : goal.returns-in-Err-Bad-clause-answer
 returns-in-Err-Bad-clause-answer g c = λ limits start records given h.
     let next = c.in-Err-Bad.ensures in
     let number = c.in-Err-Bad.number in
-    let code = c.in-Err-Bad.fault in
+    let code = c.in-Err-Bad.code in
     let got = rw c.in-Err-Bad.field-0-is at
     (next.gives h.at.unread h.at.bytes records h.at.stands) in
     ended_at limits start _ records given _ (Bad number code) (next.limits ∙ h.same) refl h.stands
