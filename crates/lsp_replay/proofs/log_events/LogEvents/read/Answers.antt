@@ -1,9 +1,7 @@
-use Rattle.std.proofs.Common.{Some, refl, subst, ◌∙◌}
-use Rattle.lsp_frame.specs.Bounds.{Bounds}
+use Rattle.std.proofs.Common.{refl, ◌∙◌}
 use Rattle.lsp_replay.specs.declared.log_events.End.TheVariants.{Bad, Sound}
 use Rattle.lsp_verdict.proofs.Entries.{bad_found, bad_next, end_next, memory_broke, read_broke}
 use Rattle.lsp_verdict.proofs.Entries.{record_next}
-use Rattle.lsp_verdict.specs.Entries.{BrokeOff}
 use Rattle.lsp_replay.proofs.Pulling.{bad_end, ended_at, sound_end}
 use Rattle.lsp_replay.proofs.log_events.LogEvents.read.Goals as goal
 
@@ -46,13 +44,11 @@ returns-in-Err-Read-clause-answer g c = λ limits start records given h.
     let next = c.in-Err-Read.ensures in
     let got = rw c.in-Err-Read.field-0-is at
     (next.gives h.at.unread h.at.bytes records h.at.stands) in
-    subst (λ (b : Bounds). BrokeOff b start _ _ records _) h.same
-    (read_broke _ _ start _ _ records h.at next.limits got)
+    rw h.same at (read_broke _ _ start _ _ records h.at next.limits got)
 
 pub returns-in-Err-Memory-clause-answer : goal.returns-in-Err-Memory-clause-answer
 returns-in-Err-Memory-clause-answer g c = λ limits start records given h.
     let next = c.in-Err-Memory.ensures in
     let got = rw c.in-Err-Memory.field-0-is at
     (next.gives h.at.unread h.at.bytes records h.at.stands) in
-    subst (λ (b : Bounds). BrokeOff b start _ _ records _) h.same
-    (memory_broke _ _ start _ _ records h.at next.limits got)
+    rw h.same at (memory_broke _ _ start _ _ records h.at next.limits got)
