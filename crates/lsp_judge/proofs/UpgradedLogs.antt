@@ -28,8 +28,6 @@ use Rattle.lsp_verdict.specs.Upgraded.{BeginsUpgraded}
 use Rattle.lsp_verdict.specs.Verdict.{Verdict}
 use Rattle.lsp_verdict.specs.declared.completeness.Completeness.TheVariants.{Ignored}
 use Rattle.lsp_verdict.specs.declared.counts.Counts.{Counts}
-use Rattle.lsp_verdict.specs.declared.outcome.Outcome.{Outcome}
-use Rattle.lsp_verdict.specs.declared.outcome.Outcome.TheVariants.{Judged}
 use Rattle.lsp_verdict.specs.declared.outcome.RunFault.{RunFault}
 use Rattle.lsp_verdict.specs.declared.outcome.RunFault.TheVariants as faults
 use Rattle.lsp_verdict.specs.declared.verdict.Verdict as code
@@ -37,7 +35,6 @@ use Rattle.lsp_verdict.proofs.Entries.{is_first}
 use Rattle.lsp_verdict.proofs.ExactCounts.{exact}
 use Rattle.lsp_verdict.proofs.Outcomes.{offends_final}
 use Rattle.lsp_verdict.proofs.RunReading.{read_map}
-use Rattle.lsp_verdict.proofs.RunsJudged.{judged_as}
 use Rattle.lsp_verdict.proofs.Upgrading.{accepted_on, accepted_here, accepted_all, upgraded_more}
 use Rattle.lsp_verdict.proofs.Upgrading.{accepted_none}
 use Rattle.lsp_judge.specs.Heard.{AreHeard, HasHeard}
@@ -291,25 +288,3 @@ one_written limits e next start now old new known s records some keeps same o is
     none_some : (was : Option Format) → IsSome was → was ≡ None → ⊥
     none_some None some is = absurd cc
     none_some (Some format) some is = absurd cc
-
--- ---- the outcome
-
-pub upgrade_read : (limits : Bounds) (start now old new : Told) (given v : code.Verdict)
-    → UpgradedAll limits start now old new (verdict_view given)
-    → (let outcome : Result Outcome RunFault = Ok (Judged given) in outcome) ≡ Ok (Judged v)
-    → OfRead limits start now (λ log. IsVerdict limits log (verdict_view v))
-upgrade_read limits start now old new given v u e =
-    judged_as given v (λ w. OfRead limits start now (λ log. IsVerdict limits log (verdict_view w)))
-    e
-    (read_map limits start now (λ log. IsUpgraded limits log (verdict_view given) u.out)
-    (λ log. IsVerdict limits log (verdict_view given)) (λ log upgrade. upgrade.whole) u.due)
-
-pub upgrade_written : (limits : Bounds) (start now old new : Told) (given v : code.Verdict)
-    → UpgradedAll limits start now old new (verdict_view given)
-    → (let outcome : Result Outcome RunFault = Ok (Judged given) in outcome) ≡ Ok (Judged v)
-    → (out : List ℕ) × Took old new out
-    × OfRead limits start now (λ log. IsUpgraded limits log (verdict_view v) out)
-upgrade_written limits start now old new given v u e =
-    judged_as given v (λ w. (out : List ℕ) × Took old new out
-    × OfRead limits start now (λ log. IsUpgraded limits log (verdict_view w) out)) e
-    (u.out, u.wrote.took, u.due)
