@@ -1,8 +1,7 @@
 -- The events of a log, heard one by one up to its verdict.
 use Rattle.std.proofs.Common.{◌≡◌, ◌<◌, ◌≤◌, ◌+◌, ◌-◌, ◌^◌, ℕ, List, [], ◌∷◌, ◌++◌, Option, Some}
-use Rattle.std.proofs.Common.{None, Result, Ok, Err, refl, sym, ap, subst, ◌∙◌}
+use Rattle.std.proofs.Common.{None, Ok, Err, refl, sym, ap, subst, ◌∙◌}
 use Rattle.std.proofs.Common.{append_assoc, append-nil, length, length-append, arith}
-use Rattle.std.specs.Prelude.{IfOk, IfSome}
 use Rattle.lsp_types.specs.declared.memory.Memory.{Memory}
 use Rattle.lsp_frame.specs.Bounds.{Bounds, IsInRange}
 use Rattle.lsp_frame.specs.Told.{Told}
@@ -11,7 +10,6 @@ use Rattle.lsp_session.specs.State as session
 use Rattle.lsp_docs.specs.State as docs
 use Rattle.lsp_docs.specs.Terms.{Terms}
 use Rattle.lsp_log.specs.Log.{Record, IsLog}
-use Rattle.lsp_log.specs.Reader as reader
 use Rattle.lsp_log.specs.declared.fault.LogCode.{LogCode}
 use Rattle.lsp_replay.specs.Lines.{IsHeard}
 use Rattle.lsp_replay.specs.Standing.{Follows}
@@ -58,7 +56,7 @@ use Rattle.lsp_judge.specs.Rulings.{verdict_in, IsNoAt}
 use Rattle.lsp_judge.specs.declared.event_reader.EventReader.{EventReader}
 use Rattle.lsp_judge.specs.declared.ruling.Ruling.{Ruling}
 use Rattle.lsp_judge.specs.declared.ruling.Ruling.TheVariants as rulings
-use Rattle.lsp_judge.proofs.Finals.{bad_final, end_final, named_end}
+use Rattle.lsp_judge.proofs.Finals.{bad_final, end_final}
 use Rattle.lsp_judge.proofs.Hearing.{OffendsAfter, offends_in, stops}
 use Rattle.lsp_judge.proofs.KeptEvents.{kept_clean, kept_no, kept_more, kept_final}
 

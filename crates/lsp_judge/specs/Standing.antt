@@ -1,5 +1,5 @@
 -- For which records a judge stands.
-use Rattle.std.specs.Prelude.{◌≡◌, List, [], Option, Some, None, option_and_then}
+use Rattle.std.specs.Prelude.{◌≡◌, List, Option, Some, None, option_and_then}
 use Rattle.lsp_frame.specs.Bounds.{Bounds, IsInRange}
 use Rattle.lsp_frame.specs.declared.format.Format.{Format}
 use Rattle.lsp_session.specs.State as session
@@ -9,7 +9,6 @@ use Rattle.lsp_replay.specs.Streams as frames
 use Rattle.lsp_verdict.specs.declared.counts.Counts.{Counts}
 use Rattle.lsp_judge.specs.declared.ruling.Ruling.{Ruling}
 use Rattle.lsp_judge.specs.declared.ruling.Ruling.TheVariants.{No, BadLog, Memory}
-use Rattle.lsp_verdict.specs.Event.{Event}
 use Rattle.lsp_verdict.specs.Given.{as_given}
 use Rattle.lsp_verdict.specs.Outcome.{Offends}
 use Rattle.lsp_judge.specs.Heard.{AreHeard}
