@@ -227,7 +227,8 @@ pub open_none : (s : State) (records : List Record) → s.given ≡ None → Sta
     → NoneOffends s.limits s.format records
 open_none s records none stands =
     λ events session. nothing_offends (terms_of s.limits s.format) events
-    (clean_session s records events (is_open s records none stands) session)
+    (clean_session s.limits s.format s.streams s.messages s.documents s.counts records
+    (is_open s records none stands) events session)
 
 -- ---- the records taken
 

@@ -10,17 +10,15 @@ use Rattle.lsp_log.specs.Log.{Record}
 use Rattle.lsp_replay.specs.Standing.{Keeps as KeepsOne}
 use Rattle.lsp_replay.specs.declared.heard.Heard.{Heard}
 use Rattle.lsp_replay.specs.Streams as frames
-use Rattle.lsp_verdict.specs.Lent.{raw_view}
-use Rattle.lsp_verdict.specs.declared.raw.Raw as code
 use Rattle.lsp_verdict.specs.Event.{Event}
 use Rattle.lsp_verdict.specs.Given.{as_given}
 use Rattle.lsp_verdict.specs.Outcome.{Offends}
 use Rattle.lsp_verdict.specs.Placed.{Raw, Placed, Reads, IsSession}
 use Rattle.lsp_verdict.specs.Verdict.{Verdict, no, first_no, no_at}
 use Rattle.lsp_verdict.specs.declared.counts.Counts.{Counts}
-use Rattle.lsp_judge.specs.Heard.{HasHeard, HearsOne}
+use Rattle.lsp_judge.specs.Heard.{HasHeard, HearsOne, IsHearing}
 use Rattle.lsp_judge.specs.Rulings.{IsNoAt}
-use Rattle.lsp_judge.specs.Standing.{State, IsHearing, IsOpen, Keeps, Rules}
+use Rattle.lsp_judge.specs.Standing.{Rules}
 use Rattle.lsp_judge.specs.declared.ruling.Ruling.{Ruling}
 use Rattle.lsp_judge.specs.declared.ruling.Ruling.TheVariants.{No, BadLog, Memory}
 use Rattle.lsp_replay.proofs.Following.{follows_on}
@@ -107,73 +105,13 @@ stops_rules limits format records before (No rule who number at) o =
 stops_rules limits format records before (BadLog number code) o = o
 stops_rules limits format records before Memory o = tt
 
--- ---- the events of a record
-
--- events of one more record than an open judge has were heard, and some are due
-pub record IsHearingOn (old new : State) (next : Record) : Type 0 where
-  pub keeps : Keeps old new
-  pub hears : (records : List Record) → IsOpen old records
-      → (heard : List Event) × (due : List Raw) × IsHearing new (records ++ next ∷ []) heard due
-
--- a record was pushed
-pub pushed : (s : State) (new : frames.State) (records : List Record) (next : Record)
-    → ((limits : Bounds) (rs : List Record) (given : List Raw)
-    → frames.Stands limits s.streams rs given []
-    → (due : List Raw) × frames.Stands limits new (rs ++ next ∷ []) given due)
-    → (o : IsOpen s records)
-    → (heard : List Event) × (due : List Raw) × IsHearing (record s {
-      streams = new;
-    }) (records ++ next ∷ []) heard due
-pushed s new records next pushes o =
-    let all = pushes s.limits records o.1.past o.1.stands in
-    (o.0, all.0, record { past = o.1.past; stands = all.1; has = o.1.has })
-
--- an event of those due was heard
-pub heard_on : (s : State) (new : frames.State) (m : session.State) (d : docs.State) (c : Counts)
-    (records : List Record) (heard : List Event) (due : List Raw) (raw : code.Raw) (event : Event)
-    → (h : IsHearing s records heard due) → frames.Gives s.limits new records h.past due (Some raw)
-    → HasHeard (terms_of s.limits s.format) m d c (h.past ++ raw_view raw ∷ [])
-    (heard ++ event ∷ [])
-    → (all : List Event) × (later : List Raw) × IsHearing (record s {
-      streams = new;
-      messages = m;
-      documents = d;
-      counts = c;
-    }) records all later
-heard_on s new m d c records heard due raw event h (later, first, stands) has = (
-  heard ++ event ∷ [],
-  later,
-  record {
-    past = h.past ++ raw_view raw ∷ [];
-    stands = stands;
-    has = has;
-  },
-)
-
--- it offends
-pub stopped : (s : State) (new : frames.State) (records : List Record) (heard : List Event)
-    (due : List Raw) (raw : code.Raw) (ruling : Ruling) → (h : IsHearing s records heard due)
-    → frames.Gives s.limits new records h.past due (Some raw)
-    → IsNoAt s.documents.terms heard (Reads (raw_view raw)) ruling
-    → Rules s.limits s.format records ruling
-stopped s new records heard due raw ruling h (later, first, stands) named =
-    stops_rules s.limits s.format records heard ruling
-    (stops s.limits s.format s.messages s.documents s.counts records h.past later heard h.has
-    (raw_view raw) ruling (subst (λ (w : List Raw). Placed s.limits records (h.past ++ w)) first
-    h.stands.placed) named)
-
--- all were heard
-pub heard_all : (s : State) (new : frames.State) (records : List Record) (heard : List Event)
-    (due : List Raw) → (h : IsHearing s records heard due)
-    → frames.Gives s.limits new records h.past due None
-    → IsOpen (record s { streams = new }) records
-heard_all s new records heard due h (none, stands) =
-    (heard, record { past = h.past; stands = stands; has = h.has })
-
--- by the limits and the format from before
-pub rules_along : (own limits : Bounds) (f format : Format) (records : List Record)
-    (ruling : Ruling) → own ≡ limits → f ≡ format → Rules own f records ruling
+-- an event of those due does
+pub stopped : (limits : Bounds) (format : Format) (s : frames.State) (m : session.State)
+    (d : docs.State) (c : Counts) (records : List Record) (heard : List Event) (due later : List Raw)
+    (raw : Raw) (ruling : Ruling) → IsHearing limits format s m d c records heard due
+    → due ≡ raw ∷ later → IsNoAt d.terms heard (Reads raw) ruling
     → Rules limits format records ruling
-rules_along own limits f format records ruling same alike o =
-    subst (λ (x : Format). Rules limits x records ruling) alike
-    (subst (λ (b : Bounds). Rules b f records ruling) same o)
+stopped limits format s m d c records heard due later raw ruling h first named =
+    stops_rules limits format records heard ruling
+    (stops limits format m d c records h.past later heard h.has raw ruling
+    (subst (λ (w : List Raw). Placed limits records (h.past ++ w)) first h.stands.placed) named)

@@ -1,8 +1,7 @@
 -- The events of a log, heard one by one up to its verdict.
 use Rattle.std.proofs.Common.{◌≡◌, ◌<◌, ◌≤◌, ◌+◌, ◌-◌, ◌^◌, ℕ, List, [], ◌∷◌, ◌++◌, Option, Some}
-use Rattle.std.proofs.Common.{None, Result, Ok, Err, refl, sym, ap, subst, ◌∙◌}
+use Rattle.std.proofs.Common.{None, Ok, Err, refl, sym, ap, subst, ◌∙◌}
 use Rattle.std.proofs.Common.{append_assoc, append-nil, length, length-append, arith}
-use Rattle.std.specs.Prelude.{IfOk, IfSome}
 use Rattle.lsp_types.specs.declared.memory.Memory.{Memory}
 use Rattle.lsp_frame.specs.Bounds.{Bounds, IsInRange}
 use Rattle.lsp_frame.specs.Told.{Told}
@@ -11,7 +10,6 @@ use Rattle.lsp_session.specs.State as session
 use Rattle.lsp_docs.specs.State as docs
 use Rattle.lsp_docs.specs.Terms.{Terms}
 use Rattle.lsp_log.specs.Log.{Record, IsLog}
-use Rattle.lsp_log.specs.Reader as reader
 use Rattle.lsp_log.specs.declared.fault.LogCode.{LogCode}
 use Rattle.lsp_replay.specs.Lines.{IsHeard}
 use Rattle.lsp_replay.specs.Standing.{Follows}
@@ -26,7 +24,7 @@ use Rattle.lsp_replay.specs.declared.log_events.End.TheVariants.{Bad}
 use Rattle.lsp_replay.specs.declared.log_events.LogEvents.{LogEvents}
 use Rattle.lsp_replay.specs.declared.log_events.Next.TheVariants as next
 use Rattle.lsp_verdict.specs.declared.raw.Raw as lent
-use Rattle.lsp_replay.proofs.Pulling.{reads_failures, reads_given}
+use Rattle.lsp_replay.proofs.Pulling.{log_of, reads_failures, reads_given}
 use Rattle.lsp_verdict.specs.Complete.{IsCompleteVerdict, IsFinalBy, IsVerdictBy, completed}
 use Rattle.lsp_verdict.specs.Event.{Event}
 use Rattle.lsp_verdict.specs.Given.{verdict_view, as_given}
@@ -58,7 +56,7 @@ use Rattle.lsp_judge.specs.Rulings.{verdict_in, IsNoAt}
 use Rattle.lsp_judge.specs.declared.event_reader.EventReader.{EventReader}
 use Rattle.lsp_judge.specs.declared.ruling.Ruling.{Ruling}
 use Rattle.lsp_judge.specs.declared.ruling.Ruling.TheVariants as rulings
-use Rattle.lsp_judge.proofs.Finals.{bad_final, end_final, named_end}
+use Rattle.lsp_judge.proofs.Finals.{bad_final, end_final}
 use Rattle.lsp_judge.proofs.Hearing.{OffendsAfter, offends_in, stops}
 use Rattle.lsp_judge.proofs.KeptEvents.{kept_clean, kept_no, kept_more, kept_final}
 
@@ -77,27 +75,34 @@ by_any limits format heard log b = (b.v, b.later, (b.whole, b.is))
 
 -- ---- a log of these records
 
+-- it has a verdict, and these records
+abbrev pub whole_of : (limits : Bounds) (log : List ℕ) (format : Option Format)
+    (records : List Record) (flaw : Option (ℕ × LogCode)) → IsLog limits log format records flaw
+    → (v : Verdict) × IsVerdict limits log v
+whole_of limits log format records flaw is_log =
+    let final = some_final limits (format_or_one format) records flaw in (
+      final.0,
+      record {
+        format = format;
+        records = records;
+        fault = flaw;
+        is_log = is_log;
+        final = final.1;
+      },
+    )
+
 module _ (limits : Bounds) (sizes : IsInRange limits) (log : List ℕ) (format : Option Format)
     (records : List Record) (flaw : Option (ℕ × LogCode))
     (is_log : IsLog limits log format records flaw) where
-  -- it has a verdict, and these events
-  abbrev whole_of : (v : Verdict) × IsVerdict limits log v
-  whole_of = let final = some_final limits (format_or_one format) records flaw in (
-    final.0,
-    record {
-      format = format;
-      records = records;
-      fault = flaw;
-      is_log = is_log;
-      final = final.1;
-    },
-  )
+  abbrev own_verdict : (v : Verdict) × IsVerdict limits log v
+  own_verdict = whole_of limits log format records flaw is_log
 
+  -- these are its events
   events_are : (events : List Event) → IsSession limits records events
-      → whole_of.1.final.events ≡ events
+      → own_verdict.1.final.events ≡ events
   events_are events session =
-      same_session limits records records whole_of.1.final.events events refl
-      whole_of.1.final.session session
+      same_session limits records records own_verdict.1.final.events events refl
+      own_verdict.1.final.session session
 
   -- what was heard stands before the verdict's place
   pub begins_by : (heard extra : List Event) → first_no (log_terms limits format) heard ≡ None
@@ -105,11 +110,11 @@ module _ (limits : Bounds) (sizes : IsInRange limits) (log : List ℕ) (format :
   begins_by heard extra clean session =
       let tail = kept_more (log_terms limits format) heard extra clean in
       record {
-        v = whole_of.0;
+        v = own_verdict.0;
         later = tail.0;
-        whole = whole_of.1;
-        is = kept_final (log_terms limits format) whole_of.1.final.events _ whole_of.0
-            whole_of.1.final.says ∙ ap (kept_within (log_terms limits format))
+        whole = own_verdict.1;
+        is = kept_final (log_terms limits format) own_verdict.1.final.events _ own_verdict.0
+            own_verdict.1.final.says ∙ ap (kept_within (log_terms limits format))
             (events_are (heard ++ extra) session) ∙ tail.1;
         of = refl;
       }
@@ -119,8 +124,8 @@ module _ (limits : Bounds) (sizes : IsInRange limits) (log : List ℕ) (format :
   heard_few heard extra session =
       omega (
         arith,
-        events_within limits log format records flaw whole_of.1.final.events is_log
-            whole_of.1.final.session,
+        events_within limits log format records flaw own_verdict.1.final.events is_log
+            own_verdict.1.final.session,
         ap length (events_are (heard ++ extra) session),
         length-append heard extra,
       )
@@ -132,17 +137,17 @@ module _ (limits : Bounds) (sizes : IsInRange limits) (log : List ℕ) (format :
   ends_no heard given o =
       let events = heard ++ o.event ∷ o.later in
       let final = subst (λ (rs : List Record).
-      IsFinal limits (format_or_one format) rs flaw whole_of.0) (sym (append-nil records))
-      whole_of.1.final in
-      let same : o.verdict ≡ whole_of.0 =
-      offends_final limits (format_or_one format) records [] flaw o.verdict whole_of.0
+      IsFinal limits (format_or_one format) rs flaw own_verdict.0) (sym (append-nil records))
+      own_verdict.1.final in
+      let same : o.verdict ≡ own_verdict.0 =
+      offends_final limits (format_or_one format) records [] flaw o.verdict own_verdict.0
       (offends_in limits (format_or_one format) records heard given o) final in
-      let named : given ≡ whole_of.0 =
-      o.is ∙ ap as_given same ∙ exact limits sizes log whole_of.0 whole_of.1 in
+      let named : given ≡ own_verdict.0 =
+      o.is ∙ ap as_given same ∙ exact limits sizes log own_verdict.0 own_verdict.1 in
       subst (EndsAt limits log heard) (sym named) (
-        whole_of.1,
-        kept_final (log_terms limits format) whole_of.1.final.events _ whole_of.0
-            whole_of.1.final.says
+        own_verdict.1,
+        kept_final (log_terms limits format) own_verdict.1.final.events _ own_verdict.0
+            own_verdict.1.final.says
             ∙ ap (kept_within (log_terms limits format)) (events_are events o.session)
             ∙ kept_no (log_terms limits format) heard o.event o.later o.verdict o.clean o.offends,
       )
@@ -156,21 +161,14 @@ pub ends_clean : (limits : Bounds) → IsInRange limits
     → ((v : Verdict) → IsFinal limits (format_or_one format) records flaw v → given ≡ as_given v)
     → EndsAt limits log heard given
 ends_clean limits sizes log format records flaw is_log heard given clean session says =
-    let final = some_final limits (format_or_one format) records flaw in
-    let whole : IsVerdict limits log final.0 =
-    record {
-      format = format;
-      records = records;
-      fault = flaw;
-      is_log = is_log;
-      final = final.1;
-    } in
-    let named : given ≡ final.0 = says final.0 final.1 ∙ exact limits sizes log final.0 whole in
-    let events : final.1.events ≡ heard =
-    same_session limits records records final.1.events heard refl final.1.session session in
+    let whole = whole_of limits log format records flaw is_log in
+    let final = whole.1.final in
+    let named : given ≡ whole.0 = says whole.0 final ∙ exact limits sizes log whole.0 whole.1 in
+    let events : final.events ≡ heard =
+    same_session limits records records final.events heard refl final.session session in
     subst (EndsAt limits log heard) (sym named) (
-      whole,
-      kept_final (log_terms limits format) final.1.events _ final.0 final.1.says
+      whole.1,
+      kept_final (log_terms limits format) final.events _ whole.0 final.says
           ∙ ap (kept_within (log_terms limits format)) events
           ∙ kept_clean (log_terms limits format) heard clean,
     )
@@ -194,29 +192,19 @@ ends_final : (completeness : Completeness) (limits : Bounds) → IsInRange limit
 ends_final Ignored limits sizes log format records flaw is_log heard given clean session says =
     ends_clean limits sizes log format records flaw is_log heard given clean session says
 ends_final Required limits sizes log format records flaw is_log heard given clean session says =
-    let final = some_final limits (format_or_one format) records flaw in
-    let whole : IsVerdict limits log final.0 =
-    record {
-      format = format;
-      records = records;
-      fault = flaw;
-      is_log = is_log;
-      final = final.1;
-    } in
-    let complete : IsCompleteVerdict limits log (completed final.1.events final.0) =
-    record { plain = final.0; whole = whole; says = refl } in
-    let named : given ≡ completed final.1.events final.0 =
-    says _ (record {
-      plain = final.0;
-      final = final.1;
-      says = refl;
-    }) ∙ complete_exact limits sizes log _ complete in
-    let events : final.1.events ≡ heard =
-    same_session limits records records final.1.events heard refl final.1.session session in (
-      final.0,
+    let whole = whole_of limits log format records flaw is_log in
+    let final = whole.1.final in
+    let complete : IsCompleteVerdict limits log (completed final.events whole.0) =
+    record { plain = whole.0; whole = whole.1; says = refl } in
+    let named : given ≡ completed final.events whole.0 =
+    says _ (record { plain = whole.0; final = final; says = refl })
+    ∙ complete_exact limits sizes log _ complete in
+    let events : final.events ≡ heard =
+    same_session limits records records final.events heard refl final.session session in (
+      whole.0,
       (
-        whole,
-        kept_final (log_terms limits format) final.1.events _ final.0 final.1.says
+        whole.1,
+        kept_final (log_terms limits format) final.events _ whole.0 final.says
             ∙ ap (kept_within (log_terms limits format)) events
             ∙ kept_clean (log_terms limits format) heard clean,
       ),
@@ -233,12 +221,6 @@ ends_verdict Required limits log heard v ends = record {
 }
 
 -- ---- what is known of the log read
-
-ends_log : (r : reader.State) (limits : Bounds) (records : List Record)
-    (flaw : Option (ℕ × LogCode)) (log : List ℕ) → IsLogOf r limits records flaw log
-    → IsLog limits log r.format records flaw
-ends_log r limits records None log is = is
-ends_log r limits records (Some flaw) log is = is.is_log
 
 module _ (limits : Bounds) (format : Option Format) (e : LogEvents) (m : session.State)
     (d : docs.State) (c : Counts) (start now : Told) (records : List Record) (given due : List Raw)
@@ -364,14 +346,15 @@ unopened limits start now fault off = record {
 
 -- nothing was heard yet
 pub nothing_heard : (limits : Bounds) (e : EventReader) (start now : Told)
-    → streams.Opens limits start now e.log → e.events.docs.terms ≡ log_terms limits e.log.log.format
-    → Follows e.events.session e.events.docs e.events.counts [] → SoFar limits e start now []
-nothing_heard limits e start now (records, due, reads) terms follows = record {
+    → streams.Opens limits start now e.log
+    → HasHeard (log_terms limits e.log.log.format) e.events.session e.events.docs e.events.counts []
+    [] → SoFar limits e start now []
+nothing_heard limits e start now (records, due, reads) has = record {
   records = records;
   given = [];
   due = due;
   reads = reads;
-  has = record { read = tt; by = terms; follows = follows };
+  has = has;
 }
 
 -- ---- the next event
@@ -496,8 +479,8 @@ module _ (limits : Bounds) (e : EventReader) (start mid now : Told) (heard : Lis
 
 -- ---- the log ends
 
-module _ (completeness : Completeness) (limits : Bounds) (e : EventReader) (start now : Told)
-    (heard : List Event) (end : End) (h : HasEnded limits e start now heard end) where
+module _ (limits : Bounds) (e : EventReader) (start now : Told) (heard : List Event) (end : End)
+    (h : HasEnded limits e start now heard end) where
   abbrev format : Option Format
   format = e.log.log.format
 
@@ -508,15 +491,16 @@ module _ (completeness : Completeness) (limits : Bounds) (e : EventReader) (star
     h.has.read,
   )
 
-  -- this is the verdict on its records
-  found_end : (v : Verdict)
-      → ((w : Verdict) → IsFinalBy completeness limits (format_or_one format) h.records
-      (flaw_of end) w → v ≡ as_given w) → Found completeness limits start now heard v
-  found_end v says = record {
+  -- what is given is the verdict
+  pub found_end : (completeness : Completeness) (given : code.Verdict)
+      → Finishes completeness limits format h.records end (Ok given)
+      → Found completeness limits start now heard (verdict_view given)
+  found_end completeness given says = record {
     of_read = read_map limits start now (IsLogOf e.log.log limits h.records (flaw_of end))
-        (λ log. EndsBy completeness limits log heard v)
+        (λ log. EndsBy completeness limits log heard (verdict_view given))
         (λ log is. ends_final completeness limits h.ended.reads.stands.range log format h.records
-        (flaw_of end) (ends_log e.log.log limits h.records (flaw_of end) log is) heard v
+        (flaw_of end) (log_of e.log.log limits h.records (flaw_of end) log is) heard
+        (verdict_view given)
         (clean limits format e.log e.events.session e.events.docs e.events.counts start now
         h.records h.given [] heard h.ended.reads h.has) here says)
         h.ended.ends.of_read;
@@ -535,40 +519,28 @@ module _ (completeness : Completeness) (limits : Bounds) (e : EventReader) (star
       })
 
   -- the log has a fault
-  pub found_bad : (number : ℕ) (fault : LogCode) → end ≡ Bad number fault → number < 2 ^ 64
-      → Found completeness limits start now heard (bad_log number fault)
-  found_bad number fault is small = found_end (bad_log number fault) (λ w final.
+  pub given_bad : (completeness : Completeness) (number : ℕ) (fault : LogCode) (v : Verdict)
+      → end ≡ Bad number fault → number < 2 ^ 64
+      → IsFinalBy completeness limits (format_or_one format) h.records (flaw_of end) v
+      → bad_log number fault ≡ as_given v
+  given_bad completeness number fault v is small final =
       bad_final limits (format_or_one format) e.log.streams e.events.session e.events.docs
       e.events.counts h.records h.given heard h.ended.reads.stands h.has completeness number
-      fault w small
+      fault v small
       (subst (λ (x : End). IsFinalBy completeness limits (format_or_one format) h.records
-      (flaw_of x) w) is final))
+      (flaw_of x) v) is final)
 
   -- it has none
-  pub found_sound : (v : Verdict) → flaw_of end ≡ None
-      → v ≡ as_given (end_by completeness e.events.docs.terms heard
+  pub given_sound : (completeness : Completeness) (given v : Verdict) → flaw_of end ≡ None
+      → given ≡ as_given (end_by completeness e.events.docs.terms heard
       (ends_inside e.log.streams.editor) (ends_inside e.log.streams.server))
-      → Found completeness limits start now heard v
-  found_sound v sound told = found_end v (λ w final.
+      → IsFinalBy completeness limits (format_or_one format) h.records (flaw_of end) v
+      → given ≡ as_given v
+  given_sound completeness given v sound told final =
       end_final limits (format_or_one format) e.log.streams e.events.session e.events.docs
-      e.events.counts h.records h.given heard h.ended.reads.stands h.has completeness v w told
+      e.events.counts h.records h.given heard h.ended.reads.stands h.has completeness given v told
       (subst (λ (o : Option (ℕ × LogCode)). IsFinalBy completeness limits (format_or_one format)
-      h.records o w) sound final))
-
-  -- what is answered at the end
-  pub answered_end : (ruling : Ruling) (r : Result code.Verdict Memory) → flaw_of end ≡ None
-      → IfOk r (λ answer. verdict_in ruling ≡ Some (verdict_view answer))
-      → ((so_far : List Event) → Follows e.events.session e.events.docs e.events.counts so_far
-      → IfSome (verdict_in ruling)
-      (λ said. said ≡ as_given (end_by completeness e.events.docs.terms so_far
-      (ends_inside e.log.streams.editor) (ends_inside e.log.streams.server))))
-      → Finishes completeness limits start now heard r
-  answered_end ruling (Ok v) sound is told =
-      found_sound (verdict_view v) sound
-      (named_end ruling (verdict_view v)
-      (end_by completeness e.events.docs.terms heard (ends_inside e.log.streams.editor)
-      (ends_inside e.log.streams.server)) is (told heard h.has.follows))
-  answered_end ruling (Err memory) sound is told = broke_end
+      h.records o v) sound final)
 
 -- ---- loops
 

@@ -3,15 +3,20 @@ use Rattle.std.proofs.Common.{◌≡◌, List, [], ◌++◌, Option, Some, None,
 use Rattle.std.specs.Prelude.{option_map}
 use Rattle.lsp_frame.specs.Bounds.{Bounds, IsInRange}
 use Rattle.lsp_frame.specs.declared.format.Format.{Format}
+use Rattle.lsp_session.specs.State as session
+use Rattle.lsp_docs.specs.State as docs
 use Rattle.lsp_docs.specs.Terms.{Terms, terms_of}
 use Rattle.lsp_log.specs.Log.{Record}
 use Rattle.lsp_replay.specs.Streams as frames
 use Rattle.lsp_verdict.specs.Event.{Event}
 use Rattle.lsp_verdict.specs.Given.{as_given}
 use Rattle.lsp_verdict.specs.Placed.{IsSession}
+use Rattle.lsp_verdict.specs.Upgraded.{AreAccepted}
+use Rattle.lsp_verdict.specs.declared.counts.Counts.{Counts}
+use Rattle.lsp_judge.specs.Heard.{AreHeard}
 use Rattle.lsp_judge.specs.Rulings.{verdict_in}
 use Rattle.lsp_replay.specs.Standing.{Follows}
-use Rattle.lsp_judge.specs.Standing.{State, IsOpen, HasOffence, Rules, Keeps, StandsBy, Stands}
+use Rattle.lsp_judge.specs.Standing.{State, IsOpen, HasOffence, Rules, StandsBy, Stands}
 use Rattle.lsp_verdict.specs.Verdict.{Verdict, no, no_at, first_no}
 use Rattle.lsp_judge.specs.declared.ruling.Ruling.{Ruling}
 use Rattle.lsp_judge.specs.declared.ruling.Ruling.TheVariants.{No, BadLog, Memory}
@@ -19,6 +24,7 @@ use Rattle.lsp_verdict.proofs.LookBackLemmas.{first_of-more}
 use Rattle.lsp_verdict.proofs.Outcomes.{session_front}
 use Rattle.lsp_verdict.proofs.PlacedLemmas.{placed_whole}
 use Rattle.lsp_verdict.proofs.Sessions.{some_session, same_session}
+use Rattle.lsp_verdict.proofs.Verdicts.{nothing_offends}
 
 -- ---- what is known once an event offends
 
@@ -47,43 +53,54 @@ offence_first limits format rs given events (v, offends, is) session =
     ap Some is ∙ ap (option_map as_given) (sym
     (ap (first_no (terms_of limits format)) same ∙ offends.offends))
 
--- ---- a judge that heard all events of its records
+-- ---- records whose events were all heard
 
--- they are the events of a session
-pub open_session : (s : State) (rs : List Record) (o : IsOpen s rs) → IsSession s.limits rs o.0
-open_session s rs o = (
-  o.1.past,
-  placed_whole s.limits rs o.1.past [] refl o.1.stands.placed,
-  o.1.has.read,
-)
+module _ (limits : Bounds) (format : Format) (s : frames.State) (m : session.State) (d : docs.State)
+    (c : Counts) (rs : List Record) (o : AreHeard limits format s m d c rs) where
+  -- they are the events of a session
+  open_session : IsSession limits rs o.0
+  open_session = (
+    o.1.past,
+    placed_whole limits rs o.1.past [] refl o.1.stands.placed,
+    o.1.has.read,
+  )
 
--- and none of them offends
-pub open_clean : (s : State) (rs : List Record) (o : IsOpen s rs)
-    → first_no (terms_of s.limits s.format) o.0 ≡ None
-open_clean s rs o = ap (λ (t : Terms). first_no t o.0) (sym o.1.has.by) ∙ o.1.has.follows.clean
+  -- and none of them offends
+  open_clean : first_no (terms_of limits format) o.0 ≡ None
+  open_clean = ap (λ (t : Terms). first_no t o.0) (sym o.1.has.by) ∙ o.1.has.follows.clean
 
-pub clean_session : (s : State) (rs : List Record) (events : List Event) → IsOpen s rs
-    → IsSession s.limits rs events → first_no (terms_of s.limits s.format) events ≡ None
-clean_session s rs events o session =
-    ap (first_no (terms_of s.limits s.format))
-    (same_session s.limits rs rs events o.0 refl session (open_session s rs o))
-    ∙ open_clean s rs o
+  pub accepted : AreAccepted limits format rs
+  accepted = record {
+    events = o.0;
+    session = open_session;
+    clean = nothing_offends (terms_of limits format) o.0 open_clean;
+  }
+
+  pub clean_session : (events : List Event) → IsSession limits rs events
+      → first_no (terms_of limits format) events ≡ None
+  clean_session events session =
+      ap (first_no (terms_of limits format))
+      (same_session limits rs rs events o.0 refl session open_session) ∙ open_clean
+
+pub open_stands : (s : State) (rs : List Record) → IsInRange s.limits → s.given ≡ None
+    → IsOpen s rs → Stands s rs
+open_stands s rs range none o = record {
+  range = range;
+  given = subst (λ (g : Option Ruling). StandsBy g s rs) (sym none) o;
+}
 
 -- a judge that has just begun
 pub new_stands : (s : State) → frames.Stands s.limits s.streams [] [] []
     → s.documents.terms ≡ terms_of s.limits s.format → Follows s.messages s.documents s.counts []
     → s.given ≡ None → Stands s []
-new_stands s stands terms follows given = record {
-  range = stands.range;
-  given = subst (λ (o : Option Ruling). StandsBy o s []) (sym given) (
-    [],
-    record {
-      past = [];
-      stands = stands;
-      has = record { read = tt; by = terms; follows = follows };
-    },
-  );
-}
+new_stands s stands terms follows given = open_stands s [] stands.range given (
+  [],
+  record {
+    past = [];
+    stands = stands;
+    has = record { read = tt; by = terms; follows = follows };
+  },
+)
 
 -- ---- a judge that gave a verdict
 
@@ -123,19 +140,16 @@ given_verdict s rs more ruling v events e is p session =
 pub is_open : (s : State) (rs : List Record) → s.given ≡ None → Stands s rs → IsOpen s rs
 is_open s rs e p = subst (λ (o : Option Ruling). StandsBy o s rs) e p.given
 
-pub none_verdict : (old new : State) (rs more : List Record) (events : List Event)
-    → old.given ≡ None → Keeps old new → (IsOpen old rs → IsOpen new (rs ++ more)) → Stands old rs
+pub none_verdict : (old : State) (rs more : List Record) (events : List Event) (s : frames.State)
+    (m : session.State) (d : docs.State) (c : Counts) → old.given ≡ None
+    → (IsOpen old rs → AreHeard old.limits old.format s m d c (rs ++ more)) → Stands old rs
     → IsSession old.limits (rs ++ more) events
     → None ≡ option_map as_given (first_no (terms_of old.limits old.format) events)
-none_verdict old new rs more events e keeps next p session =
-    let none = clean_session new (rs ++ more) events (next (is_open old rs e p))
-    (subst (λ (b : Bounds). IsSession b (rs ++ more) events) (sym keeps.limits) session) in
-    let terms : terms_of new.limits new.format ≡ terms_of old.limits old.format =
-    ap (λ (b : Bounds). terms_of b new.format) keeps.limits
-    ∙ ap (terms_of old.limits) keeps.format in
-    ap (option_map as_given) (sym (subst (λ (t : Terms). first_no t events ≡ None) terms none))
+none_verdict old rs more events s m d c e next p session =
+    ap (option_map as_given) (sym (clean_session old.limits old.format s m d c (rs ++ more)
+    (next (is_open old rs e p)) events session))
 
-rules_offence : (limits : Bounds) (format : Format) (rs : List Record) (ruling : Ruling)
+pub rules_offence : (limits : Bounds) (format : Format) (rs : List Record) (ruling : Ruling)
     (v : Verdict) → verdict_in ruling ≡ Some v → Rules limits format rs ruling
     → HasOffence limits format rs v
 rules_offence limits format rs (No rule by number at) v is o =

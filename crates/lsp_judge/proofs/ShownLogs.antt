@@ -1,5 +1,5 @@
 -- What is due where a log is shown.
-use Rattle.std.proofs.Common.{◌≡◌, ℕ, List, [], ◌∷◌, ◌++◌, Option, Some, None, Result, Ok, Err}
+use Rattle.std.proofs.Common.{◌≡◌, ℕ, List, [], ◌∷◌, ◌++◌, Option, Some, None, Err}
 use Rattle.std.proofs.Common.{refl, sym, ap, subst, ◌∙◌, append_assoc, append-nil, arith}
 use Rattle.std.specs.Prelude.{unwrap_or}
 use Rattle.std.specs.List.{flat_map, cons_option}
@@ -14,13 +14,8 @@ use Rattle.lsp_verdict.specs.declared.completeness.Completeness.TheVariants.{Ign
 use Rattle.lsp_verdict.specs.declared.lines.Lines.{Lines}
 use Rattle.lsp_verdict.specs.declared.outcome.RunFault.{RunFault}
 use Rattle.lsp_verdict.specs.declared.outcome.RunFault.TheVariants as faults
-use Rattle.lsp_verdict.specs.declared.outcome.Outcome.{Outcome}
-use Rattle.lsp_verdict.specs.declared.outcome.Outcome.TheVariants.{Judged}
-use Rattle.lsp_verdict.specs.declared.verdict.Verdict as code
 use Rattle.lsp_verdict.specs.Event.{Event}
-use Rattle.lsp_verdict.specs.Given.{verdict_view}
 use Rattle.lsp_verdict.specs.LookBack.{each_of, each_from}
-use Rattle.lsp_verdict.specs.Outcome.{IsVerdict}
 use Rattle.lsp_verdict.specs.Report.{report}
 use Rattle.lsp_verdict.specs.RunIo.{OfRead, Tells, failures_after, sink_failures_after}
 use Rattle.lsp_verdict.specs.Shown.{line_at, lines_of, show_of}
@@ -35,7 +30,6 @@ use Rattle.lsp_replay.specs.Places.{place_of}
 use Rattle.lsp_replay.proofs.EventPlaces.{IsPlaceAfter, line_placed, placed}
 use Rattle.lsp_replay.specs.declared.heard.EventPlace.{EventPlace}
 use Rattle.lsp_judge.specs.declared.event_reader.EventReader.{EventReader}
-use Rattle.lsp_verdict.proofs.RunsJudged.{judged_as}
 use Rattle.lsp_judge.proofs.LogEvents.{so_far_begins, so_far_few, so_far_failures, so_far_range}
 
 pub one_shown : OneShown
@@ -219,30 +213,17 @@ module _ (lines : Lines) (limits : Bounds) (start now old mid : Told) (heard : L
 
 -- ---- the report
 
-pub verdict_read : (lines : Lines) (limits : Bounds) (start now old new : Told)
-    (given v : code.Verdict) → ShowedAll lines limits start now old new (verdict_view given)
-    → (let outcome : Result Outcome RunFault = Ok (Judged given) in outcome) ≡ Ok (Judged v)
-    → OfRead limits start now (λ log. IsVerdict limits log (verdict_view v))
-verdict_read lines limits start now old new given v s e =
-    judged_as given v (λ w. OfRead limits start now (λ log. IsVerdict limits log (verdict_view w)))
-    e (read_map limits start now _ (λ log. IsVerdict limits log (verdict_view given))
-    (λ log shown. shown.0) s.due)
-
-pub shown_read : (lines : Lines) (limits : Bounds) (start now old mid new : Told)
-    (given v : code.Verdict) (written : List ℕ)
-    → ShowedAll lines limits start now old mid (verdict_view given)
-    → written ≡ report (verdict_view given) → Wrote mid new written
-    → (let outcome : Result Outcome RunFault = Ok (Judged given) in outcome) ≡ Ok (Judged v)
+pub shown_read : (lines : Lines) (limits : Bounds) (start now old mid new : Told) (v : Verdict)
+    (written : List ℕ) → ShowedAll lines limits start now old mid v → written ≡ report v
+    → Wrote mid new written
     → (out : List ℕ) × Took old new out
-    × OfRead limits start now (λ log. IsShown lines limits log (verdict_view v) out)
-shown_read lines limits start now old mid new given v written s is wrote e =
-    judged_as given v (λ w. (out : List ℕ) × Took old new out
-    × OfRead limits start now (λ log. IsShown lines limits log (verdict_view w) out)) e (
-      s.out ++ report (verdict_view given),
-      subst (λ l. Took old new (s.out ++ l)) is
-          (took_then old mid new s.out written s.wrote.took wrote.took),
-      s.due,
-    )
+    × OfRead limits start now (λ log. IsShown lines limits log v out)
+shown_read lines limits start now old mid new v written s is wrote = (
+  s.out ++ report v,
+  subst (λ l. Took old new (s.out ++ l)) is
+      (took_then old mid new s.out written s.wrote.took wrote.took),
+  s.due,
+)
 
 -- memory was refused for the report
 pub lines_begun : (lines : Lines) (limits : Bounds) (start now old new : Told) (v : Verdict)

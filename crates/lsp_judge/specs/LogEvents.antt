@@ -1,15 +1,16 @@
 -- The events of a log, heard one by one up to its verdict.
-use Rattle.std.specs.Prelude.{◌≡◌, ℕ, List, [], ◌++◌, Result, Ok, Err}
+use Rattle.std.specs.Prelude.{◌≡◌, ℕ, List, [], ◌++◌, Option, Result, Ok, Err, IfOk}
 use Rattle.lsp_frame.specs.Bounds.{Bounds}
 use Rattle.lsp_frame.specs.Told.{Told}
+use Rattle.lsp_frame.specs.declared.format.Format.{Format}
 use Rattle.lsp_types.specs.declared.memory.Memory.{Memory}
 use Rattle.lsp_log.specs.Log.{Record}
-use Rattle.lsp_replay.specs.LogEvents.{Reads, Ended}
+use Rattle.lsp_replay.specs.LogEvents.{Reads, Ended, flaw_of}
 use Rattle.lsp_replay.specs.declared.log_events.End.{End}
-use Rattle.lsp_verdict.specs.Complete.{IsVerdictBy, completed}
+use Rattle.lsp_verdict.specs.Complete.{IsFinalBy, IsVerdictBy, completed}
 use Rattle.lsp_verdict.specs.Event.{Event}
-use Rattle.lsp_verdict.specs.Given.{verdict_view}
-use Rattle.lsp_verdict.specs.Outcome.{IsVerdict, log_terms}
+use Rattle.lsp_verdict.specs.Given.{as_given, verdict_view}
+use Rattle.lsp_verdict.specs.Outcome.{IsVerdict, format_or_one, log_terms}
 use Rattle.lsp_verdict.specs.Placed.{Raw}
 use Rattle.lsp_verdict.specs.RunIo.{OfRead, failures_after}
 use Rattle.lsp_verdict.specs.Shown.{kept}
@@ -80,13 +81,13 @@ abbrev pub Opens : Bounds → Told → Told → Result EventReader RunFault → 
 Opens limits start now (Ok e) = SoFar limits e start now []
 Opens limits start now (Err fault) = BrokeOff limits start now [] fault
 
--- the verdict at the end, unless memory ran out
-abbrev pub Finishes : Completeness → Bounds → Told → Told → List Event → Result code.Verdict Memory
-    → Type 0
-Finishes completeness limits start now heard (Ok v) =
-    Found completeness limits start now heard (verdict_view v)
-Finishes completeness limits start now heard (Err memory) =
-    BrokeOff limits start now heard faults.Memory
+-- the verdict on these records, after which the log ends so, is given, unless memory ran out
+abbrev pub Finishes : Completeness → Bounds → Option Format → List Record → End
+    → Result code.Verdict Memory → Type 0
+Finishes completeness limits format records end result =
+    IfOk result (λ given. (v : Verdict)
+    → IsFinalBy completeness limits (format_or_one format) records (flaw_of end) v
+    → verdict_view given ≡ as_given v)
 
 -- ---- runs
 

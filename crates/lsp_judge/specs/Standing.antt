@@ -1,20 +1,17 @@
 -- For which records a judge stands.
-use Rattle.std.specs.Prelude.{◌≡◌, List, [], Option, Some, None, option_and_then}
+use Rattle.std.specs.Prelude.{◌≡◌, List, Option, Some, None, option_and_then}
 use Rattle.lsp_frame.specs.Bounds.{Bounds, IsInRange}
 use Rattle.lsp_frame.specs.declared.format.Format.{Format}
 use Rattle.lsp_session.specs.State as session
 use Rattle.lsp_docs.specs.State as docs
-use Rattle.lsp_docs.specs.Terms.{terms_of}
 use Rattle.lsp_log.specs.Log.{Record}
 use Rattle.lsp_replay.specs.Streams as frames
 use Rattle.lsp_verdict.specs.declared.counts.Counts.{Counts}
 use Rattle.lsp_judge.specs.declared.ruling.Ruling.{Ruling}
 use Rattle.lsp_judge.specs.declared.ruling.Ruling.TheVariants.{No, BadLog, Memory}
-use Rattle.lsp_verdict.specs.Event.{Event}
 use Rattle.lsp_verdict.specs.Given.{as_given}
 use Rattle.lsp_verdict.specs.Outcome.{Offends}
-use Rattle.lsp_verdict.specs.Placed.{Raw}
-use Rattle.lsp_judge.specs.Heard.{HasHeard}
+use Rattle.lsp_judge.specs.Heard.{AreHeard}
 use Rattle.lsp_judge.specs.Rulings.{verdict_in}
 use Rattle.lsp_verdict.specs.Verdict.{Verdict, no}
 
@@ -30,28 +27,15 @@ pub record State : Type 0 where
   pub counts : Counts
   pub given : Option Ruling
 
--- **these events of the records were heard**, none of which offends, and those that are due are
--- still to be heard
-pub record IsHearing (s : State) (records : List Record) (heard : List Event)
-    (due : List Raw) : Type 0 where
-  pub past : List Raw
-  pub stands : frames.Stands s.limits s.streams records past due
-  pub has : HasHeard (terms_of s.limits s.format) s.messages s.documents s.counts past heard
-
 -- nothing was given: no event of the records offends, and all were heard
 abbrev pub IsOpen : State → List Record → Type 0
-IsOpen s records = (events : List Event) × IsHearing s records events []
+IsOpen s records =
+    AreHeard s.limits s.format s.streams s.messages s.documents s.counts records
 
 -- an event of the records offends, and this is the No at the first
 abbrev pub HasOffence : Bounds → Format → List Record → Verdict → Type 0
 HasOffence limits format records given =
     (v : Verdict) × Offends limits format records v × (given ≡ as_given v)
-
--- what is left as it was by a step
-pub record Keeps (old new : State) : Type 0 where
-  pub limits : new.limits ≡ old.limits
-  pub format : new.format ≡ old.format
-  pub given : new.given ≡ old.given
 
 -- a ruling at the last of these records, unless memory ran out
 abbrev pub Rules : Bounds → Format → List Record → Ruling → Type 0

@@ -1,18 +1,48 @@
 //! What the next event is heard as, after those before it.
-ghost use Rattle.std.specs.Prelude.{◌≡◌, List, IfOk, IfErr};
+ghost use Rattle.std.specs.Prelude.{◌≡◌, ◌++◌, ◌∷◌, [], List, IfOk, IfErr, OnOk};
 ghost use Rattle.lsp_docs.specs.Terms.{Terms};
+ghost use Rattle.lsp_frame.specs.Bounds.{Bounds};
+ghost use Rattle.lsp_frame.specs.declared.format.Format.{Format};
+ghost use Rattle.lsp_log.specs.Log as log;
+ghost use Rattle.lsp_log.specs.Records.{record_view};
 ghost use Rattle.lsp_verdict.specs.Counting.{AreCounts};
 ghost use Rattle.lsp_verdict.specs.Event.{Event};
 ghost use Rattle.lsp_verdict.specs.Lent.{raw_view, whose_raw};
 ghost use Rattle.lsp_verdict.specs.Placed as placed;
 ghost use Rattle.lsp_replay.specs.Standing.{Follows, Refuses};
 ghost use Rattle.lsp_judge.specs.Rulings.{IsNoAt};
-ghost use Rattle.lsp_judge.specs.Heard.{HasHeard, HearsOne};
+ghost use Rattle.lsp_judge.specs.Heard.{AreHeard, HasHeard, HearsOne};
+ghost use Rattle.lsp_judge.specs.Standing.{Rules};
 
 use crate::ruling::Ruling;
-use lsp_replay::{Events, Heard, Refused};
+use lsp_log::Record;
+use lsp_replay::{Events, Heard, Refused, Streams};
 use lsp_text::TextStore;
 use lsp_verdict::{Counts, Raw, Who};
+
+/// Hears the events that the next record brings, up to the first that offends.
+pub(crate) fn hear_record<S: TextStore>(
+    streams: &mut Streams,
+    events: &mut Events<S>,
+    next: Record,
+) -> Result<(), Ruling>
+    ensures ok { OnOk result ((limits : Bounds) (format : Format) (records : List log.Record)
+        → AreHeard limits format streams.old events.old.session events.old.docs events.old.counts
+        records
+        → AreHeard limits format streams.new events.new.session events.new.docs events.new.counts
+        (records ++ record_view next ∷ [])) }
+    ensures no { IfErr result (λ ruling. (limits : Bounds) (format : Format)
+        (records : List log.Record)
+        → AreHeard limits format streams.old events.old.session events.old.docs events.old.counts
+        records
+        → Rules limits format (records ++ record_view next ∷ []) ruling) }
+{
+    streams.push(next)?;
+    while let Some(raw) = streams.next() {
+        drop(hear(events, raw)?);
+    }
+    Ok(())
+}
 
 /// Hears the next event, or gives the No at it.
 pub(crate) fn hear<'a, S: TextStore>(

@@ -1,6 +1,6 @@
 //! Judges a recorded session record by record.
 ghost use Rattle.std.specs.Prelude.{◌≡◌, ◌++◌, ◌∷◌, [], ℕ, List, Option, Some, None, Ok, IfOk};
-ghost use Rattle.std.specs.Prelude.{IfErr, OnOk, option_map};
+ghost use Rattle.std.specs.Prelude.{OnOk, option_map};
 ghost use Rattle.lsp_docs.specs.Terms.{terms_of};
 ghost use Rattle.lsp_log.specs.Log as log;
 ghost use Rattle.lsp_log.specs.Records.{record_view};
@@ -12,11 +12,11 @@ ghost use Rattle.lsp_verdict.specs.Outcome.{IsFinal};
 ghost use Rattle.lsp_verdict.specs.Placed.{IsSession};
 ghost use Rattle.lsp_judge.specs.Ending.{EndIs, end_by};
 ghost use Rattle.lsp_replay.specs.Standing.{Follows};
-ghost use Rattle.lsp_judge.specs.Standing.{IsOpen, Keeps, Rules, Stands, WasRefused, is_given};
+ghost use Rattle.lsp_judge.specs.Standing.{Stands, WasRefused, is_given};
 ghost use Rattle.lsp_replay.specs.Streams.{ends_inside};
 ghost use Rattle.lsp_verdict.specs.Verdict as spec;
 
-use crate::contents::hear;
+use crate::contents::hear_record;
 use crate::ending::end_of;
 use crate::ruling::Ruling;
 use lsp_frame::{Format, Limits};
@@ -114,7 +114,7 @@ impl<S: TextStore> Judge<S> {
         if let Some(ruling) = self.given {
             return Ok(Some(ruling.answer()?));
         }
-        match self.hear(next) {
+        match hear_record(&mut self.streams, &mut self.events, next) {
             Ok(()) => Ok(None),
             Err(ruling) => {
                 self.given = Some(ruling);
@@ -204,20 +204,5 @@ impl<S: TextStore> Judge<S> {
         let editor = self.streams.ends_inside(Side::Editor);
         let server = self.streams.ends_inside(Side::Server);
         end_of(self.alloc, &self.events, editor, server, completeness)
-    }
-
-    /// Hears what a record brings, up to the first event that offends.
-    fn hear(&mut self, next: Record) -> Result<(), Ruling>
-        ensures keeps { Keeps self.old self.new }
-        ensures ok { OnOk result ((records : List log.Record) → IsOpen self.old records
-            → IsOpen self.new (records ++ record_view next ∷ [])) }
-        ensures no { IfErr result (λ ruling. (records : List log.Record) → IsOpen self.old records
-            → Rules self.old.limits self.old.format (records ++ record_view next ∷ []) ruling) }
-    {
-        self.streams.push(next)?;
-        while let Some(raw) = self.streams.next() {
-            drop(hear(&mut self.events, raw)?);
-        }
-        Ok(())
     }
 }

@@ -13,7 +13,7 @@ use Rattle.lsp_frame.specs.declared.format.Format.{Format}
 use Rattle.lsp_log.specs.Log.{Record, chunk, shown, Fits, head_of, in_range, is_i32, is_within, IsLog}
 use Rattle.lsp_log.specs.Reader as reader
 use Rattle.lsp_log.specs.Place.{found_behind}
-use Rattle.lsp_log.specs.Reader.{empty, shown_by, kept_by, kept_in, StandsFor, StandsAt, Begins, MayFollow, KeepsFormat, Given}
+use Rattle.lsp_log.specs.Reader.{empty, shown_by, kept_by, kept_in, StandsFor, StandsAt, Begins, MayFollow, Given}
 use Rattle.lsp_log.specs.Records.{record_view}
 use Rattle.lsp_log.specs.declared.fault.LogCode.{LogCode}
 use Rattle.lsp_log.specs.declared.fault.LogFault.{LogFault}
@@ -24,12 +24,10 @@ use Rattle.lsp_log.specs.declared.record.Record as code
 use Rattle.lsp_log.proofs.Callers.{begins_open}
 use Rattle.lsp_log.proofs.Reading.{left_at}
 use Rattle.lsp_verdict.specs.RunIo.{OfRead, failures_after}
-use Rattle.lsp_verdict.specs.declared.entry.Entry.{Entry}
-use Rattle.lsp_verdict.specs.declared.entry.Entry.TheVariants as entry
 use Rattle.lsp_verdict.specs.declared.outcome.RunFault.{RunFault}
 use Rattle.lsp_verdict.specs.declared.outcome.RunFault.TheVariants as faults
 use Rattle.lsp_verdict.proofs.Below.{some_log, records_come_first}
-use Rattle.lsp_verdict.specs.Entries.{IsAt, HasRecords, HasFirst, IsKnown, BrokeOff, ShowsFault, IsRecord, IfRecord}
+use Rattle.lsp_verdict.specs.Entries.{IsAt, HasRecords, HasFirst, BrokeOff, ShowsFault}
 
 -- ---- the log read
 

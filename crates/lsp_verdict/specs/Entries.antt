@@ -1,6 +1,5 @@
--- What a log has next, and what is known of the log read.
-use Rattle.std.specs.Prelude.{◌≡◌, ℕ, List, [], ◌∷◌, ◌++◌, Option, Some, None, Result, Ok, Err}
-use Rattle.std.specs.Io.KnownBytes.{IsAtEnd}
+-- What is known of the log read.
+use Rattle.std.specs.Prelude.{◌≡◌, ℕ, List, [], ◌++◌, Option, Some, None}
 use Rattle.lsp_frame.specs.Bounds.{Bounds}
 use Rattle.lsp_frame.specs.Told.{Told, Gave}
 use Rattle.lsp_frame.specs.declared.format.Format.{Format}
@@ -8,13 +7,10 @@ use Rattle.lsp_log.specs.Log.{Record, IsLog}
 use Rattle.lsp_log.specs.Place.{place_of, found_behind}
 use Rattle.lsp_log.specs.Reader as reader
 use Rattle.lsp_log.specs.Reader.{kept_by, shown_by, StandsFor}
-use Rattle.lsp_log.specs.Records.{record_view}
 use Rattle.lsp_log.specs.declared.fault.LogCode.{LogCode}
 use Rattle.lsp_verdict.specs.RunIo.{OfRead, failures_after}
 use Rattle.lsp_verdict.specs.declared.outcome.RunFault.{RunFault}
 use Rattle.lsp_verdict.specs.declared.outcome.RunFault.TheVariants as faults
-use Rattle.lsp_verdict.specs.declared.entry.Entry.{Entry}
-use Rattle.lsp_verdict.specs.declared.entry.Entry.TheVariants as entry
 
 -- of the bytes that the source gave since the start, the reader of a log gave these records, and no end; with a record it knows the format
 pub record IsAt (r : reader.State) (start now : Told) (records : List Record) : Type 0 where
@@ -50,32 +46,9 @@ pub record BrokeOff (limits : Bounds) (start now : Told) (known : Option Format)
   pub failures : now.failures ≡ failures_after fault start.failures
   pub unwritten : fault ≡ faults.Write → ⊥
 
--- what the log has next after these records, of which a reader that knew so much of the format read
--- it
-abbrev pub EntryIs : reader.State → Bounds → Told → Told → Option Format → List Record → Result Entry RunFault → Type 0
-EntryIs r limits start now known records (Ok (entry.Record next)) = IsAt r start now (records ++ record_view next ∷ [])
-EntryIs r limits start now known records (Ok entry.End) = HasRecords limits start now r.format records None × IsAtEnd now.bytes
-EntryIs r limits start now known records (Ok (entry.Bad number fault)) = HasRecords limits start now r.format records (Some (number, fault))
-EntryIs r limits start now known records (Err fault) = BrokeOff limits start now known records fault
-
 -- the log has its fault after these records, and the reader of it knows how many bytes come before
 -- that, and the line that is there
 pub record ShowsFault (r : reader.State) (limits : Bounds) (records : List Record) (fault : ℕ × LogCode) (log : List ℕ) : Type 0 where
   pub is_log : IsLog limits log r.format records (Some fault)
   pub place_is : r.place ≡ place_of r.format records
   pub line_is : shown_by r ≡ found_behind limits r.format records log
-
-abbrev pub FaultIs : reader.State → Bounds → Told → Told → List Record → Result Entry RunFault → Type 0
-FaultIs r limits start now records (Ok (entry.Bad number fault)) = OfRead limits start now (ShowsFault r limits records (number, fault))
-FaultIs r limits start now records answer = Unit {0}
-
-abbrev pub IsRecord : Entry → Type 0
-IsRecord (entry.Record next) = Unit {0}
-IsRecord entry.End = ⊥
-IsRecord (entry.Bad number fault) = ⊥
-
--- what holds of an entry that is a record
-abbrev pub IfRecord : Entry → Type 0 → Type 0
-IfRecord (entry.Record next) P = P
-IfRecord entry.End P = Unit {0}
-IfRecord (entry.Bad number fault) P = Unit {0}

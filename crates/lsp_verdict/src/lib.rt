@@ -3,13 +3,12 @@
 //!
 //! Nothing is judged here. The definitions say which events the records of a log make, which of
 //! them offends and by which rule, and thus which verdict a log has. The laws say what the verdicts
-//! mean. All runs over a log read it with `next_entry`.
+//! mean.
 #![tactic(auto)]
 
 mod complete_laws;
 mod completeness;
 mod counts;
-mod entry;
 mod interleaving_laws;
 mod laws;
 mod lines;
@@ -29,7 +28,6 @@ pub use complete_laws::{
 };
 pub use completeness::Completeness;
 pub use counts::Counts;
-pub use entry::{Entry, next_entry};
 pub use interleaving_laws::{
     both_yes_agree, handshake_in_turn, only_order_offends, sessions_are_read,
 };

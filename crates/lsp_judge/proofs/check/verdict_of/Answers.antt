@@ -1,7 +1,8 @@
 use Rattle.std.proofs.Common.{[], ◌∷◌, ◌++◌, refl}
 use Rattle.std.proofs.lemmas.Result.{err_from_is_err_and}
-use Rattle.lsp_judge.proofs.LogEvents.{broke_early, broke_next, ended_next, fewer, heard_next}
-use Rattle.lsp_judge.proofs.LogEvents.{offended, refused_next, verdict_found}
+use Rattle.lsp_judge.proofs.LogEvents.{broke_early, broke_end, broke_next, ended_next, fewer}
+use Rattle.lsp_judge.proofs.LogEvents.{found_end, heard_next, offended, refused_next}
+use Rattle.lsp_judge.proofs.LogEvents.{verdict_found}
 use Rattle.lsp_judge.proofs.check.verdict_of.Goals as goal
 
 pub loop-fault-init : goal.loop-fault-init
@@ -31,8 +32,7 @@ returns-in_err-finish-in-Ok-End-clause-answer g c =
     let told = rw (c.in-Ok-End.is, c.in-Ok-End.field-0-is) at c.next.follows.holds-at-none in
     let from = c.from_residual-in_err-finish-in-Ok-End in
     let p = err_from_is_err_and from.result from.ensures.1 in
-    rw (p.1, p.2) (broke_early _ _ _ here.heard _
-    (c.in_err-finish-in-Ok-End.ensures _ _ _ here.heard
+    rw (p.1, p.2) (broke_early _ _ _ here.heard _ (broke_end _ _ _ _ here.heard _
     (ended_next _ c.loop-fault.events _ _ _ here.heard here.so_far c.next.follows.lender-at-none
     c.in-Ok-End.end told)))
 
@@ -40,10 +40,10 @@ pub returns-in-Ok-End-clause-answer : goal.returns-in-Ok-End-clause-answer
 returns-in-Ok-End-clause-answer g c =
     let here = c.loop-fault.invariant in
     let told = rw (c.in-Ok-End.is, c.in-Ok-End.field-0-is) at c.next.follows.holds-at-none in
-    verdict_found _ _ _ _ _ here.heard _ here.wanted
-    (c.in_ok-finish-in-Ok-End.ensures _ _ _ here.heard
-    (ended_next _ c.loop-fault.events _ _ _ here.heard here.so_far c.next.follows.lender-at-none
-    c.in-Ok-End.end told))
+    let ended = ended_next _ c.loop-fault.events _ _ _ here.heard here.so_far
+    c.next.follows.lender-at-none c.in-Ok-End.end told in
+    verdict_found _ _ _ _ _ here.heard _ here.wanted (found_end _ _ _ _ here.heard _ ended _ _
+    (c.in_ok-finish-in-Ok-End.ensures _ _ _ here.heard ended))
 
 pub returns-in_err-answer-in-Err-hear-clause-answer :
     goal.returns-in_err-answer-in-Err-hear-clause-answer

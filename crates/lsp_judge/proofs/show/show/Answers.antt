@@ -1,8 +1,11 @@
-use Rattle.std.proofs.Common.{ap, ◌∙◌, refl}
+use Rattle.std.proofs.Common.{ap, ◌∙◌}
 use Rattle.std.proofs.lemmas.Result.{err_from_is_err_and}
 use Rattle.lsp_frame.specs.Told.{after_failure}
+use Rattle.lsp_verdict.proofs.RunReading.{read_map}
 use Rattle.lsp_verdict.proofs.RunsJudged.{judges, judged_not}
-use Rattle.lsp_judge.proofs.ShownLogs.{verdict_read, shown_read, lines_begun, report_begun}
+use Rattle.lsp_verdict.specs.Given.{verdict_view}
+use Rattle.lsp_verdict.specs.Outcome.{IsVerdict}
+use Rattle.lsp_judge.proofs.ShownLogs.{shown_read, lines_begun, report_begun}
 use Rattle.lsp_judge.proofs.show.show.Goals as goal
 
 -- the log got no verdict
@@ -42,11 +45,13 @@ returns-in_err-put_all g c =
 pub returns : goal.returns
 returns g c =
     let all = c.in_ok-verdict.ensures.answer in
+    let v = c.in_ok-verdict.verdict in
     record {
-      showed = judges _ c.show_log.ensures.range _ _ _ _ c.in_ok-verdict.verdict
-          (verdict_read _ _ _ _ _ _ c.in_ok-verdict.verdict _ all refl)
-          (shown_read _ _ _ _ _ _ _ c.in_ok-verdict.verdict _ _ all
-          (c.as_slice.ensures.value ∙ c.in_ok-report.ensures) c.in_ok-put_all.ensures refl)
+      showed = judges _ c.show_log.ensures.range _ _ _ _ v
+          (read_map _ _ _ _ (λ log. IsVerdict c.args.limits log (verdict_view v))
+          (λ log shown. shown.0) all.due)
+          (shown_read _ _ _ _ _ _ _ _ _ all (c.as_slice.ensures.value ∙ c.in_ok-report.ensures)
+          c.in_ok-put_all.ensures)
           (λ log s says. says) all.failures
           (c.in_ok-put_all.ensures.failures ∙ all.wrote.failures);
     }

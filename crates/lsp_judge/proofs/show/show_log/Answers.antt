@@ -3,8 +3,8 @@ use Rattle.std.proofs.lemmas.Result.{err_from_is_err_and}
 use Rattle.lsp_frame.proofs.Writing.{wrote_nothing}
 use Rattle.lsp_verdict.specs.declared.completeness.Completeness.TheVariants.{Ignored}
 use Rattle.std.proofs.Common.{refl}
-use Rattle.lsp_judge.proofs.LogEvents.{broke_next, ended_next, fewer, heard_next, offended}
-use Rattle.lsp_judge.proofs.LogEvents.{refused_next}
+use Rattle.lsp_judge.proofs.LogEvents.{broke_end, broke_next, ended_next, fewer, found_end}
+use Rattle.lsp_judge.proofs.LogEvents.{heard_next, offended, refused_next}
 use Rattle.lsp_judge.proofs.ShownLogs.{nothing_shown, one_shown_more, line_failed, all_shown}
 use Rattle.lsp_judge.proofs.ShownLogs.{broke_shown}
 use Rattle.lsp_judge.proofs.show.show_log.Goals as goal
@@ -34,7 +34,7 @@ returns-in_err-finish-in-Ok-End-clause-answer g c =
     let from = c.from_residual-in_err-finish-in-Ok-End in
     let p = err_from_is_err_and from.result from.ensures.1 in
     rw (p.1, p.2) (broke_shown _ _ _ _ _ _ here.heard here.wrote _
-    (c.in_err-finish-in-Ok-End.ensures _ _ _ here.heard
+    (broke_end _ _ _ _ here.heard _
     (ended_next _ c.loop-fault.events _ _ _ here.heard here.so_far c.next.follows.lender-at-none
     c.in-Ok-End.end told)))
 
@@ -42,10 +42,11 @@ pub returns-in-Ok-End-clause-answer : goal.returns-in-Ok-End-clause-answer
 returns-in-Ok-End-clause-answer g c =
     let here = c.loop-fault.invariant in
     let told = rw (c.in-Ok-End.is, c.in-Ok-End.field-0-is) at c.next.follows.holds-at-none in
+    let ended = ended_next _ c.loop-fault.events _ _ _ here.heard here.so_far
+    c.next.follows.lender-at-none c.in-Ok-End.end told in
     all_shown _ _ _ _ _ _ here.heard here.wrote _ _ here.ignored
-    (c.in_ok-finish-in-Ok-End.ensures _ _ _ here.heard
-    (ended_next _ c.loop-fault.events _ _ _ here.heard here.so_far c.next.follows.lender-at-none
-    c.in-Ok-End.end told))
+    (found_end _ _ _ _ here.heard _ ended _ _
+    (c.in_ok-finish-in-Ok-End.ensures _ _ _ here.heard ended))
 
 pub returns-in_err-answer-in-Err-hear-clause-answer :
     goal.returns-in_err-answer-in-Err-hear-clause-answer

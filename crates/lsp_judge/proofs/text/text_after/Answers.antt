@@ -2,8 +2,8 @@ use Rattle.std.proofs.Common.{[], ◌∷◌, ◌++◌, refl}
 use Rattle.std.proofs.lemmas.Result.{err_from_is_err_and}
 use Rattle.lsp_verdict.specs.declared.completeness.Completeness.TheVariants.{Ignored}
 use Rattle.lsp_verdict.specs.Calls.{calls}
-use Rattle.lsp_judge.proofs.LogEvents.{broke_next, ended_next, fewer, heard_next}
-use Rattle.lsp_judge.proofs.LogEvents.{offended, refused, refused_next}
+use Rattle.lsp_judge.proofs.LogEvents.{broke_end, broke_next, ended_next, fewer, found_end}
+use Rattle.lsp_judge.proofs.LogEvents.{heard_next, offended, refused, refused_next}
 use Rattle.lsp_judge.proofs.TextRuns.{no_answer, nothing_read, reads_on, text_found, text_none}
 use Rattle.lsp_judge.proofs.text.text_after.Goals as goal
 
@@ -30,8 +30,7 @@ returns-in_err-finish-in-Ok-End g c =
     let told = rw (c.in-Ok-End.is, c.in-Ok-End.field-0-is) at c.next.follows.holds-at-none in
     let from = c.from_residual-in_err-finish-in-Ok-End in
     let p = err_from_is_err_and from.result from.ensures.1 in
-    rw (p.1, p.2) (no_answer _ _ _ here.heard _
-    (c.in_err-finish-in-Ok-End.ensures _ _ _ here.heard
+    rw (p.1, p.2) (no_answer _ _ _ here.heard _ (broke_end _ _ _ _ here.heard _
     (ended_next _ c.loop-fault.events _ _ _ here.heard here.so_far c.next.follows.lender-at-none
     c.in-Ok-End.end told)))
 
@@ -39,9 +38,10 @@ pub returns-in-Ok-End : goal.returns-in-Ok-End
 returns-in-Ok-End g c =
     let here = c.loop-fault.invariant in
     let told = rw (c.in-Ok-End.is, c.in-Ok-End.field-0-is) at c.next.follows.holds-at-none in
-    let found = c.in_ok-finish-in-Ok-End.ensures _ _ _ here.heard
-    (ended_next _ c.loop-fault.events _ _ _ here.heard here.so_far c.next.follows.lender-at-none
-    c.in-Ok-End.end told) in (
+    let ended = ended_next _ c.loop-fault.events _ _ _ here.heard here.so_far
+    c.next.follows.lender-at-none c.in-Ok-End.end told in
+    let found = found_end _ _ _ _ here.heard _ ended _ _
+    (c.in_ok-finish-in-Ok-End.ensures _ _ _ here.heard ended) in (
       text_none _ _ _ _ c.args.number c.args.uri.now here.heard _ _ here.ignored here.few
           c.missing.ensures found,
       found.failures,

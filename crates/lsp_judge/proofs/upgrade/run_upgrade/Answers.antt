@@ -1,7 +1,8 @@
-use Rattle.std.proofs.Common.{refl}
 use Rattle.std.proofs.lemmas.Result.{err_from_is_err_and}
+use Rattle.lsp_verdict.proofs.RunReading.{read_map}
 use Rattle.lsp_verdict.proofs.RunsJudged.{judges, judged_not}
-use Rattle.lsp_judge.proofs.UpgradedLogs.{upgrade_read, upgrade_written}
+use Rattle.lsp_verdict.specs.Given.{verdict_view}
+use Rattle.lsp_verdict.specs.Outcome.{IsVerdict}
 use Rattle.lsp_judge.proofs.upgrade.run_upgrade.Goals as goal
 
 -- the log got no verdict, or its upgrade was not written
@@ -17,9 +18,10 @@ returns-in_err-verdict g c =
 pub returns : goal.returns
 returns g c =
     let all = c.in_ok-verdict.ensures.answer in
+    let v = c.in_ok-verdict.verdict in
     record {
-      upgraded = judges _ c.upgrade_log.ensures.range _ _ _ _ c.in_ok-verdict.verdict
-          (upgrade_read _ _ _ _ _ c.in_ok-verdict.verdict _ all refl)
-          (upgrade_written _ _ _ _ _ c.in_ok-verdict.verdict _ all refl)
-          (λ log s says. says) all.failures all.wrote.failures;
+      upgraded = judges _ c.upgrade_log.ensures.range _ _ _ _ v
+          (read_map _ _ _ _ (λ log. IsVerdict c.args.limits log (verdict_view v))
+          (λ log upgrade. upgrade.whole) all.due)
+          (all.out, all.wrote.took, all.due) (λ log s says. says) all.failures all.wrote.failures;
     }

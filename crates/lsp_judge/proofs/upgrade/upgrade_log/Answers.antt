@@ -1,109 +1,168 @@
-use Rattle.std.proofs.Common.{[], ◌∷◌, ◌++◌, Ok, ap, subst, ◌∙◌}
+use Rattle.std.proofs.Common.{[], ◌∷◌, ◌++◌, refl, sym, ap, subst, ◌∙◌, append_assoc}
 use Rattle.std.proofs.lemmas.Result.{err_from_is_err_and}
-use Rattle.lsp_frame.specs.Bounds.{Bounds}
-use Rattle.lsp_log.specs.Reader.{State}
+use Rattle.lsp_frame.specs.Bounds.{profile}
+use Rattle.lsp_frame.specs.Sink.{Wrote}
+use Rattle.lsp_frame.specs.Told.{after_failure}
+use Rattle.lsp_frame.proofs.Telling.{took_then}
+use Rattle.lsp_frame.proofs.Writing.{wrote_then}
+use Rattle.lsp_log.specs.Log.{Fits}
 use Rattle.lsp_log.specs.Records.{record_view}
-use Rattle.lsp_verdict.proofs.Entries.{at_start}
-use Rattle.lsp_verdict.specs.Entries.{BrokeOff, EntryIs}
-use Rattle.lsp_judge.proofs.UpgradedLogs.{all_upgraded, broke_upgraded, first_broke, first_next}
-use Rattle.lsp_judge.proofs.UpgradedLogs.{head_failed, next_broke, one_failed, one_written}
+use Rattle.lsp_replay.proofs.Pulling.{known_record, refused_record}
+use Rattle.lsp_verdict.proofs.Entries.{is_first, record_fits}
+use Rattle.lsp_verdict.specs.Upgraded.{upgraded}
+use Rattle.lsp_judge.proofs.UpgradedLogs.{all_accepted, all_upgraded, broke, head_is, none_accepted}
+use Rattle.lsp_judge.proofs.UpgradedLogs.{offended, one_more, one_written, refused_end, unwritten}
 use Rattle.lsp_judge.proofs.upgrade.upgrade_log.Goals as goal
 
 -- the first line was not written
 pub returns-in_err-write_head_of-clause-answer : goal.returns-in_err-write_head_of-clause-answer
 returns-in_err-write_head_of-clause-answer g c =
     let p = err_from_is_err_and c.from_residual.result c.from_residual.ensures.1 in
-    let new = c.new-log.ensures in
-    rw (p.1, p.2) (head_failed _ _ _ _ _ new.value new.stands c.in_err-write_head_of.ensures)
+    let start = g.R.Source.told c.args.reader.now in
+    let idle = c.new-log.ensures.idle start in
+    let stopped = c.in_err-write_head_of.ensures in
+    rw (p.1, p.2) (unwritten _ _ [] (none_accepted _ _ idle.stands.range) start start _ _
+    stopped.front stopped.back (sym head_is ∙ stopped.whole) stopped.took stopped.failures refl
+    (is_first _ _ start start [] idle.same idle.at))
 
 -- the first entry
-pub returns-in_err-entry-clause-answer : goal.returns-in_err-entry-clause-answer
-returns-in_err-entry-clause-answer g c =
-    let from = c.from_residual-in_err-entry in
+pub returns-in_err-next-clause-answer : goal.returns-in_err-next-clause-answer
+returns-in_err-next-clause-answer g c =
+    let from = c.from_residual-in_err-next in
     let p = err_from_is_err_and from.result from.ensures.1 in
-    let new = c.new-log.ensures in
     let start = g.R.Source.told c.args.reader.now in
-    let at = at_start c.new-log.result c.args.limits start new.value new.stands in
-    let same = ap (λ (s : State). s.limits) new.value in
-    let broke = c.in_err-entry.ensures.answer start [] at in
-    rw (p.1, p.2) (first_broke c.args.limits c.new-log.result.limits c.new-log.result.format
-    _ _ _ _ _ same broke c.in_ok-write_head_of.ensures)
+    let idle = c.new-log.ensures.idle start in
+    rw (p.1, p.2) (broke _ _ [] (none_accepted _ _ idle.stands.range) start _ _ _ _
+    (subst (Wrote _ _) head_is c.in_ok-write_head_of.ensures)
+    (c.in_err-next.ensures.answer c.args.limits start [] [] idle))
 
-pub loop-judged-init : goal.loop-judged-init
-loop-judged-init g c =
-    let new = c.new-log.ensures in
-    let judged = c.of-judged.ensures in
-    let log = c.next_entry.new.log in
-    let known = c.new-log.result.format in
+pub loop-end-init : goal.loop-end-init
+loop-end-init g c =
     let start = g.R.Source.told c.args.reader.now in
-    let now = g.R.Source.told c.next_entry.new.reader in
-    let at = at_start c.new-log.result c.args.limits start new.value new.stands in
-    let same = ap (λ (s : State). s.limits) new.value in
-    let is = subst (λ (b : Bounds). EntryIs log b start now known [] (Ok c.in_ok-entry.entry)) same
-    (c.in_ok-entry.ensures.answer start [] at) in
-    rw judged.log (first_next c.args.limits log c.of-judged.result.judge c.in_ok-entry.entry known
-    _ _ _ _ (c.in_ok-entry.ensures.limits ∙ same) judged.limits judged.format judged.ungiven
-    judged.stands is c.in_ok-write_head_of.ensures)
+    let idle = c.new-log.ensures.idle start in
+    let read = c.in_ok-next.ensures in
+    let of = c.of-events.ensures in
+    record {
+      records = [];
+      early = λ none. refl;
+      heard = (
+        [],
+        record {
+          past = [];
+          stands = rw (of.log, read.streams) idle.stands;
+          has = rw of.log of.has;
+        },
+      );
+      next_is = rw of.log (read.answer c.args.limits start [] [] idle);
+      ignored = of.completeness;
+      wrote = subst (Wrote _ _) head_is c.in_ok-write_head_of.ensures;
+    }
 
--- an entry was accepted, or the verdict was found
-pub returns-in_err-record-clause-answer : goal.returns-in_err-record-clause-answer
-returns-in_err-record-clause-answer g c =
-    let here = c.loop-judged.invariant in
-    let from = c.from_residual-in_err-record in
+-- the log ends
+pub returns-in-End-clause-answer : goal.returns-in-End-clause-answer
+returns-in-End-clause-answer g c =
+    let u = rw c.in-End.is at c.loop-end.invariant in
+    all_upgraded _ _ u.records (all_accepted _ _ _ _ _ _ _ u.heard u.early) _ _ _ _ u.heard.1.past
+    u.wrote c.in-End.end _ u.next_is
+    (rw u.ignored at (c.in_ok-finish-in-End.ensures _ _ _ u.heard.0 (record {
+      records = u.records;
+      given = u.heard.1.past;
+      ended = u.next_is;
+      has = u.heard.1.has;
+    })))
+
+pub returns-in_err-finish-in-End-clause-answer : goal.returns-in_err-finish-in-End-clause-answer
+returns-in_err-finish-in-End-clause-answer g c =
+    let u = rw c.in-End.is at c.loop-end.invariant in
+    let from = c.from_residual-in_err-finish-in-End in
     let p = err_from_is_err_and from.result from.ensures.1 in
-    let broke = c.in_err-record.ensures.answer _ _ _ _ here.records here.next in
-    rw (p.1, p.2) (broke_upgraded _ _ _ _ _ here.records here.wrote _ broke)
+    rw (p.1, p.2) (refused_end _ _ u.records (all_accepted _ _ _ _ _ _ _ u.heard u.early) _ _ _ _
+    u.heard.1.past u.wrote c.in-End.end u.next_is)
 
+-- memory was refused for the next record
+pub returns-in_err-copy-in-Record-clause-answer : goal.returns-in_err-copy-in-Record-clause-answer
+returns-in_err-copy-in-Record-clause-answer g c =
+    let u = rw c.in-Record.is at c.loop-end.invariant in
+    let from = c.from_residual-in_err-copy-in-Record in
+    let p = err_from_is_err_and from.result from.ensures.1 in
+    rw (p.1, p.2) (broke _ _ u.records (all_accepted _ _ _ _ _ _ _ u.heard u.early) _ _ _ _ _
+    u.wrote (refused_record _ _ _ u.records u.heard.1.past _ _ u.next_is))
+
+pub returns-in_err-answer-in-Record-Err-clause-answer :
+    goal.returns-in_err-answer-in-Record-Err-clause-answer
+returns-in_err-answer-in-Record-Err-clause-answer g c =
+    let u = rw c.in-Record.is at c.loop-end.invariant in
+    let from = c.from_residual-in_err-answer-in-Record-Err in
+    let p = err_from_is_err_and from.result from.ensures.1 in
+    rw (p.1, p.2) (broke _ _ u.records (all_accepted _ _ _ _ _ _ _ u.heard u.early) _ _ _ _ _
+    u.wrote (refused_record _ _ _ u.records u.heard.1.past _ _ u.next_is))
+
+-- an event of it offends
+pub returns-in-Err-in-Record-clause-answer : goal.returns-in-Err-in-Record-clause-answer
+returns-in-Err-in-Record-clause-answer g c =
+    let u = rw c.in-Record.is at c.loop-end.invariant in
+    offended _ _ u.records (all_accepted _ _ _ _ _ _ _ u.heard u.early) _ _ _ _ u.heard.1.past
+    u.wrote (record_view c.in-Record.record) c.in-Err.ruling _ u.next_is
+    c.in_ok-answer-in-Record-Err.ensures.ok (c.in-Err.ensures.no _ _ u.records u.heard)
+
+-- it is written
 pub write_record-requires : goal.write_record-requires
 write_record-requires g c =
-    let here = c.loop-judged.invariant in
-    (rw c.in-Record.is at (c.in_ok-record.ensures.answer _ _ _ _ here.records here.next)).1
+    let u = rw c.in-Record.is at c.loop-end.invariant in
+    subst (Fits profile) (sym c.in_ok-copy-in-Record.ensures)
+    (record_fits _ _ _ u.records (record_view c.in-Record.record) u.next_is.at)
 
-pub returns-in_err-write_record-in-Record-clause-answer :
-    goal.returns-in_err-write_record-in-Record-clause-answer
-returns-in_err-write_record-in-Record-clause-answer g c =
-    let here = c.loop-judged.invariant in
-    let told = rw c.in-Record.is at (c.in_ok-record.ensures.answer _ _ _ _ here.records here.next) in
-    let from = c.from_residual-in_err-write_record-in-Record in
+pub returns-in_err-write_record-in-Record-Ok-clause-answer :
+    goal.returns-in_err-write_record-in-Record-Ok-clause-answer
+returns-in_err-write_record-in-Record-Ok-clause-answer g c =
+    let u = rw c.in-Record.is at c.loop-end.invariant in
+    let from = c.from_residual-in_err-write_record-in-Record-Ok in
     let p = err_from_is_err_and from.result from.ensures.1 in
-    rw (p.1, p.2) (one_failed _ _ _ _ _ _ here.records here.wrote _ _ _ told.0
-    c.in_err-write_record-in-Record.ensures)
-
-pub returns-in-Verdict-clause-answer : goal.returns-in-Verdict-clause-answer
-returns-in-Verdict-clause-answer g c =
-    let here = c.loop-judged.invariant in
-    all_upgraded _ _ _ _ _ here.records here.wrote _
-    (rw c.in-Verdict.is at (c.in_ok-record.ensures.answer _ _ _ _ here.records here.next))
+    let stopped = c.in_err-write_record-in-Record-Ok.ensures in
+    let heard = c.in-Ok.ensures.ok _ _ u.records u.heard in
+    rw (p.1, p.2) (unwritten _ _ _ (all_accepted _ _ _ _ _ _ _ heard u.next_is.at.early) _ _ _ _
+    (upgraded u.records ++ stopped.front) stopped.back
+    (one_more u.records _ _ c.in_ok-copy-in-Record.ensures
+    ∙ ap (λ w. upgraded u.records ++ w) stopped.whole
+    ∙ sym (append_assoc (upgraded u.records) stopped.front stopped.back))
+    (took_then _ _ _ _ _ u.wrote.took stopped.took)
+    (stopped.failures ∙ ap after_failure u.wrote.failures) u.next_is.at.failures
+    (is_first _ _ _ _ _ u.next_is.same u.next_is.at))
 
 -- the next entry
-pub returns-in_err-entry-2-clause-answer : goal.returns-in_err-entry-2-clause-answer
-returns-in_err-entry-2-clause-answer g c =
-    let here = c.loop-judged.invariant in
-    let told = rw c.in-Record.is at (c.in_ok-record.ensures.answer _ _ _ _ here.records here.next) in
-    let taken = told.0 in
-    let from = c.from_residual-in_err-entry-2 in
-    let p = err_from_is_err_and from.result from.ensures.1 in
-    let start = g.R.Source.told c.args.reader.now in
-    let last = g.R.Source.told c.next_entry-in-loop-judged.new.reader in
-    let all = here.records ++ record_view c.in-Record.record ∷ [] in
-    let known = c.loop-judged.judged.log.format in
-    let broke = subst (λ (b : Bounds). BrokeOff b start last known all c.in_err-entry-2.field-0.0)
-    taken.same (c.in_err-entry-2.ensures.answer start all taken.at) in
-    rw (p.1, p.2) (next_broke _ _ _ _ _ _ here.records here.wrote _ _ _ taken last _ broke
-    c.in_ok-write_record-in-Record.ensures)
+pub read-requires : goal.read-requires
+read-requires g c = let u = rw c.in-Record.is at c.loop-end.invariant in u.next_is.goes_on
 
-pub loop-judged-preserved : goal.loop-judged-preserved
-loop-judged-preserved g c =
-    let here = c.loop-judged.invariant in
-    let told = rw c.in-Record.is at (c.in_ok-record.ensures.answer _ _ _ _ here.records here.next) in
-    let taken = told.0 in
-    let start = g.R.Source.told c.args.reader.now in
-    let last = g.R.Source.told c.next_entry-in-loop-judged.new.reader in
-    let all = here.records ++ record_view c.in-Record.record ∷ [] in
-    let log = c.next_entry-in-loop-judged.new.log in
-    let known = c.loop-judged.judged.log.format in
-    let read = c.in_ok-entry-2.ensures in
-    let is = subst (λ (b : Bounds). EntryIs log b start last known all (Ok c.in_ok-entry-2.entry))
-    taken.same (read.answer start all taken.at) in
-    one_written _ _ _ _ _ _ here.records here.wrote _ _ _ taken log _ last
-    (read.limits ∙ taken.same) read.format is c.in_ok-write_record-in-Record.ensures
+pub returns-in_err-next-2-clause-answer : goal.returns-in_err-next-2-clause-answer
+returns-in_err-next-2-clause-answer g c =
+    let u = rw c.in-Record.is at c.loop-end.invariant in
+    let from = c.from_residual-in_err-next-2 in
+    let p = err_from_is_err_and from.result from.ensures.1 in
+    let heard = c.in-Ok.ensures.ok _ _ u.records u.heard in
+    let all = u.records ++ record_view c.in-Record.record ∷ [] in
+    rw (p.1, p.2) (broke _ _ all (all_accepted _ _ _ _ _ _ all heard u.next_is.at.early) _ _ _ _ _
+    (subst (Wrote _ _) (sym (one_more u.records _ _ c.in_ok-copy-in-Record.ensures))
+    (wrote_then _ _ _ _ _ u.wrote c.in_ok-write_record-in-Record-Ok.ensures))
+    (c.in_err-next-2.ensures.answer _ _ all heard.1.past (record {
+      same = u.next_is.same;
+      goes_on = u.next_is.goes_on;
+      at = u.next_is.at;
+      stands = heard.1.stands;
+    })))
+
+pub loop-end-preserved : goal.loop-end-preserved
+loop-end-preserved g c =
+    let u = rw c.in-Record.is at c.loop-end.invariant in
+    let heard = c.in-Ok.ensures.ok _ _ u.records u.heard in
+    let all = u.records ++ record_view c.in-Record.record ∷ [] in
+    let read = c.in_ok-next-2.ensures in
+    one_written _ _ _ _ _ _ _ _ _ all (known_record _ u.records _ u.next_is.at.early) read.format
+    read.streams heard
+    (read.answer _ _ all heard.1.past (record {
+      same = u.next_is.same;
+      goes_on = u.next_is.goes_on;
+      at = u.next_is.at;
+      stands = heard.1.stands;
+    })) u.ignored
+    (subst (Wrote _ _) (sym (one_more u.records _ _ c.in_ok-copy-in-Record.ensures))
+    (wrote_then _ _ _ _ _ u.wrote c.in_ok-write_record-in-Record-Ok.ensures))

@@ -3,8 +3,8 @@ use Rattle.lsp_log.specs.Records.{record_view}
 use Rattle.lsp_verdict.specs.Given.{verdict_view}
 use Rattle.lsp_judge.specs.Standing.{State}
 use Rattle.lsp_judge.proofs.Answering.{keeps_given, keeps_ungiven, taken_no, taken_clean}
-use Rattle.lsp_judge.proofs.Records.{given_stays, given_verdict, none_verdict, rule_verdict}
-use Rattle.lsp_judge.proofs.Records.{ruled_stands}
+use Rattle.lsp_judge.proofs.Records.{given_stays, given_verdict, is_open, none_verdict}
+use Rattle.lsp_judge.proofs.Records.{open_stands, rule_verdict, ruled_stands}
 use Rattle.lsp_judge.proofs.judge.Judge.take.Goals as goal
 
 pub returns-in-Some-clause-keeps : goal.returns-in-Some-clause-keeps
@@ -15,9 +15,7 @@ returns-in-Some-clause-keeps g c =
 
 pub returns-in-Ok-clause-keeps : goal.returns-in-Ok-clause-keeps
 returns-in-Ok-clause-keeps g c =
-    let given = ap (λ (s : State). s.given) (sym c.self.view_is) ∙ c.in_default.is in
-    let keeps = c.in-Ok.ensures.keeps in
-    keeps_ungiven c.args.self.now c.hear.new.self _ _ given keeps.limits keeps.format tt
+    rw (← c.self.view_is) (keeps_ungiven _ _ _ _ c.in_default.is refl refl tt)
 
 pub returns-in-Some-clause-stands : goal.returns-in-Some-clause-stands
 returns-in-Some-clause-stands g c = λ records stands.
@@ -31,16 +29,20 @@ returns-in-Some-clause-verdict g c = λ records events stands session.
     given c.in_ok-answer.ensures.ok stands session
 
 pub returns-in-Ok-clause-verdict : goal.returns-in-Ok-clause-verdict
-returns-in-Ok-clause-verdict g c = λ records events stands session.
-    let given = ap (λ (s : State). s.given) (sym c.self.view_is) ∙ c.in_default.is in
-    none_verdict c.args.self.now c.hear.new.self records (record_view c.args.next ∷ []) events given
-    c.in-Ok.ensures.keeps (c.in-Ok.ensures.ok records) stands session
+returns-in-Ok-clause-verdict g c = rw (← c.self.view_is) (λ records events stands session.
+    none_verdict _ records (record_view c.args.next ∷ []) events _ _ _ _ c.in_default.is
+    (c.in-Ok.ensures.ok _ _ records) stands session)
+
+pub returns-in-Ok-clause-stands : goal.returns-in-Ok-clause-stands
+returns-in-Ok-clause-stands g c = rw (← c.self.view_is) (λ records stands.
+    open_stands _ _ stands.range c.in_default.is
+    (c.in-Ok.ensures.ok _ _ records (is_open _ records c.in_default.is stands)))
 
 pub returns-in_ok-answer-in-Err-clause-verdict : goal.returns-in_ok-answer-in-Err-clause-verdict
-returns-in_ok-answer-in-Err-clause-verdict g c = λ records events stands session.
-    let given = ap (λ (s : State). s.given) (sym c.self.view_is) ∙ c.in_default.is in
-    rule_verdict c.args.self.now records (record_view c.args.next ∷ []) c.in-Err.ruling _ events
-    given c.in_ok-answer-in-Err.ensures.ok (c.in-Err.ensures.no records) stands session
+returns-in_ok-answer-in-Err-clause-verdict g c =
+    rw (← c.self.view_is) (λ records events stands session.
+    rule_verdict _ records (record_view c.args.next ∷ []) c.in-Err.ruling _ events c.in_default.is
+    c.in_ok-answer-in-Err.ensures.ok (c.in-Err.ensures.no _ _ records) stands session)
 
 pub returns-in-Some-clause-no : goal.returns-in-Some-clause-no
 returns-in-Some-clause-no g c = λ records rule number event who stands e.
@@ -59,11 +61,6 @@ returns-in_ok-answer-in-Err-clause-no g c = λ records rule number event who sta
     session) e
 
 pub returns-in_ok-answer-in-Err-clause-stands : goal.returns-in_ok-answer-in-Err-clause-stands
-returns-in_ok-answer-in-Err-clause-stands g c = λ records stands.
-    let given = ap (λ (s : State). s.given) (sym c.self.view_is) ∙ c.in_default.is in
-    let seen = c.self-2.view_is in
-    ruled_stands c.args.self.now _ records (record_view c.args.next ∷ []) c.in-Err.ruling _ given
-    c.in_ok-answer-in-Err.ensures.ok
-    (ap (λ (s : State). s.limits) seen ∙ c.in-Err.ensures.keeps.limits)
-    (ap (λ (s : State). s.format) seen ∙ c.in-Err.ensures.keeps.format) refl
-    (c.in-Err.ensures.no records) stands
+returns-in_ok-answer-in-Err-clause-stands g c = rw (← c.self.view_is) (λ records stands.
+    ruled_stands _ _ records (record_view c.args.next ∷ []) c.in-Err.ruling _ c.in_default.is
+    c.in_ok-answer-in-Err.ensures.ok refl refl refl (c.in-Err.ensures.no _ _ records) stands)
