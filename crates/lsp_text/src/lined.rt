@@ -2,9 +2,9 @@
 //! copies of the text share the rest.
 //!
 //! A text is cut into *blocks* of at most 4 KB, anywhere but inside a character or between CR and
-//! LF, and blocks are in *chunks*. Each block and each chunk knows its *sums*: its line ends,
-//! bytes, characters and units of UTF-16. A place is found by any of these: chunk by chunk, block
-//! by block, and then in one block, which also keeps the places after its line ends. Line `i`
+//! LF, and blocks are in *chunks*, which are in larger chunks. Each block and each chunk knows its
+//! *sums*: its line ends, bytes, characters and units of UTF-16. A place is found by any of these:
+//! level by level, and then in one block, which also keeps the places after its line ends. Line `i`
 //! begins after line end `i - 1`. A long line goes over several blocks; beyond their sums, nothing
 //! is kept for it. An edit replaces bytes by others: in one block where it can, else in blocks cut
 //! again from the one before the edit to the one after it, so that a CR and a LF that it joins are
@@ -13,12 +13,14 @@
 //! The text `a`, 4,990 times `x`, LF, `b`, once a LF was put after the CR that followed the `a`:
 //!
 //! ```text
-//!   Lines         2 ends, 4995 bytes
+//!   Lines           2 ends, 4995 bytes
 //!     |
-//!   Chunk         the sums of its blocks: 16 at first, at most 32
-//!     |-- Block   "a" CR LF "xx..x"   1 end, up to place 3        line 0, and where line 1 begins
-//!     |-- Block   "xx..x"             no end                      all of it in line 1
-//!     `-- Block   "xx..x" LF "b"      1 end                       where line 1 ends, and line 2
+//!   large chunk     the sums of its chunks: 8 at first, at most 16
+//!     |
+//!   chunk           the sums of its blocks: as many
+//!     |-- block   "a" CR LF "xx..x"   1 end, up to place 3        line 0, and where line 1 begins
+//!     |-- block   "xx..x"             no end                      all of it in line 1
+//!     `-- block   "xx..x" LF "b"      1 end                       where line 1 ends, and line 2
 //! ```
 
 pub(crate) mod lines;
