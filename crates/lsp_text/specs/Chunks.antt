@@ -1,5 +1,5 @@
 -- What always holds of a chunk.
-use Rattle.std.specs.Prelude.{◌≡◌, ◌×◌, ℕ, List, Bool, true, false}
+use Rattle.std.specs.Prelude.{◌≡◌, ℕ, List, Bool, true, false}
 use Rattle.lsp_text.specs.Sums.{sums_of}
 use Rattle.lsp_text.specs.Parts.{joined, AreKept, IsReplacedIn}
 use Rattle.lsp_text.specs.declared.sums.Sums.{Sums}

@@ -1,8 +1,9 @@
-use Rattle.std.proofs.Common.{◌≡◌, List, ℕ, length, map, refl, sym, ap, subst, ◌∙◌, arith}
+use Rattle.std.proofs.Common.{◌≡◌, ◌+◌, List, ℕ, length, map, refl, sym, ap, subst, ◌∙◌, arith}
 use Rattle.std.proofs.lemmas.List.{length-map}
 use Rattle.lsp_types.specs.declared.position.Encoding.TheVariants.{Utf8}
 use Rattle.lsp_text.specs.Sums.{sums_of}
-use Rattle.lsp_text.specs.Parts.{joined, AreParts, IsFound, IsFoundBefore, IsReplacedIn}
+use Rattle.lsp_text.specs.Parts.{joined, AreParts, IsFound, IsFoundBefore}
+use Rattle.lsp_text.specs.Parts.{IsReplacedIn}
 use Rattle.lsp_text.specs.declared.sums.Measure.TheVariants.{Units}
 use Rattle.lsp_text.proofs.Recuts.{AreFound, first_cut, second_cut, cut_fits, cut_order, cut_done}
 use Rattle.lsp_text.proofs.Recuts.{map-splice}
