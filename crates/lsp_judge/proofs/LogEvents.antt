@@ -499,7 +499,7 @@ module _ (limits : Bounds) (e : EventReader) (start now : Told) (heard : List Ev
     of_read = read_map limits start now (IsLogOf e.log.log limits h.records (flaw_of end))
         (λ log. EndsBy completeness limits log heard (verdict_view given))
         (λ log is. ends_final completeness limits h.ended.reads.stands.range log format h.records
-        (flaw_of end) (log_of e.log.log limits h.records (flaw_of end) log is) heard
+        (flaw_of end) (log_of limits e.log.log h.records (flaw_of end) log is) heard
         (verdict_view given)
         (clean limits format e.log e.events.session e.events.docs e.events.counts start now
         h.records h.given [] heard h.ended.reads h.has) here says)

@@ -1,6 +1,7 @@
 -- The records of a log, written in format 2 as they are accepted.
 use Rattle.std.proofs.Common.{◌≡◌, ℕ, List, [], ◌∷◌, ◌++◌, Option, Some, None, IsSome, Ok}
 use Rattle.std.proofs.Common.{refl, sym, ap, subst, ◌∙◌, append_assoc, append-nil}
+use Rattle.std.specs.List.{flat_map}
 use Rattle.lsp_frame.specs.Bounds.{Bounds, IsInRange}
 use Rattle.lsp_frame.specs.Sink.{Wrote}
 use Rattle.lsp_frame.specs.Told.{Told, Took, after_failure}
@@ -100,15 +101,16 @@ module _ (limits : Bounds) (known : Option Format) (records : List Record)
       let format = format_or_one has.format in
       let whole = whole_of limits log has.format (records ++ has.more) has.fault has.is_log in
       let on = accepted_on limits format records has.more
-      (keeps_known limits known has.format records has.is_known a) in (
+      (keeps_known limits known has.format records has.is_known a) in
+      let left = flat_map spelling on.more in (
         whole.0,
-        _,
+        back ++ left,
         record {
           whole = whole.1;
           accepted = records ++ on.more;
           has = on.has;
-          is = sym (upgraded_more records on.more ∙ ap (λ w. w ++ _) is
-              ∙ append_assoc front back _);
+          is = sym (upgraded_more records on.more ∙ ap (λ w. w ++ left) is
+              ∙ append_assoc front back left);
         },
       )
 

@@ -36,8 +36,8 @@ returns-in_err-next-clause-answer g c =
     (subst (Wrote _ _) head_is c.in_ok-write_head_of.ensures)
     (c.in_err-next.ensures.answer c.args.limits start [] [] idle))
 
-pub loop-end-init : goal.loop-end-init
-loop-end-init g c =
+pub loop-next-init : goal.loop-next-init
+loop-next-init g c =
     let start = g.R.Source.told c.args.reader.now in
     let idle = c.new-log.ensures.idle start in
     let read = c.in_ok-next.ensures in
@@ -61,7 +61,7 @@ loop-end-init g c =
 -- the log ends
 pub returns-in-End-clause-answer : goal.returns-in-End-clause-answer
 returns-in-End-clause-answer g c =
-    let u = rw c.in-End.is at c.loop-end.invariant in
+    let u = rw c.in-End.is at c.loop-next.invariant in
     all_upgraded _ _ u.records (all_accepted _ _ _ _ _ _ _ u.heard u.early) _ _ _ _ u.heard.1.past
     u.wrote c.in-End.end _ u.next_is
     (rw u.ignored at (c.in_ok-finish-in-End.ensures _ _ _ u.heard.0 (record {
@@ -73,7 +73,7 @@ returns-in-End-clause-answer g c =
 
 pub returns-in_err-finish-in-End-clause-answer : goal.returns-in_err-finish-in-End-clause-answer
 returns-in_err-finish-in-End-clause-answer g c =
-    let u = rw c.in-End.is at c.loop-end.invariant in
+    let u = rw c.in-End.is at c.loop-next.invariant in
     let from = c.from_residual-in_err-finish-in-End in
     let p = err_from_is_err_and from.result from.ensures.1 in
     rw (p.1, p.2) (refused_end _ _ u.records (all_accepted _ _ _ _ _ _ _ u.heard u.early) _ _ _ _
@@ -82,43 +82,42 @@ returns-in_err-finish-in-End-clause-answer g c =
 -- memory was refused for the next record
 pub returns-in_err-copy-in-Record-clause-answer : goal.returns-in_err-copy-in-Record-clause-answer
 returns-in_err-copy-in-Record-clause-answer g c =
-    let u = rw c.in-Record.is at c.loop-end.invariant in
+    let u = rw c.in-Record.is at c.loop-next.invariant in
     let from = c.from_residual-in_err-copy-in-Record in
     let p = err_from_is_err_and from.result from.ensures.1 in
     rw (p.1, p.2) (broke _ _ u.records (all_accepted _ _ _ _ _ _ _ u.heard u.early) _ _ _ _ _
     u.wrote (refused_record _ _ _ u.records u.heard.1.past _ _ u.next_is))
 
-pub returns-in_err-answer-in-Record-Err-clause-answer :
-    goal.returns-in_err-answer-in-Record-Err-clause-answer
-returns-in_err-answer-in-Record-Err-clause-answer g c =
-    let u = rw c.in-Record.is at c.loop-end.invariant in
-    let from = c.from_residual-in_err-answer-in-Record-Err in
+pub returns-in_err-answer-in-Err-clause-answer : goal.returns-in_err-answer-in-Err-clause-answer
+returns-in_err-answer-in-Err-clause-answer g c =
+    let u = rw c.in-Record.is at c.loop-next.invariant in
+    let from = c.from_residual-in_err-answer-in-Err in
     let p = err_from_is_err_and from.result from.ensures.1 in
     rw (p.1, p.2) (broke _ _ u.records (all_accepted _ _ _ _ _ _ _ u.heard u.early) _ _ _ _ _
     u.wrote (refused_record _ _ _ u.records u.heard.1.past _ _ u.next_is))
 
 -- an event of it offends
-pub returns-in-Err-in-Record-clause-answer : goal.returns-in-Err-in-Record-clause-answer
-returns-in-Err-in-Record-clause-answer g c =
-    let u = rw c.in-Record.is at c.loop-end.invariant in
+pub returns-in-Err-clause-answer : goal.returns-in-Err-clause-answer
+returns-in-Err-clause-answer g c =
+    let u = rw c.in-Record.is at c.loop-next.invariant in
     offended _ _ u.records (all_accepted _ _ _ _ _ _ _ u.heard u.early) _ _ _ _ u.heard.1.past
     u.wrote (record_view c.in-Record.record) c.in-Err.ruling _ u.next_is
-    c.in_ok-answer-in-Record-Err.ensures.ok (c.in-Err.ensures.no _ _ u.records u.heard)
+    c.in_ok-answer-in-Err.ensures.ok (c.in-Err.ensures.no _ _ u.records u.heard)
 
 -- it is written
 pub write_record-requires : goal.write_record-requires
 write_record-requires g c =
-    let u = rw c.in-Record.is at c.loop-end.invariant in
+    let u = rw c.in-Record.is at c.loop-next.invariant in
     subst (Fits profile) (sym c.in_ok-copy-in-Record.ensures)
     (record_fits _ _ _ u.records (record_view c.in-Record.record) u.next_is.at)
 
-pub returns-in_err-write_record-in-Record-Ok-clause-answer :
-    goal.returns-in_err-write_record-in-Record-Ok-clause-answer
-returns-in_err-write_record-in-Record-Ok-clause-answer g c =
-    let u = rw c.in-Record.is at c.loop-end.invariant in
-    let from = c.from_residual-in_err-write_record-in-Record-Ok in
+pub returns-in_err-write_record-in-Ok-clause-answer :
+    goal.returns-in_err-write_record-in-Ok-clause-answer
+returns-in_err-write_record-in-Ok-clause-answer g c =
+    let u = rw c.in-Record.is at c.loop-next.invariant in
+    let from = c.from_residual-in_err-write_record-in-Ok in
     let p = err_from_is_err_and from.result from.ensures.1 in
-    let stopped = c.in_err-write_record-in-Record-Ok.ensures in
+    let stopped = c.in_err-write_record-in-Ok.ensures in
     let heard = c.in-Ok.ensures.ok _ _ u.records u.heard in
     rw (p.1, p.2) (unwritten _ _ _ (all_accepted _ _ _ _ _ _ _ heard u.next_is.at.early) _ _ _ _
     (upgraded u.records ++ stopped.front) stopped.back
@@ -130,19 +129,21 @@ returns-in_err-write_record-in-Record-Ok-clause-answer g c =
     (is_first _ _ _ _ _ u.next_is.same u.next_is.at))
 
 -- the next entry
-pub read-requires : goal.read-requires
-read-requires g c = let u = rw c.in-Record.is at c.loop-end.invariant in u.next_is.goes_on
+pub read-requires-in-loop-next : goal.read-requires-in-loop-next
+read-requires-in-loop-next g c =
+    let u = rw c.in-Record.is at c.loop-next.invariant in
+    u.next_is.goes_on
 
 pub returns-in_err-next-2-clause-answer : goal.returns-in_err-next-2-clause-answer
 returns-in_err-next-2-clause-answer g c =
-    let u = rw c.in-Record.is at c.loop-end.invariant in
+    let u = rw c.in-Record.is at c.loop-next.invariant in
     let from = c.from_residual-in_err-next-2 in
     let p = err_from_is_err_and from.result from.ensures.1 in
     let heard = c.in-Ok.ensures.ok _ _ u.records u.heard in
     let all = u.records ++ record_view c.in-Record.record ∷ [] in
     rw (p.1, p.2) (broke _ _ all (all_accepted _ _ _ _ _ _ all heard u.next_is.at.early) _ _ _ _ _
     (subst (Wrote _ _) (sym (one_more u.records _ _ c.in_ok-copy-in-Record.ensures))
-    (wrote_then _ _ _ _ _ u.wrote c.in_ok-write_record-in-Record-Ok.ensures))
+    (wrote_then _ _ _ _ _ u.wrote c.in_ok-write_record-in-Ok.ensures))
     (c.in_err-next-2.ensures.answer _ _ all heard.1.past (record {
       same = u.next_is.same;
       goes_on = u.next_is.goes_on;
@@ -150,9 +151,9 @@ returns-in_err-next-2-clause-answer g c =
       stands = heard.1.stands;
     })))
 
-pub loop-end-preserved : goal.loop-end-preserved
-loop-end-preserved g c =
-    let u = rw c.in-Record.is at c.loop-end.invariant in
+pub loop-next-preserved : goal.loop-next-preserved
+loop-next-preserved g c =
+    let u = rw c.in-Record.is at c.loop-next.invariant in
     let heard = c.in-Ok.ensures.ok _ _ u.records u.heard in
     let all = u.records ++ record_view c.in-Record.record ∷ [] in
     let read = c.in_ok-next-2.ensures in
@@ -165,4 +166,4 @@ loop-end-preserved g c =
       stands = heard.1.stands;
     })) u.ignored
     (subst (Wrote _ _) (sym (one_more u.records _ _ c.in_ok-copy-in-Record.ensures))
-    (wrote_then _ _ _ _ _ u.wrote c.in_ok-write_record-in-Record-Ok.ensures))
+    (wrote_then _ _ _ _ _ u.wrote c.in_ok-write_record-in-Ok.ensures))
