@@ -1,6 +1,6 @@
 use Rattle.std.proofs.Common.{◌+◌, ◌-◌, arith}
 use Rattle.std.proofs.lemmas.Simd.{length-chunk}
-use Rattle.lsp_text.proofs.Blocks.{last_passed, pair_behind, column_passed}
+use Rattle.lsp_text.proofs.Blocks.{last_passed, pair_behind}
 use Rattle.lsp_text.proofs.columns.pass_to_end.Goals as goal
 
 pub units_in_both-behind-requires-clause-first : goal.units_in_both-behind-requires-clause-first
