@@ -1,7 +1,7 @@
 //! The open documents of a session.
 
 ghost use Rattle.std.specs.Prelude.{◌≡◌, [], ◌++◌, ◌∷◌, List, None, Some, Ok, Err, false};
-ghost use Rattle.std.specs.Prelude.{length, not, map, slice_get, nat_lt, IfErr, IfOk};
+ghost use Rattle.std.specs.Prelude.{length, map, slice_get, nat_lt, IfErr, IfOk};
 ghost use Rattle.std.specs.Prelude.{OnOk, OnErr, option_map};
 ghost use Rattle.std.specs.List.{list_any};
 ghost use Rattle.std.specs.Str.{chars};

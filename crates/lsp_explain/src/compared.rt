@@ -1,6 +1,5 @@
 //! The whole texts of a verdict that says that two texts differ.
 ghost use Rattle.std.specs.Prelude.{◌≡◌, Box, [], None, Ok, IfOk, IfSome, option_map};
-ghost use Rattle.lsp_docs.specs.Terms.{Terms};
 ghost use Rattle.lsp_frame.specs.Bounds.{Bounds};
 ghost use Rattle.lsp_frame.specs.Told.{Told};
 ghost use Rattle.lsp_facts.specs.TwoTexts.{texts_view};

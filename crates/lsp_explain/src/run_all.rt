@@ -1,5 +1,5 @@
 //! Explains all that is wrong with a log.
-ghost use Rattle.std.specs.Prelude.{◌≡◌, ◌+◌, ◌++◌, ◌∷◌, [], List, string_bytes, map, codes};
+ghost use Rattle.std.specs.Prelude.{◌≡◌, ◌++◌, ◌∷◌, [], List, string_bytes, map, codes};
 ghost use Rattle.std.specs.Prelude.{Box, decimal, option_map, Ok, IfOk, OnOk};
 ghost use Rattle.std.specs.List.{flat_map};
 ghost use Rattle.lsp_frame.specs.Bounds.{Bounds, IsInRange};
@@ -24,7 +24,7 @@ use lsp_frame::{Limits, Sink, Source, put_all};
 use lsp_rpc::Memory;
 use lsp_survey::{FoundOffence, Judged, NextJudged, OffenceCount, SurveyEnd, SurveyReader};
 use lsp_verdict::{
-    Completeness, Offence, Outcome, RunFault, Summary, Verdict, found_report, verdict_report,
+    Completeness, Offence, Outcome, RunFault, Verdict, found_report, verdict_report,
 };
 use std::alloc::Global;
 

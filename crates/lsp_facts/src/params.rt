@@ -1,7 +1,7 @@
 //! Which member of the params of a message, or of the result of `initialize`, does not have the
 //! shape that it must have (LSP 3.17). `None` as a value is one that is missing, and as an answer
 //! that nothing is wrong.
-ghost use Rattle.std.specs.Prelude.{◌≡◌, Some, option_map};
+ghost use Rattle.std.specs.Prelude.{Some, option_map};
 ghost use Rattle.serde_json.specs.View.{items_view, view};
 ghost use Rattle.lsp_rpc.specs.View.{message_view};
 ghost use Rattle.lsp_facts.specs.Members as spec;

@@ -2,7 +2,6 @@
 //! or showed of it.
 
 ghost use Rattle.std.specs.Prelude.{◌≡◌, List, Some, IfOk, option_and_then, option_map};
-ghost use Rattle.std.specs.Prelude.{if◌then◌else◌};
 ghost use Rattle.std.specs.Str.{chars};
 ghost use Rattle.lsp_rpc.specs.View.{act_view};
 ghost use Rattle.lsp_types.specs.declared.change.SyncKind.{SyncKind};

@@ -1,6 +1,6 @@
 //! The limits of what is accepted. They are this project's own: the base protocol of LSP 3.17 sets
 //! none.
-ghost use Rattle.std.specs.Prelude.{◌≡◌, ◌≤◌, ◌↔◌, ◌^◌, IsSome, IfSome};
+ghost use Rattle.std.specs.Prelude.{◌≡◌, ◌↔◌, IsSome, IfSome};
 ghost use Rattle.lsp_frame.specs.Bounds.{Bounds, IsInRange, ignoring_line_ends, profile};
 
 use lsp_types::LineEnds;

@@ -2,9 +2,7 @@
 ghost use Rattle.std.specs.Prelude.{◌≡◌, ◌⊎◌, ◌+◌, ◌<◌, ◌≤◌, ◌==◌, ◌||◌, drop, get_or, length};
 ghost use Rattle.std.specs.Prelude.{slice_index, Some, true, false, IsTrue, IfSome, is_some};
 ghost use Rattle.std.specs.Char.{is_ascii_digit};
-ghost use Rattle.std.specs.List.{list_all, prefix_len};
-ghost use Rattle.std.specs.Str.Parse.{digits_value};
-ghost use Rattle.json.specs.Print.{IsNumber};
+ghost use Rattle.std.specs.List.{prefix_len};
 ghost use Rattle.json.specs.Word.{is_operator, is_space};
 ghost use Rattle.serde_json.specs.Data.{Num, number, unsigned};
 ghost use Rattle.serde_json.specs.Read.{number_of, number_from};

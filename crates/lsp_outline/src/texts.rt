@@ -1,6 +1,6 @@
 //! The text of strings, with what their escapes write (RFC 8259, section 7).
 ghost use Rattle.std.specs.Prelude.{◌≡◌, ℕ, List, ◌+◌, ◌-◌, ◌<◌, ◌≤◌, length, drop, get_or, true};
-ghost use Rattle.std.specs.Prelude.{None, Some, MatchOption, IfSome, map, string_bytes};
+ghost use Rattle.std.specs.Prelude.{None, Some, IfSome, map, string_bytes};
 ghost use Rattle.std.specs.Char.{digit_value};
 ghost use Rattle.std.specs.List.{prefix_len};
 ghost use Rattle.std.specs.Simd.Lanes.{mask_l};

@@ -1,6 +1,5 @@
 //! What the two sides agree on.
-ghost use Rattle.std.specs.Prelude.{◌≡◌, Some, None, is_some, true, IfOk, IfErr, OnOk, codes};
-ghost use Rattle.std.specs.Prelude.{option_map};
+ghost use Rattle.std.specs.Prelude.{◌≡◌, Some, None, is_some, true, IfOk, IfErr, OnOk};
 ghost use Rattle.std.specs.List.{list_any};
 ghost use Rattle.std.specs.Str.{bytes_eq};
 ghost use Rattle.serde_json.specs.View.{view};

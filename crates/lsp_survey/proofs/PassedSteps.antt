@@ -60,8 +60,6 @@ module _ (rule : ℕ) (old new : Passed) where
   asked_passes Server id method params sets Server k =
       asked_sets Server (Some id) rule old new sets Server k
 
-module _ (rule : ℕ) (old : Passed) where
-
 -- ---- what an event does
 
 asked_alike : (side by : Side) (m : Message) → asked_from side by (outline m) ≡ asked_from side by m

@@ -1,7 +1,7 @@
 //! The place at which two texts first differ.
 
 ghost use Rattle.std.specs.Prelude.{◌≡◌, ◌+◌, ◌-◌, ◌^◌, ◌≤◌, ◌↔◌, Some, length, take, drop, min};
-ghost use Rattle.std.specs.Prelude.{slice_get, IsTrue, IfNone, IfSome, MatchOption};
+ghost use Rattle.std.specs.Prelude.{IsTrue, IfNone, IfSome, MatchOption};
 ghost use Rattle.std.specs.Str.{chars, IsCharBoundary};
 ghost use Rattle.lsp_text.specs.Lines.{spelled, line_at};
 ghost use Rattle.lsp_text.specs.Difference.{IsFirstDifference, DifferFirst, line_around};

@@ -1,7 +1,7 @@
 //! Edits of kept lines, which see held bytes by `Lines::read`, and by `Lines::further` on a line
 //! that was read.
 
-ghost use Rattle.std.specs.Prelude.{◌≡◌, ◌<◌, ◌≤◌, ◌+◌, ◌*◌, ◌^◌, Ok, None, length, MatchOption};
+ghost use Rattle.std.specs.Prelude.{◌≡◌, ◌<◌, ◌+◌, ◌*◌, ◌^◌, Ok, None, length, MatchOption};
 ghost use Rattle.std.specs.Prelude.{OnOk, OnErr, IfSome, IfErr, IsTrue, ◌↔◌};
 ghost use Rattle.std.specs.Str.{chars};
 ghost use Rattle.lsp_text.specs.Places.{place_of};

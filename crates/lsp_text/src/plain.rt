@@ -1,6 +1,6 @@
 //! A text in one `String`, cut into lines again at each position.
 
-ghost use Rattle.std.specs.Prelude.{◌≡◌, ◌≤◌, None, length, MatchOption};
+ghost use Rattle.std.specs.Prelude.{◌≡◌, None, length, MatchOption};
 ghost use Rattle.std.specs.Str.{chars};
 ghost use Rattle.lsp_text.specs.Lines.{lines_of};
 ghost use Rattle.lsp_text.specs.Places.{place_of};

@@ -2,7 +2,7 @@
 
 ghost use Rattle.std.specs.Prelude.{◌≡◌, ◌↔◌, ◌++◌, ◌∷◌, [], List, ℕ, true, IsTrue, MatchOption};
 ghost use Rattle.std.specs.Prelude.{IfOk, string_bytes};
-ghost use Rattle.std.specs.Str.{chars, IsUtf8};
+ghost use Rattle.std.specs.Str.{chars};
 ghost use Rattle.lsp_types.specs.declared.line_ends.LineEnds.TheVariants.{Ignored};
 ghost use Rattle.lsp_text.specs.Lines.{has_no_line_end};
 ghost use Rattle.lsp_text.specs.SameText.{SameText, compared, with_feeds, due};
