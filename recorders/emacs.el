@@ -1,13 +1,15 @@
 ;;; emacs.el --- Record eglot and lsp-mode sessions for lspcheck  -*- lexical-binding: t; -*-
 
 ;; Start Emacs with: emacs -l emacs.el FILE (or `load' it in the init file, before a server starts).
-;; Each server process gets a log of its own, SERVER-PID.log, in $LSPCHECK_LOGS or the folder that
-;; Emacs was started in.
+;; Each server process gets a log of its own, SERVER-PID.log, in the folder $LSPCHECK_LOGS, which is
+;; created if it does not exist (default: the folder that Emacs was started in).
 
 (require 'subr-x)
 
-(defvar lspcheck-folder (or (getenv "LSPCHECK_LOGS") default-directory)
+(defvar lspcheck-folder
+  (expand-file-name (or (getenv "LSPCHECK_LOGS") "") command-line-default-directory)
   "Where the logs are written.")
+(make-directory lspcheck-folder t)
 
 (defvar lspcheck-alarm (not (member (getenv "LSPCHECK_ALARM") '(nil "")))
   "Whether `lspcheck explain' reads each log while it is written.

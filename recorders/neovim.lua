@@ -1,15 +1,21 @@
 -- Records what Neovim's built-in client and its language servers send each other, for lspcheck.
 -- Start Neovim with: nvim --cmd 'luafile neovim.lua' FILE (or use dofile at the top of init.lua).
--- Each server process gets a log of its own, SERVER-PID-NUMBER.log, in $LSPCHECK_LOGS or the
--- working folder; PID is that of Neovim. With LSPCHECK_ALARM=1, and lspcheck on the PATH, a message
--- appears as soon as a rule is broken or the texts drift apart.
+-- Each server process gets a log of its own, SERVER-PID-NUMBER.log; PID is that of Neovim. The logs
+-- go to the folder $LSPCHECK_LOGS, which is created if it does not exist (default: the folder that
+-- Neovim was started in).
+-- With LSPCHECK_ALARM=1, and lspcheck on the PATH, a message appears as soon as a rule is broken or
+-- the texts drift apart.
 
 local uv = vim.uv or vim.loop
-local folder = os.getenv("LSPCHECK_LOGS") or "."
 local most = 1048576 -- the most bytes of one record
 local count, started = 0, nil
 local log_of_pipe = setmetatable({}, { __mode = "k" })
 local log_of_rpc = setmetatable({}, { __mode = "k" })
+
+-- An absolute path, so that the logs stay in one folder after `:cd`.
+local folder = os.getenv("LSPCHECK_LOGS")
+folder = vim.fn.fnamemodify(folder ~= "" and folder or ".", ":p")
+vim.fn.mkdir(folder, "p")
 
 local pipe = getmetatable(uv.new_pipe(false)).__index
 local write, read_start = pipe.write, pipe.read_start

@@ -1,14 +1,23 @@
 " Records what ALE and its language servers send each other, as logs for lspcheck.
 " Add to vimrc, after the line that puts ALE on the runtime path: source FOLDER/ale/job.vim
 " (Keep the name ale/job.vim: Vim lets only a file of this name redefine ALE's functions.)
-" Each server process gets a log of its own, SERVER-PID-NUMBER.log, in $LSPCHECK_LOGS or the working
-" folder; PID is that of Vim. A snapshot is taken whenever ALE has sent a text.
+" Each server process gets a log of its own, SERVER-PID-NUMBER.log; PID is that of Vim. The logs go
+" to the folder $LSPCHECK_LOGS, which is created if it does not exist (default: the folder that Vim
+" was started in). A snapshot is taken whenever ALE has sent a text.
 " With LSPCHECK_ALARM=1, and lspcheck on the PATH, a message appears as soon as a rule is broken or
 " the texts drift apart.
 
 runtime autoload/ale/job.vim
 
-let s:folder = empty($LSPCHECK_LOGS) ? getcwd() : $LSPCHECK_LOGS
+" An absolute path, so that the logs stay in one folder after `:cd`.
+let s:folder = fnamemodify(empty($LSPCHECK_LOGS) ? '.' : $LSPCHECK_LOGS, ':p')
+call mkdir(s:folder, 'p')
+
+" Without a folder ALE works, but is not recorded.
+if !isdirectory(s:folder)
+  finish
+endif
+
 let s:most = 1048576
 let s:count = 0
 let s:logs = {}
