@@ -1,5 +1,6 @@
 -- What a parse by the command line finds.
-use Rattle.std.proofs.Common.{◌≡◌, ◌∙◌, true, List, [], ◌∷◌, map, Option, Some, None, option_map, codes, refl, ap, inl}
+use Rattle.std.proofs.Common.{◌≡◌, true, List, [], ◌∷◌, map, Option, Some, None, option_map, codes}
+use Rattle.std.proofs.Common.{refl, ap, inl}
 use Rattle.std.specs.Borrow.{Bor}
 use Rattle.std.specs.Box.{box_value}
 use Rattle.clap.specs.Words.{App, Row, Text, is_simple, is_simple_and_free, kind_of, rows_of, subcommand_name_of, subcommand_rows_of}

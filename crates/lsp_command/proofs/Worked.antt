@@ -1,6 +1,6 @@
 -- Words that were worked out by hand: what `clap` finds in them by the command line, and what they ask for.
 use Rattle.std.proofs.Common.{◌≡◌, List, [], ◌∷◌, Option, Some, None, codes, option_map, refl}
-use Rattle.clap.specs.Words.{App, Kinds, Row, Text, fault_of, first_of, one_of, subcommand_of}
+use Rattle.clap.specs.Words.{App, Row, Text, fault_of, one_of, subcommand_of}
 use Rattle.clap.specs.declared.error.kind.ErrorKind.TheVariants as kind
 use Rattle.clap.proofs.OnLiterals.{clap_on_literals}
 use Rattle.lsp_command.specs.CommandLine.{command_line}

@@ -2,7 +2,7 @@
 use Rattle.std.specs.Prelude.{filter, not, option_map, if◌then◌else◌, string_bytes}
 use Rattle.std.specs.List.{AllZip, cons_option, flat_map}
 use Rattle.std.proofs.Common.{◌≡◌, ℕ, Bool, true, false, List, [], ◌∷◌, ◌++◌, Option, Some, None}
-use Rattle.std.proofs.Common.{refl, sym, ap, ◌∙◌, subst, append_assoc, append-nil}
+use Rattle.std.proofs.Common.{sym, ap, ◌∙◌, subst, append_assoc, append-nil}
 use Rattle.std.proofs.lemmas.List.Elements.{filter-append}
 use Rattle.std.proofs.lemmas.Option.{same_Some}
 use Rattle.lsp_docs.specs.Terms.{Terms}
@@ -12,7 +12,7 @@ use Rattle.lsp_replay.specs.LogEvents.{GoesBehind}
 use Rattle.lsp_survey.specs.Reads.{Finds}
 use Rattle.lsp_survey.specs.declared.offending.FoundOffence.{FoundOffence}
 use Rattle.lsp_types.specs.declared.side.Side.TheVariants.{Editor, Server}
-use Rattle.lsp_verdict.specs.Offences.{Noted, Offence, events_of, follows, rule_at}
+use Rattle.lsp_verdict.specs.Offences.{Offence, events_of, follows, rule_at}
 use Rattle.lsp_verdict.specs.Outcome.{HasRest}
 use Rattle.lsp_verdict.specs.Placed.{joined}
 use Rattle.lsp_verdict.proofs.LookBackLemmas.{each_of-snoc}

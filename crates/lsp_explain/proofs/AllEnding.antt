@@ -35,7 +35,7 @@ use Rattle.lsp_verdict.specs.Placed.{Raw, Placed, joined}
 use Rattle.lsp_verdict.specs.Complete.{IsVerdictBy}
 use Rattle.lsp_verdict.specs.Report.{line, report}
 use Rattle.lsp_verdict.specs.RunIo.{OfRead}
-use Rattle.lsp_verdict.specs.Survey.{IsSurvey, bad_lines, by_itself, ends_inside, ends_listed}
+use Rattle.lsp_verdict.specs.Survey.{bad_lines, by_itself, ends_inside, ends_listed}
 use Rattle.lsp_verdict.specs.Offences.{is_frame_fault}
 use Rattle.lsp_verdict.specs.Survey.{first_ends, first_verdict, found_in}
 use Rattle.lsp_verdict.specs.Survey.{lacks_listed, rests_listed}
@@ -47,7 +47,6 @@ use Rattle.lsp_verdict.specs.declared.outcome.RunFault.TheVariants as faults
 use Rattle.lsp_verdict.specs.declared.verdict.Verdict as code_verdict
 use Rattle.lsp_verdict.specs.declared.verdict.Who.TheVariants as who
 use Rattle.lsp_verdict.proofs.ByIndex.{map_one}
-use Rattle.lsp_verdict.proofs.Offences.Surveying.{survey_agrees}
 use Rattle.lsp_verdict.proofs.RunReading.{read_map}
 use Rattle.lsp_explain.specs.AllExplained.{causes, cause_lines, all_closing, all_explanation}
 use Rattle.lsp_explain.specs.AllExplained.{AreAllSaid, IsAllExplained, BeginsAllExplained}
@@ -61,7 +60,7 @@ use Rattle.lsp_explain.specs.Standing.{terms_in}
 use Rattle.lsp_explain.proofs.AllCauses.{said_under}
 use Rattle.lsp_explain.proofs.AllTelling.{IsTelling, lines, lines_append}
 use Rattle.lsp_explain.proofs.EndOfLog.{ends_are, flaw_said}
-use Rattle.lsp_explain.proofs.Judged.{some_by}
+use Rattle.lsp_explain.proofs.Judged.{written_verdict}
 
 -- ---- the log ended
 
@@ -272,7 +271,7 @@ module _ (completeness : Completeness) (limits : Bounds) (e : SurveyReader) (t :
         bad = bad;
         flaw = flaw;
         s = s;
-        are = all_said log r.0 r.1;
+        is = all_said log r.0 r.1;
         judges = judges;
         says = says;
       }) told.ended_behind
@@ -383,37 +382,6 @@ text_more rests sent xs i x at old added new grown is before =
 
 -- ---- the run
 
--- the survey that is explained
-pub survey_in_all : (completeness : Completeness) (limits : Bounds) (log : List ℕ)
-    (found : List Offence) (explained : List Explained) (b : Option Verdict) (f : List Fact)
-    (t : Summary) → AreAllSaid completeness limits log found explained b f t
-    → IsSurvey completeness limits log found b t
-survey_in_all completeness limits log found explained b f t e = record {
-  format = e.format;
-  records = e.records;
-  log_fault = e.log_fault;
-  notes = notes_of e.heard;
-  editor = e.rests.editor;
-  server = e.rests.server;
-  is_log = e.is_log;
-  session = (raws_of e.heard, e.placed_are, e.noted);
-  editor_rest = e.editor_rest;
-  server_rest = e.server_rest;
-  lists = e.lists;
-  bad_is = e.bad_is;
-  comes_to = e.comes_to;
-}
-
--- the verdict with which the explanation comes is that on the log
-pub all_verdict : (completeness : Completeness) (limits : Bounds) → IsInRange limits
-    → (log : List ℕ) (v : Verdict) (out : List ℕ) → IsAllExplained completeness limits log v out
-    → IsVerdictBy completeness limits log v
-all_verdict completeness limits sizes log v out e =
-    let w = some_by completeness limits log in
-    let agrees = survey_agrees completeness limits sizes log e.found e.bad e.s w.0
-    (survey_in_all completeness limits log e.found e.explained e.bad e.flaw e.s e.are) w.1 in
-    subst (IsVerdictBy completeness limits log) (agrees ∙ sym e.judges) w.1
-
 pub verdict_read : (completeness : Completeness) (limits : Bounds) → IsInRange limits
     → (start now : Told) (given v : code_verdict.Verdict) (out : List ℕ) → given ≡ v
     → OfRead limits start now
@@ -425,4 +393,4 @@ verdict_read completeness limits sizes start now given v out same due =
     (read_map limits start now
     (λ log. IsAllExplained completeness limits log (verdict_view given) out)
     (λ log. IsVerdictBy completeness limits log (verdict_view given))
-    (λ log r. all_verdict completeness limits sizes log (verdict_view given) out r) due)
+    (λ log r. written_verdict completeness limits sizes log (verdict_view given) out r) due)

@@ -19,7 +19,7 @@ use Rattle.lsp_explain.specs.Explained.{Heard, Breach, Explained, Explains, note
 use Rattle.lsp_explain.specs.Explained.{end_explained}
 use Rattle.lsp_explain.specs.ExplainLaws.{CausesAreExplained, FirstIsVerdict}
 use Rattle.lsp_facts.specs.FlawFacts.{Rests}
-use Rattle.lsp_explain.proofs.AllEnding.{survey_in_all}
+use Rattle.lsp_explain.proofs.Judged.{survey_in}
 use Rattle.lsp_explain.proofs.Explaining.{offence_of, offences_are}
 
 abbrev nos : List Offence → List Verdict
@@ -148,5 +148,5 @@ first_is_verdict completeness limits sizes log (o ∷ found) e explained bad fla
     causes_are_explained completeness limits log (o ∷ found) (e ∷ explained) bad flaw s are
     ∙ ap nos (shown_first o found o.follows refl free) in
     survey_agrees completeness limits sizes log (o ∷ found) bad s v
-    (survey_in_all completeness limits log (o ∷ found) (e ∷ explained) bad flaw s are) is
+    (survey_in completeness limits log (o ∷ found) (e ∷ explained) bad flaw s are) is
     ∙ sym (same_first e.no o.no (said_nos explained) (nos (shown_of false found)) listed)

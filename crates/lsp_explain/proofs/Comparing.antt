@@ -1,6 +1,6 @@
 -- The two whole texts of the first offence that a run finds.
 use Rattle.std.specs.Prelude.{Box}
-use Rattle.std.specs.Prelude.{option_and_then, option_map, unwrap_or, if◌then◌else◌, Bool, true}
+use Rattle.std.specs.Prelude.{option_map, unwrap_or, if◌then◌else◌, Bool, true}
 use Rattle.std.specs.Prelude.{false, chars, string_bytes, ℤ, String, map}
 use Rattle.std.specs.Global.{Global}
 use Rattle.std.specs.List.{AllZip}

@@ -1,12 +1,12 @@
 -- The report in an explanation.
-use Rattle.std.proofs.Common.{◌≡◌, List, [], ◌∷◌, ◌++◌, Option, Some, None, refl, sym, ap, ◌∙◌}
+use Rattle.std.proofs.Common.{◌≡◌, List, [], ◌∷◌, ◌++◌, Option, Some, None, ap, ◌∙◌}
 use Rattle.std.proofs.Common.{append-nil, append_assoc}
 use Rattle.std.specs.List.{flat_map}
 use Rattle.lsp_verdict.specs.Report.{report}
 use Rattle.lsp_verdict.specs.Survey.{first_verdict}
 use Rattle.lsp_verdict.specs.Verdict.{Summary, Verdict, yes, no, bad_log}
 use Rattle.lsp_explain.specs.ExplainLaws.{BeginsWithReport, YesIsReport}
-use Rattle.lsp_explain.specs.Explained.{explanation, flaw_lines, noticed_before, said_of}
+use Rattle.lsp_explain.specs.Explained.{flaw_lines, noticed_before, said_of}
 use Rattle.lsp_facts.specs.Fact.{Fact}
 use Rattle.lsp_explain.specs.Remarks.{remark_lines, remarks_of}
 

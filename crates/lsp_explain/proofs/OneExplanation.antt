@@ -3,7 +3,7 @@ use Rattle.std.specs.Prelude.{map, take, filter, if◌then◌else◌}
 use Rattle.std.specs.List.{AllByRecursion, AllZip, cons_option}
 use Rattle.std.specs.Option.{option_map}
 use Rattle.std.proofs.Common.{◌≡◌, ◌+◌, ℕ, Bool, true, false, List, [], ◌∷◌, ◌++◌, Option, Some}
-use Rattle.std.proofs.Common.{None, length, refl, sym, ap, subst, ◌∙◌}
+use Rattle.std.proofs.Common.{None, refl, sym, ap, subst, ◌∙◌}
 use Rattle.lsp_docs.specs.Terms.{Terms}
 use Rattle.lsp_frame.specs.Bounds.{Bounds, IsInRange}
 use Rattle.lsp_frame.specs.declared.format.Format.{Format}
@@ -13,9 +13,9 @@ use Rattle.lsp_survey.specs.Asking.{numbered}
 use Rattle.lsp_types.specs.declared.side.Side.TheVariants.{Editor, Server}
 use Rattle.lsp_verdict.specs.Event.{Event}
 use Rattle.lsp_verdict.specs.LookBack.{each_from}
-use Rattle.lsp_verdict.specs.Offences.{Noted, Offence, IsNoted, events_of, kept_of, rule_at}
+use Rattle.lsp_verdict.specs.Offences.{Offence, IsNoted, events_of, kept_of, rule_at}
 use Rattle.lsp_verdict.specs.Outcome.{HasRest, ending, log_terms}
-use Rattle.lsp_verdict.specs.Placed.{Raw, Placed, joined}
+use Rattle.lsp_verdict.specs.Placed.{Placed, joined}
 use Rattle.lsp_verdict.specs.Survey.{ends_listed, first_verdict, found_in}
 use Rattle.lsp_verdict.specs.Verdict.{Verdict, Ending, Summary, summary, bad_log_of, no_by}
 use Rattle.lsp_verdict.specs.declared.completeness.Completeness.{Completeness}
@@ -28,12 +28,10 @@ use Rattle.lsp_facts.specs.Fact.{Fact}
 use Rattle.lsp_facts.specs.FlawFacts.{Rests, log_facts}
 use Rattle.lsp_facts.proofs.OneFacts.{one_facts}
 use Rattle.lsp_facts.proofs.SomeFacts.{some_facts}
-use Rattle.lsp_explain.specs.AllExplained.{all_explanation, causes, is_cause, IsAllExplained}
-use Rattle.lsp_explain.specs.Explained.{Heard, Breach, Explained, Explains, breach, breach_at}
-use Rattle.lsp_explain.specs.Explained.{event_of}
-use Rattle.lsp_explain.specs.Explained.{breaches, raws_of, notes_of, end_explained}
-use Rattle.lsp_explain.specs.Explained.{noted_explanation}
-use Rattle.lsp_explain.specs.Explained.{IsExplanation}
+use Rattle.lsp_explain.specs.AllExplained.{all_explanation, causes, is_cause}
+use Rattle.lsp_explain.specs.Explained.{Heard, Breach, Explained, Explains, IsWritten, breach}
+use Rattle.lsp_explain.specs.Explained.{breach_at, breaches, end_explained, event_of}
+use Rattle.lsp_explain.specs.Explained.{first_breach, noted_explanation, notes_of, raws_of}
 use Rattle.lsp_explain.specs.ExplainLaws.{SomeExplanation, OneExplanation, SomeExplanationOfAll}
 use Rattle.lsp_explain.specs.ExplainLaws.{OneExplanationOfAll}
 use Rattle.lsp_explain.specs.Traced.{traced}
@@ -253,37 +251,6 @@ abbrev verdict_of : Completeness → Bounds → Parts → Verdict
 verdict_of completeness limits x =
     first_verdict (found_of completeness limits x) (bad_log_of x.log_fault) (sum_of limits x)
 
--- ---- what is explained of them
-
-module _ (pick : Terms → List Heard → List Breach) (short : List Explained → List Explained)
-    (write : Terms → List Heard → List Offence → List Explained → Option Verdict → List Fact
-    → Summary → List ℕ) (completeness : Completeness) (limits : Bounds) (log : List ℕ) where
-  -- these of them are explained so
-  abbrev Says : Parts → Verdict → List ℕ → Type 0
-  Says x v out =
-      (es : List Explained) × AllZip (Explains x.rests (terms_of limits x))
-      (pick (terms_of limits x) x.heard) es × (v ≡ verdict_of completeness limits x)
-      × (out ≡ write (terms_of limits x) x.heard (found_of completeness limits x) (short (es ++ ends_of completeness limits x))
-      (bad_log_of x.log_fault) (flaw_of limits log x) (sum_of limits x))
-
-  says_one : (x : Parts) (v w : Verdict) (out other : List ℕ) → Says x v out → Says x w other
-      → (v ≡ w) × (out ≡ other)
-  says_one x v w out other p q =
-      let same : p.0 ≡ q.0 = one_each x.rests (terms_of limits x) (pick (terms_of limits x) x.heard)
-      p.0 q.0 p.1 q.1 in (
-        p.2 ∙ sym q.2,
-        p.3 ∙ ap (λ es. write (terms_of limits x) x.heard (found_of completeness limits x)
-            (short (es ++ ends_of completeness limits x)) (bad_log_of x.log_fault)
-            (flaw_of limits log x) (sum_of limits x)) same ∙ sym q.3,
-      )
-
-  both_say : IsInRange limits → (x y : Parts) (v w : Verdict) (out other : List ℕ)
-      → AreParts limits log x → AreParts limits log y → Says x v out → Says y w other
-      → (v ≡ w) × (out ≡ other)
-  both_say sizes x y v w out other p q first second =
-      says_one y v w out other
-      (subst (λ z. Says z v out) (one_parts limits sizes log x y p q) first) second
-
 -- what is written of them, where each is what it comes to
 same_written : (write : List Offence → List Explained → Option Verdict → List Fact → Summary
     → List ℕ) (found fs : List Offence) (explained es : List Explained) (bad b : Option Verdict)
@@ -301,169 +268,137 @@ same_verdict found fs bad b s t e1 e2 e3 =
     ap (λ x. first_verdict x bad s) e1 ∙ ap (λ x. first_verdict fs x s) e2
     ∙ ap (first_verdict fs b) e3
 
+-- ---- what is explained of them
+
+module _ (pick : Terms → List Heard → List Breach) (wanted : List Explained → List Explained)
+    (write : Terms → List Heard → List Offence → List Explained → Option Verdict → List Fact
+    → Summary → List ℕ) (completeness : Completeness) (limits : Bounds) (log : List ℕ) where
+  -- these of them are explained so
+  abbrev Says : Parts → Verdict → List ℕ → Type 0
+  Says x v out =
+      (es : List Explained) × AllZip (Explains x.rests (terms_of limits x))
+      (pick (terms_of limits x) x.heard) es × (v ≡ verdict_of completeness limits x)
+      × (out ≡ write (terms_of limits x) x.heard (found_of completeness limits x)
+      (wanted (es ++ ends_of completeness limits x)) (bad_log_of x.log_fault)
+      (flaw_of limits log x) (sum_of limits x))
+
+  says_one : (x : Parts) (v w : Verdict) (out other : List ℕ) → Says x v out → Says x w other
+      → (v ≡ w) × (out ≡ other)
+  says_one x v w out other p q =
+      let same : p.0 ≡ q.0 = one_each x.rests (terms_of limits x) (pick (terms_of limits x) x.heard)
+      p.0 q.0 p.1 q.1 in (
+        p.2 ∙ sym q.2,
+        p.3 ∙ ap (λ es. write (terms_of limits x) x.heard (found_of completeness limits x)
+            (wanted (es ++ ends_of completeness limits x)) (bad_log_of x.log_fault)
+            (flaw_of limits log x) (sum_of limits x)) same ∙ sym q.3,
+      )
+
+  both_say : IsInRange limits → (x y : Parts) (v w : Verdict) (out other : List ℕ)
+      → AreParts limits log x → AreParts limits log y → Says x v out → Says y w other
+      → (v ≡ w) × (out ≡ other)
+  both_say sizes x y v w out other p q first second =
+      says_one y v w out other
+      (subst (λ z. Says z v out) (one_parts limits sizes log x y p q) first) second
+
+  -- what is written says so of the parts of the log
+  parts_say : (v : Verdict) (out : List ℕ)
+      → IsWritten pick wanted write completeness limits log v out
+      → (x : Parts) × AreParts limits log x × Says x v out
+  parts_say v out e =
+      let i = e.is in (
+        record {
+          format = i.format;
+          records = i.records;
+          log_fault = i.log_fault;
+          heard = i.heard;
+          rests = i.rests;
+        },
+        record {
+          is_log = i.is_log;
+          placed_are = i.placed_are;
+          noted = i.noted;
+          editor_rest = i.editor_rest;
+          server_rest = i.server_rest;
+        },
+        (
+          i.of_events,
+          i.explains,
+          e.judges ∙ same_verdict _ _ _ _ _ _ i.lists i.bad_is i.comes_to,
+          e.says ∙ same_written (write (log_terms limits i.format) i.heard) _ _ _ _ _ _ _ _ _ _
+              i.lists i.shows i.bad_is i.flaw_is i.comes_to,
+        ),
+      )
+
+  one_written : IsInRange limits → (v w : Verdict) (out other : List ℕ)
+      → IsWritten pick wanted write completeness limits log v out
+      → IsWritten pick wanted write completeness limits log w other → (v ≡ w) × (out ≡ other)
+  one_written sizes v w out other p q =
+      let first = parts_say v out p in
+      let second = parts_say w other q in
+      both_say sizes first.0 second.0 v w out other first.1 second.1 first.2 second.2
+
+  some_written : ((terms : Terms) (heard : List Heard)
+      → AllByRecursion (Offends terms) (breaches terms heard)
+      → AllByRecursion (Offends terms) (pick terms heard))
+      → (v : Verdict) × (out : List ℕ) × IsWritten pick wanted write completeness limits log v out
+  some_written picked_offend =
+      let parts = some_parts limits log in
+      let x = parts.0 in
+      let terms = terms_of limits x in
+      let said = some_each x.rests terms (pick terms x.heard)
+      (picked_offend terms x.heard (each_offends terms [] x.heard)) in
+      let explained = wanted (said.0 ++ ends_of completeness limits x) in (
+        verdict_of completeness limits x,
+        write terms x.heard (found_of completeness limits x) explained (bad_log_of x.log_fault)
+            (flaw_of limits log x) (sum_of limits x),
+        record {
+          found = found_of completeness limits x;
+          explained = explained;
+          bad = bad_log_of x.log_fault;
+          flaw = flaw_of limits log x;
+          s = sum_of limits x;
+          is = record {
+            format = x.format;
+            records = x.records;
+            log_fault = x.log_fault;
+            heard = x.heard;
+            rests = x.rests;
+            of_events = said.0;
+            is_log = parts.1.is_log;
+            placed_are = parts.1.placed_are;
+            noted = parts.1.noted;
+            editor_rest = parts.1.editor_rest;
+            server_rest = parts.1.server_rest;
+            lists = refl;
+            bad_is = refl;
+            flaw_is = refl;
+            comes_to = refl;
+            explains = said.1;
+            shows = refl;
+          };
+          judges = refl;
+          says = refl;
+        },
+      )
+
 -- ---- the first that is wrong
 
 pub some_explanation : SomeExplanation
 some_explanation completeness limits log =
-    let parts = some_parts limits log in
-    let x = parts.0 in
-    let terms = terms_of limits x in
-    let said = some_each x.rests terms (take 1 (breaches terms x.heard))
-    (first_offends terms (breaches terms x.heard) (each_offends terms [] x.heard)) in
-    let explained = take 1 (said.0 ++ ends_of completeness limits x) in (
-      verdict_of completeness limits x,
-      noted_explanation terms x.heard (found_of completeness limits x) explained
-          (bad_log_of x.log_fault) (flaw_of limits log x) (sum_of limits x),
-      record {
-        found = found_of completeness limits x;
-        explained = explained;
-        bad = bad_log_of x.log_fault;
-        flaw = flaw_of limits log x;
-        s = sum_of limits x;
-        is = record {
-          format = x.format;
-          records = x.records;
-          log_fault = x.log_fault;
-          heard = x.heard;
-          rests = x.rests;
-          of_events = said.0;
-          is_log = parts.1.is_log;
-          placed_are = parts.1.placed_are;
-          noted = parts.1.noted;
-          editor_rest = parts.1.editor_rest;
-          server_rest = parts.1.server_rest;
-          lists = refl;
-          bad_is = refl;
-          flaw_is = refl;
-          comes_to = refl;
-          explains = said.1;
-          shows = refl;
-        };
-        judges = refl;
-        says = refl;
-      },
-    )
-
-module _ (completeness : Completeness) (limits : Bounds) (log : List ℕ) (v : Verdict) (out : List ℕ)
-  where
-    abbrev FirstSays : Parts → Type 0
-    FirstSays x = Says (λ terms hs. take 1 (breaches terms hs)) (take 1) noted_explanation
-        completeness limits log x v out
-
-    first_said : IsExplanation completeness limits log v out
-        → (x : Parts) × AreParts limits log x × FirstSays x
-    first_said e =
-        let i = e.is in (
-          record {
-            format = i.format;
-            records = i.records;
-            log_fault = i.log_fault;
-            heard = i.heard;
-            rests = i.rests;
-          },
-          record {
-            is_log = i.is_log;
-            placed_are = i.placed_are;
-            noted = i.noted;
-            editor_rest = i.editor_rest;
-            server_rest = i.server_rest;
-          },
-          (
-            i.of_events,
-            i.explains,
-            e.judges ∙ same_verdict _ _ _ _ _ _ i.lists i.bad_is i.comes_to,
-            e.says ∙ same_written (noted_explanation (log_terms limits i.format) i.heard) _ _ _ _ _ _
-                _ _ _ _ i.lists i.shows i.bad_is i.flaw_is i.comes_to,
-          ),
-        )
+    some_written first_breach (take 1) noted_explanation completeness limits log
+    (λ terms heard. first_offends terms (breaches terms heard))
 
 pub one_explanation : OneExplanation
-one_explanation completeness limits sizes log v w out other p q =
-    let first = first_said completeness limits log v out p in
-    let second = first_said completeness limits log w other q in
-    both_say (λ terms hs. take 1 (breaches terms hs)) (take 1) noted_explanation completeness limits
-    log sizes first.0 second.0 v w out other first.1 second.1 first.2 second.2
+one_explanation completeness limits sizes log =
+    one_written first_breach (take 1) noted_explanation completeness limits log sizes
 
 -- ---- all that is wrong
 
 pub some_explanation_of_all : SomeExplanationOfAll
 some_explanation_of_all completeness limits log =
-    let parts = some_parts limits log in
-    let x = parts.0 in
-    let terms = terms_of limits x in
-    let said = some_each x.rests terms (causes terms x.heard)
-    (passed_offend terms (is_cause terms) (breaches terms x.heard)
-    (each_offends terms [] x.heard)) in
-    let explained = said.0 ++ ends_of completeness limits x in (
-      verdict_of completeness limits x,
-      all_explanation (found_of completeness limits x) explained (bad_log_of x.log_fault)
-          (flaw_of limits log x) (sum_of limits x),
-      record {
-        found = found_of completeness limits x;
-        explained = explained;
-        bad = bad_log_of x.log_fault;
-        flaw = flaw_of limits log x;
-        s = sum_of limits x;
-        are = record {
-          format = x.format;
-          records = x.records;
-          log_fault = x.log_fault;
-          heard = x.heard;
-          rests = x.rests;
-          of_events = said.0;
-          is_log = parts.1.is_log;
-          placed_are = parts.1.placed_are;
-          noted = parts.1.noted;
-          editor_rest = parts.1.editor_rest;
-          server_rest = parts.1.server_rest;
-          lists = refl;
-          bad_is = refl;
-          flaw_is = refl;
-          comes_to = refl;
-          explains = said.1;
-          shows = refl;
-        };
-        judges = refl;
-        says = refl;
-      },
-    )
-
-module _ (completeness : Completeness) (limits : Bounds) (log : List ℕ) (v : Verdict) (out : List ℕ)
-  where
-    abbrev AllSays : Parts → Type 0
-    AllSays x = Says causes (λ es. es) (λ terms hs. all_explanation) completeness limits log x v
-        out
-
-    all_said : IsAllExplained completeness limits log v out
-        → (x : Parts) × AreParts limits log x × AllSays x
-    all_said e =
-        let i = e.are in (
-          record {
-            format = i.format;
-            records = i.records;
-            log_fault = i.log_fault;
-            heard = i.heard;
-            rests = i.rests;
-          },
-          record {
-            is_log = i.is_log;
-            placed_are = i.placed_are;
-            noted = i.noted;
-            editor_rest = i.editor_rest;
-            server_rest = i.server_rest;
-          },
-          (
-            i.of_events,
-            i.explains,
-            e.judges ∙ same_verdict _ _ _ _ _ _ i.lists i.bad_is i.comes_to,
-            e.says ∙ same_written all_explanation _ _ _ _ _ _ _ _ _ _ i.lists i.shows i.bad_is
-                i.flaw_is i.comes_to,
-          ),
-        )
+    some_written causes (λ es. es) (λ terms heard. all_explanation) completeness limits log
+    (λ terms heard. passed_offend terms (is_cause terms) (breaches terms heard))
 
 pub one_explanation_of_all : OneExplanationOfAll
-one_explanation_of_all completeness limits sizes log v w out other p q =
-    let first = all_said completeness limits log v out p in
-    let second = all_said completeness limits log w other q in
-    both_say causes (λ es. es) (λ terms hs. all_explanation) completeness limits log sizes
-    first.0 second.0 v w out other first.1 second.1 first.2 second.2
+one_explanation_of_all completeness limits sizes log =
+    one_written causes (λ es. es) (λ terms heard. all_explanation) completeness limits log sizes

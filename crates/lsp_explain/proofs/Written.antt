@@ -1,7 +1,7 @@
 -- The number that a text writes, if it writes one as a number is written.
-use Rattle.std.specs.Prelude.{◌^◌, ◌-◌, ◌<◌, ◌&&◌, ℤ, pos, negsuc, nat_lt, nat_le, FitsSigned}
+use Rattle.std.specs.Prelude.{◌^◌, ◌-◌, ◌&&◌, ℤ, pos, negsuc, nat_lt, nat_le, FitsSigned}
 use Rattle.std.specs.Prelude.{if◌then◌else◌, option_and_then}
-use Rattle.std.proofs.Common.{◌≡◌, ◌∙◌, ℕ, List, Bool, true, false, Option, Some, None, Result, Ok}
+use Rattle.std.proofs.Common.{◌≡◌, ℕ, List, Bool, true, false, Option, Some, None, Result, Ok}
 use Rattle.std.proofs.Common.{Err, refl, sym, ap, subst, w32, arith}
 use Rattle.std.proofs.lemmas.Bool.Decides.{nat_tests}
 use Rattle.std.proofs.lemmas.Fmt.{parse-signed_decimal}

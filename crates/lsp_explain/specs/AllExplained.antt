@@ -1,6 +1,6 @@
 -- What is said about all that is wrong with a log: of each offence that follows from no earlier
 -- one.
-use Rattle.std.specs.Prelude.{◌≡◌, ◌⊎◌, ℕ, List, [], ◌∷◌, ◌++◌, map, filter, Bool, not, Option}
+use Rattle.std.specs.Prelude.{◌≡◌, ◌⊎◌, ℕ, List, [], ◌∷◌, ◌++◌, filter, Bool, not, Option}
 use Rattle.std.specs.Prelude.{Result}
 use Rattle.std.specs.List.{AllZip, flat_map}
 use Rattle.lsp_docs.specs.Terms.{Terms}
@@ -8,24 +8,23 @@ use Rattle.lsp_frame.specs.Bounds.{Bounds}
 use Rattle.lsp_frame.specs.declared.format.Format.{Format}
 use Rattle.lsp_log.specs.Log.{Record, IsLog}
 use Rattle.lsp_log.specs.declared.fault.LogCode.{LogCode}
-use Rattle.lsp_survey.specs.Asking.{numbered}
 use Rattle.lsp_types.specs.declared.side.Side.TheVariants.{Editor, Server}
 use Rattle.lsp_verdict.specs.Complete.{IsVerdictBy}
-use Rattle.lsp_verdict.specs.Offences.{Offence, IsNoted, events_of, follows}
-use Rattle.lsp_verdict.specs.Outcome.{HasRest, ending, log_terms}
+use Rattle.lsp_verdict.specs.Offences.{Offence, IsNoted, follows}
+use Rattle.lsp_verdict.specs.Outcome.{HasRest, log_terms}
 use Rattle.lsp_verdict.specs.Placed.{Raw, Placed, joined}
 use Rattle.lsp_verdict.specs.Ports.{Ports}
 use Rattle.lsp_verdict.specs.Report.{report}
 use Rattle.lsp_verdict.specs.Runs.{Judges}
-use Rattle.lsp_verdict.specs.Survey.{bad_lines, ends_listed, first_verdict, found_in, found_line}
-use Rattle.lsp_verdict.specs.Verdict.{Verdict, Summary, bad_log_of, summary}
+use Rattle.lsp_verdict.specs.Survey.{bad_lines, first_verdict, found_line}
+use Rattle.lsp_verdict.specs.Verdict.{Verdict, Summary}
 use Rattle.lsp_verdict.specs.declared.completeness.Completeness.{Completeness}
 use Rattle.lsp_verdict.specs.declared.outcome.Outcome.{Outcome}
 use Rattle.lsp_verdict.specs.declared.outcome.RunFault.{RunFault}
 use Rattle.lsp_facts.specs.Fact.{Fact}
-use Rattle.lsp_facts.specs.FlawFacts.{Rests, log_facts}
+use Rattle.lsp_facts.specs.FlawFacts.{Rests}
 use Rattle.lsp_explain.specs.Explained.{Heard, Breach, Explained, Explains, raws_of, notes_of}
-use Rattle.lsp_explain.specs.Explained.{breaches, end_explained, said_of, flaw_lines}
+use Rattle.lsp_explain.specs.Explained.{AreExplained, IsWritten, breaches, said_of, flaw_lines}
 
 -- ---- the events that are explained
 
@@ -57,45 +56,14 @@ all_explanation found explained bad flaw s =
 
 -- ---- a log
 
--- **all that is explained of a log**, the causes among its events and what is listed of its end:
--- `found` and `bad` and `s` are its survey, and `flaw` is said about its fault
-pub record AreAllSaid (completeness : Completeness) (limits : Bounds) (log : List ℕ)
-    (found : List Offence) (explained : List Explained) (bad : Option Verdict) (flaw : List Fact)
-    (s : Summary) : Type 0 where
-  pub format : Option Format
-  pub records : List Record
-  pub log_fault : Option (ℕ × LogCode)
-  pub heard : List Heard
-  pub rests : Rests
-  pub of_events : List Explained
-  pub is_log : IsLog limits log format records log_fault
-  pub placed_are : Placed limits records (raws_of heard)
-  pub noted : AllZip IsNoted (raws_of heard) (notes_of heard)
-  pub editor_rest : HasRest limits (joined Editor records) rests.editor
-  pub server_rest : HasRest limits (joined Server records) rests.server
-  pub lists : found ≡ found_in completeness (log_terms limits format) (notes_of heard)
-      (ending log_fault rests.editor rests.server)
-  pub bad_is : bad ≡ bad_log_of log_fault
-  pub flaw_is : flaw ≡ log_facts limits log format records log_fault
-  pub comes_to : s ≡ summary (log_terms limits format) (events_of (notes_of heard))
-  pub explains : AllZip (Explains rests (log_terms limits format))
-      (causes (log_terms limits format) heard) of_events
-  pub shows : explained ≡ of_events ++ map
-      (end_explained rests (numbered (log_terms limits format) (events_of (notes_of heard))))
-      (ends_listed completeness (log_terms limits format) (events_of (notes_of heard))
-      (ending log_fault rests.editor rests.server))
+-- **all that is explained of a log**: the causes among its events, and what is listed of its end
+abbrev pub AreAllSaid : Completeness → Bounds → List ℕ → List Offence → List Explained
+    → Option Verdict → List Fact → Summary → Type 0
+AreAllSaid = AreExplained causes (λ explained. explained)
 
 -- **the verdict on a log, and the explanation of all that is wrong with it**
-pub record IsAllExplained (completeness : Completeness) (limits : Bounds) (log : List ℕ)
-    (v : Verdict) (out : List ℕ) : Type 0 where
-  pub found : List Offence
-  pub explained : List Explained
-  pub bad : Option Verdict
-  pub flaw : List Fact
-  pub s : Summary
-  pub are : AreAllSaid completeness limits log found explained bad flaw s
-  pub judges : v ≡ first_verdict found bad s
-  pub says : out ≡ all_explanation found explained bad flaw s
+abbrev pub IsAllExplained : Completeness → Bounds → List ℕ → Verdict → List ℕ → Type 0
+IsAllExplained = IsWritten causes (λ explained. explained) (λ terms heard. all_explanation)
 
 -- ---- what begins it
 

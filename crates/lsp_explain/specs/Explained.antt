@@ -143,11 +143,13 @@ noted_explanation terms heard found explained bad flaw s =
 
 -- ---- a log
 
--- **what is explained of a log**, the first offence: `found` and `bad` and `s` are its survey, and
--- `flaw` is said about its fault
-pub record IsExplained (completeness : Completeness) (limits : Bounds) (log : List ℕ)
-    (found : List Offence) (explained : List Explained) (bad : Option Verdict) (flaw : List Fact)
-    (s : Summary) : Type 0 where
+-- **what is explained of a log**: the events that are picked of those that offend, and of these
+-- and of what is listed of its end those that are wanted. `found`, `bad` and `s` are its survey,
+-- and `flaw` is said about its fault
+pub record AreExplained (pick : Terms → List Heard → List Breach)
+    (wanted : List Explained → List Explained) (completeness : Completeness) (limits : Bounds)
+    (log : List ℕ) (found : List Offence) (explained : List Explained) (bad : Option Verdict)
+    (flaw : List Fact) (s : Summary) : Type 0 where
   pub format : Option Format
   pub records : List Record
   pub log_fault : Option (ℕ × LogCode)
@@ -165,25 +167,42 @@ pub record IsExplained (completeness : Completeness) (limits : Bounds) (log : Li
   pub flaw_is : flaw ≡ log_facts limits log format records log_fault
   pub comes_to : s ≡ summary (log_terms limits format) (events_of (notes_of heard))
   pub explains : AllZip (Explains rests (log_terms limits format))
-      (take 1 (breaches (log_terms limits format) heard)) of_events
-  pub shows : explained ≡ take 1 (of_events ++ map
+      (pick (log_terms limits format) heard) of_events
+  pub shows : explained ≡ wanted (of_events ++ map
       (end_explained rests (numbered (log_terms limits format) (events_of (notes_of heard))))
       (ends_listed completeness (log_terms limits format) (events_of (notes_of heard))
       (ending log_fault rests.editor rests.server)))
 
--- **the verdict on a log, and what explains it**, with the notes: the first that its survey lists,
--- else its fault, else Yes
-pub record IsExplanation (completeness : Completeness) (limits : Bounds) (log : List ℕ)
+-- **the verdict on a log, and what is written of it**: of what is explained
+pub record IsWritten (pick : Terms → List Heard → List Breach)
+    (wanted : List Explained → List Explained)
+    (write : Terms → List Heard → List Offence → List Explained → Option Verdict → List Fact
+    → Summary → List ℕ) (completeness : Completeness) (limits : Bounds) (log : List ℕ)
     (v : Verdict) (out : List ℕ) : Type 0 where
   pub found : List Offence
   pub explained : List Explained
   pub bad : Option Verdict
   pub flaw : List Fact
   pub s : Summary
-  pub is : IsExplained completeness limits log found explained bad flaw s
+  pub is : AreExplained pick wanted completeness limits log found explained bad flaw s
   pub judges : v ≡ first_verdict found bad s
-  pub says : out
-      ≡ noted_explanation (log_terms limits is.format) is.heard found explained bad flaw s
+  pub says : out ≡ write (log_terms limits is.format) is.heard found explained bad flaw s
+
+-- ---- the first offence of a log
+
+-- the first event that offends
+abbrev pub first_breach : Terms → List Heard → List Breach
+first_breach terms heard = take 1 (breaches terms heard)
+
+-- **what is explained of it**: the first that its survey lists
+abbrev pub IsExplained : Completeness → Bounds → List ℕ → List Offence → List Explained
+    → Option Verdict → List Fact → Summary → Type 0
+IsExplained = AreExplained first_breach (take 1)
+
+-- **the verdict on a log, and what explains it**, with the notes: the first that its survey lists,
+-- else its fault, else Yes
+abbrev pub IsExplanation : Completeness → Bounds → List ℕ → Verdict → List ℕ → Type 0
+IsExplanation = IsWritten first_breach (take 1) noted_explanation
 
 -- what begins the explanation of a log
 abbrev pub BeginsExplanation : Completeness → Bounds → List ℕ → List ℕ → Type 0

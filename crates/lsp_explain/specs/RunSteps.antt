@@ -12,7 +12,6 @@ use Rattle.lsp_types.specs.declared.side.Side.{Side}
 use Rattle.lsp_types.specs.declared.side.Side.TheVariants.{Editor, Server}
 use Rattle.lsp_docs.specs.Terms.{Terms}
 use Rattle.lsp_replay.specs.Standing.{Follows}
-use Rattle.lsp_survey.specs.Asking.{numbered}
 use Rattle.lsp_survey.specs.Reads.{SoFar, GaveEvent, Ended}
 use Rattle.lsp_survey.specs.declared.offending.FoundOffence.{FoundOffence}
 use Rattle.lsp_survey.specs.declared.offending.Judged.TheVariants as heard

@@ -1,7 +1,7 @@
 -- Which messages can have made texts differ: those that set a version after the one that was found
 -- equal, up to the one that differs.
-use Rattle.std.specs.Prelude.{ℕ, ℤ, ◌+◌, ◌-◌, int_lt, nat_lt, List, [], ◌∷◌, ◌++◌, map, take, drop}
-use Rattle.std.specs.Prelude.{length, slice_get, Bool, true, not, Option, Some, None}
+use Rattle.std.specs.Prelude.{ℕ, ◌+◌, ◌-◌, int_lt, nat_lt, List, [], ◌∷◌, ◌++◌, map, take, drop}
+use Rattle.std.specs.Prelude.{Bool, true, not, Option, Some, None}
 use Rattle.std.specs.List.{prefix_len}
 use Rattle.lsp_docs.specs.Calls.{Call, opens, changes, closes, saves, shows}
 use Rattle.lsp_survey.specs.Marking.{next_rank, rank_or}

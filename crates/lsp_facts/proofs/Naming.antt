@@ -6,7 +6,7 @@ use Rattle.std.proofs.lemmas.Str.{IsUtf8-from_is_utf8, is_utf8-from_IsUtf8}
 use Rattle.serde_json.specs.Data.{Data}
 use Rattle.serde_json.specs.Read.{read}
 use Rattle.lsp_rpc.specs.Message.{Message}
-use Rattle.lsp_rpc.specs.Reading.{broken_rule, message_in, parts_of, IsJson, IsMessage, Reads, BreaksRule}
+use Rattle.lsp_rpc.specs.Reading.{message_in, parts_of, IsJson, Reads, BreaksRule}
 use Rattle.lsp_facts.specs.Lines.{content_message, value_message}
 
 -- what is read of a content, where it is text

@@ -1,20 +1,20 @@
 -- A call that breaks 608 or 702 compares two texts, and they differ.
 use Rattle.std.specs.Prelude.{option_map, option_and_then, if◌then◌else◌, Bool}
 use Rattle.std.specs.Result.{result_ok}
-use Rattle.std.proofs.Common.{◌≡◌, ◌⊎◌, ◌∷◌, [], ℕ, ℤ, List, true, false, Option, Some, None, Result}
+use Rattle.std.proofs.Common.{◌≡◌, ℕ, ℤ, List, true, false, Option, Some, None}
 use Rattle.std.proofs.Common.{inl, inr, refl, sym, ap, ◌∙◌, true≢false}
 use Rattle.std.proofs.lemmas.Slice.Eq.{bytes_eq-Decides}
 use Rattle.lsp_types.specs.declared.change.SyncKind.{SyncKind}
 use Rattle.lsp_types.specs.declared.line_ends.LineEnds.{LineEnds}
 use Rattle.lsp_types.specs.declared.position.Encoding.{Encoding}
 use Rattle.lsp_types.specs.declared.position.Encoding.TheVariants.{Utf16}
-use Rattle.lsp_text.specs.Edits.{Edit, applied}
+use Rattle.lsp_text.specs.Edits.{Edit}
 use Rattle.lsp_text.specs.SameText.{SameText, compared as compared_text, same_text}
 use Rattle.lsp_docs.specs.Calls.{Call, opens, changes, closes, saves, shows, uri_of}
 use Rattle.lsp_docs.specs.Documents.{Version, versioned, held}
 use Rattle.lsp_docs.specs.Kept.{kept}
 use Rattle.lsp_docs.specs.Rules.{call_rule, save_rule}
-use Rattle.lsp_docs.specs.Snapshots.{texts_at, waiting, versions_of}
+use Rattle.lsp_docs.specs.Snapshots.{waiting, versions_of}
 use Rattle.lsp_docs.specs.Terms.{Terms}
 use Rattle.lsp_docs.specs.Texts.{Text}
 use Rattle.lsp_facts.specs.DocumentFacts.{AreDetails, AreOfChange, AreOfOpening, AreOfSnapshot}
@@ -22,7 +22,7 @@ use Rattle.lsp_facts.specs.Fact.{Fact}
 use Rattle.lsp_facts.specs.Refuting.{first_other, made_text, waiting_texts}
 use Rattle.lsp_facts.specs.TwoTexts.{TextsDiffer, TwoTexts, against, compared, is_of_texts}
 use Rattle.lsp_facts.specs.TwoTexts.{saved_texts, two_texts}
-use Rattle.lsp_facts.proofs.DocumentRules.{IsOther, other_apart, waiting_apart}
+use Rattle.lsp_facts.proofs.DocumentRules.{other_apart, waiting_apart}
 use Rattle.lsp_facts.proofs.SomeFacts.{some_facts_of}
 
 -- there are two texts, which differ

@@ -1,6 +1,6 @@
 -- The encodings in which a column lies at the edge of a character.
-use Rattle.std.specs.Prelude.{ℕ, List, [], ◌∷◌, ◌++◌, slice_get, nat_lt, Bool, true, false}
-use Rattle.std.specs.Prelude.{is_some, if◌then◌else◌, Option, option_map, unwrap_or}
+use Rattle.std.specs.Prelude.{List, [], ◌∷◌, ◌++◌, slice_get, nat_lt, Bool, true, false}
+use Rattle.std.specs.Prelude.{is_some, if◌then◌else◌, option_map, unwrap_or}
 use Rattle.lsp_types.specs.declared.position.Encoding.{Encoding}
 use Rattle.lsp_types.specs.declared.position.Encoding.TheVariants.{Utf8, Utf16, Utf32}
 use Rattle.lsp_types.specs.declared.position.Position.{Position}

@@ -9,7 +9,6 @@ use lib.Utf8.{encodes}
 use Rattle.json.specs.Print.{quoted}
 use Rattle.serde_json.specs.Data.{Data}
 use Rattle.serde_json.specs.Read.{read}
-use Rattle.lsp_types.specs.declared.position.Encoding.{Encoding}
 use Rattle.lsp_types.specs.declared.position.Position.{Position}
 use Rattle.lsp_types.specs.declared.position.Span.{Span}
 use Rattle.lsp_rpc.specs.Message.{Message}

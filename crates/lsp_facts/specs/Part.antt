@@ -1,5 +1,5 @@
 -- A line of a document, of which a long one is shown as the part around a place.
-use Rattle.std.specs.Prelude.{ℕ, ◌-◌, List, length, take, drop, zip, nat_eq, nat_lt}
+use Rattle.std.specs.Prelude.{ℕ, ◌-◌, length, take, drop, zip, nat_eq, nat_lt}
 use Rattle.std.specs.Prelude.{if◌then◌else◌, String, string_bytes}
 use Rattle.std.specs.Global.{Global}
 use Rattle.std.specs.List.{prefix_len}

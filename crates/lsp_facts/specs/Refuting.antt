@@ -1,5 +1,5 @@
 -- Which snapshots that wait refute the text of a version.
-use Rattle.std.specs.Prelude.{ℕ, ℤ, List, [], ◌∷◌, Bool, false, not, if◌then◌else◌, Option}
+use Rattle.std.specs.Prelude.{ℤ, List, [], ◌∷◌, Bool, false, not, if◌then◌else◌, Option}
 use Rattle.std.specs.Prelude.{option_and_then, option_map, unwrap_or}
 use Rattle.std.specs.List.{find}
 use Rattle.std.specs.Result.{result_ok}

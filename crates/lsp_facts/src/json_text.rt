@@ -1,5 +1,5 @@
 //! Where a text is no longer JSON (RFC 8259).
-ghost use Rattle.std.specs.Prelude.{◌≡◌, ◌≤◌, ◌<◌, IfOk, IfSome, OnOk, length, nat_lt, option_map};
+ghost use Rattle.std.specs.Prelude.{◌≡◌, ◌≤◌, ◌<◌, IfOk, IfSome, OnOk, length, option_map};
 ghost use Rattle.json.specs.Word.{is_space};
 ghost use Rattle.lsp_facts.specs.Grammar as spec;
 

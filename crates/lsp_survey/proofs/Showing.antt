@@ -29,8 +29,8 @@ use Rattle.lsp_survey.specs.AllShown.{BeginsAllShown, IsAllShown, OneAllShown, P
 use Rattle.lsp_survey.specs.AllShown.{ShowsLog, ShowsReport, bytes_of, events_shown, is_offending}
 use Rattle.lsp_survey.specs.AllShown.{kept_line, lines_by, offending, shown_at, piece_bytes}
 use Rattle.lsp_survey.specs.AllShown.{shown_in}
-use Rattle.lsp_survey.specs.Reads.{BrokeOff, Ended, GaveEvent, IsHeardAs, IsSurveyOf, SoFar}
-use Rattle.lsp_survey.specs.Reported.{Closes, IsReported, IsTally, PartWritten, closing, end_lines}
+use Rattle.lsp_survey.specs.Reads.{BrokeOff, GaveEvent, IsHeardAs, IsSurveyOf, SoFar}
+use Rattle.lsp_survey.specs.Reported.{Closes, IsTally, PartWritten, closing, end_lines}
 use Rattle.lsp_survey.specs.Walking.{Hears, IsLine, IsOffence, Walks}
 use Rattle.lsp_survey.specs.declared.offence_count.OffenceCount.{OffenceCount}
 use Rattle.lsp_survey.specs.declared.offending.Judged.{Judged}
@@ -39,7 +39,7 @@ use Rattle.lsp_survey.specs.declared.survey_reader.SurveyEnd.{SurveyEnd}
 use Rattle.lsp_survey.specs.declared.survey_reader.SurveyReader.{SurveyReader}
 use Rattle.lsp_verdict.specs.Given.{offence_view, verdict_view}
 use Rattle.lsp_verdict.specs.Lent.{raw_view}
-use Rattle.lsp_verdict.specs.LookBack.{each_from, each_of}
+use Rattle.lsp_verdict.specs.LookBack.{each_from}
 use Rattle.lsp_verdict.specs.Offences.{IsNoted, Noted, Offence, events_of, offence_at, offence_by}
 use Rattle.lsp_verdict.specs.Offences.{offences}
 use Rattle.lsp_verdict.specs.Outcome.{IsVerdict, ending, log_terms}
@@ -56,8 +56,6 @@ use Rattle.lsp_verdict.specs.declared.completeness.Completeness.TheVariants.{Ign
 use Rattle.lsp_verdict.specs.declared.counts.Counts.{Counts}
 use Rattle.lsp_verdict.specs.declared.lines.Lines.{Lines}
 use Rattle.lsp_verdict.specs.declared.listing.Listing.TheVariants.{Every}
-use Rattle.lsp_verdict.specs.declared.outcome.Outcome.{Outcome}
-use Rattle.lsp_verdict.specs.declared.outcome.Outcome.TheVariants.{Judged as judged}
 use Rattle.lsp_verdict.specs.declared.outcome.RunFault.{RunFault}
 use Rattle.lsp_verdict.specs.declared.raw.Raw as lent
 use Rattle.lsp_verdict.specs.declared.verdict.Verdict as verdicts

@@ -1,6 +1,6 @@
 -- What is due where all events of a log are shown, and what the steps of the run write.
 use Rattle.std.specs.Prelude.{◌≡◌, ℕ, List, [], ◌∷◌, ◌++◌, map, Bool, true, false, Option, option_map}
-use Rattle.std.specs.Prelude.{Some, None, Result, Ok, Err, filter}
+use Rattle.std.specs.Prelude.{Result, Ok, Err, filter}
 use Rattle.std.specs.List.{flat_map}
 use Rattle.std.specs.Option.{option_or}
 use Rattle.lsp_docs.specs.Terms.{Terms}

@@ -1,5 +1,5 @@
 //! Reports all that is wrong with a log.
-ghost use Rattle.std.specs.Prelude.{◌≡◌, ◌++◌, ◌∷◌, ◌+◌, ◌<◌, ◌^◌, ◌||◌, not, [], List};
+ghost use Rattle.std.specs.Prelude.{◌≡◌, ◌++◌, ◌∷◌, ◌<◌, ◌^◌, ◌||◌, not, [], List};
 ghost use Rattle.std.specs.Prelude.{string_bytes, map, length, codes, decimal, option_map, Ok};
 ghost use Rattle.std.specs.Prelude.{IfOk, OnOk};
 ghost use Rattle.lsp_replay.specs.Standing.{Follows};
@@ -22,8 +22,8 @@ use crate::survey_reader::{NextJudged, SurveyEnd, SurveyReader};
 use lsp_frame::{Limits, Sink, Source, put_all};
 use lsp_rpc::Memory;
 use lsp_verdict::{
-    Completeness, Listing, Offence, Outcome, RunFault, Summary, Verdict, found_report,
-    offence_report, verdict_report,
+    Completeness, Listing, Offence, Outcome, RunFault, Verdict, found_report, offence_report,
+    verdict_report,
 };
 use std::alloc::Global;
 

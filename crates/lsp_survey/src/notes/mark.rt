@@ -5,9 +5,8 @@ ghost use Rattle.std.specs.Prelude.{int_lt, not, option_map, IfOk};
 ghost use Rattle.std.specs.List.{find};
 ghost use Rattle.std.specs.Map.{lookup};
 ghost use Rattle.std.specs.Ordering.{int_eq};
-ghost use Rattle.lsp_survey.specs.Marking.{above, is_set_to, last_shown, most_setters, newer};
-ghost use Rattle.lsp_survey.specs.Marking.{newer_of, next_rank, rank_of, stepped, touches};
-ghost use Rattle.lsp_survey.specs.Marking.{unmarked};
+ghost use Rattle.lsp_survey.specs.Marking.{above, is_set_to, last_shown, newer, newer_of};
+ghost use Rattle.lsp_survey.specs.Marking.{next_rank, rank_of, stepped, touches, unmarked};
 ghost use Rattle.lsp_survey.specs.Marks.{is_first_reached, mark_view, rest_of, waiting_in};
 
 use crate::notes::last_ones::make_room;

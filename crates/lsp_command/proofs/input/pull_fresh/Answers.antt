@@ -1,7 +1,6 @@
-use Rattle.std.proofs.Common.{◌≡◌, ◌≤◌, arith, length}
+use Rattle.std.proofs.Common.{◌≡◌, arith, length}
 use Rattle.lsp_frame.proofs.Telling.{given_ok, put_items, put_onto}
 use Rattle.lsp_command.proofs.Appended.{first_kept}
-use Rattle.lsp_command.specs.Ports.{first_bytes}
 use Rattle.lsp_command.proofs.input.pull_fresh.Goals as goal
 
 pub returns-clause-gave : goal.returns-clause-gave

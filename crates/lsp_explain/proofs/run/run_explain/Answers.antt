@@ -6,7 +6,7 @@ use Rattle.lsp_verdict.specs.RunIo.{OfRead}
 use Rattle.lsp_verdict.specs.declared.verdict.Verdict.{Verdict}
 use Rattle.lsp_verdict.proofs.RunReading.{read_map}
 use Rattle.lsp_explain.specs.Explained.{BeginsExplanation, IsExplanation}
-use Rattle.lsp_explain.proofs.Judged.{explained_verdict}
+use Rattle.lsp_explain.proofs.Judged.{written_verdict}
 use Rattle.lsp_explain.proofs.run.run_explain.Goals as goal
 
 pub returns-clause-verdict : goal.returns-clause-verdict
@@ -22,7 +22,7 @@ returns-clause-verdict g c = λ v is.
     (λ log. IsExplanation c.args.completeness limits log (verdict_view x.verdict)
     (string_bytes x.text)) (λ log. IsVerdictBy c.args.completeness limits log
     (verdict_view x.verdict))
-    (λ log e. explained_verdict c.args.completeness limits c.in_ok-explanation.ensures.range log
+    (λ log e. written_verdict c.args.completeness limits c.in_ok-explanation.ensures.range log
     (verdict_view x.verdict) (string_bytes x.text) e)
     c.in_ok-explanation.ensures.answer.of_read)
 

@@ -1,7 +1,6 @@
-use Rattle.std.proofs.Common.{[], subst}
+use Rattle.std.proofs.Common.{subst}
 use Rattle.std.proofs.lemmas.Result.{err_from_is_err_and}
 use Rattle.lsp_verdict.specs.declared.completeness.Completeness.{Completeness}
-use Rattle.lsp_survey.proofs.Reading.{unopened}
 use Rattle.lsp_explain.specs.AllSteps.{TellsAll}
 use Rattle.lsp_explain.proofs.AllTelling.{never_told}
 use Rattle.lsp_explain.proofs.run_all.explain_all.Goals as goal

@@ -4,7 +4,7 @@ use Rattle.std.proofs.lemmas.Int.{to_z-of_z}
 use Rattle.std.proofs.lemmas.Result.{on_ok_weaker}
 use Rattle.std.specs.Str.{chars}
 use mir.Val.{SFits}
-use Rattle.lsp_docs.specs.Calls.{Call, opens, changes, uri_of}
+use Rattle.lsp_docs.specs.Calls.{Call, opens, changes}
 use Rattle.lsp_rpc.specs.View.{act_view, changes_view}
 use Rattle.lsp_session.specs.Negotiation.{encoding, sync_kind}
 use Rattle.lsp_types.specs.declared.change.SyncKind.TheVariants.{Nothing}

@@ -1,5 +1,5 @@
 use Rattle.std.specs.Prelude.{unwrap_or}
-use Rattle.std.proofs.Common.{◌≡◌, [], List, sym, ap, ◌∙◌, subst, w32}
+use Rattle.std.proofs.Common.{[], List, sym, ap, ◌∙◌, subst, w32}
 use Rattle.std.proofs.lemmas.Int.{to_z-of_z}
 use Rattle.std.proofs.lemmas.Result.{on_ok_weaker}
 use mir.Val.{SFits}

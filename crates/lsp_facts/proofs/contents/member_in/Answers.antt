@@ -1,4 +1,4 @@
-use Rattle.std.proofs.Common.{◌≡◌, sym, subst, ap, ◌∙◌}
+use Rattle.std.proofs.Common.{sym, subst, ap}
 use Rattle.std.specs.Prelude.{option_and_then}
 use Rattle.lsp_rpc.specs.Reading.{IsRefusal}
 use Rattle.lsp_facts.specs.Members.{Finds, wrong_member}

@@ -2,7 +2,7 @@ use Rattle.std.proofs.Common.{◌≡◌, [], ◌∷◌, ◌++◌, List, ap, sym,
 use Rattle.std.specs.Str.{chars}
 use Rattle.lsp_facts.specs.Comparing.{line_fact}
 use Rattle.lsp_facts.specs.DocumentFacts.{AreOfDifference, lines_apart}
-use Rattle.lsp_facts.specs.Fact.{Fact, fact_view, counts_in, differs_at, by_messages}
+use Rattle.lsp_facts.specs.Fact.{Fact, counts_in, differs_at, by_messages}
 use Rattle.lsp_facts.specs.Part.{part_at, same_front}
 use Rattle.lsp_facts.proofs.Differing.{are_apart}
 use Rattle.lsp_facts.proofs.difference.at_difference.Goals as goal

@@ -1,4 +1,4 @@
-use Rattle.std.proofs.Common.{◌≡◌, drop, []}
+use Rattle.std.proofs.Common.{◌≡◌, drop}
 use Rattle.lsp_facts.specs.Grammar.{break_from, json_break}
 use Rattle.lsp_facts.proofs.json_text.json_break.Given as goal
 

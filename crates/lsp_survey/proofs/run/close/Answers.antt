@@ -1,9 +1,9 @@
-use Rattle.std.proofs.Common.{◌++◌, ap, map, refl, string_bytes, subst}
+use Rattle.std.proofs.Common.{◌++◌, map, refl, subst}
 use Rattle.std.proofs.lemmas.Result.{err_from_is_err_and}
 use Rattle.lsp_frame.specs.Sink.{Stopped, Wrote}
 use Rattle.lsp_frame.proofs.Writing.{stopped_then, wrote_then}
 use Rattle.lsp_survey.specs.Reported.{closing, lines_of}
-use Rattle.lsp_verdict.specs.Given.{offence_view, verdict_view}
+use Rattle.lsp_verdict.specs.Given.{offence_view}
 use Rattle.lsp_survey.proofs.Reporting.{first_none, some_before, told_by}
 use Rattle.lsp_survey.proofs.run.close.Goals as goal
 

@@ -1,4 +1,4 @@
-use Rattle.std.proofs.Common.{[], ◌∷◌, ◌++◌, ◌∙◌, ◌+◌, ◌-◌, ◌<◌, subst, sym, refl}
+use Rattle.std.proofs.Common.{[], ◌∷◌, ◌++◌, ◌∙◌, ◌+◌, ◌-◌, ◌<◌, subst, sym}
 use Rattle.std.proofs.lemmas.Result.{err_from_is_err_and}
 use Rattle.lsp_docs.specs.Terms.{Terms}
 use Rattle.lsp_frame.specs.Bounds.{Bounds}

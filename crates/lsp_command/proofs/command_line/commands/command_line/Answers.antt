@@ -1,10 +1,11 @@
-use Rattle.std.proofs.Common.{◌≡◌, ◌∙◌, ◌∷◌, ◌&&◌, not, refl, sym, ap, ap₂, true≢false, Bool, true, false, IfOk, IsOkAnd, Result, Ok, Err}
+use Rattle.std.proofs.Common.{◌≡◌, ◌∙◌, ◌&&◌, not, refl, sym, ap, ap₂, true≢false, Bool, true}
+use Rattle.std.proofs.Common.{false, IfOk, IsOkAnd, Result, Ok, Err}
 use Rattle.std.proofs.lemmas.Result.{IfOk-weaker}
 use Rattle.clap.specs.Words.{AddsSubcommand, App, Shape, app_of, shape_of, with_subcommand}
 use Rattle.clap.specs.declared.builder.command.Command.TheViews.{out-Command}
 use Rattle.clap.specs.declared.builder.command.Command.{Command}
-use Rattle.lsp_command.specs.CommandLine.{AreModes, IsCommandLine, Modes, check, event, explain}
-use Rattle.lsp_command.specs.CommandLine.{frames, normal, program, show, text, upgrade}
+use Rattle.lsp_command.specs.CommandLine.{AreModes, Modes, check, event, explain}
+use Rattle.lsp_command.specs.CommandLine.{frames, normal, show, text, upgrade}
 use Rattle.lsp_command.proofs.command_line.commands.command_line.Goals as goal
 
 third_is_false : (a b g rest : Bool) → (a && (b && (not g && rest))) ≡ true → g ≡ false

@@ -1,4 +1,4 @@
-use Rattle.std.proofs.Common.{◌≡◌, ◌∙◌, ap, codes, subst, sym, List, Option, Some}
+use Rattle.std.proofs.Common.{◌∙◌, ap, codes, subst, sym, List, Option, Some}
 use Rattle.clap.specs.Words.{Row, Text}
 use Rattle.clap.specs.Matches.{found_of}
 use Rattle.clap.proofs.WalkLemmas.{first_value-rows}

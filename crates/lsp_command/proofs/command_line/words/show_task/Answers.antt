@@ -1,5 +1,4 @@
-use Rattle.std.proofs.Common.{◌≡◌, ◌∙◌, ap, codes, subst, sym}
-use Rattle.lsp_verdict.specs.declared.lines.Lines.{Lines}
+use Rattle.std.proofs.Common.{codes, subst, sym}
 use Rattle.lsp_command.specs.Words.{HasTask, rows_in, show_of}
 use Rattle.lsp_command.specs.declared.command_line.task.Task.{Task}
 use Rattle.lsp_command.proofs.Asked.{asks_show}

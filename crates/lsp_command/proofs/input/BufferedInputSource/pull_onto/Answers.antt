@@ -1,4 +1,4 @@
-use Rattle.std.proofs.Common.{◌≡◌, ◌≤◌, ap, arith, length}
+use Rattle.std.proofs.Common.{◌≤◌, ap, arith, length}
 use Rattle.std.specs.Io.Buffered.{reader_buffer}
 use Rattle.lsp_frame.proofs.Telling.{given_ok}
 use Rattle.lsp_command.proofs.Appended.{ahead_given, ahead_left}

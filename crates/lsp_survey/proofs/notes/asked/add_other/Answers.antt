@@ -1,5 +1,4 @@
-use Rattle.std.proofs.Common.{◌≡◌, Some, ◌∙◌, inl, inr}
-use Rattle.std.proofs.lemmas.Bool.{cases_Bool}
+use Rattle.std.proofs.Common.{Some, ◌∙◌}
 use Rattle.lsp_rpc.specs.Ident.{id_view, same_id}
 use Rattle.lsp_rpc.specs.contracts.message.IdPartialEq.TheImpl.{eq-value}
 use Rattle.lsp_session.proofs.Ids.{eq_is_same_id}

@@ -1,4 +1,4 @@
-use Rattle.std.proofs.Common.{◌≡◌, Some, sym, ap, ◌∙◌, w32, option_map, rules}
+use Rattle.std.proofs.Common.{Some, sym, ap, ◌∙◌, w32, option_map, rules}
 use Rattle.std.specs.Option.{option_copied_mut}
 use Rattle.std.specs.String.{string_eq_equiv}
 use Rattle.std.proofs.lemmas.Int.{to_z-of_z}

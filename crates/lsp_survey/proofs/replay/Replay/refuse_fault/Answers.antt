@@ -1,5 +1,5 @@
 use Rattle.std.specs.Prelude.{◌&&◌, ◌||◌}
-use Rattle.std.proofs.Common.{◌≡◌, ◌∙◌, false, ap}
+use Rattle.std.proofs.Common.{◌∙◌, false, ap}
 use Rattle.lsp_survey.specs.Sides.{sides_failed}
 use Rattle.lsp_verdict.specs.Given.{given_offence}
 use Rattle.lsp_verdict.specs.Offences.{events_of, is_handshake_lost, wants_handshake, wants_text}

@@ -1,5 +1,5 @@
 use Rattle.std.specs.Prelude.{◌||◌}
-use Rattle.std.proofs.Common.{◌≡◌, ◌∙◌, false, None, Some, refl, sym, ap, subst}
+use Rattle.std.proofs.Common.{◌∙◌, false, None, Some, sym, ap, subst}
 use Rattle.std.proofs.lemmas.Result.{IfOk-weaker}
 use Rattle.lsp_verdict.specs.Given.{offence_view}
 use Rattle.lsp_survey.specs.declared.offending.FoundOffence.{FoundOffence}

@@ -1,5 +1,5 @@
 use Rattle.std.specs.Prelude.{chars, unwrap_or, ◌&&◌, ◌||◌}
-use Rattle.std.proofs.Common.{◌≡◌, None, Some, false, refl, sym, ap, subst, ◌∙◌, w32}
+use Rattle.std.proofs.Common.{None, Some, false, refl, sym, ap, subst, ◌∙◌, w32}
 use Rattle.std.proofs.Math.Bool.{or-false}
 use Rattle.std.proofs.lemmas.Int.{to_z-of_z}
 use mir.Val.{SFits}
