@@ -99,7 +99,7 @@ impl<T: Part> Part for Chunk<T> {
     }
 
     fn cut(alloc: Global, whole: &str) -> Result<Vec<Chunk<T>>, AllocError> {
-        chunks_of(alloc, T::cut(alloc, whole)?)
+        chunks_of(alloc, &T::cut(alloc, whole)?)
     }
 
     fn between(
@@ -118,7 +118,7 @@ impl<T: Part> Part for Chunk<T> {
             held(&last.parts),
             to,
         )?;
-        chunks_of(alloc, parts)
+        chunks_of(alloc, &parts)
     }
 
     fn push_to(&self, out: &mut String) -> Result<(), AllocError> {
@@ -135,15 +135,16 @@ impl<T: Part> Part for Chunk<T> {
 }
 
 impl<T: Part> Chunk<T> {
-    /// A chunk of some parts.
-    fn of(alloc: Global, parts: Vec<T>) -> Result<Chunk<T>, AllocError>
-        requires { AreKept (map T.text parts.items) }
-        ensures { IfOk result (λ chunk. chunk ≡ joined (map T.text parts.items)) }
+    /// A chunk of some parts, each held by one more.
+    fn of(alloc: Global, parts: &[T]) -> Result<Chunk<T>, AllocError>
+        requires { AreKept (map T.text parts.now) }
+        ensures { IfOk result (λ chunk. chunk ≡ joined (map T.text parts.now)) }
     {
-        let sums = sums_in(&parts);
+        let mut items = Vec::new(alloc);
+        share_into(&mut items, parts)?;
         let held = Parts {
-            items: parts,
-            sums,
+            items,
+            sums: sums_in(parts),
             alloc,
         };
         Ok(Chunk {
@@ -187,16 +188,16 @@ fn replace_shared<T: Part>(
 }
 
 /// Puts parts in chunks.
-fn chunks_of<T: Part>(alloc: Global, parts: Vec<T>) -> Result<Vec<Chunk<T>>, AllocError>
-    requires { AreKept (map T.text parts.items) }
-    ensures { IfOk result (λ chunks. MakeUp chunks.items (joined (map T.text parts.items))) }
+fn chunks_of<T: Part>(alloc: Global, parts: &[T]) -> Result<Vec<Chunk<T>>, AllocError>
+    requires { AreKept (map T.text parts.now) }
+    ensures { IfOk result (λ chunks. MakeUp chunks.items (joined (map T.text parts.now))) }
 {
     let mut chunks = Vec::new(alloc);
     let mut rest = parts;
     while rest.len() > MOST {
-        let tail = rest.split_off(FULL)?;
-        chunks.push(Chunk::of(alloc, rest)?)?;
-        rest = tail;
+        let (front, back) = rest.split_at(FULL);
+        chunks.push(Chunk::of(alloc, front)?)?;
+        rest = back;
     }
     chunks.push(Chunk::of(alloc, rest)?)?;
     Ok(chunks)

@@ -9,39 +9,37 @@ use Rattle.lsp_text.proofs.chunk.chunks_of.Goals as goal
 pub of-requires : goal.of-requires
 of-requires g c =
     let f = g.T.Part.text in
-    let rest = c.loop-rest.rest in
-    let texts = map f rest.items in
-    let some : 8 ≤ length texts =
-    omega (arith, length-map rest.items f, rest.ok.0, c.len.ensures, c.loop-rest-test.true) in
-    let first : map f (take 8 rest.items) ≡ take 8 texts = sym (take-map f 8 rest.items) in
-    subst (λ xs. AreKept (map f xs)) (sym c.in_ok-tail.ensures.items)
+    let rest = c.loop-rest.rest.now in
+    let texts = map f rest in
+    let some : 8 ≤ length texts = omega (arith, length-map rest f, c.loop-rest-test.true) in
+    let first : map f (take 8 rest) ≡ take 8 texts = sym (take-map f 8 rest) in
+    subst (λ xs. AreKept (map f xs)) (sym c.split_at.ensures.front)
     (subst AreKept (sym first)
-    (can_chunk c.loop-rest.chunks.items texts (joined (map f c.args.parts.items)) 8
+    (can_chunk c.loop-rest.chunks.items texts (joined (map f c.args.parts.now)) 8
     c.loop-rest.invariant c.requires.fits (omega arith) some))
 
 pub loop-rest-preserved : goal.loop-rest-preserved
 loop-rest-preserved g c =
     let f = g.T.Part.text in
     let chunks = c.loop-rest.chunks.items in
-    let rest = c.loop-rest.rest in
-    let texts = map f rest.items in
+    let rest = c.loop-rest.rest.now in
+    let texts = map f rest in
     let more = c.push.new.self.items in
-    let whole = joined (map f c.args.parts.items) in
-    let some : 8 < length texts =
-    omega (arith, length-map rest.items f, rest.ok.0, c.len.ensures, c.loop-rest-test.true) in
-    subst (λ xs. AreChunked more (map f xs) whole) (sym c.in_ok-tail.ensures.tail)
-    (subst (λ x. AreChunked more x whole) (drop-map f 8 rest.items)
+    let whole = joined (map f c.args.parts.now) in
+    let some : 8 < length texts = omega (arith, length-map rest f, c.loop-rest-test.true) in
+    subst (λ xs. AreChunked more (map f xs) whole) (sym c.split_at.ensures.back)
+    (subst (λ x. AreChunked more x whole) (drop-map f 8 rest)
     (one_chunked chunks texts more whole 8 c.loop-rest.invariant some
     (c.in_ok-push.ensures.items
     ∙ ap (λ (x : List ℕ). chunks ++ x ∷ [])
-    (c.in_ok-of.ensures ∙ ap (λ xs. joined (map f xs)) c.in_ok-tail.ensures.items
-    ∙ ap joined (sym (take-map f 8 rest.items))))))
+    (c.in_ok-of.ensures ∙ ap (λ xs. joined (map f xs)) c.split_at.ensures.front
+    ∙ ap joined (sym (take-map f 8 rest))))))
 
 pub returns : goal.returns
 returns g c =
     let f = g.T.Part.text in
     let chunks = c.loop-rest.chunks.items in
-    all_chunked chunks (map f c.loop-rest.rest.items) c.push-2.new.self.items
-    (joined (map f c.args.parts.items)) c.loop-rest.invariant
+    all_chunked chunks (map f c.loop-rest.rest.now) c.push-2.new.self.items
+    (joined (map f c.args.parts.now)) c.loop-rest.invariant
     (c.in_ok-push-2.ensures.items
     ∙ ap (λ (x : List ℕ). chunks ++ x ∷ []) c.in_ok-of-2.ensures)

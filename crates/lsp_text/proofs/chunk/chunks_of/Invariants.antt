@@ -5,8 +5,7 @@ use Rattle.lsp_text.proofs.chunk.chunks_of.Given as goal
 
 abbrev pub invariant-loop-rest : goal.invariant-loop-rest
 invariant-loop-rest g l =
-    AreChunked l.chunks.items (map g.T.Part.text l.rest.items)
-    (joined (map g.T.Part.text l.fn.parts.items))
+    AreChunked l.chunks.items (map g.T.Part.text l.rest) (joined (map g.T.Part.text l.parts))
 
 abbrev pub decreases-loop-rest : goal.decreases-loop-rest
-decreases-loop-rest g l = length l.rest.items
+decreases-loop-rest g l = length l.rest
