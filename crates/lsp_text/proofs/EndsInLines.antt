@@ -13,7 +13,8 @@ use Rattle.lsp_text.proofs.Cuts.{IsCut-lines_of, lines_of-ended, lines_of-line, 
 use Rattle.lsp_text.proofs.LineBytes.{starts_with_feed-text}
 use Rattle.lsp_text.proofs.Counting.{units-append, units-utf8_text}
 use Rattle.lsp_text.specs.Ends.{ends_in, ends_with_return, IsEndAt, IsLineEnd}
-use Rattle.lsp_text.specs.LentLines.{IsEndOf, bytes_between}
+use Rattle.lsp_text.specs.LentLines.{IsEndOf}
+use Rattle.lsp_text.specs.Parts.{bytes_between}
 use Rattle.lsp_text.specs.declared.part.LineEnd.{LineEnd}
 use Rattle.lsp_text.proofs.EndCounts.{above-encode, lines_counted}
 use Rattle.lsp_text.proofs.Parts.{ends_with_return-append}

@@ -24,7 +24,8 @@ use Rattle.lsp_text.proofs.LineEnds.{AreWhole, are_whole_lines}
 use Rattle.lsp_text.proofs.Positions.{text_of-lines_of}
 use Rattle.lsp_text.proofs.Splices.{chars-cut, units_some}
 use Rattle.lsp_text.specs.Ends.{IsNear}
-use Rattle.lsp_text.specs.LentLines.{bytes_between, IsFurther}
+use Rattle.lsp_text.specs.LentLines.{IsFurther}
+use Rattle.lsp_text.specs.Parts.{bytes_between}
 use Rattle.lsp_text.specs.Parts.{joined, part_at, AreParts, IsFound}
 use Rattle.lsp_text.specs.declared.part.Found.{Found}
 use Rattle.lsp_text.specs.declared.sums.Measure.TheVariants.{Units}

@@ -23,7 +23,8 @@ use Rattle.lsp_text.proofs.Splices.{chars-cut}
 use Rattle.lsp_text.proofs.Widths.{place_in_line-append, is_front}
 use Rattle.lsp_text.specs.Ends.{IsNear}
 use Rattle.lsp_text.specs.Steps.{line_bytes, line_number}
-use Rattle.lsp_text.specs.LentLines.{bytes_between, IsOffsetFrom, NoOffsetFrom, IsOffsetIn}
+use Rattle.lsp_text.specs.LentLines.{IsOffsetFrom, NoOffsetFrom, IsOffsetIn}
+use Rattle.lsp_text.specs.Parts.{bytes_between}
 use Rattle.lsp_text.specs.LentLines.{NoOffsetIn, IsHeldLine, IsLentLine}
 use Rattle.lsp_text.specs.Parts.{joined}
 use Rattle.lsp_text.specs.declared.lined.lines.LentLine.{LentLine}

@@ -21,6 +21,7 @@ use Rattle.lsp_text.proofs.Widths.{units-utf32, place_past_skipped, offset_past_
 use Rattle.lsp_text.specs.Ends.{ends_in, ends_with_return, joins, IsEndAt, IsNear, IsLineEnd}
 use Rattle.lsp_text.specs.Sums.{amount}
 use Rattle.lsp_text.specs.Parts.{joined, AreParts, part_at, IsFound}
+use Rattle.lsp_text.specs.Windows.{moved_end}
 use Rattle.lsp_text.specs.declared.part.Found.{Found}
 use Rattle.lsp_text.specs.declared.part.LineEnd.{LineEnd}
 use Rattle.lsp_text.specs.declared.sums.Measure.{Measure}
@@ -136,9 +137,6 @@ end_at-inside a p c at len b h =
 near-append : (bs c near : List ℕ) (plain : Bool) → IsNear bs near plain → IsNear (bs ++ c) near plain
 near-append bs c near plain h =
     record { utf8 = h.utf8; more = h.more ++ c; begins = ap (λ (x : List ℕ). x ++ c) h.begins ∙ append_assoc near h.more c; plain = h.plain }
-
-abbrev pub moved_end : ℕ → LineEnd → LineEnd
-moved_end n e = record { at = n + e.at; after = n + e.after; rest = e.rest; is_plain = e.is_plain }
 
 -- **A line end of a text between two others is one of the whole.**
 pub line_end-inside : (a p c : List ℕ) (n : ℕ) (e : LineEnd) → IsBetween a p c → IsLineEnd p n e → IsLineEnd (a ++ (p ++ c)) (ends_in a + n) (moved_end (length a) e)

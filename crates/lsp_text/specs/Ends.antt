@@ -37,6 +37,12 @@ IsMarked bs marks = (k : ℕ) → (bit_at marks k ≡ 1) ↔ (is_mark (slice_ind
 abbrev pub moved_place : ℕ → ℕ → ℕ → ℕ → ℕ
 moved_place from removed inserted place = cond (nat_lt from place) (place - removed + inserted) place
 
+-- so many of the first places are at most `offset`
+pub record IsCountUpTo (places : List ℕ) (offset count : ℕ) : Type 0 where
+  pub within : count ≤ length places
+  pub up_to : (k : ℕ) → k < count → slice_index places k ≤ offset
+  pub over : count < length places → offset < slice_index places count
+
 -- the byte at a place ends a line
 abbrev pub is_end_at : List ℕ → ℕ → Bool
 is_end_at bs k = is_end (slice_index bs k) (drop (k + 1) bs)
@@ -75,6 +81,14 @@ pub record IsNear (bs near : List ℕ) (is_plain : Bool) : Type 0 where
   pub more : List ℕ
   pub begins : bs ≡ near ++ more
   pub plain : is_plain ≡ true → length (chars near) ≡ length near
+
+-- bytes begin with these, which are some if there are any, and which no CR LF joins to the others
+pub record IsRest (bs rest : List ℕ) : Type 0 where
+  pub utf8 : IsUtf8 rest
+  pub more : List ℕ
+  pub begins : bs ≡ rest ++ more
+  pub some : 0 < length bs → 0 < length rest
+  pub apart : joins rest more ≡ false
 
 -- line end `n`: the bytes before it and up to after it, and the first bytes of what follows
 pub record IsLineEnd (bs : List ℕ) (n : ℕ) (e : LineEnd) : Type 0 where

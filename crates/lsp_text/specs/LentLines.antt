@@ -7,13 +7,9 @@ use Rattle.lsp_types.specs.declared.position.Encoding.{Encoding}
 use Rattle.lsp_text.specs.Places.{units, place_in_line}
 use Rattle.lsp_text.specs.Offsets.{IsOffset, IsAtLine}
 use Rattle.lsp_text.specs.Ends.{IsNear}
-use Rattle.lsp_text.specs.Sums.{sums_of}
-use Rattle.lsp_text.specs.Parts.{joined, AreParts}
+use Rattle.lsp_text.specs.Parts.{bytes_between}
+use Rattle.lsp_text.specs.Windows.{text_with, IsWindowed}
 use Rattle.lsp_text.specs.declared.lined.lines.LentLine.{LentLine}
-
--- the bytes from one place up to another
-abbrev pub bytes_between : List ℕ → ℕ → ℕ → List ℕ
-bytes_between bs from to = take (to - from) (drop from bs)
 
 -- a place this many units after another, with no line end between the two
 pub record IsFurther (enc : Encoding) (bs : List ℕ) (place n after : ℕ) : Type 0 where
@@ -31,28 +27,25 @@ abbrev pub NoOffsetFrom : Encoding → List ℕ → ℕ → ℕ → ℕ → Type
 NoOffsetFrom enc bs start end column =
     place_in_line enc (chars (bytes_between bs start end)) column ≡ None
 
--- a line is in the text of its chunks, whose sums are known, and some of it is near by
+-- a line is in the text that is held, and some of it is near by
 pub record IsHeldLine (l : LentLine) : Type 0 where
-  pub parts : AreParts l.chunks.now
-  pub some : 0 < length l.chunks.now
-  pub fits : length (joined l.chunks.now) < 2 ^ 64
-  pub sums : l.sums ≡ sums_of (joined l.chunks.now)
+  pub held : IsWindowed l.held.now
   pub order : l.start ≤ l.end
-  pub start : IsCharBoundary (joined l.chunks.now) l.start
-  pub end : IsCharBoundary (joined l.chunks.now) l.end
-  pub near : IsNear (drop l.start (joined l.chunks.now)) l.near.now l.is_plain
+  pub start : IsCharBoundary (text_with l.held.now) l.start
+  pub end : IsCharBoundary (text_with l.held.now) l.end
+  pub near : IsNear (drop l.start (text_with l.held.now)) l.near.now l.is_plain
 
 abbrev pub IsOffsetIn : Encoding → LentLine → ℕ → ℕ → Type 0
-IsOffsetIn enc l column offset = IsOffsetFrom enc (joined l.chunks.now) l.start l.end column offset
+IsOffsetIn enc l column offset = IsOffsetFrom enc (text_with l.held.now) l.start l.end column offset
 
 abbrev pub NoOffsetIn : Encoding → LentLine → ℕ → Type 0
-NoOffsetIn enc l column = NoOffsetFrom enc (joined l.chunks.now) l.start l.end column
+NoOffsetIn enc l column = NoOffsetFrom enc (text_with l.held.now) l.start l.end column
 
--- line `i` of a text: where it begins, where its end begins, where that ends, and the text in whose
--- chunks it is
+-- line `i` of a text: where it begins, where its end begins, where that ends, and the text that is
+-- held
 pub record IsLentLine (bs : List ℕ) (i : ℕ) (l : LentLine) : Type 0 where
   pub held : IsHeldLine l
-  pub text : joined l.chunks.now ≡ bs
+  pub text : text_with l.held.now ≡ bs
   pub number : i < length (lines_of (chars bs))
   pub at : IsAtLine bs i l.start (drop l.start bs)
   pub end_order : l.end ≤ l.after

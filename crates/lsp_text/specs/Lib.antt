@@ -17,5 +17,5 @@ pub mod Sums
 pub mod Parts
 pub mod Blocks
 pub mod Chunks
-pub mod HeldLines
+pub mod Windows
 pub mod LentLines

@@ -76,6 +76,23 @@ pub record IsCutPlace (bs : List ℕ) (at : ℕ) : Type 0 where
   pub boundary : IsCharBoundary bs at
   pub apart : joins (take at bs) (drop at bs) ≡ false
 
+-- a text may be cut here, or at its ends: neither inside a character nor between CR and LF
+pub record IsSeam (bs : List ℕ) (at : ℕ) : Type 0 where
+  pub boundary : IsCharBoundary bs at
+  pub apart : joins (take at bs) (drop at bs) ≡ false
+
+-- the bytes from one place up to another
+abbrev pub bytes_between : List ℕ → ℕ → ℕ → List ℕ
+bytes_between bs from to = take (to - from) (drop from bs)
+
+-- some bytes that may be cut out
+pub record IsSpan (bs : List ℕ) (from to : ℕ) : Type 0 where
+  pub order : from ≤ to
+  pub first : IsSeam bs from
+  pub second : IsSeam bs to
+  pub utf8 : IsUtf8 bs
+  pub fits : length bs < 2 ^ 64
+
 -- these are the sums where a text replaces some bytes, and the places after line ends only move
 pub record KeepsEnds (bs : List ℕ) (from to : ℕ) (text : List ℕ) (sums : Sums) : Type 0 where
   pub sums_are : sums ≡ sums_of (replace_range bs from to text)

@@ -16,7 +16,7 @@ ghost use Rattle.lsp_text.specs.Parts.{CanReplace, IsReplacedOr, KeepsEnds};
 ghost use Rattle.lsp_text.specs.Parts.{IsCutPlace};
 
 use crate::columns::offset_in_counted;
-use crate::ends::{end_len_before, is_whole, move_places, places_of};
+use crate::ends::{end_len_before, is_whole, move_places, places_of, places_up_to};
 use crate::part::{LineEnd, Part};
 use crate::reading::width_of;
 use crate::same::{LinesLeft, take_lines};
@@ -31,6 +31,9 @@ const FULL: usize = 2048;
 
 /// The bytes of a block, at most.
 const MOST: usize = 4096;
+
+/// The room of a short block.
+const SHORT: usize = 1024;
 
 /// A text, the places after its line ends, and its sums.
 #[derive(Drop)]
@@ -109,6 +112,11 @@ impl Part for Block {
         }
         let (front, _) = self.as_str().split_at(offset);
         width_of(front, encoding)
+    }
+
+    fn ends_before(&self, offset: usize) -> u64 {
+        let held: &BlockText = &self.text;
+        places_up_to(&held.places, offset as u16) as u64
     }
 
     fn rest_of_block(&self, offset: usize) -> &str {
@@ -316,11 +324,16 @@ fn spliced(held: &BlockText, from: usize, to: usize, text: &str) -> Result<Strin
     let old = held.text.as_str();
     let (front, _) = old.split_at(from);
     let (_, back) = old.split_at(to);
-    let mut whole = String::with_capacity(held.alloc, MOST)?;
+    let mut whole = String::with_capacity(held.alloc, room_for(old.len() + text.len()))?;
     whole.push_str(front)?;
     whole.push_str(text)?;
     whole.push_str(back)?;
     Ok(whole)
+}
+
+/// The room for a text of so many bytes: that of a short one, or of the longest.
+fn room_for(bytes: usize) -> usize {
+    if bytes <= SHORT { SHORT } else { MOST }
 }
 
 /// Three texts in one.

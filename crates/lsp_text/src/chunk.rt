@@ -6,8 +6,8 @@ ghost use Rattle.lsp_text.specs.Parts.{joined, MakeUp, AreKept, CanReplaceIn};
 ghost use Rattle.lsp_text.specs.Chunks.{TakesOr};
 
 use crate::part::{
-    LineEnd, Part, find, find_before, line_end_in, offset_in, push_all, replace_in, rest_in,
-    share_into, strip_all, sums_in, take_all, units_before_in,
+    LineEnd, Part, ends_before_in, find, find_before, line_end_in, offset_in, push_all, replace_in,
+    replace_in_parts, rest_in, share_into, strip_all, sums_in, take_all, units_before_in,
 };
 use crate::same::LinesLeft;
 use crate::sums::{Measure, Sums};
@@ -90,6 +90,10 @@ impl<T: Part> Part for Chunk<T> {
         units_before_in(held(&self.parts), encoding, offset)
     }
 
+    fn ends_before(&self, offset: usize) -> u64 {
+        ends_before_in(held(&self.parts), offset)
+    }
+
     fn rest_of_block(&self, offset: usize) -> &str {
         rest_in(held(&self.parts), offset)
     }
@@ -135,6 +139,25 @@ impl<T: Part> Part for Chunk<T> {
 }
 
 impl<T: Part> Chunk<T> {
+    /// A text in one chunk, however many parts that has.
+    pub(crate) fn whole(alloc: Global, text: &str) -> Result<Chunk<T>, AllocError>
+        ensures { IfOk result (λ chunk. chunk ≡ text.now) }
+    {
+        Chunk::of(alloc, &T::cut(alloc, text)?)
+    }
+
+    /// Replaces some bytes by a text, in as many parts as that takes.
+    pub(crate) fn edit(&mut self, from: usize, to: usize, text: &str) -> Result<(), AllocError>
+        requires can { CanReplace self.old from to }
+        requires fits { length (replace_range self.old from to text.now) < 2 ^ 64 }
+        ensures ok { OnOk result (self.new ≡ replace_range self.old from to text.now) }
+        ensures err { OnErr result (self.new ≡ self.old) }
+    {
+        let own = Rc::make_mut(&mut self.parts)?;
+        own.sums = replace_in_parts(own.alloc, &mut own.items, own.sums, from, to, text)?;
+        Ok(())
+    }
+
     /// A chunk of some parts, each held by one more.
     fn of(alloc: Global, parts: &[T]) -> Result<Chunk<T>, AllocError>
         requires { AreKept (map T.text parts.now) }

@@ -4,7 +4,7 @@ ghost use Rattle.std.specs.Prelude.{◌≡◌, ◌+◌, ◌-◌, ◌≤◌, ◌<
 ghost use Rattle.std.specs.Prelude.{IfOk, OnOk, IsTrue, EachIndex, slice_index};
 ghost use Rattle.lsp_text.specs.Lines.{starts_with_feed};
 ghost use Rattle.lsp_text.specs.Ends.{ends_in, is_end_at, places_behind, moved_place, CanMove};
-ghost use Rattle.lsp_text.specs.Ends.{IsEndAt, IsMarked, ArePlacesTo};
+ghost use Rattle.lsp_text.specs.Ends.{IsEndAt, IsMarked, ArePlacesTo, IsCountUpTo};
 
 use crate::cut::FirstLine;
 use crate::marks::{lowest, marks_in, without};
@@ -77,6 +77,17 @@ fn is_feed_at(bytes: &[u8], i: usize) -> bool
     ensures { result ≡ starts_with_feed (drop i bytes.now) }
 {
     i < bytes.len() && bytes[i] == b'\n'
+}
+
+/// How many of the first places are at most `offset`.
+pub(crate) fn places_up_to(places: &[u16], offset: u16) -> usize
+    ensures { IsCountUpTo places.now offset result }
+{
+    let mut count = 0;
+    while count < places.len() && places[count] <= offset {
+        count += 1;
+    }
+    count
 }
 
 /// Whether no line end is in a text.

@@ -24,6 +24,7 @@
 //! ```
 
 pub(crate) mod lines;
+mod window;
 
 ghost use Rattle.std.specs.Prelude.{◌≡◌, ◌*◌, length, IfOk, OnOk, OnErr, IfErr};
 ghost use Rattle.std.specs.Prelude.{MatchOption, None, Ok};
@@ -159,7 +160,7 @@ impl TextStore for Lined {
         ensures steps { IfOk result (λ store. store.steps ≡ 0) }
     {
         Ok(Lined {
-            lines: self.lines.copy(alloc)?,
+            lines: self.lines.share()?,
             steps: Steps::none(),
         })
     }

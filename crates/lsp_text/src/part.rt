@@ -7,14 +7,14 @@ ghost use Rattle.std.specs.Str.{chars, IsUtf8, IsCharBoundary};
 ghost use Rattle.std.specs.String.{string_bytes};
 ghost use Rattle.lsp_text.specs.Places.{units, place_in_line};
 ghost use Rattle.lsp_text.specs.Offsets.{IsOffset};
-ghost use Rattle.lsp_text.specs.Ends.{ends_in, IsLineEnd, IsNear};
+ghost use Rattle.lsp_text.specs.Ends.{ends_in, IsLineEnd, IsRest};
 ghost use Rattle.lsp_text.specs.Sums.{sums_of};
 ghost use Rattle.lsp_text.specs.SameText.{BeginsOtherwise, due, with_feeds};
 ghost use Rattle.lsp_text.specs.Parts.{joined, MakeUp, AreParts, CanReplace, IsReplacedOr};
 ghost use Rattle.lsp_text.specs.Parts.{CanReplaceIn, IsReplacedIn, IsReplacedInOr, IsFound};
-ghost use Rattle.lsp_text.specs.Parts.{IsFoundBefore, IsSpot};
+ghost use Rattle.lsp_text.specs.Parts.{IsFoundBefore, IsSpot, IsSeam, IsSpan, bytes_between};
 
-use crate::same::LinesLeft;
+use crate::same::{LinesLeft, take_lines};
 use crate::sums::{Measure, Sums};
 use lsp_types::Encoding;
 use std::alloc::{AllocError, Global};
@@ -59,10 +59,15 @@ pub(crate) trait Part: Drop {
         requires { IsCharBoundary (text self.now) offset }
         ensures { result ≡ units encoding (chars (take offset (text self.now))) };
 
+    /// The line ends before a place, which is not between CR and LF.
+    fn ends_before(&self, offset: usize) -> u64
+        requires { IsSeam (text self.now) offset }
+        ensures { result ≡ ends_in (take offset (text self.now)) };
+
     /// What comes after a place in its block.
     fn rest_of_block(&self, offset: usize) -> &str
         requires { IsCharBoundary (text self.now) offset }
-        ensures { IsNear (drop offset (text self.now)) result.now false };
+        ensures { IsRest (drop offset (text self.now)) result.now };
 
     /// Replaces some bytes by a text, in a part of its own, if it has room. Answers
     /// whether it did.
@@ -339,13 +344,26 @@ pub(crate) fn units_before_in<T: Part>(parts: &[T], encoding: Encoding, offset: 
     before + parts[found.index].units_before(encoding, found.left as usize)
 }
 
+/// The line ends before a place in parts, which is not between CR and LF.
+pub(crate) fn ends_before_in<T: Part>(parts: &[T], offset: usize) -> u64
+    requires parts { AreParts (map T.text parts.now) }
+    requires some { 0 < length parts.now }
+    requires fits { length (joined (map T.text parts.now)) < 2 ^ 64 }
+    requires seam { IsSeam (joined (map T.text parts.now)) offset }
+    ensures { result ≡ ends_in (take offset (joined (map T.text parts.now))) }
+{
+    let found = find(parts, Measure::Units(Encoding::Utf8), offset as u64);
+    let before = sums_in(&parts[..found.index]);
+    before.ends + parts[found.index].ends_before(found.left as usize)
+}
+
 /// What comes after a place in its block.
 pub(crate) fn rest_in<T: Part>(parts: &[T], offset: usize) -> &str
     requires parts { AreParts (map T.text parts.now) }
     requires some { 0 < length parts.now }
     requires fits { length (joined (map T.text parts.now)) < 2 ^ 64 }
     requires boundary { IsCharBoundary (joined (map T.text parts.now)) offset }
-    ensures { IsNear (drop offset (joined (map T.text parts.now))) result.now false }
+    ensures { IsRest (drop offset (joined (map T.text parts.now))) result.now }
 {
     let found = find(parts, Measure::Units(Encoding::Utf8), offset as u64);
     parts[found.index].rest_of_block(found.left as usize)
@@ -398,4 +416,82 @@ pub(crate) fn share_into<T: Part>(to: &mut Vec<T>, parts: &[T]) -> Result<(), Al
         to.push_reserved(part.share()?);
     }
     Ok(())
+}
+
+/// The first bytes of a text, or all where it has no more.
+pub(crate) fn first_bytes(text: &str, most: usize) -> &str
+    requires { most < length text.now → IsCharBoundary text.now most }
+    ensures { result.now ≡ take most text.now }
+{
+    if text.len() <= most {
+        return text;
+    }
+    let (front, _) = text.split_at(most);
+    front
+}
+
+/// Writes the bytes of a part from one place to another after a text.
+pub(crate) fn push_between<T: Part>(
+    part: &T,
+    from: usize,
+    to: usize,
+    out: &mut String,
+) -> Result<(), AllocError>
+    requires { IsSpan (T.text part.now) from to }
+    ensures { OnOk result (string_bytes out.new ≡ string_bytes out.old
+        ++ bytes_between (T.text part.now) from to) }
+{
+    let mut at = from;
+    while at < to {
+        let piece = first_bytes(part.rest_of_block(at), to - at);
+        out.push_str(piece)?;
+        at += piece.len();
+    }
+    Ok(())
+}
+
+/// What comes after the bytes of a part from one place to another in a text that begins with them.
+pub(crate) fn strip_between<'a, T: Part>(
+    part: &T,
+    from: usize,
+    to: usize,
+    whole: &'a str,
+) -> Option<&'a str>
+    requires { IsSpan (T.text part.now) from to }
+    ensures { MatchOption result
+        (BeginsOtherwise (bytes_between (T.text part.now) from to) whole.now)
+        (λ rest. whole.now ≡ bytes_between (T.text part.now) from to ++ rest.now) }
+{
+    let mut at = from;
+    let mut rest = whole;
+    while at < to {
+        let piece = first_bytes(part.rest_of_block(at), to - at);
+        rest = rest.strip_prefix(piece)?;
+        at += piece.len();
+    }
+    Some(rest)
+}
+
+/// What is left of a text after the lines of a part from one place to another, if it begins with
+/// them.
+pub(crate) fn take_between<'a, T: Part>(
+    part: &T,
+    from: usize,
+    to: usize,
+    left: LinesLeft<'a>,
+) -> Option<LinesLeft<'a>>
+    requires { IsSpan (T.text part.now) from to }
+    ensures { MatchOption result
+        (BeginsOtherwise (with_feeds (bytes_between (T.text part.now) from to)) (due left.entry))
+        (λ next. due left.entry
+        ≡ with_feeds (bytes_between (T.text part.now) from to) ++ due next) }
+{
+    let mut at = from;
+    let mut ahead = left;
+    while at < to {
+        let piece = first_bytes(part.rest_of_block(at), to - at);
+        ahead = take_lines(ahead, piece)?;
+        at += piece.len();
+    }
+    Some(ahead)
 }

@@ -1,6 +1,6 @@
 //! How large a text is, in each unit.
 
-ghost use Rattle.std.specs.Prelude.{◌≡◌, ◌+◌, ◌≤◌, ◌<◌, ◌^◌};
+ghost use Rattle.std.specs.Prelude.{◌≡◌, ◌+◌, ◌≤◌, ◌<◌, ◌^◌, []};
 ghost use Rattle.lsp_text.specs.Ends.{ends_in};
 ghost use Rattle.lsp_text.specs.Sums.{sums_of, amount_in, added, exchanged, AreAtMost};
 
@@ -26,6 +26,18 @@ pub(crate) enum Measure {
 }
 
 impl Sums {
+    /// The sums of no text.
+    pub(crate) fn none() -> Sums
+        ensures { result ≡ sums_of [] }
+    {
+        Sums {
+            ends: 0,
+            bytes: 0,
+            chars: 0,
+            utf16: 0,
+        }
+    }
+
     /// The sums of a text, which has this many line ends.
     pub(crate) fn of(text: &str, ends: usize) -> Sums
         requires { ends ≡ ends_in text.now }

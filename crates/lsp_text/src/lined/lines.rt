@@ -12,51 +12,39 @@ ghost use Rattle.lsp_text.specs.Places.{units};
 ghost use Rattle.lsp_text.specs.Offsets.{IsAtLine};
 ghost use Rattle.lsp_text.specs.Steps.{raised, line_bytes, line_number};
 ghost use Rattle.lsp_text.specs.Ends.{IsNear};
-ghost use Rattle.lsp_text.specs.Parts.{joined, CanReplace};
+ghost use Rattle.lsp_text.specs.Parts.{CanReplace};
+ghost use Rattle.lsp_text.specs.Windows.{text_with};
 ghost use Rattle.lsp_text.specs.LentLines.{IsLentLine, IsHeldLine, IsEndOf, IsOffsetIn};
 ghost use Rattle.lsp_text.specs.LentLines.{NoOffsetIn, IsFurther};
 
-use crate::block::Block;
-use crate::chunk::Chunk;
 use crate::columns::offset_in_line;
 use crate::cut::FirstLine;
-use crate::part::{
-    Part, line_end_in, offset_in, push_all, replace_in_parts, rest_in, share_into, strip_all,
-    sums_in, take_all, units_before_in,
-};
+use crate::lined::window::Windowed;
 use crate::same::{LinesLeft, is_taken, without_last_end};
-use crate::sums::{Measure, Sums};
+use crate::sums::Measure;
 use lsp_types::{Encoding, Position};
 use std::alloc::{AllocError, Global};
 use std::marker::Model;
 
-/// A text in chunks of blocks, and its sums.
+/// A text in chunks of blocks, with a window on it.
 pub(crate) struct Lines {
-    alloc: Global,
-    chunks: Vec<Chunk<Chunk<Block>>>,
-    sums: Sums,
+    held: Windowed,
 }
 
 impl Model for Lines {
     ghost use Rattle.std.specs.Prelude.{List, ℕ};
-    ghost use Rattle.lsp_text.specs.Parts.{joined};
+    ghost use Rattle.lsp_text.specs.Windows.{text_with, IsWindowed};
 
     ghost Value = { List ℕ };
 
-    ghost use Rattle.lsp_text.specs.HeldLines.{AreHeld};
+    ghost view = { λ a. text_with a.held };
 
-    ghost view = { λ a. joined a.chunks.items };
-
-    ghost invariant = { AreHeld };
+    ghost invariant = { λ a. IsWindowed a.held };
 }
 
 impl Drop for Lines {
     fn drop(self) {
-        let Lines {
-            alloc: _,
-            chunks: _,
-            sums: _,
-        } = self;
+        let Lines { held: _ } = self;
     }
 }
 
@@ -65,25 +53,17 @@ impl Lines {
     pub(super) fn of(alloc: Global, text: &str) -> Result<Lines, AllocError>
         ensures { IfOk result (λ lines. lines ≡ text.now) }
     {
-        let chunks = Chunk::cut(alloc, text)?;
-        let sums = sums_in(&chunks);
         Ok(Lines {
-            alloc,
-            chunks,
-            sums,
+            held: Windowed::of(alloc, text)?,
         })
     }
 
-    /// The same lines again.
-    pub(super) fn copy(&self, alloc: Global) -> Result<Lines, AllocError>
+    /// The same lines, held by one more.
+    pub(super) fn share(&self) -> Result<Lines, AllocError>
         ensures { IfOk result (λ lines. lines ≡ self.now) }
     {
-        let mut chunks = Vec::new(alloc);
-        share_into(&mut chunks, &self.chunks)?;
         Ok(Lines {
-            alloc,
-            chunks,
-            sums: self.sums,
+            held: self.held.share()?,
         })
     }
 
@@ -91,7 +71,7 @@ impl Lines {
     pub(crate) fn count(&self) -> u64
         ensures { result ≡ length (lines_of (chars self.now)) }
     {
-        self.sums.ends + 1
+        self.held.sums.ends + 1
     }
 
     /// The bytes of the text.
@@ -99,14 +79,14 @@ impl Lines {
         ensures value { result ≡ length self.now }
         ensures utf8 { IsUtf8 self.now }
     {
-        self.sums.bytes
+        self.held.sums.bytes
     }
 
     /// The line that a position falls in, at most the last.
     pub(crate) fn number_of(&self, position: Position) -> u64
         ensures { result ≡ line_number (chars self.now) position }
     {
-        (position.line as u64).min(self.sums.ends)
+        (position.line as u64).min(self.held.sums.ends)
     }
 
     /// Lends a line and its end, and counts their bytes.
@@ -125,11 +105,10 @@ impl Lines {
         requires { i < length (lines_of (chars self.now)) }
         ensures { IsLentLine self.now i result }
     {
-        let chunks = self.chunks.as_slice();
         if i == 0 {
             return self.line_from(0, 0, "", true);
         }
-        let before = line_end_in(chunks, i - 1);
+        let before = self.held.line_end(i - 1);
         self.line_from(i, before.after, before.rest, before.is_plain)
     }
 
@@ -142,8 +121,7 @@ impl Lines {
     {
         let (end, after) = self.end_of(i);
         LentLine {
-            chunks: &self.chunks,
-            sums: self.sums,
+            held: &self.held,
             start,
             end,
             after,
@@ -157,11 +135,11 @@ impl Lines {
         requires { i < length (lines_of (chars self.now)) }
         ensures { IsEndOf self.now i result.0 result.1 }
     {
-        if i == self.sums.ends {
-            let len = self.sums.bytes as usize;
+        if i == self.held.sums.ends {
+            let len = self.held.sums.bytes as usize;
             return (len, len);
         }
-        let end = line_end_in(&self.chunks, i);
+        let end = self.held.line_end(i);
         (end.at, end.after)
     }
 
@@ -172,7 +150,7 @@ impl Lines {
         ensures value { IfSome result (IsFurther encoding self.now place units) }
         ensures utf8 { IsUtf8 self.now }
     {
-        let rest = rest_in(&self.chunks, place);
+        let rest = self.held.rest_at(place);
         let len = offset_in_line(rest, encoding, units)?;
         if len == rest.len() {
             return None;
@@ -189,7 +167,7 @@ impl Lines {
         requires { IsCharBoundary self.now offset }
         ensures { result ≡ length (chars (take offset self.now)) }
     {
-        units_before_in(&self.chunks, Encoding::Utf32, offset)
+        self.held.units_before(Encoding::Utf32, offset)
     }
 
     /// Whether the lines spell a text.
@@ -197,7 +175,7 @@ impl Lines {
         ensures value { IsTrue result ↔ (self.now ≡ text.now) }
         ensures utf8 { IsUtf8 self.now }
     {
-        match strip_all(&self.chunks, text) {
+        match self.held.strip(text) {
             Some(rest) => rest.is_empty(),
             None => false,
         }
@@ -209,15 +187,15 @@ impl Lines {
         ensures utf8 { IsUtf8 self.now }
     {
         let whole = without_last_end(text);
-        is_taken(take_all(&self.chunks, LinesLeft::Rest(whole)), whole)
+        is_taken(self.held.take_lines(LinesLeft::Rest(whole)), whole)
     }
 
     /// The text of the lines, in a `String` of its own.
     pub(super) fn to_text(&self, alloc: Global) -> Result<String, AllocError>
         ensures { IfOk result (λ text. string_bytes text ≡ self.now) }
     {
-        let mut text = String::with_capacity(alloc, self.sums.bytes as usize)?;
-        push_all(&self.chunks, &mut text)?;
+        let mut text = String::with_capacity(alloc, self.held.sums.bytes as usize)?;
+        self.held.push_to(&mut text)?;
         Ok(text)
     }
 
@@ -226,7 +204,7 @@ impl Lines {
         ensures ok { OnOk result (self.new ≡ text.now) }
         ensures err { OnErr result (self.new ≡ self.old) }
     {
-        *self = Lines::of(self.alloc, text)?;
+        *self = Lines::of(self.held.alloc, text)?;
         Ok(())
     }
 
@@ -237,21 +215,18 @@ impl Lines {
         ensures err { OnErr result (self.new ≡ self.old) }
     {
         // No memory holds that many bytes.
-        if text.len() as u64 >= u64::MAX - self.sums.bytes {
+        if text.len() as u64 >= u64::MAX - self.held.sums.bytes {
             return Err(AllocError);
         }
-        self.sums = replace_in_parts(self.alloc, &mut self.chunks, self.sums, from, to, text)?;
-        Ok(())
+        self.held.replace(from, to, text)
     }
 }
 
 /// A line with its end that is lent: where it begins, where its end begins, and where that ends.
-/// Also the sums of the text, what comes after its start in the same block, and whether each
-/// of those characters has one byte.
+/// Also what comes after its start near by, and whether each of those characters has one byte.
 #[derive(Drop)]
 pub(crate) struct LentLine<'a> {
-    chunks: &'a [Chunk<Chunk<Block>>],
-    sums: Sums,
+    held: &'a Windowed,
     start: usize,
     end: usize,
     after: usize,
@@ -298,22 +273,22 @@ impl<'a> LentLine<'a> {
         if through - before <= column as u64 {
             return Some(self.end);
         }
-        offset_in(self.chunks, encoding, before + column as u64)
+        self.held.offset_of(encoding, before + column as u64)
     }
 
     /// The units of the text before a place.
     fn units_before(&self, encoding: Encoding, place: usize) -> u64
         requires line { IsHeldLine self.now }
-        requires place { IsCharBoundary (joined self.now.chunks.now) place }
-        ensures { result ≡ units encoding (chars (take place (joined self.now.chunks.now))) }
+        requires place { IsCharBoundary (text_with self.now.held.now) place }
+        ensures { result ≡ units encoding (chars (take place (text_with self.now.held.now))) }
     {
         if place == 0 {
             return 0;
         }
-        if place as u64 == self.sums.bytes {
-            return self.sums.by(Measure::Units(encoding));
+        if place as u64 == self.held.sums.bytes {
+            return self.held.sums.by(Measure::Units(encoding));
         }
-        units_before_in(self.chunks, encoding, place)
+        self.held.units_before(encoding, place)
     }
 }
 

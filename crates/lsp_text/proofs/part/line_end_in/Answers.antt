@@ -2,7 +2,8 @@ use Rattle.std.proofs.Common.{◌<◌, ℕ, List, map, sym, subst, arith}
 use Rattle.lsp_text.specs.Ends.{ends_in, IsLineEnd}
 use Rattle.lsp_text.specs.Parts.{joined}
 use Rattle.lsp_text.specs.declared.sums.Measure.TheVariants.{Ends}
-use Rattle.lsp_text.proofs.PartPlaces.{found_below, found_line_end, moved_end}
+use Rattle.lsp_text.proofs.PartPlaces.{found_below, found_line_end}
+use Rattle.lsp_text.specs.Windows.{moved_end}
 use Rattle.lsp_text.proofs.PartEdits.{part_of_found}
 use Rattle.lsp_text.proofs.EndsInLines.{end_within}
 use Rattle.lsp_text.proofs.part.line_end_in.Goals as goal

@@ -1,0 +1,421 @@
+//! A text in chunks of blocks, and a window on it: a short text that stands in the place of some of
+//! its bytes.
+//!
+//! Edits come one near another. The first of them is made in the blocks; from the second on they
+//! are made in a window about the place, so that the chunks and blocks stay as they are and copies
+//! of the text share them all. An edit elsewhere closes the window first, which puts its text into
+//! the blocks.
+
+ghost use Rattle.std.specs.Prelude.{◌≡◌, ◌+◌, ◌-◌, ◌<◌, ◌≤◌, ◌^◌, ◌++◌, None, length, take};
+ghost use Rattle.std.specs.Prelude.{drop, IfOk, IfSome, OnOk, OnErr, IsTrue, MatchOption};
+ghost use Rattle.std.specs.List.{replace_range};
+ghost use Rattle.std.specs.Str.{chars, IsCharBoundary};
+ghost use Rattle.std.specs.String.{string_bytes};
+ghost use Rattle.lsp_text.specs.Places.{units, place_in_line};
+ghost use Rattle.lsp_text.specs.Offsets.{IsOffset};
+ghost use Rattle.lsp_text.specs.Ends.{ends_in, IsLineEnd, IsNear};
+ghost use Rattle.lsp_text.specs.Sums.{sums_of};
+ghost use Rattle.lsp_text.specs.SameText.{BeginsOtherwise, due, with_feeds};
+ghost use Rattle.lsp_text.specs.Parts.{IsSeam};
+ghost use Rattle.lsp_text.specs.Windows.{text_with, moved_end, nearer_end, CanEdit, HoldsText, HoldsTextOr};
+ghost use Rattle.lsp_text.specs.Windows.{IsWindowed, IsClosed};
+
+use crate::block::Block;
+use crate::chunk::Chunk;
+use crate::part::{LineEnd, Part, first_bytes, push_between, strip_between, take_between};
+use crate::same::LinesLeft;
+use crate::sums::{Measure, Sums};
+use lsp_types::Encoding;
+use std::alloc::{AllocError, Global};
+
+/// A text in chunks of blocks.
+pub(super) type Tree = Chunk<Chunk<Chunk<Block>>>;
+
+/// The bytes that a window has before an edit when it is opened, and those after it, at least.
+const BEFORE: usize = 128;
+const AFTER: usize = 384;
+
+/// The bytes of a window, at most.
+const MOST: usize = 1000;
+
+/// The bytes between two edits that are near each other, at most.
+const NEAR: usize = 256;
+
+/// A text in chunks, and the window on it: its text, and the sums of what comes before it in the
+/// chunks and of what comes before the bytes after it. Also the sums of the whole, and the place of
+/// the last edit in the chunks.
+#[derive(Drop)]
+pub(super) struct Windowed {
+    pub(super) tree: Tree,
+    pub(super) before: Sums,
+    pub(super) skipped: Sums,
+    pub(super) window: Block,
+    pub(super) sums: Sums,
+    last: usize,
+    pub(super) alloc: Global,
+}
+
+impl Windowed {
+    /// A text, with no window.
+    pub(super) fn of(alloc: Global, text: &str) -> Result<Windowed, AllocError>
+        ensures { IfOk result (λ held. HoldsText held text.now) }
+    {
+        let tree = Chunk::whole(alloc, text)?;
+        Ok(Windowed {
+            before: Sums::none(),
+            skipped: Sums::none(),
+            window: Block::new(alloc, "")?,
+            sums: tree.sums(),
+            tree,
+            last: 0,
+            alloc,
+        })
+    }
+
+    /// The same text with the same window, each held by one more.
+    pub(super) fn share(&self) -> Result<Windowed, AllocError>
+        requires { IsWindowed self.now }
+        ensures { IfOk result (λ held. HoldsText held (text_with self.now)) }
+    {
+        Ok(Windowed {
+            tree: self.tree.share()?,
+            before: self.before,
+            skipped: self.skipped,
+            window: self.window.share()?,
+            sums: self.sums,
+            last: self.last,
+            alloc: self.alloc,
+        })
+    }
+
+    /// Replaces some bytes by a text: in the window if the edit stays inside it, in one that is
+    /// opened about the edit if that is near the last one, and else in the chunks.
+    pub(super) fn replace(&mut self, from: usize, to: usize, text: &str) -> Result<(), AllocError>
+        requires { CanEdit self.old from to text.now }
+        ensures ok { OnOk result
+            (HoldsText self.new (replace_range (text_with self.old) from to text.now)) }
+        ensures err { OnErr result (HoldsText self.new (text_with self.old)) }
+    {
+        if self.replace_inside(from, to, text)? {
+            return Ok(());
+        }
+        self.close()?;
+        if self.is_near(from) && self.open(from, to)? && self.replace_inside(from, to, text)? {
+            return Ok(());
+        }
+        self.close()?;
+        self.replace_apart(from, to, text)
+    }
+
+    /// Whether a place is near the last edit in the chunks.
+    fn is_near(&self, place: usize) -> bool {
+        place <= self.last.saturating_add(NEAR) && self.last <= place.saturating_add(NEAR)
+    }
+
+    /// Replaces some bytes of the window by a text, if the edit leaves the window's first and last
+    /// bytes and the window stays short. Answers whether it did.
+    fn replace_inside(&mut self, from: usize, to: usize, text: &str) -> Result<bool, AllocError>
+        requires { CanEdit self.old from to text.now }
+        ensures ok { IfOk result (HoldsTextOr (text_with self.old) from to text.now self.new) }
+        ensures err { OnErr result (HoldsText self.new (text_with self.old)) }
+    {
+        let start = self.before.bytes as usize;
+        let old = self.window.sums();
+        let len = old.bytes as usize;
+        if from <= start || to - start >= len || len > MOST || text.len() > MOST - len {
+            return Ok(false);
+        }
+        if !self.window.replace(from - start, to - start, text)? {
+            return Ok(false);
+        }
+        self.sums = self.sums.exchanged(old, self.window.sums());
+        Ok(true)
+    }
+
+    /// Replaces some bytes of the chunks by a text, where no window is open.
+    fn replace_apart(&mut self, from: usize, to: usize, text: &str) -> Result<(), AllocError>
+        requires edit { CanEdit self.old from to text.now }
+        requires closed { IsClosed self.old }
+        ensures ok { OnOk result
+            (HoldsText self.new (replace_range (text_with self.old) from to text.now)) }
+        ensures err { OnErr result (HoldsText self.new (text_with self.old)) }
+    {
+        self.last = from;
+        self.tree.edit(from, to, text)?;
+        self.sums = self.tree.sums();
+        Ok(())
+    }
+
+    /// Closes the window, if one is open: its text is put into the chunks.
+    fn close(&mut self) -> Result<(), AllocError>
+        requires { IsWindowed self.old }
+        ensures ok { OnOk result (HoldsText self.new (text_with self.old) × IsClosed self.new) }
+        ensures err { OnErr result (HoldsText self.new (text_with self.old)) }
+    {
+        if self.skipped.bytes == 0 && self.window.sums().bytes == 0 {
+            return Ok(());
+        }
+        let none = Block::new(self.alloc, "")?;
+        self.tree.edit(
+            self.before.bytes as usize,
+            self.skipped.bytes as usize,
+            self.window.as_str(),
+        )?;
+        self.before = Sums::none();
+        self.skipped = Sums::none();
+        self.window = none;
+        Ok(())
+    }
+
+    /// Opens a window about an edit, if places for its ends are found. Answers whether it did.
+    fn open(&mut self, from: usize, to: usize) -> Result<bool, AllocError>
+        requires held { IsWindowed self.old }
+        requires closed { IsClosed self.old }
+        ensures { HoldsText self.new (text_with self.old) }
+    {
+        let (Some(start), Some(end)) = (seam_before(&self.tree, from), seam_after(&self.tree, to))
+        else {
+            return Ok(false);
+        };
+        if end < start || end - start > MOST {
+            return Ok(false);
+        }
+        let mut text = String::with_capacity(self.alloc, end - start)?;
+        push_between(&self.tree, start, end, &mut text)?;
+        let window = Block::new(self.alloc, text.as_str())?;
+        self.before = sums_before(&self.tree, start);
+        self.skipped = self.before.with(window.sums());
+        self.window = window;
+        Ok(true)
+    }
+
+    /// Its line end `n`, of which there are more.
+    pub(super) fn line_end(&self, n: u64) -> LineEnd<'_>
+        requires held { IsWindowed self.now }
+        requires some { n < ends_in (text_with self.now) }
+        ensures { IsLineEnd (text_with self.now) n result }
+    {
+        if n < self.before.ends {
+            return up_to_place(self.tree.line_end(n), self.before.bytes as usize);
+        }
+        let n = n - self.before.ends;
+        let sums = self.window.sums();
+        let start = self.before.bytes as usize;
+        if n < sums.ends {
+            return moved(self.window.line_end(n), 0, start);
+        }
+        let end = self.tree.line_end(n - sums.ends + self.skipped.ends);
+        moved(end, self.skipped.bytes as usize, start + sums.bytes as usize)
+    }
+
+    /// The bytes before a column, as if the text were one line, or `None` where it lies inside a
+    /// character.
+    pub(super) fn offset_of(&self, encoding: Encoding, column: u64) -> Option<usize>
+        requires held { IsWindowed self.now }
+        requires within { column < units encoding (chars (text_with self.now)) }
+        ensures { MatchOption result
+            (place_in_line encoding (chars (text_with self.now)) column ≡ None)
+            (IsOffset encoding (text_with self.now) column) }
+    {
+        let by = Measure::Units(encoding);
+        if column < self.before.by(by) {
+            return self.tree.offset_of(encoding, column);
+        }
+        let column = column - self.before.by(by);
+        let sums = self.window.sums();
+        let start = self.before.bytes as usize;
+        if column < sums.by(by) {
+            return Some(start + self.window.offset_of(encoding, column)?);
+        }
+        let offset = self
+            .tree
+            .offset_of(encoding, column - sums.by(by) + self.skipped.by(by))?;
+        Some(offset - self.skipped.bytes as usize + (start + sums.bytes as usize))
+    }
+
+    /// The units before a place.
+    pub(super) fn units_before(&self, encoding: Encoding, place: usize) -> u64
+        requires held { IsWindowed self.now }
+        requires boundary { IsCharBoundary (text_with self.now) place }
+        ensures { result ≡ units encoding (chars (take place (text_with self.now))) }
+    {
+        let by = Measure::Units(encoding);
+        let start = self.before.bytes as usize;
+        if place < start {
+            return self.tree.units_before(encoding, place);
+        }
+        let sums = self.window.sums();
+        let place = place - start;
+        let len = sums.bytes as usize;
+        if place < len {
+            return self.before.by(by) + self.window.units_before(encoding, place);
+        }
+        let whole = self.tree.units_before(encoding, place - len + self.skipped.bytes as usize);
+        whole - self.skipped.by(by) + (self.before.by(by) + sums.by(by))
+    }
+
+    /// What comes after a place near by.
+    pub(super) fn rest_at(&self, place: usize) -> &str
+        requires held { IsWindowed self.now }
+        requires boundary { IsCharBoundary (text_with self.now) place }
+        ensures { IsNear (drop place (text_with self.now)) result.now false }
+    {
+        let start = self.before.bytes as usize;
+        if place < start {
+            return first_bytes(self.tree.rest_of_block(place), start - place);
+        }
+        let place = place - start;
+        let len = self.window.sums().bytes as usize;
+        if place < len {
+            return self.window.rest_of_block(place);
+        }
+        self.tree
+            .rest_of_block(place - len + self.skipped.bytes as usize)
+    }
+
+    /// Writes the text after another.
+    pub(super) fn push_to(&self, out: &mut String) -> Result<(), AllocError>
+        requires { IsWindowed self.now }
+        ensures { OnOk result (string_bytes out.new ≡ string_bytes out.old ++ text_with self.now) }
+    {
+        let tree = &self.tree;
+        push_between(tree, 0, self.before.bytes as usize, out)?;
+        self.window.push_to(out)?;
+        push_between(
+            tree,
+            self.skipped.bytes as usize,
+            tree.sums().bytes as usize,
+            out,
+        )
+    }
+
+    /// What comes after the text in one that begins with it.
+    pub(super) fn strip<'a>(&self, whole: &'a str) -> Option<&'a str>
+        requires { IsWindowed self.now }
+        ensures { MatchOption result (BeginsOtherwise (text_with self.now) whole.now)
+            (λ rest. whole.now ≡ text_with self.now ++ rest.now) }
+    {
+        let tree = &self.tree;
+        let rest = strip_between(tree, 0, self.before.bytes as usize, whole)?;
+        let rest = self.window.strip(rest)?;
+        strip_between(
+            tree,
+            self.skipped.bytes as usize,
+            tree.sums().bytes as usize,
+            rest,
+        )
+    }
+
+    /// What is left of a text after the lines of this one, if it begins with them.
+    pub(super) fn take_lines<'a>(&self, left: LinesLeft<'a>) -> Option<LinesLeft<'a>>
+        requires { IsWindowed self.now }
+        ensures { MatchOption result
+            (BeginsOtherwise (with_feeds (text_with self.now)) (due left.entry))
+            (λ next. due left.entry ≡ with_feeds (text_with self.now) ++ due next) }
+    {
+        let tree = &self.tree;
+        let left = take_between(tree, 0, self.before.bytes as usize, left)?;
+        let left = self.window.take_lines(left)?;
+        take_between(
+            tree,
+            self.skipped.bytes as usize,
+            tree.sums().bytes as usize,
+            left,
+        )
+    }
+}
+
+/// A line end before a place, with no more of what follows it than up to there.
+fn up_to_place(end: LineEnd<'_>, place: usize) -> LineEnd<'_>
+    requires within { end.after ≤ place }
+    requires boundary { place - end.after < length end.rest.now
+        → IsCharBoundary end.rest.now (place - end.after) }
+    ensures at { result.at ≡ end.at }
+    ensures after { result.after ≡ end.after }
+    ensures rest { result.rest.now ≡ take (place - end.after) end.rest.now }
+    ensures plain { result.is_plain ≡ end.is_plain }
+{
+    LineEnd {
+        at: end.at,
+        after: end.after,
+        rest: first_bytes(end.rest, place - end.after),
+        is_plain: end.is_plain,
+    }
+}
+
+/// A line end this many bytes nearer, and then so many further.
+fn moved(end: LineEnd<'_>, nearer: usize, further: usize) -> LineEnd<'_>
+    requires at { nearer ≤ end.at }
+    requires order { end.at ≤ end.after }
+    requires fits { end.after - nearer + further < 2 ^ 64 }
+    ensures { result ≡ moved_end further (nearer_end nearer end) }
+{
+    LineEnd {
+        at: end.at - nearer + further,
+        after: end.after - nearer + further,
+        rest: end.rest,
+        is_plain: end.is_plain,
+    }
+}
+
+/// The sums of what comes before a place.
+fn sums_before<T: Part>(part: &T, place: usize) -> Sums
+    requires { IsSeam (T.text part.now) place }
+    ensures { result ≡ sums_of (take place (T.text part.now)) }
+{
+    Sums {
+        ends: part.ends_before(place),
+        bytes: place as u64,
+        chars: part.units_before(Encoding::Utf32, place),
+        utf16: part.units_before(Encoding::Utf16, place),
+    }
+}
+
+/// A place before another at which a text may be cut, if one is found near by.
+fn seam_before<T: Part>(part: &T, place: usize) -> Option<usize>
+    ensures { IfSome result (IsSeam (T.text part.now)) }
+{
+    if place <= BEFORE {
+        return Some(0);
+    }
+    seam_from(part, place - BEFORE)
+}
+
+/// A place after another at which a text may be cut, if one is found near by.
+fn seam_after<T: Part>(part: &T, place: usize) -> Option<usize>
+    ensures { IfSome result (IsSeam (T.text part.now)) }
+{
+    let len = part.sums().bytes as usize;
+    if len.saturating_sub(place) <= AFTER {
+        return Some(len);
+    }
+    seam_from(part, place + AFTER)
+}
+
+/// A place at which a text may be cut, this or one of the three after it, if one of them is before
+/// a character that is no LF.
+fn seam_from<T: Part>(part: &T, place: usize) -> Option<usize>
+    ensures { IfSome result (IsSeam (T.text part.now)) }
+{
+    for more in 0..4 {
+        let at = place.saturating_add(more);
+        if is_seam(part, at) {
+            return Some(at);
+        }
+    }
+    None
+}
+
+/// Whether a character begins at a place, and is no LF.
+fn is_seam<T: Part>(part: &T, place: usize) -> bool
+    ensures { IsTrue result → IsSeam (T.text part.now) place }
+{
+    let Some(at) = part.offset_of(Encoding::Utf8, place as u64) else {
+        return false;
+    };
+    if at != place {
+        return false;
+    }
+    let rest = part.rest_of_block(place).as_bytes();
+    rest.len() > 0 && rest[0] != b'\n'
+}
