@@ -330,10 +330,10 @@ next_piece bs rest piece from to at len h k lt r is l =
 
 -- ---- writing a span
 
-pub piece_written : (bs rest piece old out new : List ℕ) (from to at len : ℕ)
+pub piece_written : (bs piece old out new : List ℕ) (from to at len : ℕ)
     → IsPiece bs from to at len piece → out ≡ old ++ bytes_between bs from at → new ≡ out ++ piece
     → new ≡ old ++ bytes_between bs from (at + len)
-piece_written bs rest piece old out new from to at len h before e =
+piece_written bs piece old out new from to at len h before e =
     let a = bytes_between bs from at in
     e ∙ ap (λ (x : List ℕ). x ++ piece) before ∙ append_assoc old a piece
     ∙ ap (λ (x : List ℕ). old ++ x) (sym h.next)
@@ -424,7 +424,7 @@ count_up_to bs places offset count are seam h =
     let some : k - k < length second = omega arith in
     let e : get_or places k 0 ≡ get_or second (k - k) 0 =
     ap (λ (xs : List ℕ). get_or xs k 0) split
-    ∙ get_or-append_right first second k k refl (omega arith) in
+    ∙ get_or-append_right first second k k 0 refl (omega arith) in
     absurd (omega (arith, h.up_to k more, e, (places_within (0 + length a) b (k - k) some).0, size)))
     (λ (le : count ≤ length first). omega (arith, counted))
     (cases_lt (length first) count))
