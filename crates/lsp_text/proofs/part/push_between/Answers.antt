@@ -20,5 +20,5 @@ loop-at-preserved g c =
       written =
           piece_written bs piece (string_bytes c.args.out.now) (string_bytes c.loop-at.out)
           (string_bytes c.push_str.new.self) c.args.from c.args.to c.loop-at.at (length piece) next
-          c.loop-at.invariant.written c.in_ok-push_str.ensures;
+          c.loop-at.invariant.written c.in_ok-push_str.ensures.bytes;
     }
