@@ -9,6 +9,7 @@ pub mod Starts
 pub mod Denoting
 pub mod Edits
 pub mod Widths
+pub mod WindowEdits
 pub mod Blocks
 pub mod LineEnds
 pub mod SameTexts
