@@ -90,7 +90,7 @@ found_within ps at f h le =
           (cases_lt (f.index + 1) (length ps)),
     )
 
-pub none_long : (xs : List ℕ) → length xs ≡ 0 → xs ≡ []
+none_long : (xs : List ℕ) → length xs ≡ 0 → xs ≡ []
 none_long [] e = refl
 none_long (x ∷ xs) e = absurd (omega arith)
 

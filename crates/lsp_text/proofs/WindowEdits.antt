@@ -1,29 +1,28 @@
 -- Edits of a text in chunks, with a window on it.
-use Rattle.std.proofs.Common.{◌≡◌, ◌<◌, ◌≤◌, ◌+◌, ◌-◌, ◌^◌, ℕ, Bool, true, false, List, [], ◌∷◌}
-use Rattle.std.proofs.Common.{◌++◌, length, take, drop, set, refl, sym, ap, subst, inl, ◌∙◌, arith}
-use Rattle.std.proofs.Common.{length-append, length-drop, append_assoc, take-add}
+use Rattle.std.proofs.Common.{◌≡◌, ◌<◌, ◌≤◌, ◌+◌, ◌-◌, ◌^◌, ℕ, false, List, [], ◌∷◌}
+use Rattle.std.proofs.Common.{◌++◌, length, take, drop, refl, sym, ap, subst, inl, ◌∙◌, arith}
+use Rattle.std.proofs.Common.{append_assoc, take-add}
 use Rattle.std.specs.List.{replace_range}
 use Rattle.std.proofs.lemmas.Bool.{and_right}
-use Rattle.std.proofs.lemmas.List.{append-nil, take-append-drop, length-take, length-take-le}
+use Rattle.std.proofs.lemmas.List.{append-nil, take-append-drop, length-take-le}
 use Rattle.std.proofs.lemmas.List.{drop-drop}
-use Rattle.std.specs.Str.{chars, IsUtf8, IsCharBoundary}
+use Rattle.std.specs.Str.{chars, IsUtf8}
 use Rattle.std.proofs.lemmas.Str.{IsUtf8-nil, IsUtf8-take, IsUtf8-drop, IsUtf8-between}
 use Rattle.std.proofs.lemmas.Str.{IsCharBoundary-start}
 use Rattle.lsp_types.specs.declared.position.Encoding.TheVariants.{Utf16, Utf32}
 use Rattle.lsp_text.specs.Places.{units}
 use Rattle.lsp_text.specs.Ends.{ends_in, ends_with_return, joins}
 use Rattle.lsp_text.specs.Sums.{sums_of, added, exchanged, AreAtMost}
-use Rattle.lsp_text.specs.Parts.{joined, AreParts, CanReplace, IsReplacedOr, IsSeam, IsSpan, IsSpot}
+use Rattle.lsp_text.specs.Parts.{joined, AreParts, IsSeam, IsSpan, IsSpot}
 use Rattle.lsp_text.specs.Parts.{bytes_between}
 use Rattle.lsp_text.specs.Windows.{pieces_of, text_with, IsWindowed, IsClosed, CanEdit, HoldsText}
-use Rattle.lsp_text.specs.Windows.{HoldsTextOr}
 use Rattle.lsp_text.specs.declared.sums.Sums.{Sums}
 use Rattle.lsp_text.specs.declared.part.Spot.{Spot}
 use Rattle.lsp_text.specs.declared.lined.window.Windowed.{Windowed}
 use Rattle.lsp_text.proofs.Exchanges.{IsExchange, replaced_len}
 use Rattle.lsp_text.proofs.Parts.{IsUtf8-joined, joins-front, joins-back, sums_of-append}
 use Rattle.lsp_text.proofs.Parts.{sums_made, sums_same}
-use Rattle.lsp_text.proofs.PartSteps.{counted_at_most, none_long}
+use Rattle.lsp_text.proofs.PartSteps.{counted_at_most}
 use Rattle.lsp_text.proofs.Splices.{IsUtf8-replace_range}
 use Rattle.lsp_text.proofs.Spots.{IsSpotPart, spot_part}
 use Rattle.lsp_text.proofs.Widths.{units-utf32}
@@ -58,24 +57,6 @@ record AreShown (tree window : List ℕ) (before skipped sums : Sums) (bs : List
   fits : length bs < 2 ^ 64 - 1
   text : joined (take before.bytes tree ∷ window ∷ drop skipped.bytes tree ∷ []) ≡ bs
 
-shown_of : (w : Windowed) (bs : List ℕ) → HoldsText w bs
-    → AreShown w.tree w.window w.before w.skipped w.sums bs
-shown_of w bs h =
-    let k = h.held in
-    record {
-      order = k.order;
-      first = k.first;
-      second = k.second;
-      utf8 = k.utf8;
-      before_is = k.before;
-      skipped_is = k.skipped;
-      parts = k.parts;
-      sums_are = k.sums ∙ ap sums_of h.text;
-      tree_fits = k.tree_fits;
-      fits = omega (arith, k.fits, ap length h.text);
-      text = h.text;
-    }
-
 holds_shown : (w : Windowed) (bs : List ℕ)
     → AreShown w.tree w.window w.before w.skipped w.sums bs → HoldsText w bs
 holds_shown w bs h =
@@ -99,26 +80,6 @@ holds_shown w bs h =
 same_shown : (t u v x : List ℕ) (a b c d s r : Sums) (bs : List ℕ) → t ≡ u → v ≡ x → a ≡ b
     → c ≡ d → s ≡ r → AreShown u x b d r bs → AreShown t v a c s bs
 same_shown t u v x a b c d s r bs e1 e2 e3 e4 e5 h = rw (e1, e2, e3, e4, e5) h
-
--- the same parts
-pub record AreSame (w v : Windowed) : Type 0 where
-  pub tree : v.tree ≡ w.tree
-  pub window : v.window ≡ w.window
-  pub before : v.before ≡ w.before
-  pub skipped : v.skipped ≡ w.skipped
-  pub sums : v.sums ≡ w.sums
-
-pub same_held : (w v : Windowed) (bs : List ℕ) → AreSame w v → HoldsText w bs → HoldsText v bs
-same_held w v bs e h =
-    holds_shown v bs
-    (same_shown _ _ _ _ _ _ _ _ _ _ bs e.tree e.window e.before e.skipped e.sums
-    (shown_of w bs h))
-
-pub held : (w : Windowed) → IsWindowed w → HoldsText w (text_with w)
-held w h = record { held = h; text = refl }
-
-pub kept : (w v : Windowed) → AreSame w v → IsWindowed w → HoldsText v (text_with w)
-kept w v e h = same_held w v (text_with w) e (held w h)
 
 -- ---- no window
 
@@ -195,35 +156,12 @@ closed_by w tree text window before skipped h made is none first second =
       fits = h.fits;
     }
 
-pub close_can : (w : Windowed) → IsWindowed w → CanReplace w.tree w.before.bytes w.skipped.bytes
-close_can w h = record { order = h.order; first = h.first.boundary; second = h.second.boundary }
-
-pub close_fits : (w : Windowed) (text : List ℕ) → IsWindowed w → text ≡ w.window
-    → length (replace_range w.tree w.before.bytes w.skipped.bytes text) < 2 ^ 64
-close_fits w text h is =
-    omega (
-      arith,
-      h.fits,
-      ap (λ (x : List ℕ). length (replace_range w.tree w.before.bytes w.skipped.bytes x)) is,
-      ap length (replaced_tree w),
-    )
-
--- no bytes are skipped, and none are in the window
-pub none_open : (w : Windowed) (s : Sums) → IsWindowed w → s ≡ sums_of w.window
-    → w.skipped.bytes ≡ 0 → s.bytes ≡ 0 → IsClosed w
-none_open w s h is skipped none =
-    let order = h.order in
-    record {
-      before = omega arith;
-      skipped = skipped;
-      window = none_long w.window (sym (ap (λ (x : Sums). x.bytes) is) ∙ none);
-    }
-
 -- ---- an edit where no window is
 
-pub record AreNone (w : Windowed) : Type 0 where
-  pub before : w.before ≡ sums_of []
-  pub skipped : w.skipped ≡ sums_of []
+-- nothing comes before the window, and nothing is skipped
+record AreNone (w : Windowed) : Type 0 where
+  before : w.before ≡ sums_of []
+  skipped : w.skipped ≡ sums_of []
 
 none_counted : (w : Windowed) → IsWindowed w → IsClosed w → AreNone w
 none_counted w h c =
@@ -231,11 +169,6 @@ none_counted w h c =
       before = h.before ∙ ap (λ (n : ℕ). sums_of (take n w.tree)) c.before;
       skipped = h.skipped ∙ ap (λ (n : ℕ). sums_of (take n w.tree)) c.skipped;
     }
-
-pub apart_can : (w : Windowed) (from to : ℕ) (text : List ℕ) → CanEdit w from to text → IsClosed w
-    → CanReplace w.tree from to
-apart_can w from to text h c =
-    subst (λ (x : List ℕ). CanReplace x from to) (closed_text w c) h.can
 
 edit_len : (w : Windowed) (from to : ℕ) (text : List ℕ) → CanEdit w from to text
     → length (replace_range (text_with w) from to text) < 2 ^ 64 - 1
@@ -291,7 +224,7 @@ abbrev pub window_with : Windowed → ℕ → ℕ → List ℕ → List ℕ
 window_with w from to text =
     replace_range w.window (from - w.before.bytes) (to - w.before.bytes) text
 
-pub front_len : (w : Windowed) → IsWindowed w
+front_len : (w : Windowed) → IsWindowed w
     → length (take w.before.bytes w.tree) ≡ w.before.bytes
 front_len w h = length-take-le w.before.bytes w.tree h.first.boundary.0
 
@@ -319,15 +252,6 @@ inside_part w from to text h =
     spot_part (pieces_of w) from to (spot_of w from to) text h.can.held.parts h.utf8
     (inside_spot w from to text h) h.can.can
 
-pub inside_can : (w : Windowed) (from to : ℕ) (text : List ℕ) → IsInside w from to text
-    → CanReplace w.window (from - w.before.bytes) (to - w.before.bytes)
-inside_can w from to text h = (inside_part w from to text h).can
-
-pub inside_fits : (w : Windowed) (from to : ℕ) (text : List ℕ) → IsInside w from to text
-    → length (window_with w from to text) < 2 ^ 64
-inside_fits w from to text h =
-    omega (arith, (inside_part w from to text h).within, edit_len w from to text h.can)
-
 pub inside_text : (w : Windowed) (from to : ℕ) (text : List ℕ) → IsInside w from to text
     → take w.before.bytes w.tree
     ++ (window_with w from to text ++ (drop w.skipped.bytes w.tree ++ []))
@@ -340,16 +264,6 @@ pub inside_sums : (w : Windowed) (from to : ℕ) (text window : List ℕ) (old n
 inside_sums w from to text window old new h o made n =
     subst (IsExchange w.sums old new) (inside_text w from to text h)
     ((inside_part w from to text h).sums w.sums old new h.can.held.sums o (n ∙ ap sums_of made))
-
-pub inside_most : (w : Windowed) (from to : ℕ) (text window : List ℕ) (old new : Sums)
-    → IsInside w from to text → old ≡ sums_of w.window → window ≡ window_with w from to text
-    → new ≡ sums_of window → (exchanged w.sums old new).bytes < 2 ^ 64
-inside_most w from to text window old new h o made n =
-    omega (
-      arith,
-      (inside_sums w from to text window old new h o made n).len,
-      edit_len w from to text h.can,
-    )
 
 pub inside : (w v : Windowed) (from to : ℕ) (text : List ℕ) (old new : Sums)
     → IsInside w from to text → v.tree ≡ w.tree → v.before ≡ w.before → v.skipped ≡ w.skipped
@@ -468,7 +382,7 @@ pub record CanOpen (w : Windowed) (start end : ℕ) : Type 0 where
   pub first : IsSeam w.tree start
   pub second : IsSeam w.tree end
 
-pub open_span : (w : Windowed) (start end : ℕ) → CanOpen w start end → IsSpan w.tree start end
+open_span : (w : Windowed) (start end : ℕ) → CanOpen w start end → IsSpan w.tree start end
 open_span w start end h =
     record {
       order = h.order;
@@ -477,9 +391,6 @@ open_span w start end h =
       utf8 = h.held.utf8;
       fits = h.held.tree_fits;
     }
-
-pub between_len : (bs : List ℕ) (from to : ℕ) → length (bytes_between bs from to) ≤ to - from
-between_len bs from to = omega (arith, length-take (to - from) (drop from bs))
 
 -- the window's sums come after those before it
 pub record AreOpened (w : Windowed) (end : ℕ) (before more : Sums) : Type 0 where

@@ -12,8 +12,8 @@ can_open c =
       held = c.requires.held;
       closed = c.requires.closed;
       order = c.if-end-start.false;
-      first = ?;
-      second = ?;
+      first = c.in-Some-Some.ensures;
+      second = c.in-Some-Some.ensures';
     }
 
 window_is : (c : After-sums) → c.in_ok-window.window
