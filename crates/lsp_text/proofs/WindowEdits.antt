@@ -3,7 +3,6 @@ use Rattle.std.proofs.Common.{◌≡◌, ◌<◌, ◌≤◌, ◌+◌, ◌-◌, �
 use Rattle.std.proofs.Common.{◌++◌, length, take, drop, refl, sym, ap, subst, inl, ◌∙◌, arith}
 use Rattle.std.proofs.Common.{append_assoc, take-add}
 use Rattle.std.specs.List.{replace_range}
-use Rattle.std.proofs.lemmas.Bool.{and_right}
 use Rattle.std.proofs.lemmas.List.{append-nil, take-append-drop, length-take-le}
 use Rattle.std.proofs.lemmas.List.{drop-drop}
 use Rattle.std.specs.Str.{chars, IsUtf8}
@@ -11,7 +10,7 @@ use Rattle.std.proofs.lemmas.Str.{IsUtf8-nil, IsUtf8-take, IsUtf8-drop, IsUtf8-b
 use Rattle.std.proofs.lemmas.Str.{IsCharBoundary-start}
 use Rattle.lsp_types.specs.declared.position.Encoding.TheVariants.{Utf16, Utf32}
 use Rattle.lsp_text.specs.Places.{units}
-use Rattle.lsp_text.specs.Ends.{ends_in, ends_with_return, joins}
+use Rattle.lsp_text.specs.Ends.{ends_in, joins}
 use Rattle.lsp_text.specs.Sums.{sums_of, added, exchanged, AreAtMost}
 use Rattle.lsp_text.specs.Parts.{joined, AreParts, IsSeam, IsSpan, IsSpot}
 use Rattle.lsp_text.specs.Parts.{bytes_between}
@@ -24,11 +23,8 @@ use Rattle.lsp_text.proofs.Parts.{IsUtf8-joined, joins-front, joins-back, sums_o
 use Rattle.lsp_text.proofs.Parts.{sums_made, sums_same}
 use Rattle.lsp_text.proofs.PartSteps.{counted_at_most}
 use Rattle.lsp_text.proofs.Splices.{IsUtf8-replace_range}
-use Rattle.lsp_text.proofs.Spots.{IsSpotPart, spot_part}
+use Rattle.lsp_text.proofs.Spots.{IsSpotPart, spot_part, joins-nothing}
 use Rattle.lsp_text.proofs.Widths.{units-utf32}
-
-joins-nothing : (a : List ℕ) → joins a [] ≡ false
-joins-nothing a = and_right (ends_with_return false a) false refl
 
 -- the first and last bytes of the chunks with the window between
 pub replaced_tree : (w : Windowed)
@@ -91,7 +87,7 @@ closed_text w h =
     ∙ append-nil w.tree
 
 -- a text without a window, and the sums of all of it
-pub record AreClosed (tree window : List ℕ) (before skipped sums : Sums) (bs : List ℕ) : Type 0 where
+pub record NoWindow (tree window : List ℕ) (before skipped sums : Sums) (bs : List ℕ) : Type 0 where
   pub tree_is : tree ≡ bs
   pub window_is : window ≡ []
   pub before_is : before ≡ sums_of []
@@ -114,7 +110,7 @@ nothing_shown bs u fits =
       utf8 = u;
       before_is = refl;
       skipped_is = refl;
-      parts = (IsUtf8-nil, refl, (IsUtf8-nil, refl, (u, joins-nothing bs, tt)));
+      parts = (IsUtf8-nil, refl, (IsUtf8-nil, refl, (u, joins-nothing bs [] refl, tt)));
       sums_are = refl;
       tree_fits = omega (arith, fits);
       fits = fits;
@@ -122,14 +118,14 @@ nothing_shown bs u fits =
     }
 
 pub held_closed : (w : Windowed) (bs : List ℕ)
-    → AreClosed w.tree w.window w.before w.skipped w.sums bs → HoldsText w bs
+    → NoWindow w.tree w.window w.before w.skipped w.sums bs → HoldsText w bs
 held_closed w bs h =
     holds_shown w bs
     (same_shown _ _ _ _ _ _ _ _ _ _ bs h.tree_is h.window_is h.before_is h.skipped_is h.sums_are
     (nothing_shown bs h.utf8 h.fits))
 
 pub is_closed : (w : Windowed) (bs : List ℕ)
-    → AreClosed w.tree w.window w.before w.skipped w.sums bs → IsClosed w
+    → NoWindow w.tree w.window w.before w.skipped w.sums bs → IsClosed w
 is_closed w bs h =
     record {
       before = ap (λ (s : Sums). s.bytes) h.before_is;
@@ -141,7 +137,7 @@ is_closed w bs h =
 pub closed_by : (w : Windowed) (tree text window : List ℕ) (before skipped : Sums) → IsWindowed w
     → tree ≡ replace_range w.tree w.before.bytes w.skipped.bytes text → text ≡ w.window
     → window ≡ [] → before ≡ sums_of [] → skipped ≡ sums_of []
-    → AreClosed tree window before skipped w.sums (text_with w)
+    → NoWindow tree window before skipped w.sums (text_with w)
 closed_by w tree text window before skipped h made is none first second =
     record {
       tree_is =
@@ -192,7 +188,7 @@ edited_utf8 w from to text h u =
 pub apart : (w : Windowed) (from to : ℕ) (text tree : List ℕ) (sums : Sums)
     → CanEdit w from to text → IsClosed w → IsUtf8 text → tree ≡ replace_range w.tree from to text
     → sums ≡ sums_of tree
-    → AreClosed tree w.window w.before w.skipped sums (replace_range (text_with w) from to text)
+    → NoWindow tree w.window w.before w.skipped sums (replace_range (text_with w) from to text)
 apart w from to text tree sums h c u made counted =
     let none = none_counted w h.held c in
     let is : tree ≡ replace_range (text_with w) from to text =
@@ -345,14 +341,13 @@ cut_shown bs from to h fits before skipped first second =
     let whole : a ++ (mid ++ (c ++ [])) ≡ bs =
     ap (λ (x : List ℕ). a ++ (mid ++ x)) (append-nil c)
     ∙ ap (λ (x : List ℕ). a ++ x) (sym cut.rest) ∙ take-append-drop from bs in
-    let parts : AreParts (a ∷ mid ∷ c ∷ []) =
-    (
+    let parts : AreParts (a ∷ mid ∷ c ∷ []) = (
       cut.front_utf8,
       ap (λ (x : List ℕ). joins a (mid ++ x)) (append-nil c) ∙ cut.whole,
       (
         cut.mid_utf8,
         ap (joins mid) (append-nil c) ∙ cut.far,
-        (cut.back_utf8, joins-nothing c, tt),
+        (cut.back_utf8, joins-nothing c [] refl, tt),
       ),
     )
     in
