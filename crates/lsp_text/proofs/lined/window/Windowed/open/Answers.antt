@@ -1,5 +1,4 @@
 use Rattle.std.proofs.Common.{◌≡◌, ◌++◌, List, ℕ, refl, ap, ◌∙◌}
-use Rattle.std.specs.String.{string_bytes}
 use Rattle.lsp_text.specs.Parts.{bytes_between}
 use Rattle.lsp_text.proofs.WindowEdits.{CanOpen, AreOpened, opened_sums, opened}
 use Rattle.lsp_text.proofs.lined.window.Windowed.open.Goals as goal
