@@ -38,3 +38,4 @@ pub mod Spots
 pub mod StepCounts
 pub mod PartEdits
 pub mod PartLines
+pub mod WindowEnds
