@@ -39,3 +39,4 @@ pub mod StepCounts
 pub mod PartEdits
 pub mod PartLines
 pub mod Rests
+pub mod WindowEnds
