@@ -40,3 +40,4 @@ pub mod StepCounts
 pub mod PartEdits
 pub mod PartLines
 pub mod Rests
+pub mod WindowEnds

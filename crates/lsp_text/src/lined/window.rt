@@ -347,10 +347,10 @@ fn up_to_place(end: LineEnd<'_>, place: usize) -> LineEnd<'_>
     requires within { end.after ≤ place }
     requires boundary { place - end.after < length end.rest.now
         → IsCharBoundary end.rest.now (place - end.after) }
-    ensures at { result.at ≡ end.at }
-    ensures after { result.after ≡ end.after }
-    ensures rest { result.rest.now ≡ take (place - end.after) end.rest.now }
-    ensures plain { result.is_plain ≡ end.is_plain }
+    ensures at { result.at ≡ end.entry.at }
+    ensures after { result.after ≡ end.entry.after }
+    ensures rest { result.rest.now ≡ take (place - end.entry.after) end.entry.rest.now }
+    ensures plain { result.is_plain ≡ end.entry.is_plain }
 {
     LineEnd {
         at: end.at,
@@ -365,7 +365,7 @@ fn moved(end: LineEnd<'_>, nearer: usize, further: usize) -> LineEnd<'_>
     requires at { nearer ≤ end.at }
     requires order { end.at ≤ end.after }
     requires fits { end.after - nearer + further < 2 ^ 64 }
-    ensures { result ≡ moved_end further (nearer_end nearer end) }
+    ensures { result ≡ moved_end further (nearer_end nearer end.entry) }
 {
     LineEnd {
         at: end.at - nearer + further,
