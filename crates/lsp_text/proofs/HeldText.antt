@@ -1,4 +1,4 @@
--- What the chunks of a text and their sums say of it.
+-- What the sums of a held text say of it.
 use Rattle.std.proofs.Common.{◌≡◌, ◌<◌, ◌≤◌, ◌+◌, ◌-◌, ◌^◌, ℕ, true, List, [], length, map, drop}
 use Rattle.std.proofs.Common.{min, refl, sym, ap, subst, ◌∙◌, arith}
 use Rattle.std.proofs.lemmas.List.{map-id}
@@ -10,10 +10,9 @@ use Rattle.lsp_text.specs.Offsets.{IsAtLine}
 use Rattle.lsp_text.specs.Ends.{ends_in, IsNear, IsLineEnd}
 use Rattle.lsp_text.specs.Sums.{sums_of}
 use Rattle.lsp_text.specs.Steps.{line_number}
-use Rattle.lsp_text.specs.Parts.{joined, AreParts}
-use Rattle.lsp_text.specs.HeldLines.{AreHeld}
+use Rattle.lsp_text.specs.Windows.{pieces_of, text_with, IsWindowed}
 use Rattle.lsp_text.specs.LentLines.{IsEndOf, IsHeldLine, IsLentLine}
-use Rattle.lsp_text.specs.declared.lined.lines.Lines.TheInside.{Inside}
+use Rattle.lsp_text.specs.declared.lined.window.Windowed.{Windowed}
 use Rattle.lsp_text.specs.declared.sums.Sums.{Sums}
 use Rattle.lsp_text.specs.declared.part.LineEnd.{LineEnd}
 use Rattle.lsp_text.specs.declared.lined.lines.LentLine.{LentLine}
@@ -21,8 +20,8 @@ use Rattle.lsp_text.proofs.EndCounts.{lines_counted, sums_at_most}
 use Rattle.lsp_text.proofs.Parts.{IsUtf8-joined}
 use Rattle.lsp_text.proofs.EndsInLines.{at_line, end_of_line, last_end, line_between}
 
--- chunks with their sums, and the text that they make
-pub record Holds (ps : List (List ℕ)) (s : Sums) (bs : List ℕ) : Type 0 where
+-- a text that is held, and its sums
+pub record Holds (s : Sums) (bs : List ℕ) : Type 0 where
   pub utf8 : IsUtf8 bs
   pub ends : s.ends ≡ ends_in bs
   pub bytes : s.bytes ≡ length bs
@@ -30,15 +29,11 @@ pub record Holds (ps : List (List ℕ)) (s : Sums) (bs : List ℕ) : Type 0 wher
   pub most : s.ends ≤ s.bytes
   pub fits : s.bytes < 2 ^ 64 - 1
 
-pub holds : (a : Inside) (bs : List ℕ) → AreHeld a → joined a.chunks.items ≡ bs
-    → Holds a.chunks.items a.sums bs
-holds a bs k is =
-    let ps = a.chunks.items in
-    let s = a.sums in
-    let h = k.parts in
-    let sums = k.sums in
-    let u : IsUtf8 bs = subst IsUtf8 is (IsUtf8-joined ps h) in
-    let counted : s ≡ sums_of bs = sums ∙ ap sums_of is in
+pub holds : (w : Windowed) (bs : List ℕ) → IsWindowed w → text_with w ≡ bs → Holds w.sums bs
+holds w bs k is =
+    let s = w.sums in
+    let u : IsUtf8 bs = subst IsUtf8 is (IsUtf8-joined (pieces_of w) k.parts) in
+    let counted : s ≡ sums_of bs = k.sums ∙ ap sums_of is in
     let ends : s.ends ≡ ends_in bs = ap (λ (x : Sums). x.ends) counted in
     let bytes : s.bytes ≡ length bs = ap (λ (x : Sums). x.bytes) counted in
     record {
@@ -50,20 +45,20 @@ holds a bs k is =
       fits = omega (arith, k.fits, ap length is);
     }
 
-pub number_held : (ps : List (List ℕ)) (s : Sums) (bs : List ℕ) (p : Position) (n : ℕ)
-    → Holds ps s bs → n ≡ min p.line s.ends → n ≡ line_number (chars bs) p
-number_held ps s bs p n h is =
+pub number_held : (s : Sums) (bs : List ℕ) (p : Position) (n : ℕ) → Holds s bs
+    → n ≡ min p.line s.ends → n ≡ line_number (chars bs) p
+number_held s bs p n h is =
     is ∙ ap (min p.line) (let e : s.ends ≡ length (lines_of (chars bs)) - 1 =
     omega (arith, h.lines) in e)
 
-pub end_of_last : (ps : List (List ℕ)) (s : Sums) (bs : List ℕ) (i : ℕ) → Holds ps s bs → i ≡ s.ends
+pub end_of_last : (s : Sums) (bs : List ℕ) (i : ℕ) → Holds s bs → i ≡ s.ends
     → IsEndOf bs i s.bytes s.bytes
-end_of_last ps s bs i h is =
+end_of_last s bs i h is =
     subst (λ (n : ℕ). IsEndOf bs i n n) (sym h.bytes)
     (subst (λ (n : ℕ). IsEndOf bs n (length bs) (length bs)) (sym (is ∙ h.ends))
     (last_end bs h.utf8))
 
--- the end of a line, found in the chunks
+-- the end of a line, found in the text
 pub end_in : (bs whole : List ℕ) (i : ℕ) (e : LineEnd) → IsUtf8 bs → whole ≡ bs
     → IsLineEnd whole i e → IsEndOf bs i e.at e.after
 end_in bs whole i e u is h = end_of_line bs i e u (subst (λ (x : List ℕ). IsLineEnd x i e) is h)
@@ -88,21 +83,16 @@ near_none bs = record {
   plain = λ p. ap length chars-nil;
 }
 
-pub lent : (ps : List (List ℕ)) (bs : List ℕ) (i : ℕ) (l : LentLine) → AreParts ps → 0 < length ps
-    → length (joined ps) < 2 ^ 64 → l.sums ≡ sums_of (joined ps) → joined ps ≡ bs
-    → l.chunks.now ≡ ps → i < length (lines_of (chars bs)) →
-    IsAtLine bs i l.start (drop l.start bs) → IsNear (drop l.start bs) l.near.now l.is_plain
-    → IsEndOf bs i l.end l.after → IsLentLine bs i l
-lent ps bs i l h some fits sums is chunks number at near end =
-    let u : IsUtf8 bs = subst IsUtf8 is (IsUtf8-joined ps h) in
+pub lent : (w : Windowed) (bs : List ℕ) (i : ℕ) (l : LentLine) → IsWindowed w → text_with w ≡ bs
+    → l.held.now ≡ w → i < length (lines_of (chars bs)) → IsAtLine bs i l.start (drop l.start bs)
+    → IsNear (drop l.start bs) l.near.now l.is_plain → IsEndOf bs i l.end l.after → IsLentLine bs i l
+lent w bs i l h is same number at near end =
+    let u : IsUtf8 bs = (holds w bs h is).utf8 in
     let between = line_between bs i l.start l.end l.after u at end in
-    let text : joined l.chunks.now ≡ bs = ap joined chunks ∙ is in
+    let text : text_with l.held.now ≡ bs = ap text_with same ∙ is in
     let held : IsHeldLine l =
     record {
-      parts = subst AreParts (sym chunks) h;
-      some = subst (λ (x : List (List ℕ)). 0 < length x) (sym chunks) some;
-      fits = subst (λ (x : List (List ℕ)). length (joined x) < 2 ^ 64) (sym chunks) fits;
-      sums = sums ∙ ap (λ (x : List (List ℕ)). sums_of (joined x)) (sym chunks);
+      held = subst IsWindowed (sym same) h;
       order = between.order;
       start = subst (λ (x : List ℕ). IsCharBoundary x l.start) (sym text) at.boundary;
       end = subst (λ (x : List ℕ). IsCharBoundary x l.end) (sym text) end.end;
@@ -117,11 +107,3 @@ lent ps bs i l h some fits sums is chunks number at near end =
       after = end.after;
       line = between.line;
     }
-
--- chunks as a slice, each seen as its bytes
-pub same_parts : (ps xs : List (List ℕ)) → xs ≡ ps → map (λ (b : List ℕ). b) xs ≡ ps
-same_parts ps xs is = map-id xs ∙ is
-
-pub same_text : (ps xs : List (List ℕ)) (bs : List ℕ) → xs ≡ ps → joined ps ≡ bs
-    → joined (map (λ (b : List ℕ). b) xs) ≡ bs
-same_text ps xs bs is text = ap joined (same_parts ps xs is) ∙ text

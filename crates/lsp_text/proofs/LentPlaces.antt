@@ -26,7 +26,7 @@ use Rattle.lsp_text.specs.Steps.{line_bytes, line_number}
 use Rattle.lsp_text.specs.LentLines.{IsOffsetFrom, NoOffsetFrom, IsOffsetIn}
 use Rattle.lsp_text.specs.Parts.{bytes_between}
 use Rattle.lsp_text.specs.LentLines.{NoOffsetIn, IsHeldLine, IsLentLine}
-use Rattle.lsp_text.specs.Parts.{joined}
+use Rattle.lsp_text.specs.Windows.{pieces_of, text_with}
 use Rattle.lsp_text.specs.declared.lined.lines.LentLine.{LentLine}
 use Rattle.lsp_text.proofs.PartPlaces.{place_in_line-before}
 use Rattle.lsp_text.proofs.PlainTexts.{offset_at_end, plain_offset, plain_part}
@@ -306,8 +306,11 @@ lent_bytes bs i l u h =
       units-append Utf8 (chars m) (chars e),
     )
 
+pub held_utf8 : (l : LentLine) → IsHeldLine l → IsUtf8 (text_with l.held.now)
+held_utf8 l h = IsUtf8-joined (pieces_of l.held.now) h.held.parts
+
 pub lent_utf8 : (bs : List ℕ) (i : ℕ) (l : LentLine) → IsLentLine bs i l → IsUtf8 bs
-lent_utf8 bs i l h = subst IsUtf8 h.text (IsUtf8-joined l.chunks.now h.held.parts)
+lent_utf8 bs i l h = subst IsUtf8 h.text (held_utf8 l h.held)
 
 -- a position in a lent line, or that it lies inside a character
 pub found_in_lent : (enc : Encoding) (bs : List ℕ) (p : Position) (i : ℕ) (l : LentLine)
@@ -326,23 +329,23 @@ pub same_number : (t : List ℕ) (p : Position) (n : ℕ) → n ≡ line_number 
     → n ≡ p.line
 same_number t p n is le = omega arith
 
--- ---- a line of chunks
+-- ---- a line of what is held
 
--- the units before and through a line, in the text of its chunks
+-- the units before and through a line, in the text that is held
 pub record IsFarLine (enc : Encoding) (l : LentLine) (before through : ℕ) : Type 0 where
-  pub utf8 : IsUtf8 (joined l.chunks.now)
-  pub before_is : before ≡ units enc (chars (take l.start (joined l.chunks.now)))
-  pub through_is : through ≡ units enc (chars (take l.end (joined l.chunks.now)))
+  pub utf8 : IsUtf8 (text_with l.held.now)
+  pub before_is : before ≡ units enc (chars (take l.start (text_with l.held.now)))
+  pub through_is : through ≡ units enc (chars (take l.end (text_with l.held.now)))
   pub order : before ≤ through
-  pub most : through ≤ length (joined l.chunks.now)
+  pub most : through ≤ length (text_with l.held.now)
 
 pub far_line : (enc : Encoding) (l : LentLine) (before through : ℕ) → IsHeldLine l
-    → before ≡ units enc (chars (take l.start (joined l.chunks.now)))
-    → through ≡ units enc (chars (take l.end (joined l.chunks.now)))
+    → before ≡ units enc (chars (take l.start (text_with l.held.now)))
+    → through ≡ units enc (chars (take l.end (text_with l.held.now)))
     → IsFarLine enc l before through
 far_line enc l before through h b t =
-    let bs = joined l.chunks.now in
-    let u = IsUtf8-joined l.chunks.now h.parts in
+    let bs = text_with l.held.now in
+    let u = held_utf8 l h in
     let a = around bs l.start l.end u h.order h.start h.end in
     record {
       utf8 = u;
@@ -355,39 +358,39 @@ far_line enc l before through h b t =
         ap (units enc) a.chars_to,
         units-append enc (chars (take l.start bs)) (chars (bytes_between bs l.start l.end)),
       );
-      most = omega (arith, t, units_fit enc l.chunks.now l.end h.parts h.end);
+      most = omega (arith, t, units_fit enc (pieces_of l.held.now) l.end h.held.parts h.end);
     }
 
 pub past_far : (enc : Encoding) (l : LentLine) (column before through : ℕ) → IsHeldLine l
     → IsFarLine enc l before through → through - before ≤ column → IsOffsetIn enc l column l.end
 past_far enc l column before through h f le =
-    far_end enc (joined l.chunks.now) l.start l.end column before through f.utf8 h.order h.start
+    far_end enc (text_with l.held.now) l.start l.end column before through f.utf8 h.order h.start
     h.end f.before_is f.through_is le
 
 pub in_far : (enc : Encoding) (l : LentLine) (column before through : ℕ) (text : List ℕ)
     (r : Option ℕ) → IsHeldLine l → IsFarLine enc l before through → column < through - before
-    → text ≡ joined l.chunks.now →
+    → text ≡ text_with l.held.now →
     MatchOption r (place_in_line enc (chars text) (before + column) ≡ None)
     (IsOffset enc text (before + column))
     → MatchOption r (NoOffsetIn enc l column) (IsOffsetIn enc l column)
 in_far enc l column before through text None h f lt same none =
-    far_none enc (joined l.chunks.now) l.start l.end column before through f.utf8 h.order h.start
+    far_none enc (text_with l.held.now) l.start l.end column before through f.utf8 h.order h.start
     h.end f.before_is f.through_is lt
     (ap (λ (x : List ℕ). place_in_line enc (chars x) (before + column)) (sym same) ∙ none)
 in_far enc l column before through text (Some offset) h f lt same o =
-    far_offset enc (joined l.chunks.now) l.start l.end column before through offset f.utf8 h.order
+    far_offset enc (text_with l.held.now) l.start l.end column before through offset f.utf8 h.order
     h.start h.end f.before_is f.through_is lt
     (subst (λ (x : List ℕ). IsOffset enc x (before + column) offset) same o)
 
 -- a line that stands near
 pub near_in : (l : LentLine) → IsHeldLine l → l.end - l.start ≤ length l.near.now
-    → IsNearLine (joined l.chunks.now) l.start l.end l.near.now l.is_plain
-near_in l h within = near_line (joined l.chunks.now) l.start l.end l.near.now l.is_plain
-    (IsUtf8-joined l.chunks.now h.parts) h.order h.start h.end h.near within
+    → IsNearLine (text_with l.held.now) l.start l.end l.near.now l.is_plain
+near_in l h within = near_line (text_with l.held.now) l.start l.end l.near.now l.is_plain
+    (held_utf8 l h) h.order h.start h.end h.near within
 
 pub plain_in : (enc : Encoding) (l : LentLine) (column offset : ℕ) → IsHeldLine l
     → l.end - l.start ≤ length l.near.now → l.is_plain ≡ true
     → offset ≡ min (l.end - l.start) column → IsOffsetIn enc l column (l.start + offset)
 plain_in enc l column offset h within p is =
-    near_plain enc (joined l.chunks.now) l.start l.end column offset l.near.now l.is_plain
-    (IsUtf8-joined l.chunks.now h.parts) h.order h.start h.end h.near within p is
+    near_plain enc (text_with l.held.now) l.start l.end column offset l.near.now l.is_plain
+    (held_utf8 l h) h.order h.start h.end h.near within p is

@@ -39,3 +39,5 @@ pub mod StepCounts
 pub mod PartEdits
 pub mod PartLines
 pub mod WindowEnds
+pub mod Rests
+pub mod WindowPlaces

@@ -14,7 +14,7 @@ use Rattle.lsp_text.proofs.Parts.{ends_with_return-append, has_part, joined-more
 use Rattle.lsp_text.proofs.PartSteps.{part_text, below_map}
 
 -- two texts that part no CR LF
-feeds-joins : (a b : List ℕ) → joins a b ≡ false
+pub feeds-joins : (a b : List ℕ) → joins a b ≡ false
     → with_feeds (a ++ b) ≡ with_feeds a ++ with_feeds b
 feeds-joins a b h = with_feeds-append a b (λ e. rw (returns e) at h)
   where

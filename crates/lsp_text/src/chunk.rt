@@ -1,8 +1,9 @@
 //! Parts in chunks, which texts share: blocks, or smaller chunks.
 
-ghost use Rattle.std.specs.Prelude.{◌≡◌, ◌<◌, ◌^◌, ◌++◌, length, map, take, drop, IfOk, OnErr};
+ghost use Rattle.std.specs.Prelude.{◌≡◌, ◌<◌, ◌^◌, ◌++◌, length, map, take, drop, IfOk, OnOk, OnErr};
+ghost use Rattle.std.specs.List.{replace_range};
 ghost use Rattle.std.specs.Str.{IsCharBoundary};
-ghost use Rattle.lsp_text.specs.Parts.{joined, MakeUp, AreKept, CanReplaceIn};
+ghost use Rattle.lsp_text.specs.Parts.{joined, MakeUp, AreKept, CanReplace, CanReplaceIn};
 ghost use Rattle.lsp_text.specs.Chunks.{TakesOr};
 
 use crate::part::{

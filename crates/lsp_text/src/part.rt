@@ -14,7 +14,7 @@ ghost use Rattle.lsp_text.specs.Parts.{joined, MakeUp, AreParts, CanReplace, IsR
 ghost use Rattle.lsp_text.specs.Parts.{CanReplaceIn, IsReplacedIn, IsReplacedInOr, IsFound};
 ghost use Rattle.lsp_text.specs.Parts.{IsFoundBefore, IsSpot, IsSeam, IsSpan, bytes_between};
 
-use crate::same::{LinesLeft, take_lines};
+use crate::same::{LinesLeft, after, take_lines};
 use crate::sums::{Measure, Sums};
 use lsp_types::Encoding;
 use std::alloc::{AllocError, Global};
@@ -466,7 +466,7 @@ pub(crate) fn strip_between<'a, T: Part>(
     let mut rest = whole;
     while at < to {
         let piece = first_bytes(part.rest_of_block(at), to - at);
-        rest = rest.strip_prefix(piece)?;
+        rest = after(rest, piece)?;
         at += piece.len();
     }
     Some(rest)

@@ -1,7 +1,7 @@
-use Rattle.std.proofs.Common.{ℕ, List, map, drop, false, sym, subst}
+use Rattle.std.proofs.Common.{ℕ, List, map, drop, sym, subst}
 use Rattle.std.specs.Str.{IsCharBoundary}
-use Rattle.lsp_text.specs.Ends.{IsNear}
-use Rattle.lsp_text.proofs.FurtherPlaces.{found_near}
+use Rattle.lsp_text.specs.Ends.{IsRest}
+use Rattle.lsp_text.proofs.Rests.{found_rest}
 use Rattle.lsp_text.proofs.PartPlaces.{found_units}
 use Rattle.lsp_text.proofs.PartEdits.{part_of_found}
 use Rattle.lsp_text.proofs.part.rest_in.Goals as goal
@@ -24,6 +24,6 @@ returns g c =
     let found = c.find-found in
     let text = part_of_found f c.args.parts.now found.result.index c.index-parts-found.result
     found.ensures.index c.index-parts-found.is in
-    found_near ps c.args.offset found.result _ c.requires.parts found.ensures c.requires.boundary
-    (subst (λ (x : List ℕ). IsNear (drop found.result.left x) c.rest_of_block.result.now false)
-    text c.rest_of_block.ensures)
+    found_rest ps c.args.offset found.result _ c.requires.parts found.ensures c.requires.boundary
+    (subst (λ (x : List ℕ). IsRest (drop found.result.left x) c.rest_of_block.result.now) text
+    c.rest_of_block.ensures)

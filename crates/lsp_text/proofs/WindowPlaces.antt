@@ -1,0 +1,1 @@
+-- Places of a text of which a window holds some bytes.
