@@ -41,3 +41,6 @@ pub mod PartEdits
 pub mod PartLines
 pub mod Rests
 pub mod WindowEnds
+pub mod WindowEnds
+pub mod Rests
+pub mod WindowPlaces

@@ -134,7 +134,7 @@ end_at-inside a p c at len b h =
       apart = ap (λ (x : List ℕ). joins x (drop (length a + at) (a ++ (p ++ c)))) front ∙ ap (joins (a ++ take at p)) rest ∙ joins-farther a (take at p) (d ++ c) far near;
     }
 
-near-append : (bs c near : List ℕ) (plain : Bool) → IsNear bs near plain → IsNear (bs ++ c) near plain
+pub near-append : (bs c near : List ℕ) (plain : Bool) → IsNear bs near plain → IsNear (bs ++ c) near plain
 near-append bs c near plain h =
     record { utf8 = h.utf8; more = h.more ++ c; begins = ap (λ (x : List ℕ). x ++ c) h.begins ∙ append_assoc near h.more c; plain = h.plain }
 
@@ -178,7 +178,7 @@ place_in_line-before enc (x ∷ xs) ys left le =
     (λ (ge : n ≤ left). ap (found_behind left n) (place_in_line-before enc xs ys (left - n) (omega arith)))
     (cases_lt left n)
 
-amount-units : (enc : Encoding) (bs : List ℕ) → IsUtf8 bs → amount (Units enc) bs ≡ units enc (chars bs)
+pub amount-units : (enc : Encoding) (bs : List ℕ) → IsUtf8 bs → amount (Units enc) bs ≡ units enc (chars bs)
 amount-units Utf8 bs u = sym (units-utf8_text bs u)
 amount-units Utf16 bs u = refl
 amount-units Utf32 bs u = sym (units-utf32 (chars bs))
@@ -188,7 +188,7 @@ pub record FallsIn (enc : Encoding) (a p c : List ℕ) (column left : ℕ) : Typ
   pub past : units enc (chars a) + left ≡ column
   pub inside : (left ≤ units enc (chars p)) ⊎ (c ≡ [])
 
-place-front : (enc : Encoding) (p c : List ℕ) (left : ℕ) → IsUtf8 p → (left ≤ units enc (chars p)) ⊎ (c ≡ []) → place_in_line enc (chars (p ++ c)) left ≡ place_in_line enc (chars p) left
+pub place-front : (enc : Encoding) (p c : List ℕ) (left : ℕ) → IsUtf8 p → (left ≤ units enc (chars p)) ⊎ (c ≡ []) → place_in_line enc (chars (p ++ c)) left ≡ place_in_line enc (chars p) left
 place-front enc p c left u h =
     ⊎_elim
     (λ (le : left ≤ units enc (chars p)). ap (λ (x : List ℕ). place_in_line enc x left) (chars-append p c u) ∙ place_in_line-before enc (chars p) (chars c) left le)

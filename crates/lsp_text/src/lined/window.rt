@@ -7,7 +7,7 @@
 //! the blocks.
 
 ghost use Rattle.std.specs.Prelude.{◌≡◌, ◌+◌, ◌-◌, ◌<◌, ◌≤◌, ◌^◌, ◌++◌, None, length, take};
-ghost use Rattle.std.specs.Prelude.{drop, IfOk, IfSome, OnOk, OnErr, IsTrue, MatchOption};
+ghost use Rattle.std.specs.Prelude.{drop, false, IfOk, IfSome, OnOk, OnErr, IsTrue, MatchOption};
 ghost use Rattle.std.specs.List.{replace_range};
 ghost use Rattle.std.specs.Str.{chars, IsCharBoundary};
 ghost use Rattle.std.specs.String.{string_bytes};
