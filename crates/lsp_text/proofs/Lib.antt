@@ -41,6 +41,4 @@ pub mod PartEdits
 pub mod PartLines
 pub mod Rests
 pub mod WindowEnds
-pub mod WindowEnds
-pub mod Rests
 pub mod WindowPlaces
