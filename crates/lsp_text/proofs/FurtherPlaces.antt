@@ -26,14 +26,9 @@ use Rattle.lsp_text.proofs.Splices.{chars-cut, units_some}
 use Rattle.lsp_text.specs.Ends.{IsNear}
 use Rattle.lsp_text.specs.LentLines.{IsFurther}
 use Rattle.lsp_text.specs.Parts.{bytes_between}
-use Rattle.lsp_text.specs.Parts.{joined, part_at, AreParts, IsFound}
-use Rattle.lsp_text.specs.declared.part.Found.{Found}
-use Rattle.lsp_text.specs.declared.sums.Measure.TheVariants.{Units}
 use Rattle.lsp_text.proofs.LentPlaces.{around}
-use Rattle.lsp_text.proofs.PartPlaces.{before_part, after_part, boundary-append, drop-inside}
-use Rattle.lsp_text.proofs.PartPlaces.{found_units}
+use Rattle.lsp_text.proofs.PartPlaces.{boundary-append}
 use Rattle.lsp_text.proofs.PartSteps.{IsUtf8-rest}
-use Rattle.lsp_text.proofs.Parts.{joined-at}
 
 -- nothing, or a LF or a CR and more
 abbrev EndsThere : List ℕ → Type 0
@@ -202,29 +197,6 @@ further_found enc bs p q first n (Some after) u at h some line column =
     offset_further enc bs p q first n after u at h some line column
 
 -- ---- what comes after a place in its block
-
-pub found_near : (ps : List (List ℕ)) (offset : ℕ) (f : Found) (near : List ℕ) → AreParts ps
-    → IsFound ps (Units Utf8) offset f → IsCharBoundary (joined ps) offset
-    → IsNear (drop f.left (part_at ps f.index)) near false
-    → IsNear (drop offset (joined ps)) near false
-found_near ps offset f near h k b n =
-    let i = f.index in
-    let a = before_part ps i in
-    let p = part_at ps i in
-    let c = after_part ps i in
-    let place = found_units ps offset f h k b in
-    let text : joined ps ≡ a ++ (p ++ c) = joined-at ps i k.index in
-    let at : offset ≡ length a + f.left =
-    sym (sym (ap (λ (m : ℕ). m + f.left) k.bytes_are) ∙ place.place) in
-    let cut : drop offset (joined ps) ≡ drop f.left p ++ c =
-    ap (λ (m : ℕ). drop m (joined ps)) at ∙ ap (drop (length a + f.left)) text
-    ∙ drop-inside a p c f.left place.within in
-    record {
-      utf8 = n.utf8;
-      more = n.more ++ c;
-      begins = cut ∙ ap (λ (x : List ℕ). x ++ c) n.begins ∙ append_assoc near n.more c;
-      plain = λ e. absurd (false≢true e);
-    }
 
 -- what is known where there is no answer
 pub whole_front : {X : Type 0} (o : Option X) (P : Type 0) (Q : X → Type 0) → is_some o ≡ false

@@ -9,6 +9,7 @@ pub mod Starts
 pub mod Denoting
 pub mod Edits
 pub mod Widths
+pub mod WindowEdits
 pub mod Blocks
 pub mod LineEnds
 pub mod SameTexts
@@ -41,3 +42,5 @@ pub mod PartLines
 pub mod WindowEnds
 pub mod Rests
 pub mod WindowPlaces
+pub mod Rests
+pub mod WindowEnds

@@ -2,7 +2,7 @@
 use Rattle.std.proofs.Common.{◌≡◌, ◌<◌, ◌≤◌, ◌+◌, ◌-◌, ℕ, true, false, List, [], ◌++◌, length, take}
 use Rattle.std.proofs.Common.{drop, get_or, refl, sym, ap, subst, ⊎_elim, ◌∙◌, arith}
 use Rattle.std.proofs.Common.{length-append, length-drop, append_assoc, take-add}
-use Rattle.std.proofs.lemmas.Bool.{false≢true, cases_lt, and_right}
+use Rattle.std.proofs.lemmas.Bool.{false≢true, cases_lt}
 use Rattle.std.proofs.lemmas.List.{append-nil, take-append-drop, take_all, take_at, drop_at}
 use Rattle.std.proofs.lemmas.List.{drop-drop, take-append-le, length-take-le, append_cancel_left}
 use Rattle.std.proofs.lemmas.List.{get_or_append_left, get_or-append_right}
@@ -11,7 +11,7 @@ use Rattle.std.proofs.lemmas.Str.{IsUtf8-take, IsUtf8-drop, IsUtf8-between}
 use Rattle.std.proofs.lemmas.Str.{IsCharBoundary-at_seam, IsCharBoundary-from_rest}
 use Rattle.std.proofs.lemmas.Str.{IsCharBoundary-from_take}
 use Rattle.lsp_types.specs.declared.position.Encoding.TheVariants.{Utf8}
-use Rattle.lsp_text.specs.Ends.{ends_in, ends_with_return, joins, places_behind}
+use Rattle.lsp_text.specs.Ends.{ends_in, joins, places_behind}
 use Rattle.lsp_text.specs.Ends.{IsCountUpTo, IsNear, IsRest}
 use Rattle.lsp_text.specs.SameText.{with_feeds, BeginsOtherwise}
 use Rattle.lsp_text.specs.Parts.{joined, part_at, AreParts, IsFound, IsSeam, IsSpan}
@@ -27,9 +27,7 @@ use Rattle.lsp_text.proofs.Parts.{IsUtf8-joined}
 use Rattle.lsp_text.proofs.PartPlaces.{before_part, after_part, after_last, part_between}
 use Rattle.lsp_text.proofs.PartPlaces.{take-inside, drop-inside, found_units}
 use Rattle.lsp_text.proofs.PartSteps.{IsUtf8-rest}
-
-joins-nothing : (a : List ℕ) → joins a [] ≡ false
-joins-nothing a = and_right (ends_with_return false a) false refl
+use Rattle.lsp_text.proofs.Spots.{joins-nothing}
 
 -- a text is all of the rest of it
 pub whole_rest : (bs : List ℕ) → IsUtf8 bs → IsRest bs bs
@@ -39,7 +37,7 @@ whole_rest bs u =
       more = [];
       begins = sym (append-nil bs);
       some = λ some. some;
-      apart = joins-nothing bs;
+      apart = joins-nothing bs [] refl;
     }
 
 -- the rest of a block stands near
@@ -170,10 +168,6 @@ between_split bs a b c first second =
     ap (λ (n : ℕ). take n (drop a bs)) sum ∙ take-add (b - a) (c - b) (drop a bs)
     ∙ ap (λ (x : List ℕ). bytes_between bs a b ++ take (c - b) x)
     (drop-drop (b - a) a bs ∙ ap (λ (n : ℕ). drop n bs) at)
-
-pub nothing_between : (bs : List ℕ) (a : ℕ) → bytes_between bs a a ≡ []
-nothing_between bs a =
-    let none : a - a ≡ 0 = omega arith in ap (λ (n : ℕ). take n (drop a bs)) none
 
 -- what is before a place that a text may be cut at stands apart from what is after it
 pub apart_between : (bs : List ℕ) (a b c : ℕ) → a ≤ b → b ≤ c → IsSeam bs b
@@ -425,7 +419,8 @@ count_up_to bs places offset count are seam h =
     let e : get_or places k 0 ≡ get_or second (k - k) 0 =
     ap (λ (xs : List ℕ). get_or xs k 0) split
     ∙ get_or-append_right first second k k 0 refl (omega arith) in
-    absurd (omega (arith, h.up_to k more, e, (places_within (0 + length a) b (k - k) some).0, size)))
+    let low = (places_within (0 + length a) b (k - k) some).0 in
+    absurd (omega (arith, h.up_to k more, e, low, size)))
     (λ (le : count ≤ length first). omega (arith, counted))
     (cases_lt (length first) count))
     (cases_lt count (length first))

@@ -31,7 +31,7 @@ joins-ends : (x y z c : List ℕ) → 0 < length z → joins (x ++ z) c ≡ join
 joins-ends x y [] c some = absurd (omega arith)
 joins-ends x y (b ∷ z) c some = ap (λ (v : Bool). v && starts_with_feed c) (ends_with_return-append false x (b ∷ z) ∙ sym (ends_with_return-append false y (b ∷ z)))
 
-joins-nothing : (a c : List ℕ) → c ≡ [] → joins a c ≡ false
+pub joins-nothing : (a c : List ℕ) → c ≡ [] → joins a c ≡ false
 joins-nothing a c e = ap (joins a) e ∙ and_right (ends_with_return false a) false refl
 
 nothing-joins : (a c : List ℕ) → a ≡ [] → joins a c ≡ false

@@ -9,7 +9,6 @@ ghost use Rattle.std.specs.String.{string_bytes};
 ghost use Rattle.lsp_text.specs.Places.{units, place_in_line};
 ghost use Rattle.lsp_text.specs.Offsets.{IsOffset};
 ghost use Rattle.lsp_text.specs.Ends.{ends_in, ends_with_return, moved_place, CanMove, IsLineEnd};
-ghost use Rattle.lsp_text.specs.Ends.{IsNear};
 ghost use Rattle.lsp_text.specs.Sums.{sums_of};
 ghost use Rattle.lsp_text.specs.SameText.{BeginsOtherwise, due, with_feeds};
 ghost use Rattle.lsp_text.specs.Parts.{CanReplace, IsReplacedOr, KeepsEnds};

@@ -105,10 +105,11 @@ impl Lines {
         requires { i < length (lines_of (chars self.now)) }
         ensures { IsLentLine self.now i result }
     {
+        let held = &self.held;
         if i == 0 {
             return self.line_from(0, 0, "", true);
         }
-        let before = self.held.line_end(i - 1);
+        let before = held.line_end(i - 1);
         self.line_from(i, before.after, before.rest, before.is_plain)
     }
 

@@ -101,11 +101,28 @@ impl Windowed {
             return Ok(());
         }
         self.close()?;
-        if self.is_near(from) && self.open(from, to)? && self.replace_inside(from, to, text)? {
+        if self.replace_near(from, to, text)? {
             return Ok(());
         }
         self.close()?;
         self.replace_apart(from, to, text)
+    }
+
+    /// Replaces some bytes by a text in a window that is opened about the edit, if that is near the
+    /// last one in the chunks and places for the window's ends are found. Answers whether it did.
+    fn replace_near(&mut self, from: usize, to: usize, text: &str) -> Result<bool, AllocError>
+        requires edit { CanEdit self.old from to text.now }
+        requires closed { IsClosed self.old }
+        ensures ok { IfOk result (HoldsTextOr (text_with self.old) from to text.now self.new) }
+        ensures err { OnErr result (HoldsText self.new (text_with self.old)) }
+    {
+        if !self.is_near(from) {
+            return Ok(false);
+        }
+        if !self.open(from, to)? {
+            return Ok(false);
+        }
+        self.replace_inside(from, to, text)
     }
 
     /// Whether a place is near the last edit in the chunks.
@@ -382,7 +399,8 @@ fn sums_before<T: Part>(part: &T, place: usize) -> Sums
 fn seam_before<T: Part>(part: &T, place: usize) -> Option<usize>
     ensures { IfSome result (IsSeam (T.text part.now)) }
 {
-    if place <= BEFORE {
+    let len = part.sums().bytes as usize;
+    if place.min(len) <= BEFORE {
         return Some(0);
     }
     seam_from(part, place - BEFORE)

@@ -1,6 +1,4 @@
-use Rattle.std.proofs.Common.{ap, arith}
-use Rattle.std.proofs.lemmas.List.{map-id}
-use Rattle.lsp_text.specs.Parts.{joined}
+use Rattle.std.proofs.Common.{refl, arith}
 use Rattle.lsp_text.proofs.LentPlaces.{IsFarLine, far_line, past_far, in_far}
 use Rattle.lsp_text.proofs.lined.lines.LentLine.offset_of_far.Goals as goal
 use Rattle.lsp_text.proofs.lined.lines.LentLine.offset_of_far.Goals.{After-units_before-through}
@@ -25,11 +23,11 @@ returns-then-through-before c =
 pub overflow_add-before : goal.overflow_add-before
 overflow_add-before c =
     let f = far (goal.at.overflow_add-before c).After-units_before-through in
-    record { fits = omega (arith, f.most, f.order, c.requires.fits, c.if-through-before.false) }
+    record { fits = omega (arith, f.most, f.order, c.requires.held.fits, c.if-through-before.false) }
 
 pub returns : goal.returns
 returns c =
     in_far c.args.encoding c.args.self.now c.args.column c.units_before-before.result
-    c.units_before-through.result _ c.offset_in.result c.requires
+    c.units_before-through.result _ c.offset_of.result c.requires
     (far (goal.at.returns c).After-units_before-through) c.if-through-before.false
-    (ap joined (map-id c.args.self.now.chunks.now)) c.offset_in.ensures
+    refl c.offset_of.ensures
