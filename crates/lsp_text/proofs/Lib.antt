@@ -39,8 +39,6 @@ pub mod Spots
 pub mod StepCounts
 pub mod PartEdits
 pub mod PartLines
-pub mod WindowEnds
 pub mod Rests
+pub mod WindowEnds
 pub mod WindowPlaces
-pub mod Rests
-pub mod WindowEnds
