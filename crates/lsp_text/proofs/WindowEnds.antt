@@ -22,7 +22,7 @@ use Rattle.lsp_text.specs.declared.lined.window.Windowed.{Windowed}
 use Rattle.lsp_text.proofs.Cuts.{last_is_return}
 use Rattle.lsp_text.proofs.LineBytes.{starts_with_feed-text}
 use Rattle.lsp_text.proofs.EndCounts.{ends_in-append, sums_at_most}
-use Rattle.lsp_text.proofs.EndsInLines.{ends_with_return-chars, end_within}
+use Rattle.lsp_text.proofs.EndsInLines.{ends_with_return-chars}
 use Rattle.lsp_text.proofs.Parts.{joins-front, joins-back, joins-farther}
 use Rattle.lsp_text.proofs.PartPlaces.{IsBetween, boundary-of_inside, line_end-inside}
 use Rattle.lsp_text.proofs.PartSteps.{IsUtf8-rest}

@@ -1,7 +1,7 @@
 -- Places of a text of which a window holds some bytes, and the text as it is read on.
 use Rattle.std.proofs.Common.{◌≡◌, ◌<◌, ◌≤◌, ◌+◌, ◌-◌, ◌^◌, ℕ, false, List, [], ◌++◌, length}
-use Rattle.std.proofs.Common.{take, drop, Option, Some, None, MatchOption, refl, sym, ap, subst, inl, inr}
-use Rattle.std.proofs.Common.{◌∙◌, arith, length-append, length-drop, append_assoc, take-add}
+use Rattle.std.proofs.Common.{take, drop, Option, Some, None, MatchOption, refl, sym, ap, subst}
+use Rattle.std.proofs.Common.{inl, inr, ◌∙◌, arith, length-append, length-drop, append_assoc, take-add}
 use Rattle.std.proofs.lemmas.Bool.{and_right}
 use Rattle.std.proofs.lemmas.List.{append-nil, append_cancel_left, take_all, drop_all}
 use Rattle.std.proofs.lemmas.List.{drop-drop, drop-append-le}
@@ -24,6 +24,7 @@ use Rattle.lsp_text.specs.declared.lined.window.Windowed.{Windowed}
 use Rattle.lsp_text.proofs.Counting.{units-append, units-utf8_text}
 use Rattle.lsp_text.proofs.LentPlaces.{far_offset, far_none}
 use Rattle.lsp_text.proofs.PartEdits.{units_fit}
+use Rattle.lsp_text.proofs.Parts.{IsUtf8-joined}
 use Rattle.lsp_text.proofs.PartLines.{feeds-joins}
 use Rattle.lsp_text.proofs.PartPlaces.{amount-units, near-append, place-front, offset-inside}
 use Rattle.lsp_text.proofs.PartPlaces.{no_offset-inside, units-inside, drop-inside}
@@ -49,6 +50,7 @@ pub record AreMeasured (w : Windowed) (enc : Encoding) (s : Sums) : Type 0 where
       ≡ units enc (chars (front_of w)) + units enc (chars w.window)
       + units enc (chars (back_of w))
   pub most : units enc (chars w.tree) ≤ length w.tree
+  pub fits : units enc (chars (text_with w)) < 2 ^ 64
 
 units_both : (enc : Encoding) (a c : List ℕ) → IsUtf8 a
     → units enc (chars (a ++ c)) ≡ units enc (chars a) + units enc (chars c)
@@ -80,6 +82,12 @@ measured w enc s h is =
           ∙ units_both enc (a ++ p) c v.back.front_utf8
           ∙ ap (λ (n : ℕ). n + units enc (chars c)) front;
       most = units_all enc w.tree h.utf8;
+      fits =
+          omega (
+            arith,
+            units_all enc (text_with w) (IsUtf8-joined (pieces_of w) h.parts),
+            h.fits,
+          );
     }
 
 -- ---- columns

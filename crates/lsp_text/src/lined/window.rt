@@ -33,6 +33,7 @@ pub(super) type Tree = Chunk<Chunk<Chunk<Block>>>;
 
 /// The bytes that a window has before an edit when it is opened, and those after it, at least.
 const BEFORE: usize = 128;
+
 const AFTER: usize = 384;
 
 /// The bytes of a window, at most.
@@ -222,7 +223,11 @@ impl Windowed {
             return moved(self.window.line_end(n), 0, start);
         }
         let end = self.tree.line_end(n - sums.ends + self.skipped.ends);
-        moved(end, self.skipped.bytes as usize, start + sums.bytes as usize)
+        moved(
+            end,
+            self.skipped.bytes as usize,
+            start + sums.bytes as usize,
+        )
     }
 
     /// The bytes before a column, as if the text were one line, or `None` where it lies inside a
@@ -267,7 +272,9 @@ impl Windowed {
         if place < len {
             return self.before.by(by) + self.window.units_before(encoding, place);
         }
-        let whole = self.tree.units_before(encoding, place - len + self.skipped.bytes as usize);
+        let whole = self
+            .tree
+            .units_before(encoding, place - len + self.skipped.bytes as usize);
         whole - self.skipped.by(by) + (self.before.by(by) + sums.by(by))
     }
 

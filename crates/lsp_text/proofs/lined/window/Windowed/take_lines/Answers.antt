@@ -1,5 +1,8 @@
-use Rattle.std.proofs.Common.{length, refl}
-use Rattle.lsp_text.proofs.WindowPlaces.{spans}
+use Rattle.std.proofs.Common.{length, refl, ap}
+use Rattle.lsp_text.specs.SameText.{due, with_feeds}
+use Rattle.lsp_text.specs.Parts.{bytes_between}
+use Rattle.lsp_text.specs.declared.sums.Sums.{Sums}
+use Rattle.lsp_text.proofs.WindowPlaces.{spans, first_differs, second_differs, third_found}
 use Rattle.lsp_text.proofs.lined.window.Windowed.take_lines.Goals as goal
 
 pub take_between-requires : goal.take_between-requires
@@ -7,10 +10,27 @@ take_between-requires c =
     (spans c.args.self.now (length c.args.self.now.tree) c.requires refl).first
 
 pub returns-in_err-left : goal.returns-in_err-left
-returns-in_err-left c = ?
+returns-in_err-left c =
+    let w = c.args.self.now in
+    let s = spans w (length w.tree) c.requires refl in
+    rw c.from_residual.ensures
+    (first_differs _ _ (with_feeds w.window)
+    (with_feeds (bytes_between w.tree w.skipped.bytes (length w.tree))) (due c.args.left) s.feeds
+    c.in_err-left.ensures)
 
 pub returns-in_err-left-2 : goal.returns-in_err-left-2
-returns-in_err-left-2 c = ?
+returns-in_err-left-2 c =
+    let w = c.args.self.now in
+    let s = spans w (length w.tree) c.requires refl in
+    rw c.from_residual-in_err-left-2.ensures
+    (second_differs _ _ _ _ (due c.args.left) (due c.in_ok-left.left) s.feeds
+    c.in_ok-left.ensures c.in_err-left-2.ensures)
 
 pub returns : goal.returns
-returns c = ?
+returns c =
+    let w = c.args.self.now in
+    let s = spans w c.sums.result.bytes c.requires
+    (ap (λ (x : Sums). x.bytes) c.sums.ensures.sums) in
+    third_found due _ _ _ _ (due c.args.left) (due c.in_ok-left.left) (due c.in_ok-left-2.left)
+    c.take_between-2.result s.feeds c.in_ok-left.ensures c.in_ok-left-2.ensures
+    c.take_between-2.ensures
