@@ -361,6 +361,20 @@ far_line enc l before through h b t =
       most = omega (arith, t, units_fit enc (pieces_of l.held.now) l.end h.held.parts h.end);
     }
 
+-- a column before the end of the line is within the text
+pub far_within : (enc : Encoding) (l : LentLine) (column before through : ℕ) → IsHeldLine l
+    → IsFarLine enc l before through → column < through - before
+    → before + column < units enc (chars (text_with l.held.now))
+far_within enc l column before through h f lt =
+    let bs = text_with l.held.now in
+    omega (
+      arith,
+      f.through_is,
+      f.order,
+      ap (units enc) (chars-cut bs l.end f.utf8 h.end),
+      units-append enc (chars (take l.end bs)) (chars (drop l.end bs)),
+    )
+
 pub past_far : (enc : Encoding) (l : LentLine) (column before through : ℕ) → IsHeldLine l
     → IsFarLine enc l before through → through - before ≤ column → IsOffsetIn enc l column l.end
 past_far enc l column before through h f le =

@@ -1,4 +1,4 @@
-use Rattle.std.proofs.Common.{◌≡◌, List, ℕ, ◌+◌, ◌++◌, length, map, take, drop, sym, ap, ◌∙◌}
+use Rattle.std.proofs.Common.{◌≡◌, ◌+◌, ◌++◌, map, take, drop, sym, ap, ◌∙◌}
 use Rattle.std.specs.List.{drop-map}
 use Rattle.std.proofs.lemmas.List.{map-append, take-map, take_rest}
 use Rattle.lsp_text.proofs.Recuts.{AreFound, first_cut, second_cut, cut_fits, cut_between}

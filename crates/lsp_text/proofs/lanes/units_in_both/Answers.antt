@@ -1,8 +1,8 @@
-use Rattle.std.proofs.Common.{ap, ap₂, sym, ◌∙◌, ◌+◌, arith, List, ℕ, map}
+use Rattle.std.proofs.Common.{ap, ap₂, sym, ◌∙◌, ◌+◌, arith}
 use Rattle.std.specs.List.{sum_by}
 use Rattle.std.specs.Simd.Lanes.{zip2}
 use Rattle.lsp_types.specs.declared.position.Encoding.{Encoding}
-use Rattle.lsp_types.specs.declared.position.Encoding.TheVariants.{Utf8, Utf16, Utf32}
+use Rattle.lsp_types.specs.declared.position.Encoding.TheVariants.{Utf16, Utf32}
 use Rattle.lsp_text.specs.Offsets.{byte_units}
 use Rattle.lsp_text.proofs.ByteUnits.{sum_utf8}
 use Rattle.lsp_text.proofs.Starts.{both_utf16_fit, both_utf32_fit, both_fit_in_sum, sum_of_both}

@@ -1,4 +1,3 @@
-use Rattle.std.proofs.Common.{◌++◌, ◌+◌, drop, map}
 use Rattle.lsp_text.specs.SameText.{due}
 use Rattle.lsp_text.proofs.PartLines.{next_taken, part_differs}
 use Rattle.lsp_text.proofs.part.take_all.Goals as goal

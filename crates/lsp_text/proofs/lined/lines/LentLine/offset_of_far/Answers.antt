@@ -1,5 +1,5 @@
 use Rattle.std.proofs.Common.{refl, arith}
-use Rattle.lsp_text.proofs.LentPlaces.{IsFarLine, far_line, past_far, in_far}
+use Rattle.lsp_text.proofs.LentPlaces.{IsFarLine, far_line, far_within, past_far, in_far}
 use Rattle.lsp_text.proofs.lined.lines.LentLine.offset_of_far.Goals as goal
 use Rattle.lsp_text.proofs.lined.lines.LentLine.offset_of_far.Goals.{After-units_before-through}
 
@@ -24,6 +24,13 @@ pub overflow_add-before : goal.overflow_add-before
 overflow_add-before c =
     let f = far (goal.at.overflow_add-before c).After-units_before-through in
     record { fits = omega (arith, f.most, f.order, c.requires.held.fits, c.if-through-before.false) }
+
+pub offset_of-requires-clause-within : goal.offset_of-requires-clause-within
+offset_of-requires-clause-within c =
+    far_within c.args.encoding c.args.self.now c.args.column c.units_before-before.result
+    c.units_before-through.result c.requires
+    (far (goal.at.offset_of-requires-clause-within c).After-units_before-through)
+    c.if-through-before.false
 
 pub returns : goal.returns
 returns c =

@@ -1,4 +1,4 @@
-use Rattle.std.proofs.Common.{ℕ, List, take, ap, sym, ◌∙◌}
+use Rattle.std.proofs.Common.{ℕ, take, ap, sym, ◌∙◌}
 use Rattle.std.proofs.lemmas.Str.{chars-nil}
 use Rattle.std.specs.Str.{chars}
 use Rattle.lsp_text.specs.Places.{units}

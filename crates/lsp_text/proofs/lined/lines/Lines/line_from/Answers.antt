@@ -1,5 +1,4 @@
 use Rattle.std.proofs.Common.{refl}
-use Rattle.lsp_text.specs.declared.lined.lines.LentLine.{LentLine}
 use Rattle.lsp_text.proofs.HeldText.{lent}
 use Rattle.lsp_text.proofs.lined.lines.Lines.line_from.Goals as goal
 
