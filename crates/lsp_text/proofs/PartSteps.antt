@@ -1,7 +1,7 @@
 -- One part more, in loops over parts.
 use Rattle.std.proofs.Common.{◌≡◌, ◌⊎◌, ◌<◌, ◌≤◌, ◌+◌, ◌-◌, ℕ, false, List, [], ◌∷◌, ◌++◌, length, map, take, drop, get_or, zero, suc, refl, sym, ap, subst, ◌∙◌, inl, inr, ⊎_elim, arith, length-append, append_assoc}
 use Rattle.std.specs.List.{sum_by}
-use Rattle.std.proofs.lemmas.List.{append-nil, append_cancel_left, take-append-drop, take_more, length-map, drop_all}
+use Rattle.std.proofs.lemmas.List.{append-nil, take-append-drop, take_more, length-map, drop_all}
 use Rattle.std.proofs.lemmas.List.Sums.{sum_by-cons, sum_by-append}
 use Rattle.std.proofs.lemmas.Bool.{cases_lt}
 use Rattle.std.specs.Str.{chars, IsUtf8}
@@ -157,12 +157,6 @@ sums_next f xs i x s t h lt is sums counted =
 
 -- ---- writing and stripping
 
-pub written_next : {X : Type 0} (f : X → List ℕ) (xs : List X) (i : ℕ) (x : X) (old out new : List ℕ) → i < length xs → x ≡ get_or xs i x → out ≡ old ++ joined (take i (map f xs)) → new ≡ out ++ f x →
-    new ≡ old ++ joined (take (i + 1) (map f xs))
-written_next f xs i x old out new lt is before e =
-    e ∙ ap (λ (t : List ℕ). t ++ f x) before ∙ append_assoc old (joined (take i (map f xs))) (f x)
-    ∙ ap (λ (t : List ℕ). old ++ (joined (take i (map f xs)) ++ t)) (part_text f xs i x lt is) ∙ ap (λ (t : List ℕ). old ++ t) (sym (joined-more (map f xs) i (below_map f xs i lt)))
-
 utf8_past : (cs bs rest : List ℕ) → IsUtf8 bs → bs ≡ encodes cs ++ rest → IsUtf8 rest
 utf8_past [] bs rest u is = subst IsUtf8 is u
 utf8_past (c ∷ cs) bs rest u is =
@@ -171,24 +165,3 @@ utf8_past (c ∷ cs) bs rest u is =
 -- what comes after a text in a text
 pub IsUtf8-rest : (a bs rest : List ℕ) → IsUtf8 a → IsUtf8 bs → bs ≡ a ++ rest → IsUtf8 rest
 IsUtf8-rest a bs rest ua u is = utf8_past (chars a) bs rest u (is ∙ ap (λ (x : List ℕ). x ++ rest) (sym (encodes-chars a ua)))
-
-pub part_utf8 : {X : Type 0} (f : X → List ℕ) (xs : List X) (i : ℕ) (x : X) → AreParts (map f xs) → i < length xs → x ≡ get_or xs i x → IsUtf8 (f x)
-part_utf8 f xs i x h lt is = subst IsUtf8 (sym (part_text f xs i x lt is)) (has_part (map f xs) i h (below_map f xs i lt)).utf8
-
-pub stripped_next : {X : Type 0} (f : X → List ℕ) (xs : List X) (i : ℕ) (x : X) (whole rest new : List ℕ) → i < length xs → x ≡ get_or xs i x → whole ≡ joined (take i (map f xs)) ++ rest → rest ≡ f x ++ new →
-    whole ≡ joined (take (i + 1) (map f xs)) ++ new
-stripped_next f xs i x whole rest new lt is before e =
-    let a = joined (take i (map f xs)) in
-    before ∙ ap (λ (t : List ℕ). a ++ t) e ∙ sym (append_assoc a (f x) new) ∙ ap (λ (t : List ℕ). (a ++ t) ++ new) (part_text f xs i x lt is)
-    ∙ ap (λ (t : List ℕ). t ++ new) (sym (joined-more (map f xs) i (below_map f xs i lt)))
-
--- if all parts came first, this one would come next
-pub goes_on : {X : Type 0} (f : X → List ℕ) (xs : List X) (i : ℕ) (x : X) (whole rest more : List ℕ) → i < length xs → x ≡ get_or xs i x → whole ≡ joined (take i (map f xs)) ++ rest →
-    whole ≡ joined (map f xs) ++ more → rest ≡ f x ++ (joined (drop (i + 1) (map f xs)) ++ more)
-goes_on f xs i x whole rest more lt is before all =
-    let ps = map f xs in
-    let a = joined (take i ps) in
-    let b = joined (drop (i + 1) ps) in
-    append_cancel_left a rest (f x ++ (b ++ more))
-    (sym before ∙ all ∙ ap (λ (t : List ℕ). t ++ more) (joined-at ps i (below_map f xs i lt)) ∙ append_assoc a (part_at ps i ++ b) more
-    ∙ ap (λ (t : List ℕ). a ++ t) (append_assoc (part_at ps i) b more) ∙ ap (λ (t : List ℕ). a ++ (t ++ (b ++ more))) (sym (part_text f xs i x lt is)))

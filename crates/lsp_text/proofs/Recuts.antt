@@ -1,6 +1,6 @@
 -- Parts that are put in chunks, and parts that are cut anew at an edit.
-use Rattle.std.proofs.Common.{◌≡◌, ◌<◌, ◌≤◌, ◌+◌, ◌^◌, ℕ, false, List, [], ◌∷◌, ◌++◌, length, map, take, drop, get_or, sym, ap, subst, ⊎_elim, ◌∙◌, arith, length-append, length-drop, append_assoc}
-use Rattle.std.specs.List.{replace_range, splice}
+use Rattle.std.proofs.Common.{◌≡◌, ◌<◌, ◌≤◌, ◌+◌, ◌^◌, ℕ, false, List, [], ◌∷◌, ◌++◌, length, map, take, drop, sym, ap, subst, ⊎_elim, ◌∙◌, arith, length-append, length-drop, append_assoc}
+use Rattle.std.specs.List.{splice}
 use Rattle.std.proofs.lemmas.Bool.{cases_lt}
 use Rattle.std.specs.List.{drop-map}
 use Rattle.std.proofs.lemmas.List.{take-append-drop, take-take, length-take-le, take-map, map-append}

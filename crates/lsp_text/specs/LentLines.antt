@@ -1,5 +1,5 @@
 -- What a lent line stands for.
-use Rattle.std.specs.Prelude.{◌≡◌, ◌<◌, ◌≤◌, ◌-◌, ◌^◌, ℕ, true, List, ◌++◌, length, take, drop}
+use Rattle.std.specs.Prelude.{◌≡◌, ◌<◌, ◌≤◌, ◌-◌, ℕ, true, List, ◌++◌, length, take, drop}
 use Rattle.std.specs.declared.option.Option.TheVariants.{None}
 use Rattle.std.specs.Str.{chars, IsCharBoundary}
 use Rattle.lsp_text.specs.Lines.{lines_of, line_at, text_of, has_no_line_end}

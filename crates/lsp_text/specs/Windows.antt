@@ -1,8 +1,7 @@
 -- A text in chunks, of which a window holds some bytes in another form.
-use Rattle.std.specs.Prelude.{◌≡◌, ◌<◌, ◌≤◌, ◌+◌, ◌-◌, ◌^◌, ◌⊎◌, ℕ, Bool, true, false, List, [], ◌∷◌, ◌++◌, length, take, drop}
+use Rattle.std.specs.Prelude.{◌≡◌, ◌<◌, ◌≤◌, ◌+◌, ◌-◌, ◌^◌, ℕ, Bool, true, false, List, [], ◌∷◌, length, take, drop}
 use Rattle.std.specs.List.{replace_range}
-use Rattle.std.specs.Str.{IsUtf8, IsCharBoundary}
-use Rattle.lsp_text.specs.Ends.{joins}
+use Rattle.std.specs.Str.{IsUtf8}
 use Rattle.lsp_text.specs.Sums.{sums_of}
 use Rattle.lsp_text.specs.Parts.{joined, AreParts, CanReplace, IsSeam}
 use Rattle.lsp_text.specs.declared.part.LineEnd.{LineEnd}

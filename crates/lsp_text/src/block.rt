@@ -18,7 +18,6 @@ use crate::columns::offset_in_counted;
 use crate::ends::{end_len_before, is_whole, move_places, places_of, places_up_to};
 use crate::part::{LineEnd, Part};
 use crate::reading::width_of;
-use crate::same::{LinesLeft, take_lines};
 use crate::sums::{Measure, Sums};
 use lsp_types::Encoding;
 use std::alloc::{AllocError, Global};
@@ -159,18 +158,6 @@ impl Part for Block {
         let (_, back) = last.as_str().split_at(to);
         let whole = in_one(alloc, front, inserted, back)?;
         Block::cut(alloc, whole.as_str())
-    }
-
-    fn push_to(&self, out: &mut String) -> Result<(), AllocError> {
-        out.push_str(self.as_str())
-    }
-
-    fn strip<'a>(&self, whole: &'a str) -> Option<&'a str> {
-        whole.strip_prefix(self.as_str())
-    }
-
-    fn take_lines<'a>(&self, left: LinesLeft<'a>) -> Option<LinesLeft<'a>> {
-        take_lines(left, self.as_str())
     }
 }
 

@@ -7,10 +7,9 @@ ghost use Rattle.lsp_text.specs.Parts.{joined, MakeUp, AreKept, CanReplace, CanR
 ghost use Rattle.lsp_text.specs.Chunks.{TakesOr};
 
 use crate::part::{
-    LineEnd, Part, ends_before_in, find, find_before, line_end_in, offset_in, push_all, replace_in,
-    replace_in_parts, rest_in, share_into, strip_all, sums_in, take_all, units_before_in,
+    LineEnd, Part, ends_before_in, find, find_before, line_end_in, offset_in, replace_in,
+    replace_in_parts, rest_in, share_into, sums_in, units_before_in,
 };
-use crate::same::LinesLeft;
 use crate::sums::{Measure, Sums};
 use lsp_types::Encoding;
 use std::alloc::{AllocError, Global};
@@ -124,18 +123,6 @@ impl<T: Part> Part for Chunk<T> {
             to,
         )?;
         chunks_of(alloc, &parts)
-    }
-
-    fn push_to(&self, out: &mut String) -> Result<(), AllocError> {
-        push_all(held(&self.parts), out)
-    }
-
-    fn strip<'a>(&self, whole: &'a str) -> Option<&'a str> {
-        strip_all(held(&self.parts), whole)
-    }
-
-    fn take_lines<'a>(&self, left: LinesLeft<'a>) -> Option<LinesLeft<'a>> {
-        take_all(held(&self.parts), left)
     }
 }
 

@@ -97,21 +97,6 @@ pub(crate) trait Part: Drop {
             ++ drop to (text last.now)) < 2 ^ 64 }
         ensures { IfOk result (λ parts. MakeUp (map text parts.items)
             ((take from (text first.now) ++ inserted.now) ++ drop to (text last.now))) };
-
-    /// Writes its text after another.
-    fn push_to(&self, out: &mut String) -> Result<(), AllocError>
-        ensures { OnOk result (string_bytes out.new ≡ string_bytes out.old ++ text self.now) };
-
-    /// What comes after its text in one that begins with it.
-    fn strip<'a>(&self, whole: &'a str) -> Option<&'a str>
-        ensures { MatchOption result (BeginsOtherwise (text self.now) whole.now)
-            (λ rest. whole.now ≡ text self.now ++ rest.now) };
-
-    /// What is left of a text after the lines of this one, if it begins with them.
-    fn take_lines<'a>(&self, left: LinesLeft<'a>) -> Option<LinesLeft<'a>>
-        ensures { MatchOption result
-            (BeginsOtherwise (with_feeds (text self.now)) (due left.entry))
-            (λ next. due left.entry ≡ with_feeds (text self.now) ++ due next) };
 }
 
 /// A part in which a number of some measure falls: its index, the bytes before it, and what is left
@@ -367,44 +352,6 @@ pub(crate) fn rest_in<T: Part>(parts: &[T], offset: usize) -> &str
 {
     let found = find(parts, Measure::Units(Encoding::Utf8), offset as u64);
     parts[found.index].rest_of_block(found.left as usize)
-}
-
-/// Writes parts after a text.
-pub(crate) fn push_all<T: Part>(parts: &[T], out: &mut String) -> Result<(), AllocError>
-    ensures { OnOk result (string_bytes out.new ≡ string_bytes out.old
-        ++ joined (map T.text parts.now)) }
-{
-    for part in parts {
-        part.push_to(out)?;
-    }
-    Ok(())
-}
-
-/// What comes after parts in a text that begins with them.
-pub(crate) fn strip_all<'a, T: Part>(parts: &[T], whole: &'a str) -> Option<&'a str>
-    requires { AreParts (map T.text parts.now) }
-    ensures { MatchOption result (BeginsOtherwise (joined (map T.text parts.now)) whole.now)
-        (λ rest. whole.now ≡ joined (map T.text parts.now) ++ rest.now) }
-{
-    let mut rest = whole;
-    for part in parts {
-        rest = part.strip(rest)?;
-    }
-    Some(rest)
-}
-
-/// What is left of a text after the lines of parts, if it begins with them.
-pub(crate) fn take_all<'a, T: Part>(parts: &[T], left: LinesLeft<'a>) -> Option<LinesLeft<'a>>
-    requires { AreParts (map T.text parts.now) }
-    ensures { MatchOption result
-        (BeginsOtherwise (with_feeds (joined (map T.text parts.now))) (due left.entry))
-        (λ next. due left.entry ≡ with_feeds (joined (map T.text parts.now)) ++ due next) }
-{
-    let mut ahead = left;
-    for part in parts {
-        ahead = part.take_lines(ahead)?;
-    }
-    Some(ahead)
 }
 
 /// Puts the same parts after others, each held by one more.

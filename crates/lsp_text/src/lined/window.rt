@@ -17,13 +17,13 @@ ghost use Rattle.lsp_text.specs.Ends.{ends_in, IsLineEnd, IsNear};
 ghost use Rattle.lsp_text.specs.Sums.{sums_of};
 ghost use Rattle.lsp_text.specs.SameText.{BeginsOtherwise, due, with_feeds};
 ghost use Rattle.lsp_text.specs.Parts.{IsSeam};
-ghost use Rattle.lsp_text.specs.Windows.{text_with, moved_end, nearer_end, CanEdit, HoldsText, HoldsTextOr};
-ghost use Rattle.lsp_text.specs.Windows.{IsWindowed, IsClosed};
+ghost use Rattle.lsp_text.specs.Windows.{text_with, moved_end, nearer_end, IsWindowed, IsClosed};
+ghost use Rattle.lsp_text.specs.Windows.{CanEdit, HoldsText, HoldsTextOr};
 
 use crate::block::Block;
 use crate::chunk::Chunk;
 use crate::part::{LineEnd, Part, first_bytes, push_between, strip_between, take_between};
-use crate::same::LinesLeft;
+use crate::same::{LinesLeft, after, take_lines};
 use crate::sums::{Measure, Sums};
 use lsp_types::Encoding;
 use std::alloc::{AllocError, Global};
@@ -304,7 +304,7 @@ impl Windowed {
     {
         let tree = &self.tree;
         push_between(tree, 0, self.before.bytes as usize, out)?;
-        self.window.push_to(out)?;
+        out.push_str(self.window.as_str())?;
         push_between(
             tree,
             self.skipped.bytes as usize,
@@ -321,7 +321,7 @@ impl Windowed {
     {
         let tree = &self.tree;
         let rest = strip_between(tree, 0, self.before.bytes as usize, whole)?;
-        let rest = self.window.strip(rest)?;
+        let rest = after(rest, self.window.as_str())?;
         strip_between(
             tree,
             self.skipped.bytes as usize,
@@ -339,7 +339,7 @@ impl Windowed {
     {
         let tree = &self.tree;
         let left = take_between(tree, 0, self.before.bytes as usize, left)?;
-        let left = self.window.take_lines(left)?;
+        let left = take_lines(left, self.window.as_str())?;
         take_between(
             tree,
             self.skipped.bytes as usize,

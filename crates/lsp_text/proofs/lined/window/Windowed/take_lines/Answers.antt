@@ -1,5 +1,5 @@
-use Rattle.std.proofs.Common.{length, refl, ap}
-use Rattle.lsp_text.specs.SameText.{due, with_feeds}
+use Rattle.std.proofs.Common.{◌≡◌, ◌++◌, List, ℕ, length, refl, ap, subst, ◌∙◌}
+use Rattle.lsp_text.specs.SameText.{due, with_feeds, BeginsOtherwise}
 use Rattle.lsp_text.specs.Parts.{bytes_between}
 use Rattle.lsp_text.specs.declared.sums.Sums.{Sums}
 use Rattle.lsp_text.proofs.WindowPlaces.{spans, first_differs, second_differs, third_found}
@@ -23,14 +23,18 @@ returns-in_err-left-2 c =
     let w = c.args.self.now in
     let s = spans w (length w.tree) c.requires refl in
     rw c.from_residual-in_err-left-2.ensures
-    (second_differs _ _ _ _ (due c.args.left) (due c.in_ok-left.left) s.feeds
-    c.in_ok-left.ensures c.in_err-left-2.ensures)
+    (second_differs _ _ (with_feeds w.window) _ (due c.args.left) (due c.in_ok-left.left) s.feeds
+    c.in_ok-left.ensures
+    (subst (λ (x : List ℕ). BeginsOtherwise (with_feeds x) (due c.in_ok-left.left))
+    c.as_str.ensures c.in_err-left-2.ensures))
 
 pub returns : goal.returns
 returns c =
     let w = c.args.self.now in
     let s = spans w c.sums.result.bytes c.requires
     (ap (λ (x : Sums). x.bytes) c.sums.ensures.sums) in
-    third_found due _ _ _ _ (due c.args.left) (due c.in_ok-left.left) (due c.in_ok-left-2.left)
-    c.take_between-2.result s.feeds c.in_ok-left.ensures c.in_ok-left-2.ensures
-    c.take_between-2.ensures
+    let ahead = due c.in_ok-left-2.left in
+    let inside : due c.in_ok-left.left ≡ with_feeds w.window ++ ahead =
+    c.in_ok-left-2.ensures ∙ ap (λ (x : List ℕ). with_feeds x ++ ahead) c.as_str.ensures in
+    third_found due _ _ (with_feeds w.window) _ (due c.args.left) (due c.in_ok-left.left) ahead
+    c.take_between-2.result s.feeds c.in_ok-left.ensures inside c.take_between-2.ensures
