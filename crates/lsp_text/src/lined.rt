@@ -10,10 +10,10 @@
 //! again from the one before the edit to the one after it, so that a CR and a LF that it joins are
 //! in one block.
 //!
-//! An editor mostly makes one edit near another. From the second of these on they are made in a
-//! *window*: a short block beside the chunks, which stands in the place of some of their bytes. The
-//! chunks stay as they are meanwhile, and copies of the text share all of them. An edit elsewhere
-//! first puts the window's text into the chunks.
+//! Editors mostly make one edit near another. From the second of these on, they are made in a
+//! *window*: a short block apart from the chunks, which replaces some of their bytes. The chunks
+//! stay as they are meanwhile, and copies of the text share all of them. An edit elsewhere first
+//! puts the window's text into the chunks.
 //!
 //! The text `a`, 4,990 times `x`, LF, `b`, once a LF was put after the CR that followed the `a`:
 //!

@@ -1,10 +1,9 @@
-//! A text in chunks of blocks, and a window on it: a short text that stands in the place of some of
-//! its bytes.
+//! A text in chunks of blocks, and a window on it: a short text that replaces some of its bytes.
 //!
-//! Edits come one near another. The first of them is made in the blocks; from the second on they
-//! are made in a window about the place, so that the chunks and blocks stay as they are and copies
-//! of the text share them all. An edit elsewhere closes the window first, which puts its text into
-//! the blocks.
+//! Editors mostly make one edit near another. The first of them is made in the blocks; from the
+//! second on, they are made in a window around the place, so that the chunks and blocks stay as they
+//! are and copies of the text share them all. An edit elsewhere closes the window first, which puts
+//! its text into the blocks.
 
 ghost use Rattle.std.specs.Prelude.{◌≡◌, ◌+◌, ◌-◌, ◌<◌, ◌≤◌, ◌^◌, ◌++◌, None, length, take};
 ghost use Rattle.std.specs.Prelude.{drop, false, IfOk, IfSome, OnOk, OnErr, IsTrue, MatchOption};
@@ -90,7 +89,7 @@ impl Windowed {
     }
 
     /// Replaces some bytes by a text: in the window if the edit stays inside it, in one that is
-    /// opened about the edit if that is near the last one, and else in the chunks.
+    /// opened around the edit if that is near the last one, and else in the chunks.
     pub(super) fn replace(&mut self, from: usize, to: usize, text: &str) -> Result<(), AllocError>
         requires { CanEdit self.old from to text.now }
         ensures ok { OnOk result
@@ -108,15 +107,15 @@ impl Windowed {
         self.replace_apart(from, to, text)
     }
 
-    /// Replaces some bytes by a text in a window that is opened about the edit, if that is near the
-    /// last one in the chunks and places for the window's ends are found. Answers whether it did.
+    /// Replaces some bytes by a text in a window that is opened around the edit, if one is worth it
+    /// and places for its ends are found. Answers whether it did.
     fn replace_near(&mut self, from: usize, to: usize, text: &str) -> Result<bool, AllocError>
         requires edit { CanEdit self.old from to text.now }
         requires closed { IsClosed self.old }
         ensures ok { IfOk result (HoldsTextOr (text_with self.old) from to text.now self.new) }
         ensures err { OnErr result (HoldsText self.new (text_with self.old)) }
     {
-        if !self.is_near(from) {
+        if !self.is_near(from) || text.len() > NEAR || self.is_at_end(from, to) {
             return Ok(false);
         }
         if !self.open(from, to)? {
@@ -128,6 +127,11 @@ impl Windowed {
     /// Whether a place is near the last edit in the chunks.
     fn is_near(&self, place: usize) -> bool {
         place <= self.last.saturating_add(NEAR) && self.last <= place.saturating_add(NEAR)
+    }
+
+    /// Whether an edit reaches the start or the end of the text, which no window's inside does.
+    fn is_at_end(&self, from: usize, to: usize) -> bool {
+        from == 0 || to as u64 == self.sums.bytes
     }
 
     /// Replaces some bytes of the window by a text, if the edit leaves the window's first and last
@@ -185,7 +189,7 @@ impl Windowed {
         Ok(())
     }
 
-    /// Opens a window about an edit, if places for its ends are found. Answers whether it did.
+    /// Opens a window around an edit, if places for its ends are found. Answers whether it did.
     fn open(&mut self, from: usize, to: usize) -> Result<bool, AllocError>
         requires held { IsWindowed self.old }
         requires closed { IsClosed self.old }
