@@ -165,11 +165,24 @@ pub(crate) fn note_refused_act(
     }
 }
 
-/// Notes that an act is kept.
+/// Notes that an act is kept. Usually no document is lost.
 ///
 /// # Errors
 /// `Memory` where memory was refused; nothing is then known of the notes.
 pub(crate) fn note_kept_act(notes: &mut Notes, act: &Act) -> Result<(), Memory>
+    ensures { OnOk result ((enc : Encoding) (kind : SyncKind)
+        → AreAfter (call_of enc kind
+        (act_view act.now)) notes.old.map.entries notes.new.map.entries) }
+{
+    if notes.is_empty() {
+        return Ok(());
+    }
+    note_text(notes, act)
+}
+
+/// Notes the same where a document may be lost.
+#[inline(never)]
+fn note_text(notes: &mut Notes, act: &Act) -> Result<(), Memory>
     ensures { OnOk result ((enc : Encoding) (kind : SyncKind)
         → AreAfter (call_of enc kind
         (act_view act.now)) notes.old.map.entries notes.new.map.entries) }

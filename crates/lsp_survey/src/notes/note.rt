@@ -1,5 +1,5 @@
 //! Which documents are lost.
-ghost use Rattle.std.specs.Prelude.{◌≡◌, false, List, ℕ, IfOk, None, OnOk, Some, true};
+ghost use Rattle.std.specs.Prelude.{◌≡◌, [], false, List, ℕ, IfOk, None, OnOk, Some, true};
 ghost use Rattle.std.specs.Prelude.{if◌then◌else◌};
 ghost use Rattle.std.specs.Str.{bytes_eq};
 ghost use Rattle.lsp_survey.specs.Notes.{PutsSpelling, Sets, SetsAlike, has_uri, is_lost_in};
@@ -72,6 +72,13 @@ impl Notes {
         Notes {
             map: IndexMap::new(alloc),
         }
+    }
+
+    /// Whether nothing is noted of any.
+    pub(crate) fn is_empty(&self) -> bool
+        ensures { result ≡ true → self.now.map.entries ≡ [] }
+    {
+        self.map.is_empty()
     }
 
     /// Whether the document of this URI is lost.
