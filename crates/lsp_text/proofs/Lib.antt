@@ -6,6 +6,7 @@ pub mod Splices
 pub mod JoinedLines
 pub mod ByteUnits
 pub mod Starts
+pub mod AlikeLanes
 pub mod Denoting
 pub mod Edits
 pub mod Widths

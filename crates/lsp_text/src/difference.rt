@@ -12,11 +12,9 @@ ghost use Rattle.lsp_text.specs.Parting.{IsLineStart};
 use crate::cut::FirstLine;
 use crate::plain::count_lines;
 use crate::reading::width_of;
+use crate::stretches::same_stretches;
 use lsp_types::{Encoding, Position};
 use memchr::memrchr2;
-
-/// How many bytes are compared at once.
-const BLOCK: usize = 256;
 
 /// Where a held text and another one first differ: at the first character that is not the same in
 /// both, or where one of them ends and the other continues. The characters before that place are
@@ -75,7 +73,7 @@ fn differing_byte(a: &[u8], b: &[u8]) -> Option<usize>
     ensures { MatchOption result (a.now ≡ b.now) (IsFirstDifference a.now b.now) }
 {
     let both = a.len().min(b.len());
-    let mut at = same_blocks(a, b);
+    let mut at = same_stretches(a, b);
     while at < both && a[at] == b[at] {
         at += 1;
     }
@@ -84,27 +82,6 @@ fn differing_byte(a: &[u8], b: &[u8]) -> Option<usize>
     } else {
         Some(at)
     }
-}
-
-/// The bytes of the blocks from the front that are the same in two slices.
-fn same_blocks(a: &[u8], b: &[u8]) -> usize
-    ensures { AreSameTo a.now b.now result }
-{
-    let both = a.len().min(b.len());
-    let mut at = 0;
-    while at + BLOCK <= both && is_same_block(a, b, at) {
-        at += BLOCK;
-    }
-    at
-}
-
-/// Whether the blocks at an offset are the same.
-fn is_same_block(a: &[u8], b: &[u8], at: usize) -> bool
-    requires a { at + BLOCK ≤ length a.now }
-    requires b { at + BLOCK ≤ length b.now }
-    ensures { IsTrue result ↔ (take BLOCK (drop at a.now) ≡ take BLOCK (drop at b.now)) }
-{
-    &a[at..at + BLOCK] == &b[at..at + BLOCK]
 }
 
 /// Where the place after this many bytes lies, in lines and in units of the encoding.

@@ -28,6 +28,7 @@ mod plain;
 mod reading;
 mod same;
 mod store;
+mod stretches;
 mod sums;
 
 pub use changes::{change, change_all};

@@ -14,7 +14,8 @@ ghost use Rattle.lsp_text.specs.Parts.{joined, MakeUp, AreParts, CanReplace, IsR
 ghost use Rattle.lsp_text.specs.Parts.{CanReplaceIn, IsReplacedIn, IsReplacedInOr, IsFound};
 ghost use Rattle.lsp_text.specs.Parts.{IsFoundBefore, IsSpot, IsSeam, IsSpan, bytes_between};
 
-use crate::same::{LinesLeft, after, take_lines};
+use crate::same::{LinesLeft, take_lines};
+use crate::stretches::after_front;
 use crate::sums::{Measure, Sums};
 use lsp_types::Encoding;
 use std::alloc::{AllocError, Global};
@@ -413,7 +414,7 @@ pub(crate) fn strip_between<'a, T: Part>(
     let mut rest = whole;
     while at < to {
         let piece = first_bytes(part.rest_of_block(at), to - at);
-        rest = after(rest, piece)?;
+        rest = after_front(rest, piece)?;
         at += piece.len();
     }
     Some(rest)

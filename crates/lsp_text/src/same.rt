@@ -159,7 +159,7 @@ fn before_last_end(text: &str) -> Option<&str>
 }
 
 /// What comes after the text that one begins with.
-pub(crate) fn after<'a>(text: &'a str, front: &str) -> Option<&'a str>
+fn after<'a>(text: &'a str, front: &str) -> Option<&'a str>
     ensures { MatchOption result (BeginsOtherwise front.now text.now)
         (λ rest. text.now ≡ front.now ++ rest.now) }
 {

@@ -182,11 +182,15 @@ impl Lines {
         }
     }
 
-    /// Whether the lines are those of a text, whatever their ends.
+    /// Whether the lines are those of a text, whatever their ends. Mostly it is the same text, which
+    /// is told sooner.
     pub(super) fn have(&self, text: &str) -> bool
         ensures value { IsTrue result ↔ SameText Ignored self.now text.now }
         ensures utf8 { IsUtf8 self.now }
     {
+        if self.spell(text) {
+            return true;
+        }
         let whole = without_last_end(text);
         is_taken(self.held.take_lines(LinesLeft::Rest(whole)), whole)
     }

@@ -22,7 +22,8 @@ ghost use Rattle.lsp_text.specs.Windows.{CanEdit, HoldsText, HoldsTextOr};
 use crate::block::Block;
 use crate::chunk::Chunk;
 use crate::part::{LineEnd, Part, first_bytes, push_between, strip_between, take_between};
-use crate::same::{LinesLeft, after, take_lines};
+use crate::same::{LinesLeft, take_lines};
+use crate::stretches::after_front;
 use crate::sums::{Measure, Sums};
 use lsp_types::Encoding;
 use std::alloc::{AllocError, Global};
@@ -325,7 +326,7 @@ impl Windowed {
     {
         let tree = &self.tree;
         let rest = strip_between(tree, 0, self.before.bytes as usize, whole)?;
-        let rest = after(rest, self.window.as_str())?;
+        let rest = after_front(rest, self.window.as_str())?;
         strip_between(
             tree,
             self.skipped.bytes as usize,
