@@ -118,13 +118,17 @@ units_by_bytes Utf32 bs u = sym (brings_utf32 (chars bs)) ∙ ap (brings Utf32) 
 -- ---- sums over the first bytes
 
 -- a block of bytes, and then one byte, after those summed
+pub sum_next_block : (f : ℕ → ℕ) (bs : List ℕ) (at len n m : ℕ) → n ≡ sum_by f (take at bs)
+    → m ≡ sum_by f (take len (drop at bs)) → n + m ≡ sum_by f (take (at + len) bs)
+sum_next_block f bs at len n m e1 e2 =
+    let parts : sum_by f (take (at + len) bs)
+    ≡ sum_by f (take at bs) + sum_by f (take len (drop at bs)) =
+    ap (sum_by f) (take-add at len bs) ∙ sum_by-append f (take at bs) (take len (drop at bs)) in
+    omega arith
+
 pub sum_block : (f : ℕ → ℕ) (bs : List ℕ) (at n m : ℕ) → n ≡ sum_by f (take at bs)
     → m ≡ sum_by f (take 32 (drop at bs)) → n + m ≡ sum_by f (take (at + 32) bs)
-sum_block f bs at n m e1 e2 =
-    let parts : sum_by f (take (at + 32) bs)
-    ≡ sum_by f (take at bs) + sum_by f (take 32 (drop at bs)) =
-    ap (sum_by f) (take-add at 32 bs) ∙ sum_by-append f (take at bs) (take 32 (drop at bs)) in
-    omega arith
+sum_block f bs at n m e1 e2 = sum_next_block f bs at 32 n m e1 e2
 
 sum_next : (f : ℕ → ℕ) (bs : List ℕ) (k n : ℕ) → k < length bs → n ≡ sum_by f (take k bs)
     → n + f (get_or bs k 0) ≡ sum_by f (take (k + 1) bs)

@@ -7,6 +7,7 @@ pub mod JoinedLines
 pub mod ByteUnits
 pub mod Starts
 pub mod AlikeLanes
+pub mod WideLanes
 pub mod Denoting
 pub mod Edits
 pub mod Widths

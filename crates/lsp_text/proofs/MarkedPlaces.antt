@@ -47,15 +47,15 @@ false_unless : (b : Bool) → (b ≡ true → ⊥) → b ≡ false
 false_unless true h = absurd (h refl)
 false_unless false h = refl
 
--- of the 32 bytes from `at` on, the marks of those from `from` on are left
+-- of the 64 bytes from `at` on, the marks of those from `from` on are left
 pub record AreLeft (bs : List ℕ) (at from left : ℕ) : Type 0 where
   pub low : at ≤ from
-  pub high : from ≤ at + 32
-  pub marked : (k : ℕ) → from ≤ at + k → k < 32 → is_mark (get_or bs (at + k) 0) ≡ true → bit_at left k ≡ 1
-  pub within : (k : ℕ) → bit_at left k ≡ 1 → (from ≤ at + k) × (k < 32)
+  pub high : from ≤ at + 64
+  pub marked : (k : ℕ) → from ≤ at + k → k < 64 → is_mark (get_or bs (at + k) 0) ≡ true → bit_at left k ≡ 1
+  pub within : (k : ℕ) → bit_at left k ≡ 1 → (from ≤ at + k) × (k < 64)
 
 -- no byte before the first mark may end a line
-none_before : (bs : List ℕ) (at from left k : ℕ) → AreLeft bs at from left → k ≤ 32 → ((j : ℕ) → j < k → bit_at left j ≡ 0) →
+none_before : (bs : List ℕ) (at from left k : ℕ) → AreLeft bs at from left → k ≤ 64 → ((j : ℕ) → j < k → bit_at left j ≡ 0) →
     (p : ℕ) → from ≤ p → p < at + k → is_mark (get_or bs p 0) ≡ false
 none_before bs at from left k h le zeros p low lt =
     let start = h.low in
@@ -66,7 +66,7 @@ none_before bs at from left k h le zeros p low lt =
     let none = zeros (p - at) (omega arith) in
     absurd (omega arith))
 
-pub up_to_mark : (bs places : List ℕ) (at from left k : ℕ) → AreLeft bs at from left → at + 32 ≤ length bs → k ≤ 32 → from ≤ at + k →
+pub up_to_mark : (bs places : List ℕ) (at from left k : ℕ) → AreLeft bs at from left → at + 64 ≤ length bs → k ≤ 64 → from ≤ at + k →
     ((j : ℕ) → j < k → bit_at left j ≡ 0) → ArePlacesTo bs from places (at + k) places
 up_to_mark bs places at from left k h room le low zeros =
     let n = at + k - from in
@@ -97,26 +97,26 @@ next_left bs at from left k less h set zeros cleared kept no_more =
     }
 
 -- all of them
-pub all_left : (bs : List ℕ) (at marks : ℕ) → at + 32 ≤ length bs → IsMarked (take 32 (drop at bs)) marks → AreLeft bs at at marks
+pub all_left : (bs : List ℕ) (at marks : ℕ) → at + 64 ≤ length bs → IsMarked (take 64 (drop at bs)) marks → AreLeft bs at at marks
 all_left bs at marks room are =
     record {
       low = omega arith;
       high = omega arith;
-      marked = λ k low lt mark. (are k).1 (ap is_mark (get_or-chunk at 32 bs k 0 lt) ∙ mark);
-      within = λ k one. (omega arith, inside (take 32 (drop at bs)) k (length-chunk at 32 bs room) ((are k).0 one));
+      marked = λ k low lt mark. (are k).1 (ap is_mark (get_or-chunk at 64 bs k 0 lt) ∙ mark);
+      within = λ k one. (omega arith, inside (take 64 (drop at bs)) k (length-chunk at 64 bs room) ((are k).0 one));
     }
   where
-    inside : (block : List ℕ) (k : ℕ) → length block ≡ 32 → is_mark (get_or block k 0) ≡ true → k < 32
+    inside : (block : List ℕ) (k : ℕ) → length block ≡ 64 → is_mark (get_or block k 0) ≡ true → k < 64
     inside block k len mark =
-        ⊎_elim (λ (lt : k < 32). lt)
-        (λ (ge : 32 ≤ k). absurd (false≢true (sym (ap is_mark (get_or_past block k 0 (omega arith))) ∙ mark)))
-        (cases_lt k 32)
+        ⊎_elim (λ (lt : k < 64). lt)
+        (λ (ge : 64 ≤ k). absurd (false≢true (sym (ap is_mark (get_or_past block k 0 (omega arith))) ∙ mark)))
+        (cases_lt k 64)
 
--- **The places up to the end of the 32 bytes are there, where no mark is left.**
-pub none_left : (bs old places : List ℕ) (at from left : ℕ) → AreLeft bs at from left → at + 32 ≤ length bs → left ≡ 0 →
-    ArePlacesTo bs at old from places → ArePlacesTo bs at old (at + 32) places
+-- **The places up to the end of the 64 bytes are there, where no mark is left.**
+pub none_left : (bs old places : List ℕ) (at from left : ℕ) → AreLeft bs at from left → at + 64 ≤ length bs → left ≡ 0 →
+    ArePlacesTo bs at old from places → ArePlacesTo bs at old (at + 64) places
 none_left bs old places at from left h room is so_far =
-    up_to_mark bs places at from left 32 h room (omega arith) h.high (λ j lt. ap (λ (m : ℕ). bit_at m j) is ∙ bit_at-zero j) ∙ so_far
+    up_to_mark bs places at from left 64 h room (omega arith) h.high (λ j lt. ap (λ (m : ℕ). bit_at m j) is ∙ bit_at-zero j) ∙ so_far
 
 -- ---- the marks of a block
 

@@ -9,7 +9,7 @@ ghost use Rattle.lsp_text.specs.Ends.{IsEndAt, IsMarked, ArePlacesTo, IsCountUpT
 use crate::cut::FirstLine;
 use crate::marks::{lowest, marks_in, without};
 use std::alloc::{AllocError, Global};
-use std::simd::u8x32;
+use std::simd::u8x64;
 
 /// The places after the line ends of a short text.
 pub(crate) fn places_of(alloc: Global, text: &str) -> Result<Vec<u16>, AllocError>
@@ -19,10 +19,10 @@ pub(crate) fn places_of(alloc: Global, text: &str) -> Result<Vec<u16>, AllocErro
     let bytes = text.as_bytes();
     let mut places = Vec::with_capacity(alloc, bytes.len() / 32 + 4)?;
     let mut at = 0;
-    while at + 32 <= bytes.len() {
-        let marks = marks_in(u8x32::from_slice(&bytes[at..]));
+    while at + 64 <= bytes.len() {
+        let marks = marks_in(u8x64::from_slice(&bytes[at..]));
         push_marked(&mut places, bytes, at, marks)?;
-        at += 32;
+        at += 64;
     }
     for i in at..bytes.len() {
         push_if_end(&mut places, bytes, i)?;
@@ -30,13 +30,13 @@ pub(crate) fn places_of(alloc: Global, text: &str) -> Result<Vec<u16>, AllocErro
     Ok(places)
 }
 
-/// Puts the places after the line ends among 32 bytes after others.
+/// Puts the places after the line ends among 64 bytes after others.
 #[inline(always)]
 fn push_marked(places: &mut Vec<u16>, bytes: &[u8], at: usize, marks: u64) -> Result<(), AllocError>
     requires short { length bytes.now ≤ 65535 }
-    requires within { at + 32 ≤ length bytes.now }
-    requires marks { IsMarked (take 32 (drop at bytes.now)) marks }
-    ensures { OnOk result (ArePlacesTo bytes.now at places.old.items (at + 32) places.new.items) }
+    requires within { at + 64 ≤ length bytes.now }
+    requires marks { IsMarked (take 64 (drop at bytes.now)) marks }
+    ensures { OnOk result (ArePlacesTo bytes.now at places.old.items (at + 64) places.new.items) }
 {
     let mut left = marks;
     while left != 0 {

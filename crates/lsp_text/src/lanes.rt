@@ -1,4 +1,4 @@
-//! Bytes of UTF-8 counted 32 at a time.
+//! Bytes of UTF-8 counted 32 at a time, and 64 where they are ASCII.
 
 ghost use Rattle.std.specs.Prelude.{◌≡◌, ◌<◌, ◌≤◌, ◌+◌, ◌↔◌, length, take, map, count_by, nat_lt};
 ghost use Rattle.std.specs.Prelude.{IsTrue};
@@ -7,7 +7,7 @@ ghost use Rattle.lsp_text.specs.Offsets.{byte_units};
 
 use crate::counts::TextCounts;
 use lsp_types::Encoding;
-use std::simd::u8x32;
+use std::simd::{u8x32, u8x64};
 
 /// The least byte that continues a character.
 const CONTINUATION: u8 = 0x80;
@@ -45,29 +45,18 @@ fn ascii_front(bytes: &[u8]) -> usize
     ensures ascii { count_by (λ x. nat_lt x CONTINUATION) (take result bytes.now) ≡ result }
 {
     let mut at = 0;
-    while at + 32 <= bytes.len() && is_ascii(u8x32::from_slice(&bytes[at..])) {
-        at += 32;
+    while at + 64 <= bytes.len() && is_ascii(u8x64::from_slice(&bytes[at..])) {
+        at += 64;
     }
     at
 }
 
-/// Whether 32 bytes are ASCII.
-fn is_ascii(block: u8x32) -> bool
-    requires { length block ≡ 32 }
-    ensures { IsTrue result ↔ (count_by (λ x. nat_lt x CONTINUATION) block ≡ 32) }
+/// Whether 64 bytes are ASCII.
+fn is_ascii(block: u8x64) -> bool
+    requires { length block ≡ 64 }
+    ensures { IsTrue result ↔ (count_by (λ x. nat_lt x CONTINUATION) block ≡ 64) }
 {
-    ascii_in(block) == 32
-}
-
-/// How many of 32 bytes are ASCII.
-fn ascii_in(block: u8x32) -> u32
-    requires { length block ≡ 32 }
-    ensures { result ≡ count_by (λ x. nat_lt x CONTINUATION) block }
-{
-    block
-        .simd_lt(u8x32::splat(CONTINUATION))
-        .to_bitmask()
-        .count_ones()
+    block.simd_ge(u8x64::splat(CONTINUATION)).to_bitmask() == 0
 }
 
 /// The units that a byte brings.

@@ -1,19 +1,19 @@
-//! Which of 32 bytes may end a line, as the bits of a number: bit `k` for byte `k`.
+//! Which of 64 bytes may end a line, as the bits of a number: bit `k` for byte `k`.
 
 ghost use Rattle.std.specs.Prelude.{◌≡◌, ◌≢◌, ℕ, ◌<◌, length};
 ghost use Rattle.std.specs.Int.{bit_at};
 ghost use Rattle.lsp_text.specs.Ends.{IsMarked};
 
-use std::simd::u8x32;
+use std::simd::u8x64;
 
 /// Marks each LF and each CR.
 #[inline(always)]
-pub(crate) fn marks_in(block: u8x32) -> u64
-    requires { length block ≡ 32 }
+pub(crate) fn marks_in(block: u8x64) -> u64
+    requires { length block ≡ 64 }
     ensures { IsMarked block result }
 {
-    let feeds = block.simd_eq(u8x32::splat(b'\n')).to_bitmask();
-    let returns = block.simd_eq(u8x32::splat(b'\r')).to_bitmask();
+    let feeds = block.simd_eq(u8x64::splat(b'\n')).to_bitmask();
+    let returns = block.simd_eq(u8x64::splat(b'\r')).to_bitmask();
     feeds | returns
 }
 

@@ -6,4 +6,4 @@ use Rattle.lsp_text.proofs.marks.marks_in.Goals as goal
 pub returns : goal.returns
 returns c =
     let bs = c.args.block in
-    marked_by bs _ _ (bitmask_splat w8 eqb bs 32 10 c.requires (omega arith)) (bitmask_splat w8 eqb bs 32 13 c.requires (omega arith))
+    marked_by bs _ _ (bitmask_splat w8 eqb bs 64 10 c.requires (omega arith)) (bitmask_splat w8 eqb bs 64 13 c.requires (omega arith))
