@@ -17,5 +17,6 @@ pub mod Sums
 pub mod Parts
 pub mod Blocks
 pub mod Chunks
+pub mod Trees
 pub mod Windows
 pub mod LentLines

@@ -188,6 +188,23 @@ impl Block {
         held.text.as_str()
     }
 
+    /// Its text with some bytes replaced by another, of any length.
+    pub(crate) fn replaced(
+        &self,
+        alloc: Global,
+        from: usize,
+        to: usize,
+        text: &str,
+    ) -> Result<String, AllocError>
+        requires { CanReplace self.now from to }
+        ensures { IfOk result (λ whole. string_bytes whole
+            ≡ replace_range self.now from to text.now) }
+    {
+        let (front, _) = self.as_str().split_at(from);
+        let (_, back) = self.as_str().split_at(to);
+        in_one(alloc, front, text, back)
+    }
+
     /// The same block with some bytes replaced by a text.
     fn rebuilt(&self, from: usize, to: usize, text: &str) -> Result<Block, AllocError>
         requires can { CanReplace self.now from to }

@@ -17,7 +17,7 @@ pub(crate) fn places_of(alloc: Global, text: &str) -> Result<Vec<u16>, AllocErro
     ensures { IfOk result (λ places. places.items ≡ places_behind 0 text.now) }
 {
     let bytes = text.as_bytes();
-    let mut places = Vec::with_capacity(alloc, bytes.len() / 32 + 4)?;
+    let mut places = Vec::with_capacity(alloc, bytes.len() / 24)?;
     let mut at = 0;
     while at + 64 <= bytes.len() {
         let marks = marks_in(u8x64::from_slice(&bytes[at..]));

@@ -10,6 +10,8 @@
 //! again from the one before the edit to the one after it, so that a CR and a LF that it joins are
 //! in one block.
 //!
+//! A text of at most 2 KB is one block, with no chunks, until an edit finds no room in it.
+//!
 //! Editors mostly make one edit near another. From the second of these on, they are made in a
 //! *window*: a short block apart from the chunks, which replaces some of their bytes. The chunks
 //! stay as they are meanwhile, and copies of the text share all of them. An edit elsewhere first
@@ -29,6 +31,7 @@
 //! ```
 
 pub(crate) mod lines;
+mod tree;
 mod window;
 
 ghost use Rattle.std.specs.Prelude.{◌≡◌, ◌*◌, length, IfOk, OnOk, OnErr, IfErr};

@@ -1,4 +1,4 @@
-//! A text in chunks of blocks, and a window on it: a short text that replaces some of its bytes.
+//! A text in blocks, and a window on it: a short text that replaces some of its bytes.
 //!
 //! Editors mostly make one edit near another. The first of them is made in the blocks; from the
 //! second on, they are made in a window around the place, so that the chunks and blocks stay as they
@@ -20,16 +20,13 @@ ghost use Rattle.lsp_text.specs.Windows.{text_with, moved_end, nearer_end, IsWin
 ghost use Rattle.lsp_text.specs.Windows.{CanEdit, HoldsText, HoldsTextOr};
 
 use crate::block::Block;
-use crate::chunk::Chunk;
-use crate::part::{LineEnd, Part, first_bytes, push_between, strip_between, take_between};
+use crate::lined::tree::Tree;
+use crate::part::{LineEnd, Part, first_bytes};
 use crate::same::{LinesLeft, take_lines};
 use crate::stretches::after_front;
 use crate::sums::{Measure, Sums};
 use lsp_types::Encoding;
 use std::alloc::{AllocError, Global};
-
-/// A text in chunks of blocks.
-pub(super) type Tree = Chunk<Chunk<Chunk<Block>>>;
 
 /// The bytes that a window has before an edit when it is opened, and those after it, at least.
 const BEFORE: usize = 128;
@@ -61,7 +58,7 @@ impl Windowed {
     pub(super) fn of(alloc: Global, text: &str) -> Result<Windowed, AllocError>
         ensures { IfOk result (λ held. HoldsText held text.now) }
     {
-        let tree = Chunk::whole(alloc, text)?;
+        let tree = Tree::of(alloc, text)?;
         Ok(Windowed {
             before: Sums::none(),
             skipped: Sums::none(),
@@ -164,7 +161,7 @@ impl Windowed {
         ensures err { OnErr result (HoldsText self.new (text_with self.old)) }
     {
         self.last = from;
-        self.tree.edit(from, to, text)?;
+        self.tree.edit(self.alloc, from, to, text)?;
         self.sums = self.tree.sums();
         Ok(())
     }
@@ -180,6 +177,7 @@ impl Windowed {
         }
         let none = Block::new(self.alloc, "")?;
         self.tree.edit(
+            self.alloc,
             self.before.bytes as usize,
             self.skipped.bytes as usize,
             self.window.as_str(),
@@ -204,7 +202,7 @@ impl Windowed {
             return Ok(false);
         }
         let mut text = String::with_capacity(self.alloc, end - start)?;
-        push_between(&self.tree, start, end, &mut text)?;
+        self.tree.push_between(start, end, &mut text)?;
         let window = Block::new(self.alloc, text.as_str())?;
         self.before = sums_before(&self.tree, start);
         self.skipped = self.before.with(window.sums());
@@ -308,14 +306,9 @@ impl Windowed {
         ensures { OnOk result (string_bytes out.new ≡ string_bytes out.old ++ text_with self.now) }
     {
         let tree = &self.tree;
-        push_between(tree, 0, self.before.bytes as usize, out)?;
+        tree.push_between(0, self.before.bytes as usize, out)?;
         out.push_str(self.window.as_str())?;
-        push_between(
-            tree,
-            self.skipped.bytes as usize,
-            tree.sums().bytes as usize,
-            out,
-        )
+        tree.push_between(self.skipped.bytes as usize, tree.sums().bytes as usize, out)
     }
 
     /// What comes after the text in one that begins with it.
@@ -325,10 +318,9 @@ impl Windowed {
             (λ rest. whole.now ≡ text_with self.now ++ rest.now) }
     {
         let tree = &self.tree;
-        let rest = strip_between(tree, 0, self.before.bytes as usize, whole)?;
+        let rest = tree.strip_between(0, self.before.bytes as usize, whole)?;
         let rest = after_front(rest, self.window.as_str())?;
-        strip_between(
-            tree,
+        tree.strip_between(
             self.skipped.bytes as usize,
             tree.sums().bytes as usize,
             rest,
@@ -343,10 +335,9 @@ impl Windowed {
             (λ next. due left.entry ≡ with_feeds (text_with self.now) ++ due next) }
     {
         let tree = &self.tree;
-        let left = take_between(tree, 0, self.before.bytes as usize, left)?;
+        let left = tree.take_between(0, self.before.bytes as usize, left)?;
         let left = take_lines(left, self.window.as_str())?;
-        take_between(
-            tree,
+        tree.take_between(
             self.skipped.bytes as usize,
             tree.sums().bytes as usize,
             left,
@@ -388,48 +379,48 @@ fn moved(end: LineEnd<'_>, nearer: usize, further: usize) -> LineEnd<'_>
 }
 
 /// The sums of what comes before a place.
-fn sums_before<T: Part>(part: &T, place: usize) -> Sums
-    requires { IsSeam (T.text part.now) place }
-    ensures { result ≡ sums_of (take place (T.text part.now)) }
+fn sums_before(tree: &Tree, place: usize) -> Sums
+    requires { IsSeam tree.now place }
+    ensures { result ≡ sums_of (take place tree.now) }
 {
     Sums {
-        ends: part.ends_before(place),
+        ends: tree.ends_before(place),
         bytes: place as u64,
-        chars: part.units_before(Encoding::Utf32, place),
-        utf16: part.units_before(Encoding::Utf16, place),
+        chars: tree.units_before(Encoding::Utf32, place),
+        utf16: tree.units_before(Encoding::Utf16, place),
     }
 }
 
 /// A place before another at which a text may be cut, if one is found near by.
-fn seam_before<T: Part>(part: &T, place: usize) -> Option<usize>
-    ensures { IfSome result (IsSeam (T.text part.now)) }
+fn seam_before(tree: &Tree, place: usize) -> Option<usize>
+    ensures { IfSome result (IsSeam tree.now) }
 {
-    let len = part.sums().bytes as usize;
+    let len = tree.sums().bytes as usize;
     if place.min(len) <= BEFORE {
         return Some(0);
     }
-    seam_from(part, place - BEFORE)
+    seam_from(tree, place - BEFORE)
 }
 
 /// A place after another at which a text may be cut, if one is found near by.
-fn seam_after<T: Part>(part: &T, place: usize) -> Option<usize>
-    ensures { IfSome result (IsSeam (T.text part.now)) }
+fn seam_after(tree: &Tree, place: usize) -> Option<usize>
+    ensures { IfSome result (IsSeam tree.now) }
 {
-    let len = part.sums().bytes as usize;
+    let len = tree.sums().bytes as usize;
     if len.saturating_sub(place) <= AFTER {
         return Some(len);
     }
-    seam_from(part, place + AFTER)
+    seam_from(tree, place + AFTER)
 }
 
 /// A place at which a text may be cut, this or one of the three after it, if one of them is before
 /// a character that is no LF.
-fn seam_from<T: Part>(part: &T, place: usize) -> Option<usize>
-    ensures { IfSome result (IsSeam (T.text part.now)) }
+fn seam_from(tree: &Tree, place: usize) -> Option<usize>
+    ensures { IfSome result (IsSeam tree.now) }
 {
     for more in 0..4 {
         let at = place.saturating_add(more);
-        if is_seam(part, at) {
+        if is_seam(tree, at) {
             return Some(at);
         }
     }
@@ -437,15 +428,15 @@ fn seam_from<T: Part>(part: &T, place: usize) -> Option<usize>
 }
 
 /// Whether a character begins at a place, and is no LF.
-fn is_seam<T: Part>(part: &T, place: usize) -> bool
-    ensures { IsTrue result → IsSeam (T.text part.now) place }
+fn is_seam(tree: &Tree, place: usize) -> bool
+    ensures { IsTrue result → IsSeam tree.now place }
 {
-    let Some(at) = part.offset_of(Encoding::Utf8, place as u64) else {
+    let Some(at) = tree.offset_of(Encoding::Utf8, place as u64) else {
         return false;
     };
     if at != place {
         return false;
     }
-    let rest = part.rest_of_block(place).as_bytes();
+    let rest = tree.rest_of_block(place).as_bytes();
     rest.len() > 0 && rest[0] != b'\n'
 }
