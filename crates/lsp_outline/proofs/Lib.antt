@@ -6,6 +6,7 @@ pub mod ShortNumerals
 pub mod Lexing
 pub mod Spaces
 pub mod Blocks
+pub mod NumberBlocks
 pub mod Strings
 pub mod Walking
 pub mod Speaking

@@ -1,6 +1,7 @@
 -- What lies between two places of a JSON text.
 use Rattle.std.specs.Prelude.{◌≡◌, ℕ, ℤ, ◌+◌, ◌-◌, ◌<◌, ◌≤◌, ◌==◌, ◌||◌, List, length, take, drop}
-use Rattle.std.specs.Prelude.{get_or, true, cond, Some, is_some, nat_eq}
+use Rattle.std.specs.Prelude.{get_or, Bool, true, false, not, ◌&&◌, cond, nat_lt, Some, is_some, nat_eq}
+use Rattle.std.specs.Prelude.{[], ◌∷◌}
 use Rattle.std.specs.Char.{is_ascii_digit}
 use Rattle.std.specs.List.{list_all, starts_with}
 use Rattle.std.specs.Str.Parse.{digits_value}
@@ -144,3 +145,23 @@ pub record IsKey (d : List ℕ) (from end : ℕ) (k : List ℕ) : Type 0 where
       → read_key (tokens_from p d from) ≡ Some (Some k, tokens_from fresh d end)
   pub forward : from < end
   pub within : end ≤ length d
+
+-- whether no array of numbers that are digits alone has this byte, with these two after it: it is
+-- neither a digit nor a comma, or it is a comma before another one, or before a zero with more
+-- digits
+abbrev pub is_fault : ℕ → ℕ → ℕ → Bool
+is_fault x next after =
+    nat_lt 57 x || ((nat_lt x 48 && not (x == 44))
+    || ((x == 44) && ((next == 44) || ((next == 48) && not (after == 44)))))
+
+-- the same of each byte of a block, with the blocks that begin one and two bytes later
+abbrev pub fault_lanes : List ℕ → List ℕ → List ℕ → List Bool
+fault_lanes [] ys zs = []
+fault_lanes (x ∷ xs) [] zs = []
+fault_lanes (x ∷ xs) (y ∷ ys) [] = []
+fault_lanes (x ∷ xs) (y ∷ ys) (z ∷ zs) = is_fault x y z ∷ fault_lanes xs ys zs
+
+-- no number begins there with a zero before more digits, and no comma stands there
+pub record NumberMayBegin (d : List ℕ) (at : ℕ) : Type 0 where
+  pub some : (get_or d at 0 == 44) ≡ false
+  pub zero : (get_or d at 0 == 48) ≡ true → (get_or d (at + 1) 0 == 44) ≡ true

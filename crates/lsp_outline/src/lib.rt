@@ -10,6 +10,7 @@ mod bytes;
 mod edits;
 mod members;
 mod message;
+mod number_blocks;
 mod numbers;
 mod outline;
 mod params;

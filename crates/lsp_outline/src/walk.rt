@@ -9,6 +9,7 @@ ghost use Rattle.lsp_outline.specs.Walk.{SomeItems, IsKey};
 ghost use Rattle.lsp_rpc.specs.Shape.{is_structure_or_null};
 
 use crate::bytes::{byte_at, is_delimiter, spaces_end};
+use crate::number_blocks::number_blocks_end;
 use crate::numbers::{number_end, tiny_number_end};
 use crate::texts::{plain_text, text_copy, text_end};
 use std::alloc::Global;
@@ -196,8 +197,8 @@ pub(crate) fn value_end(bytes: &[u8], from: usize, depth: usize) -> Option<usize
     }
 }
 
-/// Where the items end that are numbers of one or two digits, each with its comma and the space
-/// past it. Arrays of numbers are mostly such.
+/// Where the items end that are plain numbers: those of whole blocks, and then those of one or two
+/// digits, each with its comma and the space past it. Arrays of numbers are mostly such.
 #[inline(always)]
 fn tiny_items_end(bytes: &[u8], from: usize) -> usize
     requires { from ≤ length bytes.now }
@@ -206,7 +207,7 @@ fn tiny_items_end(bytes: &[u8], from: usize) -> usize
     ensures forward { from ≤ result }
     ensures within { result ≤ length bytes.now }
 {
-    let mut at = from;
+    let mut at = number_blocks_end(bytes, from);
     'items: while let Some(comma) = tiny_number_end(bytes, at) {
         at = spaces_end(bytes, comma + 1);
     }
