@@ -1,5 +1,5 @@
 //! Skipping JSON values of which at most the kind is needed.
-ghost use Rattle.std.specs.Prelude.{◌≡◌, ◌∷◌, ◌+◌, ◌<◌, ◌≤◌, ℕ, List, drop, length, get_or, false};
+ghost use Rattle.std.specs.Prelude.{◌≡◌, ◌∷◌, ◌+◌, ◌<◌, ◌≤◌, ℕ, List, drop, length, get_or, false, IsTrue};
 ghost use Rattle.std.specs.Prelude.{Some, IfSome, string_bytes};
 ghost use Rattle.json.specs.Lex.{lex, between, colon, begins_colon};
 ghost use Rattle.serde_json.specs.Data.{Data, string, Items, Members};
@@ -61,9 +61,34 @@ pub(crate) fn literal_end(bytes: &[u8], from: usize, name: &[u8]) -> Option<usiz
     }
 }
 
-/// Where the colon ends that comes next, with the space past it.
+/// Whether a colon stands there with no space past it.
+#[inline(always)]
+fn is_bare_colon(bytes: &[u8], at: usize) -> bool
+    requires { at ≤ length bytes.now }
+    ensures is { IsTrue result → get_or bytes.now at 0 ≡ 58 }
+    ensures within { IsTrue result → at + 1 ≤ length bytes.now }
+{
+    bytes.len() - at >= 2 && bytes[at] == b':' && bytes[at + 1] > b' '
+}
+
+/// Where the colon ends that comes next, with the space past it. Most have none on either side.
 #[inline(always)]
 fn colon_end(bytes: &[u8], from: usize) -> Option<usize>
+    requires { from ≤ length bytes.now }
+    ensures passed { IfSome result (λ end.
+        lex between (drop from bytes.now) ≡ colon ∷ lex between (drop end bytes.now)) }
+    ensures forward { IfSome result (λ end. from < end) }
+    ensures within { IfSome result (λ end. end ≤ length bytes.now) }
+{
+    if is_bare_colon(bytes, from) {
+        return Some(from + 1);
+    }
+    spaced_colon_end(bytes, from)
+}
+
+/// The same, with space on both sides of it.
+#[inline(never)]
+fn spaced_colon_end(bytes: &[u8], from: usize) -> Option<usize>
     requires { from ≤ length bytes.now }
     ensures passed { IfSome result (λ end.
         lex between (drop from bytes.now) ≡ colon ∷ lex between (drop end bytes.now)) }

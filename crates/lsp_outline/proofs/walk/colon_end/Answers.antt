@@ -1,8 +1,8 @@
-use Rattle.std.proofs.Common.{arith}
+use Rattle.std.proofs.Common.{refl}
 use Rattle.lsp_outline.proofs.Walking.{colon_passed}
 use Rattle.lsp_outline.proofs.walk.colon_end.Goals as goal
 
-pub returns-clause-passed : goal.returns-clause-passed
-returns-clause-passed c =
-    colon_passed c.args.bytes.now c.args.from c.spaces_end-colon.result c.spaces_end.result
-    c.spaces_end-colon.ensures.same (grind arith) c.spaces_end.ensures.same
+pub returns-then-is_bare_colon-clause-passed : goal.returns-then-is_bare_colon-clause-passed
+returns-then-is_bare_colon-clause-passed c =
+    colon_passed c.args.bytes.now c.args.from c.args.from _ refl
+    (c.if-is_bare_colon.ensures.is refl) refl
