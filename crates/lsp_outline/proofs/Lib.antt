@@ -7,6 +7,7 @@ pub mod Lexing
 pub mod Spaces
 pub mod Blocks
 pub mod NumberBlocks
+pub mod DigitBlocks
 pub mod Strings
 pub mod Walking
 pub mod Speaking

@@ -1,9 +1,9 @@
 -- What lies between two places of a JSON text.
 use Rattle.std.specs.Prelude.{◌≡◌, ℕ, ℤ, ◌+◌, ◌-◌, ◌<◌, ◌≤◌, ◌==◌, ◌||◌, List, length, take, drop}
 use Rattle.std.specs.Prelude.{get_or, Bool, true, false, not, ◌&&◌, cond, nat_lt, Some, is_some, nat_eq}
-use Rattle.std.specs.Prelude.{[], ◌∷◌}
+use Rattle.std.specs.Prelude.{[], ◌∷◌, ◌⊎◌}
 use Rattle.std.specs.Char.{is_ascii_digit}
-use Rattle.std.specs.List.{list_all, starts_with}
+use Rattle.std.specs.List.{list_all, prefix_len, starts_with}
 use Rattle.std.specs.Str.Parse.{digits_value}
 use Rattle.json.specs.Token.{Token}
 use Rattle.json.specs.Text.{content, plain, prepend}
@@ -80,6 +80,14 @@ pub record AreFewDigits (d : List ℕ) (from end n : ℕ) : Type 0 where
   pub forward : from ≤ end
   pub few : end - from ≤ 9
   pub within : end ≤ length d
+
+-- fewer than sixteen digits, one or more, without a zero before others
+pub record IsPlainNumber (d : List ℕ) (from end : ℕ) : Type 0 where
+  pub run : end ≡ from + prefix_len is_ascii_digit (drop from d)
+  pub some : from < end
+  pub short : end < from + 16
+  pub first : (end ≡ from + 1) ⊎ ((get_or d from 0 == 48) ≡ false)
+  pub within : end < length d
 
 -- the literal of this name
 pub record IsLiteral (d : List ℕ) (from : ℕ) (name : List ℕ) (end : ℕ) : Type 0 where

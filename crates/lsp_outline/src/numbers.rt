@@ -8,9 +8,16 @@ ghost use Rattle.serde_json.specs.Data.{Num, number, unsigned};
 ghost use Rattle.serde_json.specs.Read.{number_of, number_from};
 ghost use Rattle.lsp_rpc.specs.Shape.{as_integer};
 ghost use Rattle.lsp_outline.specs.Walk.{IsNumeral, IsNatural, IsInteger, AreFewDigits};
+ghost use Rattle.lsp_outline.specs.Walk.{IsPlainNumber};
+ghost use Rattle.std.specs.Prelude.{map, not};
+ghost use Rattle.std.specs.Simd.Lanes.{mask_l};
 
 use crate::bytes::{byte_at, is_delimiter};
 use fast_float::Numeral;
+use std::simd::prelude::*;
+
+/// How many bytes are looked at together.
+const LANES: usize = 16;
 
 /// Integers of this many digits fit 64 bits.
 const SHORT: usize = 18;
@@ -103,9 +110,82 @@ fn any_number_end(bytes: &[u8], from: usize) -> Option<usize>
     }
 }
 
+/// A bit for each of these bytes that is no digit.
+#[inline(always)]
+fn others(block: u8x16) -> u64
+    requires { length block ≡ LANES }
+    ensures { result ≡ mask_l (map (λ x. not (is_ascii_digit x)) block) }
+{
+    (block.simd_lt(u8x16::splat(b'0')) | block.simd_gt(u8x16::splat(b'9'))).to_bitmask()
+}
+
+/// How many of these bytes are digits, up to the first that is none.
+#[inline(always)]
+fn digit_front(block: u8x16) -> usize
+    requires { length block ≡ LANES }
+    ensures { result ≡ prefix_len is_ascii_digit block }
+{
+    let others = others(block);
+    if others == 0 {
+        LANES
+    } else {
+        others.trailing_zeros() as usize
+    }
+}
+
+/// Where the integer without a sign ends that begins there, where one block of bytes shows it.
+#[inline(always)]
+pub(crate) fn plain_number_end(bytes: &[u8], from: usize) -> Option<usize>
+    requires { from ≤ length bytes.now }
+    ensures { IfSome result (IsPlainNumber bytes.now from) }
+{
+    if bytes.len() - from < LANES {
+        return None;
+    }
+    let count = digit_front(u8x16::from_slice(&bytes[from..]));
+    if count == 0 || count == LANES {
+        return None;
+    }
+    if count == 1 {
+        return Some(from + 1);
+    }
+    if bytes[from] == b'0' {
+        return None;
+    }
+    Some(from + count)
+}
+
 /// Where the number ends that begins there. `None` where `serde_json` reads none.
 #[inline(always)]
 pub(crate) fn number_end(bytes: &[u8], from: usize) -> Option<usize>
+    requires { from ≤ length bytes.now }
+    ensures { IfSome result (IsNumeral bytes.now from) }
+{
+    match short_number_end(bytes, from) {
+        Some(end) => Some(end),
+        None => long_number_end(bytes, from),
+    }
+}
+
+/// Where the integer without a sign ends that begins there, where one block of bytes shows it and
+/// a number may end there.
+#[inline(always)]
+fn short_number_end(bytes: &[u8], from: usize) -> Option<usize>
+    requires { from ≤ length bytes.now }
+    ensures { IfSome result (IsNumeral bytes.now from) }
+{
+    let end = plain_number_end(bytes, from)?;
+    if is_delimiter(byte_at(bytes, end)) {
+        Some(end)
+    } else {
+        None
+    }
+}
+
+/// Where the number of whatever length ends that begins there. `None` where `serde_json` reads
+/// none.
+#[inline(never)]
+fn long_number_end(bytes: &[u8], from: usize) -> Option<usize>
     requires { from ≤ length bytes.now }
     ensures { IfSome result (IsNumeral bytes.now from) }
 {

@@ -1,6 +1,6 @@
 use Rattle.std.proofs.Common.{refl, arith}
 use Rattle.lsp_outline.proofs.ShortNumerals.{ends_at, short_numeral}
-use Rattle.lsp_outline.proofs.numbers.number_end.Goals as goal
+use Rattle.lsp_outline.proofs.numbers.long_number_end.Goals as goal
 
 pub returns-then-is_delimiter : goal.returns-then-is_delimiter
 returns-then-is_delimiter c =

@@ -1,0 +1,7 @@
+use Rattle.std.proofs.Common.{arith}
+use Rattle.lsp_outline.proofs.DigitBlocks.{plain_numeral}
+use Rattle.lsp_outline.proofs.numbers.short_number_end.Goals as goal
+
+pub returns-then-is_delimiter : goal.returns-then-is_delimiter
+returns-then-is_delimiter c =
+    plain_numeral c.args.bytes.now c.args.from c.in_ok-end.end c.in_ok-end.ensures (grind arith)
