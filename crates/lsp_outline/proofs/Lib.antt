@@ -8,6 +8,7 @@ pub mod Spaces
 pub mod Blocks
 pub mod NumberBlocks
 pub mod DigitBlocks
+pub mod Pairs
 pub mod Strings
 pub mod Walking
 pub mod Speaking

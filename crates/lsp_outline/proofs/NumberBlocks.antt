@@ -1,7 +1,7 @@
 -- Sixteen bytes of an array of numbers at once: that none is at fault, and what is passed then.
 use Rattle.std.proofs.Common.{◌≡◌, ◌==◌, ◌&&◌, ◌||◌, ◌⊎◌, inl, inr, ◌+◌, ◌-◌, ◌*◌, ◌%◌, ◌^◌, ◌<◌, ◌≤◌}
 use Rattle.std.proofs.Common.{ℕ, zero, suc, Bool, true, false, not, cond, eqb, ltb, nat_lt, List, [], ◌∷◌}
-use Rattle.std.proofs.Common.{map, length, drop, get_or, replicate, refl, sym, ap, ap₂, subst, ◌∙◌, arith}
+use Rattle.std.proofs.Common.{map, length, drop, get_or, replicate, refl, sym, ap, ap₂, ◌∙◌, arith}
 use Rattle.std.proofs.Common.{lt_of_not-le, lit<}
 use Rattle.std.proofs.Math.Nat.{pow-suc, eq-or-lt_of_le}
 use Rattle.std.proofs.lemmas.Bool.{cases_Bool, or_parts, true≢false, eqb-true}

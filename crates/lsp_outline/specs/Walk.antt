@@ -1,7 +1,7 @@
 -- What lies between two places of a JSON text.
 use Rattle.std.specs.Prelude.{◌≡◌, ℕ, ℤ, ◌+◌, ◌-◌, ◌<◌, ◌≤◌, ◌==◌, ◌||◌, List, length, take, drop}
 use Rattle.std.specs.Prelude.{get_or, Bool, true, false, not, ◌&&◌, cond, nat_lt, Some, is_some, nat_eq}
-use Rattle.std.specs.Prelude.{[], ◌∷◌, ◌⊎◌}
+use Rattle.std.specs.Prelude.{[], ◌∷◌, ◌++◌, ◌⊎◌}
 use Rattle.std.specs.Char.{is_ascii_digit}
 use Rattle.std.specs.List.{list_all, prefix_len, starts_with}
 use Rattle.std.specs.Str.Parse.{digits_value}
@@ -88,6 +88,20 @@ pub record IsPlainNumber (d : List ℕ) (from end : ℕ) : Type 0 where
   pub short : end < from + 16
   pub first : (end ≡ from + 1) ⊎ ((get_or d from 0 == 48) ≡ false)
   pub within : end < length d
+
+-- these bytes, from one place to another
+pub record Stand (d : List ℕ) (from : ℕ) (text : List ℕ) (end : ℕ) : Type 0 where
+  pub are : drop from d ≡ text ++ drop end d
+  pub is : end ≡ from + length text
+  pub within : end ≤ length d
+
+-- the keys of a position, with their colons
+abbrev pub line_key : List ℕ
+line_key = 34 ∷ 108 ∷ 105 ∷ 110 ∷ 101 ∷ 34 ∷ 58 ∷ []
+
+abbrev pub character_key : List ℕ
+character_key =
+    34 ∷ 99 ∷ 104 ∷ 97 ∷ 114 ∷ 97 ∷ 99 ∷ 116 ∷ 101 ∷ 114 ∷ 34 ∷ 58 ∷ []
 
 -- the literal of this name
 pub record IsLiteral (d : List ℕ) (from : ℕ) (name : List ℕ) (end : ℕ) : Type 0 where

@@ -1,6 +1,6 @@
 //! Positions, ranges and changes of a text, read member by member (LSP 3.17, Position, Range and
 //! TextDocumentContentChangeEvent).
-ghost use Rattle.std.specs.Prelude.{◌≡◌, ◌≤◌, length, Some, IfSome, codes, option_map};
+ghost use Rattle.std.specs.Prelude.{◌≡◌, ◌<◌, ◌≤◌, ℕ, length, Some, IfSome, codes, option_map};
 ghost use Rattle.std.specs.Prelude.{string_bytes};
 ghost use Rattle.serde_json.specs.Data.{Data, Members, Items, object, array};
 ghost use Rattle.lsp_rpc.specs.Params as spec;
@@ -10,6 +10,7 @@ ghost use Rattle.lsp_outline.specs.Walk.{IsValue, AreItems};
 
 use crate::bytes::{byte_at, spaces_end};
 use crate::members::{Gathered, object_at, skipped, uinteger_at};
+use crate::positions::{is_line_first, names_character, names_line};
 use crate::walk::{literal_end, string_copy};
 use lsp_types::{Change, Position, Span};
 use std::alloc::Global;
@@ -58,9 +59,91 @@ impl Gathered for PositionParts {
     }
 }
 
+/// The position that begins there with its line, and where it ends.
+#[inline(always)]
+fn line_first_at(text: &str, from: usize) -> Option<(Position, usize)>
+    requires { from ≤ length text.now }
+    ensures { IfSome result (λ r. (depth : ℕ) → 0 < depth
+        → (ms : Members) × IsValue depth text.now from r.1 (object ms)
+        × (spec.position_at (object ms) ≡ Some r.0)) }
+{
+    let bytes = text.as_bytes();
+    if !names_line(bytes, from, b'{') {
+        return None;
+    }
+    let (line, stop) = uinteger_at(text, from + 8)?;
+    if !names_character(bytes, stop, b',') {
+        return None;
+    }
+    let (column, close) = uinteger_at(text, stop + 13)?;
+    if byte_at(bytes, close) != b'}' {
+        return None;
+    }
+    Some((Position { line, column }, close + 1))
+}
+
+/// The position that begins there with its character, and where it ends.
+#[inline(always)]
+fn character_first_at(text: &str, from: usize) -> Option<(Position, usize)>
+    requires { from ≤ length text.now }
+    ensures { IfSome result (λ r. (depth : ℕ) → 0 < depth
+        → (ms : Members) × IsValue depth text.now from r.1 (object ms)
+        × (spec.position_at (object ms) ≡ Some r.0)) }
+{
+    let bytes = text.as_bytes();
+    if !names_character(bytes, from, b'{') {
+        return None;
+    }
+    let (column, stop) = uinteger_at(text, from + 13)?;
+    if !names_line(bytes, stop, b',') {
+        return None;
+    }
+    let (line, close) = uinteger_at(text, stop + 8)?;
+    if byte_at(bytes, close) != b'}' {
+        return None;
+    }
+    Some((Position { line, column }, close + 1))
+}
+
+/// The position that begins there as most programs write it, and where it ends.
+#[inline(always)]
+fn plain_position_at(text: &str, from: usize) -> Option<(Position, usize)>
+    requires { from ≤ length text.now }
+    ensures { IfSome result (λ r. (depth : ℕ) → 0 < depth
+        → (ms : Members) × IsValue depth text.now from r.1 (object ms)
+        × (spec.position_at (object ms) ≡ Some r.0)) }
+{
+    if is_line_first(text.as_bytes(), from) {
+        line_first_at(text, from)
+    } else {
+        character_first_at(text, from)
+    }
+}
+
 /// The position that begins there, and where it ends.
 #[inline(always)]
 fn position_at(alloc: Global, text: &str, from: usize, depth: usize) -> Option<(Position, usize)>
+    requires { from ≤ length text.now }
+    ensures { IfSome result (λ r. (ms : Members) × IsValue depth text.now from r.1 (object ms)
+        × (spec.position_at (object ms) ≡ Some r.0)) }
+{
+    if depth == 0 {
+        return None;
+    }
+    match plain_position_at(text, from) {
+        Some(found) => Some(found),
+        None => any_position_at(alloc, text, from, depth),
+    }
+}
+
+/// The position of whatever form that begins there, and where it ends.
+#[inline(never)]
+fn any_position_at(
+    alloc: Global,
+    text: &str,
+    from: usize,
+    depth: usize,
+) -> Option<(Position, usize)>
     requires { from ≤ length text.now }
     ensures { IfSome result (λ r. (ms : Members) × IsValue depth text.now from r.1 (object ms)
         × (spec.position_at (object ms) ≡ Some r.0)) }

@@ -14,6 +14,7 @@ mod number_blocks;
 mod numbers;
 mod outline;
 mod params;
+mod positions;
 mod texts;
 mod walk;
 

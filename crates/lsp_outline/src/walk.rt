@@ -11,6 +11,7 @@ ghost use Rattle.lsp_rpc.specs.Shape.{is_structure_or_null};
 use crate::bytes::{byte_at, is_delimiter, spaces_end};
 use crate::number_blocks::number_blocks_end;
 use crate::numbers::{number_end, tiny_number_end};
+use crate::positions::plain_position_end;
 use crate::texts::{plain_text, text_copy, text_end};
 use std::alloc::Global;
 
@@ -212,6 +213,9 @@ pub(crate) fn value_end(bytes: &[u8], from: usize, depth: usize) -> Option<usize
         b'{' => {
             if depth == 0 {
                 return None;
+            }
+            if let Some(end) = plain_position_end(bytes, from) {
+                return Some(end);
             }
             members_end(bytes, from + 1, depth - 1)
         }

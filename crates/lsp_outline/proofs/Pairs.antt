@@ -1,0 +1,187 @@
+-- Positions as most programs write them.
+use Rattle.std.proofs.Common.{◌≡◌, ◌||◌, ℕ, zero, suc, ◌+◌, ◌-◌, ◌<◌, ◌≤◌, List, [], ◌∷◌, ◌++◌}
+use Rattle.std.proofs.Common.{length, take, drop, get_or, refl, sym, ap, ap₂, ◌∙◌, arith, codes, Some, None}
+use Rattle.std.proofs.Common.{option_and_then, pos}
+use Rattle.std.proofs.lemmas.List.{get_or-drop, drop-drop, take-append-drop, take-take}
+use Rattle.std.proofs.lemmas.Nat.{le_bytes_8}
+use Rattle.std.specs.Int.{w64, to_le_bytes, from_le_bytes}
+use Rattle.std.specs.Simd.Lanes.{Each1}
+use Rattle.json.specs.Token as token_of
+use Rattle.json.specs.Text.{content}
+use Rattle.json.specs.Lex.{lex, between, token, colon}
+use Rattle.json.specs.Lex.{punctuate}
+use Rattle.json.specs.Json.{read_key}
+use Rattle.json.specs.Word.{is_operator, is_space}
+use Rattle.lsp_outline.proofs.Lexing.{key_first}
+use Rattle.serde_json.specs.Data.{Data, object, no_members, put}
+use Rattle.lsp_rpc.specs.Params.{as_uinteger, natural, position_at}
+use Rattle.lsp_rpc.specs.Shape.{as_integer}
+use Rattle.lsp_outline.proofs.Editing.{first_came, second_came}
+use Rattle.lsp_outline.proofs.DigitBlocks.{plain_numeral}
+use Rattle.lsp_outline.proofs.Walking.{object_value, no_members_yet, member_turn, last_member}
+use Rattle.lsp_outline.proofs.Walking.{number_value, numeral_kind}
+use Rattle.lsp_outline.specs.Walk.{IsKey, IsPlainNumber, IsValue, Stand, line_key, character_key}
+
+-- ---- words
+
+each_below : (xs : List ℕ) → Each1 (λ x. x < 256) xs → (i : ℕ) → get_or xs i 0 < 256
+each_below [] all i = omega arith
+each_below (x ∷ xs) all zero = all.0
+each_below (x ∷ xs) all (suc i) = each_below xs all.1 i
+
+-- the bytes of a word that equals this one
+word_is : (bs s : List ℕ) (word key : ℕ) → length bs ≡ 8 → Each1 (λ x. x < 256) bs
+    → key ≡ from_le_bytes w64 bs → to_le_bytes w64 word ≡ take 8 s → word ≡ key
+    → take 8 s ≡ bs
+word_is bs s word key long all is reads same =
+    sym reads ∙ ap (to_le_bytes w64) same
+    ∙ le_bytes_8 bs key long (each_below bs all) is
+
+stand : (d : List ℕ) (from n : ℕ) (bs : List ℕ) → take n (drop from d) ≡ bs
+    → drop from d ≡ bs ++ drop (from + n) d
+stand d from n bs is =
+    sym (take-append-drop n (drop from d)) ∙ ap₂ (λ a b. a ++ b) is (drop-drop n from d)
+
+pub line_stands : (d : List ℕ) (from before word key : ℕ) → from + 8 ≤ length d → before < 256
+    → key ≡ from_le_bytes w64 (before ∷ line_key) → to_le_bytes w64 word ≡ take 8 (drop from d)
+    → word ≡ key → Stand d from (before ∷ line_key) (from + 8)
+line_stands d from before word key room fits is reads same = record {
+  are = stand d from 8 (before ∷ line_key)
+      (word_is (before ∷ line_key) (drop from d) word key refl (fits, (omega arith, (omega arith, (omega arith, (omega arith, (omega arith, (omega arith, (omega arith, tt)))))))) is reads same);
+  is = refl;
+  within = room;
+}
+
+abbrev front : ℕ → List ℕ
+front before = before ∷ 34 ∷ 99 ∷ 104 ∷ 97 ∷ 114 ∷ 97 ∷ 99 ∷ []
+
+abbrev back : List ℕ
+back = 114 ∷ 97 ∷ 99 ∷ 116 ∷ 101 ∷ 114 ∷ 34 ∷ 58 ∷ []
+
+pub character_stands : (d : List ℕ) (from before word key after end : ℕ) → from + 13 ≤ length d
+    → before < 256 → key ≡ from_le_bytes w64 (front before)
+    → to_le_bytes w64 word ≡ take 8 (drop from d) → word ≡ key
+    → end ≡ from_le_bytes w64 back → to_le_bytes w64 after ≡ take 8 (drop (from + 5) d)
+    → after ≡ end → Stand d from (before ∷ character_key) (from + 13)
+character_stands d from before word key after end room fits is reads same is_back reads_back same_back =
+    let s = drop from d in
+    let first : take 8 s ≡ front before =
+    word_is (front before) s word key refl (fits, (omega arith, (omega arith, (omega arith, (omega arith, (omega arith, (omega arith, (omega arith, tt)))))))) is reads same in
+    let second : take 8 (drop (from + 5) d) ≡ back =
+    word_is back (drop (from + 5) d) after end refl (omega arith, (omega arith, (omega arith, (omega arith, (omega arith, (omega arith, (omega arith, (omega arith, tt)))))))) is_back reads_back same_back in
+    let five : take 5 s ≡ take 5 (front before) = sym (take-take 5 8 s (omega arith)) ∙ ap (take 5) first in
+    let there : from + 5 + 8 ≡ from + 13 = omega arith in
+    record {
+      are = stand d from 5 _ five
+          ∙ ap (λ l. take 5 (front before) ++ l) (stand d (from + 5) 8 back second
+          ∙ ap (λ k. back ++ drop k d) there);
+      is = refl;
+      within = room;
+    }
+
+-- ---- keys
+
+lex_line : (rest : List ℕ) → lex between (line_key ++ rest)
+    ≡ token (token_of.string (codes "line")) ∷ colon ∷ lex between rest
+unfolding lex content
+lex_line rest = refl
+
+lex_character : (rest : List ℕ) → lex between (character_key ++ rest)
+    ≡ token (token_of.string (codes "character")) ∷ colon ∷ lex between rest
+unfolding lex content
+lex_character rest = refl
+
+key_read : (d : List ℕ) (from before end : ℕ) (text k : List ℕ)
+    → ((rest : List ℕ) → lex between (text ++ rest)
+    ≡ token (token_of.string k) ∷ colon ∷ lex between rest)
+    → 0 < length text → Stand d from (before ∷ text) end
+    → (get_or d from 0 ≡ before) × IsKey d (from + 1) end k
+key_read d from before end text k lexes some is =
+    let ls = lex between (drop end d) in
+    let here : get_or d from 0 ≡ before =
+    sym (get_or-drop from d 0 0 ∙ ap (λ n. get_or d n 0) (omega arith))
+    ∙ ap (λ l. get_or l 0 0) is.are in
+    let behind : drop (from + 1) d ≡ text ++ drop end d =
+    sym (drop-drop 1 from d) ∙ ap (drop 1) is.are in
+    let lexed : lex between (drop (from + 1) d) ≡ token (token_of.string k) ∷ colon ∷ ls =
+    ap (lex between) behind ∙ lexes (drop end d) in (
+      here,
+      record {
+        read = λ p may. ap (λ l. read_key (punctuate p l)) lexed ∙ ap read_key (key_first p k ls may);
+        forward = omega (arith, is.is, some);
+        within = is.within;
+      },
+    )
+
+pub line_read : (d : List ℕ) (from before end : ℕ) → Stand d from (before ∷ line_key) end
+    → (get_or d from 0 ≡ before) × IsKey d (from + 1) end (codes "line")
+line_read d from before end is =
+    key_read d from before end line_key (codes "line") lex_line (omega arith) is
+
+pub character_read : (d : List ℕ) (from before end : ℕ) → Stand d from (before ∷ character_key) end
+    → (get_or d from 0 ≡ before) × IsKey d (from + 1) end (codes "character")
+character_read d from before end is =
+    key_read d from before end character_key (codes "character") lex_character (omega arith) is
+
+-- ---- an object of two members without space
+
+module _ (depth : ℕ) (d : List ℕ) (from : ℕ) where
+  pub two_members : (a s b e : ℕ) (first second : List ℕ) (x y : Data) → 0 < depth
+      → get_or d from 0 ≡ 123 → IsKey d (from + 1) a first → IsValue (depth - 1) d a s x
+      → get_or d s 0 ≡ 44 → IsKey d (s + 1) b second → IsValue (depth - 1) d b e y
+      → get_or d e 0 ≡ 125
+      → IsValue depth d from (e + 1) (object (put second y (put first x no_members)))
+  two_members a s b e first second x y some opened key_x value_x comma key_y value_y brace =
+      let none = no_members_yet (depth - 1) d (from + 1) (from + 1) refl (omega arith)
+      (omega (arith, key_x.forward, key_x.within)) in
+      let one = member_turn (depth - 1) d (from + 1) (from + 1) a s s (s + 1) first x no_members none
+      key_x value_x refl comma refl (omega arith) (omega arith)
+      (omega (arith, key_y.forward, key_y.within)) in
+      object_value depth d from (e + 1) _ opened some
+      (last_member (depth - 1) d (from + 1) (s + 1) b e e second y (put first x no_members) one
+      key_y value_y refl brace (omega arith))
+
+  -- of two plain numbers
+  pub two_numbers : (a s b e : ℕ) (first second : List ℕ) → 0 < depth
+      → (get_or d from 0 ≡ 123) × IsKey d (from + 1) a first → IsPlainNumber d a s
+      → (get_or d s 0 ≡ 44) × IsKey d (s + 1) b second → IsPlainNumber d b e
+      → get_or d e 0 ≡ 125 → (x : Data) × IsValue depth d from (e + 1) x
+  two_numbers a s b e first second some key_x number_x key_y number_y brace =
+      let one = plain_numeral d a s number_x (ap (λ x. is_operator x || is_space x) key_y.0) in
+      let two = plain_numeral d b e number_y (ap (λ x. is_operator x || is_space x) brace) in
+      let x = number_value (depth - 1) d a s one (numeral_kind d a s one) in
+      let y = number_value (depth - 1) d b e two (numeral_kind d b e two) in (
+        object (put second y.0 (put first x.0 no_members)),
+        two_members a s b e first second x.0 y.0 some key_x.0 key_x.1 x.1 key_y.0 key_y.1 y.1 brace,
+      )
+
+-- ---- positions
+
+-- what the members of a position read as, in either order
+pub line_then_character : (x y : Data) (line column : ℕ) → as_integer x ≡ Some (pos line)
+    → as_integer y ≡ Some (pos column)
+    → position_at (object (put (codes "character") y (put (codes "line") x no_members)))
+    ≡ Some (record { line = line; column = column })
+line_then_character x y line column is_line is_column =
+    let none = no_members in
+    let first = first_came (option_and_then as_uinteger) (option_and_then as_uinteger)
+    (codes "line") (codes "character") (codes "line") x None None refl refl (Some line)
+    (ap (option_and_then natural) is_line) none (refl, refl) in
+    let both = second_came (option_and_then as_uinteger) (option_and_then as_uinteger)
+    (codes "line") (codes "character") (codes "character") y (Some line) None refl refl
+    (Some column) (ap (option_and_then natural) is_column) (put (codes "line") x none) first in
+    rw (both.0, both.1) refl
+
+pub character_then_line : (x y : Data) (line column : ℕ) → as_integer x ≡ Some (pos column)
+    → as_integer y ≡ Some (pos line)
+    → position_at (object (put (codes "line") y (put (codes "character") x no_members)))
+    ≡ Some (record { line = line; column = column })
+character_then_line x y line column is_column is_line =
+    let none = no_members in
+    let first = second_came (option_and_then as_uinteger) (option_and_then as_uinteger)
+    (codes "line") (codes "character") (codes "character") x None None refl refl (Some column)
+    (ap (option_and_then natural) is_column) none (refl, refl) in
+    let both = first_came (option_and_then as_uinteger) (option_and_then as_uinteger)
+    (codes "line") (codes "character") (codes "line") y None (Some column) refl refl
+    (Some line) (ap (option_and_then natural) is_line) (put (codes "character") x none) first in
+    rw (both.0, both.1) refl
