@@ -1,10 +1,12 @@
--- Sixteen bytes of a text at once: which of them end a run of plain ones, and the run.
-use Rattle.std.proofs.Common.{◌≡◌, ℕ, ◌+◌, ◌%◌, ◌^◌, ◌<◌, ◌≤◌, Bool, true, false, ◌||◌, ◌==◌}
+-- Several bytes of a text at once: which of them end a run of plain ones, and the run.
+use Rattle.std.proofs.Common.{◌≡◌, ℕ, suc, ◌+◌, ◌*◌, ◌%◌, ◌^◌, ◌<◌, ◌≤◌, Bool, true, false, not}
+use Rattle.std.proofs.Common.{◌||◌, ◌==◌, lt_of_not-le}
 use Rattle.std.proofs.Common.{ltb, cond, eqb, List, [], ◌∷◌, map, length, drop, replicate, refl}
 use Rattle.std.proofs.Common.{sym, ap, ap₂, ◌∙◌, arith}
 use Rattle.std.proofs.lemmas.Bool.{eq-eqb, ne_eqb}
 use Rattle.std.proofs.lemmas.List.{length-map}
 use Rattle.std.proofs.lemmas.List.Folds.{prefix_len-append}
+use Rattle.std.proofs.lemmas.List.Sums.{prefix_len-le-length}
 use Rattle.std.proofs.lemmas.Simd.{zip2_splat, mask_l-mod, chunk-drop, length-chunk}
 use Rattle.std.proofs.lemmas.Simd.{first_set_mask_l}
 use Rattle.std.specs.Int.Bits.{bit_or}
@@ -40,33 +42,70 @@ lane_by_lane [] = refl
 lane_by_lane (x ∷ xs) = ap₂ (λ b bs. b ∷ bs) (any_of (x == 34) (x == 92) (ltb x 32))
     (lane_by_lane xs)
 
-pub marked : (v : List ℕ) → length v ≡ 16
-    → mask_l (map (top 7) (zip2 bit_or (zip2 bit_or (zip2 hit v (replicate 16 34))
-    (zip2 hit v (replicate 16 92))) (zip2 below v (replicate 16 32)))) % 2 ^ 64
+pub marked : (v : List ℕ) (n : ℕ) → length v ≡ n → n ≤ 64
+    → mask_l (map (top 7) (zip2 bit_or (zip2 bit_or (zip2 hit v (replicate n 34))
+    (zip2 hit v (replicate n 92))) (zip2 below v (replicate n 32)))) % 2 ^ 64
     ≡ mask_l (map is_stop v)
-marked v long =
-    let quotes = zip2_splat hit v 16 34 long in
-    let slashes = zip2_splat hit v 16 92 long in
-    let controls = zip2_splat below v 16 32 long in
+marked v n long few =
+    let quotes = zip2_splat hit v n 34 long in
+    let slashes = zip2_splat hit v n 92 long in
+    let controls = zip2_splat below v n 32 long in
     let tests = ap₂ (zip2 bit_or) (ap₂ (zip2 bit_or) quotes slashes) controls in
     ap (λ l. mask_l l % 2 ^ 64) (ap (map (top 7)) tests ∙ lane_by_lane v)
     ∙ mask_l-mod (map is_stop v) 64 (omega (arith, length-map v is_stop))
 
 -- ---- the run
 
-pub none_marked : (v : List ℕ) → length v ≡ 16 → mask_l (map is_stop v) ≡ 0
-    → 16 ≡ prefix_len is_plain v
-none_marked v long none =
-    ap (λ b. cond b 16 (count_trailing_zeros 64 (mask_l (map is_stop v))))
+pub none_marked : (v : List ℕ) (n : ℕ) → length v ≡ n → n ≤ 64 → mask_l (map is_stop v) ≡ 0
+    → n ≡ prefix_len is_plain v
+none_marked v n long few none =
+    ap (λ b. cond b n (count_trailing_zeros 64 (mask_l (map is_stop v))))
     (sym (eq-eqb (mask_l (map is_stop v)) 0 none))
-    ∙ first_set_mask_l is_stop v 16 long (omega arith)
+    ∙ first_set_mask_l is_stop v n long few
 
-pub some_marked : (v : List ℕ) → length v ≡ 16 → (mask_l (map is_stop v) ≡ 0 → ⊥)
+pub some_marked : (v : List ℕ) (n : ℕ) → length v ≡ n → n ≤ 64
+    → (mask_l (map is_stop v) ≡ 0 → ⊥)
     → count_trailing_zeros 64 (mask_l (map is_stop v)) ≡ prefix_len is_plain v
-some_marked v long some =
-    ap (λ b. cond b 16 (count_trailing_zeros 64 (mask_l (map is_stop v))))
+some_marked v n long few some =
+    ap (λ b. cond b n (count_trailing_zeros 64 (mask_l (map is_stop v))))
     (sym (ne_eqb (mask_l (map is_stop v)) 0 some))
-    ∙ first_set_mask_l is_stop v 16 long (omega arith)
+    ∙ first_set_mask_l is_stop v n long few
+
+mark_step : (stop : Bool) (p m l : ℕ) → (p ≡ l → m ≡ 0) → cond (not stop) (1 + p) 0 ≡ suc l
+    → cond stop 1 0 + 2 * m ≡ 0
+mark_step true p m l more all = let no : ⊥ = omega arith in absurd no
+mark_step false p m l more all = let none = more (omega arith) in omega (arith, none)
+
+all_plain : (v : List ℕ) → prefix_len is_plain v ≡ length v → mask_l (map is_stop v) ≡ 0
+all_plain [] all = refl
+all_plain (x ∷ xs) all =
+    mark_step (is_stop x) (prefix_len is_plain xs) (mask_l (map is_stop xs)) (length xs)
+    (all_plain xs) all
+
+-- a mark is among the bytes
+pub some_stop : (v : List ℕ) (n : ℕ) → length v ≡ n → (mask_l (map is_stop v) ≡ 0 → ⊥)
+    → prefix_len is_plain v < n
+some_stop v n long some =
+    lt_of_not-le (λ (most : n ≤ prefix_len is_plain v). some
+    (all_plain v (omega (arith, most, long, prefix_len-le-length is_plain v))))
+
+-- of thirty-two bytes, by their marks: all are plain, or the first mark ends the run
+pub none_found : (d : List ℕ) (at stops : ℕ) → at + 32 ≤ length d
+    → stops ≡ mask_l (map is_stop (chunk at 32 d)) → stops ≡ 0
+    → 32 ≡ prefix_len is_plain (chunk at 32 d)
+none_found d at stops room are none =
+    none_marked (chunk at 32 d) 32 (length-chunk at 32 d room) (omega arith) (sym are ∙ none)
+
+pub some_found : (d : List ℕ) (at stops : ℕ) → at + 32 ≤ length d
+    → stops ≡ mask_l (map is_stop (chunk at 32 d)) → (stops ≡ 0 → ⊥)
+    → (count_trailing_zeros 64 stops ≡ prefix_len is_plain (chunk at 32 d))
+    × (count_trailing_zeros 64 stops < 32)
+some_found d at stops room are some =
+    let v = chunk at 32 d in
+    let long = length-chunk at 32 d room in
+    let marked : mask_l (map is_stop v) ≡ 0 → ⊥ = λ none. some (are ∙ none) in
+    let is = ap (count_trailing_zeros 64) are ∙ some_marked v 32 long (omega arith) marked in
+    (is, omega (arith, is, some_stop v 32 long marked))
 
 parted : (d : List ℕ) (i : ℕ) → prefix_len is_plain (drop i d)
     ≡ cond (eqb (prefix_len is_plain (chunk i 16 d)) (length (chunk i 16 d)))

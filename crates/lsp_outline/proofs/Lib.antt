@@ -10,6 +10,7 @@ pub mod NumberBlocks
 pub mod DigitBlocks
 pub mod Pairs
 pub mod Strings
+pub mod Parts
 pub mod Walking
 pub mod Speaking
 pub mod Negatives

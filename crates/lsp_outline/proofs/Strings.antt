@@ -5,8 +5,9 @@ use Rattle.std.proofs.Common.{Some, None, option_and_then, lt_of_not-le, refl, s
 use Rattle.std.proofs.lemmas.List.{drop_more, append_assoc, append-nil, drop-drop, get_or_past}
 use Rattle.std.proofs.lemmas.List.{length-drop}
 use Rattle.std.proofs.lemmas.List.Sums.{prefix_len-le-length}
-use Rattle.std.proofs.lemmas.Bool.{or_parts, not-true}
-use Rattle.std.proofs.lemmas.Str.{IsCharBoundary-after_ascii}
+use Rattle.std.proofs.lemmas.Bool.{or_parts, not-true, ne_eqb}
+use Rattle.std.proofs.lemmas.Grind.{common_steps}
+use Rattle.std.proofs.lemmas.Str.{IsCharBoundary-after_ascii, encode_ascii, len_utf8_ascii}
 use Rattle.std.specs.List.{prefix_len}
 use Rattle.std.specs.Str.{IsUtf8, IsCharBoundary}
 use Rattle.std.specs.Char.{encode_utf8, len_utf8}
@@ -15,6 +16,7 @@ use Rattle.json.specs.Text.{surrogate_pair, Within, plain, after_backslash, afte
 use Rattle.json.specs.Text.{prepend, content}
 use Rattle.json.specs.Run.{is_plain, Escape}
 use Rattle.json.specs.Lex.{lex, in_string, in_escape}
+use Rattle.lsp_outline.specs.Texts.{one_byte}
 use Rattle.lsp_outline.specs.Walk.{IsRun, IsText}
 use Rattle.lsp_outline.proofs.Lexing.{lex_close, lex_plain, lex_run}
 
@@ -67,6 +69,49 @@ content-after_high d i high h =
     (drop_more d (i + 1) 0 (omega arith)
     ∙ ap (λ l. get_or d (i + 1) 0 ∷ l) (ap (λ n. drop n d) two ∙ last)))
 
+-- a short escape writes one byte of ASCII, which is not 0; 0 and the u of `\u` are none
+pub short_writes : (x c : ℕ) → short_escape x ≡ Some c → (0 < c) × (c < 128) × (0 < x) × (x < 117)
+unfolding short_escape
+short_writes x c is = (
+  grind (arith, common_steps),
+  grind (arith, common_steps),
+  grind (arith, common_steps),
+  grind (arith, common_steps),
+)
+
+one_byte_cases : (r : Option ℕ) → ((c : ℕ) → r ≡ Some c → 0 < c)
+    → (one_byte r ≡ 0 → r ≡ None) × ((one_byte r ≡ 0 → ⊥) → r ≡ Some (one_byte r))
+one_byte_cases None more = (λ _. refl, λ some. absurd (some refl))
+one_byte_cases (Some c) more =
+    (λ (none : c ≡ 0). let no : ⊥ = omega (arith, none, more c refl) in absurd no, λ _. refl)
+
+pub no_short : (x : ℕ) → one_byte (short_escape x) ≡ 0 → short_escape x ≡ None
+no_short x none = (one_byte_cases (short_escape x) (λ c is. (short_writes x c is).0)).0 none
+
+pub some_short : (x : ℕ) → (one_byte (short_escape x) ≡ 0 → ⊥)
+    → short_escape x ≡ Some (one_byte (short_escape x))
+some_short x some = (one_byte_cases (short_escape x) (λ c is. (short_writes x c is).0)).1 some
+
+-- what follows the backslash of a short escape
+pub short_is : (d : List ℕ) (i c : ℕ) → i < length d → short_escape (get_or d i 0) ≡ Some c
+    → Escape d after_backslash i (Some (c, i + 1))
+short_is d i c within is =
+    let x = get_or d i 0 in
+    let facts = short_writes x c is in
+    let other : (x == 117) ≡ false = ne_eqb x 117 (λ (e : x ≡ 117). omega (arith, facts.3, e)) in
+    let ascii : c ∷ [] ≡ encode_utf8 c = sym (encode_ascii c facts.1) in
+    let rest = content plain (drop (i + 1) d) in
+    let back : i + 1 - 1 ≡ i = omega arith in (
+      content-after_backslash d i within
+          ∙ ap (λ b. cond b (content after_u (drop (i + 1) d))
+          (option_and_then (λ y. prepend (y ∷ []) rest) (short_escape x))) other
+          ∙ ap (option_and_then (λ y. prepend (y ∷ []) rest)) is ∙ ap (λ s. prepend s rest) ascii,
+      omega arith,
+      omega arith,
+      omega (arith, len_utf8_ascii c facts.1),
+      omega (arith, ap (λ k. get_or d k 0) back, facts.3),
+    )
+
 pub content-nil : (w : Within) → content w [] ≡ None
 unfolding content
 content-nil plain = refl
@@ -98,12 +143,12 @@ len_utf8-le c = grind arith
 
 -- ---- plain bytes write themselves
 
-prepend-prepend : (a b : List ℕ) (r : Option (List ℕ))
+pub prepend-prepend : (a b : List ℕ) (r : Option (List ℕ))
     → prepend a (prepend b r) ≡ prepend (a ++ b) r
 prepend-prepend a b None = refl
 prepend-prepend a b (Some s) = ap Some (sym (append_assoc a b s))
 
-prepend-nil : (r : Option (List ℕ)) → prepend [] r ≡ r
+pub prepend-nil : (r : Option (List ℕ)) → prepend [] r ≡ r
 prepend-nil None = refl
 prepend-nil (Some s) = refl
 
@@ -121,6 +166,10 @@ run_byte true x n xs e ih =
     (cond (none.1 i) None (prepend (x ∷ []) (ih i)))))
     ∙ prepend-prepend (x ∷ []) (take n xs) _
     ∙ ap (λ k. prepend (take k (x ∷ xs)) (content plain (drop k (x ∷ xs)))) next
+
+pub content_plain : (x : ℕ) (xs : List ℕ) → is_plain x ≡ true
+    → content plain (x ∷ xs) ≡ prepend (x ∷ []) (content plain xs)
+content_plain x xs is = run_byte true x 0 xs (sym is) (sym (prepend-nil _))
 
 content-run : (xs : List ℕ)
     → content plain xs ≡ prepend (take (prefix_len is_plain xs) xs)

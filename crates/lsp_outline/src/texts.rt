@@ -1,13 +1,14 @@
 //! The text of strings, with what their escapes write (RFC 8259, section 7).
-ghost use Rattle.std.specs.Prelude.{◌≡◌, ℕ, List, ◌+◌, ◌-◌, ◌<◌, ◌≤◌, length, drop, get_or, true};
-ghost use Rattle.std.specs.Prelude.{None, Some, IfSome, map, string_bytes};
-ghost use Rattle.std.specs.Char.{digit_value};
+ghost use Rattle.std.specs.Prelude.{◌≡◌, ℕ, List, ◌+◌, ◌-◌, ◌<◌, ◌≤◌, ◌++◌, length, take, drop};
+ghost use Rattle.std.specs.Prelude.{get_or, true, None, Some, IfSome, map, string_bytes};
+ghost use Rattle.std.specs.Char.{digit_value, encode_utf8};
 ghost use Rattle.std.specs.List.{prefix_len};
-ghost use Rattle.std.specs.Simd.Lanes.{mask_l};
-ghost use Rattle.std.specs.Str.{IsCharBoundary};
+ghost use Rattle.std.specs.Simd.Lanes.{mask_l, chunk};
+ghost use Rattle.std.specs.Str.{IsUtf8, IsCharBoundary};
 ghost use Rattle.json.specs.Run.{is_plain, is_stop, Escape};
 ghost use Rattle.json.specs.Text.{code_unit, short_escape, after_backslash, after_u, after_high};
 ghost use Rattle.json.specs.Lex.{lex, in_string, in_escape};
+ghost use Rattle.lsp_outline.specs.Texts.{IsPart, WritesPart, one_byte};
 ghost use Rattle.lsp_outline.specs.Walk.{IsText};
 
 use crate::bytes::byte_at;
@@ -16,6 +17,13 @@ use std::simd::prelude::*;
 
 /// How many bytes are looked at together.
 const LANES: usize = 16;
+
+/// How many bytes are copied together. Source text has an escape every 20 to 40 bytes, so that a
+/// run of plain bytes mostly ends in its first block.
+const WIDE_LANES: usize = 32;
+
+/// How many bytes of a text are written before they are put behind the copy.
+const ROOM: usize = 1024;
 
 /// A bit for each of these bytes: whether it ends a run of those that stand for themselves in a
 /// string.
@@ -111,20 +119,33 @@ fn code_unit_at(bytes: &[u8], at: usize) -> Option<u32>
     }
 }
 
-/// What a backslash and this byte write.
-fn short_escape(byte: u8) -> Option<u8>
-    ensures value { result ≡ short_escape byte }
-    ensures ascii { IfSome result (λ c. (c < 128) × (byte < 128)) }
+/// What a backslash and each byte write, where they write one byte, and else 0.
+#[rattlefmt::skip]
+static SHORT_ESCAPES: [u8; 256] = [
+    0, 0, 0, 0, 0, 0, 0, 0, 0, 0, 0, 0, 0, 0, 0, 0,
+    0, 0, 0, 0, 0, 0, 0, 0, 0, 0, 0, 0, 0, 0, 0, 0,
+    0, 0, 34, 0, 0, 0, 0, 0, 0, 0, 0, 0, 0, 0, 0, 47,
+    0, 0, 0, 0, 0, 0, 0, 0, 0, 0, 0, 0, 0, 0, 0, 0,
+    0, 0, 0, 0, 0, 0, 0, 0, 0, 0, 0, 0, 0, 0, 0, 0,
+    0, 0, 0, 0, 0, 0, 0, 0, 0, 0, 0, 0, 92, 0, 0, 0,
+    0, 0, 8, 0, 0, 0, 12, 0, 0, 0, 0, 0, 0, 0, 10, 0,
+    0, 0, 13, 0, 9, 0, 0, 0, 0, 0, 0, 0, 0, 0, 0, 0,
+    0, 0, 0, 0, 0, 0, 0, 0, 0, 0, 0, 0, 0, 0, 0, 0,
+    0, 0, 0, 0, 0, 0, 0, 0, 0, 0, 0, 0, 0, 0, 0, 0,
+    0, 0, 0, 0, 0, 0, 0, 0, 0, 0, 0, 0, 0, 0, 0, 0,
+    0, 0, 0, 0, 0, 0, 0, 0, 0, 0, 0, 0, 0, 0, 0, 0,
+    0, 0, 0, 0, 0, 0, 0, 0, 0, 0, 0, 0, 0, 0, 0, 0,
+    0, 0, 0, 0, 0, 0, 0, 0, 0, 0, 0, 0, 0, 0, 0, 0,
+    0, 0, 0, 0, 0, 0, 0, 0, 0, 0, 0, 0, 0, 0, 0, 0,
+    0, 0, 0, 0, 0, 0, 0, 0, 0, 0, 0, 0, 0, 0, 0, 0,
+];
+
+/// What a backslash and this byte write, where they write one byte, and else 0.
+#[inline(always)]
+fn short_escape(byte: u8) -> u8
+    ensures { result ≡ one_byte (short_escape byte) }
 {
-    match byte {
-        b'"' | b'\\' | b'/' => Some(byte),
-        b'b' => Some(8),
-        b'f' => Some(12),
-        b'n' => Some(b'\n'),
-        b'r' => Some(b'\r'),
-        b't' => Some(b'\t'),
-        _ => None,
-    }
+    SHORT_ESCAPES[byte as usize]
 }
 
 /// The second half of a surrogate pair.
@@ -176,7 +197,10 @@ fn escape(bytes: &[u8], at: usize) -> Option<(char, usize)>
     if bytes[at] == b'u' {
         return unicode(bytes, at + 1);
     }
-    let c = short_escape(bytes[at])?;
+    let c = short_escape(bytes[at]);
+    if c == 0 {
+        return None;
+    }
     Some((c as char, at + 1))
 }
 
@@ -216,29 +240,197 @@ pub(crate) fn plain_text(text: &str, from: usize) -> Option<(&str, usize)>
     Some((&text[from..stop], stop + 1))
 }
 
-/// The text of a string that begins there, its escapes read, and where it ends, past its closing
-/// quote.
+/// A bit for each of these bytes: whether it ends a run of those that stand for themselves in a
+/// string.
+#[inline(always)]
+fn wide_stops(block: u8x32) -> u64
+    requires { length block ≡ WIDE_LANES }
+    ensures { result ≡ mask_l (map is_stop block) }
+{
+    (block.simd_eq(u8x32::splat(b'"'))
+        | block.simd_eq(u8x32::splat(b'\\'))
+        | block.simd_lt(u8x32::splat(0x20))).to_bitmask()
+}
+
+/// Copies the bytes there behind the first ones of the room, plain or not. A bit for each says
+/// whether it ends a run of those that stand for themselves in a string.
+#[inline(always)]
+fn copy_block(room: &mut [u8], len: usize, bytes: &[u8], at: usize) -> u64
+    requires { (len + WIDE_LANES ≤ length room.old) × (at + WIDE_LANES ≤ length bytes.now) }
+    ensures value { result ≡ mask_l (map is_stop (chunk at WIDE_LANES bytes.now)) }
+    ensures written { take (len + WIDE_LANES) room.new
+        ≡ take len room.old ++ chunk at WIDE_LANES bytes.now }
+    ensures len { length room.new ≡ length room.old }
+{
+    let block = u8x32::from_slice(&bytes[at..]);
+    block.copy_to_slice(&mut room[len..]);
+    wide_stops(block)
+}
+
+/// Writes a character behind the first bytes of the room, and gives how many there are then.
+#[inline(always)]
+fn write_char(room: &mut [u8], len: usize, c: char) -> usize
+    requires { len + 4 ≤ length room.old }
+    ensures written { take result room.new ≡ take len room.old ++ encode_utf8 c }
+    ensures utf8 { IsUtf8 (encode_utf8 c) }
+    ensures within { result ≤ length room.new }
+    ensures len { length room.new ≡ length room.old }
+{
+    let mut utf8 = [0; 4];
+    let bytes = c.encode_utf8(&mut utf8).as_bytes();
+    let end = len + bytes.len();
+    room[len..end].copy_from_slice(bytes);
+    end
+}
+
+/// Writes what the escape there writes behind the first bytes of the room: where the text
+/// continues, and how many bytes there are then.
 #[inline(never)]
-fn unescaped(alloc: Global, text: &str, from: usize) -> Option<(String, usize)>
-    requires { IsCharBoundary text.now from }
+fn write_escape(room: &mut [u8], len: usize, bytes: &[u8], at: usize) -> Option<(usize, usize)>
+    requires room { len + 4 ≤ length room.old }
+    requires mark { (at < length bytes.now) × (get_or bytes.now at 0 ≡ 92) }
+    ensures part { IfSome result (λ r. WritesPart bytes.now at r.0 room.old len room.new r.1) }
+    ensures forward { IfSome result (λ r. at < r.0) }
+    ensures len { length room.new ≡ length room.old }
+{
+    let (c, next) = escape(bytes, at + 1)?;
+    let end = write_char(room, len, c);
+    Some((next, end))
+}
+
+/// Writes the text that is there into the room, as far as blocks fit on both sides: where it
+/// continues, and how many bytes were written. A block is copied whole, before it is known how many
+/// of its bytes are plain; what is written next overwrites the others.
+#[inline(never)]
+fn write_text(room: &mut [u8], bytes: &[u8], from: usize) -> Option<(usize, usize)>
+    requires { from ≤ length bytes.now }
+    ensures part { IfSome result (λ r. IsPart bytes.now from r.0 (take r.1 room.new)) }
+    ensures within { IfSome result (λ r. r.1 ≤ length room.new) }
+    ensures len { length room.new ≡ length room.old }
+{
+    let mut at = from;
+    let mut len = 0;
+    'blocks: while bytes.len() - at > WIDE_LANES && room.len() - len >= WIDE_LANES {
+        let stops = copy_block(room, len, bytes, at);
+        if stops == 0 {
+            at += WIDE_LANES;
+            len += WIDE_LANES;
+            continue;
+        }
+        let plain = stops.trailing_zeros() as usize;
+        at += plain;
+        len += plain;
+        if bytes[at] != b'\\' {
+            return Some((at, len));
+        }
+        let short = short_escape(bytes[at + 1]);
+        if short != 0 {
+            room[len] = short;
+            at += 2;
+            len += 1;
+            continue;
+        }
+        if room.len() - len < 4 {
+            return Some((at, len));
+        }
+        (at, len) = write_escape(room, len, bytes, at)?;
+    }
+    Some((at, len))
+}
+
+/// Puts the text that is there behind the copy, as far as blocks fit, and gives where it
+/// continues.
+#[inline(never)]
+fn copy_rooms(bytes: &[u8], from: usize, copy: &mut Vec<u8>) -> Option<usize>
+    requires { from ≤ length bytes.now }
+    ensures part { IfSome result (λ next. (start : ℕ)
+        → IsPart bytes.now start from copy.old.items
+        → IsPart bytes.now start next copy.new.items) }
+    ensures bounds { IfSome result (λ next. (from ≤ next) × (next ≤ length bytes.now)) }
+{
+    let mut room = [0; ROOM];
+    let mut at = from;
+    'rooms: loop {
+        let (next, len) = write_text(&mut room, bytes, at)?;
+        copy.extend_from_slice(&room[..len]).ok()?;
+        // The room was not filled: the text ends there, or no block fits behind it.
+        if next - at < ROOM / 2 {
+            return Some(next);
+        }
+        at = next;
+    }
+}
+
+/// The same, but only behind a longer copy: a room is filled with zeros first, and most texts with
+/// an escape are a line feed and some spaces.
+#[inline(always)]
+fn copy_blocks(bytes: &[u8], from: usize, copy: &mut Vec<u8>) -> Option<usize>
+    requires { from ≤ length bytes.now }
+    ensures part { IfSome result (λ next. (start : ℕ)
+        → IsPart bytes.now start from copy.old.items
+        → IsPart bytes.now start next copy.new.items) }
+    ensures bounds { IfSome result (λ next. (from ≤ next) × (next ≤ length bytes.now)) }
+{
+    if copy.len() < WIDE_LANES || bytes.len() - from <= WIDE_LANES {
+        return Some(from);
+    }
+    copy_rooms(bytes, from, copy)
+}
+
+/// Puts the text that is there behind the copy, up to a byte that does not stand for itself, and
+/// gives where that is.
+#[inline(always)]
+fn copy_part(bytes: &[u8], from: usize, copy: &mut Vec<u8>) -> Option<usize>
+    requires { from ≤ length bytes.now }
+    ensures part { IfSome result (λ next. (start : ℕ)
+        → IsPart bytes.now start from copy.old.items
+        → IsPart bytes.now start next copy.new.items) }
+    ensures bounds { IfSome result (λ next. (from ≤ next) × (next ≤ length bytes.now)) }
+{
+    let at = copy_blocks(bytes, from, copy)?;
+    let stop = plain_end(bytes, at);
+    copy.extend_from_slice(&bytes[at..stop]).ok()?;
+    Some(stop)
+}
+
+/// Puts a character behind the copy.
+#[inline(always)]
+fn push_char(copy: &mut Vec<u8>, c: char) -> Option<()>
+    ensures written { IfSome result (λ _. copy.new.items ≡ copy.old.items ++ encode_utf8 c) }
+    ensures utf8 { IsUtf8 (encode_utf8 c) }
+{
+    if (c as u32) < 0x80 {
+        return copy.push(c as u8).ok();
+    }
+    let mut utf8 = [0; 4];
+    copy.extend_from_slice(c.encode_utf8(&mut utf8).as_bytes())
+        .ok()
+}
+
+/// The text of a string that begins there, its escapes read, and where it ends, past its closing
+/// quote. Its first bytes stand for themselves, up to `stop`.
+#[inline(never)]
+fn unescaped(alloc: Global, text: &str, from: usize, stop: usize) -> Option<(String, usize)>
+    requires boundary { IsCharBoundary text.now from }
+    requires front { stop ≡ from + prefix_len is_plain (drop from text.now) }
+    requires within { stop ≤ length text.now }
     ensures { IfSome result (λ r. IsText text.now from r.1 (string_bytes r.0)) }
 {
     let bytes = text.as_bytes();
-    let mut copy = String::new(alloc);
-    let mut at = from;
+    let mut copy = Vec::new(alloc);
+    copy.extend_from_slice(&bytes[from..stop]).ok()?;
+    let mut at = stop;
     'runs: loop {
-        let stop = plain_end(bytes, at);
-        let mark = byte_at(bytes, stop);
-        if mark != b'"' && mark != b'\\' {
+        let mark = byte_at(bytes, at);
+        if mark == b'"' {
+            return Some((unsafe { String::from_utf8_unchecked(copy) }, at + 1));
+        }
+        if mark != b'\\' {
             return None;
         }
-        copy.push_str(&text[at..stop]).ok()?;
-        if mark == b'"' {
-            return Some((copy, stop + 1));
-        }
-        let (c, next) = escape(bytes, stop + 1)?;
-        copy.push(c).ok()?;
-        at = next;
+        let (c, next) = escape(bytes, at + 1)?;
+        push_char(&mut copy, c)?;
+        at = copy_part(bytes, next, &mut copy)?;
     }
 }
 
@@ -249,11 +441,11 @@ pub(crate) fn text_copy(alloc: Global, text: &str, from: usize) -> Option<(Strin
     requires { IsCharBoundary text.now from }
     ensures { IfSome result (λ r. IsText text.now from r.1 (string_bytes r.0)) }
 {
-    match plain_text(text, from) {
-        Some((plain, close)) => {
-            let copy = String::from_str(alloc, plain).ok()?;
-            Some((copy, close))
-        }
-        None => unescaped(alloc, text, from),
+    let bytes = text.as_bytes();
+    let stop = plain_end(bytes, from);
+    if byte_at(bytes, stop) == b'"' {
+        let copy = String::from_str(alloc, &text[from..stop]).ok()?;
+        return Some((copy, stop + 1));
     }
+    unescaped(alloc, text, from, stop)
 }

@@ -1,32 +1,19 @@
-use Rattle.std.proofs.Common.{rules, arith}
-use Rattle.std.proofs.lemmas.Grind.{common_steps}
+use Rattle.std.proofs.Common.{◌≡◌, ℕ, ◌<◌, map, get_or, refl, ap, ◌∙◌, arith}
+use Rattle.std.proofs.lemmas.List.FromFn.{get_or-map-range_with_len}
+use Rattle.std.specs.List.{range_with_len}
 use Rattle.json.specs.Text.{short_escape}
+use Rattle.lsp_outline.specs.Texts.{one_byte}
+use Rattle.lsp_outline.specs.declared.texts.TheConstants.{SHORT_ESCAPES}
 use Rattle.lsp_outline.proofs.texts.short_escape.Goals as goal
 
-pub returns-in-34-clause-value : goal.returns-in-34-clause-value
+table_is : SHORT_ESCAPES ≡ map (λ x. one_byte (short_escape x)) (range_with_len 0 256)
 unfolding short_escape
-returns-in-34-clause-value c = first_of (search rules, grind (arith, common_steps))
+table_is = refl
 
-pub returns-in-98-clause-value : goal.returns-in-98-clause-value
-unfolding short_escape
-returns-in-98-clause-value c = first_of (search rules, grind (arith, common_steps))
+read : (x : ℕ) → x < 256 → get_or SHORT_ESCAPES x 0 ≡ one_byte (short_escape x)
+read x h =
+    ap (λ t. get_or t x 0) table_is
+    ∙ get_or-map-range_with_len (λ n. one_byte (short_escape n)) 0 256 x x 0 h (omega arith)
 
-pub returns-in-102-clause-value : goal.returns-in-102-clause-value
-unfolding short_escape
-returns-in-102-clause-value c = first_of (search rules, grind (arith, common_steps))
-
-pub returns-in-110-clause-value : goal.returns-in-110-clause-value
-unfolding short_escape
-returns-in-110-clause-value c = first_of (search rules, grind (arith, common_steps))
-
-pub returns-in-114-clause-value : goal.returns-in-114-clause-value
-unfolding short_escape
-returns-in-114-clause-value c = first_of (search rules, grind (arith, common_steps))
-
-pub returns-in-116-clause-value : goal.returns-in-116-clause-value
-unfolding short_escape
-returns-in-116-clause-value c = first_of (search rules, grind (arith, common_steps))
-
-pub returns-in_default-clause-value : goal.returns-in_default-clause-value
-unfolding short_escape
-returns-in_default-clause-value c = first_of (search rules, grind (arith, common_steps))
+pub returns : goal.returns
+returns c = read c.args.byte (omega arith)

@@ -1,5 +1,6 @@
+use Rattle.std.proofs.Common.{arith}
 use Rattle.lsp_outline.proofs.Blocks.{marked}
 use Rattle.lsp_outline.proofs.texts.stops.Goals as goal
 
 pub returns : goal.returns
-returns c = marked c.args.block c.requires
+returns c = marked c.args.block 16 c.requires (omega arith)

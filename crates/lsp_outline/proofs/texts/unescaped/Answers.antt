@@ -1,62 +1,73 @@
-use Rattle.std.proofs.Common.{◌≡◌, ◌+◌, ◌-◌, ◌++◌, take, drop, get_or, string_bytes}
-use Rattle.std.proofs.Common.{Some, sym, subst, arith}
-use Rattle.std.proofs.lemmas.Str.{IsCharBoundary-after_ascii}
+use Rattle.std.proofs.Common.{◌≡◌, ◌+◌, ◌-◌, ◌<◌, ◌++◌, length, take, drop, get_or, Some, sym}
+use Rattle.std.proofs.Common.{ℕ, string_bytes}
+use Rattle.std.proofs.Common.{subst, lt_of_not-le, arith}
+use Rattle.std.proofs.lemmas.List.{get_or_past}
+use Rattle.std.proofs.lemmas.Str.{IsUtf8-drop}
 use Rattle.std.specs.Char.{encode_utf8}
-use Rattle.std.specs.List.{prefix_len}
-use Rattle.std.specs.Str.{IsCharBoundary}
 use Rattle.json.specs.Lex.{lex, in_string, in_escape}
-use Rattle.json.specs.Run.{is_plain, Escape}
+use Rattle.json.specs.Run.{Escape}
 use Rattle.json.specs.Text.{after_backslash}
-use Rattle.lsp_outline.specs.Walk.{IsRun, IsText}
-use Rattle.lsp_outline.proofs.Strings.{run_none, run_on, closed, escaped}
+use Rattle.lsp_outline.specs.Texts.{IsPart}
+use Rattle.lsp_outline.specs.Walk.{IsText}
+use Rattle.lsp_outline.proofs.Strings.{closed}
+use Rattle.lsp_outline.proofs.Parts.{part_on, run_part, escape_part, whole_text}
 use Rattle.lsp_outline.proofs.texts.unescaped.Goals as goal
 
 pub runs-init : goal.runs-init
 runs-init c =
-    let nothing = c.new-copy.ensures.bytes in (
-      subst (IsRun c.args.text.now c.args.from c.args.from) (sym nothing)
-          (run_none c.args.text.now c.args.from c.requires.0),
-      c.requires,
-    )
+    let d = c.args.text.now in
+    let a = c.args in
+    let bytes = c.as_bytes-bytes.ensures.value in
+    let text = take (a.stop - a.from) (drop a.from d) in
+    let first : c.extend_from_slice.new.self.items ≡ text = grind arith in
+    subst (IsPart d a.from a.stop) (sym first)
+    (run_part d a.from a.stop (omega arith) c.requires.front)
 
-pub runs-preserved : goal.runs-preserved
-runs-preserved c =
+pub from_utf8_unchecked-requires : goal.from_utf8_unchecked-requires
+from_utf8_unchecked-requires c =
     let d = c.args.text.now in
     let l = c.runs in
-    let stop = c.plain_end-stop.result in
     let bytes = c.as_bytes-bytes.ensures.value in
-    let is : stop ≡ l.at + prefix_len is_plain (drop l.at d) =
-    rw (← bytes) c.plain_end-stop.ensures.value in
-    let mark : get_or d stop 0 ≡ 92 = rw (← bytes) (grind arith) in
-    let read = c.in_ok-c in
-    let wrote : Escape d after_backslash (stop + 1) (Some (read.c, read.next)) =
-    rw (← bytes) read.ensures.value in
-    let passed : lex in_escape (drop (stop + 1) d) ≡ lex in_string (drop read.next d) =
-    rw (← bytes) read.ensures.passed in
-    let run = run_on d c.args.from l.at stop (string_bytes l.copy) l.invariant.0 is in
-    let first : string_bytes c.push_str.new.self
-    ≡ string_bytes l.copy ++ take (stop - l.at) (drop l.at d) = grind arith in
-    let then : string_bytes c.push.new.self
-    ≡ string_bytes l.copy ++ take (stop - l.at) (drop l.at d) ++ encode_utf8 read.c =
-    grind (arith, first) in
-    let back : read.next - 1 + 1 ≡ read.next = omega (arith, wrote.1) in (
-      subst (IsRun d c.args.from read.next) (sym then)
-          (escaped d c.args.from stop read.c read.next _ run mark wrote passed),
-      subst (IsCharBoundary d) back
-          (IsCharBoundary-after_ascii d (read.next - 1) c.utf8.text
-          (omega (arith, wrote.1, wrote.2)) wrote.4),
-    )
+    let mark : get_or d l.at 0 ≡ 34 = rw (← bytes) (grind arith) in
+    whole_text d c.args.from l.at l.copy.items l.invariant
+    (IsUtf8-drop d c.args.from c.utf8.text c.requires.boundary) mark
 
 pub returns-then-mark-eq34 : goal.returns-then-mark-eq34
 returns-then-mark-eq34 c =
     let d = c.args.text.now in
     let l = c.runs in
-    let stop = c.plain_end-stop.result in
     let bytes = c.as_bytes-bytes.ensures.value in
-    let is : stop ≡ l.at + prefix_len is_plain (drop l.at d) =
-    rw (← bytes) c.plain_end-stop.ensures.value in
-    let mark : get_or d stop 0 ≡ 34 = rw (← bytes) (grind arith) in
-    let run = run_on d c.args.from l.at stop (string_bytes l.copy) l.invariant.0 is in
-    let last : string_bytes c.push_str.new.self
-    ≡ string_bytes l.copy ++ take (stop - l.at) (drop l.at d) = grind arith in
-    subst (IsText d c.args.from (stop + 1)) (sym last) (closed d c.args.from stop _ run mark)
+    let mark : get_or d l.at 0 ≡ 34 = rw (← bytes) (grind arith) in
+    let copied : string_bytes c.from_utf8_unchecked.result ≡ l.copy.items = grind arith in
+    subst (IsText d c.args.from (l.at + 1)) (sym copied)
+    (closed d c.args.from l.at l.copy.items l.invariant.run mark)
+
+pub runs-preserved : goal.runs-preserved
+runs-preserved c =
+    let d = c.args.text.now in
+    let l = c.runs in
+    let bytes = c.as_bytes-bytes.ensures.value in
+    let mark : get_or d l.at 0 ≡ 92 = rw (← bytes) (grind arith) in
+    let read = c.in_ok-c in
+    let wrote : Escape d after_backslash (l.at + 1) (Some (read.c, read.next)) =
+    rw (← bytes) read.ensures.value in
+    let passed : lex in_escape (drop (l.at + 1) d) ≡ lex in_string (drop read.next d) =
+    rw (← bytes) read.ensures.passed in
+    let within : l.at < length d =
+    lt_of_not-le (λ past. omega (arith, mark, get_or_past d l.at 0 past)) in
+    let pushed : c.push_char.new.copy.items ≡ l.copy.items ++ encode_utf8 read.c = grind arith in
+    let before : IsPart d c.args.from read.next c.push_char.new.copy.items =
+    subst (IsPart d c.args.from read.next) (sym pushed)
+    (part_on d c.args.from l.at read.next l.copy.items (encode_utf8 read.c) l.invariant
+    (escape_part d l.at read.c read.next within mark wrote passed c.push_char.ensures.utf8)) in
+    let part : (start : ℕ) → IsPart d start read.next c.push_char.new.copy.items
+    → IsPart d start c.in_ok-at.at c.copy_part.new.copy.items =
+    rw (← bytes) c.in_ok-at.ensures.part in
+    part c.args.from before
+
+pub runs-smaller : goal.runs-smaller
+runs-smaller c =
+    let bytes = c.as_bytes-bytes.ensures.value in
+    let long = c.as_bytes-bytes.ensures.len in
+    let read = c.in_ok-c in
+    omega (arith, read.ensures.value.1, c.in_ok-at.ensures.bounds, long)

@@ -1,10 +1,9 @@
-use Rattle.std.proofs.Common.{◌-◌, length, string_bytes}
-use Rattle.std.specs.Str.{IsCharBoundary}
-use Rattle.lsp_outline.specs.Walk.{IsRun}
+use Rattle.std.proofs.Common.{◌-◌, length}
+use Rattle.lsp_outline.specs.Texts.{IsPart}
 use Rattle.lsp_outline.proofs.texts.unescaped.Given as goal
 
 abbrev pub invariant-runs : goal.invariant-runs
-invariant-runs l = IsRun l.text l.from l.at (string_bytes l.copy) × IsCharBoundary l.text l.at
+invariant-runs l = IsPart l.text l.from l.at l.copy.items
 
 abbrev pub decreases-runs : goal.decreases-runs
 decreases-runs l = length l.text - l.at
