@@ -19,9 +19,10 @@ use std::io::{BufRead, BufReader, Read};
 /// How many bytes are asked for at once.
 const GATHERED: usize = 65_536;
 
-/// How many bytes are appended at once, at most. They come from what was read ahead, so that no
-/// more than these are ever zeroed before they are written over.
-const PIECE: usize = 2_048;
+/// How many bytes a call appends at most where it must ask the reader first, since these are zeroed
+/// before they are written over. The next call appends, zeroing nothing, all that is wanted of what
+/// the reader gave beyond them.
+const PIECE: usize = 128;
 
 /// A reader of what a run of this task asks for. Frames are asked for by as much as is read ahead
 /// of other tasks, so nothing is read ahead of them: each piece goes straight to the run.
@@ -123,8 +124,8 @@ impl<'a, R: Read> Source for BufferedInput<'a, R> {
         Ok(count)
     }
 
-    /// Appends bytes to the buffer as the trait says, at most [`PIECE`]: those that were read
-    /// ahead, straight from there, or if there are none, what the reader gives.
+    /// Appends bytes to the buffer as the trait says: those that were read ahead, straight from
+    /// there, or if there are none, at most [`PIECE`] of what the reader gives.
     fn pull_onto(&mut self, buffer: &mut Vec<u8>, most: usize) -> Result<usize, Failed>
         requires room { vec_len buffer.old + most ≤ vec_capacity buffer.old }
         ensures room { vec_capacity buffer.old ≤ vec_capacity buffer.new }
@@ -145,7 +146,7 @@ impl<'a, R: Read> Source for BufferedInput<'a, R> {
             ≡ take 32 (first_bytes self.old ++ appended_bytes buffer.old.items buffer.new.items)) }
         ensures same_first { OnErr result (first_bytes self.new ≡ first_bytes self.old) }
     {
-        let count = self.reader.buffer().len().min(most).min(PIECE);
+        let count = self.reader.buffer().len().min(most);
         if count == 0 {
             return pull_fresh(self, buffer, most);
         }

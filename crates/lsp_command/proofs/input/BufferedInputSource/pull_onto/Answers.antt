@@ -10,8 +10,8 @@ returns-clause-gave g c =
     let count = c.min-count.result in
     let after = c.extend_from_slice.new.self in
     let fits : count ≤ length (reader_buffer reader) =
-    omega (arith, c.min-count.ensures, c.min.ensures, ap length c.buffer.ensures) in
-    let within : count ≤ c.args.most = omega (arith, c.min-count.ensures, c.min.ensures) in
+    omega (arith, c.min-count.ensures, ap length c.buffer.ensures) in
+    let within : count ≤ c.args.most = omega (arith, c.min-count.ensures) in
     let items = given_ok _ _ after.items _ _ c.unwrap.ensures c.extend_from_slice.ensures.items in
     let left = ahead_left g.R.Read.remaining reader _ count fits c.consume.ensures.bytes in
     ahead_given c.count.result _ _ c.args.buffer.now.items after.items c.buffer-2.result.now
