@@ -29,6 +29,14 @@ HearsOne terms messages documents counts raws heard raw given =
     (event : Event) × IsHeard event given
     × HasHeard terms messages documents counts (raws ++ raw ∷ []) (heard ++ event ∷ [])
 
+-- and so was one more, as what it is heard as
+abbrev pub TakesOne : session.State → docs.State → Counts → session.State → docs.State → Counts
+    → Raw → Type 0
+TakesOne old_messages old_documents before messages documents after raw =
+    (given : Heard) × ((terms : Terms) (raws : List Raw) (heard : List Event)
+    → HasHeard terms old_messages old_documents before raws heard
+    → HearsOne terms messages documents after raws heard raw given)
+
 -- **these events of the records were heard**, none of which offends, and those that are due are
 -- still to be heard
 pub record IsHearing (limits : Bounds) (format : Format) (streams : frames.State)

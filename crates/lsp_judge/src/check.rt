@@ -3,7 +3,7 @@ ghost use Rattle.lsp_frame.specs.Bounds.{IsInRange};
 ghost use Rattle.lsp_judge.specs.Checked.{Checked};
 ghost use Rattle.lsp_judge.specs.LogEvents.{GivesVerdict};
 
-use crate::contents::hear;
+use crate::contents::take;
 use crate::event_reader::EventReader;
 use lsp_frame::{Limits, Sink, Source, put_all};
 use lsp_replay::Next;
@@ -92,8 +92,8 @@ fn verdict_of<R: Source>(
         match events.log.next(reader) {
             Err(fault) => return Err(fault),
             Ok(Next::End(end)) => return Ok(events.finish(alloc, end)?),
-            Ok(Next::Event(raw)) => match hear(&mut events.events, raw) {
-                Ok(heard) => drop(heard),
+            Ok(Next::Event(raw)) => match take(&mut events.events, raw) {
+                Ok(()) => {}
                 Err(ruling) => return Ok(ruling.answer()?),
             },
         }

@@ -9,14 +9,14 @@ ghost use Rattle.lsp_verdict.specs.Counting.{AreCounts};
 ghost use Rattle.lsp_verdict.specs.Event.{Event};
 ghost use Rattle.lsp_verdict.specs.Lent.{raw_view, whose_raw};
 ghost use Rattle.lsp_verdict.specs.Placed as placed;
-ghost use Rattle.lsp_replay.specs.Standing.{Follows, Refuses};
+ghost use Rattle.lsp_replay.specs.Standing.{Follows, Refuses, RefusesFor};
 ghost use Rattle.lsp_judge.specs.Rulings.{IsNoAt};
-ghost use Rattle.lsp_judge.specs.Heard.{AreHeard, HasHeard, HearsOne};
+ghost use Rattle.lsp_judge.specs.Heard.{AreHeard, HasHeard, HearsOne, TakesOne};
 ghost use Rattle.lsp_judge.specs.Standing.{Rules};
 
 use crate::ruling::Ruling;
 use lsp_log::Record;
-use lsp_replay::{Events, Heard, Refused, Streams};
+use lsp_replay::{Events, Fault, Heard, Refused, Streams};
 use lsp_text::TextStore;
 use lsp_verdict::{Counts, Raw, Who};
 
@@ -39,9 +39,36 @@ pub(crate) fn hear_record<S: TextStore>(
 {
     streams.push(next)?;
     while let Some(raw) = streams.next() {
-        drop(hear(events, raw)?);
+        take(events, raw)?;
     }
     Ok(())
+}
+
+/// Hears the next event without giving it back, or gives the No at it.
+pub(crate) fn take<S: TextStore>(events: &mut Events<S>, raw: Raw<'_>) -> Result<(), Ruling>
+    ensures ok { OnOk result (TakesOne events.old.session events.old.docs events.old.counts
+        events.new.session events.new.docs events.new.counts (raw_view raw.entry)) }
+    ensures no { IfErr result (λ ruling. (so_far : List Event)
+        → Follows events.old.session events.old.docs events.old.counts so_far
+        → IsNoAt events.old.docs.terms so_far (placed.Reads (raw_view raw.entry)) ruling) }
+{
+    let who = raw.who();
+    match events.take(raw) {
+        Ok(()) => Ok(()),
+        Err(fault) => Err(no_for(&events.counts, who, fault)),
+    }
+}
+
+/// The No at the next event, of this origin, which was refused for this fault.
+fn no_for(counts: &Counts, who: Who, fault: Fault) -> Ruling
+    ensures { (raw : placed.Raw) (terms : Terms) (so_far : List Event) → AreCounts counts.now so_far
+        → who ≡ whose_raw raw → RefusesFor raw terms so_far fault
+        → IsNoAt terms so_far (placed.Reads raw) result }
+{
+    match fault {
+        Fault::Rule(rule) => Ruling::no_next(counts, rule, who),
+        Fault::Memory => Ruling::Memory,
+    }
 }
 
 /// Hears the next event, or gives the No at it.

@@ -2,7 +2,7 @@
 //! (JSON-RPC 2.0, sections 4 and 5).
 ghost use Rattle.std.specs.Prelude.{◌≡◌, ◌≤◌, ℕ, length, true, Some, IfSome, codes, option_map};
 ghost use Rattle.std.specs.Prelude.{string_bytes};
-ghost use Rattle.serde_json.specs.Data.{Data, Members, object};
+ghost use Rattle.serde_json.specs.Data.{Data, Members, no_members, object};
 ghost use Rattle.serde_json.specs.Read.{read as read_text};
 ghost use Rattle.lsp_outline.specs.Outlined.{AreOutlined, IsLeft, id_in, call_in, response_in};
 ghost use Rattle.lsp_outline.specs.Walk.{IsValue};
@@ -131,14 +131,14 @@ fn reads_by(reads: Reads, method: Option<&String>, has_id: bool) -> Method {
 
 /// The members of a message, apart from what its result holds.
 #[derive(Drop)]
-struct MessageParts {
+pub(crate) struct MessageParts {
     reads: Reads,
     has_version: bool,
     method: Option<String>,
     /// `Some(None)` is null.
     id: Option<Option<Id>>,
     /// What the params mean, where they are read.
-    told: Option<Told>,
+    pub(crate) told: Option<Told>,
     has_result: bool,
     /// Its code.
     error: Option<i32>,
@@ -205,86 +205,95 @@ impl Gathered for MessageParts {
     }
 }
 
-/// A call without its params.
-fn call_of(method: String, id: Option<Option<Id>>) -> Option<Message>
-    ensures { IfSome result (λ message. call_in (string_bytes method)
-        (option_map (λ id. option_map id_view id) id) ≡ Some (message_view message)) }
-{
-    match id {
-        None => Some(Message::Notification {
-            method,
-            params: None,
-        }),
-        Some(id) => Some(Message::Request {
-            id: id?,
-            method,
-            params: None,
-        }),
+impl MessageParts {
+    /// Nothing gathered yet, of a message whose params are read so.
+    pub(crate) fn reading(reads: Reads) -> MessageParts
+        ensures { AreOutlined no_members result }
+    {
+        let mut parts = MessageParts::none();
+        parts.reads = reads;
+        parts
     }
 }
 
-/// A response without the value of its result.
-fn response_of(id: Option<Id>, has_result: bool, error: Option<i32>) -> Option<Message>
-    ensures { IfSome result (λ message.
-        response_in (option_map id_view id) has_result error ≡ Some (message_view message)) }
+/// Puts a call without its params in the place of a message.
+fn put_call(message: &mut Message, method: String, id: Option<Option<Id>>) -> Option<()>
+    ensures { IfSome result (λ _. call_in (string_bytes method)
+        (option_map (λ id. option_map id_view id) id) ≡ Some (message_view message.new)) }
+{
+    *message = match id {
+        None => Message::Notification {
+            method,
+            params: None,
+        },
+        Some(id) => Message::Request {
+            id: id?,
+            method,
+            params: None,
+        },
+    };
+    Some(())
+}
+
+/// Puts a response without the value of its result in the place of a message.
+fn put_response(
+    message: &mut Message,
+    id: Option<Id>,
+    has_result: bool,
+    error: Option<i32>,
+) -> Option<()>
+    ensures { IfSome result (λ _. response_in (option_map id_view id) has_result error
+        ≡ Some (message_view message.new)) }
 {
     let answer = match error {
         None if has_result => Answer::Result(Value::Null),
         Some(code) if !has_result => Answer::Error { code },
         _ => return None,
     };
-    Some(Message::Response { id, answer })
+    *message = Message::Response { id, answer };
+    Some(())
 }
 
-/// A message without its params and the value of its result, with what was read of the params.
-#[derive(Drop)]
-pub(crate) struct Left {
-    pub(crate) message: Message,
-    pub(crate) told: Option<Told>,
-}
-
-/// What the parts leave of their message, where they keep the rules (JSON-RPC 2.0, sections 4 and
-/// 5).
-fn left_of(parts: MessageParts) -> Option<Left>
-    ensures { IfSome result (λ left. (ms : Members) → AreOutlined ms parts
-        → IsLeft ms (message_view left.message) left.told) }
+/// Puts what the parts leave of their message in the place of another, where they keep the rules
+/// (JSON-RPC 2.0, sections 4 and 5).
+#[inline(never)]
+pub(crate) fn put_message(parts: &mut MessageParts, message: &mut Message) -> Option<()>
+    ensures left { IfSome result (λ _. (ms : Members) → AreOutlined ms parts.old
+        → IsLeft ms (message_view message.new) parts.old.told) }
+    ensures told { parts.new.told ≡ parts.old.told }
 {
-    let MessageParts {
-        has_version,
-        method,
-        id,
-        told,
-        has_result,
-        error,
-        ..
-    } = parts;
-    if !has_version {
+    if !parts.has_version {
         return None;
     }
-    match method {
-        Some(method) => {
-            let message = call_of(method, id)?;
-            Some(Left { message, told })
-        }
-        None => {
-            let message = response_of(id?, has_result, error)?;
-            Some(Left { message, told })
-        }
-    }
+    let Some(method) = parts.method.take() else {
+        return put_response(message, parts.id.take()?, parts.has_result, parts.error);
+    };
+    put_call(message, method, parts.id.take())
 }
 
-/// What is left of the message that the text is, whose params are read so.
-pub(crate) fn left_of_text(alloc: Global, reads: Reads, text: &str) -> Option<Left>
-    ensures { IfSome result (λ left. (ms : Members) × (read_text text.now ≡ Some (object ms))
-        × IsLeft ms (message_view left.message) left.told) }
+/// Gathers the members of the message that begins there, and gives where it ends. It is not
+/// inlined, so that the parts stay in one place in memory.
+#[inline(never)]
+fn parts_at(alloc: Global, text: &str, from: usize, parts: &mut MessageParts) -> Option<usize>
+    requires from { from ≤ length text.now }
+    requires none { AreOutlined no_members parts.old }
+    ensures { IfSome result (λ end. (ms : Members) × IsValue MAX_DEPTH text.now from end (object ms)
+        × AreOutlined ms parts.new) }
+{
+    object_into(alloc, text, from, MAX_DEPTH, parts)
+}
+
+/// Gathers the members of the message that the text is.
+pub(crate) fn parts_of_text(alloc: Global, text: &str, parts: &mut MessageParts) -> Option<()>
+    requires { AreOutlined no_members parts.old }
+    ensures { IfSome result (λ _. (ms : Members) × (read_text text.now ≡ Some (object ms))
+        × AreOutlined ms parts.new) }
 {
     let bytes = text.as_bytes();
     let from = spaces_end(bytes, 0);
-    let mut parts = MessageParts::none();
-    parts.reads = reads;
-    let end = object_into(alloc, text, from, MAX_DEPTH, &mut parts)?;
+    let end = parts_at(alloc, text, from, parts)?;
     if spaces_end(bytes, end) < bytes.len() {
         return None;
     }
-    left_of(parts)
+    Some(())
 }

@@ -1,12 +1,12 @@
 //! Reading a content without building what its params and its result hold.
 ghost use Rattle.std.specs.Prelude.{◌≡◌, ◌⊎◌, ◌<◌, length, false, IsTrue, Some, Err, IfSome, IfOk};
-ghost use Rattle.std.specs.Prelude.{IfErr, string_bytes};
+ghost use Rattle.std.specs.Prelude.{IfErr, None, OnOk, [], string_bytes};
 ghost use Rattle.serde_json.specs.Data.{Members, object};
 ghost use Rattle.serde_json.specs.Read.{read as read_text};
 ghost use Rattle.lsp_outline.specs.Outlined.{Means, Tells, SaysSo, lacks_result};
 ghost use Rattle.lsp_outline.specs.Spoken as spec;
 ghost use Rattle.lsp_outline.specs.declared.outline.Results.TheVariants.{LeftOut};
-ghost use Rattle.lsp_rpc.specs.Message.{Message as SpecMessage};
+ghost use Rattle.lsp_rpc.specs.Message.{Message as SpecMessage, notification};
 ghost use Rattle.lsp_rpc.specs.Fault.{Names, rule_unless_read};
 ghost use Rattle.lsp_rpc.specs.Outline.{outline, without_params, IsOrIsOutline};
 ghost use Rattle.lsp_rpc.specs.Params as params;
@@ -16,8 +16,8 @@ ghost use Rattle.lsp_rpc.specs.Words.{words_of as spec_words_of};
 ghost use Rattle.lsp_rpc.specs.declared.fault.RpcFault.TheVariants.{Memory};
 ghost use Rattle.lsp_types.specs.declared.rules.TheConstants as rules;
 
-use crate::message::{Reads, left_of_text};
-use crate::params::{Told, act_by};
+use crate::message::{MessageParts, Reads, parts_of_text, put_message};
+use crate::params::{Told, act_by, put_by};
 use lsp_rpc::{
     Act, Answer, Message, Method, RpcFault, Spoken, method_of, read, take_act, words_of,
 };
@@ -52,7 +52,6 @@ fn has_result(message: &Message) -> bool
 }
 
 /// What the text means as a call of this method, whose params are not read or came before it.
-#[inline(never)]
 fn act_otherwise(alloc: Global, method: Method, text: &str) -> Option<Act>
     ensures { IfSome result (λ act. (ms : Members) → read_text text.now ≡ Some (object ms)
         → Means ms method (act_view act)) }
@@ -60,48 +59,102 @@ fn act_otherwise(alloc: Global, method: Method, text: &str) -> Option<Act>
     match method.plain_act() {
         Some(act) => Some(act),
         None => {
-            let again = left_of_text(alloc, Reads::OfMethod(method), text)?;
-            act_by(method, again.told)
+            let mut again = MessageParts::reading(Reads::OfMethod(method));
+            parts_of_text(alloc, text, &mut again)?;
+            act_by(method, again.told.take())
         }
     }
 }
 
-/// What the text means as a call of this method, of whose params this was told.
-#[inline(always)]
-fn act_meant(alloc: Global, method: Method, told: Option<Told>, text: &str) -> Option<Act>
-    ensures { IfSome result (λ act. (ms : Members) → read_text text.now ≡ Some (object ms)
-        → Tells ms told → Means ms method (act_view act)) }
+/// Puts what the text means as a call of this method, whose params are not read or came before it,
+/// in the place of another act.
+#[inline(never)]
+fn put_otherwise(alloc: Global, method: Method, text: &str, act: &mut Act) -> Option<()>
+    ensures { IfSome result (λ _. (ms : Members) → read_text text.now ≡ Some (object ms)
+        → Means ms method (act_view act.new)) }
 {
-    match act_by(method, told) {
-        Some(act) => Some(act),
-        None => act_otherwise(alloc, method, text),
+    *act = act_otherwise(alloc, method, text)?;
+    Some(())
+}
+
+/// Puts what the text means as a call of this method, of whose params this was told, in the place of
+/// another act.
+#[inline(always)]
+fn put_act(
+    alloc: Global,
+    method: Method,
+    told: Option<Told>,
+    text: &str,
+    act: &mut Act,
+) -> Option<()>
+    ensures { IfSome result (λ _. (ms : Members) → read_text text.now ≡ Some (object ms)
+        → Tells ms told → Means ms method (act_view act.new)) }
+{
+    match put_by(act, method, told) {
+        Some(()) => Some(()),
+        None => put_otherwise(alloc, method, text, act),
     }
 }
 
-/// What the text says as a message of the side, where it has the common form.
-fn spoken_text(alloc: Global, side: Side, text: &str, results: Results) -> Option<Spoken>
-    ensures { IfSome result (λ spoken. (ms : Members) × (read_text text.now ≡ Some (object ms))
-        × SaysSo results side ms (message_view spoken.message) (act_view spoken.act)) }
+/// Puts what the text says as a message of the side in the place of another, where it has the common
+/// form.
+fn put_text(
+    alloc: Global,
+    side: Side,
+    text: &str,
+    results: Results,
+    spoken: &mut Spoken,
+) -> Option<()>
+    ensures { IfSome result (λ _. (ms : Members) × (read_text text.now ≡ Some (object ms))
+        × SaysSo results side ms (message_view spoken.new.message) (act_view spoken.new.act)) }
 {
-    let left = left_of_text(alloc, Reads::OfSide(side), text)?;
-    if !suffices(results, &left.message) {
+    let mut parts = MessageParts::reading(Reads::OfSide(side));
+    parts_of_text(alloc, text, &mut parts)?;
+    put_message(&mut parts, &mut spoken.message)?;
+    if !suffices(results, &spoken.message) {
         return None;
     }
-    let method = method_of(side, &left.message);
-    let act = act_meant(alloc, method, left.told, text)?;
-    Some(Spoken {
-        message: left.message,
-        act,
-    })
+    let method = method_of(side, &spoken.message);
+    put_act(alloc, method, parts.told.take(), text, &mut spoken.act)
 }
 
-/// What a content of the side says, where it has the common form.
-fn spoken_in(alloc: Global, side: Side, content: &[u8], results: Results) -> Option<Spoken>
-    ensures { IfSome result (λ spoken. spec.Says results side content.now
-        (message_view spoken.message) (act_view spoken.act)) }
+/// Puts what a content of the side says in the place of another message, where it has the common
+/// form.
+fn put_spoken(
+    alloc: Global,
+    side: Side,
+    content: &[u8],
+    results: Results,
+    spoken: &mut Spoken,
+) -> Option<()>
+    ensures { IfSome result (λ _. spec.Says results side content.now
+        (message_view spoken.new.message) (act_view spoken.new.act)) }
 {
     let text = simdutf8::basic::from_utf8(content).ok()?;
-    spoken_text(alloc, side, text, results)
+    put_text(alloc, side, text, results, spoken)
+}
+
+/// A message that says nothing.
+fn blank_message(alloc: Global) -> Message
+    ensures { message_view result ≡ notification [] None }
+{
+    Message::Notification {
+        method: String::new(alloc),
+        params: None,
+    }
+}
+
+/// The message that the text is, apart from its params and its result, where it has the common form.
+fn outline_in(alloc: Global, text: &str) -> Option<Message>
+    ensures { IfSome result (λ message. (ms : Members) × (read_text text.now ≡ Some (object ms))
+        × ((whole : SpecMessage) × reading.IsMessage (object ms) whole
+        × (message_view message ≡ outline whole))) }
+{
+    let mut parts = MessageParts::reading(Reads::Nothing);
+    parts_of_text(alloc, text, &mut parts)?;
+    let mut message = blank_message(alloc);
+    put_message(&mut parts, &mut message)?;
+    Some(message)
 }
 
 /// The message of a content apart from its params and its result, where it has the common form.
@@ -110,8 +163,7 @@ fn outline_of(alloc: Global, content: &[u8]) -> Option<Message>
         × (message_view message ≡ outline whole)) }
 {
     let text = simdutf8::basic::from_utf8(content).ok()?;
-    let left = left_of_text(alloc, Reads::Nothing, text)?;
-    Some(left.message)
+    outline_in(alloc, text)
 }
 
 /// What a message of the side means, which is left without its params.
@@ -141,6 +193,18 @@ fn spoken_whole(alloc: Global, side: Side, content: &[u8]) -> Result<Spoken, Rpc
     }
 }
 
+/// Puts what a content of the side says, of whatever form, in the place of another message.
+#[inline(never)]
+fn put_whole(alloc: Global, side: Side, content: &[u8], spoken: &mut Spoken) -> Result<(), RpcFault>
+    ensures ok { (results : Results) → OnOk result (spec.Says results side content.now
+        (message_view spoken.new.message) (act_view spoken.new.act)) }
+    ensures rule { IfErr result (spec.IsUnspoken side content.now) }
+    ensures memory { result ≡ Err Memory → 0 < length content.now }
+{
+    *spoken = spoken_whole(alloc, side, content)?;
+    Ok(())
+}
+
 /// Reads contents one after another, apart from what their params and results hold.
 #[derive(Drop)]
 pub struct MessageReader {
@@ -166,9 +230,42 @@ impl MessageReader {
         ensures rule { IfErr result (spec.IsUnspoken side content.now) }
         ensures memory { result ≡ Err Memory → 0 < length content.now }
     {
-        match spoken_in(self.alloc, side, content, results) {
-            Some(spoken) => Ok(spoken),
-            None => spoken_whole(self.alloc, side, content),
+        let mut spoken = self.blank();
+        self.hear_into(side, content, results, &mut spoken)?;
+        Ok(spoken)
+    }
+
+    /// A message that says nothing, in the place of which others can be heard. It takes no memory.
+    pub fn blank(&self) -> Spoken
+        ensures message { message_view result.message ≡ notification [] None }
+        ensures act { result.act ≡ Act.Other }
+    {
+        Spoken {
+            message: blank_message(self.alloc),
+            act: Act::Other,
+        }
+    }
+
+    /// Reads a content of a side as [`hear`](MessageReader::hear) does, in the place of another
+    /// message, which is dropped. So what was read is not moved.
+    ///
+    /// # Errors
+    /// Those of [`hear`](MessageReader::hear). Any message may be in the place then.
+    pub fn hear_into(
+        &mut self,
+        side: Side,
+        content: &[u8],
+        results: Results,
+        spoken: &mut Spoken,
+    ) -> Result<(), RpcFault>
+        ensures ok { OnOk result (spec.Says results side content.now
+            (message_view spoken.new.message) (act_view spoken.new.act)) }
+        ensures rule { IfErr result (spec.IsUnspoken side content.now) }
+        ensures memory { result ≡ Err Memory → 0 < length content.now }
+    {
+        match put_spoken(self.alloc, side, content, results, spoken) {
+            Some(()) => Ok(()),
+            None => put_whole(self.alloc, side, content, spoken),
         }
     }
 

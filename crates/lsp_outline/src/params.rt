@@ -330,6 +330,21 @@ pub(crate) fn act_by(method: Method, told: Option<Told>) -> Option<Act>
     }
 }
 
+/// Puts what it means in the place of another act, where it was read by this method.
+#[inline(always)]
+pub(crate) fn put_by(act: &mut Act, method: Method, told: Option<Told>) -> Option<()>
+    ensures { IfSome result (λ _. (params : Option Data)
+        → meant_by told params ≡ act_told told
+        → meaning method (option_and_then unless_null params) ≡ Some (act_view act.new)) }
+{
+    let told = told?;
+    if told.method != method {
+        return None;
+    }
+    *act = told.act;
+    Some(())
+}
+
 /// The params of this method that begin there, with what they mean where the method reads them, and
 /// where they end.
 #[inline(never)]

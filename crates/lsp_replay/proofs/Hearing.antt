@@ -3,6 +3,7 @@ use Rattle.std.proofs.Common.{◌≡◌, ℕ, List, [], ◌∷◌, ◌++◌, Opt
 use Rattle.std.specs.Prelude.{◌⊎◌, ℤ, chars, option_and_then, unwrap_or}
 use Rattle.std.specs.Option.{option_or}
 use Rattle.std.specs.List.{cons_option}
+use Rattle.lsp_rpc.specs.Act.{Act}
 use Rattle.lsp_rpc.specs.Message.{Message}
 use Rattle.lsp_rpc.specs.Outline.{outline, without_params}
 use Rattle.lsp_rpc.specs.View.{act_view, message_view}
@@ -34,9 +35,9 @@ use Rattle.lsp_verdict.specs.Calls.{call_of, call_at, calls}
 use Rattle.lsp_verdict.specs.Contents.{IsSent, ReadsAs}
 use Rattle.lsp_verdict.specs.Event.{Event, message, fault as broken, snapshot, sent_in}
 use Rattle.lsp_replay.specs.Faults.{of_content, of_message, of_call, of_snapshot, refused_by}
-use Rattle.lsp_replay.specs.Faults.{rule_of}
+use Rattle.lsp_replay.specs.Faults.{of_reading, rule_of}
 use Rattle.lsp_replay.specs.Standing.{HasValue, Hears, Refuses, RefusesBy, RefusesContent}
-use Rattle.lsp_replay.specs.Standing.{RefusesSnapshot}
+use Rattle.lsp_replay.specs.Standing.{RefusesFor, RefusesSnapshot}
 use Rattle.lsp_replay.specs.declared.fault.Fault.{Fault}
 use Rattle.lsp_replay.specs.declared.fault.Fault.TheVariants as own
 use Rattle.lsp_replay.specs.declared.fault.Refused.{Refused}
@@ -154,3 +155,31 @@ refused_event (placed.show number uri text) terms events (refused.Message by cod
     refuses = absurd refuses
 refused_event (placed.show number uri text) terms events refused.Memory rule is refuses =
     absurd (cc)
+
+-- ---- the rule of a fault
+
+-- a content that says nothing
+pub unspoken_for : (side : Side) (bytes : List ℕ) (terms : Terms) (events : List Event)
+    (f : RpcFault) → IsUnspoken side bytes f
+    → RefusesFor (placed.content side bytes) terms events (of_reading f)
+unspoken_for side bytes terms events (contents.Rule rule) is =
+    content_event side bytes terms events (refused.Rule rule) rule refl
+    (unspoken side bytes terms events (contents.Rule rule) is)
+unspoken_for side bytes terms events contents.Memory is = tt
+
+-- a message that offends
+pub refused_for : (side : Side) (bytes : List ℕ) (said : Message) (act : Act) (terms : Terms)
+    (events : List Event) (f : Fault) → RefusesBy side bytes said act terms events f
+    → RefusesFor (placed.content side bytes) terms events f
+refused_for side bytes said act terms events (own.Rule rule) refuses =
+    (message refuses.sent, refuses.reads, refuses.offends)
+refused_for side bytes said act terms events own.Memory refuses = tt
+
+-- a snapshot that the documents don't accept
+pub shown_for : (uri text : List ℕ) (number : ℤ) (terms : Terms) (events : List Event)
+    (f : DocFault)
+    → docs_fault.Names (call_rule terms (calls events) (shows uri number (chars text))) f
+    → RefusesFor (placed.show number uri text) terms events (of_call f)
+shown_for uri text number terms events (faults.Rule rule) named =
+    (snapshot uri number (chars text), refl, named)
+shown_for uri text number terms events faults.Memory named = tt

@@ -17,6 +17,10 @@ abbrev pub of_content : RpcFault → Refused
 of_content (contents.Rule rule) = Rule rule
 of_content contents.Memory = Memory
 
+abbrev pub of_reading : RpcFault → Fault
+of_reading (contents.Rule rule) = faults.Rule rule
+of_reading contents.Memory = faults.Memory
+
 abbrev pub of_snapshot : DocFault → Refused
 of_snapshot (calls.Rule rule) = Rule rule
 of_snapshot calls.Memory = Memory

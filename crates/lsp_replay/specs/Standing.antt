@@ -4,6 +4,7 @@ use Rattle.lsp_rpc.specs.Act.{Act}
 use Rattle.lsp_rpc.specs.Message as rpc
 use Rattle.lsp_rpc.specs.Outline.{outline, without_params}
 use Rattle.lsp_rpc.specs.View.{act_view, message_view}
+use Rattle.lsp_rpc.specs.declared.act.Spoken.{Spoken}
 use Rattle.lsp_types.specs.declared.side.Side.{Side}
 use Rattle.lsp_session.specs.Handshake.{open_initializes}
 use Rattle.lsp_session.specs.Sent.{Sent}
@@ -130,3 +131,27 @@ Refuses (content side bytes) terms events refused = RefusesContent side bytes te
 Refuses (broken side rule) terms events refused = refused ≡ Rule rule
 Refuses (show number uri text) terms events refused =
     RefusesSnapshot (snapshot uri number (chars text)) terms events refused
+
+-- ---- an event that is not given back
+
+-- the content is a message that doesn't offend after any events with this result, and what is held
+-- is their result with it
+abbrev pub TakesContent : Side → List ℕ → Terms → session.State → docs.State → session.State
+    → docs.State → Type 0
+TakesContent side bytes terms old_messages old_documents messages documents =
+    (spoken : Spoken) × ((events : List Event) → Holds old_messages old_documents events
+    → Hears side bytes (message_view spoken.message) (act_view spoken.act) terms messages documents
+    events)
+
+-- **the next event is kept**, as what it is heard as
+abbrev pub Takes : Raw → Terms → Counts → session.State → docs.State → session.State → docs.State
+    → Counts → Type 0
+Takes raw terms before old_messages old_documents messages documents after =
+    (given : Heard) × ((events : List Event) → Holds old_messages old_documents events
+    → Keeps raw terms before given messages documents after events)
+
+-- **the next event offends the rule of this fault**, after these events, unless memory ran out
+abbrev pub RefusesFor : Raw → Terms → List Event → Fault → Type 0
+RefusesFor raw terms events (faults.Rule rule) =
+    (event : Event) × Reads raw event × (offence terms events event ≡ Some rule)
+RefusesFor raw terms events faults.Memory = Unit {0}

@@ -17,7 +17,8 @@ ghost use Rattle.lsp_verdict.specs.Event.{Event};
 ghost use Rattle.lsp_replay.specs.Apart.{Says};
 ghost use Rattle.lsp_verdict.specs.Lent.{raw_view};
 ghost use Rattle.lsp_replay.specs.Standing.{Follows, Holds, Hears, Keeps, Refuses, RefusesBy};
-ghost use Rattle.lsp_replay.specs.Standing.{RefusesContent};
+ghost use Rattle.lsp_replay.specs.Standing.{RefusesContent, RefusesFor, Takes, TakesContent};
+ghost use Rattle.lsp_verdict.specs.Placed as placed;
 
 use crate::fault::{Fault, Refused};
 use crate::heard::Heard;
@@ -97,6 +98,76 @@ impl<S: TextStore> Events<S> {
                 })
             }
         }
+    }
+
+    /// Hears the next event and counts it as [`hear`](Events::hear) does, and does not give it back:
+    /// a message is never moved.
+    ///
+    /// # Errors
+    /// `Rule` by the least rule that the event breaks after the events heard, and `Memory` where
+    /// memory was refused, instead of whatever would be answered about a content or a snapshot.
+    /// What is held and the counts stay, so that the event after it can be heard.
+    pub fn take(&mut self, raw: Raw<'_>) -> Result<(), Fault>
+        ensures terms { self.new.docs.terms ≡ self.old.docs.terms }
+        ensures ok { OnOk result (Takes (raw_view raw.entry) self.old.docs.terms self.old.counts
+            self.old.session self.old.docs self.new.session self.new.docs self.new.counts) }
+        ensures rule { IfErr result (λ fault. (events : List Event)
+            → Holds self.old.session self.old.docs events
+            → RefusesFor (raw_view raw.entry) self.old.docs.terms events fault) }
+        ensures err { OnErr result ((events : List Event)
+            → Holds self.old.session self.old.docs events
+            → Holds self.new.session self.new.docs events) }
+        ensures uncounted { OnErr result (self.new.counts ≡ self.old.counts) }
+    {
+        match raw {
+            Raw::Content { side, content } => {
+                self.take_content(side, content)?;
+                self.counts.add(who_of(side));
+                Ok(())
+            }
+            Raw::Broken { rule, .. } => Err(Fault::Rule(rule)),
+            Raw::Snapshot { version, uri, text } => {
+                let _answer = self.docs.snapshot(uri, version, text)?;
+                let who = Who::Snapshot;
+                self.counts.add(who);
+                Ok(())
+            }
+        }
+    }
+
+    /// Reads a content of a side, admits the message that it is, and takes over what that says
+    /// about a document. The message is read in one place and dropped there.
+    fn take_content(&mut self, side: Side, content: &[u8]) -> Result<(), Fault>
+        ensures terms { self.new.docs.terms ≡ self.old.docs.terms }
+        ensures counts { self.new.counts ≡ self.old.counts }
+        ensures ok { OnOk result (TakesContent side content.now self.old.docs.terms
+            self.old.session self.old.docs self.new.session self.new.docs) }
+        ensures rule { IfErr result (λ fault. (events : List Event)
+            → Holds self.old.session self.old.docs events
+            → RefusesFor (placed.content side content.now) self.old.docs.terms events fault) }
+        ensures err { OnErr result ((events : List Event)
+            → Holds self.old.session self.old.docs events
+            → Holds self.new.session self.new.docs events) }
+    {
+        let mut spoken = self.messages.blank();
+        self.take_at(side, content, &mut spoken)
+    }
+
+    /// Takes a content as [`take_content`](Events::take_content) does, in the place of this message.
+    fn take_at(&mut self, side: Side, content: &[u8], spoken: &mut Spoken) -> Result<(), Fault>
+        ensures terms { self.new.docs.terms ≡ self.old.docs.terms }
+        ensures counts { self.new.counts ≡ self.old.counts }
+        ensures ok { OnOk result (TakesContent side content.now self.old.docs.terms
+            self.old.session self.old.docs self.new.session self.new.docs) }
+        ensures rule { IfErr result (λ fault. (events : List Event)
+            → Holds self.old.session self.old.docs events
+            → RefusesFor (placed.content side content.now) self.old.docs.terms events fault) }
+        ensures err { OnErr result ((events : List Event)
+            → Holds self.old.session self.old.docs events
+            → Holds self.new.session self.new.docs events) }
+    {
+        read_into(&self.session, &mut self.messages, side, content, spoken)?;
+        self.follow(side, spoken)
     }
 
     /// Reads a content of a side with what it means. It is heard once it is followed.
@@ -202,6 +273,23 @@ fn spoken_in(
 {
     let spoken = messages.hear(side, content, wanted_results(session))?;
     Ok(spoken)
+}
+
+/// Reads a content with what it means on its side, in the place of another message.
+fn read_into(
+    session: &Session,
+    messages: &mut MessageReader,
+    side: Side,
+    content: &[u8],
+    spoken: &mut Spoken,
+) -> Result<(), Fault>
+    ensures ok { OnOk result (Says session.now side content.now
+        (message_view spoken.new.message) (act_view spoken.new.act)) }
+    ensures rule { IfErr result (λ fault. (terms : Terms) (events : List Event)
+        → RefusesFor (placed.content side content.now) terms events fault) }
+{
+    messages.hear_into(side, content, wanted_results(session), spoken)?;
+    Ok(())
 }
 
 /// Changes a document.

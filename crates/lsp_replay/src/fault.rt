@@ -85,6 +85,19 @@ impl Fault {
     }
 }
 
+impl From<RpcFault> for Fault {
+    ghost use Rattle.lsp_replay.specs.Faults.{of_reading};
+
+    ghost from_gives = { λ fault e. e ≡ of_reading fault };
+
+    fn from(fault: RpcFault) -> Fault {
+        match fault {
+            RpcFault::Rule(rule) => Fault::Rule(rule),
+            RpcFault::Memory => Fault::Memory,
+        }
+    }
+}
+
 impl From<Refusal> for Fault {
     ghost use Rattle.lsp_replay.specs.Faults.{of_message};
 

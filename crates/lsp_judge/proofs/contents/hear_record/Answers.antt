@@ -10,16 +10,16 @@ loop-raw-init g c = λ limits format records o.
     let all = c.in_ok-push.ensures.ok limits records h.past h.stands in
     (o.0, all.0, record { past = h.past; stands = all.1; has = h.has })
 
-pub returns-in_err-hear-clause-no : goal.returns-in_err-hear-clause-no
-returns-in_err-hear-clause-no g c =
+pub returns-in_err-take-clause-no : goal.returns-in_err-take-clause-no
+returns-in_err-take-clause-no g c =
     let next = rw c.in-Some.is at c.next.follows.holds-at-none in
-    let from = c.from_residual-in_err-hear in
+    let from = c.from_residual-in_err-take in
     let p = err_from_is_err_and from.result from.ensures.1 in
     rw p.1 (λ limits format records o. rw p.2 (
     let (heard, due, h) = c.loop-raw.invariant limits format records o in
     let gives = next.gives limits _ h.past due h.stands in
     stopped limits format _ _ _ _ _ heard due gives.0 (raw_view c.in-Some.raw) _ h gives.1
-    (c.in_err-hear.ensures.no heard h.has.follows)))
+    (c.in_err-take.ensures.no heard h.has.follows)))
 
 pub loop-raw-smaller : goal.loop-raw-smaller
 loop-raw-smaller g c = let next = rw c.in-Some.is at c.next.follows.holds-at-none in next.less
@@ -29,7 +29,7 @@ loop-raw-preserved g c = λ limits format records o.
     let next = rw c.in-Some.is at c.next.follows.holds-at-none in
     let (heard, due, h) = c.loop-raw.invariant limits format records o in
     let gives = next.gives limits _ h.past due h.stands in
-    let one = c.in_ok-hear.ensures.ok _ h.past heard h.has in (
+    let one = c.in_ok-take.ensures.ok.1 _ h.past heard h.has in (
       heard ++ one.0 ∷ [],
       gives.0,
       record {

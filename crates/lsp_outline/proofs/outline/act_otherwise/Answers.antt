@@ -12,11 +12,3 @@ use Rattle.lsp_outline.proofs.outline.act_otherwise.Goals as goal
 pub returns-in-Some : goal.returns-in-Some
 returns-in-Some c = λ ms read.
     c.in-Some.ensures (option_and_then unless_null (get_member (codes "params") ms))
-
-pub returns-in_ok-again-in-None : goal.returns-in_ok-again-in-None
-returns-in_ok-again-in-None c =
-    let again = c.in_ok-again-in-None.ensures in
-    IfSome_then c.act_by.result c.act_by.ensures (λ act by ms read.
-    subst (λ (x : Members). Means x c.args.method (act_view act))
-    (one_object again.0 ms (read_text c.args.text.now) again.1 read)
-    (by (get_member (codes "params") again.0) again.2.tells))

@@ -1,4 +1,5 @@
 use Rattle.std.proofs.Common.{◌≡◌, IsUtf8, sym, ap, ◌∙◌, arith}
+use Rattle.std.proofs.lemmas.Option.{IfSome_then}
 use Rattle.serde_json.specs.Data.{object}
 use Rattle.serde_json.specs.Read.{read as read_text}
 use Rattle.lsp_rpc.specs.Reading.{IsJson}
@@ -6,9 +7,9 @@ use Rattle.lsp_outline.proofs.outline.outline_of.Goals as goal
 
 pub returns : goal.returns
 returns c =
-    let found = c.in_ok-left.ensures in
     let utf8 : (c.in_ok-text.text.now ≡ c.args.content.now) × IsUtf8 c.args.content.now =
     grind arith in
-    let read : IsJson c.args.content.now (object found.0) =
-    (utf8.1, ap read_text (sym utf8.0) ∙ found.1) in
-    (found.2.whole, (object found.0, read, found.2.is), found.2.rest)
+    IfSome_then c.outline_in.result c.outline_in.ensures (λ message said.
+    let read : IsJson c.args.content.now (object said.0) =
+    (utf8.1, ap read_text (sym utf8.0) ∙ said.1) in
+    (said.2.0, (object said.0, read, said.2.1), said.2.2))

@@ -1,8 +1,7 @@
 use Rattle.std.proofs.Common.{arith}
-use Rattle.std.proofs.lemmas.Option.{IfSome_then}
 use Rattle.serde_json.specs.Data.{object}
 use Rattle.lsp_outline.proofs.Walking.{whole_value}
-use Rattle.lsp_outline.proofs.message.left_of_text.Goals as goal
+use Rattle.lsp_outline.proofs.message.parts_of_text.Goals as goal
 
 pub returns : goal.returns
 returns c =
@@ -14,4 +13,4 @@ returns c =
     let read = whole_value d begin.result c.in_ok-end.end last.result (object found.0)
     (rw (← bytes) begin.ensures.same) found.1 (rw (← bytes) last.ensures.same)
     (rw (← bytes) (omega arith)) in
-    IfSome_then c.left_of.result c.left_of.ensures (λ left is. (found.0, read, is found.0 found.2))
+    (found.0, read, found.2)
