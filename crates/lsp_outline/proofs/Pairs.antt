@@ -1,4 +1,4 @@
--- Positions as most programs write them.
+-- Positions and ranges as most programs write them.
 use Rattle.std.proofs.Common.{◌≡◌, ◌||◌, ℕ, zero, suc, ◌+◌, ◌-◌, ◌<◌, ◌≤◌, List, [], ◌∷◌, ◌++◌}
 use Rattle.std.proofs.Common.{length, take, drop, get_or, refl, sym, ap, ap₂, ◌∙◌, arith, codes, Some, None}
 use Rattle.std.proofs.Common.{option_and_then, pos}
@@ -14,13 +14,15 @@ use Rattle.json.specs.Json.{read_key}
 use Rattle.json.specs.Word.{is_operator, is_space}
 use Rattle.lsp_outline.proofs.Lexing.{key_first}
 use Rattle.serde_json.specs.Data.{Data, object, no_members, put}
-use Rattle.lsp_rpc.specs.Params.{as_uinteger, natural, position_at}
+use Rattle.lsp_rpc.specs.Params.{as_uinteger, natural, position_at, span_at}
 use Rattle.lsp_rpc.specs.Shape.{as_integer}
+use Rattle.lsp_types.specs.declared.position.Position.{Position}
 use Rattle.lsp_outline.proofs.Editing.{first_came, second_came}
 use Rattle.lsp_outline.proofs.DigitBlocks.{plain_numeral}
 use Rattle.lsp_outline.proofs.Walking.{object_value, no_members_yet, member_turn, last_member}
-use Rattle.lsp_outline.proofs.Walking.{number_value, numeral_kind}
+use Rattle.lsp_outline.proofs.Walking.{number_value, numeral_kind, byte}
 use Rattle.lsp_outline.specs.Walk.{IsKey, IsPlainNumber, IsValue, Stand, line_key, character_key}
+use Rattle.lsp_outline.specs.Walk.{start_key, end_key}
 
 -- ---- words
 
@@ -79,6 +81,83 @@ character_stands d from before word key after end room fits is reads same is_bac
       within = room;
     }
 
+abbrev start_front : ℕ → List ℕ
+start_front before = before ∷ 34 ∷ 115 ∷ 116 ∷ 97 ∷ 114 ∷ 116 ∷ 34 ∷ []
+
+pub start_stands : (d : List ℕ) (from before word key : ℕ) → from + 9 ≤ length d → before < 256
+    → key ≡ from_le_bytes w64 (start_front before) → to_le_bytes w64 word ≡ take 8 (drop from d)
+    → word ≡ key → get_or d (from + 8) 0 ≡ 58 → Stand d from (before ∷ start_key) (from + 9)
+start_stands d from before word key room fits is reads same mark =
+    let first : take 8 (drop from d) ≡ start_front before =
+    word_is (start_front before) (drop from d) word key refl (
+      fits,
+      (
+        omega arith,
+        (
+          omega arith,
+          (
+            omega arith,
+            (
+              omega arith,
+              (
+                omega arith,
+                (
+                  omega arith,
+                  (omega arith, tt),
+                ),
+              ),
+            ),
+          ),
+        ),
+      ),
+    ) is reads same in
+    let last = byte d (from + 8) 58 mark (omega arith) in
+    let there : from + 8 + 1 ≡ from + 9 = omega arith in
+    record {
+      are = stand d from 8 (start_front before) first
+          ∙ ap (λ l. start_front before ++ l) (last.1 ∙ ap (λ k. 58 ∷ drop k d) there);
+      is = refl;
+      within = room;
+    }
+
+abbrev end_front : ℕ → List ℕ
+end_front before = before ∷ 34 ∷ 101 ∷ 110 ∷ 100 ∷ 34 ∷ 58 ∷ 123 ∷ []
+
+pub end_stands : (d : List ℕ) (from before word key : ℕ) → from + 8 ≤ length d → before < 256
+    → key ≡ from_le_bytes w64 (end_front before) → to_le_bytes w64 word ≡ take 8 (drop from d)
+    → word ≡ key → Stand d from (before ∷ end_key) (from + 7)
+end_stands d from before word key room fits is reads same =
+    let first : take 8 (drop from d) ≡ end_front before =
+    word_is (end_front before) (drop from d) word key refl (
+      fits,
+      (
+        omega arith,
+        (
+          omega arith,
+          (
+            omega arith,
+            (
+              omega arith,
+              (
+                omega arith,
+                (
+                  omega arith,
+                  (omega arith, tt),
+                ),
+              ),
+            ),
+          ),
+        ),
+      ),
+    ) is reads same in
+    let seven : take 7 (drop from d) ≡ take 7 (end_front before) =
+    sym (take-take 7 8 (drop from d) (omega arith)) ∙ ap (take 7) first in
+    record {
+      are = stand d from 7 _ seven;
+      is = refl;
+      within = omega (arith, room);
+    }
+
 -- ---- keys
 
 lex_line : (rest : List ℕ) → lex between (line_key ++ rest)
@@ -122,6 +201,26 @@ pub character_read : (d : List ℕ) (from before end : ℕ) → Stand d from (be
     → (get_or d from 0 ≡ before) × IsKey d (from + 1) end (codes "character")
 character_read d from before end is =
     key_read d from before end character_key (codes "character") lex_character (omega arith) is
+
+lex_start : (rest : List ℕ) → lex between (start_key ++ rest)
+    ≡ token (token_of.string (codes "start")) ∷ colon ∷ lex between rest
+unfolding lex content
+lex_start rest = refl
+
+lex_end : (rest : List ℕ) → lex between (end_key ++ rest)
+    ≡ token (token_of.string (codes "end")) ∷ colon ∷ lex between rest
+unfolding lex content
+lex_end rest = refl
+
+pub start_read : (d : List ℕ) (from before end : ℕ) → Stand d from (before ∷ start_key) end
+    → (get_or d from 0 ≡ before) × IsKey d (from + 1) end (codes "start")
+start_read d from before end is =
+    key_read d from before end start_key (codes "start") lex_start (omega arith) is
+
+pub end_read : (d : List ℕ) (from before end : ℕ) → Stand d from (before ∷ end_key) end
+    → (get_or d from 0 ≡ before) × IsKey d (from + 1) end (codes "end")
+end_read d from before end is =
+    key_read d from before end end_key (codes "end") lex_end (omega arith) is
 
 -- ---- an object of two members without space
 
@@ -184,4 +283,33 @@ character_then_line x y line column is_column is_line =
     let both = first_came (option_and_then as_uinteger) (option_and_then as_uinteger)
     (codes "line") (codes "character") (codes "line") y None (Some column) refl refl
     (Some line) (ap (option_and_then natural) is_line) (put (codes "character") x none) first in
+    rw (both.0, both.1) refl
+
+-- what the members of a range read as, in either order
+pub start_then_end : (x y : Data) (first second : Position) → position_at x ≡ Some first
+    → position_at y ≡ Some second
+    → span_at (object (put (codes "end") y (put (codes "start") x no_members)))
+    ≡ Some (record { first = first; second = second })
+start_then_end x y first second is_first is_second =
+    let none = no_members in
+    let one = first_came (option_and_then position_at) (option_and_then position_at)
+    (codes "start") (codes "end") (codes "start") x None None refl refl (Some first) is_first none
+    (refl, refl) in
+    let both = second_came (option_and_then position_at) (option_and_then position_at)
+    (codes "start") (codes "end") (codes "end") y (Some first) None refl refl (Some second)
+    is_second (put (codes "start") x none) one in
+    rw (both.0, both.1) refl
+
+pub end_then_start : (x y : Data) (first second : Position) → position_at x ≡ Some second
+    → position_at y ≡ Some first
+    → span_at (object (put (codes "start") y (put (codes "end") x no_members)))
+    ≡ Some (record { first = first; second = second })
+end_then_start x y first second is_second is_first =
+    let none = no_members in
+    let one = second_came (option_and_then position_at) (option_and_then position_at)
+    (codes "start") (codes "end") (codes "end") x None None refl refl (Some second) is_second none
+    (refl, refl) in
+    let both = first_came (option_and_then position_at) (option_and_then position_at)
+    (codes "start") (codes "end") (codes "start") y None (Some second) refl refl (Some first)
+    is_first (put (codes "end") x none) one in
     rw (both.0, both.1) refl

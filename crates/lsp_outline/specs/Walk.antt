@@ -103,6 +103,13 @@ abbrev pub character_key : List ℕ
 character_key =
     34 ∷ 99 ∷ 104 ∷ 97 ∷ 114 ∷ 97 ∷ 99 ∷ 116 ∷ 101 ∷ 114 ∷ 34 ∷ 58 ∷ []
 
+-- the keys of a range, with their colons
+abbrev pub start_key : List ℕ
+start_key = 34 ∷ 115 ∷ 116 ∷ 97 ∷ 114 ∷ 116 ∷ 34 ∷ 58 ∷ []
+
+abbrev pub end_key : List ℕ
+end_key = 34 ∷ 101 ∷ 110 ∷ 100 ∷ 34 ∷ 58 ∷ []
+
 -- the literal of this name
 pub record IsLiteral (d : List ℕ) (from : ℕ) (name : List ℕ) (end : ℕ) : Type 0 where
   pub is : end ≡ from + length name

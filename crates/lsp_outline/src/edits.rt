@@ -10,7 +10,7 @@ ghost use Rattle.lsp_outline.specs.Walk.{IsValue, AreItems};
 
 use crate::bytes::{byte_at, spaces_end};
 use crate::members::{Gathered, object_at, skipped, uinteger_at};
-use crate::positions::{is_line_first, names_character, names_line};
+use crate::positions::{first_letter, names_character, names_end, names_line, names_start};
 use crate::walk::{literal_end, string_copy};
 use lsp_types::{Change, Position, Span};
 use std::alloc::Global;
@@ -113,7 +113,7 @@ fn plain_position_at(text: &str, from: usize) -> Option<(Position, usize)>
         → (ms : Members) × IsValue depth text.now from r.1 (object ms)
         × (spec.position_at (object ms) ≡ Some r.0)) }
 {
-    if is_line_first(text.as_bytes(), from) {
+    if first_letter(text.as_bytes(), from) == b'l' {
         line_first_at(text, from)
     } else {
         character_first_at(text, from)
@@ -200,9 +200,86 @@ impl Gathered for SpanParts {
     }
 }
 
+/// The span that begins there with its start, and where it ends.
+#[inline(always)]
+fn start_first_at(text: &str, from: usize) -> Option<(Span, usize)>
+    requires { from ≤ length text.now }
+    ensures { IfSome result (λ r. (depth : ℕ) → 1 < depth
+        → (ms : Members) × IsValue depth text.now from r.1 (object ms)
+        × (spec.span_at (object ms) ≡ Some r.0)) }
+{
+    let bytes = text.as_bytes();
+    if !names_start(bytes, from, b'{') {
+        return None;
+    }
+    let (first, stop) = plain_position_at(text, from + 9)?;
+    if !names_end(bytes, stop, b',') {
+        return None;
+    }
+    let (second, close) = plain_position_at(text, stop + 7)?;
+    if byte_at(bytes, close) != b'}' {
+        return None;
+    }
+    Some((Span { first, second }, close + 1))
+}
+
+/// The span that begins there with its end, and where it ends.
+#[inline(always)]
+fn end_first_at(text: &str, from: usize) -> Option<(Span, usize)>
+    requires { from ≤ length text.now }
+    ensures { IfSome result (λ r. (depth : ℕ) → 1 < depth
+        → (ms : Members) × IsValue depth text.now from r.1 (object ms)
+        × (spec.span_at (object ms) ≡ Some r.0)) }
+{
+    let bytes = text.as_bytes();
+    if !names_end(bytes, from, b'{') {
+        return None;
+    }
+    let (second, stop) = plain_position_at(text, from + 7)?;
+    if !names_start(bytes, stop, b',') {
+        return None;
+    }
+    let (first, close) = plain_position_at(text, stop + 9)?;
+    if byte_at(bytes, close) != b'}' {
+        return None;
+    }
+    Some((Span { first, second }, close + 1))
+}
+
+/// The span that begins there as most programs write it, and where it ends.
+#[inline(never)]
+fn plain_span_at(text: &str, from: usize) -> Option<(Span, usize)>
+    requires { from ≤ length text.now }
+    ensures { IfSome result (λ r. (depth : ℕ) → 1 < depth
+        → (ms : Members) × IsValue depth text.now from r.1 (object ms)
+        × (spec.span_at (object ms) ≡ Some r.0)) }
+{
+    if first_letter(text.as_bytes(), from) == b's' {
+        start_first_at(text, from)
+    } else {
+        end_first_at(text, from)
+    }
+}
+
 /// The span that begins there, and where it ends.
 #[inline(always)]
 fn span_at(alloc: Global, text: &str, from: usize, depth: usize) -> Option<(Span, usize)>
+    requires { from ≤ length text.now }
+    ensures { IfSome result (λ r. (ms : Members) × IsValue depth text.now from r.1 (object ms)
+        × (spec.span_at (object ms) ≡ Some r.0)) }
+{
+    if depth < 2 {
+        return any_span_at(alloc, text, from, depth);
+    }
+    match plain_span_at(text, from) {
+        Some(found) => Some(found),
+        None => any_span_at(alloc, text, from, depth),
+    }
+}
+
+/// The span of whatever form that begins there, and where it ends.
+#[inline(never)]
+fn any_span_at(alloc: Global, text: &str, from: usize, depth: usize) -> Option<(Span, usize)>
     requires { from ≤ length text.now }
     ensures { IfSome result (λ r. (ms : Members) × IsValue depth text.now from r.1 (object ms)
         × (spec.span_at (object ms) ≡ Some r.0)) }

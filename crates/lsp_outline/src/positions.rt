@@ -1,9 +1,10 @@
-//! Positions as most programs write them: a line and a character, in either order, without space.
+//! Positions and ranges as most programs write them: two members, in either order, without space.
 ghost use Rattle.std.specs.Prelude.{◌≡◌, ◌∷◌, ◌+◌, ◌<◌, ◌≤◌, ℕ, length, take, drop, IsTrue, IfSome};
 ghost use Rattle.std.specs.Int.{to_le_bytes};
 ghost use Rattle.std.specs.Int.{w64};
 ghost use Rattle.serde_json.specs.Data.{Data};
 ghost use Rattle.lsp_outline.specs.Walk.{IsValue, Stand, line_key, character_key};
+ghost use Rattle.lsp_outline.specs.Walk.{start_key, end_key};
 
 use crate::bytes::byte_at;
 use crate::numbers::plain_number_end;
@@ -56,12 +57,45 @@ pub(crate) fn names_character(bytes: &[u8], from: usize, before: u8) -> bool
     word_at(bytes, from + 5) == back
 }
 
-/// Whether the first key of the object that begins there may be that of a line.
+/// Whether this byte stands there and then the key of a range's start.
 #[inline(always)]
-pub(crate) fn is_line_first(bytes: &[u8], from: usize) -> bool
+pub(crate) fn names_start(bytes: &[u8], from: usize, before: u8) -> bool
+    requires { from ≤ length bytes.now }
+    ensures { IsTrue result → Stand bytes.now from (before ∷ start_key) (from + 9) }
+{
+    let front = u64::from_le_bytes([before, b'"', b's', b't', b'a', b'r', b't', b'"']);
+    if bytes.len() - from < 9 {
+        return false;
+    }
+    if word_at(bytes, from) != front {
+        return false;
+    }
+    bytes[from + 8] == b':'
+}
+
+/// Whether this byte stands there, then the key of a range's end, and then a brace.
+#[inline(always)]
+pub(crate) fn names_end(bytes: &[u8], from: usize, before: u8) -> bool
+    requires { from ≤ length bytes.now }
+    ensures { IsTrue result → Stand bytes.now from (before ∷ end_key) (from + 7) }
+{
+    let word = u64::from_le_bytes([before, b'"', b'e', b'n', b'd', b'"', b':', b'{']);
+    if bytes.len() - from < 8 {
+        return false;
+    }
+    word_at(bytes, from) == word
+}
+
+/// The first letter of the first key of the object that begins there, where no space is before it.
+#[inline(always)]
+pub(crate) fn first_letter(bytes: &[u8], from: usize) -> u8
     requires { from ≤ length bytes.now }
 {
-    bytes.len() - from > 2 && bytes[from + 2] == b'l'
+    if bytes.len() - from > 2 {
+        bytes[from + 2]
+    } else {
+        0
+    }
 }
 
 /// Where the position ends that begins there with its line.
@@ -108,14 +142,89 @@ fn character_first_end(bytes: &[u8], from: usize) -> Option<usize>
 
 /// Where the position ends that begins there.
 #[inline(always)]
-pub(crate) fn plain_position_end(bytes: &[u8], from: usize) -> Option<usize>
+fn plain_position_end(bytes: &[u8], from: usize) -> Option<usize>
     requires { from ≤ length bytes.now }
     ensures { IfSome result (λ end. (depth : ℕ) → 0 < depth
         → (d : Data) × IsValue depth bytes.now from end d) }
 {
-    if is_line_first(bytes, from) {
+    if first_letter(bytes, from) == b'l' {
         line_first_end(bytes, from)
     } else {
         character_first_end(bytes, from)
+    }
+}
+
+/// Where the range ends that begins there with its start.
+#[inline(always)]
+fn start_first_end(bytes: &[u8], from: usize) -> Option<usize>
+    requires { from ≤ length bytes.now }
+    ensures { IfSome result (λ end. (depth : ℕ) → 1 < depth
+        → (d : Data) × IsValue depth bytes.now from end d) }
+{
+    if !names_start(bytes, from, b'{') {
+        return None;
+    }
+    let stop = plain_position_end(bytes, from + 9)?;
+    if !names_end(bytes, stop, b',') {
+        return None;
+    }
+    let close = plain_position_end(bytes, stop + 7)?;
+    if byte_at(bytes, close) != b'}' {
+        return None;
+    }
+    Some(close + 1)
+}
+
+/// Where the range ends that begins there with its end.
+#[inline(always)]
+fn end_first_end(bytes: &[u8], from: usize) -> Option<usize>
+    requires { from ≤ length bytes.now }
+    ensures { IfSome result (λ end. (depth : ℕ) → 1 < depth
+        → (d : Data) × IsValue depth bytes.now from end d) }
+{
+    if !names_end(bytes, from, b'{') {
+        return None;
+    }
+    let stop = plain_position_end(bytes, from + 7)?;
+    if !names_start(bytes, stop, b',') {
+        return None;
+    }
+    let close = plain_position_end(bytes, stop + 9)?;
+    if byte_at(bytes, close) != b'}' {
+        return None;
+    }
+    Some(close + 1)
+}
+
+/// Where the range ends that begins there.
+#[inline(never)]
+fn plain_range_end(bytes: &[u8], from: usize) -> Option<usize>
+    requires { from ≤ length bytes.now }
+    ensures { IfSome result (λ end. (depth : ℕ) → 1 < depth
+        → (d : Data) × IsValue depth bytes.now from end d) }
+{
+    if first_letter(bytes, from) == b's' {
+        start_first_end(bytes, from)
+    } else {
+        end_first_end(bytes, from)
+    }
+}
+
+/// Where the position or range ends that begins there.
+#[inline(always)]
+pub(crate) fn plain_place_end(bytes: &[u8], from: usize, depth: usize) -> Option<usize>
+    requires from { from ≤ length bytes.now }
+    requires depth { 0 < depth }
+    ensures { IfSome result (λ end. (d : Data) × IsValue depth bytes.now from end d) }
+{
+    match first_letter(bytes, from) {
+        b'l' | b'c' => plain_position_end(bytes, from),
+        b's' | b'e' => {
+            if depth < 2 {
+                return None;
+            }
+            plain_range_end(bytes, from)
+        }
+        _ => None,
     }
 }

@@ -11,7 +11,7 @@ ghost use Rattle.lsp_rpc.specs.Shape.{is_structure_or_null};
 use crate::bytes::{byte_at, is_delimiter, spaces_end};
 use crate::number_blocks::number_blocks_end;
 use crate::numbers::{number_end, tiny_number_end};
-use crate::positions::plain_position_end;
+use crate::positions::plain_place_end;
 use crate::texts::{plain_text, text_copy, text_end};
 use std::alloc::Global;
 
@@ -214,7 +214,7 @@ pub(crate) fn value_end(bytes: &[u8], from: usize, depth: usize) -> Option<usize
             if depth == 0 {
                 return None;
             }
-            if let Some(end) = plain_position_end(bytes, from) {
+            if let Some(end) = plain_place_end(bytes, from, depth) {
                 return Some(end);
             }
             members_end(bytes, from + 1, depth - 1)

@@ -20,8 +20,8 @@ value_end-returns-else-depth-eq0 t c =
           (grind arith) (grind arith) h.1,
     ))
 
-pub value_end-returns-in_default-plain_position_end : goal.value_end-returns-in_default-plain_position_end
-value_end-returns-in_default-plain_position_end t c =
+pub value_end-returns-in_default-plain_place_end : goal.value_end-returns-in_default-plain_place_end
+value_end-returns-in_default-plain_place_end t c =
     IfSome_then c.members_end.result c.members_end.ensures
     (λ end h. (
       object h.0,
