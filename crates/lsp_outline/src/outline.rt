@@ -201,6 +201,8 @@ fn put_whole(alloc: Global, side: Side, content: &[u8], spoken: &mut Spoken) -> 
     ensures rule { IfErr result (spec.IsUnspoken side content.now) }
     ensures memory { result ≡ Err Memory → 0 < length content.now }
 {
+    // What the walk put there before it declined the content is dropped first.
+    spoken.message = blank_message(alloc);
     *spoken = spoken_whole(alloc, side, content)?;
     Ok(())
 }
