@@ -34,7 +34,7 @@ impl Beginning {
     pub fn keep(&mut self, given: &[u8])
         ensures { kept self.new ≡ take 32 (kept self.old ++ given.now) }
     {
-        // So it is of all but the first bytes.
+        // After the first 32 bytes, nothing more is kept.
         if self.count == 32 {
             return;
         }

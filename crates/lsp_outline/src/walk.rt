@@ -87,7 +87,7 @@ fn colon_end(bytes: &[u8], from: usize) -> Option<usize>
     spaced_colon_end(bytes, from)
 }
 
-/// The same, with space on both sides of it.
+/// The same, with or without space on either side of it.
 #[inline(never)]
 fn spaced_colon_end(bytes: &[u8], from: usize) -> Option<usize>
     requires { from ≤ length bytes.now }

@@ -29,7 +29,7 @@ use std::test::Fail;
 /// How many bytes are a megabyte.
 const MEGABYTE: u64 = 1_000_000;
 
-/// The workload of all, in the order in which they are run.
+/// The workloads that `all` runs, in order.
 static WORKLOADS: [&str; 6] = ["recorded", "typing", "texts", "answers", "many", "awkward"];
 
 /// How a run ended, and what it wrote.

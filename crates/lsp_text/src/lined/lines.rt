@@ -26,7 +26,7 @@ use lsp_types::{Encoding, Position};
 use std::alloc::{AllocError, Global};
 use std::marker::Model;
 
-/// A text in chunks of blocks, with a window on it.
+/// A text in blocks, with a window on it.
 pub(crate) struct Lines {
     held: Windowed,
 }

@@ -39,9 +39,9 @@ const MOST: usize = 1000;
 /// The bytes between two edits that are near each other, at most.
 const NEAR: usize = 256;
 
-/// A text in chunks, and the window on it: its text, and the sums of what comes before it in the
-/// chunks and of what comes before the bytes after it. Also the sums of the whole, and the place of
-/// the last edit in the chunks.
+/// A text in blocks, and the window on it: its text, and the sums of what comes before it in the
+/// blocks and of what comes before the bytes after it. Also the sums of the whole, and the place of
+/// the last edit in the blocks.
 #[derive(Drop)]
 pub(super) struct Windowed {
     pub(super) tree: Tree,
@@ -87,7 +87,7 @@ impl Windowed {
     }
 
     /// Replaces some bytes by a text: in the window if the edit stays inside it, in one that is
-    /// opened around the edit if that is near the last one, and else in the chunks.
+    /// opened around the edit if that is near the last one, and else in the blocks.
     pub(super) fn replace(&mut self, from: usize, to: usize, text: &str) -> Result<(), AllocError>
         requires { CanEdit self.old from to text.now }
         ensures ok { OnOk result
@@ -122,7 +122,7 @@ impl Windowed {
         self.replace_inside(from, to, text)
     }
 
-    /// Whether a place is near the last edit in the chunks.
+    /// Whether a place is near the last edit in the blocks.
     fn is_near(&self, place: usize) -> bool {
         place <= self.last.saturating_add(NEAR) && self.last <= place.saturating_add(NEAR)
     }
@@ -152,7 +152,7 @@ impl Windowed {
         Ok(true)
     }
 
-    /// Replaces some bytes of the chunks by a text, where no window is open.
+    /// Replaces some bytes of the blocks by a text, where no window is open.
     fn replace_apart(&mut self, from: usize, to: usize, text: &str) -> Result<(), AllocError>
         requires edit { CanEdit self.old from to text.now }
         requires closed { IsClosed self.old }
@@ -166,7 +166,7 @@ impl Windowed {
         Ok(())
     }
 
-    /// Closes the window, if one is open: its text is put into the chunks.
+    /// Closes the window, if one is open: its text is put into the blocks.
     fn close(&mut self) -> Result<(), AllocError>
         requires { IsWindowed self.old }
         ensures ok { OnOk result (HoldsText self.new (text_with self.old) × IsClosed self.new) }
