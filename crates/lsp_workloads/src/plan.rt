@@ -20,6 +20,8 @@ pub(crate) struct Plan {
     /// How many keys are typed at a place.
     pub(crate) keys: usize,
     pub(crate) snapshots_in_thousand: usize,
+    /// Of these, the ones whose lines end by LF where those of the document end by CR LF.
+    pub(crate) feeds_in_thousand: usize,
     /// Whether snapshots come a few changes late.
     pub(crate) is_late: bool,
     /// Changes that hold the whole text, saves with the text, and documents closed and opened again.
@@ -60,6 +62,7 @@ const TYPING: Plan = Plan {
     is_line: false,
     keys: 40,
     snapshots_in_thousand: 1,
+    feeds_in_thousand: 0,
     is_late: false,
     wholes_in_thousand: 0,
     saves_in_thousand: 0,
@@ -153,7 +156,8 @@ const LARGE: Plan = Plan {
     ..TYPING
 };
 
-/// A snapshot after each change of a text with CR LF, compared without line ends.
+/// A snapshot after each change of a text with CR LF, compared without line ends: half of the
+/// snapshots have LF.
 const LINE_ENDS: Plan = Plan {
     words: &["lspcheck", "check", "--ignore-line-ends"],
     share: 40,
@@ -162,6 +166,7 @@ const LINE_ENDS: Plan = Plan {
     most: 40_000,
     script: CRLF,
     snapshots_in_thousand: 1_000,
+    feeds_in_thousand: 500,
     ..TYPING
 };
 

@@ -7,6 +7,7 @@ use crate::log::{Log, Sender};
 use crate::plan::Plan;
 use crate::random::Random;
 use crate::words::push_quoted;
+use memchr::memchr;
 use std::alloc::{AllocError, Global};
 use std::io;
 use std::io::Read;
@@ -222,6 +223,10 @@ impl Session {
 
     /// Begins a snapshot of a document, or holds it back.
     fn show(&mut self, number: usize) -> Result<(), AllocError> {
+        let feeds = self.plan.feeds_in_thousand;
+        if feeds > 0 && self.random.happens(feeds) {
+            return self.show_with_feeds(number);
+        }
         let Some(document) = self.documents.get(number) else {
             return Ok(());
         };
@@ -248,6 +253,21 @@ impl Session {
             offset: 0,
         });
         Ok(())
+    }
+
+    /// Writes a snapshot of a document, its lines ended by LF.
+    fn show_with_feeds(&mut self, number: usize) -> Result<(), AllocError> {
+        let Some(document) = self.documents.get(number) else {
+            return Ok(());
+        };
+        let mut text = Vec::new(self.alloc);
+        document.push_text(&mut text)?;
+        let mut shown = Vec::with_capacity(self.alloc, text.len())?;
+        push_without_returns(&text, &mut shown)?;
+        self.log
+            .begin_snapshot(document.uri.as_str(), document.version, shown.len())?;
+        self.log.bytes.extend_from_slice(&shown)?;
+        self.log.bytes.extend_from_slice(b"\n")
     }
 
     /// Writes the snapshot that was held back, where it is due.
@@ -380,6 +400,16 @@ impl Session {
         });
         Ok(count)
     }
+}
+
+/// Puts a text after other bytes, without its CRs.
+fn push_without_returns(text: &[u8], out: &mut Vec<u8>) -> Result<(), AllocError> {
+    let mut rest = text;
+    while let Some(place) = memchr(b'\r', rest) {
+        out.extend_from_slice(&rest[..place])?;
+        rest = &rest[place + 1..];
+    }
+    out.extend_from_slice(rest)
 }
 
 /// Types a key, removes a character, or ends the visit by removing all that was typed.
