@@ -150,8 +150,14 @@ Takes raw terms before old_messages old_documents messages documents after =
     (given : Heard) × ((events : List Event) → Holds old_messages old_documents events
     → Keeps raw terms before given messages documents after events)
 
+-- memory may run out at this event: a fault of the frames wants none
+abbrev pub CanWantMemory : Raw → Type 0
+CanWantMemory (content side bytes) = Unit {0}
+CanWantMemory (broken side rule) = ⊥
+CanWantMemory (show number uri text) = Unit {0}
+
 -- **the next event offends the rule of this fault**, after these events, unless memory ran out
 abbrev pub RefusesFor : Raw → Terms → List Event → Fault → Type 0
 RefusesFor raw terms events (faults.Rule rule) =
     (event : Event) × Reads raw event × (offence terms events event ≡ Some rule)
-RefusesFor raw terms events faults.Memory = Unit {0}
+RefusesFor raw terms events faults.Memory = CanWantMemory raw
