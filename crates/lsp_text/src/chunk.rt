@@ -127,13 +127,6 @@ impl<T: Part> Part for Chunk<T> {
 }
 
 impl<T: Part> Chunk<T> {
-    /// A text in one chunk, however many parts that has.
-    pub(crate) fn whole(alloc: Global, text: &str) -> Result<Chunk<T>, AllocError>
-        ensures { IfOk result (λ chunk. chunk ≡ text.now) }
-    {
-        Chunk::of(alloc, &T::cut(alloc, text)?)
-    }
-
     /// Replaces some bytes by a text, in as many parts as that takes.
     pub(crate) fn edit(&mut self, from: usize, to: usize, text: &str) -> Result<(), AllocError>
         requires can { CanReplace self.old from to }
@@ -147,7 +140,7 @@ impl<T: Part> Chunk<T> {
     }
 
     /// A chunk of some parts, each held by one more.
-    fn of(alloc: Global, parts: &[T]) -> Result<Chunk<T>, AllocError>
+    pub(crate) fn of(alloc: Global, parts: &[T]) -> Result<Chunk<T>, AllocError>
         requires { AreKept (map T.text parts.now) }
         ensures { IfOk result (λ chunk. chunk ≡ joined (map T.text parts.now)) }
     {
@@ -199,7 +192,7 @@ fn replace_shared<T: Part>(
 }
 
 /// Puts parts in chunks.
-fn chunks_of<T: Part>(alloc: Global, parts: &[T]) -> Result<Vec<Chunk<T>>, AllocError>
+pub(crate) fn chunks_of<T: Part>(alloc: Global, parts: &[T]) -> Result<Vec<Chunk<T>>, AllocError>
     requires { AreKept (map T.text parts.now) }
     ensures { IfOk result (λ chunks. MakeUp chunks.items (joined (map T.text parts.now))) }
 {

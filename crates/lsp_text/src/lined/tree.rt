@@ -1,4 +1,5 @@
-//! A text in one block while it is short, and in chunks of blocks once it is longer.
+//! A text in one block while it is short, in one chunk of blocks while that has room for them, and
+//! in chunks of chunks once it is longer.
 
 ghost use Rattle.std.specs.Prelude.{◌≡◌, ◌<◌, ◌^◌, ◌++◌, None, length, take, drop, IfOk, IfSome};
 ghost use Rattle.std.specs.Prelude.{MatchOption, OnOk, OnErr};
@@ -10,10 +11,11 @@ ghost use Rattle.lsp_text.specs.Offsets.{IsOffset};
 ghost use Rattle.lsp_text.specs.Ends.{ends_in, IsLineEnd, IsRest};
 ghost use Rattle.lsp_text.specs.Sums.{sums_of};
 ghost use Rattle.lsp_text.specs.SameText.{BeginsOtherwise, due, with_feeds};
-ghost use Rattle.lsp_text.specs.Parts.{CanReplace, IsSeam, IsSpan, bytes_between};
+ghost use Rattle.lsp_text.specs.Parts.{joined, AreKept, CanReplace, IsSeam, IsSpan, bytes_between};
+ghost use Rattle.lsp_text.specs.Trees.{text_kept};
 
 use crate::block::Block;
-use crate::chunk::Chunk;
+use crate::chunk::{Chunk, chunks_of};
 use crate::part::{LineEnd, Part, push_between, strip_between, take_between};
 use crate::same::LinesLeft;
 use crate::sums::Sums;
@@ -29,7 +31,9 @@ const SHORT: usize = 2048;
 enum Kept {
     /// In one block, which has less to allocate and to search.
     Short(Block),
-    /// In chunks.
+    /// In one chunk, where a block is found in one step instead of three.
+    Middle(Chunk<Block>),
+    /// In chunks of chunks.
     Long(Chunk<Chunk<Chunk<Block>>>),
 }
 
@@ -62,12 +66,13 @@ impl Tree {
         })
     }
 
-    /// A text in chunks.
+    /// A text in one chunk, or in chunks of chunks if one has no room for its blocks.
     fn in_chunks(alloc: Global, text: &str) -> Result<Tree, AllocError>
         ensures { IfOk result (λ tree. tree ≡ text.now) }
     {
+        let chunks = Chunk::cut(alloc, text)?;
         Ok(Tree {
-            kept: Kept::Long(Chunk::whole(alloc, text)?),
+            kept: kept_in(alloc, &chunks)?,
         })
     }
 
@@ -77,6 +82,7 @@ impl Tree {
     {
         let kept = match &self.kept {
             Kept::Short(block) => Kept::Short(block.share()?),
+            Kept::Middle(chunk) => Kept::Middle(chunk.share()?),
             Kept::Long(chunks) => Kept::Long(chunks.share()?),
         };
         Ok(Tree { kept })
@@ -89,6 +95,7 @@ impl Tree {
     {
         match &self.kept {
             Kept::Short(block) => block.sums(),
+            Kept::Middle(chunk) => chunk.sums(),
             Kept::Long(chunks) => chunks.sums(),
         }
     }
@@ -100,6 +107,7 @@ impl Tree {
     {
         match &self.kept {
             Kept::Short(block) => block.line_end(n),
+            Kept::Middle(chunk) => chunk.line_end(n),
             Kept::Long(chunks) => chunks.line_end(n),
         }
     }
@@ -112,6 +120,7 @@ impl Tree {
     {
         match &self.kept {
             Kept::Short(block) => block.offset_of(encoding, column),
+            Kept::Middle(chunk) => chunk.offset_of(encoding, column),
             Kept::Long(chunks) => chunks.offset_of(encoding, column),
         }
     }
@@ -123,6 +132,7 @@ impl Tree {
     {
         match &self.kept {
             Kept::Short(block) => block.units_before(encoding, offset),
+            Kept::Middle(chunk) => chunk.units_before(encoding, offset),
             Kept::Long(chunks) => chunks.units_before(encoding, offset),
         }
     }
@@ -134,6 +144,7 @@ impl Tree {
     {
         match &self.kept {
             Kept::Short(block) => block.ends_before(offset),
+            Kept::Middle(chunk) => chunk.ends_before(offset),
             Kept::Long(chunks) => chunks.ends_before(offset),
         }
     }
@@ -145,11 +156,13 @@ impl Tree {
     {
         match &self.kept {
             Kept::Short(block) => block.rest_of_block(offset),
+            Kept::Middle(chunk) => chunk.rest_of_block(offset),
             Kept::Long(chunks) => chunks.rest_of_block(offset),
         }
     }
 
-    /// Replaces some bytes by a text. A block that is full then becomes chunks.
+    /// Replaces some bytes by a text. A block that is full then becomes a chunk, and a chunk without
+    /// room for its blocks becomes chunks of chunks.
     pub(super) fn edit(
         &mut self,
         alloc: Global,
@@ -164,6 +177,14 @@ impl Tree {
     {
         match &mut self.kept {
             Kept::Long(chunks) => chunks.edit(from, to, text),
+            Kept::Middle(chunk) => {
+                if chunk.replace(from, to, text)? {
+                    return Ok(());
+                }
+                let chunks = Chunk::between(alloc, chunk, from, text, chunk, to)?;
+                self.kept = kept_in(alloc, &chunks)?;
+                Ok(())
+            }
             Kept::Short(block) => {
                 if block.replace(from, to, text)? {
                     return Ok(());
@@ -188,6 +209,7 @@ impl Tree {
     {
         match &self.kept {
             Kept::Short(block) => push_between(block, from, to, out),
+            Kept::Middle(chunk) => push_between(chunk, from, to, out),
             Kept::Long(chunks) => push_between(chunks, from, to, out),
         }
     }
@@ -206,6 +228,7 @@ impl Tree {
     {
         match &self.kept {
             Kept::Short(block) => strip_between(block, from, to, whole),
+            Kept::Middle(chunk) => strip_between(chunk, from, to, whole),
             Kept::Long(chunks) => strip_between(chunks, from, to, whole),
         }
     }
@@ -225,7 +248,20 @@ impl Tree {
     {
         match &self.kept {
             Kept::Short(block) => take_between(block, from, to, left),
+            Kept::Middle(chunk) => take_between(chunk, from, to, left),
             Kept::Long(chunks) => take_between(chunks, from, to, left),
         }
     }
+}
+
+/// Chunks of blocks, kept as they are if they are one, and else in chunks of chunks.
+fn kept_in(alloc: Global, chunks: &[Chunk<Block>]) -> Result<Kept, AllocError>
+    requires { AreKept chunks.now }
+    ensures { IfOk result (λ kept. text_kept kept ≡ joined chunks.now) }
+{
+    if chunks.len() == 1 {
+        return Ok(Kept::Middle(chunks[0].share()?));
+    }
+    let larger = chunks_of(alloc, chunks)?;
+    Ok(Kept::Long(Chunk::of(alloc, &larger)?))
 }
