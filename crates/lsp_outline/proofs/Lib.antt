@@ -14,3 +14,4 @@ pub mod Parts
 pub mod Walking
 pub mod Speaking
 pub mod Negatives
+pub mod LongBlocks

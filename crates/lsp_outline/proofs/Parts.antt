@@ -155,7 +155,7 @@ whole_text d from stop s part text mark =
 
 -- ---- what is written into a room
 
-chunk_plain : (n : ℕ) (xs : List ℕ) → prefix_len is_plain (take n xs) ≤ prefix_len is_plain xs
+pub chunk_plain : (n : ℕ) (xs : List ℕ) → prefix_len is_plain (take n xs) ≤ prefix_len is_plain xs
 chunk_plain zero xs = omega arith
 chunk_plain (suc n) [] = omega arith
 chunk_plain (suc n) (x ∷ xs) = more (is_plain x) (chunk_plain n xs)
@@ -166,7 +166,7 @@ chunk_plain (suc n) (x ∷ xs) = more (is_plain x) (chunk_plain n xs)
     more false less = omega arith
 
 -- of a block that was written whole, its first bytes
-front_of_block : (room after d : List ℕ) (len at n count : ℕ) → len ≤ length room
+pub front_of_block : (room after d : List ℕ) (len at n count : ℕ) → len ≤ length room
     → take (len + n) after ≡ take len room ++ chunk at n d → count ≤ n
     → take (len + count) after ≡ take len room ++ take count (drop at d)
 front_of_block room after d len at n count within written few =
@@ -192,11 +192,11 @@ block_part d from at room after len n count part within inside written is =
     (part_on d from at (at + count) (take len room) (take count (drop at d)) part
     (plain_part d at count (omega arith) (omega (arith, is, chunk_plain n (drop at d)))))
 
-pub short_part : (d : List ℕ) (from at c : ℕ) (room : List ℕ) (len : ℕ)
-    → IsPart d from at (take len room) → len < length room → at < length d → get_or d at 0 ≡ 92
+-- an escape that writes one byte
+pub short_escape_part : (d : List ℕ) (at c : ℕ) → at < length d → get_or d at 0 ≡ 92
     → c ≡ one_byte (short_escape (get_or d (at + 1) 0)) → (c ≡ 0 → ⊥)
-    → IsPart d from (at + 2) (take (len + 1) (set room len c))
-short_part d from at c room len part within inside mark is some =
+    → IsPart d at (at + 2) (c ∷ [])
+short_escape_part d at c inside mark is some =
     let x = get_or d (at + 1) 0 in
     let writes : short_escape x ≡ Some c =
     some_short x (λ none. some (is ∙ none)) ∙ ap Some (sym is) in
@@ -211,12 +211,19 @@ short_part d from at c room len part within inside mark is some =
     escape_passed d (at + 1) behind ∙ ap (λ k. lex in_string (drop k d)) two in
     let text : IsUtf8 (encode_utf8 c) = IsUtf8-encode c (ascii_scalar c facts.1) in
     let one : encode_utf8 c ≡ c ∷ [] = encode_ascii c facts.1 in
-    subst (IsPart d from (at + 2)) (sym (take_more_set room len c within))
-    (part_on d from at (at + 2) (take len room) (c ∷ []) part
-    (subst (IsPart d at (at + 2)) one (escape_part d at c (at + 2) inside mark escape passed text)))
+    subst (IsPart d at (at + 2)) one (escape_part d at c (at + 2) inside mark escape passed text)
   where
     ascii_scalar : (k : ℕ) → k < 128 → IsScalar k
     ascii_scalar k few = grind arith
+
+pub short_part : (d : List ℕ) (from at c : ℕ) (room : List ℕ) (len : ℕ)
+    → IsPart d from at (take len room) → len < length room → at < length d → get_or d at 0 ≡ 92
+    → c ≡ one_byte (short_escape (get_or d (at + 1) 0)) → (c ≡ 0 → ⊥)
+    → IsPart d from (at + 2) (take (len + 1) (set room len c))
+short_part d from at c room len part within inside mark is some =
+    subst (IsPart d from (at + 2)) (sym (take_more_set room len c within))
+    (part_on d from at (at + 2) (take len room) (c ∷ []) part
+    (short_escape_part d at c inside mark is some))
 
 pub written_part : (d : List ℕ) (from at end : ℕ) (room : List ℕ) (len : ℕ) (after : List ℕ)
     (count : ℕ) → IsPart d from at (take len room) → WritesPart d at end room len after count

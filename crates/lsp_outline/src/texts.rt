@@ -18,9 +18,11 @@ use std::simd::prelude::*;
 /// How many bytes are looked at together.
 const LANES: usize = 16;
 
-/// How many bytes are copied together. Source text has an escape every 20 to 40 bytes, so that a
-/// run of plain bytes mostly ends in its first block.
+/// How many bytes are copied together where two long blocks no longer fit.
 const WIDE_LANES: usize = 32;
+
+/// How many bytes are tested together, as long as two such blocks fit.
+const BLOCK: usize = 64;
 
 /// How many bytes of a text are written before they are put behind the copy.
 const ROOM: usize = 1024;
@@ -338,8 +340,121 @@ fn write_text(room: &mut [u8], bytes: &[u8], from: usize) -> Option<(usize, usiz
     Some((at, len))
 }
 
-/// Puts the text that is there behind the copy, as far as blocks fit, and gives where it
+/// A bit for each of the 64 bytes there: whether it ends a run of those that stand for themselves
+/// in a string.
+#[inline(always)]
+fn block_stops(bytes: &[u8], at: usize) -> u64
+    requires { at + BLOCK ≤ length bytes.now }
+    ensures { result ≡ mask_l (map is_stop (chunk at BLOCK bytes.now)) }
+{
+    let block = u8x64::from_slice(&bytes[at..]);
+    (block.simd_eq(u8x64::splat(b'"'))
+        | block.simd_eq(u8x64::splat(b'\\'))
+        | block.simd_lt(u8x64::splat(0x20))).to_bitmask()
+}
+
+/// Copies the 64 bytes there behind the first ones of the room, plain or not.
+#[inline(always)]
+fn copy_long_block(room: &mut [u8], len: usize, bytes: &[u8], at: usize)
+    requires { (len + BLOCK ≤ length room.old) × (at + BLOCK ≤ length bytes.now) }
+    ensures written { take (len + BLOCK) room.new
+        ≡ take len room.old ++ chunk at BLOCK bytes.now }
+    ensures len { length room.new ≡ length room.old }
+{
+    u8x64::from_slice(&bytes[at..]).copy_to_slice(&mut room[len..]);
+}
+
+/// Writes what the 64 bytes there stand for behind the first bytes of the room, and gives where the
+/// text continues and how many bytes the room then holds. An escape that begins among the 64 is
+/// written whole. It stops early after a `\u` escape and before a byte that is not part of the text.
+///
+/// The 64 bytes are tested once: `stops` has a bit for each that ends a run of plain ones. A run is
+/// copied before it is known where it ends, with all of the 64 bytes that begin there, and what is
+/// written next overwrites those behind its end. After an escape the bits are shifted, so that the
+/// first again stands for the byte at `at`.
+#[inline(always)]
+fn write_block(room: &mut [u8], len: usize, bytes: &[u8], at: usize) -> Option<(usize, usize)>
+    requires room { len + 128 ≤ length room.old }
+    requires more { at + 128 < length bytes.now }
+    ensures part { IfSome result (λ r. WritesPart bytes.now at r.0 room.old len room.new r.1) }
+    ensures len { length room.new ≡ length room.old }
+{
+    let end = at + BLOCK;
+    let mut stops = block_stops(bytes, at);
+    copy_long_block(room, len, bytes, at);
+    let mut at = at;
+    let mut len = len;
+    while stops != 0 {
+        let plain = stops.trailing_zeros() as usize;
+        at += plain;
+        len += plain;
+        if bytes[at] != b'\\' {
+            return Some((at, len));
+        }
+        let escaped = short_escape(bytes[at + 1]);
+        if escaped == 0 {
+            return write_escape(room, len, bytes, at);
+        }
+        room[len] = escaped;
+        at += 2;
+        len += 1;
+        // Two shifts, since `plain + 2` may exceed 63.
+        stops = (stops >> plain) >> 2;
+        copy_long_block(room, len, bytes, at);
+    }
+    if at < end {
+        len += end - at;
+        at = end;
+    }
+    Some((at, len))
+}
+
+/// Writes the text that is there into the room, as far as two blocks fit on both sides: where it
+/// continues, and how many bytes were written.
+#[inline(never)]
+fn write_blocks(room: &mut [u8], bytes: &[u8], from: usize) -> Option<(usize, usize)>
+    requires { from ≤ length bytes.now }
+    ensures part { IfSome result (λ r. IsPart bytes.now from r.0 (take r.1 room.new)) }
+    ensures within { IfSome result (λ r. r.1 ≤ length room.new) }
+    ensures len { length room.new ≡ length room.old }
+{
+    let mut at = from;
+    let mut len = 0;
+    'blocks: while bytes.len() - at > 2 * BLOCK && room.len() - len >= 2 * BLOCK {
+        let (next, end) = write_block(room, len, bytes, at)?;
+        if next == at {
+            break;
+        }
+        at = next;
+        len = end;
+    }
+    Some((at, len))
+}
+
+/// Puts the text that is there behind the copy, as far as long blocks fit, and gives where it
 /// continues.
+#[inline(always)]
+fn copy_long(room: &mut [u8; ROOM], bytes: &[u8], from: usize, copy: &mut Vec<u8>) -> Option<usize>
+    requires { from ≤ length bytes.now }
+    ensures part { IfSome result (λ next. (start : ℕ)
+        → IsPart bytes.now start from copy.old.items
+        → IsPart bytes.now start next copy.new.items) }
+    ensures bounds { IfSome result (λ next. (from ≤ next) × (next ≤ length bytes.now)) }
+{
+    let mut at = from;
+    'rooms: loop {
+        let (next, end) = write_blocks(room, bytes, at)?;
+        copy.extend_from_slice(&room[..end]).ok()?;
+        // The room was not filled: the text ends there, or no block fits behind it.
+        if next - at < ROOM / 2 {
+            return Some(next);
+        }
+        at = next;
+    }
+}
+
+/// Puts the text that is there behind the copy, first by long blocks, then by short ones, as far as
+/// these fit, and gives where it continues.
 #[inline(never)]
 fn copy_rooms(bytes: &[u8], from: usize, copy: &mut Vec<u8>) -> Option<usize>
     requires { from ≤ length bytes.now }
@@ -349,7 +464,7 @@ fn copy_rooms(bytes: &[u8], from: usize, copy: &mut Vec<u8>) -> Option<usize>
     ensures bounds { IfSome result (λ next. (from ≤ next) × (next ≤ length bytes.now)) }
 {
     let mut room = [0; ROOM];
-    let mut at = from;
+    let mut at = copy_long(&mut room, bytes, from, copy)?;
     'rooms: loop {
         let (next, len) = write_text(&mut room, bytes, at)?;
         copy.extend_from_slice(&room[..len]).ok()?;
