@@ -76,6 +76,28 @@ none_differs (a ∷ xs) [] e = absurd (omega (arith, e))
 none_differs (a ∷ xs) (b ∷ ys) e =
     both_pairs (eqb a b) a b xs ys _ (Decides-eqb a b) (none_differs xs ys (omega (arith, e)))
 
+-- ---- one vector beside another
+
+long_zip : (a b : List ℕ) → length a ≡ 64 → length b ≡ 64 → length (zip2 differs a b) ≡ 64
+long_zip a b la lb = length-zip2 differs a b (la ∙ sym lb) ∙ la
+
+pub same_block : (at there : ℕ) (xs ys : List ℕ) → at + 64 ≤ length xs → there + 64 ≤ length ys
+    → (IsTrue (nat_eq (mask_l (map (top 7) (zip2 unlike (take 64 (drop at xs))
+    (take 64 (drop there ys)))) % 2 ^ 64) 0))
+    ↔ (take 64 (drop at xs) ≡ take 64 (drop there ys))
+same_block at there xs ys within also =
+    let a = take 64 (drop at xs) in
+    let b = take 64 (drop there ys) in
+    let la = length-chunk at 64 xs within in
+    let lb = length-chunk there 64 ys also in
+    let whole = ap (λ l. mask_l (map (top 7) l) % 2 ^ 64) (unlike_lanes a b)
+    ∙ ap (λ l. mask_l l % 2 ^ 64) (tops (zip2 differs a b))
+    ∙ mask_l-mod (zip2 differs a b) 64 (omega (arith, long_zip a b la lb)) in
+    let none = none_differs a b (la ∙ sym lb) in (
+      λ t. none.0 (sym whole ∙ (Decides-eqb _ 0).0 t),
+      λ e. (Decides-eqb _ 0).1 (whole ∙ none.1 e),
+    )
+
 -- ---- four vectors beside four
 
 abbrev marks : List ℕ → List ℕ → List ℕ → List ℕ → List ℕ → List ℕ → List ℕ → List ℕ → List ℕ
@@ -93,9 +115,6 @@ marked a b c d e f g h =
     let second = ap₂ (zip2 bit_or) (unlike_lanes c g) (unlike_lanes d h)
     ∙ either_lanes (zip2 differs c g) (zip2 differs d h) in
     ap (map (top 7)) (ap₂ (zip2 bit_or) first second ∙ either_lanes _ _) ∙ tops _
-
-long_zip : (a b : List ℕ) → length a ≡ 64 → length b ≡ 64 → length (zip2 differs a b) ≡ 64
-long_zip a b la lb = length-zip2 differs a b (la ∙ sym lb) ∙ la
 
 long_or : (p q : List Bool) → length p ≡ 64 → length q ≡ 64 → length (or_l p q) ≡ 64
 long_or p q lp lq = length-zip2 (λ a b. a || b) p q (lp ∙ sym lq) ∙ lp

@@ -7,6 +7,7 @@ pub mod JoinedLines
 pub mod ByteUnits
 pub mod Starts
 pub mod AlikeLanes
+pub mod CommonEnds
 pub mod WideLanes
 pub mod Denoting
 pub mod Edits
@@ -42,5 +43,7 @@ pub mod StepCounts
 pub mod PartEdits
 pub mod PartLines
 pub mod Rests
+pub mod Patches
 pub mod WindowEnds
 pub mod WindowPlaces
+pub mod WindowPatches

@@ -278,6 +278,7 @@ cut_all bs rest piece from to at len h k lt r is l le =
 pub record IsPiece (bs : List ℕ) (from to at len : ℕ) (piece : List ℕ) : Type 0 where
   pub on : IsOn bs from to (at + len)
   pub some : 0 < len
+  pub is : piece ≡ bytes_between bs at (at + len)
   pub next : bytes_between bs from (at + len) ≡ bytes_between bs from at ++ piece
   pub whole : bytes_between bs from to
       ≡ bytes_between bs from at ++ (piece ++ bytes_between bs (at + len) to)
@@ -298,6 +299,7 @@ is_piece bs piece from to at len h k c =
     record {
       on = c.on;
       some = c.some;
+      is = c.is;
       next =
           between_split bs from at end k.first order ∙ ap (λ (x : List ℕ). a ++ x) (sym c.is);
       whole = between_split bs from at to k.first k.last ∙ ap (λ (x : List ℕ). a ++ x) rest;

@@ -185,23 +185,30 @@ edited_utf8 : (w : Windowed) (from to : ℕ) (text : List ℕ) → CanEdit w fro
 edited_utf8 w from to text h u =
     IsUtf8-replace_range (text_with w) text from to (text_utf8 w h.held) u h.can.first h.can.second
 
-pub apart : (w : Windowed) (from to : ℕ) (text tree : List ℕ) (sums : Sums)
-    → CanEdit w from to text → IsClosed w → IsUtf8 text → tree ≡ replace_range w.tree from to text
-    → sums ≡ sums_of tree
-    → NoWindow tree w.window w.before w.skipped sums (replace_range (text_with w) from to text)
-apart w from to text tree sums h c u made counted =
-    let none = none_counted w h.held c in
-    let is : tree ≡ replace_range (text_with w) from to text =
-    made ∙ ap (λ (x : List ℕ). replace_range x from to text) (sym (closed_text w c)) in
+-- the chunks hold a text instead
+pub held_apart : (w : Windowed) (bs tree : List ℕ) (sums : Sums) → IsWindowed w → IsClosed w
+    → tree ≡ bs → sums ≡ sums_of tree → IsUtf8 bs → length bs < 2 ^ 64 - 1
+    → NoWindow tree w.window w.before w.skipped sums bs
+held_apart w bs tree sums h c is counted u fits =
+    let none = none_counted w h c in
     record {
       tree_is = is;
       window_is = c.window;
       before_is = none.before;
       skipped_is = none.skipped;
       sums_are = counted ∙ ap sums_of is;
-      utf8 = edited_utf8 w from to text h u;
-      fits = edit_len w from to text h;
+      utf8 = u;
+      fits = fits;
     }
+
+pub apart : (w : Windowed) (from to : ℕ) (text tree : List ℕ) (sums : Sums)
+    → CanEdit w from to text → IsClosed w → IsUtf8 text → tree ≡ replace_range w.tree from to text
+    → sums ≡ sums_of tree
+    → NoWindow tree w.window w.before w.skipped sums (replace_range (text_with w) from to text)
+apart w from to text tree sums h c u made counted =
+    held_apart w (replace_range (text_with w) from to text) tree sums h.held c
+    (made ∙ ap (λ (x : List ℕ). replace_range x from to text) (sym (closed_text w c))) counted
+    (edited_utf8 w from to text h u) (edit_len w from to text h)
 
 -- ---- an edit in the window
 

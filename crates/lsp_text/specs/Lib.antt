@@ -18,5 +18,6 @@ pub mod Parts
 pub mod Blocks
 pub mod Chunks
 pub mod Trees
+pub mod Patches
 pub mod Windows
 pub mod LentLines

@@ -10,6 +10,18 @@ pub record AreSameTo (a b : List ℕ) (n : ℕ) : Type 0 where
   pub right : n ≤ length b
   pub same : take n a ≡ take n b
 
+-- the last n bytes of both are there, and the same
+pub record AreSameEnds (a b : List ℕ) (n : ℕ) : Type 0 where
+  pub left : n ≤ length a
+  pub right : n ≤ length b
+  pub same : drop (length a - n) a ≡ drop (length b - n) b
+
+-- and begin with a character in both
+pub record AreSameFrom (a b : List ℕ) (n : ℕ) : Type 0 where
+  pub ends : AreSameEnds a b n
+  pub left : IsCharBoundary a (length a - n)
+  pub right : IsCharBoundary b (length b - n)
+
 -- the texts first differ after this many bytes
 pub record IsParting (a b : List ℕ) (offset : ℕ) : Type 0 where
   pub left : IsCharBoundary a offset

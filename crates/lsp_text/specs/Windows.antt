@@ -44,6 +44,11 @@ abbrev pub HoldsTextOr : List ℕ → ℕ → ℕ → List ℕ → Windowed → 
 HoldsTextOr bs from to text w true = HoldsText w (replace_range bs from to text)
 HoldsTextOr bs from to text w false = HoldsText w bs
 
+-- it holds another text, or the text as it was
+abbrev pub HoldsRenewedOr : List ℕ → List ℕ → Windowed → Bool → Type 0
+HoldsRenewedOr bs text w true = HoldsText w text
+HoldsRenewedOr bs text w false = HoldsText w bs
+
 -- there is no window
 pub record IsClosed (w : Windowed) : Type 0 where
   pub before : w.before.bytes ≡ 0

@@ -167,10 +167,18 @@ impl Block {
         requires { length text.now ≤ MOST }
         ensures { IfOk result (λ block. block ≡ text.now) }
     {
-        let places = places_of(alloc, text)?;
-        let sums = Sums::of(text, places.len());
+        Block::holding(alloc, String::from_str(alloc, text)?)
+    }
+
+    /// A block of a text that it takes over, with the room that this has.
+    pub(crate) fn holding(alloc: Global, text: String) -> Result<Block, AllocError>
+        requires { length (string_bytes text) ≤ MOST }
+        ensures { IfOk result (λ block. block ≡ string_bytes text) }
+    {
+        let places = places_of(alloc, text.as_str())?;
+        let sums = Sums::of(text.as_str(), places.len());
         let held = BlockText {
-            text: String::from_str(alloc, text)?,
+            text,
             places,
             sums,
             alloc,

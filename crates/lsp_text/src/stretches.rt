@@ -2,7 +2,7 @@
 
 ghost use Rattle.std.specs.Prelude.{◌≡◌, ◌+◌, ◌≤◌, ◌↔◌, ◌++◌, List, ℕ, length, take, drop, IsTrue};
 ghost use Rattle.std.specs.Prelude.{MatchOption};
-ghost use Rattle.lsp_text.specs.Parting.{AreSameTo};
+ghost use Rattle.lsp_text.specs.Parting.{AreSameTo, AreSameEnds, AreSameFrom};
 ghost use Rattle.lsp_text.specs.SameText.{BeginsOtherwise};
 
 use std::simd::u8x64;
@@ -23,7 +23,7 @@ pub(crate) fn after_front<'a>(text: &'a str, front: &str) -> Option<&'a str>
 }
 
 /// Whether bytes begin with others.
-fn begins_with(bytes: &[u8], front: &[u8]) -> bool
+pub(crate) fn begins_with(bytes: &[u8], front: &[u8]) -> bool
     ensures yes { IsTrue result → bytes.now ≡ front.now ++ drop (length front.now) bytes.now }
     ensures no { (rest : List ℕ) → bytes.now ≡ front.now ++ rest → IsTrue result }
 {
@@ -55,4 +55,46 @@ fn is_same_stretch(a: &[u8], b: &[u8], at: usize) -> bool
     let third = u8x64::from_slice(&a[at + 128..]).simd_ne(u8x64::from_slice(&b[at + 128..]));
     let fourth = u8x64::from_slice(&a[at + 192..]).simd_ne(u8x64::from_slice(&b[at + 192..]));
     (first | second | (third | fourth)).to_bitmask() == 0
+}
+
+/// How many bytes are compared at once from the end.
+const BLOCK: usize = 64;
+
+/// How many bytes are the same at the ends of two texts, in whole characters.
+pub(crate) fn same_back(a: &str, b: &str) -> usize
+    ensures { AreSameFrom a.now b.now result }
+{
+    let mut same = same_end(a.as_bytes(), b.as_bytes());
+    while !a.is_char_boundary(a.len() - same) {
+        same -= 1;
+    }
+    same
+}
+
+/// How many bytes are the same at the ends of two slices.
+fn same_end(a: &[u8], b: &[u8]) -> usize
+    ensures { AreSameEnds a.now b.now result }
+{
+    let both = a.len().min(b.len());
+    let mut same = 0;
+    'blocks: while same + BLOCK <= both
+        && is_same_block(a, a.len() - same - BLOCK, b, b.len() - same - BLOCK)
+    {
+        same += BLOCK;
+    }
+    'bytes: while same < both && a[a.len() - 1 - same] == b[b.len() - 1 - same] {
+        same += 1;
+    }
+    same
+}
+
+/// Whether the blocks at two offsets are the same.
+#[inline(always)]
+fn is_same_block(a: &[u8], at: usize, b: &[u8], there: usize) -> bool
+    requires a { at + BLOCK ≤ length a.now }
+    requires b { there + BLOCK ≤ length b.now }
+    ensures { IsTrue result ↔ (take BLOCK (drop at a.now) ≡ take BLOCK (drop there b.now)) }
+{
+    let block = u8x64::from_slice(&a[at..]);
+    block.simd_ne(u8x64::from_slice(&b[there..])).to_bitmask() == 0
 }

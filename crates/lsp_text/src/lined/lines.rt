@@ -204,12 +204,14 @@ impl Lines {
         Ok(text)
     }
 
-    /// Makes these the lines of a text.
+    /// Makes these the lines of a text: by a patch where that is worth it, or else in new blocks.
     pub(super) fn renew(&mut self, text: &str) -> Result<(), AllocError>
         ensures ok { OnOk result (self.new ≡ text.now) }
         ensures err { OnErr result (self.new ≡ self.old) }
     {
-        *self = Lines::of(self.held.alloc, text)?;
+        if !self.held.renew(text)? {
+            *self = Lines::of(self.held.alloc, text)?;
+        }
         Ok(())
     }
 

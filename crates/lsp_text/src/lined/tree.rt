@@ -12,10 +12,12 @@ ghost use Rattle.lsp_text.specs.Ends.{ends_in, IsLineEnd, IsRest};
 ghost use Rattle.lsp_text.specs.Sums.{sums_of};
 ghost use Rattle.lsp_text.specs.SameText.{BeginsOtherwise, due, with_feeds};
 ghost use Rattle.lsp_text.specs.Parts.{joined, AreKept, CanReplace, IsSeam, IsSpan, bytes_between};
+ghost use Rattle.lsp_text.specs.Patches.{IsPatch};
 ghost use Rattle.lsp_text.specs.Trees.{text_kept};
 
 use crate::block::Block;
 use crate::chunk::{Chunk, chunks_of};
+use crate::lined::patch::{Patch, narrowed};
 use crate::part::{LineEnd, Part, push_between, strip_between, take_between};
 use crate::same::LinesLeft;
 use crate::sums::Sums;
@@ -24,7 +26,7 @@ use std::alloc::{AllocError, Global};
 use std::marker::Model;
 
 /// The bytes of a text that is kept in one block, at most.
-const SHORT: usize = 2048;
+pub(super) const SHORT: usize = 2048;
 
 /// How a text is kept.
 #[derive(Drop)]
@@ -193,6 +195,20 @@ impl Tree {
                 *self = Tree::in_chunks(alloc, whole.as_str())?;
                 Ok(())
             }
+        }
+    }
+
+    /// A patch to the same effect as a text in the place of some bytes, without most of what is the
+    /// same in both.
+    pub(super) fn patch_to<'a>(&self, from: usize, to: usize, text: &'a str) -> Patch<'a>
+        requires { IsSpan self.now from to }
+        ensures { IsPatch self.now from to text.now result }
+    {
+        let whole = Patch { from, to, text };
+        match &self.kept {
+            Kept::Short(block) => narrowed(block, whole),
+            Kept::Middle(chunk) => narrowed(chunk, whole),
+            Kept::Long(chunks) => narrowed(chunks, whole),
         }
     }
 

@@ -3,7 +3,7 @@
 //! Editors mostly make one edit near another. The first of them is made in the blocks; from the
 //! second on, they are made in a window around the place, so that the chunks and blocks stay as they
 //! are and copies of the text share them all. An edit elsewhere closes the window first, which puts
-//! its text into the blocks.
+//! what differs in its text into the blocks.
 
 ghost use Rattle.std.specs.Prelude.{◌≡◌, ◌+◌, ◌-◌, ◌<◌, ◌≤◌, ◌^◌, ◌++◌, None, length, take};
 ghost use Rattle.std.specs.Prelude.{drop, false, IfOk, IfSome, OnOk, OnErr, IsTrue, MatchOption};
@@ -17,10 +17,10 @@ ghost use Rattle.lsp_text.specs.Sums.{sums_of};
 ghost use Rattle.lsp_text.specs.SameText.{BeginsOtherwise, due, with_feeds};
 ghost use Rattle.lsp_text.specs.Parts.{IsSeam};
 ghost use Rattle.lsp_text.specs.Windows.{text_with, moved_end, nearer_end, IsWindowed, IsClosed};
-ghost use Rattle.lsp_text.specs.Windows.{CanEdit, HoldsText, HoldsTextOr};
+ghost use Rattle.lsp_text.specs.Windows.{CanEdit, HoldsText, HoldsTextOr, HoldsRenewedOr};
 
 use crate::block::Block;
-use crate::lined::tree::Tree;
+use crate::lined::tree::{SHORT, Tree};
 use crate::part::{LineEnd, Part, first_bytes};
 use crate::same::{LinesLeft, take_lines};
 use crate::stretches::after_front;
@@ -40,8 +40,9 @@ const MOST: usize = 1000;
 const NEAR: usize = 256;
 
 /// A text in blocks, and the window on it: its text, and the sums of what comes before it in the
-/// blocks and of what comes before the bytes after it. Also the sums of the whole, and the place of
-/// the last edit in the blocks.
+/// blocks and of what comes before the bytes after it. Also the sums of the whole, the place of the
+/// last edit in the blocks, and the bytes put into the blocks since the text was cut: how many
+/// blocks there are, and their room, follow these.
 #[derive(Drop)]
 pub(super) struct Windowed {
     pub(super) tree: Tree,
@@ -50,6 +51,7 @@ pub(super) struct Windowed {
     pub(super) window: Block,
     pub(super) sums: Sums,
     last: usize,
+    put: u64,
     pub(super) alloc: Global,
 }
 
@@ -66,6 +68,7 @@ impl Windowed {
             sums: tree.sums(),
             tree,
             last: 0,
+            put: text.len() as u64,
             alloc,
         })
     }
@@ -82,8 +85,33 @@ impl Windowed {
             window: self.window.share()?,
             sums: self.sums,
             last: self.last,
+            put: self.put,
             alloc: self.alloc,
         })
+    }
+
+    /// Makes it hold a text by replacing only what differs, where that is worth it: not if more than
+    /// half of the text is new, nor if it is one short block, nor if blocks may have become too many
+    /// or too large for it. Answers whether it did.
+    pub(super) fn renew(&mut self, text: &str) -> Result<bool, AllocError>
+        requires { IsWindowed self.old }
+        ensures ok { IfOk result (HoldsRenewedOr (text_with self.old) text.now self.new) }
+        ensures err { OnErr result (HoldsText self.new (text_with self.old)) }
+    {
+        if text.len() <= SHORT || (text.len() as u64) < self.put / 2 {
+            return Ok(false);
+        }
+        self.close()?;
+        let patch = self.tree.patch_to(0, self.sums.bytes as usize, text);
+        if patch.text.len() > text.len() / 2 {
+            return Ok(false);
+        }
+        self.last = patch.from;
+        self.put = self.put.saturating_add(patch.text.len() as u64);
+        self.tree
+            .edit(self.alloc, patch.from, patch.to, patch.text)?;
+        self.sums = self.tree.sums();
+        Ok(true)
     }
 
     /// Replaces some bytes by a text: in the window if the edit stays inside it, in one that is
@@ -161,12 +189,14 @@ impl Windowed {
         ensures err { OnErr result (HoldsText self.new (text_with self.old)) }
     {
         self.last = from;
+        self.put = self.put.saturating_add(text.len() as u64);
         self.tree.edit(self.alloc, from, to, text)?;
         self.sums = self.tree.sums();
         Ok(())
     }
 
-    /// Closes the window, if one is open: its text is put into the blocks.
+    /// Closes the window, if one is open: what differs from the bytes that it replaces is put into
+    /// the blocks.
     fn close(&mut self) -> Result<(), AllocError>
         requires { IsWindowed self.old }
         ensures ok { OnOk result (HoldsText self.new (text_with self.old) × IsClosed self.new) }
@@ -176,12 +206,14 @@ impl Windowed {
             return Ok(());
         }
         let none = Block::new(self.alloc, "")?;
-        self.tree.edit(
-            self.alloc,
+        let patch = self.tree.patch_to(
             self.before.bytes as usize,
             self.skipped.bytes as usize,
             self.window.as_str(),
-        )?;
+        );
+        self.put = self.put.saturating_add(patch.text.len() as u64);
+        self.tree
+            .edit(self.alloc, patch.from, patch.to, patch.text)?;
         self.before = Sums::none();
         self.skipped = Sums::none();
         self.window = none;
@@ -201,9 +233,9 @@ impl Windowed {
         if end < start || end - start > MOST {
             return Ok(false);
         }
-        let mut text = String::with_capacity(self.alloc, end - start)?;
+        let mut text = String::with_capacity(self.alloc, MOST.min(end - start + NEAR))?;
         self.tree.push_between(start, end, &mut text)?;
-        let window = Block::new(self.alloc, text.as_str())?;
+        let window = Block::holding(self.alloc, text)?;
         self.before = sums_before(&self.tree, start);
         self.skipped = self.before.with(window.sums());
         self.window = window;

@@ -19,7 +19,7 @@ window_is : (c : After-sums) → c.in_ok-window.window
     ≡ bytes_between c.args.self.now.tree c.in-Some-Some.start c.in-Some-Some.end
 window_is c =
     let between = bytes_between c.args.self.now.tree c.in-Some-Some.start c.in-Some-Some.end in
-    c.in_ok-window.ensures ∙ c.as_str.ensures.value ∙ c.in_ok-push_between.ensures
+    c.in_ok-window.ensures ∙ c.in_ok-push_between.ensures
     ∙ ap (λ (x : List ℕ). x ++ between) c.in_ok-text.ensures.bytes
 
 sums_opened : (c : After-sums)
