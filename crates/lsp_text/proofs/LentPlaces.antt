@@ -402,6 +402,14 @@ pub near_in : (l : LentLine) → IsHeldLine l → l.end - l.start ≤ length l.n
 near_in l h within = near_line (text_with l.held.now) l.start l.end l.near.now l.is_plain
     (held_utf8 l h) h.order h.start h.end h.near within
 
+-- a place in the part that is the line
+pub offset_in : (enc : Encoding) (l : LentLine) (line : List ℕ) (column offset : ℕ) → IsHeldLine l
+    → l.end - l.start ≤ length l.near.now → line ≡ take (l.end - l.start) l.near.now
+    → IsOffset enc line column offset → IsOffsetIn enc l column (l.start + offset)
+offset_in enc l line column offset h within is o =
+    from_start enc (text_with l.held.now) l.start l.end column offset
+    (subst (λ (x : List ℕ). IsOffset enc x column offset) (is ∙ (near_in l h within).text) o)
+
 pub plain_in : (enc : Encoding) (l : LentLine) (column offset : ℕ) → IsHeldLine l
     → l.end - l.start ≤ length l.near.now → l.is_plain ≡ true
     → offset ≡ min (l.end - l.start) column → IsOffsetIn enc l column (l.start + offset)

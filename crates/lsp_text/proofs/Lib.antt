@@ -44,6 +44,7 @@ pub mod PartEdits
 pub mod PartLines
 pub mod Rests
 pub mod Patches
+pub mod SameEnds
 pub mod WindowEnds
 pub mod WindowPlaces
 pub mod WindowPatches

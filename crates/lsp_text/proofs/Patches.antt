@@ -31,7 +31,7 @@ front_out bs text rest from to at le e =
     ∙ append_assoc (take from bs) m rest ∙ ap (λ (x : List ℕ). take from bs ++ x) (sym e))
 
 -- and what is the same at the back
-back_out : (bs text rest : List ℕ) (from to at : ℕ) → at ≤ to
+pub back_out : (bs text rest : List ℕ) (from to at : ℕ) → at ≤ to
     → text ≡ rest ++ bytes_between bs at to
     → replace_range bs from at rest ≡ replace_range bs from to text
 back_out bs text rest from to at le e =
@@ -162,11 +162,11 @@ whole_piece bs rest piece from to r is le =
     is ∙ sym (ap (take (to - from)) r.begins
     ∙ take-append-le (to - from) rest r.more (omega arith))
 
-between_front : (bs : List ℕ) (a b c : ℕ) → a ≤ b → b ≤ c
+pub between_front : (bs : List ℕ) (a b c : ℕ) → a ≤ b → b ≤ c
     → take (b - a) (bytes_between bs a c) ≡ bytes_between bs a b
 between_front bs a b c first second = take-take (b - a) (c - a) (drop a bs) (omega arith)
 
-between_back : (bs : List ℕ) (a b c : ℕ) → a ≤ b → b ≤ c
+pub between_back : (bs : List ℕ) (a b c : ℕ) → a ≤ b → b ≤ c
     → drop (b - a) (bytes_between bs a c) ≡ bytes_between bs b c
 between_back bs a b c first second =
     let sum : c - a ≡ (b - a) + (c - b) = omega arith in
@@ -175,7 +175,7 @@ between_back bs a b c first second =
     ∙ ap (take (c - b)) (drop-drop (b - a) a bs ∙ ap (λ n. drop n bs) at)
 
 -- a place in the bytes between two others
-boundary_between : (bs : List ℕ) (a b c : ℕ) → IsUtf8 bs → a ≤ b → b ≤ c
+pub boundary_between : (bs : List ℕ) (a b c : ℕ) → IsUtf8 bs → a ≤ b → b ≤ c
     → IsCharBoundary bs a → IsCharBoundary bs c → IsCharBoundary (bytes_between bs a c) (b - a)
     → IsCharBoundary bs b
 boundary_between bs a b c u first second left right k =

@@ -33,7 +33,7 @@ pub IsUtf8-replace_range : (bs s : List ℕ) (i j : ℕ) → IsUtf8 bs → IsUtf
 IsUtf8-replace_range bs s i j u us bi bj =
     IsUtf8-append (take i bs ++ s) (drop j bs) (IsUtf8-append (take i bs) s (IsUtf8-take bs i u bi) us) (IsUtf8-drop bs j u bj)
 
-length-replace_range : (bs s : List ℕ) (i j : ℕ) → i ≤ length bs → length (replace_range bs i j s) ≡ i + length s + (length bs - j)
+pub length-replace_range : (bs s : List ℕ) (i j : ℕ) → i ≤ length bs → length (replace_range bs i j s) ≡ i + length s + (length bs - j)
 length-replace_range bs s i j le =
     omega (arith, length-append (take i bs ++ s) (drop j bs), length-append (take i bs) s, length-drop j bs, length-take-le i bs le)
 

@@ -1,7 +1,7 @@
 -- Edits of a text in chunks, with a window on it.
 use Rattle.std.proofs.Common.{◌≡◌, ◌<◌, ◌≤◌, ◌+◌, ◌-◌, ◌^◌, ℕ, false, List, [], ◌∷◌}
 use Rattle.std.proofs.Common.{◌++◌, length, take, drop, refl, sym, ap, subst, inl, ◌∙◌, arith}
-use Rattle.std.proofs.Common.{append_assoc, take-add}
+use Rattle.std.proofs.Common.{append_assoc, take-add, min}
 use Rattle.std.specs.List.{replace_range}
 use Rattle.std.proofs.lemmas.List.{append-nil, take-append-drop, length-take-le}
 use Rattle.std.proofs.lemmas.List.{drop-drop}
@@ -12,8 +12,9 @@ use Rattle.lsp_types.specs.declared.position.Encoding.TheVariants.{Utf16, Utf32}
 use Rattle.lsp_text.specs.Places.{units}
 use Rattle.lsp_text.specs.Ends.{ends_in, joins}
 use Rattle.lsp_text.specs.Sums.{sums_of, added, exchanged, AreAtMost}
-use Rattle.lsp_text.specs.Parts.{joined, AreParts, IsSeam, IsSpan, IsSpot}
+use Rattle.lsp_text.specs.Parts.{joined, AreParts, CanReplace, IsSeam, IsSpan, IsSpot}
 use Rattle.lsp_text.specs.Parts.{bytes_between}
+use Rattle.lsp_text.specs.Patches.{AreSameEndsOf}
 use Rattle.lsp_text.specs.Windows.{pieces_of, text_with, IsWindowed, IsClosed, CanEdit, HoldsText}
 use Rattle.lsp_text.specs.declared.sums.Sums.{Sums}
 use Rattle.lsp_text.specs.declared.part.Spot.{Spot}
@@ -22,6 +23,7 @@ use Rattle.lsp_text.proofs.Exchanges.{IsExchange, replaced_len}
 use Rattle.lsp_text.proofs.Parts.{IsUtf8-joined, joins-front, joins-back, sums_of-append}
 use Rattle.lsp_text.proofs.Parts.{sums_made, sums_same}
 use Rattle.lsp_text.proofs.PartSteps.{counted_at_most}
+use Rattle.lsp_text.proofs.SameEnds.{ends_nothing, ends_closed, ends_opened, ends_inside}
 use Rattle.lsp_text.proofs.Splices.{IsUtf8-replace_range}
 use Rattle.lsp_text.proofs.Spots.{IsSpotPart, spot_part, joins-nothing}
 use Rattle.lsp_text.proofs.Widths.{units-utf32}
@@ -40,7 +42,8 @@ text_utf8 w h = IsUtf8-joined (pieces_of w) h.parts
 
 -- ---- what a text with a window is, by its parts
 
-record AreShown (tree window : List ℕ) (before skipped sums : Sums) (bs : List ℕ) : Type 0 where
+record AreShown (tree window : List ℕ) (before skipped sums : Sums) (front back : ℕ) (bs : List ℕ)
+    : Type 0 where
   order : before.bytes ≤ skipped.bytes
   first : IsSeam tree before.bytes
   second : IsSeam tree skipped.bytes
@@ -49,12 +52,14 @@ record AreShown (tree window : List ℕ) (before skipped sums : Sums) (bs : List
   skipped_is : skipped ≡ sums_of (take skipped.bytes tree)
   parts : AreParts (take before.bytes tree ∷ window ∷ drop skipped.bytes tree ∷ [])
   sums_are : sums ≡ sums_of bs
+  ends : AreSameEndsOf (bytes_between tree before.bytes skipped.bytes) window front back
   tree_fits : length tree < 2 ^ 64
   fits : length bs < 2 ^ 64 - 1
   text : joined (take before.bytes tree ∷ window ∷ drop skipped.bytes tree ∷ []) ≡ bs
 
 holds_shown : (w : Windowed) (bs : List ℕ)
-    → AreShown w.tree w.window w.before w.skipped w.sums bs → HoldsText w bs
+    → AreShown w.tree w.window w.before w.skipped w.sums w.same_front w.same_back bs
+    → HoldsText w bs
 holds_shown w bs h =
     record {
       held =
@@ -67,15 +72,16 @@ holds_shown w bs h =
             skipped = h.skipped_is;
             parts = h.parts;
             sums = h.sums_are ∙ ap sums_of (sym h.text);
+            ends = h.ends;
             tree_fits = h.tree_fits;
             fits = omega (arith, h.fits, ap length h.text);
           };
       text = h.text;
     }
 
-same_shown : (t u v x : List ℕ) (a b c d s r : Sums) (bs : List ℕ) → t ≡ u → v ≡ x → a ≡ b
-    → c ≡ d → s ≡ r → AreShown u x b d r bs → AreShown t v a c s bs
-same_shown t u v x a b c d s r bs e1 e2 e3 e4 e5 h = rw (e1, e2, e3, e4, e5) h
+same_shown : (t u v x : List ℕ) (a b c d s r : Sums) (f k : ℕ) (bs : List ℕ) → t ≡ u → v ≡ x
+    → a ≡ b → c ≡ d → s ≡ r → AreShown u x b d r f k bs → AreShown t v a c s f k bs
+same_shown t u v x a b c d s r f k bs e1 e2 e3 e4 e5 h = rw (e1, e2, e3, e4, e5) h
 
 -- ---- no window
 
@@ -87,21 +93,24 @@ closed_text w h =
     ∙ append-nil w.tree
 
 -- a text without a window, and the sums of all of it
-pub record NoWindow (tree window : List ℕ) (before skipped sums : Sums) (bs : List ℕ) : Type 0 where
+pub record NoWindow (tree window : List ℕ) (before skipped sums : Sums) (front back : ℕ)
+    (bs : List ℕ) : Type 0 where
   pub tree_is : tree ≡ bs
   pub window_is : window ≡ []
   pub before_is : before ≡ sums_of []
   pub skipped_is : skipped ≡ sums_of []
   pub sums_are : sums ≡ sums_of bs
+  pub ends : AreSameEndsOf [] [] front back
   pub utf8 : IsUtf8 bs
   pub fits : length bs < 2 ^ 64 - 1
 
 pub first_seam : (bs : List ℕ) → IsUtf8 bs → IsSeam bs 0
 first_seam bs u = record { boundary = IsCharBoundary-start bs u; apart = refl }
 
-nothing_shown : (bs : List ℕ) → IsUtf8 bs → length bs < 2 ^ 64 - 1
-    → AreShown bs [] (sums_of []) (sums_of []) (sums_of bs) bs
-nothing_shown bs u fits =
+nothing_shown : (bs : List ℕ) (front back : ℕ) → IsUtf8 bs → length bs < 2 ^ 64 - 1
+    → AreSameEndsOf [] [] front back
+    → AreShown bs [] (sums_of []) (sums_of []) (sums_of bs) front back bs
+nothing_shown bs front back u fits ends =
     let first = first_seam bs u in
     record {
       order = omega arith;
@@ -112,20 +121,23 @@ nothing_shown bs u fits =
       skipped_is = refl;
       parts = (IsUtf8-nil, refl, (IsUtf8-nil, refl, (u, joins-nothing bs [] refl, tt)));
       sums_are = refl;
+      ends = ends;
       tree_fits = omega (arith, fits);
       fits = fits;
       text = append-nil bs;
     }
 
 pub held_closed : (w : Windowed) (bs : List ℕ)
-    → NoWindow w.tree w.window w.before w.skipped w.sums bs → HoldsText w bs
+    → NoWindow w.tree w.window w.before w.skipped w.sums w.same_front w.same_back bs
+    → HoldsText w bs
 held_closed w bs h =
     holds_shown w bs
-    (same_shown _ _ _ _ _ _ _ _ _ _ bs h.tree_is h.window_is h.before_is h.skipped_is h.sums_are
-    (nothing_shown bs h.utf8 h.fits))
+    (same_shown _ _ _ _ _ _ _ _ _ _ _ _ bs h.tree_is h.window_is h.before_is h.skipped_is
+    h.sums_are (nothing_shown bs w.same_front w.same_back h.utf8 h.fits h.ends))
 
 pub is_closed : (w : Windowed) (bs : List ℕ)
-    → NoWindow w.tree w.window w.before w.skipped w.sums bs → IsClosed w
+    → NoWindow w.tree w.window w.before w.skipped w.sums w.same_front w.same_back bs
+    → IsClosed w
 is_closed w bs h =
     record {
       before = ap (λ (s : Sums). s.bytes) h.before_is;
@@ -137,7 +149,7 @@ is_closed w bs h =
 pub closed_by : (w : Windowed) (tree text window : List ℕ) (before skipped : Sums) → IsWindowed w
     → tree ≡ replace_range w.tree w.before.bytes w.skipped.bytes text → text ≡ w.window
     → window ≡ [] → before ≡ sums_of [] → skipped ≡ sums_of []
-    → NoWindow tree window before skipped w.sums (text_with w)
+    → NoWindow tree window before skipped w.sums 0 0 (text_with w)
 closed_by w tree text window before skipped h made is none first second =
     record {
       tree_is =
@@ -148,6 +160,7 @@ closed_by w tree text window before skipped h made is none first second =
       before_is = first;
       skipped_is = second;
       sums_are = h.sums;
+      ends = ends_nothing;
       utf8 = text_utf8 w h;
       fits = h.fits;
     }
@@ -188,7 +201,7 @@ edited_utf8 w from to text h u =
 -- the chunks hold a text instead
 pub held_apart : (w : Windowed) (bs tree : List ℕ) (sums : Sums) → IsWindowed w → IsClosed w
     → tree ≡ bs → sums ≡ sums_of tree → IsUtf8 bs → length bs < 2 ^ 64 - 1
-    → NoWindow tree w.window w.before w.skipped sums bs
+    → NoWindow tree w.window w.before w.skipped sums w.same_front w.same_back bs
 held_apart w bs tree sums h c is counted u fits =
     let none = none_counted w h c in
     record {
@@ -197,6 +210,7 @@ held_apart w bs tree sums h c is counted u fits =
       before_is = none.before;
       skipped_is = none.skipped;
       sums_are = counted ∙ ap sums_of is;
+      ends = ends_closed _ w.window w.same_front w.same_back h.ends c.window;
       utf8 = u;
       fits = fits;
     }
@@ -204,7 +218,8 @@ held_apart w bs tree sums h c is counted u fits =
 pub apart : (w : Windowed) (from to : ℕ) (text tree : List ℕ) (sums : Sums)
     → CanEdit w from to text → IsClosed w → IsUtf8 text → tree ≡ replace_range w.tree from to text
     → sums ≡ sums_of tree
-    → NoWindow tree w.window w.before w.skipped sums (replace_range (text_with w) from to text)
+    → NoWindow tree w.window w.before w.skipped sums w.same_front w.same_back
+    (replace_range (text_with w) from to text)
 apart w from to text tree sums h c u made counted =
     held_apart w (replace_range (text_with w) from to text) tree sums h.held c
     (made ∙ ap (λ (x : List ℕ). replace_range x from to text) (sym (closed_text w c))) counted
@@ -271,13 +286,16 @@ inside_sums w from to text window old new h o made n =
 pub inside : (w v : Windowed) (from to : ℕ) (text : List ℕ) (old new : Sums)
     → IsInside w from to text → v.tree ≡ w.tree → v.before ≡ w.before → v.skipped ≡ w.skipped
     → v.window ≡ window_with w from to text → old ≡ sums_of w.window → new ≡ sums_of v.window
-    → v.sums ≡ exchanged w.sums old new → HoldsText v (replace_range (text_with w) from to text)
-inside w v from to text old new h tree before skipped made o n sums =
+    → v.sums ≡ exchanged w.sums old new
+    → v.same_front ≡ min w.same_front (from - w.before.bytes)
+    → v.same_back ≡ min w.same_back (old.bytes - (to - w.before.bytes))
+    → HoldsText v (replace_range (text_with w) from to text)
+inside w v from to text old new h tree before skipped made o n sums first last =
     let k = h.can.held in
     let part = inside_part w from to text h in
     let x = inside_sums w from to text v.window old new h o made n in
     holds_shown v (replace_range (text_with w) from to text)
-    (same_shown _ _ _ _ _ _ _ _ _ _ _ tree made before skipped (sums ∙ x.is)
+    (same_shown _ _ _ _ _ _ _ _ _ _ _ _ _ tree made before skipped (sums ∙ x.is)
     (record {
       order = k.order;
       first = k.first;
@@ -287,6 +305,10 @@ inside w v from to text old new h tree before skipped made o n sums =
       skipped_is = k.skipped;
       parts = part.parts;
       sums_are = refl;
+      ends =
+          ends_inside _ w.window text w.same_front w.same_back (from - w.before.bytes)
+          (to - w.before.bytes) v.same_front v.same_back k.ends part.can k.parts.2.0 h.utf8 first
+          (last ∙ ap (λ (s : Sums). min w.same_back (s.bytes - (to - w.before.bytes))) o);
       tree_fits = k.tree_fits;
       fits = edit_len w from to text h.can;
       text = part.text_is;
@@ -334,8 +356,9 @@ are_cut bs from to h =
 
 cut_shown : (bs : List ℕ) (from to : ℕ) → IsSpan bs from to → length bs < 2 ^ 64 - 1
     → (before skipped : Sums) → before ≡ sums_of (take from bs) → skipped ≡ sums_of (take to bs)
-    → AreShown bs (bytes_between bs from to) before skipped (sums_of bs) bs
-cut_shown bs from to h fits before skipped first second =
+    → (front back : ℕ) → AreSameEndsOf (bytes_between bs from to) (bytes_between bs from to) front back
+    → AreShown bs (bytes_between bs from to) before skipped (sums_of bs) front back bs
+cut_shown bs from to h fits before skipped first second front back ends =
     let cut = are_cut bs from to h in
     let a = take from bs in
     let mid = bytes_between bs from to in
@@ -369,6 +392,9 @@ cut_shown bs from to h fits before skipped first second =
           subst (λ (n : ℕ). AreParts (take n bs ∷ mid ∷ drop skipped.bytes bs ∷ [])) (sym at)
           (subst (λ (n : ℕ). AreParts (a ∷ mid ∷ drop n bs ∷ [])) (sym end) parts);
       sums_are = refl;
+      ends =
+          subst (λ (n : ℕ). AreSameEndsOf (bytes_between bs n skipped.bytes) mid front back) (sym at)
+          (subst (λ (n : ℕ). AreSameEndsOf (bytes_between bs from n) mid front back) (sym end) ends);
       tree_fits = omega (arith, fits);
       fits = fits;
       text =
@@ -376,18 +402,21 @@ cut_shown bs from to h fits before skipped first second =
           ∙ ap (λ (n : ℕ). a ++ (mid ++ (drop n bs ++ []))) end ∙ whole;
     }
 
--- places for a window where none is
-pub record CanOpen (w : Windowed) (start end : ℕ) : Type 0 where
+-- places for a window around an edit, where none is
+pub record CanOpen (w : Windowed) (from to start end : ℕ) : Type 0 where
   pub held : IsWindowed w
+  pub can : CanReplace (text_with w) from to
   pub closed : IsClosed w
-  pub order : start ≤ end
+  pub front : start ≤ from
+  pub back : to ≤ end
   pub first : IsSeam w.tree start
   pub second : IsSeam w.tree end
 
-open_span : (w : Windowed) (start end : ℕ) → CanOpen w start end → IsSpan w.tree start end
-open_span w start end h =
+open_span : (w : Windowed) (from to start end : ℕ) → CanOpen w from to start end
+    → IsSpan w.tree start end
+open_span w from to start end h =
     record {
-      order = h.order;
+      order = omega arith;
       first = h.first;
       second = h.second;
       utf8 = h.held.utf8;
@@ -401,12 +430,12 @@ pub record AreOpened (w : Windowed) (end : ℕ) (before more : Sums) : Type 0 wh
   pub fits : before.bytes + more.bytes < 2 ^ 64
   pub sums : added before more ≡ sums_of (take end w.tree)
 
-pub opened_sums : (w : Windowed) (start end : ℕ) (before more : Sums) (window : List ℕ)
-    → CanOpen w start end → before ≡ sums_of (take start w.tree)
+pub opened_sums : (w : Windowed) (from to start end : ℕ) (before more : Sums) (window : List ℕ)
+    → CanOpen w from to start end → before ≡ sums_of (take start w.tree)
     → window ≡ bytes_between w.tree start end → more ≡ sums_of window
     → AreOpened w end before more
-opened_sums w start end before more window h first is m =
-    let cut = are_cut w.tree start end (open_span w start end h) in
+opened_sums w from to start end before more window h first is m =
+    let cut = are_cut w.tree start end (open_span w from to start end h) in
     let mid = bytes_between w.tree start end in
     let a = take start w.tree in
     let counted : more ≡ sums_of mid = m ∙ ap sums_of is in
@@ -427,21 +456,29 @@ opened_sums w start end before more window h first is m =
       sums = sums;
     }
 
-pub opened : (w v : Windowed) (start end : ℕ) (more : Sums) → CanOpen w start end
-    → v.tree ≡ w.tree → v.sums ≡ w.sums → v.window ≡ bytes_between w.tree start end
-    → v.before ≡ sums_of (take start w.tree) → more ≡ sums_of v.window
-    → v.skipped ≡ added v.before more → HoldsText v (text_with w)
-opened w v start end more h tree sums window before m skipped =
+pub opened : (w v : Windowed) (from to start end : ℕ) (more : Sums)
+    → CanOpen w from to start end → v.tree ≡ w.tree → v.sums ≡ w.sums
+    → v.window ≡ bytes_between w.tree start end → v.before ≡ sums_of (take start w.tree)
+    → more ≡ sums_of v.window → v.skipped ≡ added v.before more → v.same_front ≡ from - start
+    → v.same_back ≡ end - to → HoldsText v (text_with w)
+opened w v from to start end more h tree sums window before m skipped front back =
     let text = closed_text w h.closed in
-    let both = opened_sums w start end v.before more v.window h before window m in
+    let span = open_span w from to start end h in
+    let both = opened_sums w from to start end v.before more v.window h before window m in
     let fits : length w.tree < 2 ^ 64 - 1 = omega (arith, h.held.fits, ap length text) in
-    let shown : AreShown w.tree (bytes_between w.tree start end) v.before v.skipped
-    (sums_of w.tree) w.tree =
-    cut_shown w.tree start end (open_span w start end h) fits v.before v.skipped before
-    (skipped ∙ both.sums) in
+    let mid = bytes_between w.tree start end in
+    let can : CanReplace w.tree from to =
+    subst (λ (bs : List ℕ). CanReplace bs from to) text h.can in
+    let ends : AreSameEndsOf mid mid v.same_front v.same_back =
+    rw (front, back) (ends_opened w.tree mid from to start end span can h.front h.back refl) in
+    let shown : AreShown w.tree mid v.before v.skipped (sums_of w.tree) v.same_front v.same_back
+    w.tree =
+    cut_shown w.tree start end span fits v.before v.skipped before (skipped ∙ both.sums)
+    v.same_front v.same_back ends in
     holds_shown v (text_with w)
-    (subst (AreShown v.tree v.window v.before v.skipped v.sums) (sym text)
-    (same_shown _ _ _ _ _ _ _ _ _ _ w.tree tree window refl refl
+    (subst
+    (AreShown v.tree v.window v.before v.skipped v.sums v.same_front v.same_back) (sym text)
+    (same_shown _ _ _ _ _ _ _ _ _ _ _ _ w.tree tree window refl refl
     (sums ∙ h.held.sums ∙ ap sums_of text) shown))
 
 -- ---- sums before a place

@@ -49,6 +49,7 @@ renewed_fits w text p h c q fits = omega (arith, fits, ap length (renewed_tree w
 pub renewed : (w : Windowed) (text tree : List ℕ) (sums : Sums) (p : Patch) → IsWindowed w
     → IsClosed w → IsPatch w.tree 0 w.sums.bytes text p
     → tree ≡ replace_range w.tree p.from p.to p.text.now → sums ≡ sums_of tree → IsUtf8 text
-    → length text < 2 ^ 64 - 1 → NoWindow tree w.window w.before w.skipped sums text
+    → length text < 2 ^ 64 - 1
+    → NoWindow tree w.window w.before w.skipped sums w.same_front w.same_back text
 renewed w text tree sums p h c q made counted u fits =
     held_apart w text tree sums h c (made ∙ renewed_tree w text p h c q) counted u fits

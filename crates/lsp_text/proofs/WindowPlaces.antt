@@ -32,7 +32,7 @@ use Rattle.lsp_text.proofs.PartPlaces.{FallsIn}
 use Rattle.lsp_text.proofs.PlainTexts.{units_le_bytes}
 use Rattle.lsp_text.proofs.Rests.{rest_near}
 use Rattle.lsp_text.proofs.WindowEnds.{front_of, back_of, shown, boundary_front, boundary_behind}
-use Rattle.lsp_text.proofs.WindowEnds.{near_front}
+use Rattle.lsp_text.proofs.WindowEnds.{near_front, boundary_near}
 
 -- ---- units
 
@@ -388,31 +388,55 @@ place_after w s place at h is first second at_is =
 
 -- ---- what comes near after a place
 
-pub near_before : (w : Windowed) (place : ℕ) (rest near : List ℕ) → IsPlaced w place
-    → place < w.before.bytes → IsRest (drop place w.tree) rest
-    → near ≡ take (w.before.bytes - place) rest → IsNear (drop place (text_with w)) near false
-near_before w place rest near h lt r is =
+-- what follows a place before the window, up to there and on in the chunks
+record IsBefore (w : Windowed) (place : ℕ) (rest : List ℕ) : Type 0 where
+  utf8 : IsUtf8 (drop place (front_of w))
+  len : length (drop place (front_of w)) ≡ w.before.bytes - place
+  text : drop place (text_with w) ≡ drop place (front_of w) ++ (w.window ++ back_of w)
+  near : IsNear (drop place (front_of w) ++ drop w.before.bytes w.tree) rest false
+
+before_window : (w : Windowed) (place : ℕ) (rest : List ℕ) → IsPlaced w place
+    → place < w.before.bytes → IsRest (drop place w.tree) rest → IsBefore w place rest
+before_window w place rest h lt r =
     let v = shown w h.held in
     let a = front_of w in
     let d = drop w.before.bytes w.tree in
     let c = w.window ++ back_of w in
-    let m = w.before.bytes - place in
     let le : place ≤ length a = omega (arith, v.first.len) in
-    let x = drop place a in
-    let there : drop place w.tree ≡ x ++ d =
+    let there : drop place w.tree ≡ drop place a ++ d =
     ap (drop place) (sym v.first.text) ∙ drop-append-le place a d le in
-    let here : drop place (text_with w) ≡ x ++ c =
-    ap (drop place) v.text ∙ drop-append-le place a c le in
     let boundary : IsCharBoundary a place =
     boundary_front a c place le
     (subst (λ (y : List ℕ). IsCharBoundary y place) v.text h.boundary) in
-    let some : IsNear (x ++ d) rest false =
-    subst (λ (y : List ℕ). IsNear y rest false) there
-    (rest_near (drop place w.tree) rest r) in
+    record {
+      utf8 = IsUtf8-drop a place v.front.utf8 boundary;
+      len = omega (arith, length-drop place a, v.first.len);
+      text = ap (drop place) v.text ∙ drop-append-le place a c le;
+      near =
+          subst (λ (y : List ℕ). IsNear y rest false) there
+          (rest_near (drop place w.tree) rest r);
+    }
+
+-- a character begins where the window does
+pub boundary_before : (w : Windowed) (place : ℕ) (rest : List ℕ) → IsPlaced w place
+    → place < w.before.bytes → IsRest (drop place w.tree) rest
+    → w.before.bytes - place < length rest → IsCharBoundary rest (w.before.bytes - place)
+boundary_before w place rest h lt r within =
+    let b = before_window w place rest h lt r in
+    boundary_near (drop place (front_of w)) (drop w.before.bytes w.tree) rest false
+    (w.before.bytes - place) b.utf8 b.len b.near within
+
+pub near_before : (w : Windowed) (place : ℕ) (rest near : List ℕ) → IsPlaced w place
+    → place < w.before.bytes → IsRest (drop place w.tree) rest
+    → near ≡ take (w.before.bytes - place) rest → IsNear (drop place (text_with w)) near false
+near_before w place rest near h lt r is =
+    let b = before_window w place rest h lt r in
+    let c = w.window ++ back_of w in
+    let m = w.before.bytes - place in
+    let x = drop place (front_of w) in
     let front : IsNear x (take m rest) false =
-    near_front x d rest false m (IsUtf8-drop a place v.front.utf8 boundary)
-    (omega (arith, length-drop place a, v.first.len)) some in
-    subst (λ (y : List ℕ). IsNear y near false) (sym here)
+    near_front x (drop w.before.bytes w.tree) rest false m b.utf8 b.len b.near in
+    subst (λ (y : List ℕ). IsNear y near false) (sym b.text)
     (near-append x c near false
     (subst (λ (y : List ℕ). IsNear x y false) (sym is) front))
 

@@ -1,10 +1,20 @@
--- What has the same effect as a text in the place of some bytes.
-use Rattle.std.specs.Prelude.{◌≡◌, ℕ, List}
+-- What has the same effect as putting a text in the place of some bytes.
+use Rattle.std.specs.Prelude.{◌≡◌, ◌+◌, ◌-◌, ◌≤◌, ℕ, List, length, take, drop}
+use Rattle.std.specs.Str.{IsCharBoundary}
 use Rattle.std.specs.List.{replace_range}
 use Rattle.lsp_text.specs.Parts.{CanReplace}
 use Rattle.lsp_text.specs.declared.lined.patch.Patch.{Patch}
 
--- a patch to the same effect as this text in the place of these bytes
+-- a patch with the same effect as putting this text in the place of these bytes
 pub record IsPatch (bs : List ℕ) (from to : ℕ) (text : List ℕ) (p : Patch) : Type 0 where
   pub can : CanReplace bs p.from p.to
   pub same : replace_range bs p.from p.to p.text.now ≡ replace_range bs from to text
+
+-- the first bytes of a text, and so many of its last ones, are those of some bytes
+pub record AreSameEndsOf (held text : List ℕ) (front back : ℕ) : Type 0 where
+  pub within : front + back ≤ length text
+  pub there : front + back ≤ length held
+  pub first : IsCharBoundary text front
+  pub last : IsCharBoundary text (length text - back)
+  pub same_front : take front text ≡ take front held
+  pub same_back : drop (length text - back) text ≡ drop (length held - back) held

@@ -3,7 +3,8 @@ use Rattle.std.specs.Prelude.{◌≡◌, ◌<◌, ◌≤◌, ◌+◌, ◌-◌, �
 use Rattle.std.specs.List.{replace_range}
 use Rattle.std.specs.Str.{IsUtf8}
 use Rattle.lsp_text.specs.Sums.{sums_of}
-use Rattle.lsp_text.specs.Parts.{joined, AreParts, CanReplace, IsSeam}
+use Rattle.lsp_text.specs.Parts.{joined, AreParts, CanReplace, IsSeam, bytes_between}
+use Rattle.lsp_text.specs.Patches.{AreSameEndsOf}
 use Rattle.lsp_text.specs.declared.part.LineEnd.{LineEnd}
 use Rattle.lsp_text.specs.declared.lined.window.Windowed.{Windowed}
 
@@ -15,7 +16,8 @@ pieces_of w = take w.before.bytes w.tree ∷ w.window ∷ drop w.skipped.bytes w
 abbrev pub text_with : Windowed → List ℕ
 text_with w = joined (pieces_of w)
 
--- the window is for bytes of the chunks that may be cut out, and all sums are known
+-- the window is for bytes of the chunks that may be cut out, begins and ends as they do, and all
+-- sums are known
 pub record IsWindowed (w : Windowed) : Type 0 where
   pub order : w.before.bytes ≤ w.skipped.bytes
   pub first : IsSeam w.tree w.before.bytes
@@ -25,6 +27,7 @@ pub record IsWindowed (w : Windowed) : Type 0 where
   pub skipped : w.skipped ≡ sums_of (take w.skipped.bytes w.tree)
   pub parts : AreParts (pieces_of w)
   pub sums : w.sums ≡ sums_of (text_with w)
+  pub ends : AreSameEndsOf (bytes_between w.tree w.before.bytes w.skipped.bytes) w.window w.same_front w.same_back
   pub tree_fits : length w.tree < 2 ^ 64
   pub fits : length (text_with w) < 2 ^ 64 - 1
 

@@ -170,7 +170,7 @@ impl Block {
         Block::holding(alloc, String::from_str(alloc, text)?)
     }
 
-    /// A block of a text that it takes over, with the room that this has.
+    /// A block that takes over a text, spare room included.
     pub(crate) fn holding(alloc: Global, text: String) -> Result<Block, AllocError>
         requires { length (string_bytes text) ≤ MOST }
         ensures { IfOk result (λ block. block ≡ string_bytes text) }

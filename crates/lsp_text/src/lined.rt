@@ -16,10 +16,10 @@
 //! Editors mostly make one edit near another. From the second of these on, they are made in a
 //! *window*: a short block apart from the chunks, which replaces some of their bytes. The chunks
 //! stay as they are meanwhile, and copies of the text share all of them. An edit elsewhere first
-//! puts what differs in the window into the chunks.
+//! puts the changed bytes of the window into the chunks.
 //!
-//! Of a text that is sent whole, only what differs from the held one is replaced, if that is at most
-//! half of it.
+//! When a text is sent whole, only the part that differs from the held text is replaced, if that is
+//! at most half of the new text.
 //!
 //! The text `a`, 4,990 times `x`, LF, `b`, once a LF was put after the CR that followed the `a`:
 //!

@@ -1,4 +1,4 @@
-//! Bytes of two slices, compared 256 at a time.
+//! Bytes of two slices, compared 256 at a time, or 64 at a time from the end.
 
 ghost use Rattle.std.specs.Prelude.{◌≡◌, ◌+◌, ◌≤◌, ◌↔◌, ◌++◌, List, ℕ, length, take, drop, IsTrue};
 ghost use Rattle.std.specs.Prelude.{MatchOption};
@@ -60,7 +60,7 @@ fn is_same_stretch(a: &[u8], b: &[u8], at: usize) -> bool
 /// How many bytes are compared at once from the end.
 const BLOCK: usize = 64;
 
-/// How many bytes are the same at the ends of two texts, in whole characters.
+/// How many bytes at the ends of two texts are the same. They begin with a whole character.
 pub(crate) fn same_back(a: &str, b: &str) -> usize
     ensures { AreSameFrom a.now b.now result }
 {

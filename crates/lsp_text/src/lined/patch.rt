@@ -1,4 +1,4 @@
-//! What is left to replace where a text takes the place of some bytes and is mostly the same.
+//! What remains to be replaced when a text takes the place of bytes that it mostly repeats.
 
 ghost use Rattle.std.specs.Prelude.{◌≡◌};
 ghost use Rattle.lsp_text.specs.Parts.{IsSpan};
@@ -16,8 +16,7 @@ pub(crate) struct Patch<'a> {
     pub(crate) text: &'a str,
 }
 
-/// A patch to the same effect, without most of what is the same before and after the bytes that
-/// differ.
+/// A patch with the same effect, without most of the unchanged bytes at its two ends.
 pub(crate) fn narrowed<'a, T: Part>(part: &T, patch: Patch<'a>) -> Patch<'a>
     requires { IsSpan (T.text part.now) patch.from patch.to }
     ensures { IsPatch (T.text part.now) patch.entry.from patch.entry.to
@@ -28,7 +27,7 @@ pub(crate) fn narrowed<'a, T: Part>(part: &T, patch: Patch<'a>) -> Patch<'a>
     without_ends(part, shorter)
 }
 
-/// The same without the blocks from the front on that are the same.
+/// The same patch without the unchanged blocks at its front.
 fn without_front<'a, T: Part>(part: &T, patch: Patch<'a>) -> Patch<'a>
     requires { IsSpan (T.text part.now) patch.from patch.to }
     ensures patch { IsPatch (T.text part.now) patch.entry.from patch.entry.to
@@ -52,7 +51,7 @@ fn without_front<'a, T: Part>(part: &T, patch: Patch<'a>) -> Patch<'a>
     }
 }
 
-/// The same without the blocks up to the end that are the same.
+/// The same patch without the unchanged blocks at its end.
 fn without_back<'a, T: Part>(part: &T, patch: Patch<'a>) -> Patch<'a>
     requires { IsSpan (T.text part.now) patch.from patch.to }
     ensures patch { IsPatch (T.text part.now) patch.entry.from patch.entry.to
@@ -78,7 +77,7 @@ fn without_back<'a, T: Part>(part: &T, patch: Patch<'a>) -> Patch<'a>
     }
 }
 
-/// The same without the characters at both ends that are the same, if it stays in one block.
+/// The same patch without the unchanged characters at its ends, if it lies in one block.
 fn without_ends<'a, T: Part>(part: &T, patch: Patch<'a>) -> Patch<'a>
     requires { IsSpan (T.text part.now) patch.from patch.to }
     ensures { IsPatch (T.text part.now) patch.entry.from patch.entry.to

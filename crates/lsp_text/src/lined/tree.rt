@@ -198,8 +198,8 @@ impl Tree {
         }
     }
 
-    /// A patch to the same effect as a text in the place of some bytes, without most of what is the
-    /// same in both.
+    /// A patch with the same effect as a text in the place of some bytes, without most of the bytes
+    /// that are unchanged at its two ends.
     pub(super) fn patch_to<'a>(&self, from: usize, to: usize, text: &'a str) -> Patch<'a>
         requires { IsSpan self.now from to }
         ensures { IsPatch self.now from to text.now result }

@@ -3,7 +3,7 @@
 //! Editors mostly make one edit near another. The first of them is made in the blocks; from the
 //! second on, they are made in a window around the place, so that the chunks and blocks stay as they
 //! are and copies of the text share them all. An edit elsewhere closes the window first, which puts
-//! what differs in its text into the blocks.
+//! its changed bytes into the blocks.
 
 ghost use Rattle.std.specs.Prelude.{◌≡◌, ◌+◌, ◌-◌, ◌<◌, ◌≤◌, ◌^◌, ◌++◌, None, length, take};
 ghost use Rattle.std.specs.Prelude.{drop, false, IfOk, IfSome, OnOk, OnErr, IsTrue, MatchOption};
@@ -15,11 +15,13 @@ ghost use Rattle.lsp_text.specs.Offsets.{IsOffset};
 ghost use Rattle.lsp_text.specs.Ends.{ends_in, IsLineEnd, IsNear};
 ghost use Rattle.lsp_text.specs.Sums.{sums_of};
 ghost use Rattle.lsp_text.specs.SameText.{BeginsOtherwise, due, with_feeds};
-ghost use Rattle.lsp_text.specs.Parts.{IsSeam};
+ghost use Rattle.lsp_text.specs.Parts.{IsSeam, IsSpan, CanReplace, bytes_between};
+ghost use Rattle.lsp_text.specs.Patches.{IsPatch, AreSameEndsOf};
 ghost use Rattle.lsp_text.specs.Windows.{text_with, moved_end, nearer_end, IsWindowed, IsClosed};
 ghost use Rattle.lsp_text.specs.Windows.{CanEdit, HoldsText, HoldsTextOr, HoldsRenewedOr};
 
 use crate::block::Block;
+use crate::lined::patch::Patch;
 use crate::lined::tree::{SHORT, Tree};
 use crate::part::{LineEnd, Part, first_bytes};
 use crate::same::{LinesLeft, take_lines};
@@ -40,9 +42,12 @@ const MOST: usize = 1000;
 const NEAR: usize = 256;
 
 /// A text in blocks, and the window on it: its text, and the sums of what comes before it in the
-/// blocks and of what comes before the bytes after it. Also the sums of the whole, the place of the
-/// last edit in the blocks, and the bytes put into the blocks since the text was cut: how many
-/// blocks there are, and their room, follow these.
+/// blocks and of what comes before the bytes after it. Also the sums of the whole, and the place of
+/// the last edit in the blocks, or where the last whole text first differed.
+///
+/// `put` counts the bytes put into the blocks since the text was last cut: the number of blocks and
+/// their room follow it. `same_front` and `same_back` are how many bytes at the ends of the window
+/// are still those of the blocks: no edit has changed them since it was opened.
 #[derive(Drop)]
 pub(super) struct Windowed {
     pub(super) tree: Tree,
@@ -52,6 +57,8 @@ pub(super) struct Windowed {
     pub(super) sums: Sums,
     last: usize,
     put: u64,
+    pub(super) same_front: usize,
+    pub(super) same_back: usize,
     pub(super) alloc: Global,
 }
 
@@ -69,6 +76,8 @@ impl Windowed {
             tree,
             last: 0,
             put: text.len() as u64,
+            same_front: 0,
+            same_back: 0,
             alloc,
         })
     }
@@ -86,13 +95,15 @@ impl Windowed {
             sums: self.sums,
             last: self.last,
             put: self.put,
+            same_front: self.same_front,
+            same_back: self.same_back,
             alloc: self.alloc,
         })
     }
 
-    /// Makes it hold a text by replacing only what differs, where that is worth it: not if more than
-    /// half of the text is new, nor if it is one short block, nor if blocks may have become too many
-    /// or too large for it. Answers whether it did.
+    /// Makes it hold a text by replacing only what differs. Answers whether it did: not if that is
+    /// more than half of the text, nor if the text is short enough for one block, nor if the blocks
+    /// may have become too many or too large for it.
     pub(super) fn renew(&mut self, text: &str) -> Result<bool, AllocError>
         requires { IsWindowed self.old }
         ensures ok { IfOk result (HoldsRenewedOr (text_with self.old) text.now self.new) }
@@ -176,6 +187,8 @@ impl Windowed {
         if !self.window.replace(from - start, to - start, text)? {
             return Ok(false);
         }
+        self.same_front = self.same_front.min(from - start);
+        self.same_back = self.same_back.min(len - (to - start));
         self.sums = self.sums.exchanged(old, self.window.sums());
         Ok(true)
     }
@@ -195,8 +208,7 @@ impl Windowed {
         Ok(())
     }
 
-    /// Closes the window, if one is open: what differs from the bytes that it replaces is put into
-    /// the blocks.
+    /// Closes the window, if one is open: its changed bytes are put into the blocks.
     fn close(&mut self) -> Result<(), AllocError>
         requires { IsWindowed self.old }
         ensures ok { OnOk result (HoldsText self.new (text_with self.old) × IsClosed self.new) }
@@ -206,14 +218,19 @@ impl Windowed {
             return Ok(());
         }
         let none = Block::new(self.alloc, "")?;
-        let patch = self.tree.patch_to(
+        let patch = patch_between(
+            &self.tree,
             self.before.bytes as usize,
             self.skipped.bytes as usize,
             self.window.as_str(),
+            self.same_front,
+            self.same_back,
         );
         self.put = self.put.saturating_add(patch.text.len() as u64);
         self.tree
             .edit(self.alloc, patch.from, patch.to, patch.text)?;
+        self.same_front = 0;
+        self.same_back = 0;
         self.before = Sums::none();
         self.skipped = Sums::none();
         self.window = none;
@@ -223,6 +240,7 @@ impl Windowed {
     /// Opens a window around an edit, if places for its ends are found. Answers whether it did.
     fn open(&mut self, from: usize, to: usize) -> Result<bool, AllocError>
         requires held { IsWindowed self.old }
+        requires can { CanReplace (text_with self.old) from to }
         requires closed { IsClosed self.old }
         ensures { HoldsText self.new (text_with self.old) }
     {
@@ -230,7 +248,7 @@ impl Windowed {
         else {
             return Ok(false);
         };
-        if end < start || end - start > MOST {
+        if from < start || end < to || end - start > MOST {
             return Ok(false);
         }
         let mut text = String::with_capacity(self.alloc, MOST.min(end - start + NEAR))?;
@@ -239,6 +257,8 @@ impl Windowed {
         self.before = sums_before(&self.tree, start);
         self.skipped = self.before.with(window.sums());
         self.window = window;
+        self.same_front = from - start;
+        self.same_back = end - to;
         Ok(true)
     }
 
@@ -374,6 +394,29 @@ impl Windowed {
             tree.sums().bytes as usize,
             left,
         )
+    }
+}
+
+/// The patch that puts a window's text in the place of some bytes of the blocks, without the
+/// unchanged bytes at its ends.
+fn patch_between<'a>(
+    tree: &Tree,
+    from: usize,
+    to: usize,
+    text: &'a str,
+    front: usize,
+    back: usize,
+) -> Patch<'a>
+    requires span { IsSpan tree.now from to }
+    requires same { AreSameEndsOf (bytes_between tree.now from to) text.now front back }
+    ensures { IsPatch tree.now from to text.now result }
+{
+    let (middle, _) = text.split_at(text.len() - back);
+    let (_, middle) = middle.split_at(front);
+    Patch {
+        from: from + front,
+        to: to - back,
+        text: middle,
     }
 }
 

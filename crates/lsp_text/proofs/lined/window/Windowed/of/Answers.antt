@@ -1,5 +1,6 @@
 use Rattle.std.proofs.Common.{ap, ◌∙◌, arith}
 use Rattle.lsp_text.specs.Sums.{sums_of}
+use Rattle.lsp_text.proofs.SameEnds.{ends_nothing}
 use Rattle.lsp_text.proofs.WindowEdits.{held_closed}
 use Rattle.lsp_text.proofs.lined.window.Windowed.of.Goals as goal
 
@@ -12,6 +13,7 @@ returns c =
       before_is = c.none.ensures;
       skipped_is = c.none-2.ensures;
       sums_are = c.sums.ensures.sums ∙ ap sums_of c.in_ok-tree.ensures;
+      ends = ends_nothing;
       utf8 = c.utf8.text;
       fits = omega arith;
     })

@@ -5,12 +5,14 @@ use Rattle.lsp_text.proofs.lined.window.Windowed.open.Goals as goal
 use Rattle.lsp_text.proofs.lined.window.Windowed.open.Goals.{After-sums}
 
 can_open : (c : After-sums)
-    → CanOpen c.args.self.now c.in-Some-Some.start c.in-Some-Some.end
+    → CanOpen c.args.self.now c.args.from c.args.to c.in-Some-Some.start c.in-Some-Some.end
 can_open c =
     record {
       held = c.requires.held;
+      can = c.requires.can;
       closed = c.requires.closed;
-      order = c.if-end-start.false;
+      front = c.if-from-start.false;
+      back = c.if-end-to.false;
       first = c.in-Some-Some.ensures;
       second = c.in-Some-Some.ensures';
     }
@@ -25,8 +27,8 @@ window_is c =
 sums_opened : (c : After-sums)
     → AreOpened c.args.self.now c.in-Some-Some.end c.sums_before-self.result c.sums.result
 sums_opened c =
-    opened_sums c.args.self.now c.in-Some-Some.start c.in-Some-Some.end c.sums_before-self.result
-    c.sums.result c.in_ok-window.window (can_open c) c.sums_before-self.ensures (window_is c)
+    opened_sums c.args.self.now c.args.from c.args.to c.in-Some-Some.start c.in-Some-Some.end
+    c.sums_before-self.result c.sums.result c.in_ok-window.window (can_open c) c.sums_before-self.ensures (window_is c)
     c.sums.ensures.sums
 
 pub with-self-requires-clause-these : goal.with-self-requires-clause-these
@@ -38,5 +40,6 @@ with-self-requires-clause-those c = (sums_opened c).those
 pub returns : goal.returns
 returns c =
     let at = (goal.at.returns c).After-sums in
-    opened c.args.self.now _ c.in-Some-Some.start c.in-Some-Some.end c.sums.result (can_open at)
-    refl refl (window_is at) c.sums_before-self.ensures c.sums.ensures.sums c.with-self.ensures
+    opened c.args.self.now _ c.args.from c.args.to c.in-Some-Some.start c.in-Some-Some.end
+    c.sums.result (can_open at) refl refl (window_is at) c.sums_before-self.ensures
+    c.sums.ensures.sums c.with-self.ensures refl refl

@@ -54,4 +54,4 @@ returns-clause-ok c =
     let at = (goal.at.returns-clause-ok c).After-sums in
     inside c.args.self.now _ c.args.from c.args.to c.args.text.now c.sums-old.result
     c.sums.result (is_inside at) refl refl refl (made at) c.sums-old.ensures.sums
-    c.sums.ensures.sums c.exchanged-self.ensures
+    c.sums.ensures.sums c.exchanged-self.ensures c.min-self.ensures c.min-self-2.ensures

@@ -1,7 +1,14 @@
 use Rattle.std.proofs.Common.{arith, ap, refl}
 use Rattle.lsp_text.specs.declared.sums.Sums.{Sums}
-use Rattle.lsp_text.proofs.WindowPlaces.{near_before, near_in_window, place_after}
+use Rattle.lsp_text.proofs.WindowPlaces.{boundary_before, near_before, near_in_window}
+use Rattle.lsp_text.proofs.WindowPlaces.{place_after}
 use Rattle.lsp_text.proofs.lined.window.Windowed.rest_at.Goals as goal
+
+pub first_bytes-requires : goal.first_bytes-requires
+first_bytes-requires c =
+    boundary_before c.args.self.now c.args.place c.rest_of_block.result.now
+    (record { held = c.requires.held; boundary = c.requires.boundary }) c.if-place-start.true
+    c.rest_of_block.ensures
 
 pub returns-then-place-start : goal.returns-then-place-start
 returns-then-place-start c =
