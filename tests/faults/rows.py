@@ -81,6 +81,10 @@ REGISTERED = server(
 
 MANY = START + opened(1, "a") + b"".join(changed(version, whole("a")) for version in range(2, 19))
 
+# A text of several blocks.
+LONG = "one line\r\n" * 300
+LONGER = LONG[:1505] + "xyz" + LONG[1505:]
+
 # Logs by what they show. Each record of bytes is one frame.
 LOGS = {
     "a session": sessions.WHOLE,
@@ -111,6 +115,8 @@ LOGS = {
     + opened(3, "a\nb") + changed(4, part(1, 0, 1, 1, "x"), part(0, 0, 0, 0, "y")) + snapshot(9, "later"),
     "an early snapshot that differs from what is opened": START + snapshot(3, "a\nb") + opened(3, "a\nc"),
     "a whole text that is longer": START + opened(1, "a") + changed(2, whole("first line\nsecond line\rthird line")),
+    "a whole text of which most is held": START + opened(1, LONG) + changed(2, whole(LONGER)) + snapshot(2, LONGER)
+    + changed(3, part(150, 5, 150, 8, "x"), part(150, 6, 150, 6, "y")) + changed(4, whole(LONG)) + snapshot(4, LONG),
     "a session without an answer": sessions.UNANSWERED,
     "a late snapshot": START + opened(3, "a") + changed(4, whole("b")) + snapshot(3, "a"),
     "a late snapshot of each version": START + opened(3, "a") + changed(4, whole("b")) + snapshot(3, "a")
