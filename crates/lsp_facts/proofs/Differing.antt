@@ -18,9 +18,12 @@ pub part_there : (a b t x front : Text)
 part_there a b t x front h k =
     let n = h.0 in
     let before : front ≡ line_before_place t n =
-    k.2 ∙ ap (line_before_place t) (one_place a b k.0 n k.1 h.1) in
-    (n, h.1, ap (λ (l : Text). part_at (length l) x) before
-    ∙ ap (part_at (length (line_before_place t n))) h.2)
+    k.2 ∙ ap (line_before_place t) (one_place a b k.0 n k.1 h.1) in (
+      n,
+      h.1,
+      ap (λ (l : Text). part_at (length l) x) before
+          ∙ ap (part_at (length (line_before_place t n))) h.2,
+    )
 
 -- the facts on two texts that differ, each found by itself
 pub are_apart : (enc : Encoding) (a b : Text) (line : Part → Fact) (at : Position) (p q : Part)

@@ -46,8 +46,8 @@ pub use lsp_verdict::{
     exact_means_equal, handshake_in_turn, kept_means_yes, lack_is_named, no_names_the_first,
     offence_decides, one_complete_verdict, one_session, one_text, one_upgrade, one_verdict,
     only_order_offends, report_of, sessions_are_read, some_complete_verdict, some_final,
-    some_session, some_text, some_upgrade, some_verdict, stream_report, upgrade_keeps_yes, upgrade_stays,
-    yes_means_kept,
+    some_session, some_text, some_upgrade, some_verdict, stream_report, upgrade_keeps_yes,
+    upgrade_stays, yes_means_kept,
 };
 pub use normal::run_normal;
 pub use normal_laws::{
