@@ -19,3 +19,7 @@ returns-in-Err-clause-no g c = λ so_far follows.
     follows.counted in
     c.no_for.ensures.no (raw_view c.args.raw) c.args.events.now.docs.terms so_far counted
     c.who-who.ensures (c.in-Err.ensures.rule so_far follows.holds)
+
+pub returns-in-Err-clause-memory : goal.returns-in-Err-clause-memory
+returns-in-Err-clause-memory g c = λ is so_far follows.
+    rw (c.no_for.ensures.memory is) at (c.in-Err.ensures.rule so_far follows.holds)
