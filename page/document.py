@@ -25,6 +25,7 @@ SCRIPTS = [
     "nodes.js",
     "json.js",
     "words.js",
+    "columns.js",
     "details.js",
     "overview.js",
     "lanes.js",

@@ -4,14 +4,15 @@ import json
 from dataclasses import dataclass, field
 
 from contents import FRAMES, Contents
-from listing import EDITOR, KINDS, SNAPSHOT, Listing
+from listing import KINDS, SNAPSHOT, Listing
 from summaries import at, cut, summary
 
-# Without these, a page of many events is cut around its violations.
-MOST_EVENTS, MOST_BYTES = 20_000, 50_000_000
 # How many violations are listed, and how many are explained.
 MOST_LISTED, MOST_EXPLAINED = 5_000, 500
 LONGEST_NAME = 300
+ENCODINGS = ("utf-8", "utf-16", "utf-32")
+# The columns of a row that a later event may set.
+PARTNER, CANCEL = 10, 11
 
 
 @dataclass
@@ -43,24 +44,28 @@ def key_of(id):
 
 
 class Joins:
-    """The requests of both sides that are open, to join each with its response and its cancel."""
+    """The requests of both sides that are open, each with its row, if the page has one."""
 
     def __init__(self):
         self.open = ({}, {})
 
-    def partner(self, event, message):
-        """The event that this one belongs to, and the method that a response answers."""
-        if event.rule or event.side == SNAPSHOT:
-            return 0, None
-        if event.kind == "request":
-            self.open[event.side][key_of(event.id)] = (event.event, event.method)
-        elif event.kind in ("result", "error"):
-            return self.open[1 - event.side].pop(key_of(event.id), (0, None))
-        elif event.method == "$/cancelRequest":
-            id = at(message, "params", "id")
-            if isinstance(id, (int, str)):
-                return self.open[event.side].get(key_of(id), (0, None))
-        return 0, None
+    def ask(self, event, row):
+        if event.kind == "request" and not event.rule:
+            self.open[event.side][key_of(event.id)] = (event, row)
+
+    def answered(self, event):
+        """The request that a response answers, and its row."""
+        if event.kind not in ("result", "error") or event.rule:
+            return None, None
+        return self.open[1 - event.side].pop(key_of(event.id), (None, None))
+
+    def cancelled(self, event, content):
+        """The request that a notification cancels, and its row."""
+        if event.method != "$/cancelRequest" or event.kind != "notification" or event.rule:
+            return None, None
+        id = at(message_of(event, content), "params", "id")
+        key = key_of(id) if isinstance(id, (int, str)) else None
+        return self.open[event.side].get(key, (None, None))
 
 
 def message_of(event, content):
@@ -103,58 +108,75 @@ class Names:
 
 
 class Session:
-    """The rows of the page, one for each event that it shows."""
+    """The rows of the page, one for each event that it shows, and their contents."""
 
     def __init__(self):
-        self.methods, self.documents = Names(), Names()
+        self.methods, self.documents, self.joins = Names(), Names(), Joins()
         self.rows, self.contents, self.encoding = [], [], "utf-16"
 
-    def note_encoding(self, event, message, asked):
-        if asked == "initialize" and event.kind == "result":
-            picked = at(message, "result", "capabilities", "positionEncoding")
-            self.encoding = picked if picked in ("utf-8", "utf-16", "utf-32") else "utf-16"
+    def join(self, event, content):
+        """The request that this event answers or cancels; its row learns of it."""
+        for column, (request, row) in (
+            (PARTNER, self.joins.answered(event)),
+            (CANCEL, self.joins.cancelled(event, content)),
+        ):
+            if row is not None:
+                row[column] = event.event
+            if request is not None:
+                return request
+        return None
 
-    def add(self, event, content, message, partner, asked):
-        """Adds the row of an event, and its content."""
-        id = None if event.id is None and event.kind in ("snapshot", "notification") else event.id
-        said = summary(message, asked)
-        if event.side == SNAPSHOT:
-            said = f"{len(content):,} bytes"
+    def note_encoding(self, event, content):
+        """Reads the encoding of columns from the answer to `initialize`."""
+        if event.kind == "result":
+            message = message_of(event, content)
+            picked = at(message, "result", "capabilities", "positionEncoding")
+            self.encoding = picked if picked in ENCODINGS else "utf-16"
+
+    def take(self, event, content, is_shown, is_whole):
+        """Takes the next event of the log, and adds a row if it is shown."""
+        request = self.join(event, content)
+        asked = request.method if request and event.kind != "notification" else None
+        if asked == "initialize":
+            self.note_encoding(event, content)
+        row = self.add(event, content, request, asked) if is_shown else None
+        if is_shown:
+            text = content.decode("utf-8", "surrogateescape")
+            self.contents.append(text if is_whole else None)
+        self.joins.ask(event, row)
+
+    def add(self, event, content, request, asked):
+        """Adds the row of an event."""
+        message = message_of(event, content)
+        describe(event, message)
+        has_id = event.id is not None or event.kind not in ("snapshot", "notification", "unreadable")
+        is_text = event.side == SNAPSHOT
         self.rows.append([
             event.event,
             event.side,
             event.number,
             KINDS.index(event.kind),
-            self.methods.number(asked if event.method is None else event.method),
-            None if id is None else cut(json.dumps(id), LONGEST_NAME),
+            self.methods.number(event.method or asked),
+            cut(json.dumps(event.id), LONGEST_NAME) if has_id else None,
             self.documents.number(event.uri),
             event.version,
             len(content),
-            said,
-            partner,
+            f"{len(content):,} bytes" if is_text else summary(message, asked),
+            request.event if request else 0,
+            0,
         ])
-        self.contents.append(content.decode("utf-8", "surrogateescape"))
+        return self.rows[-1]
 
 
-def read_session(program, kept):
-    """The session of the events for which `kept` is true."""
-    session, joins = Session(), Joins()
+def read_session(program, choice):
+    """The session of the events that are chosen, and the format of the log."""
+    session = Session()
     with open(program.log, "rb") as file:
         contents = Contents(file)
         for event, _ in Listing(program.lines("show", "--all", "--long")):
-            if event is None:
-                continue
-            content = contents.of(event)
-            needed = kept(event.event)
-            message = message_of(event, content) if needed or is_joined(event) else None
-            partner, asked = joins.partner(event, message)
-            session.note_encoding(event, message, asked)
-            if needed:
-                describe(event, message)
-                session.add(event, content, message, partner, asked)
+            if event is not None:
+                content = contents.of(event)
+                is_shown = choice.is_shown(event)
+                is_whole = is_shown and choice.is_whole(event, len(content))
+                session.take(event, content, is_shown, is_whole)
     return session, contents.format
-
-
-def is_joined(event):
-    """Whether the content of an event that is not shown is needed all the same."""
-    return event.method == "$/cancelRequest" or event.event <= 10

@@ -23,7 +23,8 @@ const rows = session.rows.map((row, index) => ({
   summary: row[9],
   // For a response or a cancel, the event of its request; for a request, that of its response.
   partner: row[10],
-  cancel: 0,
+  // For a request, the event that cancels it.
+  cancel: row[11],
   violation: null,
 }));
 
@@ -37,15 +38,6 @@ for (const violation of session.violations) {
   const row = rowOfEvent(violation.event);
   if (row) {
     row.violation = violation;
-  }
-}
-
-for (const row of rows) {
-  const request = row.partner ? rowOfEvent(row.partner) : undefined;
-  if (request && row.kind === "notification") {
-    request.cancel = row.event;
-  } else if (request) {
-    request.partner = row.event;
   }
 }
 

@@ -102,8 +102,7 @@ function explanation(violation) {
   for (const line of violation.lines) {
     const said = inWords(line);
     if (said) {
-      const isSuspect = line.startsWith("suspect ");
-      facts.append(element("dt", "", said[0]), element("dd", isSuspect ? "is-suspect" : "", ...said[1]));
+      facts.append(element("dt", "", said[0]), element("dd", "", ...said[1]));
     }
   }
   return facts;
@@ -122,45 +121,53 @@ function aboutRule(rule) {
   if (!said) {
     return null;
   }
-  const parts = [["Applies when", said.when], ["What causes it", said.causes],
-    ["Whose fault", said.fault], ["How to read it", said.look]];
-  const list = element("dl", "facts rule");
+  const list = element("dl", "facts");
+  const parts = [["Applies when", said.when], ["What causes it", said.causes], ["Whose fault", said.fault]];
   for (const [label, text] of parts) {
     if (text && text !== "see below") {
       list.append(element("dt", "", label), element("dd", "", ...prose(text)));
     }
   }
-  const more = (said.more ?? []).map((text) => element("p", "rule-more", ...prose(text)));
-  return element("section", "", element("h3", "", `Rule ${rule}`), list, ...more);
+  const more = [said.look, ...(said.more ?? [])].filter(Boolean);
+  const paragraphs = () => element("div", "rule-more",
+    ...more.map((text) => element("p", "", ...prose(text))));
+  return element("section", "about-rule", element("h3", "", `Rule ${rule}`), list,
+    more.length ? folded("More about this rule", paragraphs) : null);
 }
 
-// The suspects of a violation, each with what its message changed.
-function suspects(violation) {
-  const found = linesWith(violation, "suspect").map((values) => rowOfEvent(Number(values[2])));
-  const shown = found.filter((row) => row && row.method === "textDocument/didChange");
-  if (shown.length === 0) {
-    return null;
+// A suspect: the message, and folded what it changed.
+function suspectPart(values, isOpen) {
+  const [version, ...by] = values, row = rowOfEvent(Number(by[1]));
+  const head = element("p", "is-suspect", `version ${version}: `, ...shownEvent(by));
+  if (!row || row.method !== "textDocument/didChange") {
+    return head;
   }
-  return element("section", "suspects", element("h3", "", "What each suspect changed"),
-    ...shown.map((row, at) => folded(
-      `version ${row.version}, event ${row.event}: ${row.summary}`,
-      () => whatChanged(row), shown.length === 1 && at === 0)));
+  head.append(" ", element("code", "summary", row.summary));
+  return element("div", "suspect", head, folded("what it changed", () => whatChanged(row), isOpen));
+}
+
+function suspects(violation) {
+  const found = linesWith(violation, "suspect");
+  return found.length === 0 ? null : element("section", "suspects",
+    element("h3", "", "Suspects ", source("lspcheck")),
+    ...found.map((values) => suspectPart(values, found.length === 1)));
 }
 
 // All that is known about a violation.
 function violationPart(violation) {
   const row = rowOfEvent(violation.event);
+  const texts = row ? textsThatDiffer(violation, row) : null;
   if (violation.follows) {
     return element("div", "violation-part",
-      element("p", "", "This follows from an earlier violation: lspcheck does not explain it."),
-      row ? textsThatDiffer(violation, row) : null, aboutRule(violation.rule));
+      element("section", "why", element("h3", "", "Why "),
+        element("p", "", "It follows from an earlier violation. lspcheck explains only that one.")),
+      texts, aboutRule(violation.rule));
   }
   return element("div", "violation-part",
-    element("section", "", element("h3", "", "Why ", source("lspcheck")), explanation(violation)),
-    row ? textsThatDiffer(violation, row) : null,
-    suspects(violation),
-    aboutRule(violation.rule),
-    whatWasWritten(violation));
+    element("section", "why", element("h3", "", "Why ", source("lspcheck")), explanation(violation),
+      whatWasWritten(violation)),
+    row ? columnsPart(violation, row) : null,
+    texts, suspects(violation), aboutRule(violation.rule));
 }
 
 // The text before and after a didChange, as this page makes them.

@@ -36,15 +36,15 @@ function linesAfterRow(lines, row) {
   }, lines);
 }
 
-// The lines at the beginning of what follows a gap, as `lspcheck text --all` wrote them.
-function linesAfterGap(documentNumber, event) {
-  const found = checkpoints.find((it) => it.document === documentNumber && it.event === event);
-  return found ? linesOf(found.text) : undefined;
+// The lines after a gap, as `lspcheck text --all` wrote them for this page.
+function linesAfterGap(documentNumber, gap) {
+  const found = checkpoints.find((it) => it.document === documentNumber && it.to === gap.to);
+  return found && (found.text === null ? null : linesOf(found.text));
 }
 
 // The last gap between two events, or undefined.
 function gapBetween(before, after) {
-  return gaps.findLast((gap) => gap.after >= before && gap.after < after);
+  return gaps.findLast((gap) => gap.from > before && gap.to < after);
 }
 
 // The lines of a document after all rows up to an index; those that break a rule are skipped, as
@@ -58,7 +58,7 @@ function linesAfter(documentNumber, index, isLastMade = false) {
   for (; at < setting.length && setting[at].index <= index; at += 1) {
     const row = setting[at];
     const gap = gapBetween(event, row.event);
-    lines = gap ? linesAfterGap(documentNumber, gap.after) : lines;
+    lines = gap ? linesAfterGap(documentNumber, gap) : lines;
     event = row.event;
     if (!row.violation || (isLastMade && row.index === index)) {
       lines = linesAfterRow(lines, row);
@@ -68,7 +68,7 @@ function linesAfter(documentNumber, index, isLastMade = false) {
     }
   }
   const gap = gapBetween(event, rows[index].event);
-  return gap ? linesAfterGap(documentNumber, gap.after) : lines;
+  return gap ? linesAfterGap(documentNumber, gap) : lines;
 }
 
 // The row of the message that set a version of a document, at or before an index.

@@ -19,9 +19,13 @@ function shownEvent(values) {
   return [eventLink(Number(event)), ` (${whose})`];
 }
 
-// A position as an editor shows it, too: from 1.
 function shownPlace(line, column) {
   return `line ${line}, column ${column}`;
+}
+
+// Positions of the protocol are counted from 0, and lines in editors from 1.
+function shownCounting(line) {
+  return ` (counted from 0; line ${Number(line) + 1} in an editor)`;
 }
 
 const PHASES = {
@@ -49,7 +53,7 @@ function shownChange(values) {
   const start = shownPlace(line, column);
   const isEmpty = line === endLine && column === endColumn;
   const words = isEmpty ? `at ${start}` : `from ${start} to ${shownPlace(endLine, endColumn)}`;
-  return [`change ${which} of the message, ${words} (counted from 0)`];
+  return [`change ${which} of the message, ${words}${shownCounting(line)}`];
 }
 
 function shownPart(values) {
@@ -60,6 +64,11 @@ function shownPart(values) {
   }
   return said;
 }
+
+const SUSPECTS = {
+  0: "none: the editor changed its text without a message, or the texts were equal again later",
+  1: "one message: it is the wrong one",
+};
 
 // For each word: a label, and what is shown for the values of its line.
 const LINES = {
@@ -81,7 +90,7 @@ const LINES = {
   fits: ["It would fit", (names) => [`if columns were counted in ${names.join(" or ").toUpperCase()}`]],
   bytes: ["Size", ([count]) => [`the text would have ${count} bytes`]],
   limit: ["Limit", ([count]) => [`${count} bytes`]],
-  at: ["First difference", ([line, column]) => [`${shownPlace(line, column)} (counted from 0)`]],
+  at: ["First difference", ([line, column]) => [shownPlace(line, column) + shownCounting(line)]],
   "by-messages": ["By the messages", shownPart],
   "in-editor": ["In the editor", shownPart],
   saved: ["Saved", shownPart],
@@ -89,11 +98,7 @@ const LINES = {
   kept: ["Kept versions", (versions) => [versions.join(", ")]],
   snapshot: ["Differs from", (by) => shownEvent(by)],
   equal: ["Last equal", ([version, ...by]) => [`at version ${version}: `, ...shownEvent(by)]],
-  suspects: ["Suspects", ([count]) => [
-    count === "0" ? "no message: the editor changed its text without one, or the texts were equal " +
-      "again later" : `${count}: a message after that made the texts differ`,
-  ]],
-  suspect: ["Suspect", ([version, ...by]) => [`version ${version}: `, ...shownEvent(by)]],
+  suspects: ["Suspects", ([count]) => [SUSPECTS[count] ?? `one of ${count} messages is wrong`]],
   closed: ["Closed", (by) => ["by ", ...shownEvent(by)]],
   opened: ["Opened", () => ["never"]],
   similar: ["Similar", ([uri, ...by]) => [shownText(uri), " is open, by ", ...shownEvent(by)]],
@@ -118,7 +123,7 @@ const LINES = {
 // The line in words: [label, nodes], or null if it says nothing that is not shown elsewhere.
 function inWords(line) {
   const [word, values, raw] = wordsOf(line);
-  if (word === "event" || word === "end") {
+  if (word === "event" || word === "end" || word === "suspect") {
     return null;
   }
   const known = Object.hasOwn(LINES, word) ? LINES[word] : null;
