@@ -21,7 +21,7 @@ class Other(Failed):
     """The log is not the one that was listed."""
 
     def __init__(self):
-        super().__init__("the log and what lspcheck lists differ: is it still being written?")
+        super().__init__("the log and what lspcheck lists of it differ: does something write it?")
 
 
 class Stream:

@@ -85,15 +85,25 @@ def explain(outline, program):
         violation.lines = lines.get((violation.rule, violation.event, violation.who), [])
 
 
+def state_of(log):
+    """What changes if a file is written."""
+    found = os.stat(log)
+    return found.st_size, found.st_mtime_ns, found.st_ino
+
+
 def data_of(program, most_events, most_bytes):
     """The index of the page, and the contents of its events."""
     version = program.version()
+    before = state_of(program.log)
     report = program.output("explain").decode("utf-8", "replace").splitlines()
     if report[:1] == ["bad log L1 record 0"]:
-        raise Failed(f"{program.log} is not a log: its first line is not that of a log", 2)
+        raise Failed(f"{program.log}: not a log: its first line is not that of a log", 2)
     outline = outline_of(program)
     explain(outline, program)
     session, log_format, left = cuts.session_of(program, outline, most_events, most_bytes)
+    texts = texts_of(program, outline.violations)
+    if state_of(program.log) != before:
+        raise Failed(f"{program.log}: it changed while it was read: try again")
     named = {str(it.rule) for it in outline.violations} | set(report[0].split()[2:3])
     index = {
         "name": os.path.basename(program.log),
@@ -112,7 +122,7 @@ def data_of(program, most_events, most_bytes):
         "left": left,
         "exit": exit_of(program.log),
         "rules": {number: rule for number, rule in rules.rules().items() if number in named},
-        "texts": texts_of(program, outline.violations),
+        "texts": texts,
     }
     return index, session.contents
 

@@ -3,7 +3,7 @@
 import json
 from dataclasses import dataclass, field
 
-from contents import FRAMES, Contents
+from contents import FRAMES, Contents, Other
 from listing import KINDS, SNAPSHOT, Listing
 from summaries import at, cut, summary
 
@@ -148,6 +148,8 @@ class Session:
     def add(self, event, content, request, asked):
         """Adds the row of an event."""
         message = message_of(event, content)
+        if not event.rule and event.method != at(message, "method"):
+            raise Other()
         describe(event, message)
         has_id = event.id is not None or event.kind not in ("snapshot", "notification", "unreadable")
         is_text = event.side == SNAPSHOT

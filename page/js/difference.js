@@ -103,7 +103,7 @@ function joinedRuns(runs, between = 3, many = 6) {
 function markedLine(characters, spans) {
   const pieces = [];
   let at = 0;
-  for (const [start, end] of spans) {
+  for (const [start, end] of spans.filter(([from, to]) => from < to)) {
     pieces.push([characters.slice(at, start).join(""), false]);
     pieces.push([characters.slice(start, end).join(""), true]);
     at = end;

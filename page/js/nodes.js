@@ -52,8 +52,8 @@ function prose(text) {
 }
 
 // Text with each odd character shown as a name in a box.
-function visibleText(text, all = false) {
-  return piecesOf(text, all).map(([piece, shown]) => {
+function visibleText(text, all = false, isBroken = false) {
+  return piecesOf(text, all, isBroken).map(([piece, shown]) => {
     if (shown === null) {
       return document.createTextNode(piece);
     }
@@ -75,13 +75,13 @@ function baseName(uri) {
 
 // A long text, of which the first part is shown at once and the rest on demand.
 function longText(text, classes, most = 60000) {
-  const shown = element("pre", classes, ...visibleText(text.slice(0, most)));
+  const shown = element("pre", classes, ...visibleText(text.slice(0, most), false, true));
   if (text.length <= most) {
     return shown;
   }
   let at = most;
   const more = button("more", "", () => {
-    shown.append(...visibleText(text.slice(at, at + 4 * most)));
+    shown.append(...visibleText(text.slice(at, at + 4 * most), false, true));
     at += 4 * most;
     label();
   });

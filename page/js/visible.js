@@ -37,12 +37,13 @@ function shownFor(character, all) {
   return NAMES[character] ?? escapedByte(character) ?? codePoint(character);
 }
 
-// The text in pieces: [text, null] as it is, or [character, what is shown for it].
-function piecesOf(text, all = false) {
+// The text in pieces: [text, null] as it is, or [character, what is shown for it]. With `isBroken`,
+// an LF is left as it is, since it breaks the line where it is shown.
+function piecesOf(text, all = false, isBroken = false) {
   const pieces = [];
   let plain = "";
   for (const character of text) {
-    const shown = shownFor(character, all);
+    const shown = isBroken && character === "\n" ? null : shownFor(character, all);
     if (shown === null) {
       plain += character;
       continue;
