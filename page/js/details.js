@@ -131,7 +131,7 @@ function aboutRule(rule) {
   const more = [said.look, ...(said.more ?? [])].filter(Boolean);
   const paragraphs = () => element("div", "rule-more",
     ...more.map((text) => element("p", "", ...prose(text))));
-  return element("section", "about-rule", element("h3", "", `Rule ${rule}`), list,
+  return element("section", "about-rule", element("h3", "", `Rule ${rule}: ${said.text}`), list,
     more.length ? folded("More about this rule", paragraphs) : null);
 }
 

@@ -82,7 +82,7 @@ function addRun(runs, step) {
 
 // Joins runs with fewer than this many equal items between them, if there are many runs: a text
 // that differs almost everywhere is easier to read as one difference.
-function joinedRuns(runs, between = 3, many = 6) {
+function joinedRuns(runs, between = 3, many = 2) {
   if (runs.length <= many) {
     return runs;
   }

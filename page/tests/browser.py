@@ -109,9 +109,10 @@ def opens_without_faults(page, program, log):
             assert wanted in head, head
             back = page.run("return getComputedStyle(document.body).backgroundColor")
             assert (brightness(back) > 128) == (theme == "light"), (theme, back)
+            page.run("document.getElementById('lanes').scrollIntoView()")
+            page.wait("return document.querySelector('.row.editor') && document.querySelector('.row.server')")
             assert page.run("return document.documentElement.scrollWidth") <= width
-            assert page.all(".row.editor") and page.all(".row.server")
-            assert page.log() == [], page.log()
+            assert not (found := page.log()), found
 
 
 def shows_the_violation(page, program, log):
@@ -151,7 +152,7 @@ def marks_what_differs(page):
     for event in range(1, 12):
         page.run("location.hash = arguments[0]", f"#event-{event}")
         page.wait("return document.querySelector('.selected .number')?.innerText === arguments[0]", str(event))
-    assert page.log() == [], page.log()
+    assert not (found := page.log()), found
 
 
 def forbids_everything_else(page):
@@ -171,10 +172,12 @@ def searches(page, program, log):
     """By method, side, document and id: as many events are found as `show` lists."""
     shown = output(program, "show", "--all", "--long", log).decode().splitlines()
     page.open()
-    changes = [it for it in shown if '"textDocument/didChange"' in it]
+    listed = output(program, "explain", "--all", log).decode().splitlines()
+    is_change = re.compile(r'(event )?\d+ editor (\d+ )?notification "textDocument/didChange".*')
+    changes = len([it for it in [*shown, *listed] if is_change.fullmatch(it)])
     box = page.all("input.search")[0]
-    box.send_keys("didchange")
-    assert page.text(".found").split()[0] == str(len(changes)), page.text(".found")
+    box.send_keys("textdocument/didchange notification")
+    assert page.text(".found").split()[0] == str(changes), page.text(".found")
     page.run("arguments[0].click()", page.all(".search .plain")[0])
     assert page.text(".found") == ""
     side = page.all(".search select")[1]
@@ -225,7 +228,7 @@ def follows_links_and_keys(page, program, log):
     page.keys("d")
     after = page.run("return getComputedStyle(document.body).backgroundColor")
     assert brightness(before) > 128 > brightness(after)
-    assert page.log() == [], page.log()
+    assert not (found := page.log()), found
 
 
 def shows_texts_after_messages(page, program, log):
@@ -250,7 +253,8 @@ def stays_small(page, events):
     for place in (0, 0.5, 1):
         page.run("scrollTo(0, document.documentElement.scrollHeight * arguments[0])", place)
         page.run("return new Promise((done) => requestAnimationFrame(() => requestAnimationFrame(done)))")
-        assert 0 < len(page.all(".row")) <= MOST_ROWS, len(page.all(".row"))
+        assert len(page.all(".row")) <= MOST_ROWS, len(page.all(".row"))
+        assert place == 0 or page.all(".row")
     assert "End of the log" in page.text("#lanes")
     page.run("location.hash = arguments[0]", f"#event-{events // 2}")
     page.wait("return document.querySelector('.selected .number')?.innerText === arguments[0]", str(events // 2))
