@@ -12,9 +12,8 @@ from program import Failed
 
 LENGTH = re.compile(rb"^content-length:[ \t]*(\d{1,10})[ \t]*\r?$", re.I | re.M)
 HEADER_END = b"\r\n\r\n"
-# The rules of frames, and how much is shown of one that breaks them.
+# The rules of frames: one that breaks any of them has no content.
 FRAMES = range(101, 107)
-SHOWN = 4096
 
 
 class Other(Failed):
@@ -49,10 +48,6 @@ class Stream:
             return None
         self.start = after
         return bytes(self.bytes[begin:after])
-
-    def rest(self):
-        """The beginning of a frame that cannot be read."""
-        return bytes(self.bytes[self.start : self.start + SHOWN])
 
 
 class Contents:
@@ -97,7 +92,7 @@ class Contents:
             return self.snapshot(event)
         stream = self.streams[event.side]
         if event.rule in FRAMES:
-            return stream.rest()
+            return b""
         while True:
             content = stream.frame()
             if content is not None:

@@ -32,7 +32,7 @@ function cellAt(cells, column, encoding) {
   return after < 0 ? cells.length - 1 : after - 1;
 }
 
-function columnsTable(cells, at, encodings, column) {
+function columnsTable(cells, at, encodings) {
   const first = Math.max(at - AROUND, 0), shown = cells.slice(first, at + AROUND + 1);
   const mark = (cell) => (cell === cells[at] ? "is-here" : "");
   const characters = shown.map((cell) => element("td", mark(cell), ...visibleText(cell.character, true)));
@@ -41,8 +41,7 @@ function columnsTable(cells, at, encodings, column) {
     ...shown.map((cell) => element("td", mark(cell), String(cell.columns[encoding]))));
   const label = first > 0 ? "…" : "";
   return element("table", "columns-table",
-    element("tr", "characters", element("th", "", label), ...characters), ...encodings.map(rowOf),
-    element("caption", "", `The message has column ${column} in this line, in ${session.encoding.toUpperCase()}.`));
+    element("tr", "characters", element("th", "", label), ...characters), ...encodings.map(rowOf));
 }
 
 // The line of the first wrong position of a 605 or 606, or null.
@@ -65,5 +64,6 @@ function columnsPart(violation, row) {
   const encodings = ENCODINGS.filter((it) => it === session.encoding || fits.includes(it));
   return element("section", "line-columns",
     element("h3", "", `Line ${at} before this change `, source("page")),
-    columnsTable(cells, cellAt(cells, units, session.encoding), encodings, units));
+    columnsTable(cells, cellAt(cells, units, session.encoding), encodings),
+    element("p", "quiet", `The message has column ${units} in ${session.encoding.toUpperCase()}.`));
 }

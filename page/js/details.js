@@ -197,6 +197,9 @@ function textAfter(row) {
 
 function contentPart(row) {
   const content = contentOf(row);
+  if (content === "" && row.kind === "unreadable") {
+    return element("p", "quiet", "This frame has no content that can be read.");
+  }
   if (content === null) {
     return element("p", "quiet", "The content was left out of this page. ",
       shownText(`lspcheck event ${row.event} ${session.name}`), " writes it.");

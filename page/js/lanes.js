@@ -20,21 +20,30 @@ function laneItems() {
 
 const items = laneItems();
 
-// Draws each open request as a line from its row to that of its answer: finds a free track for each.
+// The request whose line ends at an event: at its answer, or at its cancel if it has no answer.
+const endingAt = new Map();
+
+function endOf(request) {
+  return [request.partner, request.cancel].find((event) => indexOfEvent.has(event));
+}
+
+// Draws each request as a line from its row to that of its answer: finds a free track for each.
 function layTracks() {
   const free = [EDITOR, SERVER].map(() => Array.from({ length: TRACKS }, (_, track) => track));
   const active = [new Set(), new Set()];
   for (const item of items) {
     item.passing = active.map((tracks) => [...tracks]);
-    const answered = item.kind === "request" && indexOfEvent.has(item.partner);
-    const asking = item.kind === "result" || item.kind === "error" ? rowOfEvent(item.partner) : null;
-    if (answered && free[item.side].length) {
+    const ending = endingAt.get(item.event);
+    if (ending) {
+      active[ending.side].delete(ending.track);
+      free[ending.side].push(ending.track);
+      free[ending.side].sort();
+    }
+    const end = item.kind === "request" ? endOf(item) : undefined;
+    if (end !== undefined && free[item.side].length) {
       item.track = free[item.side].shift();
       active[item.side].add(item.track);
-    } else if (asking && asking.track !== undefined) {
-      active[asking.side].delete(asking.track);
-      free[asking.side].push(asking.track);
-      free[asking.side].sort();
+      endingAt.set(end, item);
     }
   }
 }
@@ -54,14 +63,18 @@ function svg(tag, attributes) {
 }
 
 function linesOfSpine(item, height) {
-  const middle = height / 2, lines = [];
-  const asking = item.kind === "result" || item.kind === "error" ? rowOfEvent(item.partner) : null;
+  const middle = height / 2, lines = [], ending = endingAt.get(item.event);
   item.passing.forEach((tracks, side) => tracks.forEach((track) => {
-    const ends = asking && asking.side === side && asking.track === track;
+    const ends = ending && ending.side === side && ending.track === track;
     lines.push([`M${xOfTrack(side, track)} 0V${ends ? middle : height}`, `track-${SIDES[side]}`]);
   }));
   if (item.track !== undefined) {
     lines.push([`M${xOfTrack(item.side, item.track)} ${middle}V${height}`, `track-${SIDES[item.side]}`]);
+  }
+  const cancelled = item.kind === "notification" && item.partner ? rowOfEvent(item.partner) : null;
+  if (cancelled && cancelled.track !== undefined) {
+    const x = xOfTrack(cancelled.side, cancelled.track);
+    lines.push([`M${x - 4} ${middle - 4}l8 8m0 -8l-8 8`, `track-${SIDES[cancelled.side]}`]);
   }
   return lines;
 }
@@ -117,6 +130,9 @@ function tagsOf(row) {
   if (suspectEvents.has(row.event) && !row.violation) {
     tags.push(element("span", "tag tag-suspect", "suspect"));
   }
+  if (row.cancel) {
+    tags.push(element("span", "tag tag-result", "cancelled"));
+  }
   if (equalEvents.has(row.event)) {
     tags.push(element("span", "tag tag-equal", "last equal"));
   }
@@ -138,7 +154,7 @@ function messageCell(row) {
 function endCell() {
   const last = session.violations.filter((it) => !rowOfEvent(it.event) && it.event > session.events);
   const said = last.map((it) => element("span", "tag tag-bad", `${it.rule} ${it.text} (${it.who})`));
-  const exit = session.exit.map((line) => element("span", "exit", line));
+  const exit = session.exit.map((line) => element("span", "exit", ...visibleText(line)));
   const badLog = session.ending[0].startsWith("bad log") ? session.ending.slice(0, 2).join(" ") : null;
   return element("div", "wide", element("span", "quiet", "End of the log"), ...said,
     badLog ? element("span", "tag tag-bad", badLog) : null,

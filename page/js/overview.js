@@ -49,6 +49,8 @@ function verdictPart() {
     element("p", "name", ...visibleText(session.name, true)),
     element("h1", "", element("span", "word", verdict), " ", text),
     whereItIs(),
+    session.exit.length === 0 ? null :
+      element("p", "where", "The server ended: ", ...visibleText(session.exit.join(" · "))),
     factsOfLog(),
     element("p", "quiet", "The verdict is that of ", shownText(session.version),
       ". What this page worked out itself is marked ", source("page"), "."));
