@@ -1,6 +1,7 @@
 """The command: what it answers, and what it does to files."""
 
 import os
+import re
 import shutil
 import stat
 import subprocess
@@ -100,6 +101,19 @@ def says_what_is_wrong_with_the_program(program, place):
     assert not (place / "x.html").exists()
 
 
+def has_a_manual_page(program, place):
+    """Its options and statuses are those of the help."""
+    manual = (TOP / "docs/lspcheck-page.1").read_text().replace("\\-", "-")
+    help_text = run("--help").stdout
+    options = [set(re.findall(r"(?<![\w-])--?[a-z][a-z-]*", text)) for text in (manual, help_text)]
+    assert options[0] == options[1], options
+    statuses = re.findall(r"(?<=[ ;])(\d+) ", help_text.partition("Exit status:")[2].partition("positional")[0])
+    assert re.findall(r"\.TP\n\.B (\d+)\n", manual) == statuses != [], statuses
+    for default in ("20000", "50000000"):
+        assert f"default is\n{default}." in manual or f"default is {default}." in manual
+        assert f"(default: {default})" in " ".join(help_text.split())
+
+
 def finds_the_program(program, place):
     (place / "bin").mkdir()
     (place / "bin/lspcheck").symlink_to(program)
@@ -117,5 +131,6 @@ TESTS = [
     says_what_is_wrong_with_files,
     says_what_is_wrong_with_words,
     says_what_is_wrong_with_the_program,
+    has_a_manual_page,
     finds_the_program,
 ]
