@@ -107,7 +107,8 @@ def has_a_manual_page(program, place):
     help_text = run("--help").stdout
     options = [set(re.findall(r"(?<![\w-])--?[a-z][a-z-]*", text)) for text in (manual, help_text)]
     assert options[0] == options[1], options
-    statuses = re.findall(r"(?<=[ ;])(\d+) ", help_text.partition("Exit status:")[2].partition("positional")[0])
+    said = " ".join(help_text.partition("Exit status:")[2].partition("positional")[0].split())
+    statuses = [part.split()[0] for part in said.split(";")]
     assert re.findall(r"\.TP\n\.B (\d+)\n", manual) == statuses != [], statuses
     for default in ("20000", "50000000"):
         assert f"default is\n{default}." in manual or f"default is {default}." in manual
