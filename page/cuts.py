@@ -92,11 +92,12 @@ class Around:
     def gaps(self):
         ends = [0, *(last for _, last in self.spans)]
         starts = [*self.starts, self.events + 1]
-        return [{"from": end + 1, "to": start - 1} for end, start in zip(ends, starts) if end + 1 < start]
+        between = [(end + 1, start - 1) for end, start in zip(ends, starts)]
+        return [{"from": first, "to": last} for first, last in between if first <= last]
 
 
 def text_after(program, number, uri):
-    """The text of a document after a message of the editor, as lspcheck gives it; None if not open."""
+    """The text of a document after a message of the editor, or None if it is not open."""
     if number == 0:
         return None
     done = program.run(["text", "--all", "--quiet", str(number), uri, program.log])

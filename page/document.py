@@ -128,7 +128,7 @@ def data_of(program, most_events, most_bytes):
 
 
 def hash_of(text):
-    """A source of the content security policy: only this very text may be run or used as a style."""
+    """A source of the content security policy: only this text may be run, or used as a style."""
     digest = base64.b64encode(hashlib.sha256(text.encode()).digest()).decode()
     return f"'sha256-{digest}'"
 

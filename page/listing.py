@@ -16,7 +16,7 @@ decode = json.JSONDecoder().raw_decode
 
 @dataclass
 class Event:
-    """One message or snapshot of the log, counted from 1, with its number among those of its side."""
+    """One message or snapshot, counted from 1, with its number among those of its side."""
 
     event: int
     side: int

@@ -28,7 +28,7 @@ def find_program(named, script):
     near = Path(script).absolute().with_name("lspcheck")
     found = str(near) if os.access(near, os.X_OK) else shutil.which("lspcheck")
     if found is None:
-        raise Failed("there is no lspcheck next to this command or on the PATH: name it by --program")
+        raise Failed("there is no lspcheck next to this command or on the PATH: use --program")
     return os.path.abspath(found)
 
 
@@ -47,8 +47,9 @@ class Program:
         return line
 
     def run(self, words):
+        how = {"stdin": subprocess.DEVNULL, "capture_output": True}
         try:
-            return subprocess.run([self.path, *words], stdin=subprocess.DEVNULL, capture_output=True)
+            return subprocess.run([self.path, *words], **how)
         except OSError as error:
             raise Failed(f"{self.path}: {error.strerror}") from error
 

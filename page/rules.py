@@ -68,7 +68,7 @@ def read_section(section, rules):
 
 
 def rules():
-    """For each rule and each fault of a log: its text, when it applies, what causes it, and so on."""
+    """For each rule and each fault of a log: its text, when it applies, what causes it."""
     found = {}
     for section in re.split(r"^## ", page_of_rules(), flags=re.M):
         read_section(section, found)

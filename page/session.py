@@ -151,7 +151,7 @@ class Session:
         if not event.rule and event.method != at(message, "method"):
             raise Other()
         describe(event, message)
-        has_id = event.id is not None or event.kind not in ("snapshot", "notification", "unreadable")
+        has_id = event.id is not None or event.kind in ("result", "error")
         is_text = event.side == SNAPSHOT
         self.rows.append([
             event.event,

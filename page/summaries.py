@@ -135,6 +135,10 @@ def sections(params):
     return plain([at(item, "section") for item in items]) if isinstance(items, list) else ""
 
 
+def renamed(params):
+    return f"{place(at(params, 'position'))} {quoted(at(params, 'newName'))}"
+
+
 METHODS = {
     "initialize": initialize,
     "textDocument/didOpen": opened,
@@ -150,7 +154,7 @@ METHODS = {
     "client/unregisterCapability": registrations,
     "workspace/configuration": sections,
     "workspace/executeCommand": lambda params: plain(at(params, "command")),
-    "textDocument/rename": lambda params: f"{place(at(params, 'position'))} {quoted(at(params, 'newName'))}",
+    "textDocument/rename": renamed,
 }
 
 

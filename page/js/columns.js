@@ -11,7 +11,8 @@ function linesBeforeChange(row, which) {
   if (!lines || !Array.isArray(changes)) {
     return undefined;
   }
-  return changes.slice(0, which - 1).reduce((made, it) => changed(made, it, session.encoding), lines);
+  const earlier = changes.slice(0, which - 1);
+  return earlier.reduce((made, change) => changed(made, change, session.encoding), lines);
 }
 
 // The characters of a line, each with its column in every encoding; last the line's end.
@@ -35,7 +36,8 @@ function cellAt(cells, column, encoding) {
 function columnsTable(cells, at, encodings) {
   const first = Math.max(at - AROUND, 0), shown = cells.slice(first, at + AROUND + 1);
   const mark = (cell) => (cell === cells[at] ? "is-here" : "");
-  const characters = shown.map((cell) => element("td", mark(cell), ...visibleText(cell.character, true)));
+  const characters = shown.map((cell) =>
+    element("td", mark(cell), ...visibleText(cell.character, true)));
   const rowOf = (encoding) => element("tr", encoding === session.encoding ? "agreed" : "",
     element("th", "", encoding.toUpperCase()),
     ...shown.map((cell) => element("td", mark(cell), String(cell.columns[encoding]))));
@@ -44,26 +46,32 @@ function columnsTable(cells, at, encodings) {
     element("tr", "characters", element("th", "", label), ...characters), ...encodings.map(rowOf));
 }
 
+// Whether a column is inside a character of a line.
+function isInside(line, column) {
+  const columns = columnsOf(line).map((cell) => cell.columns[session.encoding]);
+  return column < columns.at(-1) && !columns.includes(column);
+}
+
 // The line of the first wrong position of a 605 or 606, or null.
 function columnsPart(violation, row) {
   const change = linesWith(violation, "change")[0];
   if (!change || change[1] === "whole" || (violation.rule !== 605 && violation.rule !== 606)) {
     return null;
   }
-  const [which, line, column, endLine, endColumn] = change.map(Number);
+  const [which, ...range] = change.map(Number);
   const lines = linesBeforeChange(row, which);
-  const isWrong = (number, units) => violation.rule === 605 && lines?.[number] !== undefined &&
-    !columnsOf(lines[number]).some((cell) => cell.columns[session.encoding] === units) &&
-    units < columnsOf(lines[number]).at(-1).columns[session.encoding];
-  const [at, units] = isWrong(line, column) || !isWrong(endLine, endColumn) ? [line, column] : [endLine, endColumn];
-  if (lines?.[at] === undefined) {
+  const ends = [range.slice(0, 2), range.slice(2)];
+  const places = ends.filter(([line]) => lines?.[line] !== undefined);
+  if (places.length === 0) {
     return null;
   }
-  const cells = columnsOf(lines[at]);
+  const isWrong = ([line, column]) => isInside(lines[line], column);
+  const [line, column] = places.find(isWrong) ?? places[0];
+  const cells = columnsOf(lines[line]);
   const fits = linesWith(violation, "fits")[0] ?? [];
   const encodings = ENCODINGS.filter((it) => it === session.encoding || fits.includes(it));
   return element("section", "line-columns",
-    element("h3", "", `Line ${at} before this change `, source("page")),
-    columnsTable(cells, cellAt(cells, units, session.encoding), encodings),
-    element("p", "quiet", `The message has column ${units} in ${session.encoding.toUpperCase()}.`));
+    element("h3", "", `Line ${line} before this change `, source("page")),
+    columnsTable(cells, cellAt(cells, column, session.encoding), encodings),
+    element("p", "quiet", `In ${session.encoding.toUpperCase()}, the message has column ${column}.`));
 }

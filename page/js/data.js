@@ -4,7 +4,7 @@ const session = JSON.parse(document.getElementById("session").textContent);
 
 const EDITOR = 0, SERVER = 1, SNAPSHOT = 2;
 const SIDES = ["editor", "server", "snapshot"];
-const KINDS = ["request", "notification", "result", "error", "snapshot", "unreadable", "gap", "end"];
+const KINDS = ["request", "notification", "result", "error", "snapshot", "unreadable"];
 // How many blocks of contents are kept after they were read.
 const KEPT_BLOCKS = 40;
 

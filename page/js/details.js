@@ -20,8 +20,7 @@ function comparedCell(line, pieces, isEqual) {
 
 function comparedRow(item) {
   if (item.skipped) {
-    const lines = item.skipped === 1 ? "1 equal line" : `${item.skipped.toLocaleString("en")} equal lines`;
-    return element("div", "skipped", lines);
+    return element("div", "skipped", count(item.skipped, "equal line"));
   }
   const [a, b] = item.isEqual ? item.pair.map((line) => [[line, false]]) : markedPair(...item.pair);
   return element("div", item.isEqual ? "pair equal" : "pair differs",
@@ -49,7 +48,8 @@ function comparison(a, b, labelA, labelB, who) {
 
 // The values of each line of an explanation that begins with a word.
 function linesWith(violation, word) {
-  return violation.lines.map(wordsOf).filter(([first]) => first === word).map(([, values]) => values);
+  const found = violation.lines.map(wordsOf).filter(([first]) => first === word);
+  return found.map(([, values]) => values);
 }
 
 // The text of the editor itself at a violation, and the row up to which its messages count.
@@ -122,7 +122,8 @@ function aboutRule(rule) {
     return null;
   }
   const list = element("dl", "facts");
-  const parts = [["Applies when", said.when], ["What causes it", said.causes], ["Whose fault", said.fault]];
+  const parts = [["Applies when", said.when], ["What causes it", said.causes],
+    ["Whose fault", said.fault]];
   for (const [label, text] of parts) {
     if (text && text !== "see below") {
       list.append(element("dt", "", label), element("dd", "", ...prose(text)));
@@ -190,8 +191,8 @@ function textAfter(row) {
   const before = rows.slice(0, row.index + 1).findLast((it) => it.side === EDITOR);
   const command = `lspcheck text --all ${before.number} '${row.uri}' ${session.name}`;
   return element("div", "",
-    element("p", "quiet", source("page"), " made from the editor’s messages, without those that break a ",
-      "rule. The proved text is written by ", shownText(command)),
+    element("p", "quiet", source("page"), " made from the editor’s messages, without those that ",
+      "break a rule. The proved text is written by ", shownText(command)),
     longText(lines.join(""), "document-text"));
 }
 

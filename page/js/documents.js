@@ -1,7 +1,7 @@
 // The text of a document after any message, made by this page, and what happened to each document.
 
 const SETS_TEXT = ["textDocument/didOpen", "textDocument/didChange", "textDocument/didClose"];
-// A text is kept after each so many changes, so that an earlier one need not be made from the start.
+// How many changes are made before a text is kept, so that not all are made again for the next one.
 const KEPT_EVERY = 400;
 
 // For each document, the rows that open, change or close it, and all rows that name it.
@@ -26,7 +26,8 @@ function linesAfterRow(lines, row) {
   if (row.method === "textDocument/didClose") {
     return null;
   }
-  const params = messageOf(row)?.params;
+  // What breaks one of these rules may have any shape.
+  const params = row.violation?.rule < 300 ? undefined : messageOf(row)?.params;
   if (row.method === "textDocument/didOpen") {
     return params ? linesOf(params.textDocument.text) : undefined;
   }
@@ -53,7 +54,7 @@ function linesAfter(documentNumber, index, isLastMade = false) {
   const setting = settingRows[documentNumber];
   const kept = keptTexts.get(documentNumber) ?? [];
   keptTexts.set(documentNumber, kept);
-  let from = kept.findLast((it) => it.index <= index) ?? { at: 0, index: -1, event: 0, lines: null };
+  const from = kept.findLast((it) => it.index <= index) ?? { at: 0, event: 0, lines: null };
   let lines = from.lines && [...from.lines], event = from.event, at = from.at;
   for (; at < setting.length && setting[at].index <= index; at += 1) {
     const row = setting[at];

@@ -1,5 +1,5 @@
-// The two lanes: only what is seen is in the tree of the page. Each row has the same height; an open
-// one has its details below it, whose height is measured.
+// The two lanes: only what is seen is in the tree of the page. Each row has the same height; an
+// open one has its details below it, whose height is measured.
 
 const SPINE = 132, TRACKS = 4, MARGIN = 600, MOST_PRINTED = 1500;
 
@@ -69,7 +69,8 @@ function linesOfSpine(item, height) {
     lines.push([`M${xOfTrack(side, track)} 0V${ends ? middle : height}`, `track-${SIDES[side]}`]);
   }));
   if (item.track !== undefined) {
-    lines.push([`M${xOfTrack(item.side, item.track)} ${middle}V${height}`, `track-${SIDES[item.side]}`]);
+    const x = xOfTrack(item.side, item.track);
+    lines.push([`M${x} ${middle}V${height}`, `track-${SIDES[item.side]}`]);
   }
   const cancelled = item.kind === "notification" && item.partner ? rowOfEvent(item.partner) : null;
   if (cancelled && cancelled.track !== undefined) {
@@ -87,16 +88,18 @@ function spine(item, height) {
   }
   const middle = height / 2;
   if (item.side === EDITOR) {
-    drawn.append(svg("path", { d: `M2 ${middle}H${SPINE - 4}m-5 -4l5 4l-5 4`, class: `arrow ${item.kind}` }));
+    const d = `M2 ${middle}H${SPINE - 4}m-5 -4l5 4l-5 4`;
+    drawn.append(svg("path", { d, class: "arrow" }));
   } else if (item.side === SERVER) {
-    drawn.append(svg("path", { d: `M${SPINE - 2} ${middle}H4m5 -4l-5 4l5 4`, class: `arrow ${item.kind}` }));
+    const d = `M${SPINE - 2} ${middle}H4m5 -4l-5 4l5 4`;
+    drawn.append(svg("path", { d, class: "arrow" }));
   }
-  return element("div", "spine", drawn, element("span", "number", item.event ? String(item.event) : ""));
+  return element("div", "spine", drawn, element("span", "number", String(item.event)));
 }
 
 function methodName(method) {
-  const at = method.lastIndexOf("/") + 1;
-  return [element("span", "quiet", method.slice(0, at)), element("span", "method", method.slice(at))];
+  const at = method.lastIndexOf("/") + 1, name = element("span", "method", method.slice(at));
+  return at === 0 ? [name] : [element("span", "quiet", method.slice(0, at)), name];
 }
 
 function nameOf(row) {
@@ -108,7 +111,8 @@ function nameOf(row) {
     return [element("span", `tag tag-${row.kind}`, row.kind), " ", ...asked];
   }
   if (row.method === undefined) {
-    return [element("span", "tag tag-error", row.kind === "unreadable" ? "cannot be read" : row.kind)];
+    const said = row.kind === "unreadable" ? "cannot be read" : row.kind;
+    return [element("span", "tag tag-error", said)];
   }
   return methodName(row.method);
 }
@@ -151,29 +155,32 @@ function messageCell(row) {
   return made;
 }
 
+function badTag(text) {
+  return element("span", "tag tag-bad", text);
+}
+
 function endCell() {
-  const last = session.violations.filter((it) => !rowOfEvent(it.event) && it.event > session.events);
-  const said = last.map((it) => element("span", "tag tag-bad", `${it.rule} ${it.text} (${it.who})`));
+  const last = session.violations.filter((it) => it.event > session.events);
+  const said = last.map((it) => badTag(`${it.rule} ${it.text} (${it.who})`));
   const exit = session.exit.map((line) => element("span", "exit", ...visibleText(line)));
-  const badLog = session.ending[0].startsWith("bad log") ? session.ending.slice(0, 2).join(" ") : null;
+  const isBad = session.ending[0].startsWith("bad log");
+  const badLog = isBad ? badTag(session.ending.slice(0, 2).join(" ")) : null;
   return element("div", "wide", element("span", "quiet", "End of the log"), ...said,
-    badLog ? element("span", "tag tag-bad", badLog) : null,
-    exit.length ? element("span", "exit", "The server’s end: ") : null, ...exit);
+    badLog, exit.length ? element("span", "exit", "The server’s end: ") : null, ...exit);
 }
 
 function gapCell(gap) {
-  const left = gap.to - gap.from + 1;
-  return element("div", "wide", element("span", "quiet",
-    `${count(left, "event")} left out: ${gap.from.toLocaleString("en")} to ${gap.to.toLocaleString("en")}`));
+  const [first, last] = [gap.from, gap.to].map((event) => event.toLocaleString("en"));
+  const left = count(gap.to - gap.from + 1, "event");
+  return element("div", "wide", element("span", "quiet", `${left} left out: ${first} to ${last}`));
 }
 
 function lineOf(item, height) {
   if (item.kind === "gap" || item.kind === "end") {
     return element("div", "line", item.kind === "gap" ? gapCell(item.gap) : endCell());
   }
-  const cell = messageCell(item), empty = element("div", "empty");
-  const order = item.side === SERVER ? [empty, spine(item, height), cell] : [cell, spine(item, height), empty];
-  return element("div", "line", ...order);
+  const cells = [messageCell(item), spine(item, height), element("div", "empty")];
+  return element("div", "line", ...(item.side === SERVER ? cells.reverse() : cells));
 }
 
 function classesOf(item) {
@@ -210,8 +217,8 @@ class Lanes {
   }
 
   topOf(place, opened = this.opened()) {
-    const extra = opened.filter(([open]) => open < place).reduce((sum, [, height]) => sum + height, 0);
-    return place * this.height + extra;
+    const above = opened.filter(([open]) => open < place);
+    return place * this.height + above.reduce((sum, [, height]) => sum + height, 0);
   }
 
   // The row at a distance from the top.
@@ -349,8 +356,9 @@ class Lanes {
 
   // All rows, one below the other, or those around the selected one if there are many.
   print() {
-    const middle = Math.max(this.shown.indexOf(this.selected ?? rowOfEvent(session.violations[0]?.event)), 0);
-    const first = Math.max(Math.min(middle - MOST_PRINTED / 2, this.shown.length - MOST_PRINTED), 0);
+    const centre = this.selected ?? rowOfEvent(session.violations[0]?.event);
+    const start = Math.max(this.shown.indexOf(centre), 0) - MOST_PRINTED / 2;
+    const first = Math.max(Math.min(start, this.shown.length - MOST_PRINTED), 0);
     const last = Math.min(first + MOST_PRINTED, this.shown.length) - 1;
     this.draw(true);
     this.nodes.forEach((node) => node.remove());

@@ -37,6 +37,10 @@ function folded(label, fill, isOpen = false) {
   return made;
 }
 
+function count(number, noun) {
+  return `${number.toLocaleString("en")} ${noun}${number === 1 ? "" : "s"}`;
+}
+
 function eventLink(event, label = `event ${event}`) {
   if (!indexOfEvent.has(event)) {
     return titled(element("span", "missing", label), "this event is not in the page");
@@ -65,7 +69,7 @@ function visibleText(text, all = false, isBroken = false) {
 
 // Who says something: the proved program, or this page.
 function source(who) {
-  const said = who === "lspcheck" ? "what lspcheck wrote" : "worked out by this page, not by lspcheck";
+  const said = { lspcheck: "what lspcheck wrote", page: "worked out by this page" }[who];
   return titled(element("span", `source source-${who}`, who), said);
 }
 

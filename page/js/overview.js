@@ -2,10 +2,6 @@
 
 const MOST_CHIPS = 36, MOST_DOCUMENTS = 4;
 
-function count(number, noun) {
-  return `${number.toLocaleString("en")} ${noun}${number === 1 ? "" : "s"}`;
-}
-
 function verdictOf() {
   const [first, second] = session.report;
   if (first === "yes") {
@@ -71,7 +67,7 @@ function badLogPart() {
   const violation = { lines: session.report.slice(2) };
   return element("section", "card",
     element("h2", "", `${code} ${session.report[1]} `, source("lspcheck")),
-    element("p", "", "No event before this record breaks a rule. What comes after it is not shown."),
+    element("p", "", "No event before this record breaks a rule. What follows it is not shown."),
     explanation(violation), aboutRule(code));
 }
 
@@ -101,13 +97,16 @@ function chip(row) {
   const version = row.version === null ? "" : String(row.version);
   const label = row.side === SNAPSHOT ? `▣ ${version}` : `${short[row.method] ?? ""}${version}`;
   const made = eventLink(row.event, label);
-  made.className = `chip ${row.side === SNAPSHOT ? "chip-snapshot" : ""} ${row.violation ? "chip-bad" : ""}`;
+  made.className = "chip";
+  made.classList.toggle("chip-snapshot", row.side === SNAPSHOT);
+  made.classList.toggle("chip-bad", row.violation !== null);
   const what = row.side === SNAPSHOT ? "snapshot of version" : row.method;
   return titled(made, `event ${row.event}: ${what} ${version}`);
 }
 
 function isOfText(row) {
-  return row.side === SNAPSHOT || (row.side === EDITOR && /didOpen|didChange|didClose|didSave/.test(row.method));
+  const isOfEditor = row.side === EDITOR && /\/did(Open|Change|Close|Save)$/.test(row.method);
+  return row.side === SNAPSHOT || isOfEditor;
 }
 
 // The chips that are shown: all, or those around the first violation and at both ends.
@@ -117,7 +116,8 @@ function chosenChips(found) {
   }
   const bad = found.findIndex((row) => row.violation);
   const third = MOST_CHIPS / 3, middle = bad < 0 ? 0 : bad;
-  const isShown = (at) => at < third || at >= found.length - third || Math.abs(at - middle) <= third / 2;
+  const isShown = (at) =>
+    at < third || at >= found.length - third || Math.abs(at - middle) <= third / 2;
   const chips = [];
   let left = 0;
   found.forEach((row, at) => {
@@ -151,7 +151,8 @@ function documentsPart(filter) {
   const shown = (numbers) => numbers.map((number) => documentPart(number, filter));
   const rest = found.slice(MOST_DOCUMENTS);
   return element("section", "card", element("h2", "", "Documents"),
-    element("p", "quiet", "Versions that the editor’s messages set, and snapshots of its own text (▣)."),
+    element("p", "quiet", "Versions that its messages set, and snapshots of its text (▣)."),
     ...shown(found.slice(0, MOST_DOCUMENTS)),
-    rest.length ? folded(count(rest.length, "more document"), () => element("div", "", ...shown(rest))) : null);
+    rest.length === 0 ? null :
+      folded(count(rest.length, "more document"), () => element("div", "", ...shown(rest))));
 }

@@ -1,19 +1,28 @@
 // What is searched for, and which rows it leaves.
 
+const CHOICES = new Map([
+  ["editor", (row) => row.side === EDITOR],
+  ["server", (row) => row.side === SERVER],
+  ["snapshots", (row) => row.side === SNAPSHOT],
+  ["violations", (row) => row.violation !== null],
+  ["requests without answer", (row) => row.kind === "request" && !row.partner],
+]);
+
 class Search {
   constructor(lanes) {
     this.lanes = lanes;
     this.words = this.input("search", "method or words", "Search by method or words ( / )");
     this.document = this.choice("every document", session.documents.map((uri) => baseName(uri)));
-    this.side = this.choice("both sides", ["editor", "server", "snapshots", "violations", "requests without answer"]);
+    this.side = this.choice("both sides", [...CHOICES.keys()]);
     this.id = this.input("id", "id", "Search by the id of a request");
     this.found = element("span", "found quiet");
     this.clear = button("plain", "clear", () => this.reset());
     this.clear.hidden = true;
-    const methods = element("datalist", "", ...session.methods.map((method) => titledOption(method)));
+    const methods = element("datalist", "", ...session.methods.map(suggestion));
     methods.id = "methods";
     this.words.setAttribute("list", "methods");
-    this.node = element("form", "search", this.words, this.document, this.side, this.id, this.found, this.clear);
+    this.node = element("form", "search", this.words, this.document, this.side, this.id,
+      this.found, this.clear, methods);
     this.node.addEventListener("submit", (event) => event.preventDefault());
     this.node.addEventListener("input", () => this.apply());
   }
@@ -39,9 +48,8 @@ class Search {
   }
 
   isSideOf(row) {
-    const tests = [row.side === EDITOR, row.side === SERVER, row.side === SNAPSHOT, row.violation !== null,
-      row.kind === "request" && !row.partner];
-    return tests[Number(this.side.value)] ?? true;
+    const isChosen = [...CHOICES.values()][Number(this.side.value)];
+    return isChosen ? isChosen(row) : true;
   }
 
   isFound(row, words, id, documentNumber) {
@@ -86,7 +94,8 @@ class Search {
   }
 }
 
-function titledOption(value) {
+// What the browser offers while a method is typed.
+function suggestion(value) {
   const option = element("option", "");
   option.value = value;
   return option;

@@ -22,8 +22,8 @@ function escapedByte(character) {
   return code >= 0xdc80 && code <= 0xdcff ? "\\x" + (code - 0xdc00).toString(16) : null;
 }
 
-// What is shown for a character, or null if it is shown as it is. With `all`, also marks that belong
-// to the character before them.
+// What is shown for a character, or null if it is shown as it is. With `all`, also for marks that
+// belong to the character before them.
 function shownFor(character, all) {
   if (COMBINING.test(character)) {
     return all ? "◌" + character : null;

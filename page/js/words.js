@@ -87,14 +87,16 @@ const LINES = {
   change: ["Edit", shownChange],
   length: ["That line", ([units]) => [`is ${units} units long, without its line end`]],
   inside: ["Inside", ([text]) => ["the column falls into the character ", shownText(text)]],
-  fits: ["It would fit", (names) => [`if columns were counted in ${names.join(" or ").toUpperCase()}`]],
+  fits: ["It would fit", (names) => [
+    `if columns were counted in ${names.join(" or ").toUpperCase()}`,
+  ]],
   bytes: ["Size", ([count]) => [`the text would have ${count} bytes`]],
   limit: ["Limit", ([count]) => [`${count} bytes`]],
   at: ["First difference", ([line, column]) => [shownPlace(line, column) + shownCounting(line)]],
   "by-messages": ["By the messages", shownPart],
   "in-editor": ["In the editor", shownPart],
   saved: ["Saved", shownPart],
-  "line-ends": ["Line ends", () => ["only line ends differ: --ignore-line-ends accepts both texts"]],
+  "line-ends": ["Line ends", () => ["nothing else differs: see --ignore-line-ends"]],
   kept: ["Kept versions", (versions) => [versions.join(", ")]],
   snapshot: ["Differs from", (by) => shownEvent(by)],
   equal: ["Last equal", ([version, ...by]) => [`at version ${version}: `, ...shownEvent(by)]],
@@ -106,7 +108,9 @@ const LINES = {
   asked: ["Still open", (by) => ["the request with this id: ", ...shownEvent(by)]],
   open: ["Meant perhaps", ([, ...by], [id]) => [`the open request ${id}: `, ...shownEvent(by)]],
   answered: ["Answered", (by) => ["already by ", ...shownEvent(by)]],
-  request: ["Unanswered", ([, method, ...by], [id]) => [shownText(method), ` ${id}, `, ...shownEvent(by)]],
+  request: ["Unanswered", ([, method, ...by], [id]) => [
+    shownText(method), ` ${id}, `, ...shownEvent(by),
+  ]],
   token: ["Token", (_, [id]) => [shownText(id)]],
   expected: ["Expected", (_, [id]) => ["the token of initialize, ", shownText(id)]],
   phase: ["State", ([name]) => [PHASES[name] ?? name]],
@@ -134,15 +138,22 @@ function inWords(line) {
   }
 }
 
+// A note that begins with a method or a URI, and ends with an event.
+function noteOn(words) {
+  return ([text, ...by]) => [shownText(text), ` ${words}: `, ...shownEvent(by)];
+}
+
 const NOTES = {
-  "as-notification": ([method, ...by]) => [shownText(method), " is a request in LSP 3.17, and was sent as a notification: ", ...shownEvent(by)],
-  "as-request": ([method, ...by]) => [shownText(method), " is a notification in LSP 3.17, and was sent as a request: ", ...shownEvent(by)],
-  "by-editor": ([method, ...by]) => [shownText(method), " is sent only by servers in LSP 3.17; the editor sent it: ", ...shownEvent(by)],
-  "by-server": ([method, ...by]) => [shownText(method), " is sent only by editors in LSP 3.17; the server sent it: ", ...shownEvent(by)],
-  "exit-without-shutdown": (by) => ["The editor sent exit without a shutdown before it: ", ...shownEvent(by)],
-  "offset-encoding": ([name]) => [`The server answered with the older member offsetEncoding, ${name}: columns may be counted in it`],
-  renamed: ([uri, ...by]) => [shownText(uri), " was renamed, and is still opened or changed under this name: ", ...shownEvent(by)],
-  "nothing-compared": () => ["No snapshot was compared, so this verdict says little about the texts"],
+  "as-notification": noteOn("is a request in LSP 3.17, and was sent as a notification"),
+  "as-request": noteOn("is a notification in LSP 3.17, and was sent as a request"),
+  "by-editor": noteOn("is sent only by servers in LSP 3.17, and the editor sent it"),
+  "by-server": noteOn("is sent only by editors in LSP 3.17, and the server sent it"),
+  "exit-without-shutdown": (by) => ["The editor sent exit without shutdown: ", ...shownEvent(by)],
+  "offset-encoding": ([name]) => [
+    `The server names ${name} in the older member offsetEncoding: it may count columns in it`,
+  ],
+  renamed: noteOn("was renamed, and is still opened or changed under this name"),
+  "nothing-compared": () => ["No snapshot was compared: yes says little about the texts"],
   "no-snapshot": ([uri]) => [shownText(uri), " was changed, and no snapshot of it was compared"],
 };
 

@@ -149,9 +149,11 @@ def marks_what_differs(page):
     assert any(logs.EVIL in it for it in cells), cells
     assert page.run("return document.images.length + document.querySelectorAll('iframe, object').length") == 0
     assert page.run("return document.scripts.length") == len(re.findall("<script", page.path.read_text()))
-    for event in range(1, 12):
+    for event in range(1, 13):
         page.run("location.hash = arguments[0]", f"#event-{event}")
         page.wait("return document.querySelector('.selected .number')?.innerText === arguments[0]", str(event))
+        page.run("document.querySelectorAll('details').forEach((it) => { it.open = true; })")
+        page.run("return new Promise((done) => setTimeout(done))")
     assert not (found := page.log()), found
 
 

@@ -88,6 +88,7 @@ def hostile():
         frame(b"S", notification("window/logMessage", {"type": [EVIL], "message": {EVIL: EVIL}})),
         frame(b"E", changed(EVIL_URI, 2, edit((0, 0), (0, 1), EVIL))),
         snapshot(EVIL_URI, 2, f"{EVIL}other"),
+        frame(b"E", changed(EVIL_URI, 3, {"range": EVIL, "text": EVIL})),
         frame(b"S", EVIL.encode() + b"\xff\xfe"),
     ])
 

@@ -12,7 +12,7 @@ HERE = Path(__file__).resolve().parent
 
 
 def node(script, given):
-    """What a script writes, as JSON, for a value that it reads as JSON."""
+    """What a script writes for a value that it is given, both in JSON."""
     assert shutil.which("node"), "there is no node"
     words = ["node", HERE / script]
     done = subprocess.run(words, input=json.dumps(given), capture_output=True, text=True, timeout=120)
