@@ -73,5 +73,5 @@ function columnsPart(violation, row) {
   return element("section", "line-columns",
     element("h3", "", `Line ${line} before this change `, source("page")),
     columnsTable(cells, cellAt(cells, column, session.encoding), encodings),
-    element("p", "quiet", `In ${session.encoding.toUpperCase()}, the message has column ${column}.`));
+    element("p", "quiet", `The message has column ${column}, in ${session.encoding}.`));
 }
