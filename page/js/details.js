@@ -237,12 +237,12 @@ function detailsOf(row) {
   if (row.violation) {
     made.append(violationPart(row.violation));
   }
-  made.append(contentPart(row));
   if (row.method === "textDocument/didChange" && row.side === EDITOR && hasText(row)) {
     made.append(folded("What this message changed", () => whatChanged(row)));
   }
   if (hasText(row)) {
     made.append(folded("The text after this event", () => textAfter(row)));
   }
+  made.append(contentPart(row));
   return made;
 }

@@ -1,7 +1,7 @@
 // The two lanes: only what is seen is in the tree of the page. Each row has the same height; an
 // open one has its details below it, whose height is measured.
 
-const SPINE = 132, TRACKS = 4, MARGIN = 600, MOST_PRINTED = 1500;
+const SPINE = 132, TRACKS = 6, MARGIN = 600, MOST_PRINTED = 1500;
 
 // The rows of the lanes: those of events, of gaps where a long log was cut, and of the end.
 function laneItems() {
@@ -51,7 +51,7 @@ function layTracks() {
 layTracks();
 
 function xOfTrack(side, track) {
-  return side === EDITOR ? 38 - track * 8 : SPINE - 38 + track * 8;
+  return side === EDITOR ? 40 - track * 6 : SPINE - 40 + track * 6;
 }
 
 function svg(tag, attributes) {

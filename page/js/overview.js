@@ -151,7 +151,7 @@ function documentsPart(filter) {
   const shown = (numbers) => numbers.map((number) => documentPart(number, filter));
   const rest = found.slice(MOST_DOCUMENTS);
   return element("section", "card", element("h2", "", "Documents"),
-    element("p", "quiet", "Versions that its messages set, and snapshots of its text (▣)."),
+    element("p", "quiet", "The versions that messages set, and the snapshots (▣), in order."),
     ...shown(found.slice(0, MOST_DOCUMENTS)),
     rest.length === 0 ? null :
       folded(count(rest.length, "more document"), () => element("div", "", ...shown(rest))));
