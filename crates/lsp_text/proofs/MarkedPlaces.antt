@@ -1,11 +1,9 @@
 -- The places after line ends, by marks on the bytes that may end a line.
 use Rattle.std.proofs.Common.{◌≡◌, ◌≢◌, ◌↔◌, ◌<◌, ◌≤◌, ◌+◌, ◌-◌, ◌&&◌, ◌||◌, ℕ, zero, suc, Bool}
 use Rattle.std.proofs.Common.{true, false, cond, eqb, List, [], ◌∷◌, ◌++◌, length, take, drop, map}
-use Rattle.std.proofs.Common.{get_or, max, bit_or, refl, sym, ap, subst, ◌∙◌, ⊎_elim, arith, append_assoc}
-use lib.ListN.{set}
-use mir.Val.{bool_byte}
-use Rattle.std.proofs.lemmas.List.{drop_more, get_or_past, take-set, take_more_set}
-use Rattle.std.proofs.lemmas.Bool.{true≢false, false≢true, cond-false, cond-true, cases_lt, cases_eq}
+use Rattle.std.proofs.Common.{get_or, max, bit_or, refl, sym, ap, ◌∙◌, ⊎_elim, arith}
+use Rattle.std.proofs.lemmas.List.{drop_more, get_or_past}
+use Rattle.std.proofs.lemmas.Bool.{true≢false, false≢true, cond-false, cases_lt, cases_eq}
 use Rattle.std.proofs.lemmas.Simd.{get_or-chunk, length-chunk, bit_mask_l}
 use Rattle.std.proofs.lemmas.Nat.Bits.{bit_at_or, bit_at-zero}
 use Rattle.std.specs.Int.{bit_at}
@@ -120,83 +118,6 @@ pub none_left : (bs old places : List ℕ) (at from left : ℕ) → AreLeft bs a
 none_left bs old places at from left h room is so_far =
     up_to_mark bs places at from left 64 h room (omega arith) h.high (λ j lt. ap (λ (m : ℕ). bit_at m j) is ∙ bit_at-zero j) ∙ so_far
 
--- ---- places that are written
-
-pushed : (bs places : List ℕ) (i : ℕ) → i < length bs → is_end_at bs i ≡ true → ArePlacesTo bs i places (i + 1) (places ++ (i + 1) ∷ [])
-pushed bs places i lt is =
-    let more = places_behind (i + 1) (drop (i + 1) bs) in
-    append_assoc places ((i + 1) ∷ []) more ∙ ap (λ (xs : List ℕ). places ++ xs) (sym (places_at bs i lt ∙ cond-true _ _ _ is))
-
--- the marks that are left are those from some byte on, up to which the places are written behind those of `old`
-pub record AreWritten (bs : List ℕ) (at count : ℕ) (old : List ℕ) (end left : ℕ) (room : List ℕ) : Type 0 where
-  pub from : ℕ
-  pub left_are : AreLeft bs at from left
-  pub places : ArePlacesTo bs at old from (take end room)
-  pub most : end + at ≤ count + from
-
-pub none_written : (bs : List ℕ) (at count marks : ℕ) (room : List ℕ) → at + 64 ≤ length bs → IsMarked (take 64 (drop at bs)) marks →
-    AreWritten bs at count (take count room) count marks room
-none_written bs at count marks room within are =
-    record { from = at; left_are = all_left bs at marks within are; places = refl; most = omega arith }
-
--- what is written behind the places leaves them
-pub same_written : (bs : List ℕ) (at count : ℕ) (old : List ℕ) (end left : ℕ) (room : List ℕ) (place : ℕ) → AreWritten bs at count old end left room →
-    AreWritten bs at count old end left (set room end place)
-same_written bs at count old end left room place h =
-    record {
-      from = h.from;
-      left_are = h.left_are;
-      places = subst (λ (x : List ℕ). ArePlacesTo bs at old h.from x) (sym (take-set room end place)) h.places;
-      most = h.most;
-    }
-
--- what the first mark brings
-pub record IsFirst (left k less : ℕ) : Type 0 where
-  pub set : bit_at left k ≡ 1
-  pub below : (j : ℕ) → j < k → bit_at left j ≡ 0
-  pub cleared : bit_at less k ≡ 0
-  pub kept : (j : ℕ) → j < 64 → j ≢ k → bit_at less j ≡ bit_at left j
-  pub no_more : (j : ℕ) → bit_at less j ≡ 1 → bit_at left j ≡ 1
-
--- the byte at the first mark ends a line, and its place is written
-pub one_written : (bs : List ℕ) (at count : ℕ) (old : List ℕ) (end left : ℕ) (room : List ℕ) (k less : ℕ) → at + 64 ≤ length bs → end < length room → IsFirst left k less →
-    is_end_at bs (at + k) ≡ true → AreWritten bs at count old end left room → AreWritten bs at count old (end + 1) less (set room end (at + k + 1))
-one_written bs at count old end left room k less within fits f is h =
-    let there = h.left_are.within k f.set in
-    let now : take (end + 1) (set room end (at + k + 1)) ≡ take end room ++ (at + k + 1) ∷ [] = take_more_set room end (at + k + 1) fits in
-    record {
-      from = at + k + 1;
-      left_are = next_left bs at h.from left k less h.left_are f.set f.below f.cleared f.kept f.no_more;
-      places =
-          subst (λ (x : List ℕ). ArePlacesTo bs at old (at + k + 1) x) (sym now)
-          (pushed bs (take end room) (at + k) (omega (arith, there.1)) is
-          ∙ up_to_mark bs (take end room) at h.from left k h.left_are within (omega (arith, there.1)) there.0 f.below ∙ h.places);
-      most = omega (arith, h.most, there.0);
-    }
-
--- it ends none, and its place is left out
-pub none_written_at : (bs : List ℕ) (at count : ℕ) (old : List ℕ) (end left : ℕ) (room : List ℕ) (k less : ℕ) → at + 64 ≤ length bs → IsFirst left k less →
-    is_end_at bs (at + k) ≡ false → AreWritten bs at count old end left room → AreWritten bs at count old end less room
-none_written_at bs at count old end left room k less within f is h =
-    let there = h.left_are.within k f.set in
-    record {
-      from = at + k + 1;
-      left_are = next_left bs at h.from left k less h.left_are f.set f.below f.cleared f.kept f.no_more;
-      places =
-          not_pushed bs (take end room) (at + k) (omega (arith, there.1)) is
-          ∙ up_to_mark bs (take end room) at h.from left k h.left_are within (omega (arith, there.1)) there.0 f.below ∙ h.places;
-      most = omega (arith, h.most, there.0);
-    }
-
--- whether it ends one
-pub next_written : (bs : List ℕ) (at count : ℕ) (old : List ℕ) (end left : ℕ) (room : List ℕ) (k less : ℕ) (is : Bool) → at + 64 ≤ length bs → end < length room → IsFirst left k less →
-    is ≡ is_end_at bs (at + k) → AreWritten bs at count old end left room → AreWritten bs at count old (end + bool_byte is) less (set room end (at + k + 1))
-next_written bs at count old end left room k less true within fits f e h = one_written bs at count old end left room k less within fits f (sym e) h
-next_written bs at count old end left room k less false within fits f e h =
-    let same : end ≡ end + 0 = omega arith in
-    subst (λ (n : ℕ). AreWritten bs at count old n less (set room end (at + k + 1))) same
-    (same_written bs at count old end less room (at + k + 1) (none_written_at bs at count old end left room k less within f (sym e) h))
-
 -- ---- the marks of a block
 
 one_if : (b : Bool) → (cond {A = ℕ} b 1 0 ≡ 1) ↔ (b ≡ true)
@@ -229,48 +150,3 @@ marked_by bs feeds returns f r k =
     ap (λ (m : ℕ). bit_at (bit_or m returns) k) f ∙ ap (λ (m : ℕ). bit_at (bit_or (mask_l (map (λ x. eqb x 10) bs)) m) k) r ∙ marks_at bs k in
     let t = one_if (is_mark (get_or bs k 0)) in
     (λ h. t.0 (sym e ∙ h), λ h. e ∙ t.1 h)
-
--- where no byte is a CR, each byte that is marked ends a line
-no_return_at : (block : List ℕ) (returns k : ℕ) → returns ≡ mask_l (map is_return block) → returns ≡ 0 → is_return (get_or block k 0) ≡ false
-no_return_at block returns k are none =
-    let zero_bit : bit_at (mask_l (map is_return block)) k ≡ 0 = ap (λ (m : ℕ). bit_at m k) (sym are ∙ none) ∙ bit_at-zero k in
-    let bit = bit_mask_l (map is_return block) k ∙ ap (λ (b : Bool). cond {A = ℕ} b 1 0) (test_at is_return block k refl) in
-    false_unless (is_return (get_or block k 0)) (λ t. let one : cond {A = ℕ} (is_return (get_or block k 0)) 1 0 ≡ 1 = ap (λ (b : Bool). cond {A = ℕ} b 1 0) t in absurd (omega (arith, zero_bit, bit, one)))
-
-feed_ends : (f r s : Bool) → (f || r) ≡ true → r ≡ false → (f || (r && s)) ≡ true
-feed_ends true r s m n = refl
-feed_ends false true s m n = absurd (true≢false n)
-feed_ends false false s m n = absurd (false≢true m)
-
-pub marks_end : (bs : List ℕ) (at marks returns k : ℕ) → at + 64 ≤ length bs → IsMarked (take 64 (drop at bs)) marks → returns ≡ mask_l (map is_return (take 64 (drop at bs))) → returns ≡ 0 →
-    bit_at marks k ≡ 1 → is_end_at bs (at + k) ≡ true
-marks_end bs at marks returns k within are rs none set =
-    let lt = ((all_left bs at marks within are).within k set).1 in
-    let same : get_or (take 64 (drop at bs)) k 0 ≡ get_or bs (at + k) 0 = get_or-chunk at 64 bs k 0 lt in
-    feed_ends (is_feed (get_or bs (at + k) 0)) (is_return (get_or bs (at + k) 0)) _
-    (ap is_mark (sym same) ∙ (are k).0 set)
-    (ap is_return (sym same) ∙ no_return_at (take 64 (drop at bs)) returns k rs none)
-
--- what `lowest` and `without` say of the first mark
-pub is_first : (left k less : ℕ) → bit_at left k ≡ 1 → ((j : ℕ) → j < k → bit_at left j ≡ 0) → bit_at less k ≡ 0 →
-    ((j : ℕ) → j < 64 → j ≢ k → bit_at less j ≡ bit_at left j) → ((j : ℕ) → bit_at less j ≡ 1 → bit_at left j ≡ 1) → IsFirst left k less
-is_first left k less set below cleared kept no_more =
-    record { set = set; below = below; cleared = cleared; kept = kept; no_more = no_more }
-
--- **The places up to the end of the 64 bytes are written, where no mark is left.**
-pub all_written : (bs : List ℕ) (at count : ℕ) (old : List ℕ) (end left : ℕ) (room : List ℕ) → at + 64 ≤ length bs → left ≡ 0 → AreWritten bs at count old end left room →
-    ArePlacesTo bs at old (at + 64) (take end room)
-all_written bs at count old end left room within is h = none_left bs old (take end room) at h.from left h.left_are within is h.places
-
--- the same of what is equal
-pub written_as : (bs : List ℕ) (at count : ℕ) (old : List ℕ) (end left : ℕ) (room : List ℕ) (end' left' : ℕ) (room' : List ℕ) → end' ≡ end → left' ≡ left → room' ≡ room →
-    AreWritten bs at count old end left room → AreWritten bs at count old end' left' room'
-written_as bs at count old end left room end' left' room' e l r h =
-    subst (λ (x : List ℕ). AreWritten bs at count old end' left' x) (sym r)
-    (subst (λ (m : ℕ). AreWritten bs at count old end' m room) (sym l) (subst (λ (n : ℕ). AreWritten bs at count old n left room) (sym e) h))
-
--- the same behind other places
-pub behind_others : (bs front old new : List ℕ) (from to : ℕ) → ArePlacesTo bs from old to new → ArePlacesTo bs from (front ++ old) to (front ++ new)
-behind_others bs front old new from to h =
-    append_assoc front new (places_behind to (drop to bs)) ∙ ap (λ (x : List ℕ). front ++ x) h
-    ∙ sym (append_assoc front old (places_behind from (drop from bs)))

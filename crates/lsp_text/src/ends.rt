@@ -4,15 +4,12 @@ ghost use Rattle.std.specs.Prelude.{◌≡◌, ◌+◌, ◌-◌, ◌≤◌, ◌<
 ghost use Rattle.std.specs.Prelude.{IfOk, OnOk, IsTrue, EachIndex, slice_index};
 ghost use Rattle.lsp_text.specs.Lines.{starts_with_feed};
 ghost use Rattle.lsp_text.specs.Ends.{ends_in, is_end_at, places_behind, moved_place, CanMove};
-ghost use Rattle.lsp_text.specs.Ends.{IsEndAt, ArePlacesTo, IsCountUpTo};
+ghost use Rattle.lsp_text.specs.Ends.{IsEndAt, IsMarked, ArePlacesTo, IsCountUpTo};
 
 use crate::cut::FirstLine;
-use crate::marks::{feeds_in, lowest, returns_in, without};
+use crate::marks::{lowest, marks_in, without};
 use std::alloc::{AllocError, Global};
 use std::simd::u8x64;
-
-/// How many places are found before they are put after the others.
-const ROOM: usize = 192;
 
 /// The places after the line ends of a short text.
 pub(crate) fn places_of(alloc: Global, text: &str) -> Result<Vec<u16>, AllocError>
@@ -21,58 +18,33 @@ pub(crate) fn places_of(alloc: Global, text: &str) -> Result<Vec<u16>, AllocErro
 {
     let bytes = text.as_bytes();
     let mut places = Vec::with_capacity(alloc, bytes.len() / 24)?;
-    let mut room = [0; ROOM];
-    let mut count = 0;
     let mut at = 0;
     while at + 64 <= bytes.len() {
-        if count >= ROOM - 64 {
-            places.extend_from_slice(&room[..count])?;
-            count = 0;
-        }
-        count = write_places(&mut room, count, bytes, at);
+        let marks = marks_in(u8x64::from_slice(&bytes[at..]));
+        push_marked(&mut places, bytes, at, marks)?;
         at += 64;
     }
-    places.extend_from_slice(&room[..count])?;
     for i in at..bytes.len() {
         push_if_end(&mut places, bytes, i)?;
     }
     Ok(places)
 }
 
-/// Writes the places after the line ends among 64 bytes after the first ones of the room, and gives
-/// how many there are then. Most texts have no CR.
+/// Puts the places after the line ends among 64 bytes after others.
 #[inline(always)]
-fn write_places(room: &mut [u16; ROOM], count: usize, bytes: &[u8], at: usize) -> usize
+fn push_marked(places: &mut Vec<u16>, bytes: &[u8], at: usize, marks: u64) -> Result<(), AllocError>
     requires short { length bytes.now ≤ 65535 }
     requires within { at + 64 ≤ length bytes.now }
-    requires room { count + 64 < ROOM }
-    ensures places { ArePlacesTo bytes.now at (take count room.old) (at + 64)
-        (take result room.new) }
-    ensures most { result ≤ count + 64 }
+    requires marks { IsMarked (take 64 (drop at bytes.now)) marks }
+    ensures { OnOk result (ArePlacesTo bytes.now at places.old.items (at + 64) places.new.items) }
 {
-    let block = u8x64::from_slice(&bytes[at..]);
-    let returns = returns_in(block);
-    let mut left = feeds_in(block) | returns;
-    let mut end = count;
-    if returns == 0 {
-        // Four places are written in any case: source text mostly has fewer line ends in 64 bytes,
-        // and a loop over them would end after a number of turns that the processor can't foresee.
-        for _ in 0..4 {
-            let k = lowest(left);
-            room[end] = (at + k.min(63) + 1) as u16;
-            if left != 0 {
-                left = without(left, k);
-                end += 1;
-            }
-        }
-    }
+    let mut left = marks;
     while left != 0 {
         let k = lowest(left);
-        room[end] = (at + k + 1) as u16;
-        end += ends_at(bytes, at + k) as usize;
+        push_if_end(places, bytes, at + k)?;
         left = without(left, k);
     }
-    end
+    Ok(())
 }
 
 /// Puts the place after a byte after others, if it ends a line.

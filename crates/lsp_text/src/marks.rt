@@ -1,36 +1,28 @@
 //! Which of 64 bytes may end a line, as the bits of a number: bit `k` for byte `k`.
 
-ghost use Rattle.std.specs.Prelude.{◌≡◌, ◌≢◌, ℕ, ◌<◌, ◌≤◌, length, map};
+ghost use Rattle.std.specs.Prelude.{◌≡◌, ◌≢◌, ℕ, ◌<◌, length};
 ghost use Rattle.std.specs.Int.{bit_at};
-ghost use Rattle.std.specs.Simd.Lanes.{mask_l};
-ghost use Rattle.lsp_text.specs.Lines.{is_feed, is_return};
+ghost use Rattle.lsp_text.specs.Ends.{IsMarked};
 
 use std::simd::u8x64;
 
-/// Marks each LF.
+/// Marks each LF and each CR.
 #[inline(always)]
-pub(crate) fn feeds_in(block: u8x64) -> u64
+pub(crate) fn marks_in(block: u8x64) -> u64
     requires { length block ≡ 64 }
-    ensures { result ≡ mask_l (map is_feed block) }
+    ensures { IsMarked block result }
 {
-    block.simd_eq(u8x64::splat(b'\n')).to_bitmask()
+    let feeds = block.simd_eq(u8x64::splat(b'\n')).to_bitmask();
+    let returns = block.simd_eq(u8x64::splat(b'\r')).to_bitmask();
+    feeds | returns
 }
 
-/// Marks each CR.
-#[inline(always)]
-pub(crate) fn returns_in(block: u8x64) -> u64
-    requires { length block ≡ 64 }
-    ensures { result ≡ mask_l (map is_return block) }
-{
-    block.simd_eq(u8x64::splat(b'\r')).to_bitmask()
-}
-
-/// The first byte that is marked, or 64 if none is.
+/// The first byte that is marked.
 #[inline(always)]
 pub(crate) fn lowest(marks: u64) -> usize
-    ensures most { result ≤ 64 }
-    ensures bound { marks ≢ 0 → result < 64 }
-    ensures set { marks ≢ 0 → bit_at marks result ≡ 1 }
+    requires { marks ≢ 0 }
+    ensures bound { result < 64 }
+    ensures set { bit_at marks result ≡ 1 }
     ensures below { (k : ℕ) → k < result → bit_at marks k ≡ 0 }
 {
     marks.trailing_zeros() as usize

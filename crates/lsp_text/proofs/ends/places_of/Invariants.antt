@@ -1,4 +1,4 @@
-use Rattle.std.proofs.Common.{◌-◌, ◌<◌, ◌≤◌, [], ◌++◌, length, take}
+use Rattle.std.proofs.Common.{◌-◌, ◌≤◌, [], length}
 use Rattle.lsp_text.specs.Ends.{ArePlacesTo}
 use Rattle.lsp_text.proofs.ends.places_of.Given as goal
 
@@ -6,8 +6,7 @@ abbrev pub invariant-loop-at : goal.invariant-loop-at
 invariant-loop-at l =
     record {
       within : l.at ≤ length l.bytes;
-      room : l.count < 192;
-      are : ArePlacesTo l.bytes 0 [] l.at (l.places.items ++ take l.count l.room);
+      are : ArePlacesTo l.bytes 0 [] l.at l.places.items;
     }
 
 abbrev pub decreases-loop-at : goal.decreases-loop-at
