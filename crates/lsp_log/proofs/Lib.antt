@@ -1,7 +1,6 @@
 pub mod Numerals
 pub mod LogLemmas
 pub mod Bytes
-pub mod Ascii
 pub mod Heads
 pub mod Lines
 pub mod Tapes

@@ -10,7 +10,6 @@ use crate::head::{Head, read_head};
 use crate::record::Record;
 use crate::stop::Stop;
 use crate::tape::{PartFault, Tape, WINDOW};
-use crate::utf8::is_utf8;
 use lsp_frame::{Format, Limits, Source};
 use std::alloc::Global;
 
@@ -18,7 +17,7 @@ use std::alloc::Global;
 fn text_of(bytes: Vec<u8>) -> Result<String, Stop>
     ensures { TextAnswer bytes.items result }
 {
-    if !is_utf8(&bytes) {
+    if simdutf8::compat::from_utf8(&bytes).is_err() {
         return Err(Stop::Text);
     }
     Ok(unsafe { String::from_utf8_unchecked(bytes) })

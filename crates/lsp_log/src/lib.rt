@@ -17,7 +17,6 @@ mod reader;
 mod record;
 mod stop;
 mod tape;
-mod utf8;
 mod write;
 
 pub use fault::{LogCode, LogFault};
