@@ -50,7 +50,7 @@ endfunction
 function! s:Say(message) abort
   redraw
   echohl WarningMsg
-  echomsg strcharpart(a:message, 0, v:echospace)
+  echomsg strcharpart(a:message, 0, get(v:, 'echospace', &columns - 12))
   echohl None
 endfunction
 
