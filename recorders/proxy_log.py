@@ -35,10 +35,10 @@ def write_all(file, data):
         data = data[os.write(file, data) :]
 
 
-def is_readable(file):
-    """Whether there is something to read; not if the file is closed."""
+def is_readable(file, seconds=0):
+    """Whether there is something to read within some seconds; not if the file is closed."""
     try:
-        return bool(select.select([file], [], [], 0)[0])
+        return bool(select.select([file], [], [], seconds)[0])
     except OSError:
         return False
 
@@ -104,7 +104,10 @@ class Feed(threading.Thread):
 
 class Check(threading.Thread):
     """`lspcheck explain --all`, which reads the log while it is written. Each explanation is
-    passed to a function when it comes."""
+    passed to a function as soon as it is written."""
+
+    # An explanation ends with the next one, or with the number of all.
+    explanation = re.compile(rb"^no .*?(?=^no |^offences |\Z)", re.M | re.S)
 
     def __init__(self, options, tell):
         super().__init__(daemon=True)
@@ -117,12 +120,18 @@ class Check(threading.Thread):
         self.start()
 
     def run(self):
-        lines = []
-        for line in self.process.stdout:
-            lines.append(line)
-            if line == b"\n":
-                self.tell(lines)
-                lines = []
+        source, held = self.process.stdout.fileno(), b""
+        while data := os.read(source, 65536):
+            held += data
+            # What comes at once belongs together.
+            if not is_readable(source, 0.05):
+                self.tell_all(held)
+                held = b""
+        self.tell_all(held)
+
+    def tell_all(self, text):
+        for found in self.explanation.findall(text):
+            self.tell(found)
 
 
 LINE_ENDS = b"Two texts differ in line ends alone. This is said once, and then they are ignored.\n"
@@ -140,20 +149,16 @@ class Alarm:
         for check in self.checks:
             check.feed.put(data)
 
-    def tell(self, lines):
-        """Reports an explanation, if it is one of a violation."""
-        if not lines[0].startswith(b"no "):
-            return
-        text = b"".join(lines)
+    def tell(self, text):
         with contextlib.suppress(OSError), self.lock:
             write_all(2, text)
         with contextlib.suppress(OSError), open(self.path, "ab", opener=private) as file:
             file.write(text)
 
-    def tell_line_ends(self, lines):
-        if not self.has_told_line_ends and any(it.startswith(b"line-ends ") for it in lines):
+    def tell_line_ends(self, text):
+        if not self.has_told_line_ends and b"\nline-ends " in text:
             self.has_told_line_ends = True
-            self.tell([*lines[:-1], LINE_ENDS, b"\n"])
+            self.tell(text + LINE_ENDS)
 
     def end(self):
         for check in self.checks:

@@ -7,6 +7,7 @@ import stat
 import subprocess
 import sys
 import time
+from datetime import datetime, timedelta, timezone
 from pathlib import Path
 
 from session import PROXY, PYTHON, SECONDS, SERVER, Editor
@@ -72,12 +73,15 @@ def names(place):
     server = place / "my server"
     server.write_text(f"#!/bin/sh\nexec '{PYTHON}' -c '{SERVER}'\n")
     server.chmod(0o755)
-    before = time.strftime("%Y%m%dT%H%M%S")
-    Editor(place, server=[server]).start().quit()
-    after = time.strftime("%Y%m%dT%H%M%S")
+    here = timezone(timedelta(hours=5, minutes=30))
+    before = datetime.now(here).strftime("%Y%m%dT%H%M%S")
+    Editor(place, server=[server], setting={"TZ": "XYZ-5:30"}).start().quit()
+    after = datetime.now(here).strftime("%Y%m%dT%H%M%S")
     found = [it.name for it in (place / "logs").glob("*.log")]
     match = re.fullmatch(r"my_server-(\d{8}T\d{6})-\d+\.log", found[0])
     yield "server, local time, number", match and before <= match[1] <= after, found
+    ended = (place / "logs" / found[0]).with_suffix(".exit").read_text()
+    yield "the offset", ended.endswith("+05:30\n"), ended
     yield "the folder is the owner's", stat.S_IMODE((place / "logs").stat().st_mode) == 0o700, None
 
 
@@ -111,6 +115,22 @@ def next_name(place):
     yield "the next free name", good and not (place / "nowhere").exists(), found
 
 
+def no_session(place):
+    """There is no log of a process that the editor writes nothing to, nor of no process."""
+    script = place / "wrapper"
+    script.write_text(f'#!/bin/sh\nexec "{PROXY}" "{place}/logs" echo clangd "$@"\n')
+    script.chmod(0o755)
+    for words in [[PROXY, place / "logs", "echo", "clangd", "version"], [script, "version"]]:
+        how = {"stdin": subprocess.DEVNULL, "capture_output": True, "timeout": SECONDS}
+        run = subprocess.run(words, **how)
+        yield "what it writes is passed on", run.stdout == b"clangd version\n", run
+        yield "no log", not list((place / "logs").iterdir()), list((place / "logs").iterdir())
+    run = subprocess.run([PROXY, place / "logs", "no-such-server"], **how)
+    missing = b"proxy: no-such-server: No such file or directory\n"
+    yield "no server", (run.returncode, run.stderr) == (1, missing), run
+    yield "no log of none", not list((place / "logs").iterdir()), None
+
+
 def help_text(place):
     run = subprocess.run([PROXY, "--help"], capture_output=True, text=True)
     yield "--help", run.returncode == 0 and run.stdout.startswith("usage: proxy"), run
@@ -133,5 +153,6 @@ TESTS = {
     "names": names,
     "names: one number": same_number,
     "names: the next": next_name,
+    "names: none": no_session,
     "help": help_text,
 }

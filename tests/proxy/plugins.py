@@ -3,11 +3,7 @@
 import os
 import time
 
-from session import Editor
-
-
-def snapshot(uri, version, text):
-    return b"T %d %d %d\n%s\n%s\n" % (version, len(uri), len(text), uri, text)
+from session import Editor, snapshot
 
 
 def by_plugin(make, write):

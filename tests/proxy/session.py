@@ -156,6 +156,11 @@ def records(log):
         yield (kind, numbers, *contents)
 
 
+def snapshot(uri, version, text):
+    """A record of a snapshot."""
+    return b"T %d %d %d\n%s\n%s\n" % (version, len(uri), len(text), uri, text)
+
+
 def saved(place, name="a.c", text=b"one\n", shown=None):
     """A session with an open document whose file has this text."""
     file = place / name
