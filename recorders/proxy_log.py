@@ -1,7 +1,7 @@
 """The part of the proxy that writes the log. It runs in a process of its own, so that nothing that
 happens here holds up the session.
 
-This process reads what the proxy passes on, as records of a log. Besides those it reads the number
+This process reads what the proxy passes on, as records of a log. It also reads the number
 of the server's process (`P NUMBER`) and how the server ended (`X STATUS`, negative for a signal).
 """
 
@@ -248,11 +248,11 @@ class Log(threading.Thread):
 
     def start_alarm(self):
         try:
-            self.alarm = Alarm(self.beside("explain"))
+            self.alarm = Alarm(self.sibling("explain"))
         except OSError as error:
             say(f"lspcheck: {error.strerror}; the session is recorded but not checked")
 
-    def beside(self, extension):
+    def sibling(self, extension):
         """The path of another file of this session."""
         return self.path[: -len("log")] + extension
 
@@ -266,7 +266,7 @@ class Log(threading.Thread):
             return
         ended = f"status {status}" if status >= 0 else f"signal {-status} {name_of(-status)}"
         when = datetime.datetime.now().astimezone().isoformat(timespec="milliseconds")
-        path = self.beside("exit")
+        path = self.sibling("exit")
         try:
             with open(path, "w", opener=private) as file:
                 file.write(f"{ended}\ntime {when}\n")

@@ -1,6 +1,6 @@
 """The part of the proxy that takes snapshots: of files that the editor has saved, and those that a
 plug-in of the editor writes. Each of the two runs in a thread of its own. If it fails, it says so
-and takes no more snapshots; the log goes on.
+and takes no more snapshots; the log continues.
 """
 
 import json
@@ -83,9 +83,7 @@ def look_at(path):
 
 
 def read(path, state):
-    """The bytes of a file, if it has been in this state all along."""
-    if look_at(path) != state:
-        return None
+    """The bytes of a file, if it is still in this state when they are read."""
     try:
         with open(path, "rb", opener=without_waiting) as file:
             data = file.read(MOST_TEXT + 1)
@@ -283,7 +281,7 @@ class Plugin(threading.Thread):
         head = self.head.match(self.held)
         if head is None:
             if b"\n" in self.held or len(self.held) >= 64:
-                raise ValueError("this is no record of a snapshot")
+                raise ValueError("this is not a snapshot")
             return None
         version, uri_size, text_size = map(int, head.groups())
         middle = head.end() + uri_size

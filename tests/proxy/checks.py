@@ -1,10 +1,14 @@
-"""Tests of the check while the session runs, `--check`, and of logs with lspcheck itself."""
+"""Tests of logs with lspcheck itself: of `--check`, and of the extension for VS Code."""
 
 import os
+import shutil
 import subprocess
 import time
+from pathlib import Path
 
-from session import SECONDS, Editor, snapshot
+from session import PROXY, PYTHON, SECONDS, SERVER, Editor, snapshot
+
+HERE = Path(__file__).resolve().parent
 
 TITLE = b"file:///a"
 
@@ -29,7 +33,7 @@ def say_text(editor, version, text):
 
 
 def heads(editor, count, seconds=SECONDS):
-    """The first lines of so many explanations on standard error, and after how many seconds."""
+    """The first lines of this many explanations on standard error, and after how many seconds."""
     begun = time.monotonic()
     while True:
         found = [line for line in editor.words().split("\n") if line.startswith("no ")]
@@ -62,10 +66,10 @@ def tells_each(place, program):
     found, seconds = heads(editor, 3)
     is_told = found[2:] == ["no 404 editor 5 event 10"]
     yield "another violation", is_told and seconds < 1, (found, seconds)
-    yield "the session goes on", editor.quit() == 0, editor.words()
-    beside, = editor.logs.glob("*.explain")
-    yield "is beside the log, too", beside.read_text() == editor.words(), beside.read_text()
-    yield "nobody else reads it", beside.stat().st_mode & 0o777 == 0o600, beside.stat()
+    yield "the session continues", editor.quit() == 0, editor.words()
+    copy, = editor.logs.glob("*.explain")
+    yield "is next to the log, too", copy.read_text() == editor.words(), copy.read_text()
+    yield "nobody else reads it", copy.stat().st_mode & 0o777 == 0o600, copy.stat()
 
 
 def tells_nothing(place, program):
@@ -107,8 +111,34 @@ def finds_lost_change(place, program):
     editor.quit()
 
 
+def from_vscode(make, lost):
+    """A test of the extension for VS Code, with a stand-in of its API, that may lose a change."""
+
+    def trial(place, program):
+        snapshots, uri = place / "snapshots", "file:///a%20b.c"
+        make(snapshots)
+        setting = {**os.environ, "LSPCHECK_SNAPSHOTS": str(snapshots), "LOSE": str(lost or "")}
+        proxy = [PYTHON, "-B", PROXY, place / "logs", PYTHON, "-c", SERVER]
+        node = shutil.which("node") or "nodejs"
+        words = [node, HERE / "vscode.js", PROXY.parent / "vscode/extension.js", uri, *proxy]
+        run = subprocess.run(words, env=setting, capture_output=True, timeout=SECONDS)
+        yield "the client", run.returncode == 0, run.stderr
+        log, = (place / "logs").glob("*.log")
+        run = subprocess.run([program, "check", log], capture_output=True, text=True)
+        if lost:
+            is_found = run.stdout.startswith("no 702 snapshot ")
+            yield "a lost change is found", is_found, run.stdout
+        else:
+            wanted = ["yes", "messages 10 2", "snapshots 6 unmatched 0"]
+            found = run.stdout.split("\n")
+            yield "all texts are compared", found[:3] == wanted, run.stdout
+            yield "the last text", found[4] == f'document 6 {5 * 15 + 4} "{uri}"', found
+
+    return trial
+
+
 def without_program(script):
-    """A test with another program in the place of lspcheck, or none."""
+    """A test with another program instead of lspcheck, or none."""
 
     def trial(place, _):
         other = place / "other"
@@ -119,7 +149,7 @@ def without_program(script):
         begun = time.monotonic()
         goes_on = all(editor.ask("work", ["x" * 10_000]) for _ in range(100))
         status, seconds = editor.quit(), time.monotonic() - begun
-        yield "the session goes on", goes_on and status == 0, (status, editor.words())
+        yield "the session continues", goes_on and status == 0, (status, editor.words())
         yield "it ends in time", seconds < 15, seconds
         yield "the log is whole", editor.log().endswith(b'"exit"}\n'), editor.log()[-100:]
         wanted = "" if script else "proxy: lspcheck: No such file or directory; "
@@ -130,6 +160,9 @@ def without_program(script):
 
 
 TESTS = {
+    "vscode: a file": from_vscode(lambda path: path.write_bytes(b""), None),
+    "vscode: a named pipe": from_vscode(os.mkfifo, None),
+    "vscode: a lost change": from_vscode(lambda path: path.write_bytes(b""), 3),
     "check: each violation": tells_each,
     "check: no violation": tells_nothing,
     "check: a session": keeps_rules,

@@ -1,4 +1,4 @@
-"""Tests that a session goes on, whatever happens to what is recorded."""
+"""Tests that a session continues, whatever happens to what is recorded."""
 
 import json
 import os
@@ -55,11 +55,11 @@ def hostile(name):
         editor.process.stdin.close()
         got = editor.process.stdout.read()
         status = editor.wait()
-        yield "the session goes on", status == 0 and got.endswith(last), status
+        yield "the session continues", status == 0 and got.endswith(last), status
         kinds = {"E": b"", "S": b""}
         for kind, _, *contents in records(editor.log()):
             kinds[kind] = kinds.get(kind, b"") + contents[-1]
-        yield "the log goes on", kinds == {"E": got, "S": got}, editor.log()[-200:]
+        yield "the log continues", kinds == {"E": got, "S": got}, editor.log()[-200:]
         said = editor.words()
         is_said = said.startswith("proxy: no more snapshots of saved files: ")
         yield "it is said once", is_said and said.count("\n") == 1, said
@@ -78,13 +78,13 @@ def large_frame(place):
     seconds = time.monotonic() - begun
     yield "is passed on", is_answered and seconds < SECONDS, seconds
     yield "the next snapshot is taken", editor.taken(1) == [(1, b"one\n")], editor.words()
-    yield "the session goes on", editor.quit() == 0 and editor.words() == "", editor.words()
+    yield "the session continues", editor.quit() == 0 and editor.words() == "", editor.words()
     size = sum(len(it[2]) for it in records(editor.log()) if it[0] == "E")
     yield "is recorded", size > len(json.dumps(text)), size
 
 
 def keeps_going(editor, amount=100):
-    """Whether all of this many requests are answered, each with so many kilobytes."""
+    """Whether all of this many requests are answered, each with ten kilobytes."""
     return all(editor.ask("work", ["x" * 10_000]) for _ in range(amount))
 
 
@@ -100,7 +100,7 @@ def full_disk(place):
         editor = Editor(place, logs=disk / "logs", **how).start()
         goes_on = keeps_going(editor)
         status = editor.quit()
-        yield "the session goes on", goes_on and status == 0, (goes_on, status, editor.words())
+        yield "the session continues", goes_on and status == 0, (goes_on, status, editor.words())
         said = editor.words()
         is_said = "; the log ends here\n" in said and said.count("\n") == 1
         yield "it is said once", is_said, said
@@ -122,7 +122,7 @@ def no_folder(make):
         editor = Editor(place, logs=make(place)).start()
         goes_on = keeps_going(editor, 5)
         status = editor.quit()
-        yield "the session goes on", goes_on and status == 0, (goes_on, status)
+        yield "the session continues", goes_on and status == 0, (goes_on, status)
         said = editor.words()
         is_said = said.endswith("; nothing is recorded\n") and said.count("\n") == 1
         yield "it is said once", is_said, said
@@ -144,7 +144,7 @@ def folder_vanishes(place):
     editor = Editor(place).start()
     sent(editor)
     shutil.rmtree(editor.logs)
-    yield "the session goes on", keeps_going(editor) and editor.quit() == 0, editor.words()
+    yield "the session continues", keeps_going(editor) and editor.quit() == 0, editor.words()
     yield "it is said once", editor.words().count("\n") == 1, editor.words()
 
 
@@ -158,7 +158,7 @@ def recorder_stops(number):
         os.kill(recorder, number)
         goes_on = keeps_going(editor, 300)
         status = editor.quit()
-        yield "the session goes on", goes_on and status == 0, (goes_on, status)
+        yield "the session continues", goes_on and status == 0, (goes_on, status)
         if number == signal.SIGKILL:
             said = editor.words()
             yield "it is said once", said == "proxy: nothing more is recorded: Broken pipe\n", said

@@ -71,7 +71,7 @@ def bad_plugin(name):
         editor.has_open(path)
         first, last = snapshot(b"file:///a", 1, b"one"), snapshot(b"file:///a", 2, b"two")
         append(path, [first + BAD_SNAPSHOTS[name], last])
-        yield "the session goes on", editor.quit() == 0, editor.words()
+        yield "the session continues", editor.quit() == 0, editor.words()
         yield "nothing after it", editor.texts() == [(1, b"one")], editor.snapshots()
         said = editor.words()
         is_said = said.startswith(f"proxy: {path}: no more snapshots: ") and said.count("\n") == 1
@@ -83,7 +83,7 @@ def bad_plugin(name):
 def no_plugin(place):
     editor = Editor(place, setting={"LSPCHECK_SNAPSHOTS": "/proc/self/mem/x"}).start()
     time.sleep(0.2)
-    yield "the session goes on", editor.quit() == 0, editor.words()
+    yield "the session continues", editor.quit() == 0, editor.words()
     said = editor.words()
     is_said = said.startswith("proxy: /proc/self/mem/x: ") and said.count("\n") == 1
     yield "it is said once", is_said, said

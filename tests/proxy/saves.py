@@ -87,7 +87,7 @@ def written_again(write):
         write(file)
         time.sleep(1.3)
         yield "no snapshot", editor.texts() == [], editor.texts()
-        yield "the session goes on", editor.quit() == 0, editor.words()
+        yield "the session continues", editor.quit() == 0, editor.words()
 
     return trial
 
@@ -118,8 +118,8 @@ def become_pipe(file):
 
 
 def change_and_save(before, after, is_taken, clock=0):
-    """A test of a change so many seconds before or after the file is written, and of `didSave` so
-    many seconds later. The disk's clock may differ by some seconds."""
+    """A test of a change before or after the file is written, and of `didSave` after a number of
+    seconds. The disk's clock may differ by some seconds."""
 
     def write(file):
         file.write_bytes(b"two\n")
@@ -205,7 +205,7 @@ def spelled(place):
         editor.save(uri)
     editor.taken(len(good))
     time.sleep(0.2)
-    yield "the session goes on", editor.quit() == 0, editor.words()
+    yield "the session continues", editor.quit() == 0, editor.words()
     found = [uri.decode() for _, uri, _ in editor.snapshots()]
     yield "the files of this machine alone", found == good, set(found) ^ set(good)
     yield "nothing is said", editor.words() == "", editor.words()
@@ -234,7 +234,7 @@ def no_plain_files(place):
     editor.save(closed.as_uri())
     editor.taken(1)
     time.sleep(0.2)
-    yield "the session goes on", editor.quit() == 0, editor.words()
+    yield "the session continues", editor.quit() == 0, editor.words()
     found = [(uri.decode(), len(text)) for _, uri, text in editor.snapshots()]
     yield "the file of 16 MiB alone", found == [(uris[-1], 1 << 24)], found
     yield "nothing is said", editor.words() == "", editor.words()
@@ -256,7 +256,7 @@ TESTS = {
     "save: a change": calls_off(lambda editor, uri: editor.change(uri, 2, "two\n")),
     "save: closed": calls_off(lambda editor, uri: editor.close(uri)),
     "save: opened": calls_off(lambda editor, uri: editor.open(uri, "two\n", 2)),
-    "save: anew": begins_anew,
+    "save: again": begins_anew,
     "save: others": others_go_on,
     "save: the version": last_version,
     "save: written again": written_again(write_same_size),

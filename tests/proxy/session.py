@@ -37,7 +37,7 @@ while True:
 
 
 class Editor:
-    """An editor whose server runs behind the proxy, with a folder for its logs and its files."""
+    """An editor whose server the proxy runs, with a folder for its logs and its files."""
 
     def __init__(self, place, *options, server=(PYTHON, "-c", SERVER), logs=None, **how):
         self.place, self.logs = place, logs or place / "logs"
@@ -128,7 +128,7 @@ class Editor:
         return [(version, text) for version, _, text in self.snapshots()]
 
     def taken(self, count, seconds=15):
-        """The versions and texts of the snapshots, once there are so many."""
+        """The versions and texts of the snapshots, once there are this many."""
         end = time.monotonic() + seconds
         while len(self.texts()) < count and time.monotonic() < end:
             time.sleep(0.02)
