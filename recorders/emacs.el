@@ -1,19 +1,20 @@
 ;;; emacs.el --- Record eglot and lsp-mode sessions for lspcheck  -*- lexical-binding: t; -*-
 
 ;; Start Emacs with: emacs -l emacs.el FILE (or `load' it in the init file, before a server starts).
-;; Each server process gets a log of its own, SERVER-PID.log, in the folder $LSPCHECK_LOGS, which is
-;; created if it does not exist (default: the folder that Emacs was started in).
+;; Each server process gets a log of its own, SERVER-TIME-PID.log, and when it has ended, a file
+;; SERVER-TIME-PID.exit that says how. They go to the folder $LSPCHECK_LOGS, which is created if it
+;; does not exist (default: the folder that Emacs was started in). Only their owner can read them.
 
 (require 'subr-x)
 
 (defvar lspcheck-folder
   (expand-file-name (or (getenv "LSPCHECK_LOGS") "") command-line-default-directory)
   "Where the logs are written.")
-(make-directory lspcheck-folder t)
+(with-file-modes #o700 (make-directory lspcheck-folder t))
 
 (defvar lspcheck-alarm (not (member (getenv "LSPCHECK_ALARM") '(nil "")))
   "Whether `lspcheck explain' reads each log while it is written.
-A message and a window then show the first violation at once.")
+A message then shows each violation at once, and a window explains it.")
 
 (defconst lspcheck-most 1048576 "The most bytes of one record.")
 
@@ -21,40 +22,102 @@ A message and a window then show the first violation at once.")
   "STRING as the bytes that a server's pipe carries."
   (if (multibyte-string-p string) (encode-coding-string string 'utf-8-emacs-unix) string))
 
-(defun lspcheck--tell (alarm _event)
-  "Show the explanation of ALARM, a process of lspcheck, if it is about a violation."
-  (unless (process-live-p alarm)
-    (with-current-buffer (process-buffer alarm)
-      (goto-char (point-min))
-      (if (not (looking-at "no .*"))
-          (kill-buffer)
-        (display-buffer (current-buffer))
-        (message "lspcheck: %s" (match-string 0))))))
+(defun lspcheck--keep (file lines)
+  "Append LINES, a list, to the buffer of the violations in FILE, a log, and return that buffer."
+  (with-current-buffer (get-buffer-create
+                        (format "*lspcheck: %s*" (file-name-nondirectory file)))
+    (goto-char (point-max))
+    (insert (mapconcat #'identity lines "\n") "\n")
+    (current-buffer)))
 
-(defun lspcheck--start-alarm (name)
-  "Start lspcheck for a new log, NAME, if the user wants an alarm."
+(defun lspcheck--lines (hear)
+  "A filter that calls HEAR with the process and each line of its output, without the line end."
+  (let ((rest ""))
+    (lambda (process output)
+      (let ((lines (split-string (concat rest output) "\n")))
+        (setq rest (car (last lines)))
+        (dolist (line (butlast lines))
+          (funcall hear process line))))))
+
+(defun lspcheck--hear (file)
+  "A function that keeps each line about FILE, a log, and shows each violation."
+  (lambda (_process line)
+    (let ((buffer (lspcheck--keep file (list line))))
+      (when (string-match-p "\\`\\(no [0-9]\\|bad log \\)" line)
+        (display-buffer buffer)
+        (message "lspcheck: %s" line)))))
+
+(defun lspcheck--hear-line-ends (file)
+  "A function that shows the first violation in FILE, a log, that concerns line ends alone."
+  (let ((block nil))
+    (lambda (process line)
+      (setq block (cons line (unless (string-match-p "\\`no [0-9]" line) block)))
+      (when (and (string-prefix-p "line-ends " line) (process-live-p process))
+        (lspcheck--keep file (reverse block))
+        (message "lspcheck: %s, line ends alone" (car (last block)))
+        (delete-process process)))))
+
+(defun lspcheck--start-check (hear &rest options)
+  "Start `lspcheck explain --all' with OPTIONS; HEAR gets each line of its output."
+  (make-process :name "lspcheck" :command `("lspcheck" "explain" "--all" ,@options)
+                :connection-type 'pipe :coding '(utf-8-unix . binary) :noquery t
+                :filter (lspcheck--lines hear) :sentinel #'ignore))
+
+(defun lspcheck--start-alarm (file)
+  "Start what reads FILE, a new log, while it is written, if the user wants an alarm.
+Where line ends are converted on the way, texts differ from the first snapshot on.  So one process
+ignores line ends, and another is there only to say so once."
   (when (and lspcheck-alarm (executable-find "lspcheck"))
-    (make-process :name "lspcheck" :command '("lspcheck" "explain" "-") :connection-type 'pipe
-                  :buffer (generate-new-buffer (format "*lspcheck: %s*" name))
-                  :coding '(utf-8-unix . binary) :noquery t :sentinel #'lspcheck--tell)))
+    (list (lspcheck--start-check (lspcheck--hear file) "--ignore-line-ends")
+          (lspcheck--start-check (lspcheck--hear-line-ends file)))))
+
+(defun lspcheck--create (name)
+  "Create a log, NAME.log, and return its name; if that exists, there is a number in its name."
+  (let ((file nil) (number 0))
+    (while (not file)
+      (setq number (1+ number)
+            file (expand-file-name (format (if (= number 1) "%s.log" "%s-%d.log") name number)
+                                   lspcheck-folder))
+      (condition-case nil
+          (with-file-modes #o600 (write-region "" nil file nil 'quiet nil 'excl))
+        (file-already-exists (setq file nil))))
+    file))
+
+(defun lspcheck--begin (process)
+  "Create the log of PROCESS, and start what depends on it."
+  (let ((file (lspcheck--create (format "%s-%s-%d"
+                                        (file-name-nondirectory (car (process-command process)))
+                                        (format-time-string "%Y%m%dT%H%M%S")
+                                        (process-id process)))))
+    (process-put process 'lspcheck-log file)
+    (process-put process 'lspcheck-checks (lspcheck--start-alarm file))
+    (add-function :before (process-sentinel process) #'lspcheck--ended)
+    file))
+
+(defun lspcheck--ended (process _event)
+  "Write how PROCESS ended, if it did, to a file next to its log."
+  (when-let ((how (cdr (assq (process-status process) '((exit . "status") (signal . "signal"))))))
+    (with-file-modes #o600
+      (write-region (format "%s %d\ntime %s\n" how (process-exit-status process)
+                            (format-time-string "%Y-%m-%dT%H:%M:%S%z"))
+                    nil (concat (file-name-sans-extension (process-get process 'lspcheck-log))
+                                ".exit")
+                    nil 'quiet))
+    (dolist (check (process-get process 'lspcheck-checks))
+      (when (process-live-p check)
+        (process-send-eof check)))))
 
 (defun lspcheck--write (process &rest parts)
   "Append PARTS, which consist of bytes, to the log of PROCESS."
-  (let ((file (process-get process 'lspcheck-log)) (coding-system-for-write 'binary)
-        (head "") (write-region-inhibit-fsync t))
-    (unless file
-      (setq file (expand-file-name
-                  (format "%s-%d.log"
-                          (file-name-nondirectory (car (process-command process)))
-                          (process-id process))
-                  lspcheck-folder)
-            head "lsp-session 1\n")
-      (process-put process 'lspcheck-log file)
-      (process-put process 'lspcheck-alarm (lspcheck--start-alarm (file-name-nondirectory file))))
-    (let ((bytes (apply #'concat head parts)) (alarm (process-get process 'lspcheck-alarm)))
-      (write-region bytes nil file t 'quiet)
-      (when (process-live-p alarm)
-        (ignore-errors (process-send-string alarm bytes))))))
+  (let* ((coding-system-for-write 'binary) (write-region-inhibit-fsync t)
+         (file (process-get process 'lspcheck-log))
+         (head (if file "" "lsp-session 1\n"))
+         (bytes (apply #'concat head parts)))
+    (with-demoted-errors "lspcheck: not recorded: %S"
+      (write-region bytes nil (or file (lspcheck--begin process)) t 'quiet)
+      (dolist (check (process-get process 'lspcheck-checks))
+        (when (process-live-p check)
+          (ignore-errors (process-send-string check bytes)))))))
 
 (defun lspcheck--record (process side string)
   "Record that Emacs (SIDE \"E\") or PROCESS (SIDE \"S\") wrote STRING."

@@ -1,74 +1,147 @@
 -- Records what Neovim's built-in client and its language servers send each other, for lspcheck.
 -- Start Neovim with: nvim --cmd 'luafile neovim.lua' FILE (or use dofile at the top of init.lua).
--- Each server process gets a log of its own, SERVER-PID-NUMBER.log; PID is that of Neovim. The logs
--- go to the folder $LSPCHECK_LOGS, which is created if it does not exist (default: the folder that
--- Neovim was started in).
+-- Each server process gets a log of its own, SERVER-TIME-PID.log, and when it has ended, a file
+-- SERVER-TIME-PID.exit that says how. They go to the folder $LSPCHECK_LOGS, which is created if it
+-- does not exist (default: the folder that Neovim was started in). Only their owner can read them.
 -- With LSPCHECK_ALARM=1, and lspcheck on the PATH, a message appears as soon as a rule is broken or
 -- the texts drift apart.
 
 local uv = vim.uv or vim.loop
 local most = 1048576 -- the most bytes of one record
-local count, started = 0, nil
+local owner_file, owner_folder = tonumber("600", 8), tonumber("700", 8)
+local started = nil
 local log_of_pipe = setmetatable({}, { __mode = "k" })
 local log_of_rpc = setmetatable({}, { __mode = "k" })
 
 -- An absolute path, so that the logs stay in one folder after `:cd`.
 local folder = os.getenv("LSPCHECK_LOGS")
 folder = vim.fn.fnamemodify(folder ~= "" and folder or ".", ":p")
-vim.fn.mkdir(folder, "p")
+-- If another Neovim creates the same folders at this moment, one of the two fails.
+for _ = 1, 9 do
+  if pcall(vim.fn.mkdir, folder, "p", owner_folder) then
+    break
+  end
+end
 
 local pipe = getmetatable(uv.new_pipe(false)).__index
 local write, read_start = pipe.write, pipe.read_start
 local start, spawn = vim.lsp.rpc.start, uv.spawn
 
--- Shows a message, and puts the whole explanation into a buffer.
-local function tell(log, explanation)
-  local buffer = vim.api.nvim_create_buf(true, true)
-  vim.api.nvim_buf_set_name(buffer, "lspcheck: " .. log.name)
-  vim.api.nvim_buf_set_lines(buffer, 0, -1, true, vim.split(explanation, "\n"))
-  local first = explanation:match("[^\n]*")
-  vim.notify(("lspcheck: %s (:buffer %d)"):format(first, buffer), vim.log.levels.ERROR)
+-- Shows one line. A longer one, or a second one on the same screen, would wait for a key.
+local function say(message)
+  vim.cmd("redraw")
+  vim.notify(vim.fn.strcharpart(message, 0, vim.v.echospace), vim.log.levels.WARN)
 end
 
--- `lspcheck explain -` reads the log while it is written, and ends at the first violation.
-local function start_alarm(log)
-  local input, output, explanation = uv.new_pipe(false), uv.new_pipe(false), ""
-  spawn("lspcheck", { args = { "explain", "-" }, stdio = { input, output } }, function() end)
-  log.alarm = input
+-- Adds lines to the buffer of a log's violations, which has the log's name.
+local function keep(log, lines)
+  if not (log.buffer and vim.api.nvim_buf_is_valid(log.buffer)) then
+    log.buffer = vim.api.nvim_create_buf(true, true)
+    vim.api.nvim_buf_set_name(log.buffer, "lspcheck: " .. log.name)
+    vim.api.nvim_buf_set_lines(log.buffer, 0, -1, true, { "lspcheck explain --all " .. log.path })
+  end
+  vim.api.nvim_buf_set_lines(log.buffer, -1, -1, true, lines)
+end
+
+-- Starts `lspcheck explain --all`, which reads the log while it is written and explains each
+-- violation at once. `hear` gets each line.
+local function start_check(log, option, hear)
+  local check = { input = uv.new_pipe(false) }
+  local output, rest = uv.new_pipe(false), ""
+  local options = { args = { "explain", "--all", option }, stdio = { check.input, output } }
+  if not spawn("lspcheck", options, function() end) then
+    return
+  end
+  log.checks[check] = true
   read_start(output, function(_, data)
-    if data then
-      explanation = explanation .. data
+    if not data then
+      output:close()
       return
     end
-    log.alarm = nil
-    input:close()
-    output:close()
-    if explanation:match("^no ") then
-      vim.schedule(function()
-        tell(log, explanation)
-      end)
+    local lines = vim.split(rest .. data, "\n", { plain = true })
+    rest = table.remove(lines)
+    vim.schedule(function()
+      for _, line in ipairs(lines) do
+        hear(line, check)
+      end
+    end)
+  end)
+end
+
+local function end_check(log, check)
+  if log.checks[check] then
+    log.checks[check] = nil
+    check.input:close()
+  end
+end
+
+-- A file whose line ends are converted on the way differs from its first snapshot on. So one check
+-- ignores line ends, and another is there only to say so once.
+local function start_alarm(log)
+  local said, block = nil, {}
+  start_check(log, "--ignore-line-ends", function(line)
+    keep(log, { line })
+    if line:match("^no %d") or line:match("^bad log ") then
+      say(("lspcheck: %s (:buffer %d)"):format(line, log.buffer))
+    end
+  end)
+  start_check(log, nil, function(line, check)
+    block = line:match("^no %d") and {} or block
+    table.insert(block, line)
+    if line:match("^line%-ends ") and not said then
+      said = true
+      keep(log, block)
+      say(("lspcheck: %s, line ends alone (:buffer %d)"):format(block[1], log.buffer))
+      end_check(log, check)
     end
   end)
 end
 
 local function append(log, bytes)
-  log.file:write(bytes)
-  log.file:flush()
-  if log.alarm then
-    write(log.alarm, bytes)
+  uv.fs_write(log.file, bytes, -1)
+  for check in pairs(log.checks) do
+    write(check.input, bytes)
   end
 end
 
-local function new_log(command)
-  count = count + 1
+-- Creates a file that did not exist, with a number in its name if there is one of that name.
+local function create(name)
+  local path, file, problem, code
+  local number = 1
+  repeat
+    path = folder .. "/" .. name .. (number > 1 and "-" .. number or "") .. ".log"
+    file, problem, code = uv.fs_open(path, "wx", owner_file)
+    number = number + 1
+  until code ~= "EEXIST"
+  return path, file, problem
+end
+
+local function new_log(command, pid)
   local name = vim.fn.fnamemodify(command, ":t"):gsub("[^%w._-]", "_")
-  name = ("%s-%d-%d.log"):format(name, uv.os_getpid(), count)
-  local log = { name = name, file = assert(io.open(folder .. "/" .. name, "wb")) }
+  local path, file, problem = create(("%s-%s-%d"):format(name, os.date("%Y%m%dT%H%M%S"), pid))
+  if not file then
+    say("lspcheck: not recorded: " .. problem)
+    return nil
+  end
+  local log = { path = path, name = vim.fn.fnamemodify(path, ":t"), file = file, checks = {} }
   if (os.getenv("LSPCHECK_ALARM") or "") ~= "" and vim.fn.executable("lspcheck") == 1 then
     start_alarm(log)
   end
   append(log, "lsp-session 2\n")
   return log
+end
+
+-- Writes how the server ended to a file next to its log.
+local function note_exit(log, status, signal)
+  local file = uv.fs_open(log.path:gsub("%.log$", ".exit"), "w", owner_file)
+  if file then
+    local ended = signal ~= 0 and ("signal %d"):format(signal) or ("status %d"):format(status)
+    uv.fs_write(file, ("%s\ntime %s\n"):format(ended, os.date("%Y-%m-%dT%H:%M:%S%z")), -1)
+    uv.fs_close(file)
+  end
+  for check in pairs(log.checks) do
+    end_check(log, check)
+  end
 end
 
 -- Records what the editor wrote ("E") or read ("S").
@@ -89,13 +162,24 @@ vim.lsp.rpc.start = function(...)
   started = nil
   return rpc
 end
-uv.spawn = function(command, options, ...)
-  if started and not started.log then
-    started.log = new_log(command)
-    log_of_pipe[options.stdio[1]] = started.log
-    log_of_pipe[options.stdio[2]] = started.log
+uv.spawn = function(command, options, on_exit)
+  if not started or started.log then
+    return spawn(command, options, on_exit)
   end
-  return spawn(command, options, ...)
+  local log
+  local handle, pid, code = spawn(command, options, function(status, signal)
+    if log then
+      note_exit(log, status, signal)
+    end
+    on_exit(status, signal)
+  end)
+  if handle then
+    log = new_log(command, pid)
+    started.log = log
+    log_of_pipe[options.stdio[1]] = log
+    log_of_pipe[options.stdio[2]] = log
+  end
+  return handle, pid, code
 end
 
 pipe.write = function(self, data, ...)

@@ -6,7 +6,6 @@ of the server's process (`P NUMBER`) and how the server ended (`X STATUS`, negat
 """
 
 import contextlib
-import datetime
 import itertools
 import os
 import queue
@@ -134,9 +133,6 @@ class Check(threading.Thread):
             self.tell(found)
 
 
-LINE_ENDS = b"Two texts differ in line ends alone. This is said once, and then they are ignored.\n"
-
-
 class Alarm:
     """Reports each independent violation on standard error and in a file. Texts are compared
     whatever their line ends are; a second check finds the first two that differ in these alone."""
@@ -158,7 +154,7 @@ class Alarm:
     def tell_line_ends(self, text):
         if not self.has_told_line_ends and b"\nline-ends " in text:
             self.has_told_line_ends = True
-            self.tell(text + LINE_ENDS)
+            self.tell(text.replace(b"\n", b", line ends alone\n", 1))
 
     def end(self):
         for check in self.checks:
@@ -264,8 +260,8 @@ class Log(threading.Thread):
         """Writes how the server ended, and when."""
         if self.file is None:
             return
-        ended = f"status {status}" if status >= 0 else f"signal {-status} {name_of(-status)}"
-        when = datetime.datetime.now().astimezone().isoformat(timespec="milliseconds")
+        ended = f"status {status}" if status >= 0 else f"signal {-status}"
+        when = time.strftime("%Y-%m-%dT%H:%M:%S%z")
         path = self.sibling("exit")
         try:
             with open(path, "w", opener=private) as file:
@@ -275,14 +271,6 @@ class Log(threading.Thread):
                 say(f"{path}: {error.strerror}")
             with contextlib.suppress(OSError):
                 os.unlink(path)
-
-
-def name_of(number):
-    """The name of a signal, or `-` for a real-time signal."""
-    try:
-        return signal.Signals(number).name
-    except ValueError:
-        return "-"
 
 
 def leave_session():

@@ -1,9 +1,10 @@
 " Records what ALE and its language servers send each other, as logs for lspcheck.
 " Add to vimrc, after the line that puts ALE on the runtime path: source FOLDER/ale/job.vim
 " (Keep the name ale/job.vim: Vim lets only a file of this name redefine ALE's functions.)
-" Each server process gets a log of its own, SERVER-PID-NUMBER.log; PID is that of Vim. The logs go
-" to the folder $LSPCHECK_LOGS, which is created if it does not exist (default: the folder that Vim
-" was started in). A snapshot is taken whenever ALE has sent a text.
+" Each server process gets a log of its own, SERVER-TIME-PID.log, and when it has ended, a file
+" SERVER-TIME-PID.exit that says how. They go to the folder $LSPCHECK_LOGS, which is created if it
+" does not exist (default: the folder that Vim was started in). Only their owner can read them. A
+" snapshot is taken whenever ALE has sent a text.
 " With LSPCHECK_ALARM=1, and lspcheck on the PATH, a message appears as soon as a rule is broken or
 " the texts drift apart.
 
@@ -11,7 +12,12 @@ runtime autoload/ale/job.vim
 
 " An absolute path, so that the logs stay in one folder after `:cd`.
 let s:folder = fnamemodify(empty($LSPCHECK_LOGS) ? '.' : $LSPCHECK_LOGS, ':p')
-call mkdir(s:folder, 'p')
+" If another Vim creates the same folders at this moment, one of the two fails.
+for s:attempt in range(9)
+  if !isdirectory(s:folder)
+    silent! call mkdir(s:folder, 'p', 0700)
+  endif
+endfor
 
 " Without a folder ALE works, but is not recorded.
 if !isdirectory(s:folder)
@@ -19,48 +25,146 @@ if !isdirectory(s:folder)
 endif
 
 let s:most = 1048576
-let s:count = 0
 let s:logs = {}
-let s:alarms = {}
+let s:checks = {}
 let s:line_ends = {'unix': "\n", 'dos': "\r\n", 'mac': "\r"}
+" The names that Vim has for signals, in the order of their numbers.
+let s:signals = split('hup int quit ill trap abrt bus fpe kill usr1 segv usr2 pipe alrm term')
 
+" Without a log, nothing is recorded.
 function! s:Write(log, bytes) abort
-  call writefile(split(a:bytes, "\n", 1), a:log, 'ab')
-
-  if has_key(s:alarms, a:log) && job_status(s:alarms[a:log]) is# 'run'
-    silent! call ch_sendraw(s:alarms[a:log], a:bytes)
-  endif
-endfunction
-
-" Shows a message, and puts the whole explanation into a buffer, if it is about a violation.
-function! s:Tell(log, lines) abort
-  if get(a:lines, 0, '') !~# '^no '
+  if empty(a:log)
     return
   endif
 
-  let l:buffer = bufadd('lspcheck: ' . fnamemodify(a:log, ':t'))
-  call setbufvar(l:buffer, '&buftype', 'nofile')
-  call setbufvar(l:buffer, '&swapfile', 0)
-  call bufload(l:buffer)
-  call setbufvar(l:buffer, '&buflisted', 1)
-  call setbufline(l:buffer, 1, a:lines)
-  echohl ErrorMsg
-  echomsg 'lspcheck: ' . a:lines[0] . ' (:buffer ' . l:buffer . ')'
+  silent! call writefile(split(a:bytes, "\n", 1), a:log, 'ab')
+
+  for l:check in get(s:checks, a:log, [])
+    if job_status(l:check) is# 'run'
+      silent! call ch_sendraw(l:check, a:bytes)
+    endif
+  endfor
+endfunction
+
+" Shows one line. A longer one, or a second one on the same screen, would wait for a key.
+function! s:Say(message) abort
+  redraw
+  echohl WarningMsg
+  echomsg strcharpart(a:message, 0, v:echospace)
   echohl None
 endfunction
 
-" `lspcheck explain -` reads the log while it is written, and ends at the first violation.
+" Adds lines to the buffer of a log's violations, and returns its number.
+function! s:Keep(log, lines) abort
+  let l:buffer = bufadd('lspcheck: ' . fnamemodify(a:log, ':t'))
+
+  if !bufloaded(l:buffer)
+    call setbufvar(l:buffer, '&buftype', 'nofile')
+    call setbufvar(l:buffer, '&swapfile', 0)
+    call bufload(l:buffer)
+    call setbufvar(l:buffer, '&buflisted', 1)
+    call setbufline(l:buffer, 1, 'lspcheck explain --all ' . a:log)
+  endif
+
+  call appendbufline(l:buffer, '$', a:lines)
+
+  return l:buffer
+endfunction
+
+" Keeps each line about a log, and shows each violation.
+function! s:Hear(log, line) abort
+  let l:buffer = s:Keep(a:log, [a:line])
+
+  if a:line =~# '^\(no \d\|bad log \)'
+    call s:Say('lspcheck: ' . a:line . ' (:buffer ' . l:buffer . ')')
+  endif
+endfunction
+
+" Shows the first violation that concerns line ends alone. The state has the lines of the last one,
+" and whether one was shown.
+function! s:HearLineEnds(log, state, channel, line) abort
+  let a:state.block = (a:line =~# '^no \d' ? [] : a:state.block) + [a:line]
+
+  if a:line =~# '^line-ends ' && !a:state.is_shown
+    let a:state.is_shown = 1
+    let l:buffer = s:Keep(a:log, a:state.block)
+    call s:Say('lspcheck: ' . a:state.block[0] . ', line ends alone (:buffer ' . l:buffer . ')')
+    call ch_close_in(a:channel)
+  endif
+endfunction
+
+" `lspcheck explain --all` reads the log while it is written, and explains each violation at once.
+" Where line ends are converted on the way, texts differ from the first snapshot on. So one check
+" ignores line ends, and another is there only to say so once.
 function! s:StartAlarm(log) abort
   if empty($LSPCHECK_ALARM) || !executable('lspcheck')
     return
   endif
 
-  let l:lines = []
-  let s:alarms[a:log] = job_start(['lspcheck', 'explain', '-'], {
-  \   'in_mode': 'raw',
-  \   'out_cb': {_, line -> add(l:lines, line)},
-  \   'close_cb': {_ -> s:Tell(a:log, l:lines)},
-  \})
+  let l:state = {'block': [], 'is_shown': 0}
+  let l:command = ['lspcheck', 'explain', '--all']
+  let s:checks[a:log] = [
+  \   job_start(l:command + ['--ignore-line-ends'], {
+  \     'in_mode': 'raw',
+  \     'out_cb': {_, line -> s:Hear(a:log, line)},
+  \   }),
+  \   job_start(l:command, {
+  \     'in_mode': 'raw',
+  \     'out_cb': {channel, line -> s:HearLineEnds(a:log, l:state, channel, line)},
+  \   }),
+  \]
+endfunction
+
+" Creates a file that did not exist, with a number in its name if there is one of that name.
+" The shell does it, since Vim itself cannot refuse to write to an existing file.
+function! s:Create(name) abort
+  let l:number = 1
+  let l:log = a:name . '.log'
+
+  while 1
+    let l:create = "sh -c 'umask 077; set -C; : > \"$1\"' sh " . shellescape(l:log)
+    let l:problem = system(l:create)
+
+    if v:shell_error && getftype(l:log) is# ''
+      call s:Say('lspcheck: not recorded: ' . trim(l:problem))
+
+      return ''
+    elseif !v:shell_error
+      return l:log
+    endif
+
+    let l:number += 1
+    let l:log = a:name . '-' . l:number . '.log'
+  endwhile
+endfunction
+
+" Writes how the server ended to a file next to its log. ALE has only a number, but Vim has the
+" name of a signal.
+function! s:NoteExit(log, job_id, status) abort
+  if empty(a:log)
+    return
+  endif
+
+  let l:ended = 'status ' . a:status
+
+  for l:job in job_info()
+    let l:info = job_info(l:job)
+
+    if l:info.process == a:job_id && !empty(get(l:info, 'termsig', ''))
+      let l:ended = 'signal ' . (index(s:signals, l:info.termsig) + 1)
+    endif
+  endfor
+
+  let l:file = fnamemodify(a:log, ':r') . '.exit'
+  let l:lines = [l:ended, 'time ' . strftime('%Y-%m-%dT%H:%M:%S%z')]
+  silent! call writefile(l:lines, l:file)
+  silent! call setfperm(l:file, 'rw-------')
+
+  for l:check in get(s:checks, a:log, [])
+    if job_status(l:check) is# 'run'
+      call ch_close_in(l:check)
+    endif
+  endfor
 endfunction
 
 " Records what the editor wrote ('E') or read ('S').
@@ -104,22 +208,29 @@ function! ale#job#Start(command, options) abort
     return s:Start(a:command, a:options)
   endif
 
-  let s:count += 1
   let l:words = type(a:command) is v:t_list ? a:command[-1] : a:command
   let l:name = matchstr(split(l:words, '&&\|\<exec\>')[-1], '[A-Za-z0-9._/+-]\+')
-  let l:log = s:folder . '/' . fnamemodify(l:name, ':t') . '-' . getpid() . '-' . s:count . '.log'
+  let l:log = ''
   let l:options = copy(a:options)
   let l:Read = a:options.out_cb
+  let l:Exit = get(a:options, 'exit_cb', {_, status -> 0})
 
-  function! l:options.out_cb(job, message) abort closure
-    call s:Record(l:log, 'S', a:message)
-    call l:Read(a:job, a:message)
-  endfunction
+  let l:options.out_cb = {job, message -> [s:Record(l:log, 'S', message), l:Read(job, message)]}
+  let l:options.exit_cb = {job, status -> [s:NoteExit(l:log, job, status), l:Exit(job, status)]}
 
-  call s:StartAlarm(l:log)
-  call s:Write(l:log, "lsp-session 1\n")
   let l:job_id = s:Start(a:command, l:options)
-  let s:logs[l:job_id] = l:log
+
+  " Nothing was read yet: Vim calls back only when this function is over.
+  if l:job_id
+    let l:time = strftime('%Y%m%dT%H%M%S')
+    let l:log = s:Create(join([s:folder . '/' . fnamemodify(l:name, ':t'), l:time, l:job_id], '-'))
+  endif
+
+  if !empty(l:log)
+    let s:logs[l:job_id] = l:log
+    call s:StartAlarm(l:log)
+    call s:Write(l:log, "lsp-session 1\n")
+  endif
 
   return l:job_id
 endfunction

@@ -49,10 +49,8 @@ def tells_each(place, program):
     editor.open(TITLE.decode(), "one\ntwo\n")
     say_text(editor, 1, b"one\r\ntwo\r\n")
     found, seconds = heads(editor, 1)
-    is_told = found == ["no 702 snapshot 1 event 5"]
-    yield "line ends", is_told and seconds < 1, (found, seconds)
-    mark = "\nTwo texts differ in line ends alone. This is said once, and then they are ignored.\n"
-    yield "are marked", mark in editor.words() and "\nline-ends " in editor.words(), editor.words()
+    is_told = found == ["no 702 snapshot 1 event 5, line ends alone"]
+    yield "line ends, and that it is these", is_told and seconds < 1, (found, seconds)
     say_text(editor, 1, b"one\r\ntwo\r\n")
     editor.change(TITLE.decode(), 2, "three\n")
     say_text(editor, 2, b"three\r\n")

@@ -27,7 +27,7 @@ def ends(method, number, status, line):
         yield "the status", found == status, found
         log, = editor.logs.glob("*.log")
         text = log.with_suffix(".exit").read_text()
-        form = rf"{line}\ntime (\d{{4}}-\d\d-\d\dT\d\d:\d\d:\d\d)\.\d{{3}}[+-]\d\d:\d\d\n"
+        form = rf"{line}\ntime (\d{{4}}-\d\d-\d\dT\d\d:\d\d:\d\d)[+-]\d{{4}}\n"
         match = re.fullmatch(form, text)
         yield "the file", match is not None, text
         when = match and time.mktime(time.strptime(match[1], "%Y-%m-%dT%H:%M:%S"))
@@ -81,7 +81,7 @@ def names(place):
     match = re.fullmatch(r"my_server-(\d{8}T\d{6})-\d+\.log", found[0])
     yield "server, local time, number", match and before <= match[1] <= after, found
     ended = (place / "logs" / found[0]).with_suffix(".exit").read_text()
-    yield "the offset", ended.endswith("+05:30\n"), ended
+    yield "the offset", ended.endswith("+0530\n"), ended
     yield "the folder is the owner's", stat.S_IMODE((place / "logs").stat().st_mode) == 0o700, None
 
 
@@ -145,8 +145,8 @@ def help_text(place):
 TESTS = {
     "end: exit": ends("exit", 0, 0, "status 0"),
     "end: a status": ends("leave", 3, 3, "status 3"),
-    "end: a signal": ends("die", signal.SIGSEGV, 139, "signal 11 SIGSEGV"),
-    "end: killed": ends("die", signal.SIGKILL, 137, "signal 9 SIGKILL"),
+    "end: a signal": ends("die", signal.SIGSEGV, 139, "signal 11"),
+    "end: killed": ends("die", signal.SIGKILL, 137, "signal 9"),
     "end: told to": told_to_end,
     "end: the editor dies": editor_dies,
     "end: a child stays": child_stays,

@@ -55,7 +55,7 @@ class Client {
 test("the session is clean", async () => {
   const folder = fs.mkdtempSync(path.join(os.tmpdir(), "session-"));
   const child = spawn(process.execPath, [path.join(__dirname, "server.js")]);
-  const log = record(child, path.join(folder, "session.log"));
+  const log = record(child, folder);
   const client = new Client(child);
   await client.ask("initialize", { capabilities: {} });
   client.send({ method: "initialized", params: {} });
@@ -67,7 +67,7 @@ test("the session is clean", async () => {
   client.send({ method: "exit" });
   await once(child, "close");
   try {
-    assertClean(log.path, "--complete");
+    assertClean(log, "--complete", { compared: true });
   } finally {
     fs.rmSync(folder, { recursive: true });
   }

@@ -56,11 +56,11 @@ class SessionTest(unittest.TestCase):
     def setUp(self):
         folder = tempfile.TemporaryDirectory()
         self.addCleanup(folder.cleanup)
-        self.path = Path(folder.name) / "session.log"
+        self.folder = folder.name
 
     def test_session_is_clean(self):
         with subprocess.Popen(SERVER, **PIPES) as child:
-            log = record(child, self.path)
+            log = record(child, self.folder)
 
             def send(message):
                 child.stdin.write(message)
@@ -82,16 +82,16 @@ class SessionTest(unittest.TestCase):
             send(frame(id=2, method="shutdown"))
             answer()
             send(frame(method="exit"))
-        assert_clean(self.path, "--complete")
+        assert_clean(log, "--complete", compared=True)
 
     def test_session_over_asyncio_is_clean(self):
-        asyncio.run(self.over_asyncio())
-        assert_clean(self.path, "--complete")
+        log = asyncio.run(self.over_asyncio())
+        assert_clean(log, "--complete", compared=True)
 
     async def over_asyncio(self):
         """A session without edits, as pygls's client makes one: over streams of asyncio."""
         child = await asyncio.create_subprocess_exec(*SERVER, **PIPES)
-        log = record(child, self.path)
+        log = record(child, self.folder)
 
         async def answer():
             size = int((await child.stdout.readline()).split()[1])
@@ -107,6 +107,7 @@ class SessionTest(unittest.TestCase):
         await answer()
         child.stdin.write(frame(method="exit"))
         await child.wait()
+        return log
 
 
 if __name__ == "__main__":
