@@ -306,8 +306,8 @@ def record(source, options):
             log.put(head + data)
             if head.startswith(b"E") and saves:
                 saves.put(data[:-1])
-        if plugin:
-            plugin.finish()
+        for other in filter(None, (saves, plugin)):
+            other.finish()
         log.end()
         log.join(PATIENCE)
     except Exception as error:

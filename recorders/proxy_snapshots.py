@@ -173,6 +173,11 @@ class Saves(threading.Thread):
             proxy_log.say(f"no more snapshots of saved files: {error!r}")
         self.waiting.end()
 
+    def finish(self):
+        """Reads what the editor sent until now, and ends. No save waits for its second any more."""
+        self.waiting.end()
+        self.join(1)
+
     def watch(self):
         frames = Frames()
         while True:
