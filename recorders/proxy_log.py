@@ -1,8 +1,9 @@
 """The part of the proxy that writes the log. It runs in a process of its own, so that nothing that
 happens here holds up the session.
 
-This process reads what the proxy passes on, as records of a log. It also reads the number
-of the server's process (`P NUMBER`) and how the server ended (`X STATUS`, negative for a signal).
+This process reads what the proxy passes on: the records of a log, with the time in nanoseconds as a
+third word. It also reads the number of the server's process (`P NUMBER`) and how the server ended
+(`X STATUS`, negative for a signal).
 """
 
 import contextlib
@@ -289,7 +290,7 @@ def pieces(source):
     out."""
     with open(source, "rb") as stream:
         for head in stream:
-            size = int(head[2:]) + 1 if head[:1] in b"ES" else 0
+            size = int(head.split()[1]) + 1 if head[:1] in b"ES" else 0
             data = stream.read(size)
             if len(data) == size and head.endswith(b"\n"):
                 yield head, data
@@ -303,9 +304,10 @@ def record(source, options):
         log.start()
         saves, plugin = proxy_snapshots.start(log.put, not options.no_snapshots)
         for head, data in pieces(source):
-            log.put(head + data)
-            if head.startswith(b"E") and saves:
-                saves.put(data[:-1])
+            kind, number, *when = head.split()
+            log.put(b"%s %s\n%s" % (kind, number, data))
+            if kind == b"E" and saves:
+                saves.put(b"%s %s" % (*when, data[:-1]))
         for other in filter(None, (saves, plugin)):
             other.finish()
         log.end()

@@ -126,7 +126,7 @@ class Document:
                 self.has_return = self.has_return or "\r\n" in change["text"]
         self.state_at_change = look_at(self.path)
 
-    def hear_save(self):
+    def hear_save(self, now):
         """Notes the file's state; whether the file may have this version's text."""
         self.state_at_save = state = look_at(self.path)
         if state is None or len(self.uri) > MOST_URI or self.version not in VERSIONS:
@@ -134,7 +134,7 @@ class Document:
         # A file whose state was the same when the last change was sent was written before that. Its
         # own clock may differ from this one, so only the delay is taken from it.
         is_older = state == self.state_at_change
-        return not is_older or 0 <= time.time_ns() - state[0] <= PROMPT
+        return not is_older or 0 <= now - state[0] <= PROMPT
 
     def snapshot(self):
         """A record with the file's text as the editor sends it, or None."""
@@ -163,8 +163,9 @@ class Saves(threading.Thread):
         super().__init__(daemon=True)
         self.add, self.waiting = add, proxy_log.Waiting()
         self.put = self.waiting.put
-        # The open documents by URI; and for those that were saved, when they are due.
-        self.documents, self.due = {}, {}
+        # The open documents by URI; for those that were saved, when they are due; and the time of
+        # the editor's last bytes.
+        self.documents, self.due, self.now = {}, {}, 0
 
     def run(self):
         try:
@@ -190,6 +191,8 @@ class Saves(threading.Thread):
                 continue
             if data is None:
                 return
+            when, data = data.split(b" ", 1)
+            self.now = int(when)
             for content in frames.add(data):
                 self.hear(json.loads(content.decode()))
 
@@ -223,7 +226,7 @@ class Saves(threading.Thread):
         self.documents.pop(uri, None)
 
     def did_save(self, uri, _params):
-        if uri in self.documents and self.documents[uri].hear_save():
+        if uri in self.documents and self.documents[uri].hear_save(self.now):
             self.due[uri] = time.monotonic() + QUIET
 
     STEPS = {

@@ -47,12 +47,15 @@ def tells_each(place, program):
     """A file with CR LF that the editor sends with LF, and two changes that are lost after that."""
     editor = checked(place, program, "--check")
     editor.open(TITLE.decode(), "one\ntwo\n")
+    editor.has_logged(b"didOpen")
     say_text(editor, 1, b"one\r\ntwo\r\n")
     found, seconds = heads(editor, 1)
     is_told = found == ["no 702 snapshot 1 event 5, line ends alone"]
     yield "line ends, and that it is these", is_told and seconds < 1, (found, seconds)
     say_text(editor, 1, b"one\r\ntwo\r\n")
+    editor.taken(2)
     editor.change(TITLE.decode(), 2, "three\n")
+    editor.has_logged(b"didChange")
     say_text(editor, 2, b"three\r\n")
     found, _ = heads(editor, 2, 1.5)
     yield "once", len(found) == 1, found
@@ -102,6 +105,7 @@ def finds_lost_change(place, program):
     editor = checked(place, program, "--check")
     editor.open(file.as_uri(), "one\n")
     editor.change(file.as_uri(), 3, "one\nthree\n")
+    editor.has_logged(b"didChange")
     file.write_bytes(b"one\ntwo\nthree\n")
     editor.save(file.as_uri())
     found, _ = heads(editor, 1)

@@ -58,13 +58,13 @@ def editor_dies(place):
 
 def child_stays(place):
     """A process that the server started keeps its output open."""
-    editor = Editor(place, server=["sh", "-c", "sleep 20 & cat; echo end"])
+    editor = Editor(place, server=["sh", "-c", "sleep 60 & cat; echo end"])
     editor.write(b"begin\n")
     editor.process.stdin.close()
     begun = time.monotonic()
     status = editor.wait()
     seconds = time.monotonic() - begun
-    yield "the proxy ends with the server", status == 0 and seconds < 10, (status, seconds)
+    yield "the proxy ends with the server", status == 0 and seconds < 30, (status, seconds)
     got = os.read(editor.process.stdout.fileno(), 100)
     yield "all is passed on", got == b"begin\nend\n", got
 

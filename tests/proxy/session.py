@@ -120,6 +120,12 @@ class Editor:
         found = sorted(self.logs.glob("*.log"))
         return found[0].read_bytes() if found else b""
 
+    def has_logged(self, text, seconds=15):
+        """Waits until the log has this text."""
+        end = time.monotonic() + seconds
+        while text not in self.log() and time.monotonic() < end:
+            time.sleep(0.02)
+
     def snapshots(self):
         """The snapshots in the log by now: versions, URIs and texts."""
         return [(int(sizes[0]), *rest) for kind, sizes, *rest in records(self.log()) if kind == "T"]
