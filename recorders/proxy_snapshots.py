@@ -253,12 +253,10 @@ class Plugin(threading.Thread):
     def open(self, whence):
         """Opens the file, if it is there by now."""
         try:
-            is_pipe = stat.S_ISFIFO(os.stat(self.path).st_mode)
-            how = os.O_RDWR if is_pipe else os.O_RDONLY
-            self.file = os.open(self.path, how | os.O_NONBLOCK)
+            self.file = os.open(self.path, os.O_RDONLY | os.O_NONBLOCK)
         except FileNotFoundError:
             return
-        if not is_pipe:
+        if not stat.S_ISFIFO(os.fstat(self.file).st_mode):
             os.lseek(self.file, 0, whence)
 
     def run(self):

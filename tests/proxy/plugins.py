@@ -1,9 +1,13 @@
 """Tests of the snapshots that a plug-in of the editor writes."""
 
 import os
+import sys
 import time
 
-from session import Editor, snapshot
+from session import PROXY, SECONDS, Editor, snapshot
+
+sys.path.insert(0, str(PROXY.parent))
+import proxy_snapshots  # noqa: E402
 
 
 def by_plugin(make, write):
@@ -57,7 +61,7 @@ BAD_SNAPSHOTS = {
     "a version out of range": b"T 2147483648 1 1\na\nb\n",
     "a long URI": b"T 1 8193 1\n" + b"a" * 8193 + b"\nb\n",
     "a long text": b"T 1 1 16777217\na\n",
-    "a wrong size": b"T 1 1 1\nab\nc\n",
+    "a wrong size": b"T 1 1 1\nabc\n",
     "a wrong last byte": b"T 1 1 1\na\nbc",
     "not UTF-8": b"T 1 1 1\na\n\xff\n",
 }
@@ -80,6 +84,18 @@ def bad_plugin(name):
     return trial
 
 
+def written_last(place):
+    """What was written since the file was last looked at is taken at the end."""
+    path, taken = place / "snapshots", []
+    path.write_bytes(b"")
+    plugin = proxy_snapshots.Plugin(path, taken.append)
+    plugin.PAUSE = SECONDS
+    plugin.start()
+    append(path, [snapshot(b"file:///a", 1, b"last")])
+    plugin.finish()
+    yield "is taken", taken == [snapshot(b"file:///a", 1, b"last")], taken
+
+
 def no_plugin(place):
     editor = Editor(place, setting={"LSPCHECK_SNAPSHOTS": "/proc/self/mem/x"}).start()
     time.sleep(0.2)
@@ -94,5 +110,6 @@ TESTS = {
     "plug-in: a file that comes later": by_plugin(lambda path: None, append),
     "plug-in: a named pipe": by_plugin(os.mkfifo, put),
     **{f"plug-in: {name}": bad_plugin(name) for name in BAD_SNAPSHOTS},
+    "plug-in: written last": written_last,
     "plug-in: not there": no_plugin,
 }

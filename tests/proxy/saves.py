@@ -198,7 +198,7 @@ def spelled(place):
     good += [f"file://localhost{quoted}", f"file://LocalHost{raw}", link.as_uri()]
     bad = [f"file://other.example{quoted}", f"untitled:{quoted}", f"http://{quoted}"]
     bad += [f"vscode-remote://localhost{quoted}", "file:a.c", "", "a.c", "file:///%00"]
-    bad += ["file:///" + "%2e/" * 2100]
+    bad += ["file:///" + "%2e%2f" * 1400 + quoted]
     editor = Editor(place).start()
     for uri in [*good, *bad]:
         editor.open(uri, "text\n")
