@@ -12,7 +12,6 @@ import os
 import queue
 import re
 import select
-import signal
 import subprocess
 import threading
 import time
@@ -275,11 +274,9 @@ class Log(threading.Thread):
 
 
 def leave_session():
-    """Makes this process one of its own: its editor's pipes and the editor's signals are none of
-    its business."""
+    """Leaves the editor's pipes to the proxy, and its group of processes, which may be killed as a
+    whole."""
     os.setsid()
-    for number in (signal.SIGTERM, signal.SIGINT, signal.SIGHUP):
-        signal.signal(number, signal.SIG_IGN)
     nothing = os.open(os.devnull, os.O_RDWR)
     os.dup2(nothing, 0)
     os.dup2(nothing, 1)

@@ -40,12 +40,21 @@ def ends(method, number, status, line):
 
 def told_to_end(place):
     """A signal to the proxy goes to the server, after the editor's last bytes."""
-    server = [PYTHON, "-c", SERVER.replace("import json", "import signal, json", 1)]
-    editor = Editor(place, server=server).start()
+    editor = Editor(place).start()
+    editor.tell("large", "x" * 2_000_000)
     editor.tell("note", ["last"])
     editor.process.terminate()
     yield "the status", editor.wait() == 128 + signal.SIGTERM, editor.words()
     yield "the last bytes", b'["last"]' in editor.log(), editor.log()[-100:]
+
+
+def group_told_to_end(place):
+    """A signal to the proxy and all that it started leaves the recorder its time."""
+    editor = Editor(place, start_new_session=True).start()
+    os.killpg(editor.process.pid, signal.SIGTERM)
+    yield "the status", editor.wait() == 128 + signal.SIGTERM, editor.words()
+    ended = [it.read_text().split("\n")[0] for it in editor.logs.glob("*.exit")]
+    yield "the file", ended == ["signal 15"], ended
 
 
 def editor_dies(place):
@@ -148,6 +157,7 @@ TESTS = {
     "end: a signal": ends("die", signal.SIGSEGV, 139, "signal 11"),
     "end: killed": ends("die", signal.SIGKILL, 137, "signal 9"),
     "end: told to": told_to_end,
+    "end: told to as a group": group_told_to_end,
     "end: the editor dies": editor_dies,
     "end: a child stays": child_stays,
     "names": names,
