@@ -1,0 +1,315 @@
+"""The part of the proxy that writes the log. It runs in a process of its own, so that nothing that
+happens here holds up the session.
+
+This process reads what the proxy passes on: the records of a log, with the time in nanoseconds as a
+third word. It also reads the number of the server's process (`P NUMBER`) and how the server ended
+(`X STATUS`, negative for a signal).
+"""
+
+import contextlib
+import itertools
+import os
+import queue
+import re
+import select
+import subprocess
+import threading
+import time
+
+import proxy_snapshots
+
+# The most bytes that wait to be written or read.
+WAITING = 1 << 28
+
+# How much of what the server writes before the editor's first byte is kept back.
+EARLY = 1 << 20
+
+# The most seconds that this process lives after the session.
+PATIENCE = 60
+
+
+def write_all(file, data):
+    """Writes all of the bytes to a file descriptor."""
+    while data:
+        data = data[os.write(file, data) :]
+
+
+def is_readable(file, seconds=0):
+    """Whether there is something to read within some seconds; not if the file is closed."""
+    try:
+        return bool(select.select([file], [], [], seconds)[0])
+    except OSError:
+        return False
+
+
+def say(text):
+    """Says something on standard error, if anyone still reads it."""
+    try:
+        write_all(2, f"proxy: {text}\n".encode(errors="surrogateescape"))
+    except OSError:
+        pass
+
+
+class Waiting:
+    """A queue of bytes that lets nobody wait who puts some in. If more wait than memory should
+    hold, the queue ends there, since a log must have no gaps."""
+
+    def __init__(self):
+        self.items, self.lock = queue.SimpleQueue(), threading.Lock()
+        self.size, self.is_over, self.is_full = 0, False, False
+
+    def put(self, data):
+        with self.lock:
+            if not self.is_over:
+                self.size += len(data)
+                self.is_over = self.is_full = self.size > WAITING
+                self.items.put(None if self.is_over else data)
+
+    def get(self, timeout=None):
+        """The next bytes, or None at the end. Raises queue.Empty after the timeout in seconds."""
+        data = self.items.get(timeout=timeout)
+        if data is not None:
+            with self.lock:
+                self.size -= len(data)
+        return data
+
+    def end(self):
+        """What was put in until now is the whole."""
+        with self.lock:
+            self.is_over = True
+            self.items.put(None)
+
+
+class Feed(threading.Thread):
+    """Writes to a pipe what is put in. If that fails, it says what follows from this."""
+
+    def __init__(self, pipe, consequence):
+        super().__init__(daemon=True)
+        self.pipe, self.consequence, self.waiting = pipe, consequence, Waiting()
+        self.put, self.end = self.waiting.put, self.waiting.end
+
+    def run(self):
+        try:
+            while (data := self.waiting.get()) is not None:
+                write_all(self.pipe, data)
+            reason = "too much waits to be written" if self.waiting.is_full else None
+        except OSError as error:
+            reason = error.strerror
+        if reason and self.consequence:
+            say(f"{self.consequence}: {reason}")
+        self.end()
+        os.close(self.pipe)
+
+
+class Check(threading.Thread):
+    """`lspcheck explain --all`, which reads the log while it is written. Each explanation is
+    passed to a function as soon as it is written."""
+
+    # An explanation ends with the next one, or with the number of all.
+    explanation = re.compile(rb"^no .*?(?=^no |^offences |\Z)", re.M | re.S)
+
+    def __init__(self, options, tell):
+        super().__init__(daemon=True)
+        words = ["lspcheck", "explain", "--all", *options, "-"]
+        pipes = {"stdin": subprocess.PIPE, "stdout": subprocess.PIPE}
+        self.process, self.tell = subprocess.Popen(words, **pipes), tell
+        self.feed = Feed(os.dup(self.process.stdin.fileno()), None)
+        self.process.stdin.close()
+        self.feed.start()
+        self.start()
+
+    def run(self):
+        source, held = self.process.stdout.fileno(), b""
+        while data := os.read(source, 65536):
+            held += data
+            # What comes at once belongs together.
+            if not is_readable(source, 0.05):
+                self.tell_all(held)
+                held = b""
+        self.tell_all(held)
+
+    def tell_all(self, text):
+        for found in self.explanation.findall(text):
+            self.tell(found)
+
+
+class Alarm:
+    """Reports each independent violation on standard error and in a file. Texts are compared
+    whatever their line ends are; a second check finds the first two that differ in these alone."""
+
+    def __init__(self, path):
+        self.path, self.lock, self.has_told_line_ends = path, threading.Lock(), False
+        self.checks = [Check(["--ignore-line-ends"], self.tell), Check([], self.tell_line_ends)]
+
+    def write(self, data):
+        for check in self.checks:
+            check.feed.put(data)
+
+    def tell(self, text):
+        with contextlib.suppress(OSError), self.lock:
+            write_all(2, text)
+        with contextlib.suppress(OSError), open(self.path, "ab", opener=private) as file:
+            file.write(text)
+
+    def tell_line_ends(self, text):
+        if not self.has_told_line_ends and b"\nline-ends " in text:
+            self.has_told_line_ends = True
+            self.tell(text.replace(b"\n", b", line ends alone\n", 1))
+
+    def end(self):
+        for check in self.checks:
+            check.feed.end()
+        for check in self.checks:
+            check.join(PATIENCE)
+
+
+def private(path, flags):
+    """Opens a file that only its owner can read."""
+    return os.open(path, flags | os.O_NOFOLLOW, 0o600)
+
+
+def create_log(folder, server, number):
+    """Creates a log under the first name that is free: its path, and the file."""
+    name = re.sub(r"[^\w.+-]", "_", os.path.basename(server))[:100]
+    stem = os.path.join(folder, f"{name}-{time.strftime('%Y%m%dT%H%M%S')}-{number}")
+    for count in itertools.count(1):
+        path = f"{stem}.log" if count == 1 else f"{stem}-{count}.log"
+        try:
+            return path, private(path, os.O_WRONLY | os.O_CREAT | os.O_EXCL)
+        except FileExistsError:
+            continue
+
+
+class Log(threading.Thread):
+    """A log of both directions, which begins with the editor's first byte. It ends early, with a
+    whole record, if a record can't be written."""
+
+    def __init__(self, options):
+        super().__init__(daemon=True)
+        self.options, self.waiting = options, Waiting()
+        self.put, self.end = self.waiting.put, self.waiting.end
+        self.path = self.file = self.alarm = None
+        self.number, self.size, self.early, self.is_ended = 0, 0, b"lsp-session 2\n", False
+
+    def run(self):
+        try:
+            os.makedirs(self.options.folder, 0o700, exist_ok=True)
+        except OSError as error:
+            self.stop(f"{self.options.folder}: {error.strerror}; nothing is recorded")
+        while (record := self.waiting.get()) is not None:
+            self.take(record)
+        if self.waiting.is_full:
+            self.stop(f"{self.path}: the disk is too slow; the log ends here")
+        if self.alarm:
+            self.alarm.end()
+
+    def take(self, record):
+        kind, number = record[:1], record[2:]
+        if kind == b"P":
+            self.number = int(number)
+        elif kind == b"X":
+            self.write_exit(int(number))
+        elif self.file is None and kind != b"E" and len(self.early) < EARLY:
+            self.early += record
+        elif not self.is_ended:
+            self.write(record)
+
+    def write(self, record):
+        if self.file is None and not self.begin():
+            return
+        record = self.early + record
+        self.early = b""
+        try:
+            write_all(self.file, record)
+        except OSError as error:
+            self.stop(f"{self.path}: {error.strerror}; the log ends here")
+            with contextlib.suppress(OSError):
+                os.ftruncate(self.file, self.size)
+            return
+        self.size += len(record)
+        if self.alarm:
+            self.alarm.write(record)
+
+    def begin(self):
+        """Creates the log; whether that was possible."""
+        try:
+            options = self.options
+            self.path, self.file = create_log(options.folder, options.server, self.number)
+        except OSError as error:
+            self.stop(f"{self.options.folder}: {error.strerror}; nothing is recorded")
+            return False
+        if self.options.check:
+            self.start_alarm()
+        return True
+
+    def start_alarm(self):
+        try:
+            self.alarm = Alarm(self.sibling("explain"))
+        except OSError as error:
+            say(f"lspcheck: {error.strerror}; the session is recorded but not checked")
+
+    def sibling(self, extension):
+        """The path of another file of this session."""
+        return self.path[: -len("log")] + extension
+
+    def stop(self, reason):
+        say(reason)
+        self.is_ended = True
+
+    def write_exit(self, status):
+        """Writes how the server ended, and when."""
+        if self.file is None:
+            return
+        ended = f"status {status}" if status >= 0 else f"signal {-status}"
+        when = time.strftime("%Y-%m-%dT%H:%M:%S%z")
+        path = self.sibling("exit")
+        try:
+            with open(path, "w", opener=private) as file:
+                file.write(f"{ended}\ntime {when}\n")
+        except OSError as error:
+            if not self.is_ended:
+                say(f"{path}: {error.strerror}")
+            with contextlib.suppress(OSError):
+                os.unlink(path)
+
+
+def leave_session():
+    """Leaves the editor's pipes to the proxy, and its group of processes, which may be killed as a
+    whole."""
+    os.setsid()
+    nothing = os.open(os.devnull, os.O_RDWR)
+    os.dup2(nothing, 0)
+    os.dup2(nothing, 1)
+
+
+def pieces(source):
+    """Each record that the proxy sends; one that is cut off, since the proxy was killed, is left
+    out."""
+    with open(source, "rb") as stream:
+        for head in stream:
+            size = int(head.split()[1]) + 1 if head[:1] in b"ES" else 0
+            data = stream.read(size)
+            if len(data) == size and head.endswith(b"\n"):
+                yield head, data
+
+
+def record(source, options):
+    """Records until the proxy ends, and then ends this process."""
+    try:
+        leave_session()
+        log = Log(options)
+        log.start()
+        saves, plugin = proxy_snapshots.start(log.put, not options.no_snapshots)
+        for head, data in pieces(source):
+            kind, number, *when = head.split()
+            log.put(b"%s %s\n%s" % (kind, number, data))
+            if kind == b"E" and saves:
+                saves.put(b"%s %s" % (*when, data[:-1]))
+        for other in filter(None, (saves, plugin)):
+            other.finish()
+        log.end()
+        log.join(PATIENCE)
+    except Exception as error:
+        say(f"nothing more is recorded: {error!r}")
+    finally:
+        os._exit(0)

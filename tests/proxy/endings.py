@@ -1,0 +1,168 @@
+"""Tests of the names of logs, of how a session ends, and of the options."""
+
+import os
+import re
+import signal
+import stat
+import subprocess
+import sys
+import time
+from datetime import datetime, timedelta, timezone
+from pathlib import Path
+
+from session import PROXY, PYTHON, SECONDS, SERVER, Editor
+
+sys.path.insert(0, str(PROXY.parent))
+import proxy_log  # noqa: E402
+
+
+def ends(method, number, status, line):
+    """A test of how a server ends, what the proxy's status is then, and the file that says so."""
+
+    def trial(place):
+        editor = Editor(place).start()
+        begun = time.time()
+        editor.tell(method, [number])
+        found = editor.wait()
+        yield "the status", found == status, found
+        log, = editor.logs.glob("*.log")
+        text = log.with_suffix(".exit").read_text()
+        form = rf"{line}\ntime (\d{{4}}-\d\d-\d\dT\d\d:\d\d:\d\d)[+-]\d{{4}}\n"
+        match = re.fullmatch(form, text)
+        yield "the file", match is not None, text
+        when = match and time.mktime(time.strptime(match[1], "%Y-%m-%dT%H:%M:%S"))
+        yield "the time", match and abs(when - begun) < 10, text
+        rights = {stat.S_IMODE(it.stat().st_mode) for it in editor.logs.iterdir()}
+        yield "nobody else reads it", rights == {0o600}, rights
+
+    return trial
+
+
+def told_to_end(place):
+    """A signal to the proxy goes to the server, after the editor's last bytes."""
+    editor = Editor(place).start()
+    editor.tell("large", "x" * 2_000_000)
+    editor.tell("note", ["last"])
+    editor.process.terminate()
+    yield "the status", editor.wait() == 128 + signal.SIGTERM, editor.words()
+    yield "the last bytes", b'["last"]' in editor.log(), editor.log()[-100:]
+
+
+def group_told_to_end(place):
+    """A signal to the proxy and all that it started leaves the recorder its time."""
+    editor = Editor(place, start_new_session=True).start()
+    os.killpg(editor.process.pid, signal.SIGTERM)
+    yield "the status", editor.wait() == 128 + signal.SIGTERM, editor.words()
+    ended = [it.read_text().split("\n")[0] for it in editor.logs.glob("*.exit")]
+    yield "the file", ended == ["signal 15"], ended
+
+
+def editor_dies(place):
+    """The editor closes its pipes: the server and the proxy end."""
+    editor = Editor(place).start()
+    editor.process.stdout.close()
+    editor.process.stdin.close()
+    yield "the proxy ends", editor.wait() == 0, editor.words()
+
+
+def child_stays(place):
+    """A process that the server started keeps its output open."""
+    editor = Editor(place, server=["sh", "-c", "sleep 60 & cat; echo end"])
+    editor.write(b"begin\n")
+    editor.process.stdin.close()
+    begun = time.monotonic()
+    status = editor.wait()
+    seconds = time.monotonic() - begun
+    yield "the proxy ends with the server", status == 0 and seconds < 30, (status, seconds)
+    got = os.read(editor.process.stdout.fileno(), 100)
+    yield "all is passed on", got == b"begin\nend\n", got
+
+
+def names(place):
+    server = place / "my server"
+    server.write_text(f"#!/bin/sh\nexec '{PYTHON}' -c '{SERVER}'\n")
+    server.chmod(0o755)
+    here = timezone(timedelta(hours=5, minutes=30))
+    before = datetime.now(here).strftime("%Y%m%dT%H%M%S")
+    Editor(place, server=[server], setting={"TZ": "XYZ-5:30"}).start().quit()
+    after = datetime.now(here).strftime("%Y%m%dT%H%M%S")
+    found = [it.name for it in (place / "logs").glob("*.log")]
+    match = re.fullmatch(r"my_server-(\d{8}T\d{6})-\d+\.log", found[0])
+    yield "server, local time, number", match and before <= match[1] <= after, found
+    ended = (place / "logs" / found[0]).with_suffix(".exit").read_text()
+    yield "the offset", ended.endswith("+0530\n"), ended
+    yield "the folder is the owner's", stat.S_IMODE((place / "logs").stat().st_mode) == 0o700, None
+
+
+def same_number(place):
+    """Two recorders whose servers have one process number, as in two containers."""
+    words = ["unshare", "--fork", "--pid", "--mount-proc"]
+    if subprocess.run([*words, "true"], capture_output=True).returncode != 0:
+        words = ["unshare", "--map-root-user", "--fork", "--pid", "--mount-proc"]
+    if subprocess.run([*words, "true"], capture_output=True).returncode != 0:
+        words = []
+    script = f"printf x | '{PYTHON}' -B '{PROXY}' '{place}/logs' cat"
+    shell, pipe = [*words, "sh", "-c", script], {"stdout": subprocess.PIPE}
+    many = [subprocess.Popen(shell, **pipe) for _ in range(4)]
+    passed = [it.communicate(timeout=SECONDS)[0] for it in many]
+    logs = sorted((place / "logs").glob("*.log"))
+    wanted = b"lsp-session 2\nE 1\nx\nS 1\nx\n"
+    yield "each is passed on", passed == [b"x"] * 4, passed
+    yield "a log each", len(logs) == 4, logs
+    found = [log.read_bytes() for log in logs]
+    yield "none has two sessions", found == [wanted] * 4, found
+
+
+def next_name(place):
+    """The next free name is taken, whatever has the first: a file, a folder, a link to nowhere."""
+    stem = Path(proxy_log.create_log(place, "a", 1)[0]).stem
+    (place / f"{stem}-2.log").mkdir()
+    (place / f"{stem}-3.log").symlink_to(place / "nowhere")
+    found = Path(proxy_log.create_log(place, "a", 1)[0]).name
+    # The second may have changed in between.
+    good = found == f"{stem}-4.log" or not found.startswith(stem)
+    yield "the next free name", good and not (place / "nowhere").exists(), found
+
+
+def no_session(place):
+    """There is no log of a process that the editor writes nothing to, nor of no process."""
+    script = place / "wrapper"
+    script.write_text(f'#!/bin/sh\nexec "{PROXY}" "{place}/logs" echo clangd "$@"\n')
+    script.chmod(0o755)
+    for words in [[PROXY, place / "logs", "echo", "clangd", "version"], [script, "version"]]:
+        how = {"stdin": subprocess.DEVNULL, "capture_output": True, "timeout": SECONDS}
+        run = subprocess.run(words, **how)
+        yield "what it writes is passed on", run.stdout == b"clangd version\n", run
+        yield "no log", not list((place / "logs").iterdir()), list((place / "logs").iterdir())
+    run = subprocess.run([PROXY, place / "logs", "no-such-server"], **how)
+    missing = b"proxy: no-such-server: No such file or directory\n"
+    yield "no server", (run.returncode, run.stderr) == (1, missing), run
+    yield "no log of none", not list((place / "logs").iterdir()), None
+
+
+def help_text(place):
+    run = subprocess.run([PROXY, "--help"], capture_output=True, text=True)
+    yield "--help", run.returncode == 0 and run.stdout.startswith("usage: proxy"), run
+    for words in [[], ["folder"], ["--other", "folder", "cat"]]:
+        run = subprocess.run([PROXY, *words], capture_output=True, text=True, cwd=place)
+        yield f"bad arguments {words}", run.returncode == 2 and "usage: proxy" in run.stderr, run
+    words = [PROXY, place / "logs", "echo", "--check", "--help"]
+    run = subprocess.run(words, capture_output=True)
+    yield "options of the server", run.stdout == b"--check --help\n", run
+
+
+TESTS = {
+    "end: exit": ends("exit", 0, 0, "status 0"),
+    "end: a status": ends("leave", 3, 3, "status 3"),
+    "end: a signal": ends("die", signal.SIGSEGV, 139, "signal 11"),
+    "end: killed": ends("die", signal.SIGKILL, 137, "signal 9"),
+    "end: told to": told_to_end,
+    "end: told to as a group": group_told_to_end,
+    "end: the editor dies": editor_dies,
+    "end: a child stays": child_stays,
+    "names": names,
+    "names: one number": same_number,
+    "names: the next": next_name,
+    "names: none": no_session,
+    "help": help_text,
+}

@@ -1,0 +1,183 @@
+"""Tests that a session continues, whatever happens to what is recorded."""
+
+import json
+import os
+import re
+import resource
+import shutil
+import signal
+import subprocess
+import time
+from pathlib import Path
+
+from session import SECONDS, Editor, records, saved, sent
+
+
+def frame(content):
+    return b"Content-Length: %d\r\n\r\n%s" % (len(content), content)
+
+
+def opened(document):
+    """A `didOpen` with this document, in JSON."""
+    method = b'"jsonrpc":"2.0","method":"textDocument/didOpen"'
+    return frame(b'{%s,"params":{"textDocument":%s}}' % (method, document))
+
+
+HOSTILE = {
+    "a lone surrogate in a URI": opened(b'{"uri":"file:///\\ud800","version":1,"text":""}'),
+    "a frame over the limit": b"Content-Length: 99999999\r\n\r\n",
+    "a header part over the limit": b"X: " + b"x" * 5000,
+    "no length": b"X: y\r\n\r\n",
+    "no JSON": frame(b"{"),
+    "not UTF-8": frame(b'"\xff"'),
+    "deep JSON": frame(b"[" * 100000 + b"]" * 100000),
+    "a version that is null": opened(b'{"uri":"file:///a","version":null,"text":""}'),
+    "a URI that is a list": opened(b'{"uri":[],"version":1,"text":""}'),
+    "a long number": frame(b'{"id":' + b"9" * 5000 + b"}"),
+    "a text that is a number": opened(b'{"uri":"file:///a","version":1,"text":3}'),
+}
+
+
+def hostile(name):
+    """A test in which the editor sends something that no frame or message may be. The server gives
+    back what it gets."""
+
+    def trial(place):
+        file = place / "a.c"
+        file.write_bytes(b"x")
+        editor = Editor(place, server=["cat"])
+        editor.open(file.as_uri(), "x")
+        editor.write(HOSTILE[name])
+        editor.save(file.as_uri())
+        last = frame(b'{"jsonrpc":"2.0","method":"last"}')
+        editor.write(last)
+        time.sleep(1.4)
+        editor.process.stdin.close()
+        got = editor.process.stdout.read()
+        status = editor.wait()
+        yield "the session continues", status == 0 and got.endswith(last), status
+        kinds = {"E": b"", "S": b""}
+        for kind, _, *contents in records(editor.log()):
+            kinds[kind] = kinds.get(kind, b"") + contents[-1]
+        yield "the log continues", kinds == {"E": got, "S": got}, editor.log()[-200:]
+        said = editor.words()
+        is_said = said.startswith("proxy: no more snapshots of saved files: ")
+        yield "it is said once", is_said and said.count("\n") == 1, said
+
+    return trial
+
+
+def large_frame(place):
+    """A message of 60 MB, sent while a document waits for its snapshot."""
+    editor, _, uri = saved(place)
+    text = "x" * 60_000_000
+    begun = time.monotonic()
+    editor.tell("large", {"text": text})
+    editor.save(uri)
+    is_answered = editor.ask("wait")
+    seconds = time.monotonic() - begun
+    yield "is passed on", is_answered and seconds < SECONDS, seconds
+    yield "the next snapshot is taken", editor.taken(1) == [(1, b"one\n")], editor.words()
+    yield "the session continues", editor.quit() == 0 and editor.words() == "", editor.words()
+    size = sum(len(it[2]) for it in records(editor.log()) if it[0] == "E")
+    yield "is recorded", size > len(json.dumps(text)), size
+
+
+def keeps_going(editor, amount=100):
+    """Whether all of this many requests are answered, each with ten kilobytes."""
+    return all(editor.ask("work", ["x" * 10_000]) for _ in range(amount))
+
+
+def full_disk(place):
+    """The disk is full in the middle of the session, or a limit says so."""
+    disk = place / "disk"
+    disk.mkdir()
+    words = ["mount", "-t", "tmpfs", "-o", "size=64k", "none", disk]
+    can_mount = subprocess.run(words, capture_output=True).returncode == 0
+    limit = lambda: resource.setrlimit(resource.RLIMIT_FSIZE, (65536, 65536))  # noqa: E731
+    how = {} if can_mount else {"preexec_fn": limit}
+    try:
+        editor = Editor(place, logs=disk / "logs", **how).start()
+        goes_on = keeps_going(editor)
+        status = editor.quit()
+        yield "the session continues", goes_on and status == 0, (goes_on, status, editor.words())
+        said = editor.words()
+        is_said = "; the log ends here\n" in said and said.count("\n") == 1
+        yield "it is said once", is_said, said
+        log = editor.log()
+        is_whole = 10_000 < len(log) <= 65536 and [log[:13], log[-1:]] == [b"lsp-session 2", b"\n"]
+        yield "the log ends with a whole record", is_whole and list(records(log)), log[-100:]
+        ended = sum(len(record) for record in re.findall(rb"[ES] \d+\n", log)) + 14
+        ended += sum(len(record[2]) + 1 for record in records(log))
+        yield "no byte of another one", ended == len(log), (ended, len(log))
+    finally:
+        if can_mount:
+            subprocess.run(["umount", disk])
+
+
+def no_folder(make):
+    """A test in which no log can be created."""
+
+    def trial(place):
+        editor = Editor(place, logs=make(place)).start()
+        goes_on = keeps_going(editor, 5)
+        status = editor.quit()
+        yield "the session continues", goes_on and status == 0, (goes_on, status)
+        said = editor.words()
+        is_said = said.endswith("; nothing is recorded\n") and said.count("\n") == 1
+        yield "it is said once", is_said, said
+
+    return trial
+
+
+def below_file(place):
+    (place / "file").write_text("")
+    return place / "file" / "logs"
+
+
+def read_only(place):
+    """A folder that exists but takes no files, whoever is asking."""
+    return Path("/proc")
+
+
+def folder_vanishes(place):
+    editor = Editor(place).start()
+    sent(editor)
+    shutil.rmtree(editor.logs)
+    yield "the session continues", keeps_going(editor) and editor.quit() == 0, editor.words()
+    yield "it is said once", editor.words().count("\n") == 1, editor.words()
+
+
+def recorder_stops(number):
+    """A test in which the process that records is sent a signal."""
+
+    def trial(place):
+        editor = Editor(place).start()
+        sent(editor)
+        recorder = editor.recorder()
+        os.kill(recorder, number)
+        goes_on = keeps_going(editor, 300)
+        status = editor.quit()
+        yield "the session continues", goes_on and status == 0, (goes_on, status)
+        if number == signal.SIGKILL:
+            said = editor.words()
+            yield "it is said once", said == "proxy: nothing more is recorded: Broken pipe\n", said
+        else:
+            os.kill(recorder, signal.SIGCONT)
+            said = editor.words()
+            wanted = "proxy: the end of the session is not recorded\n"
+            yield "it is said once", said == wanted, said
+
+    return trial
+
+
+TESTS = {
+    **{f"hostile: {name}": hostile(name) for name in HOSTILE},
+    "hostile: 60 MB": large_frame,
+    "faults: full disk": full_disk,
+    "faults: below a file": no_folder(below_file),
+    "faults: no files there": no_folder(read_only),
+    "faults: the folder vanishes": folder_vanishes,
+    "faults: the recorder is killed": recorder_stops(signal.SIGKILL),
+    "faults: the recorder stops": recorder_stops(signal.SIGSTOP),
+}
