@@ -161,18 +161,29 @@ short_numeral d from end is some short one ended within =
 
 -- ---- at most nine digits, one after another
 
-pub few_below : (d : List ℕ) (from end n : ℕ) → AreFewDigits d from end n → end - from < 9
-    → n < 100000001
-few_below d from end n old less =
-    let short : length (part d from end) ≤ 8 =
+-- `k` digits or fewer write less than 10^k
+few_less : (d : List ℕ) (from end n k : ℕ) → AreFewDigits d from end n → end - from ≤ k
+    → n < 10 ^ k
+few_less d from end n k old less =
+    let short : length (part d from end) ≤ k =
     omega (
       arith,
       length-take-le (end - from) (drop from d)
           (omega (arith, old.within, old.forward, length-drop from d)),
     ) in
-    let below = few_value (part d from end) 8 short old.digits in
+    let below = few_value (part d from end) k short old.digits in
+    omega (arith, old.value, below)
+
+pub few_below : (d : List ℕ) (from end n : ℕ) → AreFewDigits d from end n → end - from < 9
+    → n < 100000001
+few_below d from end n old less =
     let power : 10 ^ 8 < 100000001 = lit< tt in
-    omega (arith, old.value, below, power)
+    omega (arith, few_less d from end n 8 old (omega (arith, less)), power)
+
+pub few_fits : (d : List ℕ) (from end n : ℕ) → AreFewDigits d from end n → n < 2 ^ 31
+few_fits d from end n old =
+    let power : 10 ^ 9 < 2 ^ 31 = lit< tt in
+    omega (arith, few_less d from end n 9 old old.few, power)
 
 pub one_digit_more : (d : List ℕ) (from end n more : ℕ) → AreFewDigits d from end n → end - from < 9
     → end < length d

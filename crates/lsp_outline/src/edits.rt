@@ -9,7 +9,7 @@ ghost use Rattle.lsp_rpc.specs.View.{change_view, changes_view};
 ghost use Rattle.lsp_outline.specs.Walk.{IsValue, AreItems};
 
 use crate::bytes::{byte_at, spaces_end};
-use crate::members::{Gathered, object_at, skipped, uinteger_at};
+use crate::members::{Gathered, object_at, short_uinteger_at, skipped, uinteger_at};
 use crate::positions::{first_letter, names_character, names_end, names_line, names_start};
 use crate::walk::{literal_end, string_copy};
 use lsp_types::{Change, Position, Span};
@@ -59,91 +59,9 @@ impl Gathered for PositionParts {
     }
 }
 
-/// The position that begins there with its line, and where it ends.
-#[inline(always)]
-fn line_first_at(text: &str, from: usize) -> Option<(Position, usize)>
-    requires { from ≤ length text.now }
-    ensures { IfSome result (λ r. (depth : ℕ) → 0 < depth
-        → (ms : Members) × IsValue depth text.now from r.1 (object ms)
-        × (spec.position_at (object ms) ≡ Some r.0)) }
-{
-    let bytes = text.as_bytes();
-    if !names_line(bytes, from, b'{') {
-        return None;
-    }
-    let (line, stop) = uinteger_at(text, from + 8)?;
-    if !names_character(bytes, stop, b',') {
-        return None;
-    }
-    let (column, close) = uinteger_at(text, stop + 13)?;
-    if byte_at(bytes, close) != b'}' {
-        return None;
-    }
-    Some((Position { line, column }, close + 1))
-}
-
-/// The position that begins there with its character, and where it ends.
-#[inline(always)]
-fn character_first_at(text: &str, from: usize) -> Option<(Position, usize)>
-    requires { from ≤ length text.now }
-    ensures { IfSome result (λ r. (depth : ℕ) → 0 < depth
-        → (ms : Members) × IsValue depth text.now from r.1 (object ms)
-        × (spec.position_at (object ms) ≡ Some r.0)) }
-{
-    let bytes = text.as_bytes();
-    if !names_character(bytes, from, b'{') {
-        return None;
-    }
-    let (column, stop) = uinteger_at(text, from + 13)?;
-    if !names_line(bytes, stop, b',') {
-        return None;
-    }
-    let (line, close) = uinteger_at(text, stop + 8)?;
-    if byte_at(bytes, close) != b'}' {
-        return None;
-    }
-    Some((Position { line, column }, close + 1))
-}
-
-/// The position that begins there as most programs write it, and where it ends.
-#[inline(always)]
-fn plain_position_at(text: &str, from: usize) -> Option<(Position, usize)>
-    requires { from ≤ length text.now }
-    ensures { IfSome result (λ r. (depth : ℕ) → 0 < depth
-        → (ms : Members) × IsValue depth text.now from r.1 (object ms)
-        × (spec.position_at (object ms) ≡ Some r.0)) }
-{
-    if first_letter(text.as_bytes(), from) == b'l' {
-        line_first_at(text, from)
-    } else {
-        character_first_at(text, from)
-    }
-}
-
 /// The position that begins there, and where it ends.
-#[inline(always)]
-fn position_at(alloc: Global, text: &str, from: usize, depth: usize) -> Option<(Position, usize)>
-    requires { from ≤ length text.now }
-    ensures { IfSome result (λ r. (ms : Members) × IsValue depth text.now from r.1 (object ms)
-        × (spec.position_at (object ms) ≡ Some r.0)) }
-{
-    if depth == 0 {
-        return None;
-    }
-    match plain_position_at(text, from) {
-        Some(found) => Some(found),
-        None => any_position_at(alloc, text, from, depth),
-    }
-}
-
-/// The position of whatever form that begins there, and where it ends.
 #[inline(never)]
-fn any_position_at(
-    alloc: Global,
-    text: &str,
-    from: usize,
-    depth: usize,
-) -> Option<(Position, usize)>
+fn position_at(alloc: Global, text: &str, from: usize, depth: usize) -> Option<(Position, usize)>
     requires { from ≤ length text.now }
     ensures { IfSome result (λ r. (ms : Members) × IsValue depth text.now from r.1 (object ms)
         × (spec.position_at (object ms) ≡ Some r.0)) }
@@ -197,6 +115,67 @@ impl Gathered for SpanParts {
             }
             _ => skipped(text, from, depth),
         }
+    }
+}
+
+/// The position that begins there with its line, and where it ends.
+#[inline(always)]
+fn line_first_at(text: &str, from: usize) -> Option<(Position, usize)>
+    requires { from ≤ length text.now }
+    ensures { IfSome result (λ r. (depth : ℕ) → 0 < depth
+        → (ms : Members) × IsValue depth text.now from r.1 (object ms)
+        × (spec.position_at (object ms) ≡ Some r.0)) }
+{
+    let bytes = text.as_bytes();
+    if !names_line(bytes, from, b'{') {
+        return None;
+    }
+    let (line, stop) = short_uinteger_at(text, from + 8)?;
+    if !names_character(bytes, stop, b',') {
+        return None;
+    }
+    let (column, close) = short_uinteger_at(text, stop + 13)?;
+    if byte_at(bytes, close) != b'}' {
+        return None;
+    }
+    Some((Position { line, column }, close + 1))
+}
+
+/// The position that begins there with its character, and where it ends.
+#[inline(always)]
+fn character_first_at(text: &str, from: usize) -> Option<(Position, usize)>
+    requires { from ≤ length text.now }
+    ensures { IfSome result (λ r. (depth : ℕ) → 0 < depth
+        → (ms : Members) × IsValue depth text.now from r.1 (object ms)
+        × (spec.position_at (object ms) ≡ Some r.0)) }
+{
+    let bytes = text.as_bytes();
+    if !names_character(bytes, from, b'{') {
+        return None;
+    }
+    let (column, stop) = short_uinteger_at(text, from + 13)?;
+    if !names_line(bytes, stop, b',') {
+        return None;
+    }
+    let (line, close) = short_uinteger_at(text, stop + 8)?;
+    if byte_at(bytes, close) != b'}' {
+        return None;
+    }
+    Some((Position { line, column }, close + 1))
+}
+
+/// The position that begins there as most programs write it, and where it ends.
+#[inline(always)]
+fn plain_position_at(text: &str, from: usize) -> Option<(Position, usize)>
+    requires { from ≤ length text.now }
+    ensures { IfSome result (λ r. (depth : ℕ) → 0 < depth
+        → (ms : Members) × IsValue depth text.now from r.1 (object ms)
+        × (spec.position_at (object ms) ≡ Some r.0)) }
+{
+    if first_letter(text.as_bytes(), from) == b'l' {
+        line_first_at(text, from)
+    } else {
+        character_first_at(text, from)
     }
 }
 

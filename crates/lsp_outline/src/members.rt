@@ -10,7 +10,7 @@ ghost use Rattle.lsp_rpc.specs.Shape.{as_id, as_integer, unless_null};
 ghost use Rattle.lsp_outline.specs.Walk.{IsValue, AreMembers};
 
 use crate::bytes::{byte_at, spaces_end};
-use crate::numbers::{natural_at, negative_at};
+use crate::numbers::{natural_at, negative_at, short_natural_at};
 use crate::walk::{key, literal_end, plain_string, string_copy, value_end};
 use lsp_rpc::Id;
 use std::alloc::Global;
@@ -117,7 +117,8 @@ pub(crate) fn skipped(text: &str, from: usize, depth: usize) -> Option<usize>
     requires { from ≤ length text.now }
     ensures { IfSome result (λ end. (d : Data) × IsValue depth text.now from end d) }
 {
-    value_end(text.as_bytes(), from, depth)
+    let mut tries = true;
+    value_end(text.as_bytes(), from, depth, &mut tries)
 }
 
 /// Where the string that begins there ends, where it is this one.
@@ -145,6 +146,17 @@ pub(crate) fn uinteger_at(text: &str, from: usize) -> Option<(u32, usize)>
     } else {
         None
     }
+}
+
+/// The same, where it has at most nine digits.
+#[inline(always)]
+pub(crate) fn short_uinteger_at(text: &str, from: usize) -> Option<(u32, usize)>
+    requires { from ≤ length text.now }
+    ensures read { IfSome result (λ r. (d : Data)
+        × ((depth : ℕ) → IsValue depth text.now from r.1 d) × (as_integer d ≡ Some (pos r.0))) }
+{
+    let (n, end) = short_natural_at(text.as_bytes(), from)?;
+    Some((n, end))
 }
 
 /// The string that begins there, where it is not null, copied, and where it ends.

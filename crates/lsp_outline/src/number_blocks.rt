@@ -45,7 +45,7 @@ fn begins_number(bytes: &[u8], at: usize) -> bool
 
 /// Where the items end that are numbers of digits with nothing but commas between them, as far as
 /// whole blocks hold such.
-#[inline(always)]
+#[inline(never)]
 pub(crate) fn number_blocks_end(bytes: &[u8], from: usize) -> usize
     requires { from ≤ length bytes.now }
     ensures passed { (depth begin : ℕ)

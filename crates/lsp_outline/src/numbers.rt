@@ -1,6 +1,6 @@
 //! The numbers that numerals of JSON write, as `serde_json` reads them.
 ghost use Rattle.std.specs.Prelude.{◌≡◌, ◌⊎◌, ◌+◌, ◌<◌, ◌≤◌, ◌==◌, ◌||◌, drop, get_or, length};
-ghost use Rattle.std.specs.Prelude.{slice_index, Some, true, false, IsTrue, IfSome, is_some};
+ghost use Rattle.std.specs.Prelude.{◌^◌, slice_index, Some, true, false, IsTrue, IfSome, is_some};
 ghost use Rattle.std.specs.Char.{is_ascii_digit};
 ghost use Rattle.std.specs.List.{prefix_len};
 ghost use Rattle.json.specs.Word.{is_operator, is_space};
@@ -161,25 +161,13 @@ pub(crate) fn number_end(bytes: &[u8], from: usize) -> Option<usize>
     requires { from ≤ length bytes.now }
     ensures { IfSome result (IsNumeral bytes.now from) }
 {
-    match short_number_end(bytes, from) {
-        Some(end) => Some(end),
-        None => long_number_end(bytes, from),
-    }
-}
-
-/// Where the integer without a sign ends that begins there, where one block of bytes shows it and
-/// a number may end there.
-#[inline(always)]
-fn short_number_end(bytes: &[u8], from: usize) -> Option<usize>
-    requires { from ≤ length bytes.now }
-    ensures { IfSome result (IsNumeral bytes.now from) }
-{
-    let end = plain_number_end(bytes, from)?;
+    let Some(end) = plain_number_end(bytes, from) else {
+        return long_number_end(bytes, from);
+    };
     if is_delimiter(byte_at(bytes, end)) {
-        Some(end)
-    } else {
-        None
+        return Some(end);
     }
+    any_number_end(bytes, from)
 }
 
 /// Where the number of whatever length ends that begins there. `None` where `serde_json` reads
@@ -267,17 +255,31 @@ fn few_digits(bytes: &[u8], from: usize) -> (u32, usize)
     (n, end)
 }
 
+/// The integer of at most nine digits that begins there, and where it ends.
+#[inline(always)]
+pub(crate) fn short_natural_at(bytes: &[u8], from: usize) -> Option<(u32, usize)>
+    requires { from ≤ length bytes.now }
+    ensures read { IfSome result (λ r. IsNatural bytes.now from r.1 r.0) }
+    ensures fits { IfSome result (λ r. r.0 < 2 ^ 31) }
+{
+    let (n, end) = few_digits(bytes, from);
+    if is_delimiter(byte_at(bytes, end)) && is_integer(&bytes[from..end]) {
+        Some((n, end))
+    } else {
+        None
+    }
+}
+
 /// The integer that begins there and is not negative, and where it ends.
 #[inline(always)]
 pub(crate) fn natural_at(bytes: &[u8], from: usize) -> Option<(u64, usize)>
     requires { from ≤ length bytes.now }
     ensures { IfSome result (λ r. IsNatural bytes.now from r.1 r.0) }
 {
-    let (n, end) = few_digits(bytes, from);
-    if !is_delimiter(byte_at(bytes, end)) || !is_integer(&bytes[from..end]) {
-        return long_natural_at(bytes, from);
+    match short_natural_at(bytes, from) {
+        Some((n, end)) => Some((u64::from(n), end)),
+        None => long_natural_at(bytes, from),
     }
-    Some((u64::from(n), end))
 }
 
 /// The integer below zero and of 32 bits that a sign and this numeral write.

@@ -197,7 +197,7 @@ fn end_first_end(bytes: &[u8], from: usize) -> Option<usize>
 }
 
 /// Where the range ends that begins there.
-#[inline(never)]
+#[inline(always)]
 fn plain_range_end(bytes: &[u8], from: usize) -> Option<usize>
     requires { from ≤ length bytes.now }
     ensures { IfSome result (λ end. (depth : ℕ) → 1 < depth
@@ -210,21 +210,55 @@ fn plain_range_end(bytes: &[u8], from: usize) -> Option<usize>
     }
 }
 
-/// Where the position or range ends that begins there.
+/// Whether a position or a range begins there, by its first key.
 #[inline(always)]
-pub(crate) fn plain_place_end(bytes: &[u8], from: usize, depth: usize) -> Option<usize>
+fn begins_place(bytes: &[u8], from: usize) -> bool
+    requires { from ≤ length bytes.now }
+{
+    match first_letter(bytes, from) {
+        b'l' => names_line(bytes, from, b'{'),
+        b'c' => names_character(bytes, from, b'{'),
+        b's' => names_start(bytes, from, b'{'),
+        b'e' => names_end(bytes, from, b'{'),
+        _ => false,
+    }
+}
+
+/// Where the position or range ends that begins there.
+#[inline(never)]
+fn place_end(bytes: &[u8], from: usize, depth: usize) -> Option<usize>
     requires from { from ≤ length bytes.now }
     requires depth { 0 < depth }
     ensures { IfSome result (λ end. (d : Data) × IsValue depth bytes.now from end d) }
 {
     match first_letter(bytes, from) {
         b'l' | b'c' => plain_position_end(bytes, from),
-        b's' | b'e' => {
+        _ => {
             if depth < 2 {
                 return None;
             }
             plain_range_end(bytes, from)
         }
-        _ => None,
     }
+}
+
+/// Where the position or range ends that begins there, while these are tried: until one begins as
+/// most do and goes on otherwise, since what comes after it is mostly written by the same program.
+#[inline(always)]
+pub(crate) fn plain_place_end(
+    bytes: &[u8],
+    from: usize,
+    depth: usize,
+    tries: &mut bool,
+) -> Option<usize>
+    requires from { from ≤ length bytes.now }
+    requires depth { 0 < depth }
+    ensures { IfSome result (λ end. (d : Data) × IsValue depth bytes.now from end d) }
+{
+    if !*tries || !begins_place(bytes, from) {
+        return None;
+    }
+    let end = place_end(bytes, from, depth);
+    *tries = end.is_some();
+    end
 }

@@ -18,6 +18,9 @@ use std::alloc::Global;
 /// How deep values may nest in a content, as `serde_json` reads it.
 pub(crate) const MAX_DEPTH: usize = 127;
 
+/// How many bytes of an array are read item by item before whole blocks are tried.
+const FEW: usize = 32;
+
 /// What kind of value stands somewhere, as far as a message's params and result are judged.
 #[derive(Clone, Copy)]
 pub(crate) enum Kind {
@@ -62,17 +65,7 @@ pub(crate) fn literal_end(bytes: &[u8], from: usize, name: &[u8]) -> Option<usiz
     }
 }
 
-/// Whether a colon stands there with no space past it.
-#[inline(always)]
-fn is_bare_colon(bytes: &[u8], at: usize) -> bool
-    requires { at ≤ length bytes.now }
-    ensures is { IsTrue result → get_or bytes.now at 0 ≡ 58 }
-    ensures within { IsTrue result → at + 1 ≤ length bytes.now }
-{
-    bytes.len() - at >= 2 && bytes[at] == b':' && bytes[at + 1] > b' '
-}
-
-/// Where the colon ends that comes next, with the space past it. Most have none on either side.
+/// Where the colon ends that comes next, with the space past it. Most have no space before it.
 #[inline(always)]
 fn colon_end(bytes: &[u8], from: usize) -> Option<usize>
     requires { from ≤ length bytes.now }
@@ -81,21 +74,9 @@ fn colon_end(bytes: &[u8], from: usize) -> Option<usize>
     ensures forward { IfSome result (λ end. from < end) }
     ensures within { IfSome result (λ end. end ≤ length bytes.now) }
 {
-    if is_bare_colon(bytes, from) {
-        return Some(from + 1);
+    if byte_at(bytes, from) == b':' {
+        return Some(spaces_end(bytes, from + 1));
     }
-    spaced_colon_end(bytes, from)
-}
-
-/// The same, with or without space on either side of it.
-#[inline(never)]
-fn spaced_colon_end(bytes: &[u8], from: usize) -> Option<usize>
-    requires { from ≤ length bytes.now }
-    ensures passed { IfSome result (λ end.
-        lex between (drop from bytes.now) ≡ colon ∷ lex between (drop end bytes.now)) }
-    ensures forward { IfSome result (λ end. from < end) }
-    ensures within { IfSome result (λ end. end ≤ length bytes.now) }
-{
     let colon = spaces_end(bytes, from);
     if byte_at(bytes, colon) != b':' {
         return None;
@@ -195,10 +176,11 @@ pub(crate) fn key(text: &str, from: usize) -> Option<(&str, usize)>
     Some((name, end))
 }
 
-/// Where the value that begins there ends. `None` where `serde_json` would read none.
+/// Where the value that begins there ends. `None` where `serde_json` would read none. Positions and
+/// ranges are tried in the form that most have, until one has another form.
 #[cycle(walk)]
 #[inline(always)]
-pub(crate) fn value_end(bytes: &[u8], from: usize, depth: usize) -> Option<usize>
+pub(crate) fn value_end(bytes: &[u8], from: usize, depth: usize, tries: &mut bool) -> Option<usize>
     requires { from ≤ length bytes.now }
     ensures { IfSome result (λ end. (d : Data) × IsValue depth bytes.now from end d) }
 {
@@ -208,16 +190,16 @@ pub(crate) fn value_end(bytes: &[u8], from: usize, depth: usize) -> Option<usize
             if depth == 0 {
                 return None;
             }
-            items_end(bytes, from + 1, depth - 1)
+            items_end(bytes, from + 1, depth - 1, tries)
         }
         b'{' => {
             if depth == 0 {
                 return None;
             }
-            if let Some(end) = plain_place_end(bytes, from, depth) {
+            if let Some(end) = plain_place_end(bytes, from, depth, tries) {
                 return Some(end);
             }
-            members_end(bytes, from + 1, depth - 1)
+            members_end(bytes, from + 1, depth - 1, tries)
         }
         b't' => literal_end(bytes, from, b"true"),
         b'f' => literal_end(bytes, from, b"false"),
@@ -226,27 +208,54 @@ pub(crate) fn value_end(bytes: &[u8], from: usize, depth: usize) -> Option<usize
     }
 }
 
-/// Where the items end that are plain numbers: those of whole blocks, and then those of one or two
-/// digits, each with its comma and the space past it. Arrays of numbers are mostly such.
+/// Where the items end that are numbers of one or two digits, each with its comma and the space past
+/// it, or the first place from `stop` on where one begins. Arrays of numbers are mostly such.
 #[inline(always)]
-fn tiny_items_end(bytes: &[u8], from: usize) -> usize
+fn tiny_items_end(bytes: &[u8], from: usize, stop: usize) -> usize
     requires { from ≤ length bytes.now }
     ensures passed { (depth begin : ℕ)
         → SomeItems depth bytes.now begin from → SomeItems depth bytes.now begin result }
     ensures forward { from ≤ result }
     ensures within { result ≤ length bytes.now }
 {
-    let mut at = number_blocks_end(bytes, from);
-    'items: while let Some(comma) = tiny_number_end(bytes, at) {
+    let mut at = from;
+    'items: while at < stop {
+        let Some(comma) = tiny_number_end(bytes, at) else {
+            return at;
+        };
         at = spaces_end(bytes, comma + 1);
     }
     at
 }
 
+/// Where the items end that are plain numbers, in an array that begins at `begin`: from the place
+/// `blocks` on, those of whole blocks. These are seldom tried in vain: not in a short array, and
+/// where one is declined, only after as many bytes again.
+#[inline(always)]
+fn plain_items_end(bytes: &[u8], begin: usize, from: usize, blocks: &mut usize) -> usize
+    requires { (begin ≤ from) × (from ≤ length bytes.now) }
+    ensures passed { (depth begin : ℕ)
+        → SomeItems depth bytes.now begin from → SomeItems depth bytes.now begin result }
+    ensures forward { from ≤ result }
+    ensures within { result ≤ length bytes.now }
+{
+    let at = tiny_items_end(bytes, from, *blocks);
+    if at < *blocks {
+        return at;
+    }
+    let passed = number_blocks_end(bytes, at);
+    *blocks = if passed == at {
+        at.saturating_add(at - begin)
+    } else {
+        passed.saturating_add(FEW)
+    };
+    passed
+}
+
 /// Where the array ends whose bracket is just before that place.
 #[cycle(walk)]
 #[inline(never)]
-fn items_end(bytes: &[u8], from: usize, depth: usize) -> Option<usize>
+fn items_end(bytes: &[u8], from: usize, depth: usize, tries: &mut bool) -> Option<usize>
     requires { from ≤ length bytes.now }
     ensures { IfSome result (λ end. (ds : Items) × AreItems depth bytes.now from end ds) }
 {
@@ -254,9 +263,10 @@ fn items_end(bytes: &[u8], from: usize, depth: usize) -> Option<usize>
     if byte_at(bytes, at) == b']' {
         return Some(at + 1);
     }
+    let mut blocks = from.saturating_add(FEW);
     'items: loop {
-        let begin = tiny_items_end(bytes, at);
-        let end = value_end(bytes, begin, depth)?;
+        let begin = plain_items_end(bytes, from, at, &mut blocks);
+        let end = value_end(bytes, begin, depth, tries)?;
         let next = spaces_end(bytes, end);
         let mark = byte_at(bytes, next);
         if mark == b']' {
@@ -272,7 +282,7 @@ fn items_end(bytes: &[u8], from: usize, depth: usize) -> Option<usize>
 /// Where the object ends whose brace is just before that place.
 #[cycle(walk)]
 #[inline(never)]
-fn members_end(bytes: &[u8], from: usize, depth: usize) -> Option<usize>
+fn members_end(bytes: &[u8], from: usize, depth: usize, tries: &mut bool) -> Option<usize>
     requires { from ≤ length bytes.now }
     ensures { IfSome result (λ end. (ms : Members) × AreMembers depth bytes.now from end ms) }
 {
@@ -282,7 +292,7 @@ fn members_end(bytes: &[u8], from: usize, depth: usize) -> Option<usize>
     }
     'members: loop {
         let begin = key_end(bytes, at)?;
-        let end = value_end(bytes, begin, depth)?;
+        let end = value_end(bytes, begin, depth, tries)?;
         let next = spaces_end(bytes, end);
         let mark = byte_at(bytes, next);
         if mark == b'}' {

@@ -45,10 +45,12 @@ pub enum Method {
 }
 
 impl Method {
-    /// What its calls mean, where their params are not read.
+    /// What its calls mean, where their params are not read. `None` exactly where they are: a call
+    /// without params has no meaning then.
     pub fn plain_act(self) -> Option<Act>
-        ensures { IfSome result
+        ensures means { IfSome result
             (λ act. (params : Option Data) → meaning self params ≡ Some (act_view act)) }
+        ensures exact { option_map (λ act. act_view act) result ≡ meaning self None }
     {
         match self {
             Method::Initialized => Some(Act::Initialized),

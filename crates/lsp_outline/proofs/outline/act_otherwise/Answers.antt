@@ -11,4 +11,4 @@ use Rattle.lsp_outline.proofs.outline.act_otherwise.Goals as goal
 
 pub returns-in-Some : goal.returns-in-Some
 returns-in-Some c = λ ms read.
-    c.in-Some.ensures (option_and_then unless_null (get_member (codes "params") ms))
+    c.in-Some.ensures.means (option_and_then unless_null (get_member (codes "params") ms))

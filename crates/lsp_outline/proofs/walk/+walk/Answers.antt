@@ -74,7 +74,7 @@ items_end-items-init t c =
 pub items_end-items-preserved : goal.items_end-items-preserved
 items_end-items-preserved t c =
     let found = c.in_ok-end.ensures in
-    let begin = c.tiny_items_end-begin in
+    let begin = c.plain_items_end-begin in
     let next = c.spaces_end-next in
     let again = c.spaces_end-at-in-items in
     item_turn c.args.depth c.args.bytes.now c.args.from begin.result c.in_ok-end.end next.result
@@ -86,7 +86,7 @@ items_end-items-preserved t c =
 pub items_end-returns-then-mark-eq93 : goal.items_end-returns-then-mark-eq93
 items_end-returns-then-mark-eq93 t c =
     let found = c.in_ok-end.ensures in
-    let begin = c.tiny_items_end-begin in
+    let begin = c.plain_items_end-begin in
     let next = c.spaces_end-next in
     last_item c.args.depth c.args.bytes.now c.args.from begin.result c.in_ok-end.end next.result
     found.0 (begin.ensures.passed c.args.depth c.args.from c.items.invariant) found.1

@@ -3,8 +3,7 @@ use Rattle.lsp_outline.proofs.Walking.{tiny_turn}
 use Rattle.lsp_outline.proofs.walk.tiny_items_end.Goals as goal
 
 pub items-init : goal.items-init
-items-init c =
-    let blocks = c.number_blocks_end-at.ensures in (blocks.passed, blocks.forward, blocks.within)
+items-init c = (λ depth begin old. old, omega arith, omega arith)
 
 pub items-preserved : goal.items-preserved
 items-preserved c =

@@ -1,7 +1,8 @@
 use Rattle.std.proofs.Common.{arith}
 use Rattle.lsp_outline.proofs.DigitBlocks.{plain_numeral}
-use Rattle.lsp_outline.proofs.numbers.short_number_end.Goals as goal
+use Rattle.lsp_outline.proofs.numbers.number_end.Goals as goal
 
 pub returns-then-is_delimiter : goal.returns-then-is_delimiter
 returns-then-is_delimiter c =
-    plain_numeral c.args.bytes.now c.args.from c.in_ok-end.end c.in_ok-end.ensures (grind arith)
+    plain_numeral c.args.bytes.now c.args.from c.in-Some.end
+    c.in-Some.ensures (grind arith)
