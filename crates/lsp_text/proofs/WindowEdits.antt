@@ -356,7 +356,8 @@ are_cut bs from to h =
 
 cut_shown : (bs : List ℕ) (from to : ℕ) → IsSpan bs from to → length bs < 2 ^ 64 - 1
     → (before skipped : Sums) → before ≡ sums_of (take from bs) → skipped ≡ sums_of (take to bs)
-    → (front back : ℕ) → AreSameEndsOf (bytes_between bs from to) (bytes_between bs from to) front back
+    → (front back : ℕ)
+    → AreSameEndsOf (bytes_between bs from to) (bytes_between bs from to) front back
     → AreShown bs (bytes_between bs from to) before skipped (sums_of bs) front back bs
 cut_shown bs from to h fits before skipped first second front back ends =
     let cut = are_cut bs from to h in
@@ -393,8 +394,10 @@ cut_shown bs from to h fits before skipped first second front back ends =
           (subst (λ (n : ℕ). AreParts (a ∷ mid ∷ drop n bs ∷ [])) (sym end) parts);
       sums_are = refl;
       ends =
-          subst (λ (n : ℕ). AreSameEndsOf (bytes_between bs n skipped.bytes) mid front back) (sym at)
-          (subst (λ (n : ℕ). AreSameEndsOf (bytes_between bs from n) mid front back) (sym end) ends);
+          subst (λ (n : ℕ). AreSameEndsOf (bytes_between bs n skipped.bytes) mid front back)
+          (sym at)
+          (subst (λ (n : ℕ). AreSameEndsOf (bytes_between bs from n) mid front back) (sym end)
+          ends);
       tree_fits = omega (arith, fits);
       fits = fits;
       text =

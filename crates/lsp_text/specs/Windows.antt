@@ -1,5 +1,6 @@
 -- A text in chunks, of which a window holds some bytes in another form.
-use Rattle.std.specs.Prelude.{◌≡◌, ◌<◌, ◌≤◌, ◌+◌, ◌-◌, ◌^◌, ℕ, Bool, true, false, List, [], ◌∷◌, length, take, drop}
+use Rattle.std.specs.Prelude.{◌≡◌, ◌<◌, ◌≤◌, ◌+◌, ◌-◌, ◌^◌, ℕ, Bool, true, false, List, [], ◌∷◌}
+use Rattle.std.specs.Prelude.{length, take, drop}
 use Rattle.std.specs.List.{replace_range}
 use Rattle.std.specs.Str.{IsUtf8}
 use Rattle.lsp_text.specs.Sums.{sums_of}
@@ -27,7 +28,8 @@ pub record IsWindowed (w : Windowed) : Type 0 where
   pub skipped : w.skipped ≡ sums_of (take w.skipped.bytes w.tree)
   pub parts : AreParts (pieces_of w)
   pub sums : w.sums ≡ sums_of (text_with w)
-  pub ends : AreSameEndsOf (bytes_between w.tree w.before.bytes w.skipped.bytes) w.window w.same_front w.same_back
+  pub ends : AreSameEndsOf (bytes_between w.tree w.before.bytes w.skipped.bytes) w.window
+      w.same_front w.same_back
   pub tree_fits : length w.tree < 2 ^ 64
   pub fits : length (text_with w) < 2 ^ 64 - 1
 

@@ -30,8 +30,11 @@ const FULL: usize = 2048;
 /// The bytes of a block, at most.
 const MOST: usize = 4096;
 
-/// The room of a short block.
-const SHORT: usize = 1024;
+/// The room that an edit makes in a text is a multiple of this, less one.
+const STEP: usize = 64;
+
+/// The bytes of room that an edited text keeps unused, at most.
+const SPARE: usize = 192;
 
 /// A text, the places after its line ends, and its sums.
 #[derive(Drop)]
@@ -167,18 +170,10 @@ impl Block {
         requires { length text.now ≤ MOST }
         ensures { IfOk result (λ block. block ≡ text.now) }
     {
-        Block::holding(alloc, String::from_str(alloc, text)?)
-    }
-
-    /// A block that takes over a text, spare room included.
-    pub(crate) fn holding(alloc: Global, text: String) -> Result<Block, AllocError>
-        requires { length (string_bytes text) ≤ MOST }
-        ensures { IfOk result (λ block. block ≡ string_bytes text) }
-    {
-        let places = places_of(alloc, text.as_str())?;
-        let sums = Sums::of(text.as_str(), places.len());
+        let places = places_of(alloc, text)?;
+        let sums = Sums::of(text, places.len());
         let held = BlockText {
-            text,
+            text: String::from_str(alloc, text)?,
             places,
             sums,
             alloc,
@@ -208,9 +203,7 @@ impl Block {
         ensures { IfOk result (λ whole. string_bytes whole
             ≡ replace_range self.now from to text.now) }
     {
-        let (front, _) = self.as_str().split_at(from);
-        let (_, back) = self.as_str().split_at(to);
-        in_one(alloc, front, text, back)
+        replaced_in(alloc, self.as_str(), from, to, text)
     }
 
     /// The same block with some bytes replaced by a text.
@@ -220,7 +213,7 @@ impl Block {
         ensures { IfOk result (λ block. block ≡ replace_range self.now from to text.now) }
     {
         let held: &BlockText = &self.text;
-        let whole = spliced(held, from, to, text)?;
+        let whole = self.replaced(held.alloc, from, to, text)?;
         Block::new(held.alloc, whole.as_str())
     }
 }
@@ -277,7 +270,7 @@ fn replace_shared(
     let Some(own) = Rc::get_mut(shared) else {
         return replace_copied(shared, from, to, text, sums);
     };
-    own.text.replace_range(from..to, text)?;
+    replace_in_place(&mut own.text, from, to, text)?;
     move_places(
         &mut own.places,
         from as u16,
@@ -310,7 +303,7 @@ fn replace_copied(
 {
     let held: &BlockText = shared;
     let mut copy = BlockText {
-        text: spliced(held, from, to, text)?,
+        text: replaced_in(held.alloc, held.text.as_str(), from, to, text)?,
         places: Vec::from_slice(held.alloc, &held.places)?,
         sums,
         alloc: held.alloc,
@@ -325,34 +318,75 @@ fn replace_copied(
     Ok(())
 }
 
-/// The text of a block with some bytes replaced by another, and room for as much as a block may
-/// hold: it grows in place, and copies that come and go as versions do take memory of one size.
-fn spliced(held: &BlockText, from: usize, to: usize, text: &str) -> Result<String, AllocError>
-    requires { CanReplace (string_bytes held.now.text) from to }
-    ensures { IfOk result (λ whole. string_bytes whole
-        ≡ replace_range (string_bytes held.now.text) from to text.now) }
+/// Replaces some bytes of a text by another. Its room follows its length: room that each block kept
+/// for later edits would add up over many documents.
+fn replace_in_place(
+    whole: &mut String,
+    from: usize,
+    to: usize,
+    text: &str,
+) -> Result<(), AllocError>
+    requires { CanReplace (string_bytes whole.old) from to }
+    ensures ok { OnOk result (string_bytes whole.new
+        ≡ replace_range (string_bytes whole.old) from to text.now) }
+    ensures err { OnErr result (string_bytes whole.new ≡ string_bytes whole.old) }
 {
-    let old = held.text.as_str();
-    let (front, _) = old.split_at(from);
-    let (_, back) = old.split_at(to);
-    let mut whole = String::with_capacity(held.alloc, room_for(old.len() + text.len()))?;
-    whole.push_str(front)?;
-    whole.push_str(text)?;
-    whole.push_str(back)?;
-    Ok(whole)
+    make_room(whole, to - from, text.len())?;
+    whole.replace_range(from..to, text)?;
+    give_room_back(whole);
+    Ok(())
 }
 
-/// The room for a text of so many bytes: that of a short one, or of the longest.
+/// Makes room in a text, unless it has that, for its bytes once some are removed and others inserted.
+fn make_room(text: &mut String, removed: usize, inserted: usize) -> Result<(), AllocError>
+    ensures { string_bytes text.new ≡ string_bytes text.old }
+{
+    let held = text.as_str().len();
+    let len = held.saturating_sub(removed).saturating_add(inserted);
+    if len <= text.capacity() {
+        return Ok(());
+    }
+    text.reserve_exact(room_for(len).saturating_sub(held))
+}
+
+/// Gives room back where a text leaves much of it unused.
+fn give_room_back(text: &mut String)
+    ensures { string_bytes text.new ≡ string_bytes text.old }
+{
+    let len = text.as_str().len();
+    if text.capacity().saturating_sub(len) > SPARE {
+        text.shrink_to(room_for(len));
+    }
+}
+
+/// A text with some bytes replaced by another, in a `String` of its own.
+fn replaced_in(
+    alloc: Global,
+    whole: &str,
+    from: usize,
+    to: usize,
+    text: &str,
+) -> Result<String, AllocError>
+    requires { CanReplace whole.now from to }
+    ensures { IfOk result (λ copy. string_bytes copy ≡ replace_range whole.now from to text.now) }
+{
+    let (front, _) = whole.split_at(from);
+    let (_, back) = whole.split_at(to);
+    in_one(alloc, front, text, back)
+}
+
+/// The room for a text of so many bytes, and for a few more.
 fn room_for(bytes: usize) -> usize {
-    if bytes <= SHORT { SHORT } else { MOST }
+    bytes | (STEP - 1)
 }
 
 /// Three texts in one.
 fn in_one(alloc: Global, front: &str, text: &str, back: &str) -> Result<String, AllocError>
     ensures { IfOk result (λ whole. string_bytes whole ≡ (front.now ++ text.now) ++ back.now) }
 {
-    let room = front.len().saturating_add(text.len());
-    let mut whole = String::with_capacity(alloc, room.saturating_add(back.len()))?;
+    let len = front.len().saturating_add(text.len());
+    let room = room_for(len.saturating_add(back.len()));
+    let mut whole = String::with_capacity(alloc, room)?;
     whole.push_str(front)?;
     whole.push_str(text)?;
     whole.push_str(back)?;

@@ -251,9 +251,9 @@ impl Windowed {
         if from < start || end < to || end - start > MOST {
             return Ok(false);
         }
-        let mut text = String::with_capacity(self.alloc, MOST.min(end - start + NEAR))?;
+        let mut text = String::with_capacity(self.alloc, end - start)?;
         self.tree.push_between(start, end, &mut text)?;
-        let window = Block::holding(self.alloc, text)?;
+        let window = Block::new(self.alloc, text.as_str())?;
         self.before = sums_before(&self.tree, start);
         self.skipped = self.before.with(window.sums());
         self.window = window;

@@ -20,4 +20,5 @@ returns-clause-value c =
     )
 
 pub returns-clause-utf8 : goal.returns-clause-utf8
-returns-clause-utf8 c = (holds c.self.inside.held c.args.self.now c.self.invariant c.self.view_is).utf8
+returns-clause-utf8 c =
+    (holds c.self.inside.held c.args.self.now c.self.invariant c.self.view_is).utf8

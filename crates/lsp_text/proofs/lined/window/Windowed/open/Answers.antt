@@ -21,14 +21,15 @@ window_is : (c : After-sums) → c.in_ok-window.window
     ≡ bytes_between c.args.self.now.tree c.in-Some-Some.start c.in-Some-Some.end
 window_is c =
     let between = bytes_between c.args.self.now.tree c.in-Some-Some.start c.in-Some-Some.end in
-    c.in_ok-window.ensures ∙ c.in_ok-push_between.ensures
+    c.in_ok-window.ensures ∙ c.as_str.ensures.value ∙ c.in_ok-push_between.ensures
     ∙ ap (λ (x : List ℕ). x ++ between) c.in_ok-text.ensures.bytes
 
 sums_opened : (c : After-sums)
     → AreOpened c.args.self.now c.in-Some-Some.end c.sums_before-self.result c.sums.result
 sums_opened c =
     opened_sums c.args.self.now c.args.from c.args.to c.in-Some-Some.start c.in-Some-Some.end
-    c.sums_before-self.result c.sums.result c.in_ok-window.window (can_open c) c.sums_before-self.ensures (window_is c)
+    c.sums_before-self.result c.sums.result c.in_ok-window.window (can_open c)
+    c.sums_before-self.ensures (window_is c)
     c.sums.ensures.sums
 
 pub with-self-requires-clause-these : goal.with-self-requires-clause-these
