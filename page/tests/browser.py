@@ -28,7 +28,7 @@ from data import EXAMPLES, output, written
 WIDTHS, THEMES = [800, 1600], ["light", "dark"]
 # Rows and their parts that may be in the tree of a page, however long the log is.
 MOST_ROWS = 150
-SECONDS = 60
+SECONDS = 30
 
 
 def start():
@@ -38,7 +38,7 @@ def start():
         options.add_argument(word)
     options.set_capability("goog:loggingPrefs", {"browser": "ALL"})
     driver = webdriver.Chrome(service=Service("/usr/bin/chromedriver"), options=options)
-    driver.set_page_load_timeout(SECONDS)
+    driver.set_page_load_timeout(2 * SECONDS)
     return driver
 
 
