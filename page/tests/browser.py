@@ -274,6 +274,25 @@ def prints_all_rows(page):
     assert len(page.all("#lanes .row")) < MOST_ROWS
 
 
+def shows_lines_that_are_not_known(page):
+    """What a later lspcheck adds to an explanation is shown as it is."""
+    page.open()
+    assert 'other 5 "a<b>" event 3 editor 2' in page.text(".first .facts")
+    assert "note other" in page.text("#overview")
+    assert not (found := page.log()), found
+
+
+def later(program, place):
+    """A program that adds lines to explanations."""
+    path = place / "later"
+    added = 'other 5 "a<b>" event 3 editor 2'
+    path.write_text(f"""#!/bin/sh
+[ "$1" = explain ] || exec {program} "$@"
+{program} "$@" | sed '/^usually/{{p;s/.*/{added}/;p;s/.*/note other/}}'""")
+    path.chmod(0o755)
+    return path
+
+
 def tests_of(driver, program, place):
     """Each test as a name and a call."""
     for log in EXAMPLES:
@@ -290,6 +309,8 @@ def tests_of(driver, program, place):
     long = written(place, "long.log", logs.long(20000, difference=12001))
     page_of_long = Page(driver, make(program, place, long))
     yield "stays_small", lambda: stays_small(page_of_long, 20000)
+    known = Page(driver, make(later(program, place), place, EXAMPLES[-1]))
+    yield "shows_lines_that_are_not_known", lambda: shows_lines_that_are_not_known(known)
     printed = Page(driver, make(program, place, EXAMPLES[-1]))
     yield "prints_all_rows", lambda: prints_all_rows(printed)
 
