@@ -125,7 +125,7 @@ def shows_the_violation(page, program, log):
     assert lines[1] in said
     for line in lines[2:]:
         for event in re.findall(r"\bevent (\d+) ", line)[:1]:
-            links = page.all(f'#overview a[href="#event-{event}"]')
+            links = page.all(f'.first a[href="#event-{event}"]')
             assert links or line.startswith("event "), line
         for text in re.findall(r'^(?:inside|uri|by-messages) (".*")$', line):
             plain = json.loads(text).rstrip("\n")
@@ -141,6 +141,10 @@ def shows_the_violation(page, program, log):
 
 def marks_what_differs(page):
     """Of the hostile session: both texts, and the characters in which they differ."""
+    for width in reversed(WIDTHS):
+        page.open(width)
+        right = page.run("return [...document.querySelectorAll('.first mark')].map((it) => it.getBoundingClientRect().right)")
+        assert right and max(right) < width, (width, right)
     page.open()
     marked = page.texts(".first mark")
     assert "".join(marked), marked
