@@ -100,7 +100,7 @@ def text_after(program, number, uri):
     """The text of a document after a message of the editor, or None if it is not open."""
     if number == 0:
         return None
-    done = program.run(["text", "--all", "--quiet", str(number), uri, program.log])
+    done = program.run(["text", "--all", "--quiet", str(number), uri])
     return done.stdout.decode("utf-8", "replace") if done.returncode == 0 else None
 
 

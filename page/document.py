@@ -35,6 +35,8 @@ SCRIPTS = [
 # The contents of events are in blocks of this many characters, and each is read when it is needed.
 BLOCK = 200_000
 MOST_OF_EXIT = 2_000
+# How many violations are listed in any page; in one with more events, each that it shows is.
+LISTED_ALWAYS = 10_000
 
 
 def data_block(name, value):
@@ -98,7 +100,7 @@ def data_of(program, most_events, most_bytes):
     report = program.output("explain").decode("utf-8", "replace").splitlines()
     if report[:1] == ["bad log L1 record 0"]:
         raise Failed(f"{program.log}: not a log: its first line is not that of a log", 2)
-    outline = outline_of(program)
+    outline = outline_of(program, 2 * most_events + LISTED_ALWAYS)
     explain(outline, program)
     session, log_format, left = cuts.session_of(program, outline, most_events, most_bytes)
     texts = texts_of(program, outline.violations)

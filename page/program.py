@@ -33,7 +33,7 @@ def find_program(named, script):
 
 
 class Program:
-    """lspcheck, with the log that it reads."""
+    """lspcheck, with the log that it reads on standard input: its name may be any bytes."""
 
     def __init__(self, path, log):
         self.path, self.log = path, os.path.abspath(log)
@@ -47,9 +47,9 @@ class Program:
         return line
 
     def run(self, words):
-        how = {"stdin": subprocess.DEVNULL, "capture_output": True}
         try:
-            return subprocess.run([self.path, *words], **how)
+            with open(self.log, "rb") as log:
+                return subprocess.run([self.path, *words], stdin=log, capture_output=True)
         except OSError as error:
             raise Failed(f"{self.path}: {error.strerror}") from error
 
@@ -62,15 +62,15 @@ class Program:
 
     def output(self, *words):
         """All bytes that a command writes."""
-        done = self.run([*words, "--quiet", self.log])
+        done = self.run([*words, "--quiet"])
         self.check_status(words, done.returncode, done.stderr)
         return done.stdout
 
     def lines(self, *words):
         """The lines that a command writes, one by one, without their line ends."""
-        with tempfile.TemporaryFile() as errors:
-            command = [self.path, *words, "--quiet", self.log]
-            with subprocess.Popen(command, stdout=subprocess.PIPE, stderr=errors) as running:
+        with tempfile.TemporaryFile() as errors, open(self.log, "rb") as log:
+            how = {"stdin": log, "stdout": subprocess.PIPE, "stderr": errors}
+            with subprocess.Popen([self.path, *words, "--quiet"], **how) as running:
                 try:
                     for line in running.stdout:
                         yield line.decode(errors="replace").removesuffix("\n")

@@ -21,8 +21,8 @@ def page_of_rules():
 
 
 def plain(text):
-    """A text without links and emphasis; code stays between backquotes."""
-    text = LINK.sub(r"\1", text)
+    """A text without links, emphasis and marks of own choices; code stays between backquotes."""
+    text = LINK.sub(r"\1", text).replace(" *(own)*", "")
     return re.sub(r"\*+([^*]+)\*+", r"\1", text)
 
 

@@ -7,8 +7,8 @@ from contents import FRAMES, Contents, Other
 from listing import KINDS, SNAPSHOT, Listing
 from summaries import at, cut, summary
 
-# How many violations are listed, and how many are explained.
-MOST_LISTED, MOST_EXPLAINED = 5_000, 500
+# How many violations are explained.
+MOST_EXPLAINED = 500
 LONGEST_NAME = 300
 ENCODINGS = ("utf-8", "utf-16", "utf-32")
 # The columns of a row that a later event may set.
@@ -25,12 +25,13 @@ class Outline:
     report: list = field(default_factory=list)
 
 
-def outline_of(program):
+def outline_of(program, most):
+    """The outline of a log, with the first violations."""
     found = Outline()
     listing = Listing(program.lines("show", "--all", "--long"))
     for event, violation in listing:
         found.events += event is not None
-        if violation and len(found.violations) < MOST_LISTED:
+        if violation and len(found.violations) < most:
             found.violations.append(violation)
         elif violation:
             found.unlisted += 1

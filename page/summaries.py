@@ -68,8 +68,8 @@ def changes(params):
     items = at(params, "contentChanges")
     if not isinstance(items, list):
         return "?"
-    if len(items) == 1:
-        return change(items[0])
+    if len(items) < 2:
+        return change(items[0]) if items else "no changes"
     return f"{count(len(items), 'change')}: " + "; ".join(change(item) for item in items[:3])
 
 

@@ -164,9 +164,11 @@ function violationPart(violation) {
         element("p", "", "It follows from an earlier violation. lspcheck explains only that one.")),
       texts, aboutRule(violation.rule));
   }
+  const why = violation.lines.length > 0 ? [explanation(violation), whatWasWritten(violation)] :
+    [element("p", "", "This page explains only the first violations. The others are explained by ",
+      shownText(`lspcheck explain --all ${session.name}`), ".")];
   return element("div", "violation-part",
-    element("section", "why", element("h3", "", "Why ", source("lspcheck")), explanation(violation),
-      whatWasWritten(violation)),
+    element("section", "why", element("h3", "", "Why ", source("lspcheck")), ...why),
     row ? columnsPart(violation, row) : null,
     texts, suspects(violation), aboutRule(violation.rule));
 }

@@ -162,11 +162,10 @@ function badTag(text) {
 function endCell() {
   const last = session.violations.filter((it) => it.event > session.events);
   const said = last.map((it) => badTag(`${it.rule} ${it.text} (${it.who})`));
-  const exit = session.exit.map((line) => element("span", "exit", ...visibleText(line)));
   const isBad = session.ending[0].startsWith("bad log");
   const badLog = isBad ? badTag(session.ending.slice(0, 2).join(" ")) : null;
   return element("div", "wide", element("span", "quiet", "End of the log"), ...said,
-    badLog, exit.length ? element("span", "exit", "The server’s end: ") : null, ...exit);
+    badLog, session.exit.length ? element("span", "", ...visibleText(endOfServer())) : null);
 }
 
 function gapCell(gap) {

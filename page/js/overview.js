@@ -26,6 +26,19 @@ function whereItIs() {
   return element("p", "where", `${whose}, `, eventLink(violation.event), " of the log.");
 }
 
+const SIGNALS = { 1: "HUP", 2: "INT", 4: "ILL", 6: "ABRT", 7: "BUS", 8: "FPE", 9: "KILL",
+  11: "SEGV", 13: "PIPE", 15: "TERM" };
+
+// How the server ended, as the recorder wrote it next to the log.
+function endOfServer() {
+  const said = session.exit.map((line) => {
+    const [word, value] = line.split(" ");
+    const name = word === "signal" && SIGNALS[value] ? ` (SIG${SIGNALS[value]})` : "";
+    return line.replace(/^time /, "") + name;
+  });
+  return `The server ended: ${said.join(", ")}.`;
+}
+
 function factsOfLog() {
   const snapshots = rows.filter((row) => row.side === SNAPSHOT).length;
   const facts = [count(session.events, "event"), count(snapshots, "snapshot"),
@@ -45,8 +58,7 @@ function verdictPart() {
     element("p", "name", ...visibleText(session.name, true)),
     element("h1", "", element("span", "word", verdict), " ", text),
     whereItIs(),
-    session.exit.length === 0 ? null :
-      element("p", "where", "The server ended: ", ...visibleText(session.exit.join(" · "))),
+    session.exit.length === 0 ? null : element("p", "where", ...visibleText(endOfServer())),
     factsOfLog(),
     element("p", "quiet", "The verdict is that of ", shownText(session.version),
       ". What this page worked out itself is marked ", source("page"), "."));

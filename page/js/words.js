@@ -67,7 +67,7 @@ function shownPart(values) {
 
 const SUSPECTS = {
   0: "none: the editor changed its text without a message, or the texts were equal again later",
-  1: "one message: it is the wrong one",
+  1: "one message made the texts differ",
 };
 
 // For each word: a label, and what is shown for the values of its line.
@@ -100,7 +100,9 @@ const LINES = {
   kept: ["Kept versions", (versions) => [versions.join(", ")]],
   snapshot: ["Differs from", (by) => shownEvent(by)],
   equal: ["Last equal", ([version, ...by]) => [`at version ${version}: `, ...shownEvent(by)]],
-  suspects: ["Suspects", ([count]) => [SUSPECTS[count] ?? `one of ${count} messages is wrong`]],
+  suspects: ["Suspects", ([number]) => [
+    SUSPECTS[number] ?? `${number} messages may have made the texts differ`,
+  ]],
   closed: ["Closed", (by) => ["by ", ...shownEvent(by)]],
   opened: ["Opened", () => ["never"]],
   similar: ["Similar", ([uri, ...by]) => [shownText(uri), " is open, by ", ...shownEvent(by)]],

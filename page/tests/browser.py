@@ -28,7 +28,7 @@ from data import EXAMPLES, output, written
 WIDTHS, THEMES = [800, 1600], ["light", "dark"]
 # Rows and their parts that may be in the tree of a page, however long the log is.
 MOST_ROWS = 150
-SECONDS = 60
+SECONDS = 30
 
 
 def start():
@@ -38,7 +38,7 @@ def start():
         options.add_argument(word)
     options.set_capability("goog:loggingPrefs", {"browser": "ALL"})
     driver = webdriver.Chrome(service=Service("/usr/bin/chromedriver"), options=options)
-    driver.set_page_load_timeout(SECONDS)
+    driver.set_page_load_timeout(2 * SECONDS)
     return driver
 
 
@@ -125,7 +125,7 @@ def shows_the_violation(page, program, log):
     assert lines[1] in said
     for line in lines[2:]:
         for event in re.findall(r"\bevent (\d+) ", line)[:1]:
-            links = page.all(f'#overview a[href="#event-{event}"]')
+            links = page.all(f'.first a[href="#event-{event}"]')
             assert links or line.startswith("event "), line
         for text in re.findall(r'^(?:inside|uri|by-messages) (".*")$', line):
             plain = json.loads(text).rstrip("\n")
@@ -141,6 +141,10 @@ def shows_the_violation(page, program, log):
 
 def marks_what_differs(page):
     """Of the hostile session: both texts, and the characters in which they differ."""
+    for width in reversed(WIDTHS):
+        page.open(width)
+        right = page.run("return [...document.querySelectorAll('.first mark')].map((it) => it.getBoundingClientRect().right)")
+        assert right and max(right) < width, (width, right)
     page.open()
     marked = page.texts(".first mark")
     assert "".join(marked), marked
@@ -274,6 +278,25 @@ def prints_all_rows(page):
     assert len(page.all("#lanes .row")) < MOST_ROWS
 
 
+def shows_lines_that_are_not_known(page):
+    """What a later lspcheck adds to an explanation is shown as it is."""
+    page.open()
+    assert 'other 5 "a<b>" event 3 editor 2' in page.text(".first .facts")
+    assert "note other" in page.text("#overview")
+    assert not (found := page.log()), found
+
+
+def later(program, place):
+    """A program that adds lines to explanations."""
+    path = place / "later"
+    added = 'other 5 "a<b>" event 3 editor 2'
+    path.write_text(f"""#!/bin/sh
+[ "$1" = explain ] || exec {program} "$@"
+{program} "$@" | sed '/^usually/{{p;s/.*/{added}/;p;s/.*/note other/}}'""")
+    path.chmod(0o755)
+    return path
+
+
 def tests_of(driver, program, place):
     """Each test as a name and a call."""
     for log in EXAMPLES:
@@ -290,6 +313,8 @@ def tests_of(driver, program, place):
     long = written(place, "long.log", logs.long(20000, difference=12001))
     page_of_long = Page(driver, make(program, place, long))
     yield "stays_small", lambda: stays_small(page_of_long, 20000)
+    known = Page(driver, make(later(program, place), place, EXAMPLES[-1]))
+    yield "shows_lines_that_are_not_known", lambda: shows_lines_that_are_not_known(known)
     printed = Page(driver, make(program, place, EXAMPLES[-1]))
     yield "prints_all_rows", lambda: prints_all_rows(printed)
 

@@ -41,6 +41,24 @@ def writes_a_page(program, place):
     assert shown.stdout == page.read_text()
 
 
+def writes_odd_names(program, place):
+    """A name that is not UTF-8, and one that looks like an option."""
+    for name in (b"a\xff.log", b"-b.log"):
+        path = os.path.join(os.fsencode(place), name)
+        shutil.copy(EXAMPLE, path)
+        words = [os.fsencode(it) for it in (sys.executable, COMMAND, "--program", program)]
+        done = subprocess.run([*words, "--", name], cwd=place, capture_output=True, timeout=60)
+        assert done.returncode == 0 and done.stdout == name[:-4] + b".html\n", done
+
+
+def says_what_standard_output_refuses(program, place):
+    with open("/dev/full", "wb") as full:
+        for words in ([EXAMPLE, "-o", "-"], [EXAMPLE, "-o", place / "x.html"]):
+            done = subprocess.run([sys.executable, COMMAND, *words, "--program", program],
+                                  stdout=full, stderr=subprocess.PIPE, text=True, timeout=60)
+            answers(done, 3, "standard output: No space left on device")
+
+
 def keeps_other_files(program, place):
     log, other = place / "x.log", place / "x.html"
     shutil.copy(EXAMPLE, log)
@@ -128,6 +146,8 @@ def finds_the_program(program, place):
 
 TESTS = [
     writes_a_page,
+    writes_odd_names,
+    says_what_standard_output_refuses,
     keeps_other_files,
     says_what_is_wrong_with_files,
     says_what_is_wrong_with_words,
