@@ -35,11 +35,11 @@ def write_all(file, data):
 
 
 def is_readable(file, seconds=0):
-    """Whether there is something to read within some seconds; not if the file is closed."""
-    try:
-        return bool(select.select([file], [], [], seconds)[0])
-    except OSError:
-        return False
+    """Whether there is something to read, or the end, within some seconds; not if the file is
+    closed."""
+    poll = select.poll()
+    poll.register(file, select.POLLIN)
+    return any(event & (select.POLLIN | select.POLLHUP) for _, event in poll.poll(seconds * 1000))
 
 
 def say(text):
@@ -222,13 +222,20 @@ class Log(threading.Thread):
         try:
             write_all(self.file, record)
         except OSError as error:
-            self.stop(f"{self.path}: {error.strerror}; the log ends here")
-            with contextlib.suppress(OSError):
-                os.ftruncate(self.file, self.size)
+            self.cut(error)
             return
         self.size += len(record)
         if self.alarm:
             self.alarm.write(record)
+
+    def cut(self, error):
+        """Ends the log with its last whole record; without any, it is removed."""
+        self.stop(f"{self.path}: {error.strerror}; the log ends here")
+        with contextlib.suppress(OSError):
+            os.ftruncate(self.file, self.size)
+            if self.size == 0:
+                os.unlink(self.path)
+                self.file = None
 
     def begin(self):
         """Creates the log; whether that was possible."""

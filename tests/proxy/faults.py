@@ -115,6 +115,24 @@ def full_disk(place):
             subprocess.run(["umount", disk])
 
 
+def no_room(place):
+    """The disk doesn't even take the first record."""
+    disk = place / "disk"
+    disk.mkdir()
+    words = ["mount", "-t", "tmpfs", "-o", "size=4k", "none", disk]
+    if subprocess.run(words, capture_output=True).returncode != 0:
+        return
+    try:
+        editor = Editor(place, logs=disk / "logs")
+        editor.tell("large", ["x" * 10_000])
+        continues = keeps_going(editor, 5)
+        yield "the session continues", continues and editor.quit() == 0, editor.words()
+        yield "it is said once", editor.words().count("\n") == 1, editor.words()
+        yield "nothing is left", not list((disk / "logs").iterdir()), None
+    finally:
+        subprocess.run(["umount", disk])
+
+
 def no_folder(make):
     """A test in which no log can be created."""
 
@@ -175,6 +193,7 @@ TESTS = {
     **{f"hostile: {name}": hostile(name) for name in HOSTILE},
     "hostile: 60 MB": large_frame,
     "faults: full disk": full_disk,
+    "faults: no room": no_room,
     "faults: below a file": no_folder(below_file),
     "faults: no files there": no_folder(read_only),
     "faults: the folder vanishes": folder_vanishes,

@@ -168,19 +168,19 @@ CONVERTED = {
 def converts(place):
     """Line ends and byte order marks are those that the editor sent."""
     editor = Editor(place).start()
-    uris = {}
-    for name, (data, shown, change, _) in CONVERTED.items():
-        file = place / f"{name}.c"
-        file.write_bytes(data)
-        uris[name] = file.as_uri()
+    files = {name: place / f"{name}.c" for name in CONVERTED}
+    uris = {name: file.as_uri() for name, file in files.items()}
+    for name, (_, shown, change, _) in CONVERTED.items():
         # The last whole text counts, not the first.
         editor.open(uris[name], "\ufeff\r")
         editor.change(uris[name], 2, shown)
         if change:
             start = {"line": 0, "character": 0}
             editor.change(uris[name], 3, change, {"start": start, "end": start})
-    for uri in uris.values():
-        editor.save(uri)
+    sent(editor)
+    for name, (data, *_) in CONVERTED.items():
+        files[name].write_bytes(data)
+        editor.save(uris[name])
     editor.taken(len(uris))
     editor.quit()
     texts = {uri.decode(): text for _, uri, text in editor.snapshots()}
