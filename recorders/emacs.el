@@ -27,7 +27,8 @@ A message then shows each violation at once, and a window explains it.")
   (with-current-buffer (get-buffer-create
                         (format "*lspcheck: %s*" (file-name-nondirectory file)))
     (goto-char (point-max))
-    (insert (mapconcat #'identity lines "\n") "\n")
+    (dolist (line lines)
+      (insert line "\n"))
     (current-buffer)))
 
 (defun lspcheck--lines (hear)
@@ -40,12 +41,16 @@ A message then shows each violation at once, and a window explains it.")
           (funcall hear process line))))))
 
 (defun lspcheck--hear (file)
-  "A function that keeps each line about FILE, a log, and shows each violation."
-  (lambda (_process line)
-    (let ((buffer (lspcheck--keep file (list line))))
-      (when (string-match-p "\\`\\(no [0-9]\\|bad log \\)" line)
-        (display-buffer buffer)
-        (message "lspcheck: %s" line)))))
+  "A function that shows each violation in FILE, a log, and keeps the lines from the first one on."
+  (let ((is-told nil))
+    (lambda (_process line)
+      (let ((is-violation (string-match-p "\\`\\(no [0-9]\\|bad log \\)" line)))
+        (setq is-told (or is-told is-violation))
+        (when is-told
+          (lspcheck--keep file (list line)))
+        (when is-violation
+          (display-buffer (lspcheck--keep file nil))
+          (message "lspcheck: %s" line))))))
 
 (defun lspcheck--hear-line-ends (file)
   "A function that shows the first violation in FILE, a log, that concerns line ends alone."

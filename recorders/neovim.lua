@@ -76,12 +76,16 @@ local function end_check(log, check)
 end
 
 -- A file whose line ends are converted on the way differs from its first snapshot on. So one check
--- ignores line ends, and another is there only to say so once.
+-- ignores line ends, and another is there only to say so once. Without a violation nothing is kept.
 local function start_alarm(log)
-  local said, block = nil, {}
+  local is_told, said, block = false, false, {}
   start_check(log, "--ignore-line-ends", function(line)
-    keep(log, { line })
-    if line:match("^no %d") or line:match("^bad log ") then
+    local is_violation = line:match("^no %d") or line:match("^bad log ")
+    is_told = is_told or is_violation
+    if is_told then
+      keep(log, { line })
+    end
+    if is_violation then
       say(("lspcheck: %s (:buffer %d)"):format(line, log.buffer))
     end
   end)

@@ -50,7 +50,7 @@ endfunction
 function! s:Say(message) abort
   redraw
   echohl WarningMsg
-  echomsg strcharpart(a:message, 0, v:echospace)
+  echomsg strcharpart(a:message, 0, get(v:, 'echospace', &columns - 12))
   echohl None
 endfunction
 
@@ -71,11 +71,13 @@ function! s:Keep(log, lines) abort
   return l:buffer
 endfunction
 
-" Keeps each line about a log, and shows each violation.
-function! s:Hear(log, line) abort
-  let l:buffer = s:Keep(a:log, [a:line])
+" Shows each violation, and keeps the lines from the first one on.
+function! s:Hear(log, state, line) abort
+  let l:is_violation = a:line =~# '^\(no \d\|bad log \)'
+  let a:state.is_told = a:state.is_told || l:is_violation
+  let l:buffer = a:state.is_told ? s:Keep(a:log, [a:line]) : 0
 
-  if a:line =~# '^\(no \d\|bad log \)'
+  if l:is_violation
     call s:Say('lspcheck: ' . a:line . ' (:buffer ' . l:buffer . ')')
   endif
 endfunction
@@ -101,12 +103,12 @@ function! s:StartAlarm(log) abort
     return
   endif
 
-  let l:state = {'block': [], 'is_shown': 0}
+  let l:state = {'is_told': 0, 'block': [], 'is_shown': 0}
   let l:command = ['lspcheck', 'explain', '--all']
   let s:checks[a:log] = [
   \   job_start(l:command + ['--ignore-line-ends'], {
   \     'in_mode': 'raw',
-  \     'out_cb': {_, line -> s:Hear(a:log, line)},
+  \     'out_cb': {_, line -> s:Hear(a:log, l:state, line)},
   \   }),
   \   job_start(l:command, {
   \     'in_mode': 'raw',
