@@ -161,6 +161,7 @@ RUNS = {
     "complete": ["check", "--complete"],
     "all": ["check", "--all"],
     "every": ["check", "--every"],
+    "all-and-every": ["check", "--all", "--every"],
     "all-complete": ["check", "--all", "--complete"],
     "show": ["show"],
     "long": ["show", "--long"],

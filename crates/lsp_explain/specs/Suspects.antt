@@ -4,6 +4,7 @@ use Rattle.std.specs.Prelude.{ℕ, ◌+◌, ◌-◌, int_lt, nat_lt, List, [], �
 use Rattle.std.specs.Prelude.{Bool, true, not, Option, Some, None}
 use Rattle.std.specs.List.{prefix_len}
 use Rattle.lsp_docs.specs.Calls.{Call, opens, changes, closes, saves, shows}
+use Rattle.lsp_survey.specs.LastOnes.{last_ones}
 use Rattle.lsp_survey.specs.Marking.{next_rank, rank_or}
 use Rattle.lsp_survey.specs.declared.notes.mark.Setter.{Setter}
 use Rattle.lsp_survey.specs.declared.notes.mark.Shown.{Shown}
@@ -41,16 +42,20 @@ after_equal rank done = drop (prefix_len (is_cleared rank) done) done
 abbrev pub up_to : Until → List Setter → List Setter
 up_to limit done = take (prefix_len (is_up_to limit) done) done
 
--- those of these messages that are suspects, where the version of this rank was equal
+-- how many of them are named at most
+abbrev pub most_named : ℕ
+most_named = 17
+
+-- the last of these messages that are suspects, where the version of this rank was equal
 abbrev pub suspected : ℕ → Until → List Setter → List Setter
-suspected rank limit done = up_to limit (after_equal rank done)
+suspected rank limit done = last_ones most_named (up_to limit (after_equal rank done))
 
 -- the rank of the version that differs, of which the last suspect is the last of these or the call
 abbrev pub rank_at : ℕ → Until → List Setter → ℕ
 rank_at rank (until.Message p number) named = next_rank (rank_or rank named)
 rank_at rank limit named = rank_or rank named
 
--- how many there are, also those that are no longer looked at
+-- how many there are, also those that are not named
 abbrev pub suspect_count : ℕ → Until → List Setter → ℕ
 suspect_count rank limit named = rank_at rank limit named - rank
 

@@ -1,6 +1,7 @@
 //! Which messages may have made texts differ.
 ghost use Rattle.std.specs.Prelude.{◌≡◌, ◌≤◌, ◌++◌, ◌∷◌, [], OnOk, length};
 ghost use Rattle.std.specs.List.{prefix_len};
+ghost use Rattle.lsp_survey.specs.LastOnes.{last_ones};
 ghost use Rattle.lsp_survey.specs.Marking.{rank_or};
 ghost use Rattle.lsp_facts.specs.Fact.{facts_view};
 ghost use Rattle.lsp_explain.specs.Suspects as spec;
@@ -9,6 +10,9 @@ use lsp_facts::Fact;
 use lsp_replay::EventPlace;
 use lsp_rpc::Memory;
 use lsp_survey::{Setter, Shown};
+
+/// How many of the messages that set a version are named at most.
+const MOST_NAMED: usize = 17;
 
 /// Which message produced the text that differs.
 #[derive(Clone, Copy, Debug, PartialEq, Eq)]
@@ -21,8 +25,7 @@ pub(crate) enum Until {
     Message { place: EventPlace, version: i32 },
 }
 
-/// Adds how many messages can have made texts differ, and each of them that is among those that set
-/// the last versions, in order.
+/// Adds how many messages can have made texts differ, and the last of them, in order.
 pub(crate) fn push_suspects(
     facts: &mut Vec<Fact>,
     equal: Option<Shown>,
@@ -33,7 +36,7 @@ pub(crate) fn push_suspects(
         ++ spec.suspect_facts equal until setters.now) }
 {
     let rank = equal_rank(equal);
-    let named = up_to(until, after_equal(rank, setters));
+    let named = last_named(up_to(until, after_equal(rank, setters)));
     let count = suspect_count(rank, until, named);
     facts.push(Fact::Suspects(count))?;
     push_named(facts, named)?;
@@ -99,7 +102,14 @@ fn is_up_to(until: Until, setter: &Setter) -> bool
     }
 }
 
-/// How many suspects there are, also those that are no longer looked at.
+/// The last of the suspects, as many as are named.
+fn last_named(setters: &[Setter]) -> &[Setter]
+    ensures { result.now ≡ last_ones spec.most_named setters.now }
+{
+    &setters[setters.len().saturating_sub(MOST_NAMED)..]
+}
+
+/// How many suspects there are, also those that are not named.
 fn suspect_count(rank: u64, until: Until, named: &[Setter]) -> u64
     ensures { result ≡ spec.suspect_count rank until named.now }
 {

@@ -1,24 +1,40 @@
 -- Where two texts first differ, said once of several things.
-use Rattle.std.proofs.Common.{◌≡◌, ◌≢◌, ◌∷◌, List, ap, subst, ◌∙◌}
+use Rattle.std.proofs.Common.{◌≡◌, ◌≢◌, [], ◌∷◌, List, length, ap, subst, ◌∙◌}
 use Rattle.lsp_types.specs.declared.position.Encoding.{Encoding}
 use Rattle.lsp_types.specs.declared.position.Position.{Position}
 use Rattle.lsp_text.specs.Difference.{DifferFirst, position_at, line_around}
+use Rattle.lsp_text.specs.Difference.{line_before_place}
 use Rattle.lsp_text.proofs.Differing.Differences.{one_place}
 use Rattle.lsp_docs.specs.Texts.{Text}
-use Rattle.lsp_facts.specs.Fact.{Fact, counts_in, differs_at}
-use Rattle.lsp_facts.specs.DocumentFacts.{AreOfDifference, lines_apart}
-use Rattle.lsp_facts.specs.Part.{Part}
+use Rattle.lsp_facts.specs.Fact.{Fact, by_messages, counts_in, differs_at}
+use Rattle.lsp_facts.specs.DocumentFacts.{AreOfDifference}
+use Rattle.lsp_facts.specs.Part.{Part, part_around, part_at}
+
+-- the line of a text at the place where two texts first differ, and its front, found by themselves
+pub part_there : (a b t x front : Text)
+    → DifferFirst a b (λ n. x ≡ line_around t n)
+    → DifferFirst a b (λ n. front ≡ line_before_place t n)
+    → DifferFirst a b (λ n. part_at (length front) x ≡ part_around t n)
+part_there a b t x front h k =
+    let n = h.0 in
+    let before : front ≡ line_before_place t n =
+    k.2 ∙ ap (line_before_place t) (one_place a b k.0 n k.1 h.1) in (
+      n,
+      h.1,
+      ap (λ (l : Text). part_at (length l) x) before
+          ∙ ap (part_at (length (line_before_place t n))) h.2,
+    )
 
 -- the facts on two texts that differ, each found by itself
-pub are_apart : (enc : Encoding) (a b : Text) (line : Part → Fact) (at : Position) (x y : Text)
+pub are_apart : (enc : Encoding) (a b : Text) (line : Part → Fact) (at : Position) (p q : Part)
     → DifferFirst a b (λ n. at ≡ position_at enc a n)
-    → DifferFirst a b (λ n. x ≡ line_around a n) → DifferFirst a b (λ n. y ≡ line_around b n)
-    → AreOfDifference enc a b line (counts_in enc ∷ differs_at at ∷ lines_apart x y line)
-are_apart enc a b line at x y h k l =
+    → DifferFirst a b (λ n. p ≡ part_around a n) → DifferFirst a b (λ n. q ≡ part_around b n)
+    → AreOfDifference enc a b line (counts_in enc ∷ differs_at at ∷ by_messages p ∷ line q ∷ [])
+are_apart enc a b line at p q h k l =
     let n = h.0 in
-    let held : x ≡ line_around a n = k.2 ∙ ap (line_around a) (one_place a b k.0 n k.1 h.1) in
-    let other : y ≡ line_around b n = l.2 ∙ ap (line_around b) (one_place a b l.0 n l.1 h.1) in
-    (n, h.1, λ i. counts_in enc ∷ differs_at (h.2 i) ∷ lines_apart (held i) (other i) line)
+    let held : p ≡ part_around a n = k.2 ∙ ap (part_around a) (one_place a b k.0 n k.1 h.1) in
+    let other : q ≡ part_around b n = l.2 ∙ ap (part_around b) (one_place a b l.0 n l.1 h.1) in
+    (n, h.1, λ i. counts_in enc ∷ differs_at (h.2 i) ∷ by_messages (held i) ∷ line (other i) ∷ [])
 
 -- the same of texts that equal these
 pub apart_moved : (enc : Encoding) (line : Part → Fact) (facts : List Fact) (x y a b : Text)

@@ -13,7 +13,7 @@ use Rattle.lsp_types.specs.declared.line_ends.LineEnds.TheVariants.{Ignored}
 use Rattle.lsp_text.specs.Lines.{Line, lines_of}
 use Rattle.lsp_text.specs.Places.{units, place_of}
 use Rattle.lsp_text.specs.Edits.{Edit, changed, applied}
-use Rattle.lsp_text.specs.Difference.{DifferFirst, line_around, position_at}
+use Rattle.lsp_text.specs.Difference.{DifferFirst, position_at}
 use Rattle.lsp_text.specs.InsideCharacter.{LiesInside}
 use Rattle.lsp_text.specs.SameText.{compared, same_text}
 use Rattle.lsp_text.specs.Sizes.{IsSizeWith}
@@ -30,7 +30,7 @@ use Rattle.lsp_facts.specs.Fact.{falls_inside, fits_in, would_have, may_have, di
 use Rattle.lsp_facts.specs.Fact.{by_messages}
 use Rattle.lsp_facts.specs.Fact.{in_editor, in_line_ends, saved_line, keeps}
 use Rattle.lsp_facts.specs.Edges.{edges}
-use Rattle.lsp_facts.specs.Part.{Part, part_at, same_front}
+use Rattle.lsp_facts.specs.Part.{Part, part_around}
 use Rattle.lsp_facts.specs.Refuting.{first_other}
 use Rattle.lsp_types.specs.declared.rules.TheConstants as rules
 
@@ -154,17 +154,11 @@ pub record IsFailing (limit : ℕ) (enc : Encoding) (t : Text) (cs : List Edit) 
 
 -- ---- 608 and 702: texts that differ
 
--- two lines, of long ones the parts around the first character that differs in them
-abbrev pub lines_apart : Text → Text → (Part → Fact) → List Fact
-lines_apart held other line =
-    by_messages (part_at (same_front held other) held)
-    ∷ line (part_at (same_front held other) other) ∷ []
-
--- where they first differ, and the line of each there
+-- where they first differ, and the line of each there, of a long one the part around the place
 abbrev pub difference_facts : Encoding → Text → Text → (Part → Fact) → ℕ → List Fact
 difference_facts enc t other line n =
     counts_in enc ∷ differs_at (position_at enc t n)
-    ∷ lines_apart (line_around t n) (line_around other n) line
+    ∷ by_messages (part_around t n) ∷ line (part_around other n) ∷ []
 
 abbrev pub AreOfDifference : Encoding → Text → Text → (Part → Fact) → List Fact → Type 0
 AreOfDifference enc t other line facts =

@@ -1,9 +1,9 @@
 -- A line of a document, of which a long one is shown as the part around a place.
-use Rattle.std.specs.Prelude.{ℕ, ◌-◌, length, take, drop, zip, nat_eq, nat_lt}
+use Rattle.std.specs.Prelude.{ℕ, ◌-◌, length, take, drop, nat_lt}
 use Rattle.std.specs.Prelude.{if◌then◌else◌, String, string_bytes}
 use Rattle.std.specs.Global.{Global}
-use Rattle.std.specs.List.{prefix_len}
 use Rattle.std.specs.Str.{chars}
+use Rattle.lsp_text.specs.Difference.{line_around, line_before_place}
 use Rattle.lsp_docs.specs.Texts.{Text}
 use Rattle.lsp_facts.specs.declared.part.Excerpt as code
 
@@ -18,10 +18,6 @@ text_of text = chars (string_bytes text)
 
 abbrev pub part_view : code.Excerpt → Part
 part_view part = record { before = part.before; text = text_of part.text; after = part.after }
-
--- how many characters are the same in two lines from the front
-abbrev pub same_front : Text → Text → ℕ
-same_front first second = prefix_len (λ pair. nat_eq pair.0 pair.1) (zip first second)
 
 -- how many characters of a line are shown at most, and how many of them come before the place
 abbrev pub most_shown : ℕ
@@ -50,3 +46,7 @@ part_at place line =
       text = shown before line;
       after = left_after (length line) before;
     }
+
+-- the line of a text in which a place lies, or the part of it around the place
+abbrev pub part_around : Text → ℕ → Part
+part_around t n = part_at (length (line_before_place t n)) (line_around t n)

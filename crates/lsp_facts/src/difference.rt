@@ -11,7 +11,7 @@ ghost use Rattle.lsp_facts.specs.Part.{part_view};
 
 use crate::fact::Fact;
 use crate::fact_list::FactList;
-use crate::part::{Excerpt, part_at, same_front};
+use crate::part::{Excerpt, part_at};
 use lsp_text::{compared_lines, first_difference};
 use lsp_types::{Encoding, LineEnds, Memory};
 use std::alloc::Global;
@@ -83,7 +83,7 @@ fn by_lines(
 }
 
 /// Where two texts first differ, and the line of each there; of a long one the part around the
-/// first character that differs in the two lines.
+/// place.
 fn at_difference(
     alloc: Global,
     encoding: Encoding,
@@ -101,9 +101,10 @@ fn at_difference(
     };
     facts.push(Fact::Encoding(encoding))?;
     facts.push(Fact::At(found.at))?;
-    let same = same_front(found.held, found.other);
-    facts.push(Fact::ByMessages(part_at(alloc, found.held, same)?))?;
-    facts.push(line_fact(against, part_at(alloc, found.other, same)?))?;
+    let held = part_at(alloc, found.held, found.held_front)?;
+    facts.push(Fact::ByMessages(held))?;
+    let other = part_at(alloc, found.other, found.other_front)?;
+    facts.push(line_fact(against, other))?;
     Ok(facts)
 }
 

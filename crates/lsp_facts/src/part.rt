@@ -23,23 +23,13 @@ pub struct Excerpt {
     pub after: u64,
 }
 
-/// How many characters are the same in two lines from the front.
-pub(crate) fn same_front(first: &str, second: &str) -> usize
-    ensures { result ≡ spec.same_front (chars first.now) (chars second.now) }
-{
-    first
-        .chars()
-        .zip(second.chars())
-        .take_while(|pair| pair.0 == pair.1)
-        .count()
-}
-
-/// A line, or the part of it around the place after this many of its characters.
-pub(crate) fn part_at(alloc: Global, line: &str, place: usize) -> Result<Excerpt, Memory>
-    ensures { IfOk result (λ part. spec.part_view part ≡ spec.part_at place (chars line.now)) }
+/// A line, or the part of it around the place behind this front of it.
+pub(crate) fn part_at(alloc: Global, line: &str, front: &str) -> Result<Excerpt, Memory>
+    ensures { IfOk result (λ part.
+        spec.part_view part ≡ spec.part_at (length (chars front.now)) (chars line.now)) }
 {
     let count = char_count(line);
-    let before = left_before(count, place);
+    let before = left_before(count, char_count(front));
     let text = shown_text(alloc, line, before)?;
     Ok(Excerpt {
         before: before as u64,

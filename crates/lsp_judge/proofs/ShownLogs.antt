@@ -20,17 +20,23 @@ use Rattle.lsp_verdict.specs.Report.{report}
 use Rattle.lsp_verdict.specs.RunIo.{OfRead, Tells, failures_after, sink_failures_after}
 use Rattle.lsp_verdict.specs.Shown.{line_at, lines_of, show_of}
 use Rattle.lsp_verdict.specs.Verdict.{Verdict}
-use Rattle.lsp_verdict.proofs.Logs.{same_events, one_verdict}
+use Rattle.lsp_verdict.proofs.Logs.{same_events, one_verdict, some_verdict}
 use Rattle.lsp_verdict.proofs.LookBackLemmas.{each_from-append, each_of-snoc}
 use Rattle.lsp_verdict.proofs.RunReading.{read_map}
 use Rattle.lsp_judge.specs.LogEvents.{EndsAt, EndsBy, BeginsWith, SoFar, Found, BrokeOff}
-use Rattle.lsp_judge.specs.ShownLog.{IsShown, BeginsShown, OneShown, ShowedAll, ShowedPart}
+use Rattle.lsp_judge.specs.ShownLog.{IsShown, BeginsShown, OneShown, SomeShown, ShowedAll}
+use Rattle.lsp_judge.specs.ShownLog.{ShowedPart}
 use Rattle.lsp_replay.specs.Lines.{line_of}
 use Rattle.lsp_replay.specs.Places.{place_of}
 use Rattle.lsp_replay.proofs.EventPlaces.{IsPlaceAfter, line_placed, placed}
 use Rattle.lsp_replay.specs.declared.heard.EventPlace.{EventPlace}
 use Rattle.lsp_judge.specs.declared.event_reader.EventReader.{EventReader}
 use Rattle.lsp_judge.proofs.LogEvents.{so_far_begins, so_far_few, so_far_failures, so_far_range}
+
+pub some_shown : SomeShown
+some_shown lines limits log =
+    let whole = some_verdict limits log in
+    (whole.0, show_of lines whole.0 whole.1.final.events, (whole.1, refl))
 
 pub one_shown : OneShown
 one_shown lines limits sizes log v w out other (p, is) (q, at) =

@@ -35,6 +35,11 @@ abbrev pub Showed : Lines → Bounds → Ports → Result Outcome RunFault → T
 Showed lines limits io result =
     Judges limits io (IsVerdict limits) (IsShown lines limits) (BeginsShown lines limits) result
 
+-- **Every log has an output for each kind of line**
+abbrev pub SomeShown : Type 0
+SomeShown = (lines : Lines) (limits : Bounds) (log : List ℕ)
+    → (v : Verdict) × (out : List ℕ) × IsShown lines limits log v out
+
 -- **One verdict is shown of a log, and with lines of one kind one output**
 abbrev pub OneShown : Type 0
 OneShown = (lines : Lines) (limits : Bounds) → IsInRange limits

@@ -9,7 +9,7 @@ ghost use Rattle.lsp_verdict.specs.Counting.{AreCounts};
 ghost use Rattle.lsp_verdict.specs.Event.{Event};
 ghost use Rattle.lsp_verdict.specs.Lent.{raw_view, whose_raw};
 ghost use Rattle.lsp_verdict.specs.Placed as placed;
-ghost use Rattle.lsp_replay.specs.Standing.{Follows, Refuses, RefusesFor};
+ghost use Rattle.lsp_replay.specs.Standing.{CanWantMemory, Follows, Refuses, RefusesFor};
 ghost use Rattle.lsp_judge.specs.Rulings.{IsNoAt};
 ghost use Rattle.lsp_judge.specs.Heard.{AreHeard, HasHeard, HearsOne, TakesOne};
 ghost use Rattle.lsp_judge.specs.Standing.{Rules};
@@ -51,6 +51,9 @@ pub(crate) fn take<S: TextStore>(events: &mut Events<S>, raw: Raw<'_>) -> Result
     ensures no { IfErr result (λ ruling. (so_far : List Event)
         → Follows events.old.session events.old.docs events.old.counts so_far
         → IsNoAt events.old.docs.terms so_far (placed.Reads (raw_view raw.entry)) ruling) }
+    ensures memory { IfErr result (λ ruling. ruling ≡ Ruling.Memory → (so_far : List Event)
+        → Follows events.old.session events.old.docs events.old.counts so_far
+        → CanWantMemory (raw_view raw.entry)) }
 {
     let who = raw.who();
     match events.take(raw) {
@@ -61,9 +64,10 @@ pub(crate) fn take<S: TextStore>(events: &mut Events<S>, raw: Raw<'_>) -> Result
 
 /// The No at the next event, of this origin, which was refused for this fault.
 fn no_for(counts: &Counts, who: Who, fault: Fault) -> Ruling
-    ensures { (raw : placed.Raw) (terms : Terms) (so_far : List Event) → AreCounts counts.now so_far
-        → who ≡ whose_raw raw → RefusesFor raw terms so_far fault
+    ensures no { (raw : placed.Raw) (terms : Terms) (so_far : List Event)
+        → AreCounts counts.now so_far → who ≡ whose_raw raw → RefusesFor raw terms so_far fault
         → IsNoAt terms so_far (placed.Reads raw) result }
+    ensures memory { result ≡ Ruling.Memory → fault ≡ Fault.Memory }
 {
     match fault {
         Fault::Rule(rule) => Ruling::no_next(counts, rule, who),

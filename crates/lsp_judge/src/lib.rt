@@ -46,8 +46,8 @@ pub use lsp_verdict::{
     exact_means_equal, handshake_in_turn, kept_means_yes, lack_is_named, no_names_the_first,
     offence_decides, one_complete_verdict, one_session, one_text, one_upgrade, one_verdict,
     only_order_offends, report_of, sessions_are_read, some_complete_verdict, some_final,
-    some_session, some_upgrade, some_verdict, stream_report, upgrade_keeps_yes, upgrade_stays,
-    yes_means_kept,
+    some_session, some_text, some_upgrade, some_verdict, stream_report, upgrade_keeps_yes,
+    upgrade_stays, yes_means_kept,
 };
 pub use normal::run_normal;
 pub use normal_laws::{
@@ -55,7 +55,7 @@ pub use normal_laws::{
     some_normal_form,
 };
 pub use show::{run_show, run_show_long};
-pub use show_laws::one_shown;
+pub use show_laws::{one_shown, some_shown};
 pub use stream_laws::{one_run, some_run};
 pub use text::{run_text, text_after};
 pub use upgrade::run_upgrade;

@@ -30,8 +30,9 @@ pub(crate) enum Ruling {
 impl Ruling {
     /// No, at the event that comes next.
     pub(crate) fn no_next(counts: &Counts, rule: u16, who: Who) -> Ruling
-        ensures { (events : List Event) → AreCounts counts.now events
+        ensures no { (events : List Event) → AreCounts counts.now events
             → verdict_in result ≡ Some (as_given (no_next rule who events)) }
+        ensures decided { result ≡ Ruling.Memory → ⊥ }
     {
         let (number, event) = counts.next(who);
         Ruling::No {

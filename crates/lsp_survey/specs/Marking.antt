@@ -106,10 +106,10 @@ setter_at opening closed = None
 abbrev pub setters : List Step → List Setter
 setters done = each_of setter_at (standing done)
 
--- how many of the last ones are looked at: the one of the held version, and those of as many
--- versions before it as are ever kept
+-- how many of the last ones are looked at: those of the held version and of the 16 versions before
+-- it that may be kept, and of 15 before the oldest of these, whose text may be the one that differs
 abbrev pub most_setters : ℕ
-most_setters = 17
+most_setters = 32
 
 abbrev pub recent : List Step → List Setter
 recent done = last_ones most_setters (setters done)

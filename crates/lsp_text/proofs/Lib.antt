@@ -26,7 +26,6 @@ pub mod EndCounts
 pub mod EndPlaces
 pub mod EndsBefore
 pub mod Exchanges
-pub mod FurtherPlaces
 pub mod HeldText
 pub mod LentPlaces
 pub mod EndsInLines

@@ -1,22 +1,15 @@
 -- What a lent line stands for.
-use Rattle.std.specs.Prelude.{◌≡◌, ◌<◌, ◌≤◌, ◌-◌, ℕ, true, List, ◌++◌, length, take, drop}
+use Rattle.std.specs.Prelude.{◌≡◌, ◌<◌, ◌≤◌, ◌-◌, ℕ, List, ◌++◌, length, take, drop}
 use Rattle.std.specs.declared.option.Option.TheVariants.{None}
 use Rattle.std.specs.Str.{chars, IsCharBoundary}
-use Rattle.lsp_text.specs.Lines.{lines_of, line_at, text_of, has_no_line_end}
+use Rattle.lsp_text.specs.Lines.{lines_of, line_at, text_of}
 use Rattle.lsp_types.specs.declared.position.Encoding.{Encoding}
-use Rattle.lsp_text.specs.Places.{units, place_in_line}
+use Rattle.lsp_text.specs.Places.{place_in_line}
 use Rattle.lsp_text.specs.Offsets.{IsOffset, IsAtLine}
 use Rattle.lsp_text.specs.Ends.{IsNear}
 use Rattle.lsp_text.specs.Parts.{bytes_between}
 use Rattle.lsp_text.specs.Windows.{text_with, IsWindowed}
 use Rattle.lsp_text.specs.declared.lined.lines.LentLine.{LentLine}
-
--- a place this many units after another, with no line end between the two
-pub record IsFurther (enc : Encoding) (bs : List ℕ) (place n after : ℕ) : Type 0 where
-  pub order : place ≤ after
-  pub boundary : IsCharBoundary bs after
-  pub whole : has_no_line_end (chars (bytes_between bs place after)) ≡ true
-  pub units_are : units enc (chars (bytes_between bs place after)) ≡ n
 
 -- the place that a column denotes in a line that begins at `start`, and that it denotes none
 pub record IsOffsetFrom (enc : Encoding) (bs : List ℕ) (start end column offset : ℕ) : Type 0 where

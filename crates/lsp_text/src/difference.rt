@@ -5,7 +5,7 @@ ghost use Rattle.std.specs.Prelude.{IsTrue, IfNone, IfSome, MatchOption};
 ghost use Rattle.std.specs.Str.{chars, IsCharBoundary};
 ghost use Rattle.lsp_text.specs.Lines.{spelled, line_at};
 ghost use Rattle.lsp_text.specs.Difference.{IsFirstDifference, DifferFirst, line_around};
-ghost use Rattle.lsp_text.specs.Difference.{position_at};
+ghost use Rattle.lsp_text.specs.Difference.{line_before_place, position_at};
 ghost use Rattle.lsp_text.specs.Parting.{AreSameTo, IsParting, IsInsideEnd, IsSearchEnd};
 ghost use Rattle.lsp_text.specs.Parting.{IsLineStart};
 
@@ -28,9 +28,14 @@ pub struct Difference<'a, 'b> {
     /// The line of the held text in which the place lies, its line end included. The end of a text
     /// lies in the last line, which is empty after a line end.
     pub held: &'a str,
+    /// The characters of that line before the place.
+    pub held_front: &'a str,
     /// The same of the other text. Its number differs where the place lies between a CR and an LF
     /// in one of the texts, and so after a CR that ends a line by itself in the other.
     pub other: &'b str,
+    /// The characters of that line before the place. There are none where the held text has an LF
+    /// at the place, behind a CR that is the same in both.
+    pub other_front: &'b str,
 }
 
 /// Where a held text and another one first differ, or `None` where they are equal. It goes once
@@ -48,15 +53,23 @@ pub fn first_difference<'a, 'b>(
     ensures held { IfSome result
         (λ d. DifferFirst (chars held.now) (chars other.now)
         (λ n. chars d.held.now ≡ line_around (chars held.now) n)) }
+    ensures held_front { IfSome result
+        (λ d. DifferFirst (chars held.now) (chars other.now)
+        (λ n. chars d.held_front.now ≡ line_before_place (chars held.now) n)) }
     ensures other { IfSome result
         (λ d. DifferFirst (chars held.now) (chars other.now)
         (λ n. chars d.other.now ≡ line_around (chars other.now) n)) }
+    ensures other_front { IfSome result
+        (λ d. DifferFirst (chars held.now) (chars other.now)
+        (λ n. chars d.other_front.now ≡ line_before_place (chars other.now) n)) }
 {
     let offset = parting(held, other)?;
     Some(Difference {
         at: position_of(held, offset, encoding),
         held: line_of(held, offset),
+        held_front: front_of(held, offset),
         other: line_of(other, offset),
+        other_front: front_of(other, offset),
     })
 }
 
@@ -90,13 +103,23 @@ fn position_of(text: &str, offset: usize, encoding: Encoding) -> Position
     ensures { result ≡ position_at encoding (chars text.now)
         (length (chars (take offset text.now))) }
 {
-    let start = line_start(text, offset);
-    let (lines, line) = text.split_at(start);
-    let (before, _) = line.split_at(offset - start);
+    let (lines, _) = text.split_at(line_start(text, offset));
     Position {
         line: capped(count_lines(lines) - 1),
-        column: capped(width_of(before, encoding)),
+        column: capped(width_of(front_of(text, offset), encoding)),
     }
+}
+
+/// The characters of its line before the place after this many bytes.
+fn front_of(text: &str, offset: usize) -> &str
+    requires { IsCharBoundary text.now offset }
+    ensures { chars result.now
+        ≡ line_before_place (chars text.now) (length (chars (take offset text.now))) }
+{
+    let start = line_start(text, offset);
+    let (_, line) = text.split_at(start);
+    let (front, _) = line.split_at(offset - start);
+    front
 }
 
 /// A number of 32 bits, or the greatest of these.

@@ -1,21 +1,17 @@
-//! Edits of kept lines, which see held bytes by `Lines::read`, and by `Lines::further` on a line
-//! that was read.
+//! Edits of kept lines, which see no held bytes but those of lines that `Lines::read` lent.
 
 ghost use Rattle.std.specs.Prelude.{◌≡◌, ◌<◌, ◌+◌, ◌*◌, ◌^◌, Ok, None, length, MatchOption};
-ghost use Rattle.std.specs.Prelude.{OnOk, OnErr, IfSome, IfErr, IsTrue, ◌↔◌};
+ghost use Rattle.std.specs.Prelude.{OnOk, OnErr, IfErr, IsTrue, ◌↔◌};
 ghost use Rattle.std.specs.Str.{chars};
 ghost use Rattle.lsp_text.specs.Places.{place_of};
 ghost use Rattle.lsp_text.specs.Offsets.{IsTextOffset};
 ghost use Rattle.lsp_text.specs.Edits.{replaced, IsFaultOf};
+ghost use Rattle.lsp_text.specs.LentLines.{IsLentLine};
 ghost use Rattle.lsp_text.specs.Steps.{raised, RisesWithin, line_bytes, line_number, touched};
 
 use crate::fault::TextFault;
-use crate::lined::lines::{Lines, Steps};
+use crate::lined::lines::{LentLine, Lines, Steps};
 use lsp_types::{Encoding, Position, Span, rules};
-
-/// The units after the first position of a span, at most, for which its second is looked for from
-/// the first on.
-const NEAR: u32 = 256;
 
 /// Replaces what the span holds: 605, then 606, then 607 where the result is over the limit.
 pub(crate) fn edit(
@@ -40,10 +36,11 @@ pub(crate) fn edit(
         (RisesWithin steps.old steps.new 0
         (4 * touched (chars lines.old) span (chars text.now))) }
 {
-    let Some(first) = find(lines, encoding, span.first, steps) else {
+    let line = read_at(lines, span.first, steps);
+    let Some(first) = find_in(lines, &line, encoding, span.first) else {
         return Err(TextFault::Rule(rules::POSITION_INSIDE_CHARACTER));
     };
-    let Some(second) = find_second(lines, encoding, span, first, steps) else {
+    let Some(second) = find_second(lines, &line, encoding, span, first, steps) else {
         return Err(TextFault::Rule(rules::POSITION_INSIDE_CHARACTER));
     };
     let bytes = lines.byte_len();
@@ -58,29 +55,44 @@ pub(crate) fn edit(
     Ok(())
 }
 
-/// The bytes before a position, if that is on no character's inside.
-fn find(lines: &Lines, encoding: Encoding, position: Position, steps: &mut Steps) -> Option<usize>
-    ensures found { MatchOption result (place_of encoding (chars lines.now) position ≡ None)
-        (IsTextOffset encoding lines.now position) }
+/// Lends the line that a position falls in, and counts its bytes.
+fn read_at<'a>(lines: &'a Lines, position: Position, steps: &mut Steps) -> LentLine<'a>
+    ensures value { IsLentLine lines.now (line_number (chars lines.now) position) result }
     ensures counted { steps.new
         ≡ raised steps.old (line_bytes (chars lines.now) (line_number (chars lines.now) position)) }
 {
-    let number = lines.number_of(position);
-    let line = lines.read(number, steps);
-    if number < position.line as u64 {
+    lines.read(lines.number_of(position), steps)
+}
+
+/// The bytes before a position that falls in a lent line, or `None` where it lies inside a
+/// character.
+fn find_in(
+    lines: &Lines,
+    line: &LentLine<'_>,
+    encoding: Encoding,
+    position: Position,
+) -> Option<usize>
+    requires { IsLentLine lines.now (line_number (chars lines.now) position) line.now }
+    ensures { MatchOption result (place_of encoding (chars lines.now) position ≡ None)
+        (IsTextOffset encoding lines.now position) }
+{
+    if lines.number_of(position) < position.line as u64 {
         return Some(lines.byte_len() as usize);
     }
     line.offset_of(encoding, position.column)
 }
 
-/// The bytes before the second position of a span, which is looked for where it isn't the first.
+/// The bytes before the second position of a span, or `None` where it lies inside a character. It
+/// mostly is on the line of the first, which was read, and after it.
 fn find_second(
     lines: &Lines,
+    line: &LentLine<'_>,
     encoding: Encoding,
     span: Span,
     first: usize,
     steps: &mut Steps,
 ) -> Option<usize>
+    requires line { IsLentLine lines.now (line_number (chars lines.now) span.first) line.now }
     requires first { IsTextOffset encoding lines.now span.first first }
     requires counting { steps.old < 2 ^ 64 }
     ensures found { MatchOption result (place_of encoding (chars lines.now) span.second ≡ None)
@@ -91,27 +103,11 @@ fn find_second(
     if span.second == span.first {
         return Some(first);
     }
-    if let Some(second) = find_further(lines, encoding, span, first) {
-        return Some(second);
+    if span.second.line == span.first.line && span.first.column < span.second.column {
+        return find_in(lines, line, encoding, span.second);
     }
-    find(lines, encoding, span.second, steps)
-}
-
-/// The bytes before the second position of a span, if it is a little further on the line of the
-/// first, which was read.
-fn find_further(lines: &Lines, encoding: Encoding, span: Span, first: usize) -> Option<usize>
-    requires { IsTextOffset encoding lines.now span.first first }
-    ensures { IfSome result (IsTextOffset encoding lines.now span.second) }
-{
-    let Position { line, column } = span.second;
-    if line != span.first.line || column <= span.first.column {
-        return None;
-    }
-    let units = column - span.first.column;
-    if units > NEAR {
-        return None;
-    }
-    lines.further(encoding, first, units)
+    let other = read_at(lines, span.second, steps);
+    find_in(lines, &other, encoding, span.second)
 }
 
 /// Whether the bytes of a text and of an insertion are over the limit.

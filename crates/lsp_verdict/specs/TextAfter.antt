@@ -17,7 +17,12 @@ use Rattle.lsp_verdict.specs.declared.verdict.Verdict as code
 abbrev pub AnswersText : Bounds → List ℕ → ℕ → List ℕ → TextAnswer → Type 0
 AnswersText limits log n uri answer = (v : Verdict) × (whole : IsVerdict limits log v) × (answer ≡ text_answer (log_terms limits whole.format) uri v (up_to_editor n [] whole.final.events))
 
--- **A log has one such answer.**
+-- **Every log has such an answer.**
+abbrev pub SomeText : Type 0
+SomeText = (limits : Bounds) (log : List ℕ) (n : ℕ) (uri : List ℕ)
+    → (answer : TextAnswer) × AnswersText limits log n uri answer
+
+-- **A log has only one such answer.**
 abbrev pub OneText : Type 0
 OneText = (limits : Bounds) → IsInRange limits → (log : List ℕ) (n : ℕ) (uri : List ℕ) (a b : TextAnswer) → AnswersText limits log n uri a → AnswersText limits log n uri b → a ≡ b
 

@@ -6,7 +6,7 @@ ghost use Rattle.lsp_verdict.specs.Kept.{ExactMeansEqual};
 ghost use Rattle.lsp_verdict.specs.Laws.{CutsDontMatter, CutsLeaveVerdict, EventsFirst};
 ghost use Rattle.lsp_verdict.specs.Laws.{OffenceDecides, OneSession, OneVerdict, SidesAreStreams};
 ghost use Rattle.lsp_verdict.specs.Laws.{SnapshotsAreShown, SomeFinal, SomeSession, SomeVerdict};
-ghost use Rattle.lsp_verdict.specs.TextAfter.{OneText};
+ghost use Rattle.lsp_verdict.specs.TextAfter.{OneText, SomeText};
 ghost use Rattle.lsp_verdict.specs.Upgraded.{OneUpgrade, SomeUpgrade, UpgradeKeepsYes};
 ghost use Rattle.lsp_verdict.specs.Upgraded.{UpgradeStays};
 
@@ -102,7 +102,12 @@ pub fn format_one_keeps_none()
     ensures report { FormatOneKeepsReport }
 {}
 
-/// Every log has only one answer for the text after a message of the editor.
+/// Every log has an answer for the text after a message of the editor.
+pub fn some_text()
+    ensures { SomeText }
+{}
+
+/// It has only one.
 pub fn one_text()
     ensures { OneText }
 {}

@@ -34,8 +34,8 @@ pub use interleaving_laws::{
 pub use laws::{
     bad_log_means_fault, cuts_dont_matter, cuts_leave_verdict, events_are_streams, events_first,
     exact_means_equal, format_one_keeps_none, kept_means_yes, no_names_the_first, offence_decides,
-    one_session, one_text, one_upgrade, one_verdict, some_final, some_session, some_upgrade,
-    some_verdict, upgrade_keeps_yes, upgrade_stays, yes_means_kept,
+    one_session, one_text, one_upgrade, one_verdict, some_final, some_session, some_text,
+    some_upgrade, some_verdict, upgrade_keeps_yes, upgrade_stays, yes_means_kept,
 };
 pub use lines::Lines;
 pub use listing::Listing;

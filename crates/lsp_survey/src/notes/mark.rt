@@ -15,9 +15,10 @@ use lsp_rpc::Memory;
 use std::alloc::Global;
 use std::collections::{BTreeMap, VecDeque};
 
-/// How many of the messages that set a version are held at most: the one of the held version, and
-/// those of as many versions before it as are ever kept.
-const MOST_SETTERS: usize = 17;
+/// How many of the messages that set a version are held at most: those of the held version and of
+/// the 16 versions before it that may be kept, and of 15 before the oldest of these, whose text may
+/// be the one that differs.
+const MOST_SETTERS: usize = 32;
 
 /// A `didOpen` or a `didChange` that set a version of a document.
 #[derive(Clone, Copy, Debug, PartialEq, Eq)]

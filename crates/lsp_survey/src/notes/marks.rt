@@ -42,7 +42,7 @@ impl Marks {
         }
     }
 
-    /// The messages that set the last versions of a URI, in order, the held one last; at most 17,
+    /// The messages that set the last versions of a URI, in order, the held one last; at most 32,
     /// and none where it isn't open.
     ///
     /// # Errors

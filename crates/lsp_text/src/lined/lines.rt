@@ -1,7 +1,7 @@
 //! The lines of a text, and the count of the bytes lent from them.
 
 ghost use Rattle.std.specs.Prelude.{◌≡◌, ◌+◌, ◌<◌, ◌≤◌, ◌-◌, ◌^◌, ◌↔◌, None, length, take, drop};
-ghost use Rattle.std.specs.Prelude.{MatchOption, IfSome, IfOk, OnOk, OnErr, IsTrue};
+ghost use Rattle.std.specs.Prelude.{MatchOption, IfOk, OnOk, OnErr, IsTrue};
 ghost use Rattle.std.specs.List.{replace_range};
 ghost use Rattle.std.specs.Str.{chars, IsUtf8, IsCharBoundary};
 ghost use Rattle.std.specs.String.{string_bytes};
@@ -15,10 +15,9 @@ ghost use Rattle.lsp_text.specs.Ends.{IsNear};
 ghost use Rattle.lsp_text.specs.Parts.{CanReplace};
 ghost use Rattle.lsp_text.specs.Windows.{text_with};
 ghost use Rattle.lsp_text.specs.LentLines.{IsLentLine, IsHeldLine, IsEndOf, IsOffsetIn};
-ghost use Rattle.lsp_text.specs.LentLines.{NoOffsetIn, IsFurther};
+ghost use Rattle.lsp_text.specs.LentLines.{NoOffsetIn};
 
 use crate::columns::offset_in_line;
-use crate::cut::FirstLine;
 use crate::lined::window::Windowed;
 use crate::same::{LinesLeft, is_taken, without_last_end};
 use crate::sums::Measure;
@@ -142,25 +141,6 @@ impl Lines {
         }
         let end = self.held.line_end(i);
         (end.at, end.after)
-    }
-
-    /// The place this many units after another on the same line, if it is in the same block and not
-    /// at its end. What is read of the line for it is not counted again.
-    pub(crate) fn further(&self, encoding: Encoding, place: usize, units: u32) -> Option<usize>
-        requires { IsCharBoundary self.now place }
-        ensures value { IfSome result (IsFurther encoding self.now place units) }
-        ensures utf8 { IsUtf8 self.now }
-    {
-        let rest = self.held.rest_at(place);
-        let len = offset_in_line(rest, encoding, units)?;
-        if len == rest.len() {
-            return None;
-        }
-        let (front, _) = rest.split_at(len);
-        if FirstLine::of(front).is_some() {
-            return None;
-        }
-        Some(place + len)
     }
 
     /// The characters before a place.

@@ -9,8 +9,10 @@ returns c =
     let line = chars c.args.line.now in
     let text = c.in_ok-text.text in
     let count = c.char_count-count.ensures in
-    let before : c.left_before-before.result ≡ left_before (length line) c.args.place =
-    c.left_before-before.ensures ∙ ap (λ n. left_before n c.args.place) count in
+    let place = length (chars c.args.front.now) in
+    let before : c.left_before-before.result ≡ left_before (length line) place =
+    c.left_before-before.ensures ∙ ap (λ n. left_before n c.char_count.result) count
+    ∙ ap (left_before (length line)) c.char_count.ensures in
     let told : text_of text ≡ shown c.left_before-before.result line =
     sym (chars_from_encodes (shown c.left_before-before.result line) (string_bytes text)
     (IsUtf8-string_bytes text) (sym c.in_ok-text.ensures)) in

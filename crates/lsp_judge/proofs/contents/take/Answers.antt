@@ -17,5 +17,9 @@ pub returns-in-Err-clause-no : goal.returns-in-Err-clause-no
 returns-in-Err-clause-no g c = λ so_far follows.
     let counted = subst (λ (w : Counts). AreCounts w so_far) (sym c.in-Err.ensures.uncounted)
     follows.counted in
-    c.no_for.ensures (raw_view c.args.raw) c.args.events.now.docs.terms so_far counted
+    c.no_for.ensures.no (raw_view c.args.raw) c.args.events.now.docs.terms so_far counted
     c.who-who.ensures (c.in-Err.ensures.rule so_far follows.holds)
+
+pub returns-in-Err-clause-memory : goal.returns-in-Err-clause-memory
+returns-in-Err-clause-memory g c = λ is so_far follows.
+    rw (c.no_for.ensures.memory is) at (c.in-Err.ensures.rule so_far follows.holds)

@@ -9,4 +9,4 @@ returns-in_ok-rule-in-Required g c =
     rw c.in-Required.is (λ so_far follows.
     lacks_some so_far rule.rule c.no_next.result
     (sym rule.was ∙ c.incomplete.ensures (sent_in so_far) follows.holds.sent)
-    (c.no_next.ensures so_far follows.counted))
+    (c.no_next.ensures.no so_far follows.counted))

@@ -1,0 +1,79 @@
+// The text of a document after any message, made by this page, and what happened to each document.
+
+const SETS_TEXT = ["textDocument/didOpen", "textDocument/didChange", "textDocument/didClose"];
+// How many changes are made before a text is kept, so that not all are made again for the next one.
+const KEPT_EVERY = 400;
+
+// For each document, the rows that open, change or close it, and all rows that name it.
+const settingRows = session.documents.map(() => []);
+const namingRows = session.documents.map(() => []);
+for (const row of rows) {
+  if (row.document >= 0) {
+    namingRows[row.document].push(row);
+    if (row.side === EDITOR && SETS_TEXT.includes(row.method)) {
+      settingRows[row.document].push(row);
+    }
+  }
+}
+
+const checkpoints = session.left ? session.left.checkpoints : [];
+const gaps = session.left ? session.left.gaps : [];
+const keptTexts = new Map();
+
+// The lines of a document after a row, given those before it: null if it is not open, undefined if
+// this page does not have what is needed to tell.
+function linesAfterRow(lines, row) {
+  if (row.method === "textDocument/didClose") {
+    return null;
+  }
+  // What breaks one of these rules may have any shape.
+  const params = row.violation?.rule < 300 ? undefined : messageOf(row)?.params;
+  if (row.method === "textDocument/didOpen") {
+    return params ? linesOf(params.textDocument.text) : undefined;
+  }
+  return (params?.contentChanges ?? [{}]).reduce((before, change) => {
+    const canChange = change.text !== undefined && (before || !change.range);
+    return canChange ? changed(before ?? [], change, session.encoding) : undefined;
+  }, lines);
+}
+
+// The lines after a gap, as `lspcheck text --all` wrote them for this page.
+function linesAfterGap(documentNumber, gap) {
+  const found = checkpoints.find((it) => it.document === documentNumber && it.to === gap.to);
+  return found && (found.text === null ? null : linesOf(found.text));
+}
+
+// The last gap between two events, or undefined.
+function gapBetween(before, after) {
+  return gaps.findLast((gap) => gap.from > before && gap.to < after);
+}
+
+// The lines of a document after all rows up to an index; those that break a rule are skipped, as
+// `lspcheck text --all` does, but for the last if `isLastMade`.
+function linesAfter(documentNumber, index, isLastMade = false) {
+  const setting = settingRows[documentNumber];
+  const kept = keptTexts.get(documentNumber) ?? [];
+  keptTexts.set(documentNumber, kept);
+  const from = kept.findLast((it) => it.index <= index) ?? { at: 0, event: 0, lines: null };
+  let lines = from.lines && [...from.lines], event = from.event, at = from.at;
+  for (; at < setting.length && setting[at].index <= index; at += 1) {
+    const row = setting[at];
+    const gap = gapBetween(event, row.event);
+    lines = gap ? linesAfterGap(documentNumber, gap) : lines;
+    event = row.event;
+    if (!row.violation || (isLastMade && row.index === index)) {
+      lines = linesAfterRow(lines, row);
+    }
+    if (at % KEPT_EVERY === KEPT_EVERY - 1 && row.index < index && !kept.some((it) => it.at > at)) {
+      kept.push({ at: at + 1, index: row.index, event, lines: lines && [...lines] });
+    }
+  }
+  const gap = gapBetween(event, rows[index].event);
+  return gap ? linesAfterGap(documentNumber, gap) : lines;
+}
+
+// The row of the message that set a version of a document, at or before an index.
+function rowOfVersion(documentNumber, version, index) {
+  const isIt = (row) => row.version === version && row.index <= index && !row.violation;
+  return settingRows[documentNumber].findLast(isIt);
+}

@@ -1,0 +1,158 @@
+// Puts the parts together, and follows links and keys.
+
+const lanesNode = document.getElementById("lanes");
+const lanes = new Lanes(lanesNode);
+const search = new Search(lanes);
+
+function goToEvent(event, isOpen = true) {
+  const row = rowOfEvent(event);
+  if (!row) {
+    return;
+  }
+  if (!lanes.shown.includes(row)) {
+    search.reset();
+  }
+  lanes.goTo(row, isOpen);
+}
+
+function followLink() {
+  const found = /^#event-(\d+)$/.exec(location.hash);
+  if (found) {
+    goToEvent(Number(found[1]));
+  }
+}
+
+// The next row of a kind from the selected one on, or before it.
+function step(isIt, by) {
+  const from = lanes.selected ? lanes.shown.indexOf(lanes.selected) : -1;
+  for (let at = from + by; at >= 0 && at < lanes.shown.length; at += by) {
+    const item = lanes.shown[at];
+    if (item.event !== undefined && isIt(item)) {
+      history.replaceState(null, "", `#event-${item.event}`);
+      return lanes.goTo(item, item.violation !== null);
+    }
+  }
+}
+
+const STEPS = {
+  n: (row) => row.violation !== null && !row.violation.follows,
+  v: (row) => row.violation !== null,
+  s: (row) => row.side === SNAPSHOT,
+  e: (row) => row.method === "textDocument/didChange" && row.side === EDITOR,
+  j: () => true,
+};
+
+const KEYS = [
+  ["n N", "next and previous violation"],
+  ["v V", "the same, also those that follow from another"],
+  ["s S", "next and previous snapshot"],
+  ["e E", "next and previous edit"],
+  ["j k", "next and previous event"],
+  ["a", "from a request to its answer, and back"],
+  ["Enter", "open or close the selected event"],
+  ["/", "search"],
+  ["Esc", "leave the search, or clear it"],
+  ["d", "dark or light"],
+  ["?", "these keys"],
+];
+
+function toggleTheme() {
+  const root = document.documentElement;
+  const isDark = root.dataset.theme ? root.dataset.theme === "dark" :
+    matchMedia("(prefers-color-scheme: dark)").matches;
+  root.dataset.theme = isDark ? "light" : "dark";
+}
+
+function toggleKeys() {
+  const dialog = document.getElementById("keys");
+  return dialog.open ? dialog.close() : dialog.showModal();
+}
+
+function leaveSearch() {
+  if (document.activeElement === document.body) {
+    search.reset();
+  }
+  document.activeElement.blur();
+}
+
+function toPartner() {
+  const partner = lanes.selected?.partner;
+  if (partner) {
+    location.hash = `#event-${partner}`;
+  }
+}
+
+const ACTIONS = {
+  a: toPartner,
+  d: toggleTheme,
+  "?": toggleKeys,
+  "/": () => search.words.focus(),
+  Escape: leaveSearch,
+  Enter: () => lanes.selected && lanes.toggle(lanes.selected),
+  k: () => step(STEPS.j, -1),
+};
+
+function onKey(event) {
+  const isTyping = /INPUT|SELECT/.test(event.target.tagName);
+  if (event.ctrlKey || event.metaKey || event.altKey || (isTyping && event.key !== "Escape")) {
+    return;
+  }
+  if (event.key === "Enter" && /BUTTON|A|SUMMARY/.test(event.target.tagName)) {
+    return;
+  }
+  const action = Object.hasOwn(ACTIONS, event.key) ? ACTIONS[event.key] : null;
+  const forward = Object.hasOwn(STEPS, event.key) ? STEPS[event.key] : null;
+  const lower = event.key.toLowerCase();
+  const back = lower !== event.key && Object.hasOwn(STEPS, lower) ? STEPS[lower] : null;
+  if (!action && !forward && !back) {
+    return;
+  }
+  event.preventDefault();
+  if (action) {
+    action();
+  } else {
+    step(forward ?? back, forward ? 1 : -1);
+  }
+}
+
+function bar() {
+  const bad = session.violations.some((it) => rowOfEvent(it.event) && !it.follows);
+  const steps = bad ? [
+    titled(button("plain", "‹", () => step(STEPS.n, -1)), "previous violation (N)"),
+    element("span", "quiet", "violation"),
+    titled(button("plain", "›", () => step(STEPS.n, 1)), "next violation (n)"),
+  ] : [];
+  return element("div", "bar-parts", search.node, element("span", "steps", ...steps,
+    titled(button("plain", "◐", toggleTheme), "dark or light (d)"),
+    titled(button("plain", "?", toggleKeys), "keys (?)")));
+}
+
+function keysPart() {
+  const list = element("dl", "facts");
+  for (const [keys, meaning] of KEYS) {
+    list.append(element("dt", "", ...keys.split(" ").map((key) => element("kbd", "", key))),
+      element("dd", "", meaning));
+  }
+  return [element("h2", "", "Keys"), list, button("plain", "close", toggleKeys)];
+}
+
+function cutPart() {
+  if (!session.left) {
+    return null;
+  }
+  return element("section", "card cut", element("h2", "", "This page does not show the whole log"),
+    ...session.left.said.map((line) => element("p", "", line)));
+}
+
+document.title = `${verdictOf()[1]} – ${session.name}`;
+document.getElementById("overview").append(...[
+  verdictPart(), cutPart(), badLogPart(), firstViolation(), otherViolations(), notesPart(),
+  documentsPart((number) => search.filter(number)),
+].filter(Boolean));
+document.getElementById("bar").append(bar());
+document.getElementById("keys").append(...keysPart());
+addEventListener("hashchange", followLink);
+addEventListener("keydown", onKey);
+lanes.draw();
+followLink();
+document.documentElement.dataset.ready = "yes";

@@ -1,0 +1,158 @@
+// The head of the page: the verdict, the first violation, the documents.
+
+const MOST_CHIPS = 36, MOST_DOCUMENTS = 4;
+
+function verdictOf() {
+  const [first, second] = session.report;
+  if (first === "yes") {
+    return ["yes", "Yes", "The session keeps every rule"];
+  }
+  if (first.startsWith("no ")) {
+    return ["no", `No · rule ${first.split(" ")[1]}`, second];
+  }
+  return ["bad", "Bad log", second];
+}
+
+function whereItIs() {
+  const violation = session.violations[0];
+  if (!violation || session.report[0].startsWith("bad")) {
+    return null;
+  }
+  if (!rowOfEvent(violation.event)) {
+    return element("p", "where", "At the end of the log.");
+  }
+  const whose = violation.who === "snapshot" ? `Snapshot ${violation.number}` :
+    `The ${violation.who}’s message ${violation.number}`;
+  return element("p", "where", `${whose}, `, eventLink(violation.event), " of the log.");
+}
+
+function factsOfLog() {
+  const snapshots = rows.filter((row) => row.side === SNAPSHOT).length;
+  const facts = [count(session.events, "event"), count(snapshots, "snapshot"),
+    count(session.documents.length, "document"), `format ${session.format}`,
+    count(session.bytes, "byte")];
+  const follow = session.violations.filter((it) => it.follows).length;
+  const independent = session.violations.length - follow;
+  if (independent > 0) {
+    facts.unshift(count(independent, "violation") + (follow ? ` and ${follow} that follow` : ""));
+  }
+  return element("p", "quiet", facts.join(" · "));
+}
+
+function verdictPart() {
+  const [kind, verdict, text] = verdictOf();
+  return element("header", `verdict verdict-${kind}`,
+    element("p", "name", ...visibleText(session.name, true)),
+    element("h1", "", element("span", "word", verdict), " ", text),
+    whereItIs(),
+    session.exit.length === 0 ? null :
+      element("p", "where", "The server ended: ", ...visibleText(session.exit.join(" · "))),
+    factsOfLog(),
+    element("p", "quiet", "The verdict is that of ", shownText(session.version),
+      ". What this page worked out itself is marked ", source("page"), "."));
+}
+
+function notesPart() {
+  const notes = session.report.filter((line) => line.startsWith("note "));
+  return notes.length === 0 ? null : element("section", "card",
+    element("h2", "", "Notes ", source("lspcheck")),
+    element("ul", "", ...notes.map((line) => element("li", "", ...noteInWords(line)))));
+}
+
+function badLogPart() {
+  if (!session.report[0].startsWith("bad log")) {
+    return null;
+  }
+  const code = session.report[0].split(" ")[2];
+  const violation = { lines: session.report.slice(2) };
+  return element("section", "card",
+    element("h2", "", `${code} ${session.report[1]} `, source("lspcheck")),
+    element("p", "", "No event before this record breaks a rule. What follows it is not shown."),
+    explanation(violation), aboutRule(code));
+}
+
+function firstViolation() {
+  const violation = session.violations[0];
+  return !violation || session.report[0].startsWith("bad") ? null : element("section", "card first",
+    element("h2", "", `${violation.rule} ${violation.text}`), violationPart(violation));
+}
+
+function otherViolations() {
+  const others = session.violations.slice(1).filter((it) => !it.follows);
+  if (others.length === 0) {
+    return null;
+  }
+  const links = others.slice(0, 60).map((it) => element("li", "",
+    eventLink(it.event), ` ${it.rule} ${it.text}`));
+  const more = others.length - links.length + session.unlisted;
+  return element("section", "card", element("h2", "", "Other violations ", source("lspcheck")),
+    element("ul", "columns", ...links),
+    more > 0 ? element("p", "quiet", `and ${count(more, "more violation")}`) : null);
+}
+
+// A chip for each event of a document that sets its version or shows its text.
+function chip(row) {
+  const short = { "textDocument/didOpen": "open ", "textDocument/didClose": "close",
+    "textDocument/didSave": "save" };
+  const version = row.version === null ? "" : String(row.version);
+  const label = row.side === SNAPSHOT ? `▣ ${version}` : `${short[row.method] ?? ""}${version}`;
+  const made = eventLink(row.event, label);
+  made.className = "chip";
+  made.classList.toggle("chip-snapshot", row.side === SNAPSHOT);
+  made.classList.toggle("chip-bad", row.violation !== null);
+  const what = row.side === SNAPSHOT ? "snapshot of version" : row.method;
+  return titled(made, `event ${row.event}: ${what} ${version}`);
+}
+
+function isOfText(row) {
+  const isOfEditor = row.side === EDITOR && /\/did(Open|Change|Close|Save)$/.test(row.method);
+  return row.side === SNAPSHOT || isOfEditor;
+}
+
+// The chips that are shown: all, or those around the first violation and at both ends.
+function chosenChips(found) {
+  if (found.length <= MOST_CHIPS) {
+    return found.map(chip);
+  }
+  const bad = found.findIndex((row) => row.violation);
+  const third = MOST_CHIPS / 3, middle = bad < 0 ? 0 : bad;
+  const isShown = (at) =>
+    at < third || at >= found.length - third || Math.abs(at - middle) <= third / 2;
+  const chips = [];
+  let left = 0;
+  found.forEach((row, at) => {
+    if (!isShown(at)) {
+      left += 1;
+      return;
+    }
+    if (left) {
+      chips.push(element("span", "quiet", `… ${left.toLocaleString("en")} …`));
+      left = 0;
+    }
+    chips.push(chip(row));
+  });
+  return chips;
+}
+
+function documentPart(number, filter) {
+  const uri = session.documents[number];
+  const only = button("plain", "show only this document", () => filter(number));
+  return element("div", "document",
+    element("p", "", element("strong", "", ...visibleText(baseName(uri))), " ", only),
+    element("p", "about uri", shownText(uri)),
+    element("div", "chips", ...chosenChips(namingRows[number].filter(isOfText))));
+}
+
+function documentsPart(filter) {
+  const found = [...session.documents.keys()].filter((number) => namingRows[number].some(isOfText));
+  if (found.length === 0) {
+    return null;
+  }
+  const shown = (numbers) => numbers.map((number) => documentPart(number, filter));
+  const rest = found.slice(MOST_DOCUMENTS);
+  return element("section", "card", element("h2", "", "Documents"),
+    element("p", "quiet", "The versions that messages set, and the snapshots (▣), in order."),
+    ...shown(found.slice(0, MOST_DOCUMENTS)),
+    rest.length === 0 ? null :
+      folded(count(rest.length, "more document"), () => element("div", "", ...shown(rest))));
+}

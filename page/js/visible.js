@@ -1,0 +1,61 @@
+// Characters that cannot be seen, or that change how others are seen, and what is shown for them.
+
+const NAMES = {
+  "\0": "NUL", "\t": "→", "\n": "LF", "\v": "VT", "\f": "FF", "\r": "CR", "\x1b": "ESC",
+  "\x7f": "DEL", "\x85": "NEL", "\xa0": "NBSP", "\xad": "SHY",
+  "\u200b": "ZWSP", "\u200c": "ZWNJ", "\u200d": "ZWJ", "\u200e": "LRM", "\u200f": "RLM",
+  "\u2028": "LS", "\u2029": "PS", "\u202a": "LRE", "\u202b": "RLE", "\u202c": "PDF",
+  "\u202d": "LRO", "\u202e": "RLO", "\u202f": "NNBSP", "\u2060": "WJ", "\u2066": "LRI",
+  "\u2067": "RLI", "\u2068": "FSI", "\u2069": "PDI", "\ufeff": "BOM",
+};
+
+const ODD = /[\p{Cc}\p{Cf}\p{Cs}\p{Co}\p{Zl}\p{Zp}]|(?! )\p{Zs}/u;
+const COMBINING = /\p{M}/u;
+
+function codePoint(character) {
+  return "U+" + character.codePointAt(0).toString(16).toUpperCase().padStart(4, "0");
+}
+
+// A byte that is not UTF-8 is a lone surrogate in the data.
+function escapedByte(character) {
+  const code = character.codePointAt(0);
+  return code >= 0xdc80 && code <= 0xdcff ? "\\x" + (code - 0xdc00).toString(16) : null;
+}
+
+// What is shown for a character, or null if it is shown as it is. With `all`, also for marks that
+// belong to the character before them.
+function shownFor(character, all) {
+  if (COMBINING.test(character)) {
+    return all ? "◌" + character : null;
+  }
+  if (character === "\u200d" && !all) {
+    return null;
+  }
+  if (!ODD.test(character)) {
+    return null;
+  }
+  return NAMES[character] ?? escapedByte(character) ?? codePoint(character);
+}
+
+// The text in pieces: [text, null] as it is, or [character, what is shown for it]. With `isBroken`,
+// an LF is left as it is, since it breaks the line where it is shown.
+function piecesOf(text, all = false, isBroken = false) {
+  const pieces = [];
+  let plain = "";
+  for (const character of text) {
+    const shown = isBroken && character === "\n" ? null : shownFor(character, all);
+    if (shown === null) {
+      plain += character;
+      continue;
+    }
+    if (plain) {
+      pieces.push([plain, null]);
+      plain = "";
+    }
+    pieces.push([character, shown]);
+  }
+  if (plain) {
+    pieces.push([plain, null]);
+  }
+  return pieces;
+}

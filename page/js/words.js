@@ -1,0 +1,169 @@
+// The lines of `lspcheck explain` in words. A line that is not known here is shown as it is.
+
+const TOKEN = /"(?:[^"\\]|\\.)*"|\S+/g;
+
+// A line as its first word, its values with JSON texts decoded, and its values as they are.
+function wordsOf(line) {
+  const [word, ...raw] = line.match(TOKEN) ?? [""];
+  return [word, raw.map((value) => (value.startsWith('"') ? JSON.parse(value) : value)), raw];
+}
+
+function shownText(text) {
+  return element("code", "shown-text", ...visibleText(text, true));
+}
+
+// `event 44 editor 28` as a link.
+function shownEvent(values) {
+  const [, event, side, number] = values;
+  const whose = side === "snapshot" ? `snapshot ${number}` : `the ${side}’s message ${number}`;
+  return [eventLink(Number(event)), ` (${whose})`];
+}
+
+function shownPlace(line, column) {
+  return `line ${line}, column ${column}`;
+}
+
+// Positions of the protocol are counted from 0, and lines in editors from 1.
+function shownCounting(line) {
+  return ` (counted from 0; line ${Number(line) + 1} in an editor)`;
+}
+
+const PHASES = {
+  fresh: "nothing was sent yet, or initialize was answered with an error",
+  waiting: "initialize is not answered yet",
+  answered: "initialize is answered, and initialized was not sent yet",
+  ready: "the session is running",
+  stopping: "shutdown was sent",
+  exited: "exit was sent",
+};
+
+const FAULTS = {
+  editor: "the editor’s",
+  server: "the server’s",
+  recorder: "the recorder’s",
+  outside: "neither side’s: the session goes beyond what lspcheck follows",
+};
+
+function shownChange(values) {
+  const [which, ...range] = values;
+  if (range[0] === "whole") {
+    return [`change ${which} of the message replaces the whole text`];
+  }
+  const [line, column, endLine, endColumn] = range;
+  const start = shownPlace(line, column);
+  const isEmpty = line === endLine && column === endColumn;
+  const words = isEmpty ? `at ${start}` : `from ${start} to ${shownPlace(endLine, endColumn)}`;
+  return [`change ${which} of the message, ${words}${shownCounting(line)}`];
+}
+
+function shownPart(values) {
+  const [text, , before, after] = values;
+  const said = [shownText(text)];
+  if (values[1] === "cut") {
+    said.push(` (${before} characters before it and ${after} after it are left out)`);
+  }
+  return said;
+}
+
+const SUSPECTS = {
+  0: "none: the editor changed its text without a message, or the texts were equal again later",
+  1: "one message: it is the wrong one",
+};
+
+// For each word: a label, and what is shown for the values of its line.
+const LINES = {
+  begins: ["It begins", ([text]) => [shownText(text)]],
+  breaks: ["JSON until", ([count]) => [`byte ${count} of the content`]],
+  before: ["Before it", ([text]) => [shownText(text)]],
+  after: ["After it", ([text]) => [shownText(text)]],
+  member: ["Member", ([text]) => [shownText(text), text === "" ? " (the params themselves)" : ""]],
+  uri: ["Document", ([uri]) => [element("strong", "", baseName(uri)), " ", shownText(uri)]],
+  held: ["Held", ([version, ...by]) => [`version ${version}, set by `, ...shownEvent(by)]],
+  sent: ["This message", ([version]) => [`sets version ${version}`]],
+  version: ["Version", ([version]) => [`the snapshot is of version ${version}`]],
+  changes: ["Changes", ([count]) => [`${count} in this message`]],
+  sync: ["Agreed", ([kind]) => [`synchronisation “${kind}”`]],
+  encoding: ["Columns", ([name]) => [`are counted in units of ${name.toUpperCase()}`]],
+  change: ["Edit", shownChange],
+  length: ["That line", ([units]) => [`is ${units} units long, without its line end`]],
+  inside: ["Inside", ([text]) => ["the column falls into the character ", shownText(text)]],
+  fits: ["It would fit", (names) => [
+    `if columns were counted in ${names.join(" or ").toUpperCase()}`,
+  ]],
+  bytes: ["Size", ([count]) => [`the text would have ${count} bytes`]],
+  limit: ["Limit", ([count]) => [`${count} bytes`]],
+  at: ["First difference", ([line, column]) => [shownPlace(line, column) + shownCounting(line)]],
+  "by-messages": ["By the messages", shownPart],
+  "in-editor": ["In the editor", shownPart],
+  saved: ["Saved", shownPart],
+  "line-ends": ["Line ends", () => ["nothing else differs: see --ignore-line-ends"]],
+  kept: ["Kept versions", (versions) => [versions.join(", ")]],
+  snapshot: ["Differs from", (by) => shownEvent(by)],
+  equal: ["Last equal", ([version, ...by]) => [`at version ${version}: `, ...shownEvent(by)]],
+  suspects: ["Suspects", ([count]) => [SUSPECTS[count] ?? `one of ${count} messages is wrong`]],
+  closed: ["Closed", (by) => ["by ", ...shownEvent(by)]],
+  opened: ["Opened", () => ["never"]],
+  similar: ["Similar", ([uri, ...by]) => [shownText(uri), " is open, by ", ...shownEvent(by)]],
+  id: ["Id", (_, [id]) => [shownText(id)]],
+  asked: ["Still open", (by) => ["the request with this id: ", ...shownEvent(by)]],
+  open: ["Meant perhaps", ([, ...by], [id]) => [`the open request ${id}: `, ...shownEvent(by)]],
+  answered: ["Answered", (by) => ["already by ", ...shownEvent(by)]],
+  request: ["Unanswered", ([, method, ...by], [id]) => [
+    shownText(method), ` ${id}, `, ...shownEvent(by),
+  ]],
+  token: ["Token", (_, [id]) => [shownText(id)]],
+  expected: ["Expected", (_, [id]) => ["the token of initialize, ", shownText(id)]],
+  phase: ["State", ([name]) => [PHASES[name] ?? name]],
+  since: ["Since", (by) => shownEvent(by)],
+  offered: ["Offered", (names) => [names.join(", ") || "no encoding: UTF-16 is meant"]],
+  picked: ["Picked", ([name]) => [name]],
+  registers: ["Registers", ([method]) => [shownText(method)]],
+  record: ["Record", ([number]) => [`number ${number} of the log`]],
+  byte: ["Place", ([count]) => [`${count} bytes into the log`]],
+  found: ["The line there", ([text]) => [shownText(text)]],
+  usually: ["Usually", ([who]) => [`the fault is ${FAULTS[who] ?? who}`]],
+};
+
+// The line in words: [label, nodes], or null if it says nothing that is not shown elsewhere.
+function inWords(line) {
+  const [word, values, raw] = wordsOf(line);
+  if (word === "event" || word === "end" || word === "suspect") {
+    return null;
+  }
+  const known = Object.hasOwn(LINES, word) ? LINES[word] : null;
+  try {
+    return known ? [known[0], known[1](values, raw)] : ["", [shownText(line)]];
+  } catch {
+    return ["", [shownText(line)]];
+  }
+}
+
+// A note that begins with a method or a URI, and ends with an event.
+function noteOn(words) {
+  return ([text, ...by]) => [shownText(text), ` ${words}: `, ...shownEvent(by)];
+}
+
+const NOTES = {
+  "as-notification": noteOn("is a request in LSP 3.17, and was sent as a notification"),
+  "as-request": noteOn("is a notification in LSP 3.17, and was sent as a request"),
+  "by-editor": noteOn("is sent only by servers in LSP 3.17, and the editor sent it"),
+  "by-server": noteOn("is sent only by editors in LSP 3.17, and the server sent it"),
+  "exit-without-shutdown": (by) => ["The editor sent exit without shutdown: ", ...shownEvent(by)],
+  "offset-encoding": ([name]) => [
+    `The server names ${name} in the older member offsetEncoding: it may count columns in it`,
+  ],
+  renamed: noteOn("was renamed, and is still opened or changed under this name"),
+  "nothing-compared": () => ["No snapshot was compared: yes says little about the texts"],
+  "no-snapshot": ([uri]) => [shownText(uri), " was changed, and no snapshot of it was compared"],
+};
+
+// A note of `explain` in words.
+function noteInWords(line) {
+  const [name, ...values] = wordsOf(line)[1];
+  const known = Object.hasOwn(NOTES, name) ? NOTES[name] : null;
+  try {
+    return known ? known(values) : [shownText(line)];
+  } catch {
+    return [shownText(line)];
+  }
+}

@@ -1,0 +1,316 @@
+#!/usr/bin/env python3
+"""Opens pages in Chromium, light and dark, 800 and 1600 pixels wide, and uses them.
+
+usage: browser.py PROGRAM FOLDER        FOLDER is for the pages
+
+It prints a line for each fault, and last the numbers of tests that passed and failed.
+"""
+
+import json
+import re
+import subprocess
+import sys
+import time
+import traceback
+from pathlib import Path
+
+from selenium import webdriver
+from selenium.common.exceptions import WebDriverException
+from selenium.webdriver.chrome.options import Options
+from selenium.webdriver.chrome.service import Service
+from selenium.webdriver.common.by import By
+from selenium.webdriver.common.keys import Keys
+
+import logs
+from command import run
+from data import EXAMPLES, output, written
+
+WIDTHS, THEMES = [800, 1600], ["light", "dark"]
+# Rows and their parts that may be in the tree of a page, however long the log is.
+MOST_ROWS = 150
+SECONDS = 60
+
+
+def start():
+    options = Options()
+    options.binary_location = "/usr/bin/chromium"
+    for word in ("--headless=new", "--no-sandbox", "--disable-gpu", "--disable-dev-shm-usage"):
+        options.add_argument(word)
+    options.set_capability("goog:loggingPrefs", {"browser": "ALL"})
+    driver = webdriver.Chrome(service=Service("/usr/bin/chromedriver"), options=options)
+    driver.set_page_load_timeout(SECONDS)
+    return driver
+
+
+class Page:
+    """A page in the browser."""
+
+    def __init__(self, driver, path):
+        self.driver, self.path = driver, path
+
+    def open(self, width=1600, theme="light", link=""):
+        size = {"width": width, "height": 900, "deviceScaleFactor": 1, "mobile": False}
+        self.driver.execute_cdp_cmd("Emulation.setDeviceMetricsOverride", size)
+        media = {"features": [{"name": "prefers-color-scheme", "value": theme}]}
+        self.driver.execute_cdp_cmd("Emulation.setEmulatedMedia", media)
+        self.driver.get("about:blank")
+        self.driver.get(f"{self.path.resolve().as_uri()}{link}")
+        assert self.run("return document.documentElement.dataset.ready") == "yes", self.log()
+
+    def run(self, script, *values):
+        return self.driver.execute_script(script, *values)
+
+    def log(self):
+        return self.driver.get_log("browser")
+
+    def all(self, selector):
+        return self.driver.find_elements(By.CSS_SELECTOR, selector)
+
+    def text(self, selector):
+        return self.run("return document.querySelector(arguments[0])?.innerText ?? null", selector)
+
+    def texts(self, selector):
+        script = "return [...document.querySelectorAll(arguments[0])].map((it) => it.innerText)"
+        return self.run(script, selector)
+
+    def keys(self, *keys):
+        self.driver.switch_to.active_element.send_keys(*keys)
+
+    def selected(self):
+        return self.text(".selected .number")
+
+    def wait(self, script, *values):
+        until = time.monotonic() + SECONDS
+        while time.monotonic() < until:
+            if found := self.run(script, *values):
+                return found
+            time.sleep(0.05)
+        raise AssertionError(f"never true: {script}")
+
+
+def make(program, place, log):
+    done = run(log, "--program", program, "-o", place / f"{log.name}.html")
+    assert done.returncode == 0, done.stderr
+    return place / f"{log.name}.html"
+
+
+def brightness(color):
+    return sum(map(int, re.findall(r"\d+", color)[:3])) / 3
+
+
+def opens_without_faults(page, program, log):
+    """In each width and theme: no error, the verdict, the lanes, nothing wider than the window."""
+    report = output(program, "check", log).decode().splitlines()
+    for width in WIDTHS:
+        for theme in THEMES:
+            page.open(width, theme)
+            head = page.text("h1")
+            wanted = "Yes" if report[0] == "yes" else report[1]
+            assert wanted in head, head
+            back = page.run("return getComputedStyle(document.body).backgroundColor")
+            assert (brightness(back) > 128) == (theme == "light"), (theme, back)
+            page.run("document.getElementById('lanes').scrollIntoView()")
+            page.wait("return document.querySelector('.row.editor') && document.querySelector('.row.server')")
+            assert page.run("return document.documentElement.scrollWidth") <= width
+            assert not (found := page.log()), found
+
+
+def shows_the_violation(page, program, log):
+    """The lines of `explain` are on the page in words, with their events as links."""
+    lines = output(program, "explain", log).decode().splitlines()
+    if not lines[0].startswith("no "):
+        return
+    page.open()
+    said = page.text(".first")
+    assert lines[1] in said
+    for line in lines[2:]:
+        for event in re.findall(r"\bevent (\d+) ", line)[:1]:
+            links = page.all(f'#overview a[href="#event-{event}"]')
+            assert links or line.startswith("event "), line
+        for text in re.findall(r'^(?:inside|uri|by-messages) (".*")$', line):
+            plain = json.loads(text).rstrip("\n")
+            assert plain in said, (plain, said)
+    page.run("document.querySelector('.why .folded').open = true")
+    page.wait("return document.querySelector('.why .raw') !== null")
+    assert page.text(".why .raw").split("\n")[0] == lines[0]
+    event = lines[0].split()[-1]
+    page.run("arguments[0].click()", page.all(".where a")[0])
+    page.wait("return document.querySelector('.selected .number')?.innerText === arguments[0]", event)
+    assert lines[1] in page.text(".selected .details")
+
+
+def marks_what_differs(page):
+    """Of the hostile session: both texts, and the characters in which they differ."""
+    page.open()
+    marked = page.texts(".first mark")
+    assert "".join(marked), marked
+    assert any("RLO" in it for it in page.texts(".first .odd")), page.texts(".first .odd")
+    cells = page.texts(".first .differs .line-text")
+    assert any(logs.EVIL in it for it in cells), cells
+    assert page.run("return document.images.length + document.querySelectorAll('iframe, object').length") == 0
+    assert page.run("return document.scripts.length") == len(re.findall("<script", page.path.read_text()))
+    for event in range(1, 13):
+        page.run("location.hash = arguments[0]", f"#event-{event}")
+        page.wait("return document.querySelector('.selected .number')?.innerText === arguments[0]", str(event))
+        page.run("document.querySelectorAll('details').forEach((it) => { it.open = true; })")
+        page.run("return new Promise((done) => setTimeout(done))")
+    assert not (found := page.log()), found
+
+
+def forbids_everything_else(page):
+    """What a script of the log could do is refused, should it ever get into the page."""
+    page.open()
+    for script in ("made.setAttribute('onerror', 'window.ran = 1')", "made.innerHTML = '<b>x</b>'"):
+        refused = page.run(f"try {{ const made = document.createElement('img'); {script} }} catch (e) {{ return e.name }}")
+        assert refused == "TypeError", (script, refused)
+    page.run("const made = document.createElement('img'); made.src = 'x.png'; document.body.append(made)")
+    page.run("const made = document.createElement('style'); made.textContent = 'body{display:none}'; document.body.append(made)")
+    assert page.run("return getComputedStyle(document.body).display") == "block"
+    assert page.wait("return document.images[0].complete") and page.run("return window.ran ?? null") is None
+    assert any("Content Security Policy" in it["message"] for it in page.log())
+
+
+def searches(page, program, log):
+    """By method, side, document and id: as many events are found as `show` lists."""
+    shown = output(program, "show", "--all", "--long", log).decode().splitlines()
+    page.open()
+    listed = output(program, "explain", "--all", log).decode().splitlines()
+    is_change = re.compile(r'(event )?\d+ editor (\d+ )?notification "textDocument/didChange".*')
+    changes = len([it for it in [*shown, *listed] if is_change.fullmatch(it)])
+    box = page.all("input.search")[0]
+    box.send_keys("textdocument/didchange notification")
+    assert page.text(".found").split()[0] == str(changes), page.text(".found")
+    page.run("arguments[0].click()", page.all(".search .plain")[0])
+    assert page.text(".found") == ""
+    side = page.all(".search select")[1]
+    side.send_keys("server")
+    servers = [it for it in shown if re.match(r"\d+ server ", it)]
+    assert page.text(".found").split()[0] == str(len(servers)), page.text(".found")
+    page.run("document.querySelector('.search').reset()")
+    page.all("input.id")[0].send_keys("2")
+    ids = [it for it in shown if re.match(r"\d+ \w+ (request|result|error) 2 ", it)]
+    assert page.text(".found").split()[0] == str(len(ids)), page.text(".found")
+    page.keys(Keys.ESCAPE)
+    page.keys(Keys.ESCAPE)
+    assert page.text(".found") == ""
+    page.run("document.querySelector('.document .plain').click()")
+    named = [it for it in shown if it[:1].isdigit() and json.dumps(page.run(
+        "return document.querySelector('.document .shown-text').innerText")) in it]
+    assert int(page.text(".found").split()[0]) >= len(named) > 0
+
+
+def follows_links_and_keys(page, program, log):
+    shown = output(program, "show", "--all", "--long", log).decode().splitlines()
+    snapshots = [it.split()[0] for it in shown if " snapshot " in it and it[0].isdigit()]
+    edits = [it.split()[0] for it in shown if '"textDocument/didChange"' in it]
+    page.open(link="#event-4")
+    assert page.selected() == "4" and page.text(".selected .about").startswith("event 4")
+    page.keys("s")
+    assert page.selected() == snapshots[0], page.selected()
+    page.keys("e")
+    if not edits:
+        return
+    assert page.selected() == edits[0], page.selected()
+    assert page.run("return location.hash") == f"#event-{edits[0]}"
+    page.keys("j")
+    assert page.selected() == str(int(edits[0]) + 1)
+    page.keys("k")
+    page.keys("S")
+    assert page.selected() == [it for it in snapshots if int(it) < int(edits[0])][-1]
+    bad = re.findall(r"event (\d+)", output(program, "check", "--all", log).decode())
+    page.open(link="#event-1")
+    page.keys("a")
+    page.wait("return document.querySelector('.selected .number').innerText === '2'")
+    page.keys("n")
+    assert page.selected() == (bad[0] if bad else "2")
+    page.keys("?")
+    assert page.run("return document.getElementById('keys').open")
+    page.keys(Keys.ESCAPE)
+    before = page.run("return getComputedStyle(document.body).backgroundColor")
+    page.keys("d")
+    after = page.run("return getComputedStyle(document.body).backgroundColor")
+    assert brightness(before) > 128 > brightness(after)
+    assert not (found := page.log()), found
+
+
+def shows_texts_after_messages(page, program, log):
+    """The text after a message, as lspcheck gives it, and the content of an event."""
+    shown = output(program, "show", "--all", "--long", log).decode().splitlines()
+    found = next(it for it in shown if '"textDocument/didOpen"' in it)
+    event, number, uri = found.split()[0], found.split()[4], json.loads(found.split()[5])
+    page.open(link=f"#event-{event}")
+    page.run("[...document.querySelectorAll('.selected .folded')].at(-1).open = true")
+    page.wait("return document.querySelector('.selected .document-text') !== null")
+    wanted = output(program, "text", "--all", number, uri, log).decode()
+    text = page.run("return document.querySelector('.selected .document-text').textContent")
+    assert text.replace("LF", "").replace("→", "").split() == wanted.replace("LF", "").split()
+    content = output(program, "event", event, log).decode()
+    shown_content = page.run("return document.querySelector('.selected .json').textContent")
+    assert json.loads(shown_content) == json.loads(content)
+
+
+def stays_small(page, events):
+    """A long log: few rows are in the tree, at the beginning, in the middle and at the end."""
+    page.open()
+    for place in (0, 0.5, 1):
+        page.run("scrollTo(0, document.documentElement.scrollHeight * arguments[0])", place)
+        page.run("return new Promise((done) => requestAnimationFrame(() => requestAnimationFrame(done)))")
+        assert len(page.all(".row")) <= MOST_ROWS, len(page.all(".row"))
+        assert place == 0 or page.all(".row")
+    assert "End of the log" in page.text("#lanes")
+    page.run("location.hash = arguments[0]", f"#event-{events // 2}")
+    page.wait("return document.querySelector('.selected .number')?.innerText === arguments[0]", str(events // 2))
+    top = page.run("return document.querySelector('.selected').getBoundingClientRect().top")
+    assert 0 < top < 900, top
+    took = page.run("return performance.getEntriesByType('navigation')[0].domComplete")
+    assert took < 10000, took
+
+
+def prints_all_rows(page):
+    page.open()
+    page.run("dispatchEvent(new Event('beforeprint'))")
+    assert len(page.all("#lanes .row")) == page.run("return arguments[0]", 171), len(page.all("#lanes .row"))
+    page.run("dispatchEvent(new Event('afterprint'))")
+    assert len(page.all("#lanes .row")) < MOST_ROWS
+
+
+def tests_of(driver, program, place):
+    """Each test as a name and a call."""
+    for log in EXAMPLES:
+        page = Page(driver, make(program, place, log))
+        for test in (opens_without_faults, shows_the_violation, searches, follows_links_and_keys,
+                     shows_texts_after_messages):
+            yield f"{test.__name__} {log.name}", lambda test=test, page=page, log=log: test(page, program, log)
+    hostile = written(place, "<b onclick=alert(1)>.log", logs.hostile())
+    page = Page(driver, make(program, place, hostile))
+    for test in (opens_without_faults, shows_the_violation):
+        yield f"{test.__name__} hostile", lambda test=test, page=page: test(page, program, hostile)
+    for test in (marks_what_differs, forbids_everything_else):
+        yield test.__name__, lambda test=test, page=page: test(page)
+    long = written(place, "long.log", logs.long(20000, difference=12001))
+    page_of_long = Page(driver, make(program, place, long))
+    yield "stays_small", lambda: stays_small(page_of_long, 20000)
+    printed = Page(driver, make(program, place, EXAMPLES[-1]))
+    yield "prints_all_rows", lambda: prints_all_rows(printed)
+
+
+def main(words):
+    program, place = Path(words[0]), Path(words[1])
+    driver = start()
+    passed = failed = 0
+    try:
+        for name, test in tests_of(driver, program, place):
+            try:
+                test()
+                passed += 1
+            except (AssertionError, WebDriverException) as error:
+                failed += 1
+                where = [it for it in traceback.extract_tb(error.__traceback__) if it.filename == __file__][-1]
+                print(f"FAILED {name}, line {where.lineno}: {error or where.line}"[:2000], flush=True)
+    finally:
+        driver.quit()
+    print(passed, failed)
+
+
+if __name__ == "__main__":
+    main(sys.argv[1:])

@@ -1,0 +1,180 @@
+"""The data of a page is what lspcheck wrote, and nothing of a log is outside it."""
+
+import base64
+import hashlib
+import re
+import subprocess
+from html.parser import HTMLParser
+
+import logs
+from command import TOP, run
+
+EXAMPLES = sorted((TOP / "examples").glob("*.log"))
+NO = re.compile(r"no (\d+) (\w+) (\d+) event (\d+)( follows)?")
+
+
+def output(program, *words):
+    return subprocess.run([program, *words], stdout=subprocess.PIPE, stderr=subprocess.DEVNULL).stdout
+
+
+def page_of(program, log, *words):
+    done = run(log, "--program", program, "-o", "-", *words)
+    assert done.returncode == 0, done.stderr
+    return done.stdout
+
+
+def written(place, name, log):
+    path = place / name
+    path.write_bytes(log)
+    return path
+
+
+def line_of(index, row):
+    """The line of `show --all --long` of a row that breaks no rule."""
+    event, side, number, kind, method, id, document, version, size = row[:9]
+    kind = ["request", "notification", "result", "error", "snapshot"][kind]
+    uri = index["documents"][document] if document >= 0 else None
+    if kind == "snapshot":
+        return [event, kind, version, size, uri, number]
+    words = [event, ["editor", "server"][side], kind, id if kind != "notification" else None]
+    words += [index["methods"][method] if kind in ("request", "notification") else None]
+    return [it for it in words if it is not None]
+
+
+def has_what_was_written(program, place):
+    """Each event, its content, the violations, and the lines of `explain`."""
+    made = [written(place, "joined.log", logs.joined()), written(place, "hostile.log", logs.hostile())]
+    for log in [*EXAMPLES, *made]:
+        index, contents = logs.data_of(page_of(program, log))
+        shown = output(program, "show", "--all", "--long", log).decode().splitlines()
+        lines = {int(line.split()[0]): line for line in shown if line[0].isdigit()}
+        rows = {row[0]: row for row in index["rows"]}
+        assert list(rows) == list(range(1, len(rows) + 1))
+        for event, line in lines.items():
+            for word in line_of(index, rows[event]):
+                plain = str(word).replace("\\", "\\\\").replace('"', '\\"')
+                assert str(word) in line or plain in line, (word, line)
+        for row, content in zip(index["rows"], contents):
+            assert content.encode("utf-8", "surrogateescape") == output(program, "event", str(row[0]), log)
+        assert index["report"] == output(program, "explain", log).decode().splitlines()
+        found = [NO.fullmatch(line).groups() for line in shown if line.startswith("no ")]
+        listed = [(str(it["rule"]), it["who"], str(it["number"]), str(it["event"]), it["follows"])
+                  for it in index["violations"]]
+        assert listed == [(*it[:4], it[4] is not None) for it in found]
+        explained = output(program, "explain", "--all", log).decode()
+        for it in index["violations"]:
+            assert ("\n".join(it["lines"]) in explained) and bool(it["lines"]) != it["follows"]
+            assert index["rules"][str(it["rule"])]["text"] == it["text"]
+
+
+def has_both_texts(program, place):
+    log = written(place, "hostile.log", logs.hostile())
+    index, _ = logs.data_of(page_of(program, log))
+    assert index["texts"]["messages"].encode() == output(program, "explain", "--by-messages", log)
+    assert index["texts"]["editor"].encode() == output(program, "explain", "--in-editor", log)
+    assert index["texts"]["messages"] != index["texts"]["editor"]
+
+
+def joins_requests(program, place):
+    index, _ = logs.data_of(page_of(program, written(place, "joined.log", logs.joined())))
+    joins = {row[0]: (row[10], row[11]) for row in index["rows"] if row[10] or row[11]}
+    assert joins == logs.JOINS, joins
+
+
+class Tags(HTMLParser):
+    """The tags and attributes of a page, and the contents of its scripts and styles."""
+
+    def __init__(self, page):
+        super().__init__()
+        self.tags, self.raw, self.comments, self.policy = [], [], [], None
+        self.feed(page)
+        self.close()
+
+    def handle_starttag(self, tag, attributes):
+        self.tags.append((tag, tuple(attributes)))
+        if dict(attributes).get("http-equiv") == "Content-Security-Policy":
+            self.policy = dict(attributes)["content"]
+
+    def handle_data(self, text):
+        if self.tags and self.tags[-1][0] in ("script", "style") and text.strip():
+            self.raw.append((self.tags[-1][0], self.tags[-1][1], text))
+
+    def handle_comment(self, text):
+        self.comments.append(text)
+
+
+def keeps_hostile_contents_in_data(program, place):
+    """The page of a hostile log has the tags of a harmless one's; its policy allows its own code."""
+    name = "<img src=x onerror=alert(1)>&quot;.log"
+    hostile = page_of(program, written(place, name, logs.hostile()))
+    harmless = page_of(program, written(place, "joined.log", logs.joined()))
+    tags = Tags(hostile)
+    assert [it for it in tags.tags if it[0] != "meta"] == [it for it in Tags(harmless).tags if it[0] != "meta"]
+    assert tags.comments == [" lspcheck-page "]
+    index, contents = logs.data_of(hostile)
+    assert index["name"] == name
+    assert logs.EVIL_URI in index["documents"] and f"textDocument/{logs.EVIL}" in index["methods"]
+    assert any(logs.EVIL in it for it in contents)
+    outside = logs.BLOCK.sub("", hostile)
+    assert "onerror" not in outside and "file:///" not in outside
+    for kind in ("script", "style"):
+        code = [text for tag, attributes, text in tags.raw if tag == kind and not attributes]
+        digest = base64.b64encode(hashlib.sha256("".join(code).encode()).digest()).decode()
+        assert f"{kind}-src 'sha256-{digest}'" in tags.policy, kind
+    assert "default-src 'none'" in tags.policy and "unsafe" not in tags.policy
+
+
+def cuts_long_logs(program, place):
+    """A cut page has the violation with what is near it, and says what it leaves out."""
+    log = written(place, "long.log", logs.long(4000, difference=2001))
+    words = ["--most-events", "300"]
+    index, contents = logs.data_of(page_of(program, log, *words))
+    events = [row[0] for row in index["rows"]]
+    violation = index["violations"][0]["event"]
+    assert output(program, "check", log).decode().splitlines()[0].endswith(f"event {violation}")
+    assert len(events) <= 300 and {1, 2, 3, violation - 50, violation, violation + 50} <= set(events)
+    gaps = [event for gap in index["left"]["gaps"] for event in range(gap["from"], gap["to"] + 1)]
+    assert sorted(events + gaps) == list(range(1, index["events"] + 1))
+    assert "4,000 events" in index["left"]["said"][0]
+    whole, _ = logs.data_of(page_of(program, log))
+    assert whole["left"] is None and len(whole["rows"]) == 4000
+    shown = {row[0]: row[:10] for row in whole["rows"]}
+    assert all(shown[row[0]] == row[:10] for row in index["rows"] if row[6] <= 0)
+    for point in index["left"]["checkpoints"]:
+        before = [row[2] for row in whole["rows"] if row[0] <= point["to"] and row[1] == 0][-1]
+        uri = index["documents"][point["document"]]
+        assert point["text"].encode() == output(program, "text", "--all", str(before), uri, log)
+    assert index["left"]["checkpoints"]
+    small, contents = logs.data_of(page_of(program, log, "--most-bytes", "100000"))
+    assert sum(len(it or "") for it in contents) <= 200000
+    assert violation in [row[0] for row in small["rows"]]
+
+
+def shows_bad_logs(program, place):
+    """What precedes the fault of a damaged log, and the fault itself."""
+    log = written(place, "cut.log", EXAMPLES[0].read_bytes()[:9000])
+    index, _ = logs.data_of(page_of(program, log))
+    assert index["report"][0] == "bad log L4 record 12"
+    assert index["rules"]["L4"]["text"] == index["report"][1]
+    assert len(index["rows"]) == 12
+
+
+def shows_how_the_server_ended(program, place):
+    log = written(place, "a.log", logs.joined())
+    (place / "a.exit").write_text(f"signal 11\ntime {logs.EVIL}\n")
+    page = page_of(program, log)
+    assert logs.data_of(page)[0]["exit"] == ["signal 11", f"time {logs.EVIL}"]
+    assert "onerror" not in logs.BLOCK.sub("", page)
+    (place / "a.exit").unlink()
+    assert logs.data_of(page_of(program, log))[0]["exit"] == []
+
+
+TESTS = [
+    has_what_was_written,
+    has_both_texts,
+    joins_requests,
+    keeps_hostile_contents_in_data,
+    cuts_long_logs,
+    shows_bad_logs,
+    shows_how_the_server_ended,
+]

@@ -1,0 +1,53 @@
+"""The texts that a page makes from the messages, and its differences, run by node."""
+
+import json
+import shutil
+import subprocess
+from pathlib import Path
+
+import logs
+from data import EXAMPLES, output, page_of, written
+
+HERE = Path(__file__).resolve().parent
+
+
+def node(script, given):
+    """What a script writes for a value that it is given, both in JSON."""
+    assert shutil.which("node"), "there is no node"
+    words = ["node", HERE / script]
+    done = subprocess.run(words, input=json.dumps(given), capture_output=True, text=True, timeout=120)
+    assert done.returncode == 0, done.stderr
+    return json.loads(done.stdout)
+
+
+def blocks_of(page):
+    return dict(logs.BLOCK.findall(page))
+
+
+def texts_are_those_of_lspcheck(program, place):
+    """After each message of the editor, for each document: the text of `lspcheck text --all`."""
+    made = [written(place, f"{name}.log", logs.edited(name, seed)) for seed, name in enumerate(logs.UNITS)]
+    compared = 0
+    for log in [*EXAMPLES, *made]:
+        for at in node("texts.js", blocks_of(page_of(program, log))):
+            words = ["text", "--all", str(at["number"]), at["uri"], log]
+            wanted = output(program, *words).decode()
+            assert (at["text"] or "") == wanted, f"{log.name}: {words[2:4]}"
+            compared += at["text"] is not None
+    assert compared > 200, compared
+
+
+def texts_after_a_gap(program, place):
+    """A cut page makes the same texts from its checkpoints, or says that it cannot."""
+    log = written(place, "long.log", logs.long(2000, difference=1001))
+    whole = {it["event"]: it["text"] for it in node("texts.js", blocks_of(page_of(program, log)))}
+    cut = node("texts.js", blocks_of(page_of(program, log, "--most-events", "200")))
+    known = [it for it in cut if it["text"] is not None]
+    assert len(known) > 30 and all(it["text"] == whole[it["event"]] for it in known)
+
+
+def differences_lead_from_one_text_to_the_other(program, place):
+    assert node("differences.js", None) == "good"
+
+
+TESTS = [texts_are_those_of_lspcheck, texts_after_a_gap, differences_lead_from_one_text_to_the_other]
