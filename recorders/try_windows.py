@@ -234,12 +234,13 @@ WINDOWS = {
     "builder": ("gnome-builder", ".go", builder),
 }
 
-# Faults that these editors are known for, by rule, and the files in which they may show.
+# Faults that these editors are known for: the editor, the rule, and the files in which it may show.
 KNOWN = {
-    ("builder", "702"): (["emoji"], "it counts columns in code points"),
-    ("spyder", "603"): (FORMS, "it repeats a version after undo"),
-    ("spyder", "608"): (FORMS, "it sends an older text with didSave"),
-    ("kate", "608"): (FORMS, "it sends didSave ahead of the change that it saved"),
+    ("builder", "702", "emoji"): "it counts columns in code points",
+    ("builder", "702", "crlf"): "it sends CR LF and writes LF",
+    **{("spyder", "603", form): "it repeats a version after undo" for form in FORMS},
+    **{("spyder", "608", form): "it sends an older text with didSave" for form in FORMS},
+    **{("kate", "608", form): "it sends didSave ahead of its change" for form in FORMS},
 }
 
 NEEDED = ["Xvfb", "openbox", "xdotool", "dbus-run-session"]
@@ -284,9 +285,9 @@ def try_window(name, program, folder):
         for log in session(name, form, folder / form, []):
             verdict, compared = counts(program, log)
             total += compared
-            forms, cause = KNOWN.get((name, *verdict.split()[1:2]), ([], None))
-            shown = f"{verdict} (known: {cause})" if form in forms else verdict
-            yield f"{name}: {form}: {log.name}", verdict == "yes" or form in forms, shown
+            cause = KNOWN.get((name, "".join(verdict.split()[1:2]), form))
+            shown = f"{verdict} (known: {cause})" if cause else verdict
+            yield f"{name}: {form}: {log.name}", verdict == "yes" or cause is not None, shown
         yield f"{name}: {form}: texts", total > 0, f"{total} compared"
 
 
