@@ -2,9 +2,11 @@
 use std::cell::Cell;
 use std::io;
 use std::io::{Read, Write};
+use std::rt::Clock;
+use std::time::{Duration, Instant};
 
-/// How many bytes are read before the line is written again.
-const STEP: u64 = 1 << 24;
+/// How much time passes before the line is written, and before it is written again.
+const PAUSE: Duration = Duration::from_secs(1);
 
 /// How many bytes are a megabyte.
 const MEGABYTE: u64 = 1_000_000;
@@ -14,8 +16,7 @@ const BLANK: &str = "\r                                                         
 
 /// The line on how far the input was read.
 ///
-/// It is written where the input is longer than a [`STEP`], again after each, and taken back before
-/// anything else is written to the terminal.
+/// It is written each second, and taken back before anything else is written to the terminal.
 #[derive(Drop)]
 pub(crate) struct Progress<'a, R> {
     rt: &'a R,
@@ -25,13 +26,13 @@ pub(crate) struct Progress<'a, R> {
     is_shared: bool,
     /// The bytes that were read.
     read: Cell<u64>,
-    /// The bytes after which the line is due again; never, where it is left out.
-    due: Cell<u64>,
+    /// When the line was written, or the run began; `None` where it is left out.
+    since: Cell<Option<Instant>>,
     /// Whether the line stands on the terminal.
     is_shown: Cell<bool>,
 }
 
-impl<'a, R: Eprint> Progress<'a, R> {
+impl<'a, R: Clock + Eprint> Progress<'a, R> {
     /// Of an input of this many bytes, where they are known; nothing is shown unless it is `on`.
     pub(crate) fn new(rt: &'a R, size: Option<u64>, on: bool, is_shared: bool) -> Progress<'a, R> {
         Progress {
@@ -39,18 +40,25 @@ impl<'a, R: Eprint> Progress<'a, R> {
             size,
             is_shared,
             read: Cell::new(0),
-            due: Cell::new(if on { STEP } else { u64::MAX }),
+            since: Cell::new(if on { Instant::now(rt).ok() } else { None }),
             is_shown: Cell::new(false),
         }
     }
 
     /// Takes note of bytes that were read.
     fn advance(&self, count: usize) {
-        let read = self.read.get().saturating_add(count as u64);
-        self.read.set(read);
-        if read >= self.due.get() {
-            self.due.set(read.saturating_add(STEP));
-            self.show(read / MEGABYTE);
+        self.read.set(self.read.get().saturating_add(count as u64));
+        if self.is_due() {
+            self.since.set(Instant::now(self.rt).ok());
+            self.show(self.read.get() / MEGABYTE);
+        }
+    }
+
+    /// Whether a second has passed. A clock that fails ends the line.
+    fn is_due(&self) -> bool {
+        match self.since.get() {
+            Some(since) => matches!(since.elapsed(self.rt), Ok(passed) if passed >= PAUSE),
+            None => false,
         }
     }
 
@@ -60,7 +68,8 @@ impl<'a, R: Eprint> Progress<'a, R> {
         let _ = match self.size {
             Some(size) => {
                 let all = size / MEGABYTE;
-                eprint!(self.rt; "\rlspcheck: read {megabytes} of {all} MB")
+                let percent = percent_of(megabytes, all);
+                eprint!(self.rt; "\rlspcheck: read {megabytes} of {all} MB, {percent} %")
             }
             None => eprint!(self.rt; "\rlspcheck: read {megabytes} MB"),
         };
@@ -78,8 +87,17 @@ impl<'a, R: Eprint> Progress<'a, R> {
     fn make_way(&self) {
         if self.is_shared {
             self.clear();
-            self.due.set(u64::MAX);
+            self.since.set(None);
         }
+    }
+}
+
+/// How many percent of the megabytes were read; 100 where there is none.
+fn percent_of(megabytes: u64, all: u64) -> u64 {
+    if megabytes >= all {
+        100
+    } else {
+        megabytes.saturating_mul(100) / all
     }
 }
 
@@ -97,7 +115,7 @@ impl<'a, 'b, R, I> Watched<'a, 'b, R, I> {
     }
 }
 
-impl<R: Eprint, I: Read> Read for Watched<'_, '_, R, I> {
+impl<R: Clock + Eprint, I: Read> Read for Watched<'_, '_, R, I> {
     ghost remaining = { λ w. I.remaining w.input };
 
     fn read(&mut self, buffer: &mut [u8]) -> io::Result<usize> {
@@ -121,7 +139,7 @@ impl<'a, 'b, R, O> MakingWay<'a, 'b, R, O> {
     }
 }
 
-impl<R: Eprint, O: Write> Write for MakingWay<'_, '_, R, O> {
+impl<R: Clock + Eprint, O: Write> Write for MakingWay<'_, '_, R, O> {
     ghost contents = { λ w. O.contents w.output };
 
     fn write(&mut self, bytes: &[u8]) -> io::Result<usize> {
