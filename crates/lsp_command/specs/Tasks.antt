@@ -1,5 +1,5 @@
 -- What each task answers and writes: what the run of its name does with its arguments.
-use Rattle.std.specs.Prelude.{◌≡◌, ◌⊎◌, ℕ, List, [], Result, Ok, Err, IfOk, OnErr, IsOk}
+use Rattle.std.specs.Prelude.{◌≡◌, ◌⊎◌, ◌+◌, ℕ, List, [], Result, Ok, Err, IfOk, OnErr, IsOk}
 use Rattle.std.specs.Io.KnownBytes.{IsAtEnd}
 use Rattle.std.specs.Int.NonZero.{non_zero_u64_get}
 use Rattle.lsp_frame.specs.Bounds.{Bounds}
@@ -9,7 +9,7 @@ use Rattle.lsp_judge.specs.Event.{IsEvent, BeginsEvent}
 use Rattle.lsp_judge.specs.Normal.{EndsNormal, BeginsNormal}
 use Rattle.lsp_verdict.specs.Complete.{IsVerdictBy}
 use Rattle.lsp_verdict.specs.Ports.{IsOutput, IsSilent, OfInput, Ports}
-use Rattle.lsp_verdict.specs.RunIo.{source_failures, sink_failures}
+use Rattle.lsp_verdict.specs.RunIo.{GaveAtMost, source_failures, sink_failures}
 use Rattle.lsp_verdict.specs.TextAfter.{AnswersText}
 use Rattle.lsp_judge.specs.Checked.{Checked}
 use Rattle.lsp_judge.specs.ShownLog.{Showed}
@@ -43,6 +43,10 @@ use Rattle.lsp_command.specs.declared.command_line.task.Task.TheVariants.{TextAl
 use Rattle.lsp_command.specs.declared.command_line.task.Task.TheVariants.{Normal, Upgrade, Frames}
 
 -- `explain`: the verdict on the log read, whose session must be complete or not, and what explains
+-- at most one byte past the limit of a log was read
+abbrev pub StaysWithin : Bounds → Ports → Type 0
+StaysWithin limits p = GaveAtMost (limits.log + 1) p.source_before p.source_after
+
 -- it
 pub record Explained (completeness : Completeness) (limits : Bounds) (p : Ports) (result : Result Outcome RunFault) : Type 0 where
   pub judged : IfOk result (λ outcome. (v : Verdict) × (outcome ≡ outcomes.Judged v))
@@ -54,6 +58,7 @@ pub record Explained (completeness : Completeness) (limits : Bounds) (p : Ports)
   pub memory : result ≡ Err faults.Memory → IsSilent p
   pub write_fault : result ≡ Err faults.Write → (out : List ℕ) × IsOutput p out × OfInput limits p (λ log. BeginsExplanation completeness limits log out)
 
+  pub limit : StaysWithin limits p
 -- `event`: what is due for the event of the number, or after a fault what begins it
 pub record GaveEvent (limits : Bounds) (p : Ports) (number : ℕ) (result : Result EventOutcome RunFault) : Type 0 where
   pub written : IfOk result (λ outcome. (out : List ℕ) × IsOutput p out × OfInput limits p (λ log. IsEvent limits log number out outcome))
@@ -62,18 +67,21 @@ pub record GaveEvent (limits : Bounds) (p : Ports) (number : ℕ) (result : Resu
   pub read_fault : result ≡ Err faults.Read → IsSilent p
   pub memory : result ≡ Err faults.Memory → IsSilent p
 
+  pub limit : StaysWithin limits p
 -- `normal`: the normal form of the log read, or after a fault what begins it
 pub record Normalized (limits : Bounds) (p : Ports) (result : Result Outcome RunFault) : Type 0 where
   pub written : IfOk result (λ outcome. (out : List ℕ) × IsOutput p out × OfInput limits p (λ log. EndsNormal limits log out outcome))
   pub done : result ≡ Ok outcomes.Done → IsAtEnd p.source_after.bytes
   pub fault : OnErr result ((out : List ℕ) × IsOutput p out × OfInput limits p (λ log. BeginsNormal limits log out))
 
+  pub limit : StaysWithin limits p
 -- `frames`: what is due in the mode for the stream read, or after a fault what begins it
 pub record Framed (limits : Bounds) (p : Ports) (mode : Mode) (result : Result Outcome RunFault) : Type 0 where
   pub written : IfOk result (λ outcome. (out : List ℕ) × IsOutput p out × OfInput limits p (λ stream. IsRun limits mode stream out outcome))
   pub done : result ≡ Ok outcomes.Done → IsAtEnd p.source_after.bytes
   pub fault : OnErr result ((out : List ℕ) × IsOutput p out × OfInput limits p (λ stream. BeginsRun limits mode stream out))
 
+  pub limit : StaysWithin limits p
 -- the run over a log or a stream answers so, and the task as it does
 abbrev pub EndsRun : (Result Outcome RunFault → Type 0) → Result TaskOutcome RunFault → Type 0
 EndsRun Ends result = (ended : Result Outcome RunFault) × (result ≡ of_run ended) × Ends ended
