@@ -43,14 +43,13 @@ ahead_left remaining r new n fits drops =
     first_left (remaining r.inner) new (reader_capacity r == 0) (reader_buffer r) n fits drops
 
 -- so many of them were given
-pub ahead_given : {E : Type 0} (r : Result ℕ E) (before after : Told) (old new shown buffer : List ℕ)
-    (most n : ℕ)
-    → r ≡ Ok n → n ≤ most → n ≤ length buffer → shown ≡ buffer → new ≡ old ++ take n shown
+pub ahead_given : (before after : Told) (old new shown buffer : List ℕ) (most n : ℕ)
+    → n ≤ most → n ≤ length buffer → shown ≡ buffer → new ≡ old ++ take n shown
     → Consumes before.bytes after.bytes (take n buffer) → Raises before.count after.count n
-    → IfOk r (λ k. GaveOnto before after old new most k)
-ahead_given r before after old new shown buffer most n is within fits same items bytes count =
+    → GaveOnto before after old new most n
+ahead_given before after old new shown buffer most n within fits same items bytes count =
     let len : length (take n buffer) ≡ n = omega (arith, length-take n buffer, fits) in
-    let given : GaveOnto before after old new most n = record {
+    record {
       piece = take n buffer;
       gave = record {
         bytes = bytes;
@@ -59,5 +58,4 @@ ahead_given r before after old new shown buffer most n is within fits same items
       items = items ∙ ap (λ (w : List ℕ). old ++ take n w) same;
       count = len;
       within = within;
-    } in
-    subst (λ s. IfOk s (λ k. GaveOnto before after old new most k)) (sym is) given
+    }

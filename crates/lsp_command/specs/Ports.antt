@@ -8,7 +8,7 @@ use Rattle.lsp_command.specs.declared.output.BufferedOutput.{BufferedOutput}
 
 -- the bytes that an output took and has not written
 abbrev pub unwritten : {W : Type 0} → BufferedOutput W → List ℕ
-unwritten o = writer_buffer o.writer
+unwritten o = writer_buffer o.writer.writer
 
 -- the first bytes that an input gave
 abbrev pub first_bytes : {R : Type 0} → BufferedInput R → List ℕ
@@ -16,8 +16,12 @@ first_bytes i = kept i.beginning
 
 -- the error by which an input last failed
 abbrev pub input_error : {R : Type 0} → BufferedInput R → Option Error
-input_error i = i.tally.cause
+input_error i = i.reader.tally.cause
 
 -- the error by which an output last failed
 abbrev pub output_error : {W : Type 0} → BufferedOutput W → Option Error
-output_error o = o.tally.cause
+output_error o = o.writer.tally.cause
+
+-- the error of its writer by which an output has still to fail
+abbrev pub late_error : {W : Type 0} → BufferedOutput W → Option Error
+late_error o = o.writer.late

@@ -1,15 +1,16 @@
 -- What each task answers and writes: what the run of its name does with its arguments.
-use Rattle.std.specs.Prelude.{◌≡◌, ◌⊎◌, ℕ, List, [], Result, Ok, Err, IfOk, OnErr, IsOk}
+use Rattle.std.specs.Prelude.{◌≡◌, ◌+◌, ℕ, List, [], Result, Ok, Err, IfOk, OnOk, OnErr}
 use Rattle.std.specs.Io.KnownBytes.{IsAtEnd}
 use Rattle.std.specs.Int.NonZero.{non_zero_u64_get}
 use Rattle.lsp_frame.specs.Bounds.{Bounds}
-use Rattle.lsp_frame.specs.Told.{Told, KeepsBytes, after_failure}
+use Rattle.lsp_frame.specs.Told.{Told, CountsFailure, KeepsBytes}
+use Rattle.lsp_frame.specs.declared.io.Failed.{Failed}
 use Rattle.lsp_verdict.specs.Given.{verdict_view}
 use Rattle.lsp_judge.specs.Event.{IsEvent, BeginsEvent}
 use Rattle.lsp_judge.specs.Normal.{EndsNormal, BeginsNormal}
 use Rattle.lsp_verdict.specs.Complete.{IsVerdictBy}
 use Rattle.lsp_verdict.specs.Ports.{IsOutput, IsSilent, OfInput, Ports}
-use Rattle.lsp_verdict.specs.RunIo.{source_failures, sink_failures}
+use Rattle.lsp_verdict.specs.RunIo.{GaveAtMost, source_failures, sink_failures}
 use Rattle.lsp_verdict.specs.TextAfter.{AnswersText}
 use Rattle.lsp_judge.specs.Checked.{Checked}
 use Rattle.lsp_judge.specs.ShownLog.{Showed}
@@ -42,6 +43,10 @@ use Rattle.lsp_command.specs.declared.command_line.task.Task.TheVariants.{Show, 
 use Rattle.lsp_command.specs.declared.command_line.task.Task.TheVariants.{TextAll, Event}
 use Rattle.lsp_command.specs.declared.command_line.task.Task.TheVariants.{Normal, Upgrade, Frames}
 
+-- at most one byte past the limit of a log was read
+abbrev pub StaysWithin : Bounds → Ports → Type 0
+StaysWithin limits p = GaveAtMost (limits.log + 1) p.source_before p.source_after
+
 -- `explain`: the verdict on the log read, whose session must be complete or not, and what explains
 -- it
 pub record Explained (completeness : Completeness) (limits : Bounds) (p : Ports) (result : Result Outcome RunFault) : Type 0 where
@@ -53,6 +58,7 @@ pub record Explained (completeness : Completeness) (limits : Bounds) (p : Ports)
   pub read_fault : result ≡ Err faults.Read → IsSilent p
   pub memory : result ≡ Err faults.Memory → IsSilent p
   pub write_fault : result ≡ Err faults.Write → (out : List ℕ) × IsOutput p out × OfInput limits p (λ log. BeginsExplanation completeness limits log out)
+  pub limit : StaysWithin limits p
 
 -- `event`: what is due for the event of the number, or after a fault what begins it
 pub record GaveEvent (limits : Bounds) (p : Ports) (number : ℕ) (result : Result EventOutcome RunFault) : Type 0 where
@@ -61,18 +67,21 @@ pub record GaveEvent (limits : Bounds) (p : Ports) (number : ℕ) (result : Resu
   pub fault : OnErr result ((out : List ℕ) × IsOutput p out × OfInput limits p (λ log. BeginsEvent limits log number out))
   pub read_fault : result ≡ Err faults.Read → IsSilent p
   pub memory : result ≡ Err faults.Memory → IsSilent p
+  pub limit : StaysWithin limits p
 
 -- `normal`: the normal form of the log read, or after a fault what begins it
 pub record Normalized (limits : Bounds) (p : Ports) (result : Result Outcome RunFault) : Type 0 where
   pub written : IfOk result (λ outcome. (out : List ℕ) × IsOutput p out × OfInput limits p (λ log. EndsNormal limits log out outcome))
   pub done : result ≡ Ok outcomes.Done → IsAtEnd p.source_after.bytes
   pub fault : OnErr result ((out : List ℕ) × IsOutput p out × OfInput limits p (λ log. BeginsNormal limits log out))
+  pub limit : StaysWithin limits p
 
 -- `frames`: what is due in the mode for the stream read, or after a fault what begins it
 pub record Framed (limits : Bounds) (p : Ports) (mode : Mode) (result : Result Outcome RunFault) : Type 0 where
   pub written : IfOk result (λ outcome. (out : List ℕ) × IsOutput p out × OfInput limits p (λ stream. IsRun limits mode stream out outcome))
   pub done : result ≡ Ok outcomes.Done → IsAtEnd p.source_after.bytes
   pub fault : OnErr result ((out : List ℕ) × IsOutput p out × OfInput limits p (λ stream. BeginsRun limits mode stream out))
+  pub limit : StaysWithin limits p
 
 -- the run over a log or a stream answers so, and the task as it does
 abbrev pub EndsRun : (Result Outcome RunFault → Type 0) → Result TaskOutcome RunFault → Type 0
@@ -99,14 +108,13 @@ Answers limits Normal p result = EndsRun (Normalized limits p) result
 Answers limits Upgrade p result = EndsRun (UpgradesLog limits p) result
 Answers limits (Frames mode) p result = EndsRun (Framed limits p mode) result
 
--- what a task answered is the answer, or it ended well and what it wrote could not be passed on: a
--- write fault
-abbrev pub IsHandedOn : Result TaskOutcome RunFault → Result TaskOutcome RunFault → Type 0
-IsHandedOn ended result = (result ≡ ended) ⊎ (IsOk ended × (result ≡ Err faults.Write))
-
--- nothing is left of what was gathered, or the output failed once more
-abbrev pub IsEmptied : List ℕ → Told → Told → Type 0
-IsEmptied left before after = (left ≡ []) ⊎ (after.failures ≡ after_failure before.failures)
+-- what is answered where a task ended so and its output was then flushed with this answer: a write
+-- fault where the task ended well and the flush failed, else how the task ended
+abbrev pub handed_on : Result TaskOutcome RunFault → Result (Unit {0}) Failed
+    → Result TaskOutcome RunFault
+handed_on (Ok outcome) (Err failed) = Err faults.Write
+handed_on (Ok outcome) (Ok done) = Ok outcome
+handed_on (Err fault) flushed = Err fault
 
 -- the task was done, and then what it had written was passed on, whether or not it ended well; this
 -- much of it is left
@@ -117,5 +125,7 @@ pub record RanThrough (limits : Bounds) (task : Task) (p : Ports) (left : List �
   pub source_failures : p.source_after.failures ≡ source_failures ended p.source_before.failures
   pub sink_failures : gathered.failures ≡ sink_failures ended p.sink_before.failures
   pub kept : KeepsBytes gathered p.sink_after
-  pub emptied : IsEmptied left gathered p.sink_after
-  pub handed_on : IsHandedOn ended result
+  pub flushed : Result (Unit {0}) Failed
+  pub failures : CountsFailure gathered.failures p.sink_after.failures flushed
+  pub emptied : OnOk flushed (left ≡ [])
+  pub answer : result ≡ handed_on ended flushed

@@ -34,10 +34,6 @@ impl Beginning {
     pub fn keep(&mut self, given: &[u8])
         ensures { kept self.new ≡ take 32 (kept self.old ++ given.now) }
     {
-        // After the first 32 bytes, nothing more is kept.
-        if self.count == 32 {
-            return;
-        }
         let end = self.count + (32 - self.count).min(given.len());
         self.bytes[self.count..end].copy_from_slice(&given[..end - self.count]);
         self.count = end;

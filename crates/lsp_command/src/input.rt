@@ -9,12 +9,12 @@ ghost use Rattle.lsp_command.specs.Ports.{first_bytes, input_error};
 
 use crate::beginning::Beginning;
 use crate::command_line::Task;
-use crate::io_state::IoState;
 use crate::pace::Supply;
+use crate::reader::CountedReader;
 use lsp_frame::{Failed, Source};
 use std::alloc::{AllocError, Global};
 use std::io;
-use std::io::{BufRead, BufReader, Read};
+use std::io::{BufReader, Read};
 
 /// How many bytes are asked for at once.
 const GATHERED: usize = 65_536;
@@ -45,9 +45,8 @@ fn reader_for<R: Read + Drop>(
 /// error by which it last failed, and notes whether anything is left of what was read ahead.
 #[derive(Drop)]
 pub struct BufferedInput<'a, R> {
-    reader: BufReader<R>,
+    reader: CountedReader<R>,
     beginning: Beginning,
-    tally: IoState,
     supply: &'a Supply,
 }
 
@@ -67,9 +66,8 @@ impl<'a, R: Read + Drop> BufferedInput<'a, R> {
             (⟦<BufferedInput<'a, R> as Source>⟧.told input).failures ≡ 0) }
     {
         Ok(BufferedInput {
-            reader: reader_for(alloc, reader, task)?,
+            reader: CountedReader::new(reader_for(alloc, reader, task)?),
             beginning: Beginning::new(),
-            tally: IoState::new(),
             supply,
         })
     }
@@ -87,15 +85,15 @@ impl<'a, R: Read + Drop> BufferedInput<'a, R> {
         ensures failed { IsSome result
             ↔ (0 < (⟦<BufferedInput<'a, R> as Source>⟧.told self.now).failures) }
     {
-        self.tally.cause()
+        self.reader.cause()
     }
 }
 
 impl<'a, R: Read> Source for BufferedInput<'a, R> {
     ghost told = { λ s. record {
-      bytes = ⟦<BufReader<R> as Read>⟧.remaining s.reader;
-      count = s.tally.bytes;
-      failures = s.tally.failures;
+      bytes = ⟦<BufReader<R> as Read>⟧.remaining s.reader.reader;
+      count = s.reader.tally.bytes;
+      failures = s.reader.tally.failures;
     } };
 
     /// Fills the front of the buffer as the trait says. It fails where the reader does, which is
@@ -118,8 +116,8 @@ impl<'a, R: Read> Source for BufferedInput<'a, R> {
         ensures same_first { OnErr result (first_bytes self.new ≡ first_bytes self.old) }
     {
         let answer = self.reader.read(buffer);
-        self.supply.note(self.reader.buffer().len());
-        let count = self.tally.count(answer)?;
+        self.supply.note(self.reader.ahead().len());
+        let count = answer?;
         self.beginning.keep(&buffer[..count]);
         Ok(count)
     }
@@ -146,16 +144,16 @@ impl<'a, R: Read> Source for BufferedInput<'a, R> {
             ≡ take 32 (first_bytes self.old ++ appended_bytes buffer.old.items buffer.new.items)) }
         ensures same_first { OnErr result (first_bytes self.new ≡ first_bytes self.old) }
     {
-        let count = self.reader.buffer().len().min(most);
+        let count = self.reader.ahead().len().min(most);
         if count == 0 {
             return pull_fresh(self, buffer, most);
         }
-        let ahead = &self.reader.buffer()[..count];
+        let ahead = &self.reader.ahead()[..count];
         buffer.extend_from_slice(ahead).unwrap();
         self.beginning.keep(ahead);
         self.reader.consume(count);
-        self.supply.note(self.reader.buffer().len());
-        self.tally.count(Ok(count))
+        self.supply.note(self.reader.ahead().len());
+        Ok(count)
     }
 }
 

@@ -57,6 +57,15 @@ impl IoState {
         }
     }
 
+    /// Takes note of bytes that were moved, this many.
+    pub(crate) fn raise(&mut self, count: usize)
+        ensures bytes { Raises self.old.bytes self.new.bytes count }
+        ensures failures { self.new.failures ≡ self.old.failures }
+        ensures cause { self.new.cause ≡ self.old.cause }
+    {
+        self.bytes = self.bytes.saturating_add(count as u64);
+    }
+
     /// Takes note of a call that moved bytes or failed, and answers the same: it fails where the
     /// call did.
     pub(crate) fn count(&mut self, answer: io::Result<usize>) -> Result<usize, Failed>
@@ -69,7 +78,7 @@ impl IoState {
         ensures same_cause { OnOk answer (self.new.cause ≡ self.old.cause) }
     {
         let count = self.heed(answer)?;
-        self.bytes = self.bytes.saturating_add(count as u64);
+        self.raise(count);
         Ok(count)
     }
 }

@@ -14,10 +14,12 @@ mod input;
 mod io_state;
 mod output;
 mod pace;
+mod reader;
 mod remark;
 mod run;
 mod status;
 mod task_outcome;
+mod writer;
 
 pub use beginning::Beginning;
 pub use command_line::{Request, Slip, Task, only_word, request_of, uri_alone};

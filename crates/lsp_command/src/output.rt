@@ -1,10 +1,6 @@
 //! Where a run writes: standard output.
-ghost use Rattle.std.specs.Prelude.{◌≡◌, ◌<◌, ◌⊎◌, Ok, Err, IfOk, IfErr, IsErrAnd};
-ghost use Rattle.std.specs.IoError.{error_kind};
-ghost use Rattle.std.specs.declared.io.ErrorKind.TheVariants.{WriteZero};
-
-use crate::io_state::IoState;
 use crate::pace::Pace;
+use crate::writer::CountedWriter;
 use lsp_frame::{Failed, Sink};
 use std::alloc::{AllocError, Global};
 use std::io;
@@ -17,18 +13,15 @@ const GATHERED: usize = 65_536;
 /// which it last failed.
 #[derive(Drop)]
 pub struct BufferedOutput<'a, W: Write + Drop> {
-    writer: BufWriter<W>,
-    tally: IoState,
+    writer: CountedWriter<W>,
     pace: Pace<'a>,
-    /// Why what was gathered could not be passed on after the last put: the next call fails by it.
-    late: Option<io::Error>,
 }
 
 impl<'a, W: Write + Drop> BufferedOutput<'a, W> {
-    ghost use Rattle.std.specs.Prelude.{◌≡◌, ◌<◌, ◌↔◌, ◌⊎◌, [], None, IfOk, OnOk, IsSome};
+    ghost use Rattle.std.specs.Prelude.{◌≡◌, ◌<◌, ◌↔◌, [], None, IfOk, OnOk, IsSome};
     ghost use Rattle.std.specs.Io.KnownBytes.{Appends};
     ghost use Rattle.lsp_frame.specs.Told.{CountsFailure, KeepsBytes};
-    ghost use Rattle.lsp_command.specs.Ports.{output_error, unwritten};
+    ghost use Rattle.lsp_command.specs.Ports.{late_error, output_error, unwritten};
 
     /// A sink that has not failed, and holds no bytes back.
     pub fn new(
@@ -42,62 +35,33 @@ impl<'a, W: Write + Drop> BufferedOutput<'a, W> {
         ensures empty { IfOk result (λ output. unwritten output ≡ []) }
         ensures failures { IfOk result
             (λ output. (⟦<BufferedOutput<'a, W> as Sink>⟧.told output).failures ≡ 0) }
+        ensures settled { IfOk result (λ output. late_error output ≡ None) }
     {
+        let writer = BufWriter::with_capacity(alloc, GATHERED, writer).map_err(|_| AllocError)?;
         Ok(BufferedOutput {
-            writer: BufWriter::with_capacity(alloc, GATHERED, writer).map_err(|_| AllocError)?,
-            tally: IoState::new(),
+            writer: CountedWriter::new(writer),
             pace,
-            late: None,
         })
     }
 
     /// Writes what was gathered.
     ///
     /// # Errors
-    /// `Failed` where the writer failed, or took none of some bytes. What it did not take stays
-    /// gathered,
-    /// and is written by the next flush.
+    /// `Failed` where the writer failed, now or when bytes were passed on after the last put. What
+    /// it did not take stays gathered, and is written by the next flush.
     pub fn flush(&mut self) -> Result<(), Failed>
         ensures whole { OnOk result (unwritten self.new ≡ []) }
         ensures bytes { KeepsBytes (⟦<BufferedOutput<'a, W> as Sink>⟧.told self.old)
             (⟦<BufferedOutput<'a, W> as Sink>⟧.told self.new) }
         ensures failures { CountsFailure (⟦<BufferedOutput<'a, W> as Sink>⟧.told self.old).failures
             (⟦<BufferedOutput<'a, W> as Sink>⟧.told self.new).failures result }
+        // Every error of the writer so far was counted.
+        ensures settled { late_error self.new ≡ None }
     {
-        let answer = self.write_gathered();
-        self.tally.heed(answer)
-    }
-
-    /// The writer's answer to writing what was gathered, or why that failed after the last put.
-    fn write_gathered(&mut self) -> io::Result<()>
-        ensures whole { OnOk result (unwritten self.new ≡ []) }
-        ensures bytes { KeepsBytes (⟦<BufferedOutput<'a, W> as Sink>⟧.told self.old)
-            (⟦<BufferedOutput<'a, W> as Sink>⟧.told self.new) }
-        ensures tally { self.new.tally ≡ self.old.tally }
-    {
-        match self.late.take() {
-            Some(error) => Err(error),
-            None => self.writer.flush(),
-        }
-    }
-
-    /// Writes what was gathered, if that is due after a put. What the writer does not take stays
-    /// gathered, and the next call fails.
-    fn keep_pace(&mut self)
-        ensures bytes { KeepsBytes (⟦<BufferedOutput<'a, W> as Sink>⟧.told self.old)
-            (⟦<BufferedOutput<'a, W> as Sink>⟧.told self.new) }
-        ensures tally { self.new.tally ≡ self.old.tally }
-        // All of it was written or nothing, unless it is known why that failed.
-        ensures late { self.new.late ≡ None
-            → (unwritten self.new ≡ []) ⊎ (unwritten self.new ≡ unwritten self.old) }
-    {
-        if !self.pace.is_due() {
-            return;
-        }
-        match self.writer.flush() {
-            Ok(()) => {}
-            Err(error) => self.late = Some(error),
-        }
+        self.writer.settle()?;
+        self.writer.flush();
+        // An error of the writer is late now, and the call fails by it.
+        self.writer.settle()
     }
 
     /// Why the last call failed that did.
@@ -106,44 +70,26 @@ impl<'a, W: Write + Drop> BufferedOutput<'a, W> {
         ensures failed { IsSome result
             ↔ (0 < (⟦<BufferedOutput<'a, W> as Sink>⟧.told self.now).failures) }
     {
-        self.tally.cause()
-    }
-}
-
-/// The answer of a writer that answered so to this many bytes, where taking none of some bytes is
-/// an error.
-fn taken(answer: io::Result<usize>, len: usize) -> io::Result<usize>
-    ensures some { IfOk answer (λ n. (0 < n) ⊎ (len ≡ 0) → result ≡ Ok n) }
-    ensures none { IfOk answer
-        (λ n. n ≡ 0 → 0 < len → IsErrAnd result (λ error. error_kind error ≡ WriteZero)) }
-    ensures err { IfErr answer (λ error. result ≡ Err error) }
-{
-    match answer {
-        Ok(0) if len > 0 => Err(io::Error::from(io::ErrorKind::WriteZero)),
-        _ => answer,
+        self.writer.cause()
     }
 }
 
 impl<'a, W: Write + Drop> Sink for BufferedOutput<'a, W> {
     ghost told = { λ s. record {
-      bytes = ⟦<BufWriter<W> as Write>⟧.contents s.writer;
-      count = s.tally.bytes;
-      failures = s.tally.failures;
+      bytes = ⟦<BufWriter<W> as Write>⟧.contents s.writer.writer;
+      count = s.writer.tally.bytes;
+      failures = s.writer.tally.failures;
     } };
 
     /// Takes bytes as the trait says. It fails where the writer fails or takes none of some bytes,
     /// even if that happened when bytes were passed on after the last put. The writer is called
     /// only where the bytes don't fit after those that were gathered, or what is gathered is due.
     fn put(&mut self, bytes: &[u8]) -> Result<usize, Failed> {
-        // Asked first, since taking nothing costs more than a short put.
-        if self.late.is_some()
-            && let Some(error) = self.late.take()
-        {
-            return self.tally.count(Err(error));
+        self.writer.settle()?;
+        let count = self.writer.write(bytes)?;
+        if self.pace.is_due() {
+            self.writer.flush();
         }
-        let answer = taken(self.writer.write(bytes), bytes.len());
-        let count = self.tally.count(answer)?;
-        self.keep_pace();
         Ok(count)
     }
 }

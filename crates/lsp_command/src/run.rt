@@ -1,8 +1,8 @@
 //! Does what the words ask for.
-ghost use Rattle.std.specs.Prelude.{◌≡◌, [], Err, OnOk, IsSome};
+ghost use Rattle.std.specs.Prelude.{◌≡◌, [], None, Err, OnOk, IsSome};
 ghost use Rattle.lsp_verdict.specs.RunIo.{source_failures, sink_failures};
 ghost use Rattle.lsp_verdict.specs.declared.outcome.RunFault.TheVariants as faults;
-ghost use Rattle.lsp_command.specs.Ports.{input_error, output_error, unwritten};
+ghost use Rattle.lsp_command.specs.Ports.{input_error, late_error, output_error, unwritten};
 ghost use Rattle.lsp_command.specs.Tasks.{Answers, RanThrough};
 
 use crate::command_line::Task;
@@ -90,6 +90,8 @@ pub fn run_through<'a, R: Read + Drop, W: Write + Drop>(
       sink_after = ⟦<BufferedOutput<'a, W> as Sink>⟧.told output.new;
     }) (unwritten output.new) result }
     ensures flushed { OnOk result (unwritten output.new ≡ []) }
+    // No error of the writer is left to be told.
+    ensures settled { late_error output.new ≡ None }
     // A fault of the input or the output has its error.
     ensures read_error { result ≡ Err faults.Read → IsSome (input_error input.new) }
     ensures write_error { result ≡ Err faults.Write → IsSome (output_error output.new) }

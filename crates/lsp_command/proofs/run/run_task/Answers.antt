@@ -62,6 +62,7 @@ returns-in-Explain-clause-answers g c =
         read_fault = c.run_explain.ensures.read_fault;
         memory = c.run_explain.ensures.memory;
         write_fault = c.run_explain.ensures.write_fault;
+        limit = c.run_explain.ensures.limit;
       },
     )
 
@@ -197,6 +198,7 @@ returns-in-Event-clause-answers g c =
         fault = c.run_event.ensures.fault;
         read_fault = c.run_event.ensures.read_fault;
         memory = c.run_event.ensures.memory;
+        limit = c.run_event.ensures.limit;
       },
     )
 
@@ -215,6 +217,7 @@ returns-in-Normal-clause-answers g c =
         written = c.run_normal.ensures.written;
         done = c.run_normal.ensures.done;
         fault = c.run_normal.ensures.fault;
+        limit = c.run_normal.ensures.limit;
       },
     )
 
@@ -247,6 +250,7 @@ returns-in-Frames-clause-answers g c =
         written = c.run_frames.ensures.written;
         done = c.run_frames.ensures.done;
         fault = c.run_frames.ensures.fault;
+        limit = c.run_frames.ensures.limit;
       },
     )
 

@@ -1,14 +1,8 @@
-use Rattle.std.proofs.Common.{rules, ◌≤◌, ◌≡◌, ◌++◌, ◌∙◌, take, ◌+◌, ◌-◌, length, arith, ap, sym, min}
-use Rattle.std.proofs.lemmas.List.{length-take-le, take_at}
+use Rattle.std.proofs.Common.{rules, ◌≤◌, ◌≡◌, ◌++◌, ◌∙◌, take, ◌+◌, ◌-◌, length, arith, ap, min}
+use Rattle.std.proofs.lemmas.List.{length-take-le}
 use Rattle.std.proofs.lemmas.Slice.{take-put_mid}
 use Rattle.lsp_command.proofs.Fronts.{front_more}
 use Rattle.lsp_command.proofs.beginning.Beginning.keep.Goals as goal
-
-pub returns-then-self-eq32 : goal.returns-then-self-eq32
-returns-then-self-eq32 c =
-    let old = c.args.self.now in
-    let room : old.count ≤ length old.bytes = search rules in
-    sym (take_at (take old.count old.bytes) c.args.given.now 32 (length-take-le old.count old.bytes room ∙ c.if-self-eq32.true))
 
 pub returns : goal.returns
 returns c =
