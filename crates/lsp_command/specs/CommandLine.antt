@@ -1,6 +1,7 @@
 -- The command line: the commands of the program, with their arguments and options, as `clap` reads words by them.
 use Rattle.std.specs.Prelude.{◌≡◌, List, [], ◌∷◌, ◌++◌, Some, true, false, codes}
 use Rattle.std.specs.Borrow.{Bor}
+use Rattle.clap.specs.Lexer.{usize_max}
 use Rattle.clap.specs.Words.{App, Rule, Shape, Text, new_rule, rule_of}
 use Rattle.clap.specs.Simple.{new_shape}
 use Rattle.clap.specs.Walk.{texts}
@@ -33,6 +34,10 @@ argument name = record (new_rule name) { value_names = 1 }
 -- the file to read
 abbrev pub file : Rule
 file = argument (codes "file")
+
+-- the files to read, of which there may be several
+abbrev pub files : Rule
+files = record file { range = Some (record { start_inclusive = 1; end_inclusive = usize_max }) }
 
 -- the number of a message or an event: one that a log can have
 abbrev pub number : Rule
@@ -70,7 +75,7 @@ check_options = command (codes "check")
     ∷ ignore_line_ends ∷ [])
 
 abbrev pub check : Shape
-check = command (codes "check") (check_options.rules ++ quiet ∷ file ∷ [])
+check = command (codes "check") (check_options.rules ++ quiet ∷ files ∷ [])
 
 -- `explain` with its own options alone
 abbrev pub explain_options : Shape
