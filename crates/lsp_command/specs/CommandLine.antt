@@ -1,12 +1,11 @@
 -- The command line: the commands of the program, with their arguments and options, as `clap` reads words by them.
 use Rattle.std.specs.Prelude.{◌≡◌, List, [], ◌∷◌, ◌++◌, Some, true, false, codes}
 use Rattle.std.specs.Borrow.{Bor}
-use Rattle.clap.specs.Lexer.{usize_max}
 use Rattle.clap.specs.Words.{App, Rule, Shape, Text, new_rule, rule_of}
 use Rattle.clap.specs.Simple.{new_shape}
 use Rattle.clap.specs.Walk.{texts}
 use Rattle.clap.specs.declared.builder.arg.Arg.{Arg}
-use Rattle.clap.specs.declared.builder.action.ArgAction.TheVariants.{SetTrue}
+use Rattle.clap.specs.declared.builder.action.ArgAction.TheVariants.{Append, SetTrue}
 use Rattle.clap.specs.declared.builder.value_parser.ValueParser.TheVariants.{Names, Unsigned}
 
 -- ---- arguments and options
@@ -37,7 +36,7 @@ file = argument (codes "file")
 
 -- the files to read, of which there may be several
 abbrev pub files : Rule
-files = record file { range = Some (record { start_inclusive = 1; end_inclusive = usize_max }) }
+files = record file { action = Some Append }
 
 -- the number of a message or an event: one that a log can have
 abbrev pub number : Rule

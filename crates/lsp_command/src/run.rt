@@ -43,14 +43,10 @@ pub fn run_task<R: Source, W: Sink>(
         Task::Check(Completeness::Required) => {
             of_run(run_check_complete(alloc, source, sink, limits))
         }
-        Task::CheckLine { completeness, name } => of_run(run_check_line(
-            alloc,
-            source,
-            sink,
-            limits,
-            completeness,
-            name,
-        )),
+        Task::CheckLine { completeness, name } => {
+            let ended = run_check_line(alloc, source, sink, limits, completeness, name);
+            of_run(ended)
+        }
         Task::Survey(completeness, listing) => of_run(run_survey(
             alloc,
             source,

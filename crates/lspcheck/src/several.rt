@@ -7,6 +7,17 @@ use std::alloc::Global;
 use std::io;
 use std::rt::Files;
 
+/// A run after which a line was written, or not.
+fn after_line(ended: Ended, written: io::Result<()>) -> Ended {
+    match written {
+        Ok(()) => ended,
+        Err(cause) => Ended {
+            answer: Err(RunFault::Write),
+            advice: Some(Advice::Output(cause)),
+        },
+    }
+}
+
 /// Judges one file, and writes its line with this name. Where there is no verdict, the line says
 /// why, so that each file has one.
 fn run_named<R: Files + io::Input + Print + Eprint + AllocGlobal>(
@@ -21,13 +32,7 @@ fn run_named<R: Files + io::Input + Print + Eprint + AllocGlobal>(
         Ok(_) | Err(RunFault::Write) => return ended,
         Err(fault) => fault,
     };
-    match println!(rt; "{name}: {fault}") {
-        Ok(()) => ended,
-        Err(cause) => Ended {
-            answer: Err(RunFault::Write),
-            advice: Some(Advice::Output(cause)),
-        },
-    }
+    after_line(ended, println!(rt; "{name}: {fault}"))
 }
 
 /// The same, with the name of the file as it is written.
@@ -40,7 +45,11 @@ fn run_one<R: Files + io::Input + Print + Eprint + AllocGlobal>(
     match quoted_name(rt.alloc(), file) {
         Ok(Some(name)) => run_named(rt, request, file, name.as_str(), terminals),
         Ok(None) => run_named(rt, request, file, file, terminals),
-        Err(_) => Ended::by(RunFault::Memory),
+        // Rust's escapes take no memory, unlike those of JSON.
+        Err(_) => {
+            let fault = RunFault::Memory;
+            after_line(Ended::by(fault), println!(rt; "{file:?}: {fault}"))
+        }
     }
 }
 

@@ -63,7 +63,7 @@ fn log_files<'a>(alloc: Global) -> Arg<'a>
         alloc,
         "The log; standard input if absent or '-'. For several, a line for each",
     )
-    .num_args(1..)
+    .action(ArgAction::Append)
 }
 
 /// An option that is set or not.
