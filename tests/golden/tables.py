@@ -192,6 +192,9 @@ RUNS = {
 # The first words of the runs that take more words, and how many more.
 TAKES = {"text": (["text"], 2), "text-all": (["text", "--all"], 2), "event": (["event"], 1)}
 
+# What standard error has where the document is not open.
+NO_DOCUMENT = b"no such document\nlspcheck: hint: 'lspcheck show --long' shows the URI of each document\n"
+
 # For each word for how a run ends: the status, and what standard error has if there is no output.
 ENDS = {
     "yes": (0, b""),
@@ -199,7 +202,7 @@ ENDS = {
     "no": (1, b""),
     "bad-log": (2, b""),
     "fault": (2, b""),
-    "no-document": (5, b"no such document\n"),
+    "no-document": (5, NO_DOCUMENT),
     "too-few": (5, b"fewer editor messages\n"),
     "no-difference": (5, b"no texts differ: the verdict is neither 608 nor 702\n"),
     "no-content": (5, b"no content\n"),

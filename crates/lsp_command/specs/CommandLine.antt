@@ -5,7 +5,7 @@ use Rattle.clap.specs.Words.{App, Rule, Shape, Text, new_rule, rule_of}
 use Rattle.clap.specs.Simple.{new_shape}
 use Rattle.clap.specs.Walk.{texts}
 use Rattle.clap.specs.declared.builder.arg.Arg.{Arg}
-use Rattle.clap.specs.declared.builder.action.ArgAction.TheVariants.{SetTrue}
+use Rattle.clap.specs.declared.builder.action.ArgAction.TheVariants.{Append, SetTrue}
 use Rattle.clap.specs.declared.builder.value_parser.ValueParser.TheVariants.{Names, Unsigned}
 
 -- ---- arguments and options
@@ -33,6 +33,10 @@ argument name = record (new_rule name) { value_names = 1 }
 -- the file to read
 abbrev pub file : Rule
 file = argument (codes "file")
+
+-- the files to read, of which there may be several
+abbrev pub files : Rule
+files = record file { action = Some Append }
 
 -- the number of a message or an event: one that a log can have
 abbrev pub number : Rule
@@ -70,7 +74,7 @@ check_options = command (codes "check")
     ∷ ignore_line_ends ∷ [])
 
 abbrev pub check : Shape
-check = command (codes "check") (check_options.rules ++ quiet ∷ file ∷ [])
+check = command (codes "check") (check_options.rules ++ quiet ∷ files ∷ [])
 
 -- `explain` with its own options alone
 abbrev pub explain_options : Shape

@@ -1,4 +1,5 @@
 -- What an input seems to be by the bytes that it begins with.
+use Rattle.std.specs.Prelude.{◌&&◌, ◌==◌, nat_le, not, false}
 use Rattle.std.specs.Prelude.{ℕ, Bool, ◌||◌, List, [], ◌∷◌, ◌++◌, Option, Some, None, Result, Ok, Err, codes, nat_eq, zero, suc, if◌then◌else◌}
 use Rattle.std.specs.List.{starts_with}
 use Rattle.lsp_judge.specs.declared.event.EventOutcome.{EventOutcome}
@@ -9,7 +10,10 @@ use Rattle.lsp_verdict.specs.declared.outcome.Outcome.{Outcome}
 use Rattle.lsp_verdict.specs.declared.outcome.Outcome.TheVariants.{Done, Judged, Stream, NoDocument}
 use Rattle.lsp_verdict.specs.declared.outcome.Outcome.TheVariants.{NoDifference, TooFew}
 use Rattle.lsp_verdict.specs.declared.outcome.RunFault.{RunFault}
+use Rattle.lsp_verdict.specs.declared.outcome.StreamFault.{StreamFault}
+use Rattle.lsp_verdict.specs.declared.outcome.StreamFault.TheVariants.{Rule, TooLong}
 use Rattle.lsp_verdict.specs.declared.verdict.Verdict.TheVariants.{Yes, No, BadLog}
+use Rattle.lsp_types.specs.declared.rules.TheConstants as rules
 use Rattle.lsp_command.specs.declared.hint.Hint.{Hint}
 use Rattle.lsp_command.specs.declared.hint.Hint.TheVariants as hints
 
@@ -49,9 +53,20 @@ log_hint (byte ∷ bytes) =
     else if has_mark (byte ∷ bytes) then hints.ByteOrderMark
     else session_hint (byte ∷ bytes)
 
--- what an input that is not a stream of frames seems to be
-abbrev pub stream_hint : List ℕ → Option Hint
-stream_hint bytes = if begins (codes "lsp-session ") bytes then Some hints.Log else None
+-- the first frame has a fault of its header part or its length, and the bytes begin with no field
+-- of LSP's
+abbrev pub has_no_header : ℕ → StreamFault → List ℕ → Bool
+has_no_header frame (Rule rule) bytes =
+    frame == 1 && (nat_le rule rules.STREAM_ENDS_INSIDE_FRAME && not (is_stream bytes))
+has_no_header frame TooLong bytes = false
+
+-- what an input seems to be of which a frame has a fault
+abbrev pub stream_hint : ℕ → StreamFault → List ℕ → Option Hint
+stream_hint frame fault bytes =
+    if begins (codes "lsp-session ") bytes then Some hints.Log
+    else if is_compressed bytes then Some hints.Compressed
+    else if has_no_header frame fault bytes then Some hints.NoHeader
+    else None
 
 -- a log has a fault at its first line only where its record is 0
 abbrev pub fault_hint : ℕ → List ℕ → Option Hint
@@ -62,9 +77,9 @@ abbrev pub run_hint : Outcome → List ℕ → Option Hint
 run_hint (Judged (BadLog number code)) bytes = fault_hint number bytes
 run_hint (Judged (Yes s)) bytes = None
 run_hint (Judged (No rule who number event)) bytes = None
-run_hint (Stream frame fault) bytes = stream_hint bytes
+run_hint (Stream frame fault) bytes = stream_hint frame fault bytes
 run_hint Done bytes = None
-run_hint NoDocument bytes = None
+run_hint NoDocument bytes = Some hints.OtherDocuments
 run_hint TooFew bytes = None
 run_hint NoDifference bytes = None
 
@@ -90,3 +105,5 @@ hint_text hints.ByteOrderMark = codes "the input begins with a byte order mark; 
 hint_text hints.OtherFormat = codes "this version of lspcheck does not know the format of this log"
 hint_text hints.Compressed = codes "the input is compressed: unpack it first"
 hint_text hints.Unknown = codes "a log begins with the line 'lsp-session 2': see docs/LOG_FORMAT.md"
+hint_text hints.NoHeader = codes "a raw stream begins with a header part: 'Content-Length: 52'"
+hint_text hints.OtherDocuments = codes "'lspcheck show --long' shows the URI of each document"

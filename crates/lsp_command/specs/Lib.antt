@@ -8,3 +8,4 @@ pub mod Tasks
 pub mod CommandLine
 pub mod Words
 pub mod Slips
+pub mod Several

@@ -19,6 +19,7 @@ abbrev pub uri_of : Task → Option Text
 uri_of (tasks.Text number uri) = Some uri.now
 uri_of (tasks.TextAll number uri) = Some uri.now
 uri_of (tasks.Check completeness) = None
+uri_of (tasks.CheckLine completeness name) = None
 uri_of (tasks.Survey completeness listing) = None
 uri_of (tasks.Explain completeness) = None
 uri_of (tasks.ExplainAll completeness) = None

@@ -13,6 +13,7 @@ use Rattle.lsp_verdict.specs.Ports.{IsOutput, IsSilent, OfInput, Ports}
 use Rattle.lsp_verdict.specs.RunIo.{GaveAtMost, source_failures, sink_failures}
 use Rattle.lsp_verdict.specs.TextAfter.{AnswersText}
 use Rattle.lsp_judge.specs.Checked.{Checked}
+use Rattle.lsp_judge.specs.CheckedLine.{CheckedLine}
 use Rattle.lsp_judge.specs.ShownLog.{Showed}
 use Rattle.lsp_judge.specs.UpgradedLog.{UpgradesLog}
 use Rattle.lsp_judge.specs.StreamRun.{IsRun, BeginsRun}
@@ -37,8 +38,8 @@ use Rattle.lsp_judge.specs.declared.event.EventOutcome.TheVariants as events
 use Rattle.lsp_command.specs.Ended.{of_event, of_run}
 use Rattle.lsp_command.specs.declared.task_outcome.TaskOutcome.{TaskOutcome}
 use Rattle.lsp_command.specs.declared.command_line.task.Task.{Task}
-use Rattle.lsp_command.specs.declared.command_line.task.Task.TheVariants.{Check, Survey, Explain}
-use Rattle.lsp_command.specs.declared.command_line.task.Task.TheVariants.{ExplainAll, Compared}
+use Rattle.lsp_command.specs.declared.command_line.task.Task.TheVariants.{Check, CheckLine, Survey}
+use Rattle.lsp_command.specs.declared.command_line.task.Task.TheVariants.{Explain, ExplainAll, Compared}
 use Rattle.lsp_command.specs.declared.command_line.task.Task.TheVariants.{Show, ShowAll, Text}
 use Rattle.lsp_command.specs.declared.command_line.task.Task.TheVariants.{TextAll, Event}
 use Rattle.lsp_command.specs.declared.command_line.task.Task.TheVariants.{Normal, Upgrade, Frames}
@@ -90,6 +91,8 @@ EndsRun Ends result = (ended : Result Outcome RunFault) × (result ≡ of_run en
 -- **each task is the run of its name**, with its arguments, on this input and into this output
 abbrev pub Answers : Bounds → Task → Ports → Result TaskOutcome RunFault → Type 0
 Answers limits (Check completeness) p result = EndsRun (Checked completeness limits p) result
+Answers limits (CheckLine completeness name) p result =
+    EndsRun (CheckedLine completeness limits name.now p) result
 Answers limits (Survey completeness listing) p result =
     EndsRun (SurveysLog completeness listing limits p) result
 Answers limits (Explain completeness) p result = EndsRun (Explained completeness limits p) result

@@ -1,10 +1,11 @@
 -- What the words of a command line ask for, read off what `clap` finds in them.
-use Rattle.std.specs.Prelude.{◌≡◌, ◌⊎◌, ◌<◌, ◌^◌, ℕ, Bool, true, false, List, [], Option, Some, None, MatchOption, codes, option_and_then, option_map, if◌then◌else◌}
+use Rattle.std.specs.Prelude.{◌≡◌, ◌⊎◌, ◌<◌, ◌^◌, ℕ, Bool, true, false, List, [], ◌∷◌, map, Option, Some, None, MatchOption, codes, option_and_then, option_map, if◌then◌else◌}
 use Rattle.std.specs.Borrow.{Bor}
 use Rattle.std.specs.Str.{bytes_eq}
 use Rattle.std.specs.Str.Parse.{IsNumeral, digits_value, without_leading_plus}
 use Rattle.std.specs.Int.NonZero.{non_zero_u64_get}
 use Rattle.std.specs.declared.num.NonZeroU64.{NonZeroU64}
+use Rattle.clap.specs.Words.{all_of}
 use Rattle.clap.specs.Words.{App, HasKind, Row, Text, fault_of, first_of, kind_of, one_of, rows_of, subcommand_of}
 use Rattle.clap.specs.Matches.{found_of}
 use Rattle.clap.specs.declared.error.Error.{Error}
@@ -34,6 +35,13 @@ rows_in arguments = rows_of (found_of arguments)
 -- the file of a name: standard input for `-`, and where there is no name
 abbrev pub file_of : Option (List ℕ) → Option (List ℕ)
 file_of name = option_and_then (λ n. if bytes_eq n (codes "-") then None else Some n) name
+
+-- the files that are named, where there are several
+abbrev pub several_of : Option (List Text) → List Text
+several_of None = []
+several_of (Some []) = []
+several_of (Some (file ∷ [])) = []
+several_of (Some (file ∷ next ∷ more)) = file ∷ next ∷ more
 
 -- the mode of a name
 abbrev pub mode_named : List ℕ → Mode
@@ -162,6 +170,7 @@ text_of number uri all = if all then tasks.TextAll number uri else tasks.Text nu
 -- the command of a task
 abbrev pub command_of : Task → Text
 command_of (tasks.Check completeness) = codes "check"
+command_of (tasks.CheckLine completeness name) = codes "check"
 command_of (tasks.Survey completeness listing) = codes "check"
 command_of (tasks.Explain completeness) = codes "explain"
 command_of (tasks.ExplainAll completeness) = codes "explain"
@@ -178,6 +187,8 @@ command_of (tasks.Frames mode) = codes "frames"
 -- the arguments and options of a task
 abbrev pub HasArguments : List Row → Task → Type 0
 HasArguments rows (tasks.Check completeness) = AsksCheck rows completeness None
+-- no words ask for this: it is the task for each where several files are named
+HasArguments rows (tasks.CheckLine completeness name) = ⊥
 HasArguments rows (tasks.Survey completeness listing) = AsksCheck rows completeness (Some listing)
 HasArguments rows (tasks.Explain completeness) = AsksExplain rows completeness false None
 HasArguments rows (tasks.ExplainAll completeness) = AsksExplain rows completeness true None
@@ -201,11 +212,12 @@ abbrev pub TaskIn : Text → List Row → Option Task → Type 0
 TaskIn name rows result =
     MatchOption result ((task : Task) → HasTask name rows task → ⊥) (HasTask name rows)
 
--- a command of this name asks for the request: its task, the file that it names, whether no
--- progress is to be shown, and whether line ends count
+-- a command of this name asks for the request: its task, the file that it names, all files where
+-- it names several, whether no progress is to be shown, and whether line ends count
 pub record AsksOf (name : Text) (rows : List Row) (request : Request) : Type 0 where
   pub task : HasTask name rows request.task
   pub file : option_map (λ path. path.now) request.file ≡ file_of (first_of (codes "file") rows)
+  pub files : map (λ path. path.now) request.files.items ≡ several_of (all_of (codes "file") rows)
   pub quiet : IsFlag (one_of (codes "quiet") rows) request.quiet
   pub line_ends : AsksLineEnds rows request.line_ends
 

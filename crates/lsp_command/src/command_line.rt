@@ -1,13 +1,15 @@
 //! The words of the command line, and what they ask for.
 //!
 //! `request_of` reads the words: a [`Request`] is a [`Task`] and the file to do it on. A [`Slip`]
-//! says what the words may have left out.
+//! says what the words may have left out, and a [`Misuse`] what several files cannot be asked for.
 
 mod commands;
+mod several;
 mod slip;
 mod task;
 mod words;
 
+pub use several::{Misuse, misuse_of, quoted_name};
 pub use slip::{Slip, only_word, uri_alone};
 pub use task::{Request, Task};
 pub use words::request_of;

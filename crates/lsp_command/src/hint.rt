@@ -1,10 +1,12 @@
 //! What an input seems to be that is not what the command reads.
 ghost use Rattle.std.specs.Prelude.{◌≡◌};
 ghost use Rattle.lsp_command.specs.Hints.{begins, has_line_ends, is_compressed, is_stream};
-ghost use Rattle.lsp_command.specs.Hints.{log_hint, run_hint, session_hint, hint_of};
+ghost use Rattle.lsp_command.specs.Hints.{has_no_header, log_hint, run_hint, session_hint};
+ghost use Rattle.lsp_command.specs.Hints.{hint_of, stream_hint};
 
 use crate::task_outcome::TaskOutcome;
-use lsp_judge::{EventOutcome, Outcome, RunFault, Verdict};
+use lsp_judge::{EventOutcome, Outcome, RunFault, StreamFault, Verdict};
+use lsp_types::rules;
 use std::fmt;
 
 /// What an input seems to be that is not what the command reads.
@@ -24,8 +26,12 @@ pub enum Hint {
     OtherFormat,
     /// A compressed file.
     Compressed,
-    /// None of these.
+    /// None of these, where a log was wanted.
     Unknown,
+    /// None of these, where one raw direction of a session was wanted.
+    NoHeader,
+    /// A log in which the document that was asked for is not open.
+    OtherDocuments,
 }
 
 impl fmt::Display for Hint {
@@ -44,6 +50,8 @@ impl fmt::Display for Hint {
             Hint::OtherFormat => "this version of lspcheck does not know the format of this log",
             Hint::Compressed => "the input is compressed: unpack it first",
             Hint::Unknown => "a log begins with the line 'lsp-session 2': see docs/LOG_FORMAT.md",
+            Hint::NoHeader => "a raw stream begins with a header part: 'Content-Length: 52'",
+            Hint::OtherDocuments => "'lspcheck show --long' shows the URI of each document",
         })
     }
 }
@@ -112,13 +120,42 @@ fn session_hint(bytes: &[u8]) -> Hint
     Hint::Unknown
 }
 
+/// Whether the first frame has a fault, and the bytes begin with no field of LSP's.
+fn has_no_header(frame: u64, fault: StreamFault, bytes: &[u8]) -> bool
+    ensures { result ≡ has_no_header frame fault bytes.now }
+{
+    match fault {
+        StreamFault::Rule(rule) => {
+            frame == 1 && rule <= rules::STREAM_ENDS_INSIDE_FRAME && !is_stream(bytes)
+        }
+        StreamFault::TooLong => false,
+    }
+}
+
+/// What an input seems to be of which a frame has a fault.
+fn stream_hint(frame: u64, fault: StreamFault, bytes: &[u8]) -> Option<Hint>
+    ensures { result ≡ stream_hint frame fault bytes.now }
+{
+    if begins(b"lsp-session ", bytes) {
+        return Some(Hint::Log);
+    }
+    if is_compressed(bytes) {
+        return Some(Hint::Compressed);
+    }
+    if has_no_header(frame, fault, bytes) {
+        return Some(Hint::NoHeader);
+    }
+    None
+}
+
 /// What an input seems to be, where a run over a log or a stream ended so.
 fn run_hint(outcome: &Outcome, bytes: &[u8]) -> Option<Hint>
     ensures { result ≡ run_hint outcome.now bytes.now }
 {
     match outcome {
         Outcome::Judged(Verdict::BadLog { number: 0, .. }) => Some(log_hint(bytes)),
-        Outcome::Stream { .. } if begins(b"lsp-session ", bytes) => Some(Hint::Log),
+        Outcome::Stream { frame, fault } => stream_hint(*frame, *fault, bytes),
+        Outcome::NoDocument => Some(Hint::OtherDocuments),
         _ => None,
     }
 }

@@ -22,12 +22,14 @@ mod task_outcome;
 mod writer;
 
 pub use beginning::Beginning;
-pub use command_line::{Request, Slip, Task, only_word, request_of, uri_alone};
+pub use command_line::{
+    Misuse, Request, Slip, Task, misuse_of, only_word, quoted_name, request_of, uri_alone,
+};
 pub use hint::{Hint, hint_of};
 pub use input::BufferedInput;
 pub use output::BufferedOutput;
 pub use pace::{Pace, Supply};
 pub use remark::{remark_of, report_apart};
 pub use run::{run_task, run_through};
-pub use status::{status_of, status_of_task, status_of_words};
+pub use status::{status_of, status_of_task, status_of_words, worse_of};
 pub use task_outcome::TaskOutcome;

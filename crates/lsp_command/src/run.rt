@@ -12,8 +12,8 @@ use crate::task_outcome::{TaskOutcome, of_event, of_run};
 use lsp_explain::{run_compared, run_explain, run_explain_all};
 use lsp_frame::{Limits, Sink, Source};
 use lsp_judge::{
-    Completeness, Lines, RunFault, run_check, run_check_complete, run_event, run_frames,
-    run_normal, run_show, run_show_long, run_text, run_upgrade,
+    Completeness, Lines, RunFault, run_check, run_check_complete, run_check_line, run_event,
+    run_frames, run_normal, run_show, run_show_long, run_text, run_upgrade,
 };
 use lsp_survey::{run_show_all, run_survey, run_text_all};
 use std::alloc::Global;
@@ -42,6 +42,10 @@ pub fn run_task<R: Source, W: Sink>(
         Task::Check(Completeness::Ignored) => of_run(run_check(alloc, source, sink, limits)),
         Task::Check(Completeness::Required) => {
             of_run(run_check_complete(alloc, source, sink, limits))
+        }
+        Task::CheckLine { completeness, name } => {
+            let ended = run_check_line(alloc, source, sink, limits, completeness, name);
+            of_run(ended)
         }
         Task::Survey(completeness, listing) => of_run(run_survey(
             alloc,

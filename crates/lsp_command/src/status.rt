@@ -1,5 +1,5 @@
 //! The status that the program ends with.
-ghost use Rattle.std.specs.Prelude.{◌≡◌};
+ghost use Rattle.std.specs.Prelude.{◌≡◌, max};
 ghost use Rattle.lsp_command.specs.Status.{status_of, status_of_event, status_of_fault};
 ghost use Rattle.lsp_command.specs.Status.{status_of_outcome, status_of_task, status_of_words};
 
@@ -56,6 +56,14 @@ pub fn status_of_task(ended: &Result<TaskOutcome, RunFault>) -> u8
         Ok(TaskOutcome::Event(outcome)) => status_of_event(*outcome),
         Err(fault) => status_of_fault(*fault),
     }
+}
+
+/// The worse of two statuses of `check`, for several files: 4 out of memory, 3 a fault, 2 a bad
+/// log, 1 no, 0 yes.
+pub fn worse_of(status: u8, other: u8) -> u8
+    ensures { result ≡ max status other }
+{
+    status.max(other)
 }
 
 /// The exit status where the words ask for no run: 0 for help and the version, 4 where memory was

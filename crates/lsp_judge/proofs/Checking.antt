@@ -36,7 +36,7 @@ use Rattle.lsp_verdict.proofs.RunReading.{read_map, read_within}
 use Rattle.lsp_verdict.proofs.RunsJudged.{judged_as}
 use Rattle.lsp_judge.proofs.Answering.{clean_yes, clean_complete, read_verdict}
 
-abbrev Reads : Completeness → Bounds → Ports → code.Verdict → Type 0
+abbrev pub Reads : Completeness → Bounds → Ports → code.Verdict → Type 0
 Reads completeness limits io v =
     OfInput limits io (λ log. IsVerdictBy completeness limits log (verdict_view v))
 
@@ -48,7 +48,7 @@ yes_means : (completeness : Completeness) (limits : Bounds) → IsInRange limits
 yes_means Ignored limits sizes log s says = yes_means_kept limits sizes log _ says
 yes_means Required limits sizes log s says = complete_means_ended limits sizes log _ says
 
-ended_at : (completeness : Completeness) (limits : Bounds) → IsInRange limits → (io : Ports)
+pub ended_at : (completeness : Completeness) (limits : Bounds) → IsInRange limits → (io : Ports)
     (s : code_summary.Summary) → Reads completeness limits io (verdicts.Yes s)
     → IsAtEnd io.source_after.bytes
 ended_at Ignored limits sizes io s says = yes_at_end limits sizes _ _ _ says
@@ -142,6 +142,13 @@ faulted completeness limits io fault read memory write source sink limit = recor
   counts = record { source_failures = source; sink_failures = sink; limit = limit };
 }
 
+-- a sink that was given nothing has not failed
+pub unwritten_counts : (told : Told) (f : RunFault) → (f ≡ faults.Write → ⊥)
+    → told.failures ≡ sink_failures_after f told.failures
+unwritten_counts told faults.Read never = refl
+unwritten_counts told faults.Write never = absurd (never refl)
+unwritten_counts told faults.Memory never = refl
+
 -- there is no verdict
 pub broke : (completeness : Completeness) (limits : Bounds) (before after told : Told)
     (fault : RunFault) → BrokeOff limits before after [] fault
@@ -153,10 +160,4 @@ pub broke : (completeness : Completeness) (limits : Bounds) (before after told :
     }) (Err fault)
 broke completeness limits before after told fault b =
     faulted completeness limits _ fault (λ e. refl) (λ e. refl) (λ e. absurd (b.unwritten e))
-    b.failures (unwritten fault b.unwritten) (read_within _ _ _ _ b.of_read)
-  where
-    unwritten : (f : RunFault) → (f ≡ faults.Write → ⊥)
-        → told.failures ≡ sink_failures_after f told.failures
-    unwritten faults.Read never = refl
-    unwritten faults.Write never = absurd (never refl)
-    unwritten faults.Memory never = refl
+    b.failures (unwritten_counts told fault b.unwritten) (read_within _ _ _ _ b.of_read)

@@ -5,6 +5,7 @@ pub mod Records
 pub mod KeptEvents
 pub mod Answering
 pub mod Checking
+pub mod CheckingLine
 pub mod LogEvents
 pub mod ShownLogs
 pub mod UpgradedLogs

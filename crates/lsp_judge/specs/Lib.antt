@@ -1,5 +1,6 @@
 pub mod Answered
 pub mod Checked
+pub mod CheckedLine
 pub mod Rulings
 pub mod Heard
 pub mod Standing

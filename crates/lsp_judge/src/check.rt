@@ -77,7 +77,7 @@ fn check<R: Source, W: Sink>(
 }
 
 /// Reads a log up to the first event that offends, or to its end, and gives the verdict on it.
-fn verdict_of<R: Source>(
+pub(crate) fn verdict_of<R: Source>(
     alloc: Global,
     reader: &mut R,
     limits: Limits,

@@ -1,8 +1,8 @@
 //! The judge of a recorded session: its events, which of them offends, and the verdict.
 //!
 //! `run_check` reads a log and writes the report of the verdict on it. `run_check_complete` does so
-//! for a session that must be complete, and `run_show` first writes a line for each event before
-//! the verdict. `run_upgrade` writes a log again in format 2, up to its verdict. `Judge` takes the
+//! for a session that must be complete, `run_check_line` writes no more than the first line of it,
+//! after a name, and `run_show` first writes a line for each event before the verdict. `run_upgrade` writes a log again in format 2, up to its verdict. `Judge` takes the
 //! records of a log one by one, and `report_of` prints a verdict.
 //!
 //! Three runs judge nothing: `run_frames` reads one raw stream, one direction of a session, and
@@ -14,6 +14,7 @@
 #![tactic(auto)]
 
 mod check;
+mod check_line;
 mod contents;
 mod ending;
 mod event;
@@ -32,6 +33,7 @@ mod text;
 mod upgrade;
 
 pub use check::{run_check, run_check_complete};
+pub use check_line::run_check_line;
 pub use event::{EventOutcome, run_event};
 pub use event_laws::{event_is_numbered, one_event, some_event};
 pub use frames::run_frames;

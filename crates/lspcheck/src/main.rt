@@ -1,6 +1,7 @@
 //! `lspcheck` judges what passed between an editor and a language server.
 //!
-//! `lspcheck check` reads the log of a recorded session and reports the verdict on it. `explain`
+//! `lspcheck check` reads the log of a recorded session and reports the verdict on it, or writes a
+//! line for each of several logs. `explain`
 //! adds the details of the event that breaks a rule, and `show` lists the events before it. `text`
 //! writes the text of a document after a message, and `event` the content of one event. `normal`
 //! writes the log in its normal form, and `upgrade` writes it in format 2. `frames` reads one raw
@@ -10,24 +11,28 @@
 //! words, the input and the two outputs come from the system.
 #![tactic(auto)]
 
+mod explaining;
 mod progress;
+mod several;
+mod wrong_words;
 
-use clap::Error;
 use clap::error::ErrorKind;
+use explaining::show_explaining;
 pub use lsp_command::status_of;
 use lsp_command::{
     BufferedInput, BufferedOutput, Hint, Pace, Request, Slip, Supply, TaskOutcome, hint_of,
-    only_word, remark_of, report_apart, request_of, run_through, status_of_task, status_of_words,
-    uri_alone,
+    remark_of, report_apart, request_of, run_through, status_of_task, status_of_words, uri_alone,
 };
-use lsp_judge::RunFault;
+use lsp_judge::{Outcome, RunFault, Verdict};
 use progress::{MakingWay, Progress, Watched};
+use several::status_of_several;
 use std::alloc::Global;
 use std::fs::OpenFile;
 use std::io::{IsTerminal, Read};
 use std::process::ExitCode;
 use std::rt::{Env, Files};
 use std::{env, fs, io};
+use wrong_words::{show_slip, status_of_wrong_words};
 
 /// Which of the two outputs are terminals.
 #[derive(Clone, Copy)]
@@ -60,6 +65,14 @@ impl Ended {
             answer: Err(fault),
             advice: None,
         }
+    }
+
+    /// Whether the verdict is a No.
+    fn is_no(&self) -> bool {
+        matches!(
+            self.answer,
+            Ok(TaskOutcome::Run(Outcome::Judged(Verdict::No { .. })))
+        )
     }
 }
 
@@ -169,43 +182,24 @@ fn status_shown<R: Eprint>(rt: &R, answer: &Result<TaskOutcome, RunFault>) -> u8
     status_of_task(answer)
 }
 
-/// Runs, and writes to standard error what there is to report.
+/// Runs, and writes to standard error what there is to report. Where the words left something out,
+/// and that was said, there is no hint on the input.
 fn status_of_run<R: Files + io::Input + Print + Eprint + AllocGlobal>(
     rt: &R,
     request: &Request<'_>,
+    has_slip: bool,
     terminals: Terminals,
 ) -> u8 {
     let ended = run(rt, request, terminals);
+    let is_no = ended.is_no();
+    let advice = match ended.advice {
+        Some(Advice::Hint(_)) if has_slip => None,
+        advice => advice,
+    };
     let status = status_shown(rt, &show_report(rt, request, ended.answer));
-    show_advice(rt, request.file, ended.advice);
-    status
-}
-
-/// Shows what is wrong with the words, or the help that they ask for.
-fn status_without_run<R: Print + Eprint>(rt: &R, error: &Error) -> u8 {
-    if error.kind() == ErrorKind::OutOfMemory {
-        return status_shown(rt, &Err(RunFault::Memory));
-    }
-    match error.print(rt) {
-        Err(_) if !error.use_stderr() => status_shown(rt, &Err(RunFault::Write)),
-        _ => status_of_words(error.kind()),
-    }
-}
-
-/// Says on standard error what the words may have left out, where this word names a file.
-fn show_slip<R: Files + Eprint>(rt: &R, slip: Slip, word: Option<&str>) {
-    if let Some(path) = word
-        && fs::open(rt, path).is_ok()
-    {
-        let _ = eprintln!(rt; "lspcheck: hint: {slip}");
-    }
-}
-
-/// Shows what is wrong with the words, and what they may have left out.
-fn status_of_wrong_words<R: Files + Print + Eprint>(rt: &R, words: &[String], error: &Error) -> u8 {
-    let status = status_without_run(rt, error);
-    if let ErrorKind::InvalidSubcommand | ErrorKind::UnknownArgument = error.kind() {
-        show_slip(rt, Slip::Command, only_word(words));
+    show_advice(rt, request.file, advice);
+    if is_no && terminals.error {
+        show_explaining(rt, request, request.file);
     }
     status
 }
@@ -231,10 +225,11 @@ fn answer<R: Env + Files + io::Input + Print + Eprint + AllocGlobal>(
     };
     match request_of(rt.alloc(), words.as_slice()) {
         Err(error) => status_of_wrong_words(rt, words.as_slice(), &error),
-        Ok(request) => {
-            show_slip(rt, Slip::Uri, uri_alone(&request));
-            status_of_run(rt, &request, terminals)
+        Ok(request) if request.files.is_empty() => {
+            let has_slip = show_slip(rt, Slip::Uri, uri_alone(&request));
+            status_of_run(rt, &request, has_slip, terminals)
         }
+        Ok(request) => status_of_several(rt, &request, terminals),
     }
 }
 

@@ -3,9 +3,9 @@ ghost use Rattle.std.specs.Prelude.{◌≡◌, [], IfOk, IsOkAnd, true};
 ghost use Rattle.clap.specs.Words.{AddsSubcommand, app_of, shape_of};
 ghost use Rattle.lsp_command.specs.CommandLine.{AreModes, IsArg, IsCommandLine, Modes, check};
 ghost use Rattle.lsp_command.specs.CommandLine.{check_options, event, text_options};
-ghost use Rattle.lsp_command.specs.CommandLine.{explain, file, flag, frames, mode, normal, number};
+ghost use Rattle.lsp_command.specs.CommandLine.{explain, file, files, flag, frames, mode, normal};
 ghost use Rattle.lsp_command.specs.CommandLine.{explain_options, ignore_line_ends};
-ghost use Rattle.lsp_command.specs.CommandLine.{program, quiet, show, text, upgrade, uri};
+ghost use Rattle.lsp_command.specs.CommandLine.{number, program, quiet, show, text, upgrade, uri};
 
 use clap::{Arg, ArgAction, Command, value_parser};
 use std::alloc::{AllocError, Global};
@@ -19,6 +19,7 @@ const VERSION: &str = "1.0.0";
 const MORE: &str = "\
 Examples:
   lspcheck check session.log                 the verdict on a recorded session
+  lspcheck check logs/*.log                  a line for each of several sessions
   lspcheck check --all session.log           every independent violation
   lspcheck explain session.log               why the verdict is no
   lspcheck explain --all session.log         the same for every independent violation
@@ -52,6 +53,17 @@ fn log_file<'a>(alloc: Global) -> Arg<'a>
     ensures { IsArg file result }
 {
     file(alloc, "The log; standard input if absent or '-'")
+}
+
+/// The argument that names one log or several.
+fn log_files<'a>(alloc: Global) -> Arg<'a>
+    ensures { IsArg files result }
+{
+    file(
+        alloc,
+        "The log; standard input if absent or '-'. For several, a line for each",
+    )
+    .action(ArgAction::Append)
 }
 
 /// An option that is set or not.
@@ -144,7 +156,7 @@ fn check<'a>(alloc: Global) -> Result<Command<'a>, AllocError>
 {
     check_options(alloc)?
         .arg(quiet(alloc))?
-        .arg(log_file(alloc))
+        .arg(log_files(alloc))
 }
 
 /// The command with its own options, and without those that every command has.

@@ -1,11 +1,14 @@
 //! What a command line can ask for.
 ghost use Rattle.std.specs.Prelude.{◌≡◌};
+ghost use Rattle.lsp_command.specs.Several.{IsForOne, line_task};
 ghost use Rattle.lsp_command.specs.Words.{limits_by};
 
+use crate::command_line::words::file_of;
 use lsp_explain::ComparedText;
 use lsp_frame::Limits;
 use lsp_types::LineEnds;
 use lsp_verdict::{Completeness, Lines, Listing, Mode};
+use std::alloc::Global;
 use std::num::NonZeroU64;
 
 /// What to do with what is read.
@@ -13,6 +16,12 @@ use std::num::NonZeroU64;
 pub enum Task<'a> {
     /// To judge a recorded session, which must be complete or not.
     Check(Completeness),
+    /// To judge one of several recorded sessions, which must be complete or not, and to write one
+    /// line, with this name.
+    CheckLine {
+        completeness: Completeness,
+        name: &'a str,
+    },
     /// To list the offences of a recorded session, which must be complete or not.
     Survey(Completeness, Listing),
     /// To explain what is wrong with a recorded session, which must be complete or not.
@@ -27,11 +36,19 @@ pub enum Task<'a> {
     ShowAll(Lines),
     /// To write the text of the document with this URI, as it is after the editor's message of this
     /// number.
-    Text { number: NonZeroU64, uri: &'a str },
+    Text {
+        number: NonZeroU64,
+        uri: &'a str,
+    },
     /// To write the same where each event that offends is skipped, as if it had not been sent.
-    TextAll { number: NonZeroU64, uri: &'a str },
+    TextAll {
+        number: NonZeroU64,
+        uri: &'a str,
+    },
     /// To write what the event of this number holds.
-    Event { number: NonZeroU64 },
+    Event {
+        number: NonZeroU64,
+    },
     /// To write the normal form of a log.
     Normal,
     /// To write a log again in format 2.
@@ -46,6 +63,8 @@ pub struct Request<'a> {
     pub task: Task<'a>,
     /// The file to read, or standard input.
     pub file: Option<&'a str>,
+    /// The files in order, with `-` for standard input, where there are several; none otherwise.
+    pub files: Vec<&'a str>,
     /// Whether no progress is shown.
     pub quiet: bool,
     /// Whether the texts of snapshots and saves are compared with their line ends.
@@ -61,5 +80,28 @@ impl<'a> Request<'a> {
             LineEnds::Exact => Limits::profile(),
             LineEnds::Ignored => Limits::profile().ignoring_line_ends(),
         }
+    }
+
+    /// The request to judge this file, one of several, and to write its line with this name.
+    pub fn for_one(&self, alloc: Global, file: &'a str, name: &'a str) -> Request<'a>
+        ensures { IsForOne self.now file.entry name.entry result }
+    {
+        Request {
+            task: line_task(self.task, name),
+            file: file_of(Some(file)),
+            files: Vec::new(alloc),
+            quiet: self.quiet,
+            line_ends: self.line_ends,
+        }
+    }
+}
+
+/// The task for one of several files, where a task is for all of them.
+fn line_task<'a>(task: Task<'a>, name: &'a str) -> Task<'a>
+    ensures { result ≡ line_task task.entry name.entry }
+{
+    match task {
+        Task::Check(completeness) => Task::CheckLine { completeness, name },
+        task => task,
     }
 }

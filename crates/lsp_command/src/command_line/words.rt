@@ -6,7 +6,8 @@ ghost use Rattle.lsp_command.specs.Words.{Asks, HasTask, IsFlag, NumberIn, Refus
 ghost use Rattle.lsp_command.specs.Words.{TaskIn, check_of, compared_of, completeness_of};
 ghost use Rattle.lsp_command.specs.Words.{explain_of, file_of};
 ghost use Rattle.lsp_command.specs.Words.{line_ends_of, lines_of, listing_of, mode_of, rows_in};
-ghost use Rattle.lsp_command.specs.Words.{show_of, text_of};
+ghost use Rattle.clap.specs.Words.{all_of};
+ghost use Rattle.lsp_command.specs.Words.{several_of, show_of, text_of};
 
 use crate::command_line::commands::command_line;
 use crate::command_line::task::{Request, Task};
@@ -15,7 +16,7 @@ use clap::{ArgMatches, Error};
 use lsp_explain::ComparedText;
 use lsp_types::LineEnds;
 use lsp_verdict::{Completeness, Lines, Listing, Mode};
-use std::alloc::Global;
+use std::alloc::{AllocError, Global};
 use std::num::NonZeroU64;
 
 /// The mode of this name; the parser of the option lets no other name pass.
@@ -216,7 +217,7 @@ fn task_of<'a>(name: &str, arguments: &ArgMatches<'a>) -> Option<Task<'a>>
 }
 
 /// The file of this name, where it names one: `-` is standard input.
-fn file_of<'a>(name: Option<&'a str>) -> Option<&'a str>
+pub(crate) fn file_of<'a>(name: Option<&'a str>) -> Option<&'a str>
     ensures { option_map (λ s. s.now) result ≡ file_of (option_map (λ s. s.now) name.entry) }
 {
     match name {
@@ -225,21 +226,44 @@ fn file_of<'a>(name: Option<&'a str>) -> Option<&'a str>
     }
 }
 
-/// The request of the command that was found, with its arguments.
-fn request_in<'a>(matches: &ArgMatches<'a>) -> Option<Request<'a>>
-    ensures { RequestIn (subcommand_rows_of matches.now) result }
+/// The files that are named, where there are several.
+fn several_of<'a>(alloc: Global, arguments: &ArgMatches<'a>) -> Result<Vec<&'a str>, AllocError>
+    ensures { IfOk result (λ files. map (λ file. file.now) files.items
+        ≡ several_of (all_of (codes "file") (rows_in arguments.now))) }
 {
-    let (name, arguments) = matches.subcommand()?;
-    let task = task_of(name, arguments)?;
+    let mut files = Vec::new(alloc);
+    if let Some(named) = arguments.get_strs("file")
+        && named.len() > 1
+    {
+        files.extend_from_slice(named)?;
+    }
+    Ok(files)
+}
+
+/// The request of the command that was found, with its arguments.
+fn request_in<'a>(
+    alloc: Global,
+    matches: &ArgMatches<'a>,
+) -> Result<Option<Request<'a>>, AllocError>
+    ensures { IfOk result (RequestIn (subcommand_rows_of matches.now)) }
+{
+    let Some((name, arguments)) = matches.subcommand() else {
+        return Ok(None);
+    };
+    let Some(task) = task_of(name, arguments) else {
+        return Ok(None);
+    };
     let file = file_of(arguments.get_str("file"));
+    let files = several_of(alloc, arguments)?;
     let quiet = is_set(arguments, "quiet");
     let ignored = is_set(arguments, "ignore-line-ends");
-    Some(Request {
+    Ok(Some(Request {
         task,
         file,
+        files,
         quiet,
         line_ends: line_ends_of(ignored),
-    })
+    }))
 }
 
 /// Reads the words of a command line, the program's name first.
@@ -257,7 +281,7 @@ pub fn request_of<'a>(alloc: Global, words: &'a [String]) -> Result<Request<'a>,
 {
     let mut command = command_line(alloc)?;
     let matches = command.try_get_matches_from_mut(words)?;
-    match request_in(&matches) {
+    match request_in(alloc, &matches)? {
         Some(request) => Ok(request),
         None => Err(command.error(ErrorKind::MissingSubcommand, "a command is required")?),
     }

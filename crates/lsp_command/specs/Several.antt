@@ -1,0 +1,52 @@
+-- What is asked of several files, and how each is named.
+use Rattle.std.specs.Prelude.{◌≡◌, ◌&&◌, ◌==◌, ℕ, Bool, true, false, not, List, [], Option, Some, None}
+use Rattle.std.specs.Prelude.{codes, count_by, length, map, nat_lt, option_map, if◌then◌else◌}
+use Rattle.std.specs.Borrow.{Bor}
+use Rattle.std.specs.List.{list_any}
+use Rattle.std.specs.Str.{bytes_eq}
+use Rattle.json.specs.Print.{quoted}
+use Rattle.clap.specs.Words.{Text}
+use Rattle.lsp_command.specs.Words.{file_of}
+use Rattle.lsp_command.specs.declared.command_line.several.Misuse.{Misuse}
+use Rattle.lsp_command.specs.declared.command_line.several.Misuse.TheVariants.{Listing, InputTwice}
+use Rattle.lsp_command.specs.declared.command_line.task.Request.{Request}
+use Rattle.lsp_command.specs.declared.command_line.task.Task.{Task}
+use Rattle.lsp_command.specs.declared.command_line.task.Task.TheVariants as tasks
+
+-- one file of several is judged by a line with its name
+abbrev pub line_task : Task → Bor Text → Task
+line_task (tasks.Check completeness) name = tasks.CheckLine completeness name
+line_task task name = task
+
+-- the request for one file of several, with the name of its line; the rest is as it was asked
+pub record IsForOne (asked : Request) (file name : Bor Text) (request : Request) : Type 0 where
+  pub task : request.task ≡ line_task asked.task name
+  pub file : option_map (λ path. path.now) request.file ≡ file_of (Some file.now)
+  pub files : request.files.items ≡ []
+  pub quiet : request.quiet ≡ asked.quiet
+  pub line_ends : request.line_ends ≡ asked.line_ends
+
+-- a list of violations is asked for
+abbrev pub is_listing : Task → Bool
+is_listing (tasks.Survey completeness listing) = true
+is_listing task = false
+
+-- how many of these files are standard input
+abbrev pub inputs : List Text → ℕ
+inputs files = count_by (λ file. bytes_eq file (codes "-")) files
+
+-- what is asked of several files and has no answer: a list of violations, or standard input twice
+abbrev pub misuse_of : Request → Option Misuse
+misuse_of request =
+    if not (length request.files.items == 0) && is_listing request.task then Some Listing
+    else if nat_lt 1 (inputs (map (λ file. file.now) request.files.items)) then Some InputTwice
+    else None
+
+-- the words that say so
+abbrev pub misuse_text : Misuse → Text
+misuse_text Listing = codes "--all and --every list the violations of one FILE"
+misuse_text InputTwice = codes "standard input ('-') can be read once"
+
+-- a name with a control character below U+0020, as JSON text
+abbrev pub quoted_name : Text → Option Text
+quoted_name name = if list_any (λ byte. nat_lt byte 32) name then Some (quoted name) else None

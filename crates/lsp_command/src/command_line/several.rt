@@ -1,0 +1,83 @@
+//! What is asked of several files, of which `check` writes a line each.
+ghost use Rattle.std.specs.Prelude.{◌≡◌, IfOk, map, nat_lt, option_map, string_bytes};
+ghost use Rattle.std.specs.List.{list_any};
+ghost use Rattle.lsp_command.specs.Several.{inputs, is_listing, misuse_of, quoted_name};
+
+use crate::command_line::task::{Request, Task};
+use lsp_rpc::{Memory, push_quoted};
+use std::alloc::Global;
+use std::fmt;
+
+/// What several files cannot be asked for.
+#[derive(Clone, Copy, Debug, PartialEq, Eq)]
+pub enum Misuse {
+    /// A list of violations, since each file has one line.
+    Listing,
+    /// Standard input twice, since it can be read once.
+    InputTwice,
+}
+
+impl fmt::Display for Misuse {
+    ghost use Rattle.std.specs.Prelude.{Some};
+    ghost use Rattle.lsp_command.specs.Several.{misuse_text};
+
+    ghost output = { λ misuse. Some (misuse_text misuse) };
+
+    fn fmt<W: fmt::Write>(&self, f: &mut fmt::Formatter<W>) -> fmt::Result {
+        f.write_str(match self {
+            Misuse::Listing => "--all and --every list the violations of one FILE",
+            Misuse::InputTwice => "standard input ('-') can be read once",
+        })
+    }
+}
+
+/// Whether the task is to list violations.
+fn is_listing(task: Task<'_>) -> bool
+    ensures { result ≡ is_listing task.entry }
+{
+    matches!(task, Task::Survey(..))
+}
+
+/// How many of the files are standard input.
+fn inputs(files: &[&str]) -> usize
+    ensures { result ≡ inputs (map (λ file. file.now) files.now) }
+{
+    files.iter().filter(|file| **file == "-").count()
+}
+
+/// What the request asks of several files that cannot be asked of them.
+pub fn misuse_of(request: &Request<'_>) -> Option<Misuse>
+    ensures { result ≡ misuse_of request.now }
+{
+    if !request.files.is_empty() && is_listing(request.task) {
+        return Some(Misuse::Listing);
+    }
+    if inputs(request.files.as_slice()) > 1 {
+        return Some(Misuse::InputTwice);
+    }
+    None
+}
+
+/// Whether a control character of ASCII below 32 is in the name, such as LF.
+fn has_control(name: &str) -> bool
+    ensures { result ≡ list_any (λ byte. nat_lt byte 32) name.now }
+{
+    name.as_bytes().iter().any(|byte| *byte < 32)
+}
+
+/// The name of a file as JSON text, where a character below U+0020 is in it: so it is one line, and
+/// no terminal takes a part of it for a command.
+///
+/// # Errors
+/// `Memory` where memory was refused.
+pub fn quoted_name(alloc: Global, name: &str) -> Result<Option<String>, Memory>
+    ensures { IfOk result (λ written. option_map (λ text. string_bytes text) written
+        ≡ quoted_name name.now) }
+{
+    if !has_control(name) {
+        return Ok(None);
+    }
+    let mut text = String::new(alloc);
+    push_quoted(alloc, &mut text, name)?;
+    Ok(Some(text))
+}

@@ -1,0 +1,27 @@
+//! Which command explains a No.
+use lsp_command::{Request, Task};
+use lsp_judge::Completeness;
+use lsp_types::LineEnds;
+
+/// Says which command explains the No of `check` on this file, or on standard input.
+pub(crate) fn show_explaining<R: Eprint>(rt: &R, request: &Request<'_>, file: Option<&str>) {
+    let (all, completeness) = match request.task {
+        Task::Check(completeness) => ("", completeness),
+        Task::Survey(completeness, _) => (" --all", completeness),
+        _ => return,
+    };
+    let complete = match completeness {
+        Completeness::Required => " --complete",
+        Completeness::Ignored => "",
+    };
+    let ends = match request.line_ends {
+        LineEnds::Ignored => " --ignore-line-ends",
+        LineEnds::Exact => "",
+    };
+    let _ = match file {
+        Some(path) => {
+            eprintln!(rt; "lspcheck: hint: lspcheck explain{all}{complete}{ends} {path} says why")
+        }
+        None => eprintln!(rt; "lspcheck: hint: lspcheck explain{all}{complete}{ends} says why"),
+    };
+}

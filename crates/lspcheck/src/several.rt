@@ -1,0 +1,103 @@
+//! `check` of several files: a line for each, and the worst of their statuses.
+use crate::{Advice, Ended, Terminals, run, show_advice, show_explaining, status_shown};
+use clap::error::ErrorKind;
+use lsp_command::{Request, misuse_of, quoted_name, status_of_words, worse_of};
+use lsp_judge::RunFault;
+use std::alloc::Global;
+use std::io;
+use std::rt::Files;
+
+/// A run after which a line was written, or not.
+fn after_line(ended: Ended, written: io::Result<()>) -> Ended {
+    match written {
+        Ok(()) => ended,
+        Err(cause) => Ended {
+            answer: Err(RunFault::Write),
+            advice: Some(Advice::Output(cause)),
+        },
+    }
+}
+
+/// Judges one file, and writes its line with this name. Where there is no verdict, the line says
+/// why, so that each file has one.
+fn run_named<R: Files + io::Input + Print + Eprint + AllocGlobal>(
+    rt: &R,
+    request: &Request<'_>,
+    file: &str,
+    name: &str,
+    terminals: Terminals,
+) -> Ended {
+    let ended = run(rt, &request.for_one(rt.alloc(), file, name), terminals);
+    let fault = match ended.answer {
+        Ok(_) | Err(RunFault::Write) => return ended,
+        Err(fault) => fault,
+    };
+    after_line(ended, println!(rt; "{name}: {fault}"))
+}
+
+/// The same, with the name of the file as it is written.
+fn run_one<R: Files + io::Input + Print + Eprint + AllocGlobal>(
+    rt: &R,
+    request: &Request<'_>,
+    file: &str,
+    terminals: Terminals,
+) -> Ended {
+    match quoted_name(rt.alloc(), file) {
+        Ok(Some(name)) => run_named(rt, request, file, name.as_str(), terminals),
+        Ok(None) => run_named(rt, request, file, file, terminals),
+        // Rust's escapes take no memory, unlike those of JSON.
+        Err(_) => {
+            let fault = RunFault::Memory;
+            after_line(Ended::by(fault), println!(rt; "{file:?}: {fault}"))
+        }
+    }
+}
+
+/// Says on standard error what may help with this file, one of several.
+fn show_advice_on<R: Eprint>(rt: &R, file: &str, advice: Option<Advice>) {
+    match advice {
+        Some(Advice::Hint(hint)) => {
+            let _ = eprintln!(rt; "lspcheck: hint: {file}: {hint}");
+        }
+        _ => show_advice(rt, Some(file), advice),
+    }
+}
+
+/// Judges each file in turn, and writes a line for it before the next is opened. Only one is open
+/// at a time. It stops where standard output fails, since no other line could be written either.
+fn status_of_each<R: Files + io::Input + Print + Eprint + AllocGlobal>(
+    rt: &R,
+    request: &Request<'_>,
+    terminals: Terminals,
+) -> u8 {
+    let mut worst = 0;
+    let mut has_no = false;
+    for file in request.files.as_slice() {
+        let ended = run_one(rt, request, file, terminals);
+        has_no = has_no || ended.is_no();
+        worst = worse_of(worst, status_shown(rt, &ended.answer));
+        show_advice_on(rt, file, ended.advice);
+        if let Err(RunFault::Write) = ended.answer {
+            return worst;
+        }
+    }
+    if has_no && terminals.error {
+        show_explaining(rt, request, Some("FILE"));
+    }
+    worst
+}
+
+/// Judges several files, where what is asked of them can be done.
+pub(crate) fn status_of_several<R: Files + io::Input + Print + Eprint + AllocGlobal>(
+    rt: &R,
+    request: &Request<'_>,
+    terminals: Terminals,
+) -> u8 {
+    match misuse_of(request) {
+        None => status_of_each(rt, request, terminals),
+        Some(misuse) => {
+            let _ = eprintln!(rt; "error: {misuse}\n\nFor more information, try '--help'.");
+            status_of_words(ErrorKind::ArgumentConflict)
+        }
+    }
+}
