@@ -30,7 +30,7 @@ use std::alloc::Global;
 use std::fs::OpenFile;
 use std::io::{IsTerminal, Read};
 use std::process::ExitCode;
-use std::rt::{Env, Files};
+use std::rt::{Clock, Env, Files};
 use std::{env, fs, io};
 use wrong_words::{show_slip, status_of_wrong_words};
 
@@ -77,7 +77,7 @@ impl Ended {
 }
 
 /// Runs over one open input, and tells meanwhile how far it was read.
-fn run_on<R: Print + Eprint + AllocGlobal, I: Read + Drop>(
+fn run_on<R: Clock + Print + Eprint + AllocGlobal, I: Read + Drop>(
     rt: &R,
     input: I,
     request: &Request<'_>,
@@ -104,7 +104,7 @@ fn run_on<R: Print + Eprint + AllocGlobal, I: Read + Drop>(
 }
 
 /// Runs over an input of this many bytes, where they are known.
-fn run_watched<R: Print + Eprint + AllocGlobal, I: Read + Drop>(
+fn run_watched<R: Clock + Print + Eprint + AllocGlobal, I: Read + Drop>(
     rt: &R,
     input: I,
     size: Option<u64>,
@@ -127,7 +127,7 @@ fn size_of<F: OpenFile>(file: &F) -> Option<u64> {
 }
 
 /// Runs over the file, or over standard input.
-fn run<R: Files + io::Input + Print + Eprint + AllocGlobal>(
+fn run<R: Clock + Files + io::Input + Print + Eprint + AllocGlobal>(
     rt: &R,
     request: &Request<'_>,
     terminals: Terminals,
@@ -184,7 +184,7 @@ fn status_shown<R: Eprint>(rt: &R, answer: &Result<TaskOutcome, RunFault>) -> u8
 
 /// Runs, and writes to standard error what there is to report. Where the words left something out,
 /// and that was said, there is no hint on the input.
-fn status_of_run<R: Files + io::Input + Print + Eprint + AllocGlobal>(
+fn status_of_run<R: Clock + Files + io::Input + Print + Eprint + AllocGlobal>(
     rt: &R,
     request: &Request<'_>,
     has_slip: bool,
@@ -209,7 +209,7 @@ fn words_of<R: Env + AllocGlobal>(rt: &R) -> io::Result<Vec<String>> {
     Ok(env::args(rt)?.collect(rt.alloc())?)
 }
 
-fn answer<R: Env + Files + io::Input + Print + Eprint + AllocGlobal>(
+fn answer<R: Clock + Env + Files + io::Input + Print + Eprint + AllocGlobal>(
     rt: &R,
     terminals: Terminals,
 ) -> u8 {

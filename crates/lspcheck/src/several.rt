@@ -5,7 +5,7 @@ use lsp_command::{Request, misuse_of, quoted_name, status_of_words, worse_of};
 use lsp_judge::RunFault;
 use std::alloc::Global;
 use std::io;
-use std::rt::Files;
+use std::rt::{Clock, Files};
 
 /// A run after which a line was written, or not.
 fn after_line(ended: Ended, written: io::Result<()>) -> Ended {
@@ -20,7 +20,7 @@ fn after_line(ended: Ended, written: io::Result<()>) -> Ended {
 
 /// Judges one file, and writes its line with this name. Where there is no verdict, the line says
 /// why, so that each file has one.
-fn run_named<R: Files + io::Input + Print + Eprint + AllocGlobal>(
+fn run_named<R: Clock + Files + io::Input + Print + Eprint + AllocGlobal>(
     rt: &R,
     request: &Request<'_>,
     file: &str,
@@ -36,7 +36,7 @@ fn run_named<R: Files + io::Input + Print + Eprint + AllocGlobal>(
 }
 
 /// The same, with the name of the file as it is written.
-fn run_one<R: Files + io::Input + Print + Eprint + AllocGlobal>(
+fn run_one<R: Clock + Files + io::Input + Print + Eprint + AllocGlobal>(
     rt: &R,
     request: &Request<'_>,
     file: &str,
@@ -65,7 +65,7 @@ fn show_advice_on<R: Eprint>(rt: &R, file: &str, advice: Option<Advice>) {
 
 /// Judges each file in turn, and writes a line for it before the next is opened. Only one is open
 /// at a time. It stops where standard output fails, since no other line could be written either.
-fn status_of_each<R: Files + io::Input + Print + Eprint + AllocGlobal>(
+fn status_of_each<R: Clock + Files + io::Input + Print + Eprint + AllocGlobal>(
     rt: &R,
     request: &Request<'_>,
     terminals: Terminals,
@@ -88,7 +88,7 @@ fn status_of_each<R: Files + io::Input + Print + Eprint + AllocGlobal>(
 }
 
 /// Judges several files, where what is asked of them can be done.
-pub(crate) fn status_of_several<R: Files + io::Input + Print + Eprint + AllocGlobal>(
+pub(crate) fn status_of_several<R: Clock + Files + io::Input + Print + Eprint + AllocGlobal>(
     rt: &R,
     request: &Request<'_>,
     terminals: Terminals,
