@@ -97,7 +97,8 @@ def data_of(program, most_events, most_bytes):
     """The index of the page, and the contents of its events."""
     version = program.version()
     before = state_of(program.log)
-    report = program.output("explain").decode("utf-8", "replace").splitlines()
+    # Other ends of lines than LF may be in the texts that a line shows.
+    report = program.output("explain").decode("utf-8", "replace").removesuffix("\n").split("\n")
     if report[:1] == ["bad log L1 record 0"]:
         raise Failed(f"{program.log}: not a log: its first line is not that of a log", 2)
     outline = outline_of(program, 2 * most_events + LISTED_ALWAYS)

@@ -160,7 +160,7 @@ class Session:
             event.number,
             KINDS.index(event.kind),
             self.methods.number(event.method or asked),
-            cut(json.dumps(event.id), LONGEST_NAME) if has_id else None,
+            cut(json.dumps(event.id, ensure_ascii=False), LONGEST_NAME) if has_id else None,
             self.documents.number(event.uri),
             event.version,
             len(content),

@@ -37,7 +37,7 @@ function columnsTable(cells, at, encodings) {
   const first = Math.max(at - AROUND, 0), shown = cells.slice(first, at + AROUND + 1);
   const mark = (cell) => (cell === cells[at] ? "is-here" : "");
   const characters = shown.map((cell) =>
-    element("td", mark(cell), ...visibleText(cell.character, true)));
+    element("td", mark(cell), visibleText(cell.character, true)));
   const rowOf = (encoding) => element("tr", encoding === session.encoding ? "agreed" : "",
     element("th", "", encoding.toUpperCase()),
     ...shown.map((cell) => element("td", mark(cell), String(cell.columns[encoding]))));

@@ -1,9 +1,22 @@
 // What is shown when an event is opened: its violation, the texts that differ, its content.
 
-const MOST_COMPARED = 300;
+const MOST_COMPARED = 300, MOST_OF_PIECE = 400;
 
 function hasText(row) {
   return row.document >= 0 && settingRows[row.document].length > 0;
+}
+
+// A piece of a line, without its middle if it is very long.
+function comparedPiece(text, isMarked = false) {
+  if (text.length <= 2 * MOST_OF_PIECE) {
+    return visibleText(text, isMarked);
+  }
+  const left = count(text.length - 2 * MOST_OF_PIECE, "character");
+  return [
+    ...visibleText(text.slice(0, MOST_OF_PIECE), isMarked),
+    element("span", "left-out", `… ${left} …`),
+    ...visibleText(text.slice(-MOST_OF_PIECE), isMarked),
+  ];
 }
 
 // One side of a line in a comparison.
@@ -12,8 +25,7 @@ function comparedCell(line, pieces, isEqual) {
   const text = element("span", "line-text");
   for (const [piece, isMarked] of pieces ?? []) {
     const shown = isEqual ? piece.replace(/\n$/, "") : piece;
-    const nodes = visibleText(shown, isMarked);
-    text.append(...(isMarked ? [element("mark", "", ...nodes)] : nodes));
+    fill(text, isMarked ? [element("mark", "", comparedPiece(shown, true))] : comparedPiece(shown));
   }
   return element("div", pieces ? "cell" : "cell none", number, text);
 }
@@ -143,7 +155,7 @@ function suspectPart(values, isOpen) {
   if (!row || row.method !== "textDocument/didChange") {
     return head;
   }
-  head.append(" ", element("code", "summary", row.summary));
+  head.append(" ", element("code", "summary", visibleText(row.summary)));
   return element("div", "suspect", head, folded("what it changed", () => whatChanged(row), isOpen));
 }
 
@@ -233,7 +245,8 @@ function detailsOf(row) {
   const whose = row.side === SNAPSHOT ? "snapshot" : `${SIDES[row.side]} message`;
   const made = element("div", "details",
     element("p", "about", eventLink(row.event), ` · ${whose} ${row.number}`,
-      ` · ${row.bytes.toLocaleString("en")} bytes`, row.id === null ? "" : ` · id ${row.id}`,
+      ` · ${count(row.bytes, "byte")}`,
+      row.id === null ? null : [" · id ", ...visibleText(row.id)],
       ...joinsOf(row)),
     row.uri ? element("p", "about uri", shownText(row.uri)) : null);
   if (row.violation) {

@@ -149,8 +149,9 @@ function comparedTexts(linesA, linesB) {
   };
   for (const [startA, endA, startB, endB] of differences(linesA, linesB)) {
     addSkipped(at, startA);
-    items.push(...differingLines(linesA.slice(startA, endA), linesB.slice(startB, endB)).map(
-      (pair, line) => ({ pair, lineA: startA + line, lineB: startB + line, isEqual: false })));
+    differingLines(linesA.slice(startA, endA), linesB.slice(startB, endB)).forEach((pair, line) => {
+      items.push({ pair, lineA: startA + line, lineB: startB + line, isEqual: false });
+    });
     at = endA;
     shift = endB - endA;
   }

@@ -98,8 +98,9 @@ function spine(item, height) {
 }
 
 function methodName(method) {
-  const at = method.lastIndexOf("/") + 1, name = element("span", "method", method.slice(at));
-  return at === 0 ? [name] : [element("span", "quiet", method.slice(0, at)), name];
+  const at = method.lastIndexOf("/") + 1;
+  const name = element("span", "method", visibleText(method.slice(at)));
+  return at === 0 ? [name] : [element("span", "quiet", visibleText(method.slice(0, at))), name];
 }
 
 function nameOf(row) {
@@ -145,12 +146,12 @@ function tagsOf(row) {
 
 function messageCell(row) {
   const version = row.version === null ? null : element("span", "version", `v${row.version}`);
-  const file = row.uri ? element("span", "file", ...visibleText(baseName(row.uri))) : null;
-  const id = row.id === null ? null : element("span", "id", `#${row.id}`);
+  const file = row.uri ? element("span", "file", visibleText(baseName(row.uri))) : null;
+  const id = row.id === null ? null : element("span", "id", "#", visibleText(row.id));
   const made = button("say", "", null);
   made.append(
     element("span", "what", ...tagsOf(row), ...nameOf(row), id, file, version),
-    element("span", "summary", row.summary));
+    element("span", "summary", visibleText(row.summary)));
   made.setAttribute("aria-expanded", "false");
   return made;
 }
@@ -165,7 +166,7 @@ function endCell() {
   const isBad = session.ending[0].startsWith("bad log");
   const badLog = isBad ? badTag(session.ending.slice(0, 2).join(" ")) : null;
   return element("div", "wide", element("span", "quiet", "End of the log"), ...said,
-    badLog, session.exit.length ? element("span", "", ...visibleText(endOfServer())) : null);
+    badLog, session.exit.length ? element("span", "", visibleText(endOfServer())) : null);
 }
 
 function gapCell(gap) {

@@ -144,7 +144,7 @@ function cutPart() {
     ...session.left.said.map((line) => element("p", "", line)));
 }
 
-document.title = `${verdictOf()[1]} – ${session.name}`;
+document.title = `${verdictOf()[1]} – ${namedText(session.name)}`;
 document.getElementById("overview").append(...[
   verdictPart(), cutPart(), badLogPart(), firstViolation(), otherViolations(), notesPart(),
   documentsPart((number) => search.filter(number)),

@@ -1,12 +1,21 @@
 // Nodes of the page. Whatever comes from the log gets into it as text nodes only.
 
-// An element with classes, separated by spaces, and children: nodes or texts; null is left out.
+// Appends nodes, texts and lists of them, which may be long; null is left out.
+function fill(node, children) {
+  for (const child of children.flat()) {
+    if (child !== null && child !== undefined) {
+      node.append(child);
+    }
+  }
+}
+
+// An element with classes, separated by spaces, and children as for `fill`.
 function element(tag, classes, ...children) {
   const made = document.createElement(tag);
   if (classes) {
     made.className = classes;
   }
-  made.append(...children.flat().filter((child) => child !== null && child !== undefined));
+  fill(made, children);
   return made;
 }
 
@@ -22,13 +31,13 @@ function button(classes, label, action) {
   return made;
 }
 
-// A folded part; `fill` makes its content when it is opened for the first time.
-function folded(label, fill, isOpen = false) {
+// A folded part; `make` makes its content when it is opened for the first time.
+function folded(label, make, isOpen = false) {
   const made = element("details", "folded", element("summary", "", label));
   const open = () => {
     if (made.open && !made.dataset.filled) {
       made.dataset.filled = "yes";
-      made.append(fill());
+      made.append(make());
     }
   };
   made.addEventListener("toggle", open);
@@ -79,13 +88,13 @@ function baseName(uri) {
 
 // A long text, of which the first part is shown at once and the rest on demand.
 function longText(text, classes, most = 60000) {
-  const shown = element("pre", classes, ...visibleText(text.slice(0, most), false, true));
+  const shown = element("pre", classes, visibleText(text.slice(0, most), false, true));
   if (text.length <= most) {
     return shown;
   }
   let at = most;
   const more = button("more", "", () => {
-    shown.append(...visibleText(text.slice(at, at + 4 * most), false, true));
+    fill(shown, visibleText(text.slice(at, at + 4 * most), false, true));
     at += 4 * most;
     label();
   });

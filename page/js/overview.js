@@ -55,10 +55,10 @@ function factsOfLog() {
 function verdictPart() {
   const [kind, verdict, text] = verdictOf();
   return element("header", `verdict verdict-${kind}`,
-    element("p", "name", ...visibleText(session.name, true)),
+    element("p", "name", visibleText(session.name, true)),
     element("h1", "", element("span", "word", verdict), " ", text),
     whereItIs(),
-    session.exit.length === 0 ? null : element("p", "where", ...visibleText(endOfServer())),
+    session.exit.length === 0 ? null : element("p", "where", visibleText(endOfServer())),
     factsOfLog(),
     element("p", "quiet", "The verdict is that of ", shownText(session.version),
       ". What this page worked out itself is marked ", source("page"), "."));
@@ -150,7 +150,7 @@ function documentPart(number, filter) {
   const uri = session.documents[number];
   const only = button("plain", "show only this document", () => filter(number));
   return element("div", "document",
-    element("p", "", element("strong", "", ...visibleText(baseName(uri))), " ", only),
+    element("p", "", element("strong", "", visibleText(baseName(uri))), " ", only),
     element("p", "about uri", shownText(uri)),
     element("div", "chips", ...chosenChips(namingRows[number].filter(isOfText))));
 }

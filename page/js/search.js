@@ -12,7 +12,8 @@ class Search {
   constructor(lanes) {
     this.lanes = lanes;
     this.words = this.input("search", "method or words", "Search by method or words ( / )");
-    this.document = this.choice("every document", session.documents.map((uri) => baseName(uri)));
+    const files = session.documents.map((uri) => namedText(baseName(uri)));
+    this.document = this.choice("every document", files);
     this.side = this.choice("both sides", [...CHOICES.keys()]);
     this.id = this.input("id", "id", "Search by the id of a request");
     this.found = element("span", "found quiet");

@@ -3,9 +3,14 @@
 
 // The lines of a text, each with its line end: CR LF, LF or CR. The last one has none.
 function linesOf(text) {
-  const lines = text.match(/[^\r\n]*(?:\r\n|\r|\n)/g) ?? [];
-  const length = lines.reduce((sum, line) => sum + line.length, 0);
-  lines.push(text.slice(length));
+  const lines = [];
+  let start = 0;
+  for (const found of text.matchAll(/\r\n|\r|\n/g)) {
+    const end = found.index + found[0].length;
+    lines.push(text.slice(start, end));
+    start = end;
+  }
+  lines.push(text.slice(start));
   return lines;
 }
 

@@ -37,6 +37,11 @@ function shownFor(character, all) {
   return NAMES[character] ?? escapedByte(character) ?? codePoint(character);
 }
 
+// The text with names for odd characters, where no box can be.
+function namedText(text) {
+  return piecesOf(text).map(([piece, shown]) => shown ?? piece).join("");
+}
+
 // The text in pieces: [text, null] as it is, or [character, what is shown for it]. With `isBroken`,
 // an LF is left as it is, since it breaks the line where it is shown.
 function piecesOf(text, all = false, isBroken = false) {

@@ -9,7 +9,7 @@ function wordsOf(line) {
 }
 
 function shownText(text) {
-  return element("code", "shown-text", ...visibleText(text, true));
+  return element("code", "shown-text", visibleText(text, true));
 }
 
 // `event 44 editor 28` as a link.
@@ -77,7 +77,9 @@ const LINES = {
   before: ["Before it", ([text]) => [shownText(text)]],
   after: ["After it", ([text]) => [shownText(text)]],
   member: ["Member", ([text]) => [shownText(text), text === "" ? " (the params themselves)" : ""]],
-  uri: ["Document", ([uri]) => [element("strong", "", baseName(uri)), " ", shownText(uri)]],
+  uri: ["Document", ([uri]) => [
+    element("strong", "", visibleText(baseName(uri))), " ", shownText(uri),
+  ]],
   held: ["Held", ([version, ...by]) => [`version ${version}, set by `, ...shownEvent(by)]],
   sent: ["This message", ([version]) => [`sets version ${version}`]],
   version: ["Version", ([version]) => [`the snapshot is of version ${version}`]],

@@ -23,7 +23,7 @@ from selenium.webdriver.common.keys import Keys
 
 import logs
 from command import run
-from data import EXAMPLES, output, written
+from data import EXAMPLES, lines_of, output, written
 
 WIDTHS, THEMES = [800, 1600], ["light", "dark"]
 # Rows and their parts that may be in the tree of a page, however long the log is.
@@ -100,7 +100,7 @@ def brightness(color):
 
 def opens_without_faults(page, program, log):
     """In each width and theme: no error, the verdict, the lanes, nothing wider than the window."""
-    report = output(program, "check", log).decode().splitlines()
+    report = lines_of(program, "check", log)
     for width in WIDTHS:
         for theme in THEMES:
             page.open(width, theme)
@@ -117,7 +117,7 @@ def opens_without_faults(page, program, log):
 
 def shows_the_violation(page, program, log):
     """The lines of `explain` are on the page in words, with their events as links."""
-    lines = output(program, "explain", log).decode().splitlines()
+    lines = lines_of(program, "explain", log)
     if not lines[0].startswith("no "):
         return
     page.open()
@@ -128,8 +128,9 @@ def shows_the_violation(page, program, log):
             links = page.all(f'.first a[href="#event-{event}"]')
             assert links or line.startswith("event "), line
         for text in re.findall(r'^(?:inside|uri|by-messages) (".*")$', line):
-            plain = json.loads(text).rstrip("\n")
+            plain = json.loads(text).rstrip("\n").replace("\u2028", "LS").replace("\x85", "NEL")
             assert plain in said, (plain, said)
+            assert "\u2028" not in page.text("body")
     page.run("document.querySelector('.why .folded').open = true")
     page.wait("return document.querySelector('.why .raw') !== null")
     assert page.text(".why .raw").split("\n")[0] == lines[0]
@@ -176,9 +177,9 @@ def forbids_everything_else(page):
 
 def searches(page, program, log):
     """By method, side, document and id: as many events are found as `show` lists."""
-    shown = output(program, "show", "--all", "--long", log).decode().splitlines()
+    shown = lines_of(program, "show", "--all", "--long", log)
     page.open()
-    listed = output(program, "explain", "--all", log).decode().splitlines()
+    listed = lines_of(program, "explain", "--all", log)
     is_change = re.compile(r'(event )?\d+ editor (\d+ )?notification "textDocument/didChange".*')
     changes = len([it for it in [*shown, *listed] if is_change.fullmatch(it)])
     box = page.all("input.search")[0]
@@ -204,7 +205,7 @@ def searches(page, program, log):
 
 
 def follows_links_and_keys(page, program, log):
-    shown = output(program, "show", "--all", "--long", log).decode().splitlines()
+    shown = lines_of(program, "show", "--all", "--long", log)
     snapshots = [it.split()[0] for it in shown if " snapshot " in it and it[0].isdigit()]
     edits = [it.split()[0] for it in shown if '"textDocument/didChange"' in it]
     page.open(link="#event-4")
@@ -239,7 +240,7 @@ def follows_links_and_keys(page, program, log):
 
 def shows_texts_after_messages(page, program, log):
     """The text after a message, as lspcheck gives it, and the content of an event."""
-    shown = output(program, "show", "--all", "--long", log).decode().splitlines()
+    shown = lines_of(program, "show", "--all", "--long", log)
     found = next(it for it in shown if '"textDocument/didOpen"' in it)
     event, number, uri = found.split()[0], found.split()[4], json.loads(found.split()[5])
     page.open(link=f"#event-{event}")
@@ -328,7 +329,7 @@ def main(words):
             try:
                 test()
                 passed += 1
-            except (AssertionError, WebDriverException) as error:
+            except (AssertionError, LookupError, ValueError, WebDriverException) as error:
                 failed += 1
                 where = [it for it in traceback.extract_tb(error.__traceback__) if it.filename == __file__][-1]
                 print(f"FAILED {name}, line {where.lineno}: {error or where.line}"[:2000], flush=True)

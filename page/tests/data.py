@@ -17,6 +17,11 @@ def output(program, *words):
     return subprocess.run([program, *words], stdout=subprocess.PIPE, stderr=subprocess.DEVNULL).stdout
 
 
+def lines_of(program, *words):
+    """The lines of an output. They end with LF; what they show may contain other line ends."""
+    return output(program, *words).decode().removesuffix("\n").split("\n")
+
+
 def page_of(program, log, *words):
     done = run(log, "--program", program, "-o", "-", *words)
     assert done.returncode == 0, done.stderr
@@ -46,7 +51,7 @@ def has_what_was_written(program, place):
     made = [written(place, "joined.log", logs.joined()), written(place, "hostile.log", logs.hostile())]
     for log in [*EXAMPLES, *made]:
         index, contents = logs.data_of(page_of(program, log))
-        shown = output(program, "show", "--all", "--long", log).decode().splitlines()
+        shown = lines_of(program, "show", "--all", "--long", log)
         lines = {int(line.split()[0]): line for line in shown if line[0].isdigit()}
         rows = {row[0]: row for row in index["rows"]}
         assert list(rows) == list(range(1, len(rows) + 1))
@@ -56,7 +61,7 @@ def has_what_was_written(program, place):
                 assert str(word) in line or plain in line, (word, line)
         for row, content in zip(index["rows"], contents):
             assert content.encode("utf-8", "surrogateescape") == output(program, "event", str(row[0]), log)
-        assert index["report"] == output(program, "explain", log).decode().splitlines()
+        assert index["report"] == lines_of(program, "explain", log)
         found = [NO.fullmatch(line).groups() for line in shown if line.startswith("no ")]
         listed = [(str(it["rule"]), it["who"], str(it["number"]), str(it["event"]), it["follows"])
                   for it in index["violations"]]
@@ -131,7 +136,7 @@ def cuts_long_logs(program, place):
     index, contents = logs.data_of(page_of(program, log, *words))
     events = [row[0] for row in index["rows"]]
     violation = index["violations"][0]["event"]
-    assert output(program, "check", log).decode().splitlines()[0].endswith(f"event {violation}")
+    assert lines_of(program, "check", log)[0].endswith(f"event {violation}")
     assert len(events) <= 300 and {1, 2, 3, violation - 50, violation, violation + 50} <= set(events)
     gaps = [event for gap in index["left"]["gaps"] for event in range(gap["from"], gap["to"] + 1)]
     assert sorted(events + gaps) == list(range(1, index["events"] + 1))

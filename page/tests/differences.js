@@ -63,4 +63,7 @@ same(page.piecesOf("a\r\n\u00a0e\u0301\u202e\udcff", true).map(([, shown]) => sh
   [null, "CR", "LF", "NBSP", null, "◌\u0301", "RLO", "\\xff"]);
 same(page.indentedJson('{"a":[1.0,{}],"a":"\\u00e9,\\"{"}'), '{\n  "a": [\n    1.0,\n    {}\n  ],\n  "a": "\\u00e9,\\"{"\n}');
 same(page.indentedJson("{not json"), "{not json");
+// Neither quadratic time nor the stack: one long line, and many lines that all differ.
+same(page.linesOf("z".repeat(600000)).length, 1);
+same(page.comparedTexts(page.linesOf("a\n".repeat(200000)), page.linesOf("a\r\n".repeat(200000))).length, 200001);
 process.stdout.write('"good"');

@@ -8,7 +8,7 @@ BLOCK = re.compile(r'<script type="application/json" id="([^"]*)">(.*?)</script>
 
 # What would break a page that put any of it into its HTML.
 EVIL = "</script><img src=x onerror=alert(1)><!--\"'&lt;${1}"
-EVIL_URI = f"file:///a/{EVIL}.c"
+EVIL_URI = f"file:///a/{EVIL}\u2028\x85.c"
 
 
 def frame(side, message):
