@@ -48,3 +48,5 @@ pub mod SameEnds
 pub mod WindowEnds
 pub mod WindowPlaces
 pub mod WindowPatches
+pub mod Walks
+pub mod Backs

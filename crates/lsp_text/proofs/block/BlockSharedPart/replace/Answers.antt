@@ -1,6 +1,6 @@
 use Rattle.std.proofs.Common.{◌≤◌, ◌+◌, length, ap, arith}
 use Rattle.lsp_text.proofs.BlockPlaces.{block_text, block_kept}
-use Rattle.lsp_text.proofs.block.BlockPart.replace.Goals as goal
+use Rattle.lsp_text.proofs.block.BlockSharedPart.replace.Goals as goal
 
 pub invariant_of-self-2 : goal.invariant_of-self-2
 invariant_of-self-2 c =

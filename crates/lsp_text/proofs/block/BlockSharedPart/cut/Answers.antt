@@ -3,7 +3,7 @@ use Rattle.std.proofs.Common.{length-drop}
 use Rattle.std.proofs.lemmas.List.{length-take-le, map-id}
 use Rattle.lsp_text.specs.Parts.{MakeUp}
 use Rattle.lsp_text.proofs.CutPlaces.{IsCutSoFar, nothing_cut, one_cut, all_cut}
-use Rattle.lsp_text.proofs.block.BlockPart.cut.Goals as goal
+use Rattle.lsp_text.proofs.block.BlockSharedPart.cut.Goals as goal
 
 pub loop-rest-init : goal.loop-rest-init
 loop-rest-init c =
