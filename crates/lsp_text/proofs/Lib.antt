@@ -47,3 +47,5 @@ pub mod SameEnds
 pub mod WindowEnds
 pub mod WindowPlaces
 pub mod WindowPatches
+pub mod Walks
+pub mod Backs

@@ -3,30 +3,25 @@ use Rattle.std.proofs.Common.{◌≡◌, ◌<◌, ◌≤◌, ◌+◌, ◌-◌, �
 use Rattle.std.proofs.Common.{drop, get_or, refl, sym, ap, subst, ⊎_elim, ◌∙◌, arith}
 use Rattle.std.proofs.Common.{length-append, length-drop, append_assoc, take-add}
 use Rattle.std.proofs.lemmas.Bool.{false≢true, cases_lt}
-use Rattle.std.proofs.lemmas.List.{append-nil, take-append-drop, take_all, take_at, drop_at}
-use Rattle.std.proofs.lemmas.List.{drop-drop, take-append-le, length-take-le, append_cancel_left}
+use Rattle.std.proofs.lemmas.List.{append-nil, take-append-drop}
+use Rattle.std.proofs.lemmas.List.{drop-drop, length-take-le}
 use Rattle.std.proofs.lemmas.List.{get_or_append_left, get_or-append_right}
 use Rattle.std.specs.Str.{IsUtf8, IsCharBoundary}
-use Rattle.std.proofs.lemmas.Str.{IsUtf8-take, IsUtf8-drop, IsUtf8-between}
-use Rattle.std.proofs.lemmas.Str.{IsCharBoundary-at_seam, IsCharBoundary-from_rest}
-use Rattle.std.proofs.lemmas.Str.{IsCharBoundary-from_take}
+use Rattle.std.proofs.lemmas.Str.{IsUtf8-take}
 use Rattle.lsp_types.specs.declared.position.Encoding.TheVariants.{Utf8}
 use Rattle.lsp_text.specs.Ends.{ends_in, joins, places_behind}
 use Rattle.lsp_text.specs.Ends.{IsCountUpTo, IsNear, IsRest}
-use Rattle.lsp_text.specs.SameText.{with_feeds, BeginsOtherwise}
-use Rattle.lsp_text.specs.Parts.{joined, part_at, AreParts, IsFound, IsSeam, IsSpan}
+use Rattle.lsp_text.specs.Parts.{joined, part_at, AreParts, IsFound, IsSeam}
 use Rattle.lsp_text.specs.Parts.{bytes_between}
 use Rattle.lsp_text.specs.declared.part.Found.{Found}
 use Rattle.lsp_text.specs.declared.sums.Measure.TheVariants.{Units}
 use Rattle.lsp_text.proofs.EndCounts.{ends_in-append, sums_at_most, length-places_behind}
 use Rattle.lsp_text.proofs.EndCounts.{places_behind-append}
 use Rattle.lsp_text.proofs.EndPlaces.{places_within}
-use Rattle.lsp_text.proofs.PartLines.{feeds-joins}
-use Rattle.lsp_text.proofs.Parts.{joined-at, joins-front, joins-back, joins-nearer, joins-farther}
+use Rattle.lsp_text.proofs.Parts.{joined-at, joins-front, joins-back, joins-nearer}
 use Rattle.lsp_text.proofs.Parts.{IsUtf8-joined}
 use Rattle.lsp_text.proofs.PartPlaces.{before_part, after_part, after_last, part_between}
 use Rattle.lsp_text.proofs.PartPlaces.{take-inside, drop-inside, found_units}
-use Rattle.lsp_text.proofs.PartSteps.{IsUtf8-rest}
 use Rattle.lsp_text.proofs.Spots.{joins-nothing}
 
 -- a text is all of the rest of it
@@ -189,204 +184,6 @@ pub record IsOn (bs : List ℕ) (from to at : ℕ) : Type 0 where
   pub first : from ≤ at
   pub last : at ≤ to
   pub seam : IsSeam bs at
-
-pub first_on : (bs : List ℕ) (from to : ℕ) → IsSpan bs from to → IsOn bs from to from
-first_on bs from to h = record { first = omega arith; last = h.order; seam = h.first }
-
--- as much of the rest as is wanted ends at a boundary
-pub piece_ends : (bs rest : List ℕ) (from to at : ℕ) → IsSpan bs from to → IsOn bs from to at
-    → IsRest (drop at bs) rest → to - at < length rest → IsCharBoundary rest (to - at)
-piece_ends bs rest from to at h k r lt =
-    let within : to - at ≤ length rest = omega arith in
-    let same : bytes_between bs at to ≡ take (to - at) rest =
-    ap (take (to - at)) r.begins ∙ take-append-le (to - at) rest r.more within in
-    IsCharBoundary-from_take rest (to - at) r.utf8 within
-    (subst IsUtf8 same
-    (IsUtf8-between bs at to h.utf8 k.last k.seam.boundary h.second.boundary))
-
-record IsCut (bs : List ℕ) (from to at len : ℕ) (piece : List ℕ) : Type 0 where
-  on : IsOn bs from to (at + len)
-  some : 0 < len
-  is : piece ≡ bytes_between bs at (at + len)
-
--- the span ends in the rest,
-cut_last : (bs rest piece : List ℕ) (from to at len : ℕ) → IsSpan bs from to
-    → IsOn bs from to at → at < to → IsRest (drop at bs) rest → piece ≡ take (to - at) rest
-    → len ≡ length piece → to - at ≤ length rest → IsCut bs from to at len piece
-cut_last bs rest piece from to at len h k lt r is l le =
-    let order = h.order in
-    let size : len ≡ to - at = l ∙ ap length is ∙ length-take-le (to - at) rest le in
-    let end : to ≡ at + len = omega arith in
-    let same : piece ≡ bytes_between bs at to =
-    is ∙ sym (ap (take (to - at)) r.begins ∙ take-append-le (to - at) rest r.more le) in
-    record {
-      on =
-          record {
-            first = omega arith;
-            last = omega arith;
-            seam = subst (λ (n : ℕ). IsSeam bs n) end h.second;
-          };
-      some = omega arith;
-      is = same ∙ ap (bytes_between bs at) end;
-    }
-
--- or goes on after it
-cut_all : (bs rest piece : List ℕ) (from to at len : ℕ) → IsSpan bs from to
-    → IsOn bs from to at → at < to → IsRest (drop at bs) rest → piece ≡ take (to - at) rest
-    → len ≡ length piece → length rest ≤ to - at → IsCut bs from to at len piece
-cut_all bs rest piece from to at len h k lt r is l le =
-    let first = k.first in
-    let within : to ≤ length bs = h.second.boundary.0 in
-    let left : at ≤ length bs = omega arith in
-    let all : piece ≡ rest = is ∙ take_all (to - at) rest le in
-    let size : len ≡ length rest = l ∙ ap length all in
-    let sum : at + len - at ≡ len = omega arith in
-    let back : IsUtf8 r.more =
-    IsUtf8-rest rest (drop at bs) r.more r.utf8 (IsUtf8-drop bs at h.utf8 k.seam.boundary)
-    r.begins in
-    let boundary : IsCharBoundary bs (at + len) =
-    IsCharBoundary-from_rest bs at len left
-    (subst (λ (n : ℕ). IsCharBoundary (drop at bs) n) (sym size)
-    (IsCharBoundary-at_seam (drop at bs) rest r.more r.begins back)) in
-    let taken : take len (drop at bs) ≡ rest =
-    ap (take len) r.begins ∙ take_at rest r.more len (sym size) in
-    let front : take (at + len) bs ≡ take at bs ++ rest =
-    take-add at len bs ∙ ap (λ (x : List ℕ). take at bs ++ x) taken in
-    let behind : drop (at + len) bs ≡ r.more =
-    sym (drop-drop len at bs) ∙ ap (drop len) r.begins ∙ drop_at rest r.more len (sym size) in
-    let far : joins (take at bs) (rest ++ r.more) ≡ false =
-    ap (joins (take at bs)) (sym r.begins) ∙ k.seam.apart in
-    record {
-      on =
-          record {
-            first = omega arith;
-            last = omega arith;
-            seam =
-                record {
-                  boundary = boundary;
-                  apart =
-                      ap (joins (take (at + len) bs)) behind
-                      ∙ ap (λ (x : List ℕ). joins x r.more) front
-                      ∙ joins-farther (take at bs) rest r.more far r.apart;
-                };
-          };
-      some = omega (arith, r.some (omega (arith, length-drop at bs)));
-      is = all ∙ sym taken ∙ ap (λ (n : ℕ). take n (drop at bs)) (sym sum);
-    }
-
--- a piece of the span, the first bytes of the rest
-pub record IsPiece (bs : List ℕ) (from to at len : ℕ) (piece : List ℕ) : Type 0 where
-  pub on : IsOn bs from to (at + len)
-  pub some : 0 < len
-  pub is : piece ≡ bytes_between bs at (at + len)
-  pub next : bytes_between bs from (at + len) ≡ bytes_between bs from at ++ piece
-  pub whole : bytes_between bs from to
-      ≡ bytes_between bs from at ++ (piece ++ bytes_between bs (at + len) to)
-  pub utf8 : IsUtf8 piece
-  pub apart : joins (bytes_between bs from at) piece ≡ false
-  pub before : joins (bytes_between bs from at) (piece ++ bytes_between bs (at + len) to) ≡ false
-  pub behind : joins piece (bytes_between bs (at + len) to) ≡ false
-
-is_piece : (bs piece : List ℕ) (from to at len : ℕ) → IsSpan bs from to → IsOn bs from to at
-    → IsCut bs from to at len piece → IsPiece bs from to at len piece
-is_piece bs piece from to at len h k c =
-    let end = at + len in
-    let a = bytes_between bs from at in
-    let z = bytes_between bs end to in
-    let order : at ≤ end = omega arith in
-    let rest : bytes_between bs at to ≡ piece ++ z =
-    between_split bs at end to order c.on.last ∙ ap (λ (x : List ℕ). x ++ z) (sym c.is) in
-    record {
-      on = c.on;
-      some = c.some;
-      is = c.is;
-      next =
-          between_split bs from at end k.first order ∙ ap (λ (x : List ℕ). a ++ x) (sym c.is);
-      whole = between_split bs from at to k.first k.last ∙ ap (λ (x : List ℕ). a ++ x) rest;
-      utf8 =
-          subst IsUtf8 (sym c.is)
-          (IsUtf8-between bs at end h.utf8 order k.seam.boundary c.on.seam.boundary);
-      apart = ap (joins a) c.is ∙ apart_between bs from at end k.first order k.seam;
-      before = ap (joins a) (sym rest) ∙ apart_between bs from at to k.first k.last k.seam;
-      behind =
-          ap (λ (x : List ℕ). joins x z) c.is
-          ∙ apart_between bs at end to order c.on.last c.on.seam;
-    }
-
-pub next_piece : (bs rest piece : List ℕ) (from to at len : ℕ) → IsSpan bs from to
-    → IsOn bs from to at → at < to → IsRest (drop at bs) rest → piece ≡ take (to - at) rest
-    → len ≡ length piece → IsPiece bs from to at len piece
-next_piece bs rest piece from to at len h k lt r is l =
-    is_piece bs piece from to at len h k
-    (⊎_elim
-    (λ (more : to - at < length rest).
-    cut_last bs rest piece from to at len h k lt r is l (omega arith))
-    (λ (all : length rest ≤ to - at). cut_all bs rest piece from to at len h k lt r is l all)
-    (cases_lt (to - at) (length rest)))
-
--- ---- writing a span
-
-pub piece_written : (bs piece old out new : List ℕ) (from to at len : ℕ)
-    → IsPiece bs from to at len piece → out ≡ old ++ bytes_between bs from at → new ≡ out ++ piece
-    → new ≡ old ++ bytes_between bs from (at + len)
-piece_written bs piece old out new from to at len h before e =
-    let a = bytes_between bs from at in
-    e ∙ ap (λ (x : List ℕ). x ++ piece) before ∙ append_assoc old a piece
-    ∙ ap (λ (x : List ℕ). old ++ x) (sym h.next)
-
--- ---- stripping a span
-
--- what is left after the piece
-pub piece_stripped : (bs piece whole rest new : List ℕ) (from to at len : ℕ)
-    → IsPiece bs from to at len piece → whole ≡ bytes_between bs from at ++ rest
-    → rest ≡ piece ++ new → whole ≡ bytes_between bs from (at + len) ++ new
-piece_stripped bs piece whole rest new from to at len h before e =
-    let a = bytes_between bs from at in
-    before ∙ ap (λ (x : List ℕ). a ++ x) e ∙ sym (append_assoc a piece new)
-    ∙ ap (λ (x : List ℕ). x ++ new) (sym h.next)
-
--- if all of the span came first, the piece would come next
-pub piece_comes : (bs piece whole rest more : List ℕ) (from to at len : ℕ)
-    → IsPiece bs from to at len piece → whole ≡ bytes_between bs from at ++ rest
-    → whole ≡ bytes_between bs from to ++ more
-    → rest ≡ piece ++ (bytes_between bs (at + len) to ++ more)
-piece_comes bs piece whole rest more from to at len h before all =
-    let a = bytes_between bs from at in
-    let z = bytes_between bs (at + len) to in
-    append_cancel_left a rest (piece ++ (z ++ more))
-    (sym before ∙ all ∙ ap (λ (x : List ℕ). x ++ more) h.whole
-    ∙ append_assoc a (piece ++ z) more
-    ∙ ap (λ (x : List ℕ). a ++ x) (append_assoc piece z more))
-
--- ---- taking its lines
-
-pub piece_taken : (bs piece left ahead new : List ℕ) (from to at len : ℕ)
-    → IsPiece bs from to at len piece → left ≡ with_feeds (bytes_between bs from at) ++ ahead
-    → ahead ≡ with_feeds piece ++ new → left ≡ with_feeds (bytes_between bs from (at + len)) ++ new
-piece_taken bs piece left ahead new from to at len h before e =
-    let a = bytes_between bs from at in
-    let feeds : with_feeds (bytes_between bs from (at + len)) ≡ with_feeds a ++ with_feeds piece =
-    ap with_feeds h.next ∙ feeds-joins a piece h.apart in
-    before ∙ ap (λ (x : List ℕ). with_feeds a ++ x) e
-    ∙ sym (append_assoc (with_feeds a) (with_feeds piece) new)
-    ∙ ap (λ (x : List ℕ). x ++ new) (sym feeds)
-
-pub piece_differs : (bs piece left ahead : List ℕ) (from to at len : ℕ)
-    → IsPiece bs from to at len piece → left ≡ with_feeds (bytes_between bs from at) ++ ahead
-    → BeginsOtherwise (with_feeds piece) ahead
-    → BeginsOtherwise (with_feeds (bytes_between bs from to)) left
-piece_differs bs piece left ahead from to at len h before apart more all =
-    let a = bytes_between bs from at in
-    let z = bytes_between bs (at + len) to in
-    let feeds : with_feeds (bytes_between bs from to)
-    ≡ with_feeds a ++ (with_feeds piece ++ with_feeds z) =
-    ap with_feeds h.whole ∙ feeds-joins a (piece ++ z) h.before
-    ∙ ap (λ (x : List ℕ). with_feeds a ++ x) (feeds-joins piece z h.behind) in
-    apart (with_feeds z ++ more)
-    (append_cancel_left (with_feeds a) ahead (with_feeds piece ++ (with_feeds z ++ more))
-    (sym before ∙ all ∙ ap (λ (x : List ℕ). x ++ more) feeds
-    ∙ append_assoc (with_feeds a) (with_feeds piece ++ with_feeds z) more
-    ∙ ap (λ (x : List ℕ). with_feeds a ++ x) (append_assoc (with_feeds piece) (with_feeds z) more)))
 
 -- ---- line ends before a place, in a table
 

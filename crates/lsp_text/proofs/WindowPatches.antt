@@ -10,7 +10,7 @@ use Rattle.lsp_text.specs.Windows.{text_with, IsWindowed, IsClosed}
 use Rattle.lsp_text.specs.declared.sums.Sums.{Sums}
 use Rattle.lsp_text.specs.declared.lined.patch.Patch.{Patch}
 use Rattle.lsp_text.specs.declared.lined.window.Windowed.{Windowed}
-use Rattle.lsp_text.proofs.WindowEdits.{NoWindow, held_apart, closed_text, replaced_tree}
+use Rattle.lsp_text.proofs.WindowEdits.{NoWindow, held_apart, replaced_tree}
 
 -- ---- a window is closed
 
@@ -29,27 +29,24 @@ patched_fits w text p h q is = omega (arith, h.fits, ap length (patched_tree w t
 
 -- ---- another text takes the place of all of it
 
-replaced_whole : (bs text : List ℕ) (n : ℕ) → n ≡ length bs → replace_range bs 0 n text ≡ text
-replaced_whole bs text n is =
-    ap (λ (x : List ℕ). text ++ x) (drop_all n bs (omega arith)) ∙ append-nil text
+replaced_whole : (bs text : List ℕ) → replace_range bs 0 (length bs) text ≡ text
+replaced_whole bs text =
+    ap (λ (x : List ℕ). text ++ x) (drop_all (length bs) bs (omega arith)) ∙ append-nil text
 
 -- a patch that puts it there makes this text
-renewed_tree : (w : Windowed) (text : List ℕ) (p : Patch) → IsWindowed w → IsClosed w
-    → IsPatch w.tree 0 w.sums.bytes text p → replace_range w.tree p.from p.to p.text.now ≡ text
-renewed_tree w text p h c q =
-    let len : w.sums.bytes ≡ length w.tree =
-    ap (λ (s : Sums). s.bytes) h.sums ∙ ap length (closed_text w c) in
-    q.same ∙ replaced_whole w.tree text w.sums.bytes len
+renewed_tree : (w : Windowed) (text : List ℕ) (p : Patch) → IsPatch w.tree 0 (length w.tree) text p
+    → replace_range w.tree p.from p.to p.text.now ≡ text
+renewed_tree w text p q = q.same ∙ replaced_whole w.tree text
 
-pub renewed_fits : (w : Windowed) (text : List ℕ) (p : Patch) → IsWindowed w → IsClosed w
-    → IsPatch w.tree 0 w.sums.bytes text p → length text < 2 ^ 64
+pub renewed_fits : (w : Windowed) (text : List ℕ) (p : Patch)
+    → IsPatch w.tree 0 (length w.tree) text p → length text < 2 ^ 64
     → length (replace_range w.tree p.from p.to p.text.now) < 2 ^ 64
-renewed_fits w text p h c q fits = omega (arith, fits, ap length (renewed_tree w text p h c q))
+renewed_fits w text p q fits = omega (arith, fits, ap length (renewed_tree w text p q))
 
 pub renewed : (w : Windowed) (text tree : List ℕ) (sums : Sums) (p : Patch) → IsWindowed w
-    → IsClosed w → IsPatch w.tree 0 w.sums.bytes text p
+    → IsClosed w → IsPatch w.tree 0 (length w.tree) text p
     → tree ≡ replace_range w.tree p.from p.to p.text.now → sums ≡ sums_of tree → IsUtf8 text
     → length text < 2 ^ 64 - 1
     → NoWindow tree w.window w.before w.skipped sums w.same_front w.same_back text
 renewed w text tree sums p h c q made counted u fits =
-    held_apart w text tree sums h c (made ∙ renewed_tree w text p h c q) counted u fits
+    held_apart w text tree sums h c (made ∙ renewed_tree w text p q) counted u fits

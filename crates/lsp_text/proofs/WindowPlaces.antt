@@ -1,9 +1,9 @@
 -- Places of a text of which a window holds some bytes, and the text as it is read on.
 use Rattle.std.proofs.Common.{◌≡◌, ◌<◌, ◌≤◌, ◌+◌, ◌-◌, ◌^◌, ℕ, false, List, [], ◌++◌, length}
-use Rattle.std.proofs.Common.{take, drop, Option, Some, None, MatchOption, refl, sym, ap, subst}
+use Rattle.std.proofs.Common.{take, drop, Option, Some, None, MatchOption, refl, sym, ap, ap₂, subst}
 use Rattle.std.proofs.Common.{inl, inr, ◌∙◌, arith, length-append, length-drop, append_assoc, take-add}
 use Rattle.std.proofs.lemmas.Bool.{and_right}
-use Rattle.std.proofs.lemmas.List.{append-nil, append_cancel_left, take_all, drop_all}
+use Rattle.std.proofs.lemmas.List.{append-nil, take_all, drop_all}
 use Rattle.std.proofs.lemmas.List.{drop-drop, drop-append-le}
 use Rattle.std.proofs.Math.Seq.{drop-append-add}
 use Rattle.std.specs.Str.{chars, IsUtf8, IsCharBoundary}
@@ -15,7 +15,6 @@ use Rattle.lsp_text.specs.Places.{units, place_in_line}
 use Rattle.lsp_text.specs.Offsets.{IsOffset}
 use Rattle.lsp_text.specs.Ends.{ends_with_return, joins, IsNear, IsRest}
 use Rattle.lsp_text.specs.Sums.{sums_of, amount_in}
-use Rattle.lsp_text.specs.SameText.{with_feeds, BeginsOtherwise}
 use Rattle.lsp_text.specs.Parts.{bytes_between, IsSeam, IsSpan}
 use Rattle.lsp_text.specs.Windows.{text_with, pieces_of, IsWindowed}
 use Rattle.lsp_text.specs.declared.sums.Sums.{Sums}
@@ -25,7 +24,6 @@ use Rattle.lsp_text.proofs.Counting.{units-append, units-utf8_text}
 use Rattle.lsp_text.proofs.LentPlaces.{far_offset, far_none}
 use Rattle.lsp_text.proofs.PartEdits.{units_fit}
 use Rattle.lsp_text.proofs.Parts.{IsUtf8-joined}
-use Rattle.lsp_text.proofs.PartLines.{feeds-joins}
 use Rattle.lsp_text.proofs.PartPlaces.{amount-units, near-append, place-front, offset-inside}
 use Rattle.lsp_text.proofs.PartPlaces.{no_offset-inside, units-inside, drop-inside}
 use Rattle.lsp_text.proofs.PartPlaces.{FallsIn}
@@ -465,9 +463,9 @@ pub record AreSpans (w : Windowed) (len : ℕ) : Type 0 where
   pub second : IsSpan w.tree w.skipped.bytes len
   pub text : text_with w ≡ bytes_between w.tree 0 w.before.bytes
       ++ (w.window ++ bytes_between w.tree w.skipped.bytes len)
-  pub feeds : with_feeds (text_with w)
-      ≡ with_feeds (bytes_between w.tree 0 w.before.bytes)
-      ++ (with_feeds w.window ++ with_feeds (bytes_between w.tree w.skipped.bytes len))
+  pub apart : joins (bytes_between w.tree 0 w.before.bytes)
+      (w.window ++ bytes_between w.tree w.skipped.bytes len) ≡ false
+  pub window_apart : joins w.window (bytes_between w.tree w.skipped.bytes len) ≡ false
 
 pub spans : (w : Windowed) (len : ℕ) → IsWindowed w → len ≡ length w.tree → AreSpans w len
 spans w len h is =
@@ -486,10 +484,8 @@ spans w len h is =
       apart =
           ap (joins (take (length t) t)) nothing
           ∙ and_right (ends_with_return false (take (length t) t)) false refl;
-    } in
-    let feeds : with_feeds (a ++ (p ++ c)) ≡ with_feeds a ++ (with_feeds p ++ with_feeds c) =
-    feeds-joins a (p ++ c) v.front.back_apart
-    ∙ ap (λ (x : List ℕ). with_feeds a ++ x) (feeds-joins p c v.window.back_apart) in
+    }
+    in
     record {
       first =
           record {
@@ -510,46 +506,7 @@ spans w len h is =
       text =
           v.text ∙ ap (λ (x : List ℕ). x ++ (p ++ c)) (sym before)
           ∙ ap (λ (x : List ℕ). bytes_between t 0 w.before.bytes ++ (p ++ x)) (sym after);
-      feeds =
-          ap with_feeds v.text ∙ feeds
-          ∙ ap (λ (x : List ℕ). with_feeds x ++ (with_feeds p ++ with_feeds c)) (sym before)
-          ∙ ap (λ (x : List ℕ). with_feeds (bytes_between t 0 w.before.bytes)
-          ++ (with_feeds p ++ with_feeds x)) (sym after);
+      apart =
+          ap₂ (λ (x y : List ℕ). joins x (p ++ y)) before after ∙ v.front.back_apart;
+      window_apart = ap (joins p) after ∙ v.window.back_apart;
     }
-
--- three texts after another, of which each was found
-pub all_written : (t f g z old one two three : List ℕ) → t ≡ f ++ (g ++ z) → one ≡ old ++ f
-    → two ≡ one ++ g → three ≡ two ++ z → three ≡ old ++ t
-all_written t f g z old one two three is h k l =
-    l ∙ ap (λ (x : List ℕ). x ++ z) (k ∙ ap (λ (x : List ℕ). x ++ g) h)
-    ∙ append_assoc (old ++ f) g z ∙ append_assoc old f (g ++ z)
-    ∙ ap (λ (x : List ℕ). old ++ x) (sym is)
-
-pub first_differs : (t f g z whole : List ℕ) → t ≡ f ++ (g ++ z) → BeginsOtherwise f whole
-    → BeginsOtherwise t whole
-first_differs t f g z whole is apart more all =
-    apart ((g ++ z) ++ more)
-    (all ∙ ap (λ (x : List ℕ). x ++ more) is ∙ append_assoc f (g ++ z) more)
-
-pub second_differs : (t f g z whole rest : List ℕ) → t ≡ f ++ (g ++ z) → whole ≡ f ++ rest
-    → BeginsOtherwise g rest → BeginsOtherwise t whole
-second_differs t f g z whole rest is h apart more all =
-    apart (z ++ more)
-    (append_cancel_left f rest (g ++ (z ++ more))
-    (sym h ∙ all ∙ ap (λ (x : List ℕ). x ++ more) is ∙ append_assoc f (g ++ z) more
-    ∙ ap (λ (x : List ℕ). f ++ x) (append_assoc g z more)))
-
-pub third_found : {X : Type 0} (left : X → List ℕ) (t f g z whole rest ahead : List ℕ)
-    (r : Option X) → t ≡ f ++ (g ++ z) → whole ≡ f ++ rest → rest ≡ g ++ ahead
-    → MatchOption r (BeginsOtherwise z ahead) (λ x. ahead ≡ z ++ left x)
-    → MatchOption r (BeginsOtherwise t whole) (λ x. whole ≡ t ++ left x)
-third_found {X = X} left t f g z whole rest ahead None is h k apart =
-    λ more all. apart more
-    (append_cancel_left g ahead (z ++ more) (sym k
-    ∙ append_cancel_left f rest (g ++ (z ++ more))
-    (sym h ∙ all ∙ ap (λ (x : List ℕ). x ++ more) is ∙ append_assoc f (g ++ z) more
-    ∙ ap (λ (x : List ℕ). f ++ x) (append_assoc g z more))))
-third_found {X = X} left t f g z whole rest ahead (Some x) is h k l =
-    h ∙ ap (λ (y : List ℕ). f ++ y) (k ∙ ap (λ (y : List ℕ). g ++ y) l)
-    ∙ ap (λ (y : List ℕ). f ++ y) (sym (append_assoc g z (left x)))
-    ∙ sym (append_assoc f (g ++ z) (left x)) ∙ ap (λ (y : List ℕ). y ++ left x) (sym is)

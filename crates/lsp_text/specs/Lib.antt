@@ -21,3 +21,4 @@ pub mod Trees
 pub mod Patches
 pub mod Windows
 pub mod LentLines
+pub mod Walks

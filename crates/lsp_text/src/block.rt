@@ -16,9 +16,11 @@ ghost use Rattle.lsp_text.specs.Parts.{IsCutPlace};
 
 use crate::columns::offset_in_counted;
 use crate::ends::{end_len_before, is_whole, move_places, places_of, places_up_to};
-use crate::part::{LineEnd, Part};
+use crate::part::{LineEnd, Part, SharedPart};
 use crate::reading::width_of;
+use crate::stretches::same_back;
 use crate::sums::{Measure, Sums};
+use crate::walk::Visitor;
 use lsp_types::Encoding;
 use std::alloc::{AllocError, Global};
 use std::marker::Model;
@@ -72,12 +74,6 @@ impl Part for Block {
         held.sums
     }
 
-    fn share(&self) -> Result<Block, AllocError> {
-        Ok(Block {
-            text: self.text.clone()?,
-        })
-    }
-
     fn line_end(&self, n: u64) -> LineEnd<'_> {
         let held: &BlockText = &self.text;
         let text = held.text.as_str();
@@ -123,6 +119,25 @@ impl Part for Block {
     fn rest_of_block(&self, offset: usize) -> &str {
         let (_, rest) = self.as_str().split_at(offset);
         rest
+    }
+
+    fn walk<V: Visitor>(&self, from: usize, to: usize, visitor: &mut V) -> Result<(), V::Stop> {
+        let (front, _) = self.as_str().split_at(to);
+        let (_, piece) = front.split_at(from);
+        visitor.visit(piece)
+    }
+
+    fn same_back(&self, from: usize, other: &str) -> usize {
+        let (_, rest) = self.as_str().split_at(from);
+        same_back(rest, other)
+    }
+}
+
+impl SharedPart for Block {
+    fn share(&self) -> Result<Block, AllocError> {
+        Ok(Block {
+            text: self.text.clone()?,
+        })
     }
 
     fn replace(&mut self, from: usize, to: usize, inserted: &str) -> Result<bool, AllocError> {

@@ -7,10 +7,12 @@ ghost use Rattle.lsp_text.specs.Parts.{joined, MakeUp, AreKept, CanReplace, CanR
 ghost use Rattle.lsp_text.specs.Chunks.{TakesOr};
 
 use crate::part::{
-    LineEnd, Part, ends_before_in, find, find_before, line_end_in, offset_in, replace_in,
-    replace_in_parts, rest_in, share_into, sums_in, units_before_in,
+    LineEnd, Part, SharedPart, ends_before_in, find, find_before, line_end_in, offset_in,
+    replace_in, replace_in_parts, rest_in, same_back_in, share_into, sums_in, units_before_in,
+    walk_in,
 };
 use crate::sums::{Measure, Sums};
+use crate::walk::Visitor;
 use lsp_types::Encoding;
 use std::alloc::{AllocError, Global};
 use std::marker::Model;
@@ -24,13 +26,13 @@ const MOST: usize = 16;
 
 /// Some parts, one after another, and the sums of their text.
 #[derive(Drop)]
-struct Parts<T: Part> {
+struct Parts<T: SharedPart> {
     items: Vec<T>,
     sums: Sums,
     alloc: Global,
 }
 
-impl<T: Part> Clone for Parts<T> {
+impl<T: SharedPart> Clone for Parts<T> {
     ghost is_clone = { λ old copy. (copy.items.items ≡ old.items.items)
         × (copy.sums ≡ old.sums) };
 
@@ -47,11 +49,11 @@ impl<T: Part> Clone for Parts<T> {
 
 /// Some parts of a text, which texts share. It is one pointer, so that tables of chunks are short.
 #[derive(Drop)]
-pub(crate) struct Chunk<T: Part> {
+pub(crate) struct Chunk<T: SharedPart> {
     parts: Rc<Parts<T>>,
 }
 
-impl<T: Part> Model for Chunk<T> {
+impl<T: SharedPart> Model for Chunk<T> {
     ghost use Rattle.std.specs.Prelude.{List, ℕ, map};
     ghost use Rattle.lsp_text.specs.Parts.{joined};
     ghost use Rattle.lsp_text.specs.Chunks.{IsChunk};
@@ -64,18 +66,12 @@ impl<T: Part> Model for Chunk<T> {
         a.parts.value.sums };
 }
 
-impl<T: Part> Part for Chunk<T> {
+impl<T: SharedPart> Part for Chunk<T> {
     ghost text = { λ bytes. bytes };
 
     fn sums(&self) -> Sums {
         let parts: &Parts<T> = &self.parts;
         parts.sums
-    }
-
-    fn share(&self) -> Result<Chunk<T>, AllocError> {
-        Ok(Chunk {
-            parts: self.parts.clone()?,
-        })
     }
 
     fn line_end(&self, n: u64) -> LineEnd<'_> {
@@ -96,6 +92,22 @@ impl<T: Part> Part for Chunk<T> {
 
     fn rest_of_block(&self, offset: usize) -> &str {
         rest_in(held(&self.parts), offset)
+    }
+
+    fn walk<V: Visitor>(&self, from: usize, to: usize, visitor: &mut V) -> Result<(), V::Stop> {
+        walk_in(held(&self.parts), from, to, visitor)
+    }
+
+    fn same_back(&self, from: usize, other: &str) -> usize {
+        same_back_in(held(&self.parts), from, other)
+    }
+}
+
+impl<T: SharedPart> SharedPart for Chunk<T> {
+    fn share(&self) -> Result<Chunk<T>, AllocError> {
+        Ok(Chunk {
+            parts: self.parts.clone()?,
+        })
     }
 
     fn replace(&mut self, from: usize, to: usize, inserted: &str) -> Result<bool, AllocError> {
@@ -126,7 +138,14 @@ impl<T: Part> Part for Chunk<T> {
     }
 }
 
-impl<T: Part> Chunk<T> {
+impl<T: SharedPart> Chunk<T> {
+    /// A text in one chunk, however many parts that has.
+    pub(crate) fn whole(alloc: Global, text: &str) -> Result<Chunk<T>, AllocError>
+        ensures { IfOk result (λ chunk. chunk ≡ text.now) }
+    {
+        Chunk::of(alloc, &T::cut(alloc, text)?)
+    }
+
     /// Replaces some bytes by a text, in as many parts as that takes.
     pub(crate) fn edit(&mut self, from: usize, to: usize, text: &str) -> Result<(), AllocError>
         requires can { CanReplace self.old from to }
@@ -140,7 +159,7 @@ impl<T: Part> Chunk<T> {
     }
 
     /// A chunk of some parts, each held by one more.
-    pub(crate) fn of(alloc: Global, parts: &[T]) -> Result<Chunk<T>, AllocError>
+    fn of(alloc: Global, parts: &[T]) -> Result<Chunk<T>, AllocError>
         requires { AreKept (map T.text parts.now) }
         ensures { IfOk result (λ chunk. chunk ≡ joined (map T.text parts.now)) }
     {
@@ -158,7 +177,7 @@ impl<T: Part> Chunk<T> {
 }
 
 /// The parts that others may hold too.
-fn held<T: Part>(shared: &Rc<Parts<T>>) -> &[T]
+fn held<T: SharedPart>(shared: &Rc<Parts<T>>) -> &[T]
     ensures { result.now ≡ shared.now.value.items.items }
 {
     let parts: &Parts<T> = shared;
@@ -167,7 +186,7 @@ fn held<T: Part>(shared: &Rc<Parts<T>>) -> &[T]
 
 /// Replaces some bytes of one part by a text, if that has room, in parts of its own.
 /// Answers whether it did.
-fn replace_shared<T: Part>(
+fn replace_shared<T: SharedPart>(
     shared: &mut Rc<Parts<T>>,
     from: usize,
     to: usize,
@@ -192,7 +211,7 @@ fn replace_shared<T: Part>(
 }
 
 /// Puts parts in chunks.
-pub(crate) fn chunks_of<T: Part>(alloc: Global, parts: &[T]) -> Result<Vec<Chunk<T>>, AllocError>
+fn chunks_of<T: SharedPart>(alloc: Global, parts: &[T]) -> Result<Vec<Chunk<T>>, AllocError>
     requires { AreKept (map T.text parts.now) }
     ensures { IfOk result (λ chunks. MakeUp chunks.items (joined (map T.text parts.now))) }
 {
@@ -210,7 +229,7 @@ pub(crate) fn chunks_of<T: Part>(alloc: Global, parts: &[T]) -> Result<Vec<Chunk
 /// The first bytes of some parts, a text, and the bytes of some parts from one on, in parts. The
 /// part before the first cut and the one after the second are cut again with the text, so that no
 /// CR and LF are kept apart.
-fn recut<T: Part>(
+fn recut<T: SharedPart>(
     alloc: Global,
     head: &[T],
     from: usize,

@@ -30,6 +30,7 @@ mod same;
 mod store;
 mod stretches;
 mod sums;
+mod walk;
 
 pub use changes::{change, change_all};
 pub use columns::offset_in_line;

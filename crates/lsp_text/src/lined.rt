@@ -10,8 +10,7 @@
 //! again from the one before the edit to the one after it, so that a CR and a LF that it joins are
 //! in one block.
 //!
-//! A text of at most 2 KB is one block, with no chunks, until an edit finds no room in it. One of
-//! at most 32 KB is one chunk, until an edit finds no room for its blocks in it.
+//! A text of at most 2 KB is one block, with no chunks, until an edit finds no room in it.
 //!
 //! Editors mostly make one edit near another. From the second of these on, they are made in a
 //! *window*: a short block apart from the chunks, which replaces some of their bytes. The chunks
@@ -26,7 +25,9 @@
 //! ```text
 //!   Lines           2 ends, 4995 bytes, and no window
 //!     |
-//!   chunk           the sums of its blocks
+//!   large chunk     the sums of its chunks: 8 at first, at most 16
+//!     |
+//!   chunk           the sums of its blocks: as many
 //!     |-- block   "a" CR LF "xx..x"   1 end, up to place 3        line 0, and where line 1 begins
 //!     |-- block   "xx..x"             no end                      all of it in line 1
 //!     `-- block   "xx..x" LF "b"      1 end                       where line 1 ends, and line 2

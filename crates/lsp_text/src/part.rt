@@ -1,22 +1,21 @@
 //! Parts of a text, one after another: the blocks of a chunk, and the chunks of a text.
 
 ghost use Rattle.std.specs.Prelude.{◌≡◌, ◌+◌, ◌-◌, ◌<◌, ◌≤◌, ◌^◌, ◌++◌, ℕ, List, length, take, map};
-ghost use Rattle.std.specs.Prelude.{drop, false, None, MatchOption, IfSome, IfOk, OnOk, OnErr};
+ghost use Rattle.std.specs.Prelude.{drop, None, MatchOption, IfSome, IfOk, OnOk, OnErr};
 ghost use Rattle.std.specs.List.{replace_range, splice};
 ghost use Rattle.std.specs.Str.{chars, IsUtf8, IsCharBoundary};
-ghost use Rattle.std.specs.String.{string_bytes};
 ghost use Rattle.lsp_text.specs.Places.{units, place_in_line};
 ghost use Rattle.lsp_text.specs.Offsets.{IsOffset};
 ghost use Rattle.lsp_text.specs.Ends.{ends_in, IsLineEnd, IsRest};
 ghost use Rattle.lsp_text.specs.Sums.{sums_of};
-ghost use Rattle.lsp_text.specs.SameText.{BeginsOtherwise, due, with_feeds};
+ghost use Rattle.lsp_text.specs.Parting.{AreSameFrom};
+ghost use Rattle.lsp_text.specs.Walks.{IsInOrder};
 ghost use Rattle.lsp_text.specs.Parts.{joined, MakeUp, AreParts, CanReplace, IsReplacedOr};
 ghost use Rattle.lsp_text.specs.Parts.{CanReplaceIn, IsReplacedIn, IsReplacedInOr, IsFound};
 ghost use Rattle.lsp_text.specs.Parts.{IsFoundBefore, IsSpot, IsSeam, IsSpan, bytes_between};
 
-use crate::same::{LinesLeft, take_lines};
-use crate::stretches::after_front;
 use crate::sums::{Measure, Sums};
+use crate::walk::Visitor;
 use lsp_types::Encoding;
 use std::alloc::{AllocError, Global};
 
@@ -39,10 +38,6 @@ pub(crate) trait Part: Drop {
     fn sums(&self) -> Sums
         ensures sums { result ≡ sums_of (text self.now) }
         ensures utf8 { IsUtf8 (text self.now) };
-
-    /// The same part, held by one more.
-    fn share(&self) -> Result<Self, AllocError>
-        ensures { IfOk result (λ part. part ≡ self.now) };
 
     /// Its line end `n`, of which there are more.
     fn line_end(&self, n: u64) -> LineEnd<'_>
@@ -70,18 +65,44 @@ pub(crate) trait Part: Drop {
         requires { IsCharBoundary (text self.now) offset }
         ensures { IsRest (drop offset (text self.now)) result.now };
 
+    /// Has a visitor see the bytes from one place to another, block by block.
+    ///
+    /// # Errors
+    /// Why the visitor stopped.
+    fn walk<V: Visitor>(&self, from: usize, to: usize, visitor: &mut V) -> Result<(), V::Stop>
+        requires order { IsInOrder V.sees V.stops }
+        requires span { IsSpan (text self.now) from to }
+        ensures ok { OnOk result
+            (V.sees visitor.old (bytes_between (text self.now) from to) visitor.new) }
+        ensures err { OnErr result
+            (V.stops visitor.old (bytes_between (text self.now) from to) visitor.new) };
+
+    /// How many bytes at its end, after a place, a text ends with too. They begin with a whole
+    /// character.
+    fn same_back(&self, from: usize, other: &str) -> usize
+        requires { IsCharBoundary (text self.now) from }
+        ensures same { AreSameFrom (text self.now) other.now result }
+        ensures within { from + result ≤ length (text self.now) };
+}
+
+/// A part that texts share, and that edits replace and cut.
+pub(crate) trait SharedPart: Part {
+    /// The same part, held by one more.
+    fn share(&self) -> Result<Self, AllocError>
+        ensures { IfOk result (λ part. part ≡ self.now) };
+
     /// Replaces some bytes by a text, in a part of its own, if it has room. Answers
     /// whether it did.
     fn replace(&mut self, from: usize, to: usize, inserted: &str) -> Result<bool, AllocError>
-        requires can { CanReplace (text self.old) from to }
-        requires fits { length (replace_range (text self.old) from to inserted.now) < 2 ^ 64 }
+        requires can { CanReplace (Self.text self.old) from to }
+        requires fits { length (replace_range (Self.text self.old) from to inserted.now) < 2 ^ 64 }
         ensures ok { IfOk result
-            (IsReplacedOr (text self.old) from to inserted.now (text self.new)) }
-        ensures err { OnErr result (text self.new ≡ text self.old) };
+            (IsReplacedOr (Self.text self.old) from to inserted.now (Self.text self.new)) }
+        ensures err { OnErr result (Self.text self.new ≡ Self.text self.old) };
 
     /// A text in parts.
     fn cut(alloc: Global, whole: &str) -> Result<Vec<Self>, AllocError>
-        ensures { IfOk result (λ parts. MakeUp (map text parts.items) whole.now) };
+        ensures { IfOk result (λ parts. MakeUp (map Self.text parts.items) whole.now) };
 
     /// The first bytes of a part, a text, and the bytes of a part from one on, in parts.
     fn between(
@@ -92,12 +113,13 @@ pub(crate) trait Part: Drop {
         last: &Self,
         to: usize,
     ) -> Result<Vec<Self>, AllocError>
-        requires from { IsCharBoundary (text first.now) from }
-        requires to { IsCharBoundary (text last.now) to }
-        requires fits { length ((take from (text first.now) ++ inserted.now)
-            ++ drop to (text last.now)) < 2 ^ 64 }
-        ensures { IfOk result (λ parts. MakeUp (map text parts.items)
-            ((take from (text first.now) ++ inserted.now) ++ drop to (text last.now))) };
+        requires from { IsCharBoundary (Self.text first.now) from }
+        requires to { IsCharBoundary (Self.text last.now) to }
+        requires fits { length ((take from (Self.text first.now) ++ inserted.now)
+            ++ drop to (Self.text last.now)) < 2 ^ 64 }
+        ensures { IfOk result (λ parts. MakeUp (map Self.text parts.items)
+            ((take from (Self.text first.now) ++ inserted.now)
+            ++ drop to (Self.text last.now))) };
 }
 
 /// A part in which a number of some measure falls: its index, the bytes before it, and what is left
@@ -179,7 +201,7 @@ pub(crate) fn spot_in<T: Part>(parts: &[T], from: usize, to: usize) -> Option<Sp
 
 /// Replaces some bytes of one part by a text, if the edit stays in one that has room.
 /// Answers the new sums if it did.
-pub(crate) fn replace_in<T: Part>(
+pub(crate) fn replace_in<T: SharedPart>(
     parts: &mut Vec<T>,
     sums: Sums,
     from: usize,
@@ -204,7 +226,7 @@ pub(crate) fn replace_in<T: Part>(
 }
 
 /// Replaces some bytes of parts by a text, in one part where it can. Answers the sums of all.
-pub(crate) fn replace_in_parts<T: Part>(
+pub(crate) fn replace_in_parts<T: SharedPart>(
     alloc: Global,
     parts: &mut Vec<T>,
     sums: Sums,
@@ -224,7 +246,7 @@ pub(crate) fn replace_in_parts<T: Part>(
 }
 
 /// The same with parts that are cut again.
-fn rebuild<T: Part>(
+fn rebuild<T: SharedPart>(
     alloc: Global,
     parts: &mut Vec<T>,
     from: usize,
@@ -252,7 +274,7 @@ fn rebuild<T: Part>(
 }
 
 /// Replaces by parts those from `first` up to `end`.
-fn put<T: Part>(
+fn put<T: SharedPart>(
     parts: &mut Vec<T>,
     first: usize,
     end: usize,
@@ -355,8 +377,63 @@ pub(crate) fn rest_in<T: Part>(parts: &[T], offset: usize) -> &str
     parts[found.index].rest_of_block(found.left as usize)
 }
 
+/// Has a visitor see the bytes of parts from one place to another, in order.
+pub(crate) fn walk_in<T: Part, V: Visitor>(
+    parts: &[T],
+    from: usize,
+    to: usize,
+    visitor: &mut V,
+) -> Result<(), V::Stop>
+    requires order { IsInOrder V.sees V.stops }
+    requires parts { AreParts (map T.text parts.now) }
+    requires some { 0 < length parts.now }
+    requires span { IsSpan (joined (map T.text parts.now)) from to }
+    ensures ok { OnOk result
+        (V.sees visitor.old (bytes_between (joined (map T.text parts.now)) from to) visitor.new) }
+    ensures err { OnErr result
+        (V.stops visitor.old (bytes_between (joined (map T.text parts.now)) from to) visitor.new) }
+{
+    let found = find(parts, Measure::Units(Encoding::Utf8), from as u64);
+    let mut index = found.index;
+    let mut start = found.bytes;
+    let mut at = from;
+    while at < to {
+        let part = &parts[index];
+        let len = part.sums().bytes as usize;
+        let last = len.min(to - start);
+        part.walk(at - start, last, visitor)?;
+        at = start + last;
+        start += len;
+        index += 1;
+    }
+    Ok(())
+}
+
+/// How many bytes at the end of parts, after a place, a text ends with too. They begin with a whole
+/// character.
+pub(crate) fn same_back_in<T: Part>(parts: &[T], from: usize, other: &str) -> usize
+    requires parts { AreParts (map T.text parts.now) }
+    requires fits { length (joined (map T.text parts.now)) < 2 ^ 64 }
+    requires boundary { IsCharBoundary (joined (map T.text parts.now)) from }
+    ensures same { AreSameFrom (joined (map T.text parts.now)) other.now result }
+    ensures within { from + result ≤ length (joined (map T.text parts.now)) }
+{
+    let len = sums_in(parts).bytes as usize;
+    let mut index = parts.len();
+    let mut start = len;
+    let mut same = 0;
+    while from < start && same == len - start {
+        index -= 1;
+        let size = parts[index].sums().bytes as usize;
+        start -= size;
+        let (front, _) = other.split_at(other.len() - same);
+        same += parts[index].same_back(from.saturating_sub(start), front);
+    }
+    same
+}
+
 /// Puts the same parts after others, each held by one more.
-pub(crate) fn share_into<T: Part>(to: &mut Vec<T>, parts: &[T]) -> Result<(), AllocError>
+pub(crate) fn share_into<T: SharedPart>(to: &mut Vec<T>, parts: &[T]) -> Result<(), AllocError>
     ensures { OnOk result (to.new.items ≡ to.old.items ++ parts.now) }
 {
     to.reserve(parts.len())?;
@@ -376,70 +453,4 @@ pub(crate) fn first_bytes(text: &str, most: usize) -> &str
     }
     let (front, _) = text.split_at(most);
     front
-}
-
-/// Writes the bytes of a part from one place to another after a text.
-pub(crate) fn push_between<T: Part>(
-    part: &T,
-    from: usize,
-    to: usize,
-    out: &mut String,
-) -> Result<(), AllocError>
-    requires { IsSpan (T.text part.now) from to }
-    ensures { OnOk result (string_bytes out.new ≡ string_bytes out.old
-        ++ bytes_between (T.text part.now) from to) }
-{
-    let mut at = from;
-    while at < to {
-        let piece = first_bytes(part.rest_of_block(at), to - at);
-        out.push_str(piece)?;
-        at += piece.len();
-    }
-    Ok(())
-}
-
-/// What comes after the bytes of a part from one place to another in a text that begins with them.
-pub(crate) fn strip_between<'a, T: Part>(
-    part: &T,
-    from: usize,
-    to: usize,
-    whole: &'a str,
-) -> Option<&'a str>
-    requires { IsSpan (T.text part.now) from to }
-    ensures { MatchOption result
-        (BeginsOtherwise (bytes_between (T.text part.now) from to) whole.now)
-        (λ rest. whole.now ≡ bytes_between (T.text part.now) from to ++ rest.now) }
-{
-    let mut at = from;
-    let mut rest = whole;
-    while at < to {
-        let piece = first_bytes(part.rest_of_block(at), to - at);
-        rest = after_front(rest, piece)?;
-        at += piece.len();
-    }
-    Some(rest)
-}
-
-/// What is left of a text after the lines of a part from one place to another, if it begins with
-/// them.
-pub(crate) fn take_between<'a, T: Part>(
-    part: &T,
-    from: usize,
-    to: usize,
-    left: LinesLeft<'a>,
-) -> Option<LinesLeft<'a>>
-    requires { IsSpan (T.text part.now) from to }
-    ensures { MatchOption result
-        (BeginsOtherwise (with_feeds (bytes_between (T.text part.now) from to)) (due left.entry))
-        (λ next. due left.entry
-        ≡ with_feeds (bytes_between (T.text part.now) from to) ++ due next) }
-{
-    let mut at = from;
-    let mut ahead = left;
-    while at < to {
-        let piece = first_bytes(part.rest_of_block(at), to - at);
-        ahead = take_lines(ahead, piece)?;
-        at += piece.len();
-    }
-    Some(ahead)
 }

@@ -21,6 +21,7 @@ use crate::columns::offset_in_line;
 use crate::lined::window::Windowed;
 use crate::same::{LinesLeft, is_taken, without_last_end};
 use crate::sums::Measure;
+use crate::walk::{Differs, Front};
 use lsp_types::{Encoding, Position};
 use std::alloc::{AllocError, Global};
 use std::marker::Model;
@@ -156,9 +157,10 @@ impl Lines {
         ensures value { IsTrue result ↔ (self.now ≡ text.now) }
         ensures utf8 { IsUtf8 self.now }
     {
-        match self.held.strip(text) {
-            Some(rest) => rest.is_empty(),
-            None => false,
+        let mut front = Front { rest: text };
+        match self.held.walk(&mut front) {
+            Ok(()) => front.rest.is_empty(),
+            Err(Differs) => false,
         }
     }
 
@@ -172,7 +174,11 @@ impl Lines {
             return true;
         }
         let whole = without_last_end(text);
-        is_taken(self.held.take_lines(LinesLeft::Rest(whole)), whole)
+        let mut left = LinesLeft::Rest(whole);
+        match self.held.walk(&mut left) {
+            Ok(()) => is_taken(Some(left), whole),
+            Err(Differs) => false,
+        }
     }
 
     /// The text of the lines, in a `String` of its own.
@@ -180,7 +186,7 @@ impl Lines {
         ensures { IfOk result (λ text. string_bytes text ≡ self.now) }
     {
         let mut text = String::with_capacity(alloc, self.held.sums.bytes as usize)?;
-        self.held.push_to(&mut text)?;
+        self.held.walk(&mut text)?;
         Ok(text)
     }
 

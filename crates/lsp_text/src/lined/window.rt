@@ -14,19 +14,18 @@ ghost use Rattle.lsp_text.specs.Places.{units, place_in_line};
 ghost use Rattle.lsp_text.specs.Offsets.{IsOffset};
 ghost use Rattle.lsp_text.specs.Ends.{ends_in, IsLineEnd, IsNear};
 ghost use Rattle.lsp_text.specs.Sums.{sums_of};
-ghost use Rattle.lsp_text.specs.SameText.{BeginsOtherwise, due, with_feeds};
+ghost use Rattle.lsp_text.specs.Walks.{IsInOrder};
 ghost use Rattle.lsp_text.specs.Parts.{IsSeam, IsSpan, CanReplace, bytes_between};
 ghost use Rattle.lsp_text.specs.Patches.{IsPatch, AreSameEndsOf};
 ghost use Rattle.lsp_text.specs.Windows.{text_with, moved_end, nearer_end, IsWindowed, IsClosed};
 ghost use Rattle.lsp_text.specs.Windows.{CanEdit, HoldsText, HoldsTextOr, HoldsRenewedOr};
 
 use crate::block::Block;
-use crate::lined::patch::Patch;
+use crate::lined::patch::{Patch, patch_to};
 use crate::lined::tree::{SHORT, Tree};
-use crate::part::{LineEnd, Part, first_bytes};
-use crate::same::{LinesLeft, take_lines};
-use crate::stretches::after_front;
+use crate::part::{LineEnd, Part, SharedPart, first_bytes};
 use crate::sums::{Measure, Sums};
+use crate::walk::Visitor;
 use lsp_types::Encoding;
 use std::alloc::{AllocError, Global};
 
@@ -113,7 +112,7 @@ impl Windowed {
             return Ok(false);
         }
         self.close()?;
-        let patch = self.tree.patch_to(0, self.sums.bytes as usize, text);
+        let patch = patch_to(&self.tree, text);
         if patch.text.len() > text.len() / 2 {
             return Ok(false);
         }
@@ -252,7 +251,7 @@ impl Windowed {
             return Ok(false);
         }
         let mut text = String::with_capacity(self.alloc, end - start)?;
-        self.tree.push_between(start, end, &mut text)?;
+        self.tree.walk(start, end, &mut text)?;
         let window = Block::new(self.alloc, text.as_str())?;
         self.before = sums_before(&self.tree, start);
         self.skipped = self.before.with(window.sums());
@@ -352,47 +351,23 @@ impl Windowed {
             .rest_of_block(place - len + self.skipped.bytes as usize)
     }
 
-    /// Writes the text after another.
-    pub(super) fn push_to(&self, out: &mut String) -> Result<(), AllocError>
-        requires { IsWindowed self.now }
-        ensures { OnOk result (string_bytes out.new ≡ string_bytes out.old ++ text_with self.now) }
+    /// Has a visitor see the text.
+    ///
+    /// # Errors
+    /// Why the visitor stopped.
+    pub(super) fn walk<V: Visitor>(&self, visitor: &mut V) -> Result<(), V::Stop>
+        requires order { IsInOrder V.sees V.stops }
+        requires held { IsWindowed self.now }
+        ensures ok { OnOk result (V.sees visitor.old (text_with self.now) visitor.new) }
+        ensures err { OnErr result (V.stops visitor.old (text_with self.now) visitor.new) }
     {
         let tree = &self.tree;
-        tree.push_between(0, self.before.bytes as usize, out)?;
-        out.push_str(self.window.as_str())?;
-        tree.push_between(self.skipped.bytes as usize, tree.sums().bytes as usize, out)
-    }
-
-    /// What comes after the text in one that begins with it.
-    pub(super) fn strip<'a>(&self, whole: &'a str) -> Option<&'a str>
-        requires { IsWindowed self.now }
-        ensures { MatchOption result (BeginsOtherwise (text_with self.now) whole.now)
-            (λ rest. whole.now ≡ text_with self.now ++ rest.now) }
-    {
-        let tree = &self.tree;
-        let rest = tree.strip_between(0, self.before.bytes as usize, whole)?;
-        let rest = after_front(rest, self.window.as_str())?;
-        tree.strip_between(
+        tree.walk(0, self.before.bytes as usize, visitor)?;
+        visitor.visit(self.window.as_str())?;
+        tree.walk(
             self.skipped.bytes as usize,
             tree.sums().bytes as usize,
-            rest,
-        )
-    }
-
-    /// What is left of a text after the lines of this one, if it begins with them.
-    pub(super) fn take_lines<'a>(&self, left: LinesLeft<'a>) -> Option<LinesLeft<'a>>
-        requires { IsWindowed self.now }
-        ensures { MatchOption result
-            (BeginsOtherwise (with_feeds (text_with self.now)) (due left.entry))
-            (λ next. due left.entry ≡ with_feeds (text_with self.now) ++ due next) }
-    {
-        let tree = &self.tree;
-        let left = tree.take_between(0, self.before.bytes as usize, left)?;
-        let left = take_lines(left, self.window.as_str())?;
-        tree.take_between(
-            self.skipped.bytes as usize,
-            tree.sums().bytes as usize,
-            left,
+            visitor,
         )
     }
 }

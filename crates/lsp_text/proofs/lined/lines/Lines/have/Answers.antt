@@ -1,24 +1,37 @@
-use Rattle.std.proofs.Common.{◌≡◌, ◌++◌, [], ◌∷◌, List, ℕ, MatchOption, subst, sym, ◌∙◌}
+use Rattle.std.proofs.Common.{◌++◌, [], ◌∷◌, None, List, ℕ, ap, refl, subst, sym, ◌∙◌}
+use Rattle.std.proofs.lemmas.Bool.{false≢true}
 use Rattle.lsp_text.specs.SameText.{BeginsOtherwise, due, with_feeds}
-use Rattle.lsp_text.proofs.SameTexts.{taken_by}
 use Rattle.lsp_text.proofs.HeldText.{holds}
+use Rattle.lsp_text.proofs.SameTexts.{from_none}
+use Rattle.lsp_text.proofs.Walks.{lines_in_order}
 use Rattle.lsp_text.proofs.lined.lines.Lines.have.Goals as goal
 
-pub returns-clause-value : goal.returns-clause-value
-returns-clause-value c =
-    let left = c.take_lines.ensures in
+pub walk-requires-clause-order : goal.walk-requires-clause-order
+walk-requires-clause-order c = lines_in_order due
+
+pub returns-in-Ok-clause-value : goal.returns-in-Ok-clause-value
+returns-in-Ok-clause-value c =
     let taken =
     c.is_taken.ensures c.args.self.now
-    (taken_by c.args.self.now c.without_last_end-whole.result c.take_lines.result
-    (subst (λ (x : List ℕ). MatchOption c.take_lines.result
-    (BeginsOtherwise (with_feeds x) (with_feeds c.without_last_end-whole.result.now ++ 10 ∷ []))
-    (λ next. with_feeds c.without_last_end-whole.result.now ++ 10 ∷ []
-    ≡ with_feeds x ++ due next)) c.self.view_is left))
+    (c.in-Ok.ensures.ok
+    ∙ ap (λ (x : List ℕ). with_feeds x ++ due c.walk.new.visitor) c.self.view_is)
     in (
       λ t. taken.0 t ∙ sym c.without_last_end-whole.ensures,
       λ e. taken.1 (e ∙ c.without_last_end-whole.ensures),
     )
 
-pub returns-clause-utf8 : goal.returns-clause-utf8
-returns-clause-utf8 c =
-    (holds c.self.inside.held c.args.self.now c.self.invariant c.self.view_is).utf8
+pub returns-in-Ok-clause-utf8 : goal.returns-in-Ok-clause-utf8
+returns-in-Ok-clause-utf8 c = (holds c.self.inside.held c.args.self.now c.self.invariant c.self.view_is).utf8
+
+pub returns-in-Err-clause-value : goal.returns-in-Err-clause-value
+returns-in-Err-clause-value c =
+    let whole = c.without_last_end-whole.result.now in (
+      λ t. absurd (false≢true t),
+      λ e. absurd (from_none c.args.self.now whole None refl
+          (subst (λ (x : List ℕ). BeginsOtherwise (with_feeds x) (with_feeds whole ++ 10 ∷ []))
+          c.self.view_is c.in-Err.ensures.err)
+          (e ∙ c.without_last_end-whole.ensures)),
+    )
+
+pub returns-in-Err-clause-utf8 : goal.returns-in-Err-clause-utf8
+returns-in-Err-clause-utf8 c = (holds c.self.inside.held c.args.self.now c.self.invariant c.self.view_is).utf8

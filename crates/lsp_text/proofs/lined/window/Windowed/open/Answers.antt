@@ -1,8 +1,13 @@
 use Rattle.std.proofs.Common.{◌≡◌, ◌++◌, List, ℕ, refl, ap, ◌∙◌}
+use Rattle.std.specs.String.{string_bytes}
 use Rattle.lsp_text.specs.Parts.{bytes_between}
 use Rattle.lsp_text.proofs.WindowEdits.{CanOpen, AreOpened, opened_sums, opened}
+use Rattle.lsp_text.proofs.Walks.{written_in_order}
 use Rattle.lsp_text.proofs.lined.window.Windowed.open.Goals as goal
 use Rattle.lsp_text.proofs.lined.window.Windowed.open.Goals.{After-sums}
+
+pub walk-requires-clause-order : goal.walk-requires-clause-order
+walk-requires-clause-order c = written_in_order string_bytes
 
 can_open : (c : After-sums)
     → CanOpen c.args.self.now c.args.from c.args.to c.in-Some-Some.start c.in-Some-Some.end
@@ -21,7 +26,7 @@ window_is : (c : After-sums) → c.in_ok-window.window
     ≡ bytes_between c.args.self.now.tree c.in-Some-Some.start c.in-Some-Some.end
 window_is c =
     let between = bytes_between c.args.self.now.tree c.in-Some-Some.start c.in-Some-Some.end in
-    c.in_ok-window.ensures ∙ c.as_str.ensures.value ∙ c.in_ok-push_between.ensures
+    c.in_ok-window.ensures ∙ c.as_str.ensures.value ∙ c.in_ok-walk.ensures.ok
     ∙ ap (λ (x : List ℕ). x ++ between) c.in_ok-text.ensures.bytes
 
 sums_opened : (c : After-sums)

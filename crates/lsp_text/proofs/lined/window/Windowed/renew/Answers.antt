@@ -5,8 +5,7 @@ use Rattle.lsp_text.proofs.lined.window.Windowed.renew.Goals as goal
 
 pub edit-requires-clause-fits : goal.edit-requires-clause-fits
 edit-requires-clause-fits c =
-    renewed_fits c.close.new.self c.args.text.now c.patch_to-patch.result
-    c.in_ok-close.ensures.ok.0.held c.in_ok-close.ensures.ok.1 c.patch_to-patch.ensures
+    renewed_fits c.close.new.self c.args.text.now c.patch_to-patch.result c.patch_to-patch.ensures
     (omega arith)
 
 pub returns-clause-ok : goal.returns-clause-ok
