@@ -3,10 +3,10 @@ use std::cell::Cell;
 use std::io;
 use std::io::{Read, Write};
 use std::rt::Clock;
-use std::time::{Duration, Instant};
+use std::time::Instant;
 
-/// How much time passes before the line is written, and before it is written again.
-const PAUSE: Duration = Duration::from_secs(1);
+/// How many seconds pass before the line is written, and before it is written again.
+const PAUSE: u64 = 1;
 
 /// How many bytes are a megabyte.
 const MEGABYTE: u64 = 1_000_000;
@@ -57,7 +57,7 @@ impl<'a, R: Clock + Eprint> Progress<'a, R> {
     /// Whether a second has passed. A clock that fails ends the line.
     fn is_due(&self) -> bool {
         match self.since.get() {
-            Some(since) => matches!(since.elapsed(self.rt), Ok(passed) if passed >= PAUSE),
+            Some(since) => matches!(since.elapsed(self.rt), Ok(passed) if passed.as_secs() >= PAUSE),
             None => false,
         }
     }
