@@ -9,7 +9,7 @@ ghost use Rattle.lsp_rpc.specs.View.{change_view, changes_view};
 ghost use Rattle.lsp_outline.specs.Walk.{IsValue, AreItems};
 
 use crate::bytes::{byte_at, spaces_end};
-use crate::members::{Gathered, object_at, short_uinteger_at, skipped, uinteger_at};
+use crate::members::{Gathered, object_at, object_into, short_uinteger_at, skipped, uinteger_at};
 use crate::positions::{first_letter, names_character, names_end, names_line, names_start};
 use crate::walk::{literal_end, string_copy};
 use lsp_types::{Change, Position, Span};
@@ -240,20 +240,28 @@ fn plain_span_at(text: &str, from: usize) -> Option<(Span, usize)>
     }
 }
 
-/// The span that begins there, and where it ends.
+/// The span that begins there, and where it ends. It is tried as most programs write it, until one
+/// is written otherwise.
 #[inline(always)]
-fn span_at(alloc: Global, text: &str, from: usize, depth: usize) -> Option<(Span, usize)>
+fn span_at(
+    alloc: Global,
+    text: &str,
+    from: usize,
+    depth: usize,
+    tries: &mut bool,
+) -> Option<(Span, usize)>
     requires { from ≤ length text.now }
     ensures { IfSome result (λ r. (ms : Members) × IsValue depth text.now from r.1 (object ms)
         × (spec.span_at (object ms) ≡ Some r.0)) }
 {
-    if depth < 2 {
+    if depth < 2 || !*tries {
         return any_span_at(alloc, text, from, depth);
     }
-    match plain_span_at(text, from) {
-        Some(found) => Some(found),
-        None => any_span_at(alloc, text, from, depth),
+    if let Some(found) = plain_span_at(text, from) {
+        return Some(found);
     }
+    *tries = false;
+    any_span_at(alloc, text, from, depth)
 }
 
 /// The span of whatever form that begins there, and where it ends.
@@ -278,6 +286,7 @@ fn span_unless_null_at(
     text: &str,
     from: usize,
     depth: usize,
+    tries: &mut bool,
 ) -> Option<(Option<Span>, usize)>
     requires { from ≤ length text.now }
     ensures { IfSome result (λ r. (d : Data) × IsValue depth text.now from r.1 d
@@ -288,7 +297,7 @@ fn span_unless_null_at(
         let end = literal_end(bytes, from, b"null")?;
         return Some((None, end));
     }
-    let (span, end) = span_at(alloc, text, from, depth)?;
+    let (span, end) = span_at(alloc, text, from, depth, tries)?;
     Some((Some(span), end))
 }
 
@@ -297,6 +306,8 @@ fn span_unless_null_at(
 struct ChangeParts {
     span: Option<Span>,
     text: Option<String>,
+    /// Whether spans are still tried as most programs write them.
+    tries: bool,
 }
 
 impl Gathered for ChangeParts {
@@ -308,6 +319,7 @@ impl Gathered for ChangeParts {
         ChangeParts {
             span: None,
             text: None,
+            tries: true,
         }
     }
 
@@ -322,7 +334,7 @@ impl Gathered for ChangeParts {
     ) -> Option<usize> {
         match name {
             "range" => {
-                let (span, end) = span_unless_null_at(alloc, text, from, depth)?;
+                let (span, end) = span_unless_null_at(alloc, text, from, depth, &mut self.tries)?;
                 self.span = span;
                 Some(end)
             }
@@ -337,12 +349,21 @@ impl Gathered for ChangeParts {
 }
 
 /// The change that begins there, and where it ends.
-fn change_at(alloc: Global, text: &str, from: usize, depth: usize) -> Option<(Change, usize)>
+fn change_at(
+    alloc: Global,
+    text: &str,
+    from: usize,
+    depth: usize,
+    tries: &mut bool,
+) -> Option<(Change, usize)>
     requires { from ≤ length text.now }
     ensures { IfSome result (λ r. (ms : Members) × IsValue depth text.now from r.1 (object ms)
         × (spec.change_at (object ms) ≡ Some (change_view r.0))) }
 {
-    let (parts, end): (ChangeParts, usize) = object_at(alloc, text, from, depth)?;
+    let mut parts = ChangeParts::none();
+    parts.tries = *tries;
+    let end = object_into(alloc, text, from, depth, &mut parts)?;
+    *tries = parts.tries;
     let change = Change {
         span: parts.span,
         text: parts.text?,
@@ -363,12 +384,13 @@ fn rest_of_changes(
 {
     let bytes = text.as_bytes();
     let mut found = Vec::new(alloc);
+    let mut tries = true;
     let mut at = spaces_end(bytes, from);
     if byte_at(bytes, at) == b']' {
         return Some((found, at + 1));
     }
     'changes: loop {
-        let (change, end) = change_at(alloc, text, at, depth)?;
+        let (change, end) = change_at(alloc, text, at, depth, &mut tries)?;
         found.push(change).ok()?;
         let next = spaces_end(bytes, end);
         let mark = byte_at(bytes, next);

@@ -16,6 +16,7 @@ mod outline;
 mod params;
 mod positions;
 mod texts;
+mod tries;
 mod walk;
 
 pub use outline::{MessageReader, Results};

@@ -11,6 +11,7 @@ ghost use Rattle.lsp_outline.specs.Walk.{IsValue, AreMembers};
 
 use crate::bytes::{byte_at, spaces_end};
 use crate::numbers::{natural_at, negative_at, short_natural_at};
+use crate::tries::Tries;
 use crate::walk::{key, literal_end, plain_string, string_copy, value_end};
 use lsp_rpc::Id;
 use std::alloc::Global;
@@ -117,7 +118,7 @@ pub(crate) fn skipped(text: &str, from: usize, depth: usize) -> Option<usize>
     requires { from ≤ length text.now }
     ensures { IfSome result (λ end. (d : Data) × IsValue depth text.now from end d) }
 {
-    let mut tries = true;
+    let mut tries = Tries::new();
     value_end(text.as_bytes(), from, depth, &mut tries)
 }
 

@@ -8,6 +8,7 @@ ghost use Rattle.lsp_outline.specs.Walk.{start_key, end_key};
 
 use crate::bytes::byte_at;
 use crate::numbers::plain_number_end;
+use crate::tries::Tries;
 
 /// The eight bytes that stand there, as one number.
 #[inline(always)]
@@ -242,23 +243,22 @@ fn place_end(bytes: &[u8], from: usize, depth: usize) -> Option<usize>
     }
 }
 
-/// Where the position or range ends that begins there, while these are tried: until one begins as
-/// most do and goes on otherwise, since what comes after it is mostly written by the same program.
+/// Where the position or range ends that begins there, while these are tried.
 #[inline(always)]
 pub(crate) fn plain_place_end(
     bytes: &[u8],
     from: usize,
     depth: usize,
-    tries: &mut bool,
+    tries: &mut Tries,
 ) -> Option<usize>
     requires from { from ≤ length bytes.now }
     requires depth { 0 < depth }
     ensures { IfSome result (λ end. (d : Data) × IsValue depth bytes.now from end d) }
 {
-    if !*tries || !begins_place(bytes, from) {
+    if !tries.places || !begins_place(bytes, from) {
         return None;
     }
     let end = place_end(bytes, from, depth);
-    *tries = end.is_some();
+    tries.places = end.is_some();
     end
 }

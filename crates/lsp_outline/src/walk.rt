@@ -13,13 +13,11 @@ use crate::number_blocks::number_blocks_end;
 use crate::numbers::{number_end, tiny_number_end};
 use crate::positions::plain_place_end;
 use crate::texts::{plain_text, text_copy, text_end};
+use crate::tries::Tries;
 use std::alloc::Global;
 
 /// How deep values may nest in a content, as `serde_json` reads it.
 pub(crate) const MAX_DEPTH: usize = 127;
-
-/// How many bytes of an array are read item by item before whole blocks are tried.
-const FEW: usize = 32;
 
 /// What kind of value stands somewhere, as far as a message's params and result are judged.
 #[derive(Clone, Copy)]
@@ -176,11 +174,10 @@ pub(crate) fn key(text: &str, from: usize) -> Option<(&str, usize)>
     Some((name, end))
 }
 
-/// Where the value that begins there ends. `None` where `serde_json` would read none. Positions and
-/// ranges are tried in the form that most have, until one has another form.
+/// Where the value that begins there ends. `None` where `serde_json` would read none.
 #[cycle(walk)]
 #[inline(always)]
-pub(crate) fn value_end(bytes: &[u8], from: usize, depth: usize, tries: &mut bool) -> Option<usize>
+pub(crate) fn value_end(bytes: &[u8], from: usize, depth: usize, tries: &mut Tries) -> Option<usize>
     requires { from ≤ length bytes.now }
     ensures { IfSome result (λ end. (d : Data) × IsValue depth bytes.now from end d) }
 {
@@ -209,9 +206,9 @@ pub(crate) fn value_end(bytes: &[u8], from: usize, depth: usize, tries: &mut boo
 }
 
 /// Where the items end that are numbers of one or two digits, each with its comma and the space past
-/// it, or the first place from `stop` on where one begins. Arrays of numbers are mostly such.
+/// it. Arrays of numbers are mostly such.
 #[inline(always)]
-fn tiny_items_end(bytes: &[u8], from: usize, stop: usize) -> usize
+fn tiny_items_end(bytes: &[u8], from: usize) -> usize
     requires { from ≤ length bytes.now }
     ensures passed { (depth begin : ℕ)
         → SomeItems depth bytes.now begin from → SomeItems depth bytes.now begin result }
@@ -219,43 +216,36 @@ fn tiny_items_end(bytes: &[u8], from: usize, stop: usize) -> usize
     ensures within { result ≤ length bytes.now }
 {
     let mut at = from;
-    'items: while at < stop {
-        let Some(comma) = tiny_number_end(bytes, at) else {
-            return at;
-        };
+    'items: while let Some(comma) = tiny_number_end(bytes, at) {
         at = spaces_end(bytes, comma + 1);
     }
     at
 }
 
-/// Where the items end that are plain numbers, in an array that begins at `begin`: from the place
-/// `blocks` on, those of whole blocks. These are seldom tried in vain: not in a short array, and
-/// where one is declined, only after as many bytes again.
+/// Where the items end that are plain numbers: first those of whole blocks, where these are tried.
 #[inline(always)]
-fn plain_items_end(bytes: &[u8], begin: usize, from: usize, blocks: &mut usize) -> usize
-    requires { (begin ≤ from) × (from ≤ length bytes.now) }
+fn plain_items_end(bytes: &[u8], from: usize, tries: &mut Tries) -> usize
+    requires { from ≤ length bytes.now }
     ensures passed { (depth begin : ℕ)
         → SomeItems depth bytes.now begin from → SomeItems depth bytes.now begin result }
     ensures forward { from ≤ result }
     ensures within { result ≤ length bytes.now }
 {
-    let at = tiny_items_end(bytes, from, *blocks);
-    if at < *blocks {
-        return at;
+    if !byte_at(bytes, from).is_ascii_digit() {
+        return from;
     }
-    let passed = number_blocks_end(bytes, at);
-    *blocks = if passed == at {
-        at.saturating_add(at - begin)
-    } else {
-        passed.saturating_add(FEW)
-    };
-    passed
+    if !tries.blocks_at(from) {
+        return tiny_items_end(bytes, from);
+    }
+    let end = number_blocks_end(bytes, from);
+    tries.tried_blocks(from, end);
+    tiny_items_end(bytes, end)
 }
 
 /// Where the array ends whose bracket is just before that place.
 #[cycle(walk)]
 #[inline(never)]
-fn items_end(bytes: &[u8], from: usize, depth: usize, tries: &mut bool) -> Option<usize>
+fn items_end(bytes: &[u8], from: usize, depth: usize, tries: &mut Tries) -> Option<usize>
     requires { from ≤ length bytes.now }
     ensures { IfSome result (λ end. (ds : Items) × AreItems depth bytes.now from end ds) }
 {
@@ -263,9 +253,8 @@ fn items_end(bytes: &[u8], from: usize, depth: usize, tries: &mut bool) -> Optio
     if byte_at(bytes, at) == b']' {
         return Some(at + 1);
     }
-    let mut blocks = from.saturating_add(FEW);
     'items: loop {
-        let begin = plain_items_end(bytes, from, at, &mut blocks);
+        let begin = plain_items_end(bytes, at, tries);
         let end = value_end(bytes, begin, depth, tries)?;
         let next = spaces_end(bytes, end);
         let mark = byte_at(bytes, next);
@@ -282,7 +271,7 @@ fn items_end(bytes: &[u8], from: usize, depth: usize, tries: &mut bool) -> Optio
 /// Where the object ends whose brace is just before that place.
 #[cycle(walk)]
 #[inline(never)]
-fn members_end(bytes: &[u8], from: usize, depth: usize, tries: &mut bool) -> Option<usize>
+fn members_end(bytes: &[u8], from: usize, depth: usize, tries: &mut Tries) -> Option<usize>
     requires { from ≤ length bytes.now }
     ensures { IfSome result (λ end. (ms : Members) × AreMembers depth bytes.now from end ms) }
 {

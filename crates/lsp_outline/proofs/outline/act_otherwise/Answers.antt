@@ -1,12 +1,6 @@
-use Rattle.std.proofs.Common.{codes, option_and_then, subst}
-use Rattle.std.proofs.lemmas.Option.{IfSome_then}
-use Rattle.serde_json.specs.Data.{Members}
+use Rattle.std.proofs.Common.{codes, option_and_then}
 use Rattle.serde_json.specs.Find.{get_member}
-use Rattle.serde_json.specs.Read.{read as read_text}
 use Rattle.lsp_rpc.specs.Shape.{unless_null}
-use Rattle.lsp_rpc.specs.View.{act_view}
-use Rattle.lsp_outline.specs.Outlined.{Means}
-use Rattle.lsp_outline.proofs.Meaning.{one_object}
 use Rattle.lsp_outline.proofs.outline.act_otherwise.Goals as goal
 
 pub returns-in-Some : goal.returns-in-Some

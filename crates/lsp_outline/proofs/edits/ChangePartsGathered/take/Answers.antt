@@ -1,6 +1,6 @@
-use Rattle.std.proofs.Common.{Some, codes, option_map, option_and_then, string_bytes, refl, ap}
+use Rattle.std.proofs.Common.{codes, option_and_then, string_bytes, refl}
 use Rattle.std.proofs.lemmas.Option.{IfSome_then}
-use Rattle.serde_json.specs.Data.{object, string}
+use Rattle.serde_json.specs.Data.{string}
 use Rattle.serde_json.specs.Find.{as_str}
 use Rattle.lsp_rpc.specs.Params.{if_given, span_at}
 use Rattle.lsp_rpc.specs.Shape.{unless_null}
