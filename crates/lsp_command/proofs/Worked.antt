@@ -1,6 +1,6 @@
 -- Words that were worked out by hand: what `clap` finds in them by the command line, and what they ask for.
 use Rattle.std.proofs.Common.{◌≡◌, List, [], ◌∷◌, Option, Some, None, codes, option_map, refl}
-use Rattle.clap.specs.Words.{App, Row, Text, fault_of, one_of, subcommand_of}
+use Rattle.clap.specs.Words.{App, Row, Text, all_of, fault_of, one_of, subcommand_of}
 use Rattle.clap.specs.declared.error.kind.ErrorKind.TheVariants as kind
 use Rattle.clap.proofs.OnLiterals.{clap_on_literals}
 use Rattle.lsp_command.specs.CommandLine.{command_line}
@@ -37,6 +37,23 @@ checked_file = refl
 checked_ends : found checked (codes "ignore-line-ends") ≡ Some (codes "check", Some (codes "false"))
 unfolding clap_on_literals
 checked_ends = refl
+
+-- `lspcheck check a.log --complete b.log`: both files
+abbrev judged : List Text
+judged = codes "lspcheck" ∷ codes "check" ∷ codes "a.log" ∷ codes "--complete" ∷ codes "b.log" ∷ []
+
+judged_taken : fault_of line judged ≡ []
+unfolding clap_on_literals
+judged_taken = refl
+
+judged_complete : found judged (codes "complete") ≡ Some (codes "check", Some (codes "true"))
+unfolding clap_on_literals
+judged_complete = refl
+
+judged_files : option_map (λ (p : Text × List Row). all_of (codes "file") p.1)
+    (subcommand_of line judged) ≡ Some (Some (codes "a.log" ∷ codes "b.log" ∷ []))
+unfolding clap_on_literals
+judged_files = refl
 
 -- `lspcheck explain --ignore-line-ends a.log`
 abbrev explained : List Text
@@ -98,7 +115,7 @@ framed_as : found framed (codes "as") ≡ Some (codes "frames", Some (codes "len
 unfolding clap_on_literals
 framed_as = refl
 
--- a number that no log has, an option of another command, no command
+-- a number that no log has, an option of another command, a second file, no command
 too_low : fault_of line (codes "lspcheck" ∷ codes "event" ∷ codes "0" ∷ []) ≡ kind.ValueValidation ∷ []
 unfolding clap_on_literals
 too_low = refl
@@ -106,6 +123,11 @@ too_low = refl
 unknown_option : fault_of line (codes "lspcheck" ∷ codes "normal" ∷ codes "--all" ∷ []) ≡ kind.UnknownArgument ∷ []
 unfolding clap_on_literals
 unknown_option = refl
+
+second_file : fault_of line (codes "lspcheck" ∷ codes "show" ∷ codes "a.log" ∷ codes "b.log" ∷ [])
+    ≡ kind.UnknownArgument ∷ []
+unfolding clap_on_literals
+second_file = refl
 
 no_command : fault_of line (codes "lspcheck" ∷ []) ≡ kind.DisplayHelpOnMissingArgumentOrSubcommand ∷ []
 unfolding clap_on_literals

@@ -1,6 +1,6 @@
 -- What an input seems to be by the bytes that it begins with.
-use Rattle.std.specs.Prelude.{◌&&◌, ◌==◌, nat_le, not, false}
-use Rattle.std.specs.Prelude.{ℕ, Bool, ◌||◌, List, [], ◌∷◌, ◌++◌, Option, Some, None, Result, Ok, Err, codes, nat_eq, zero, suc, if◌then◌else◌}
+use Rattle.std.specs.Prelude.{ℕ, Bool, false, ◌||◌, ◌&&◌, ◌==◌, nat_le, not}
+use Rattle.std.specs.Prelude.{List, [], ◌∷◌, ◌++◌, Option, Some, None, Result, Ok, Err, codes, nat_eq, zero, suc, if◌then◌else◌}
 use Rattle.std.specs.List.{starts_with}
 use Rattle.lsp_judge.specs.declared.event.EventOutcome.{EventOutcome}
 use Rattle.lsp_judge.specs.declared.event.EventOutcome.TheVariants as events

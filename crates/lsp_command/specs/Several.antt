@@ -19,9 +19,9 @@ line_task (tasks.Check completeness) name = tasks.CheckLine completeness name
 line_task task name = task
 
 -- the request for one file of several, with the name of its line; the rest is as it was asked
-pub record IsForOne (asked : Request) (file name : Bor Text) (request : Request) : Type 0 where
+pub record IsForOne (asked : Request) (path name : Bor Text) (request : Request) : Type 0 where
   pub task : request.task ≡ line_task asked.task name
-  pub file : option_map (λ path. path.now) request.file ≡ file_of (Some file.now)
+  pub file : option_map (λ named. named.now) request.file ≡ file_of (Some path.now)
   pub files : request.files.items ≡ []
   pub quiet : request.quiet ≡ asked.quiet
   pub line_ends : request.line_ends ≡ asked.line_ends

@@ -5,8 +5,8 @@ use Rattle.std.specs.Str.{bytes_eq}
 use Rattle.std.specs.Str.Parse.{IsNumeral, digits_value, without_leading_plus}
 use Rattle.std.specs.Int.NonZero.{non_zero_u64_get}
 use Rattle.std.specs.declared.num.NonZeroU64.{NonZeroU64}
-use Rattle.clap.specs.Words.{all_of}
-use Rattle.clap.specs.Words.{App, HasKind, Row, Text, fault_of, first_of, kind_of, one_of, rows_of, subcommand_of}
+use Rattle.clap.specs.Words.{App, HasKind, Row, Text, all_of, fault_of, first_of, kind_of, one_of}
+use Rattle.clap.specs.Words.{rows_of, subcommand_of}
 use Rattle.clap.specs.Matches.{found_of}
 use Rattle.clap.specs.declared.error.Error.{Error}
 use Rattle.clap.specs.declared.error.kind.ErrorKind.TheVariants.{MissingSubcommand}

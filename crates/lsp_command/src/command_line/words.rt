@@ -1,12 +1,11 @@
 //! What the words of the command line ask for.
 ghost use Rattle.std.specs.Prelude.{◌≡◌, IfErr, IfOk, codes, map, option_map, string_bytes};
-ghost use Rattle.clap.specs.Words.{App, one_of, subcommand_rows_of};
+ghost use Rattle.clap.specs.Words.{App, all_of, one_of, subcommand_rows_of};
 ghost use Rattle.lsp_command.specs.CommandLine.{IsCommandLine};
 ghost use Rattle.lsp_command.specs.Words.{Asks, HasTask, IsFlag, NumberIn, Refuses, RequestIn};
 ghost use Rattle.lsp_command.specs.Words.{TaskIn, check_of, compared_of, completeness_of};
 ghost use Rattle.lsp_command.specs.Words.{explain_of, file_of};
 ghost use Rattle.lsp_command.specs.Words.{line_ends_of, lines_of, listing_of, mode_of, rows_in};
-ghost use Rattle.clap.specs.Words.{all_of};
 ghost use Rattle.lsp_command.specs.Words.{several_of, show_of, text_of};
 
 use crate::command_line::commands::command_line;
@@ -231,12 +230,14 @@ fn several_of<'a>(alloc: Global, arguments: &ArgMatches<'a>) -> Result<Vec<&'a s
     ensures { IfOk result (λ files. map (λ file. file.now) files.items
         ≡ several_of (all_of (codes "file") (rows_in arguments.now))) }
 {
-    let mut files = Vec::new(alloc);
-    if let Some(named) = arguments.get_strs("file")
-        && named.len() > 1
-    {
-        files.extend_from_slice(named)?;
+    let Some(named) = arguments.get_strs("file") else {
+        return Ok(Vec::new(alloc));
+    };
+    if named.len() <= 1 {
+        return Ok(Vec::new(alloc));
     }
+    let mut files = Vec::new(alloc);
+    files.extend_from_slice(named)?;
     Ok(files)
 }
 

@@ -31,6 +31,24 @@ returns-in-Check-Required-clause-source_failures g c = run_source _ _ _ _ c.of_r
 pub returns-in-Check-Required-clause-sink_failures : goal.returns-in-Check-Required-clause-sink_failures
 returns-in-Check-Required-clause-sink_failures g c = run_sink _ _ _ _ c.of_run-in-Check-Required.ensures c.run_check_complete.ensures.checked.counts.sink_failures
 
+pub returns-in-CheckLine-clause-answers : goal.returns-in-CheckLine-clause-answers
+returns-in-CheckLine-clause-answers g c =
+    rw c.in-CheckLine.is (
+      c.run_check_line.result,
+      c.of_run-in-CheckLine.ensures,
+      c.run_check_line.ensures.checked,
+    )
+
+pub returns-in-CheckLine-clause-source_failures : goal.returns-in-CheckLine-clause-source_failures
+returns-in-CheckLine-clause-source_failures g c =
+    run_source _ _ _ _ c.of_run-in-CheckLine.ensures
+    c.run_check_line.ensures.checked.counts.source_failures
+
+pub returns-in-CheckLine-clause-sink_failures : goal.returns-in-CheckLine-clause-sink_failures
+returns-in-CheckLine-clause-sink_failures g c =
+    run_sink _ _ _ _ c.of_run-in-CheckLine.ensures
+    c.run_check_line.ensures.checked.counts.sink_failures
+
 pub returns-in-Survey-clause-answers : goal.returns-in-Survey-clause-answers
 returns-in-Survey-clause-answers g c =
     rw c.in-Survey.is (

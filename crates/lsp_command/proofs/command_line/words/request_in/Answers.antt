@@ -17,12 +17,14 @@ returns c =
     let request : Request = record {
       task = c.in_ok-task.task;
       file = c.file_of-file.result;
+      files = c.in_ok-files.files;
       quiet = c.is_set-quiet.result;
       line_ends = c.line_ends_of.result;
     } in
     let asked : AsksFor (Some (name, rows_in arguments)) request = record {
       task = c.in_ok-task.ensures;
       file = c.file_of-file.ensures ∙ ap file_of file;
+      files = c.in_ok-files.ensures;
       quiet = c.is_set-quiet.ensures;
       line_ends = (c.is_set-ignored.result, c.is_set-ignored.ensures, c.line_ends_of.ensures);
     } in

@@ -16,6 +16,12 @@ returns-in_err-matches-clause-err c =
     let line = c.in_ok-command.ensures in
     rw (p.1, p.2) (app_of c.in_ok-command.command, line, inl (c.in_err-matches.ensures.kinds (line_free _ line)))
 
+pub returns-in_err-request_in-clause-err : goal.returns-in_err-request_in-clause-err
+returns-in_err-request_in-clause-err c =
+    let from = c.from_residual-in_err-request_in in
+    let p = err_from_is_err_and from.result from.ensures.1 in
+    rw p.1 (out_of_memory _ p.0 p.2)
+
 pub returns-in-Some-clause-ok : goal.returns-in-Some-clause-ok
 returns-in-Some-clause-ok c =
     let line = c.in_ok-command.ensures in
