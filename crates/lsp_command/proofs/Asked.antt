@@ -1,6 +1,6 @@
 -- What commands ask for, by what was found of their arguments.
-use Rattle.std.proofs.Common.{◌≡◌, ◌∙◌, ◌<◌, ◌==◌, ◌^◌, ℕ, Bool, true, false, List, Option, Some}
-use Rattle.std.proofs.Common.{None, Result, refl, sym, ap, subst, codes, arith, slice_index}
+use Rattle.std.proofs.Common.{◌≡◌, ◌∙◌, ◌<◌, ◌≤◌, ◌==◌, ◌^◌, ℕ, Bool, true, false, List, [], ◌∷◌}
+use Rattle.std.proofs.Common.{length, map, option_map, Option, Some, None, Result, refl, sym, ap, subst, codes, arith, slice_index}
 use Rattle.std.specs.Prelude.{MatchOption, unwrap_or}
 use Rattle.std.specs.Borrow.{Bor}
 use Rattle.std.specs.Int.NonZero.{non_zero_u64_get}
@@ -8,13 +8,14 @@ use Rattle.std.specs.declared.num.NonZeroU64.{NonZeroU64}
 use Rattle.std.specs.Str.Parse.{ExplainsUnsignedError, HasUnsignedDigitsIfOk, IsNumeral, ParsesUnsigned, digits_value, without_leading_plus}
 use Rattle.std.specs.declared.num.ParseIntError.{ParseIntError}
 use Rattle.std.proofs.lemmas.Bool.{eqb-false}
-use Rattle.clap.specs.Words.{ReadsOne, Row, Text, one_of, one_text, rows_of}
+use Rattle.clap.specs.Words.{ReadsOne, Row, Text, all_of, matched_of, one_of, one_text, raw_values}
+use Rattle.clap.specs.Words.{rows_of}
 use Rattle.clap.specs.declared.parser.matches.Found.{Found}
-use Rattle.clap.proofs.WalkLemmas.{one_text-rows}
+use Rattle.clap.proofs.WalkLemmas.{one_text-rows, raw_values-rows}
 use Rattle.lsp_verdict.specs.declared.lines.Lines.{Lines}
 use Rattle.lsp_command.specs.Words.{AsksCheck, AsksExplain, AsksShow, AsksText, GivesNumber}
 use Rattle.lsp_command.specs.Words.{HasTask, IsFlag, NumberIn, check_of, compared_of}
-use Rattle.lsp_command.specs.Words.{completeness_of, explain_of, listing_of, show_of, text_of}
+use Rattle.lsp_command.specs.Words.{completeness_of, explain_of, listing_of, several_of, show_of, text_of}
 use Rattle.lsp_command.specs.declared.command_line.task.Task.{Task}
 use Rattle.lsp_command.specs.declared.command_line.task.Task.TheVariants as tasks
 
@@ -145,6 +146,7 @@ pub no_text : (rows : List Row)
     → ((number : NonZeroU64) (uri : Bor Text) (all : Bool) → AsksText rows number uri all → ⊥)
     → (task : Task) → HasTask (codes "text") rows task → ⊥
 no_text rows none (tasks.Check a) h = apart _ _ refl h.command
+no_text rows none (tasks.CheckLine a b) h = apart _ _ refl h.command
 no_text rows none (tasks.Survey a b) h = apart _ _ refl h.command
 no_text rows none (tasks.Explain a) h = apart _ _ refl h.command
 no_text rows none (tasks.ExplainAll a) h = apart _ _ refl h.command
@@ -160,6 +162,7 @@ no_text rows none (tasks.Frames mode) h = apart _ _ refl h.command
 
 pub no_event : (rows : List Row) → ((n : ℕ) → GivesNumber rows n → ⊥) → (task : Task) → HasTask (codes "event") rows task → ⊥
 no_event rows none (tasks.Check a) h = apart _ _ refl h.command
+no_event rows none (tasks.CheckLine a b) h = apart _ _ refl h.command
 no_event rows none (tasks.Survey a b) h = apart _ _ refl h.command
 no_event rows none (tasks.Explain a) h = apart _ _ refl h.command
 no_event rows none (tasks.ExplainAll a) h = apart _ _ refl h.command
@@ -172,3 +175,28 @@ no_event rows none (tasks.Event number) h = none (non_zero_u64_get number) h.arg
 no_event rows none tasks.Normal h = apart _ _ refl h.command
 no_event rows none tasks.Upgrade h = apart _ _ refl h.command
 no_event rows none (tasks.Frames mode) h = apart _ _ refl h.command
+
+-- ---- several files
+
+-- what is named is one file at most: there are no several
+pub few_files : (f : Found) (files : List (Bor Text)) → length files ≤ 1
+    → Some (map (λ file. file.now) files) ≡ option_map raw_values (matched_of f (codes "file"))
+    → [] ≡ several_of (all_of (codes "file") (rows_of f))
+few_files f [] few named = ap several_of (named ∙ raw_values-rows f (codes "file"))
+few_files f (file ∷ []) few named = ap several_of (named ∙ raw_values-rows f (codes "file"))
+few_files f (file ∷ next ∷ more) few named = absurd (omega (arith, few))
+
+-- more are named: all of them
+pub several_files : (f : Found) (files : List (Bor Text)) → 1 < length files
+    → Some (map (λ file. file.now) files) ≡ option_map raw_values (matched_of f (codes "file"))
+    → map (λ file. file.now) files ≡ several_of (all_of (codes "file") (rows_of f))
+several_files f [] many named = absurd (omega (arith, many))
+several_files f (file ∷ []) many named = absurd (omega (arith, many))
+several_files f (file ∷ next ∷ more) many named =
+    ap several_of (named ∙ raw_values-rows f (codes "file"))
+
+-- nothing is named
+pub no_files : (f : Found)
+    → ◌≡◌ {A = Option (List Text)} None (option_map raw_values (matched_of f (codes "file")))
+    → [] ≡ several_of (all_of (codes "file") (rows_of f))
+no_files f named = ap several_of (named ∙ raw_values-rows f (codes "file"))

@@ -230,12 +230,14 @@ fn several_of<'a>(alloc: Global, arguments: &ArgMatches<'a>) -> Result<Vec<&'a s
     ensures { IfOk result (λ files. map (λ file. file.now) files.items
         ≡ several_of (all_of (codes "file") (rows_in arguments.now))) }
 {
-    let mut files = Vec::new(alloc);
-    if let Some(named) = arguments.get_strs("file")
-        && named.len() > 1
-    {
-        files.extend_from_slice(named)?;
+    let Some(named) = arguments.get_strs("file") else {
+        return Ok(Vec::new(alloc));
+    };
+    if named.len() <= 1 {
+        return Ok(Vec::new(alloc));
     }
+    let mut files = Vec::new(alloc);
+    files.extend_from_slice(named)?;
     Ok(files)
 }
 
