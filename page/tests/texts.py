@@ -39,9 +39,9 @@ def texts_are_those_of_lspcheck(program, place):
 
 def texts_after_a_gap(program, place):
     """A cut page makes the same texts from its checkpoints, or says that it cannot."""
-    log = written(place, "long.log", logs.long(2000, difference=1001))
+    log = written(place, "long.log", logs.long(1000, difference=501))
     whole = {it["event"]: it["text"] for it in node("texts.js", blocks_of(page_of(program, log)))}
-    cut = node("texts.js", blocks_of(page_of(program, log, "--most-events", "200")))
+    cut = node("texts.js", blocks_of(page_of(program, log, "--most-events", "150")))
     known = [it for it in cut if it["text"] is not None]
     assert len(known) > 30 and all(it["text"] == whole[it["event"]] for it in known)
 
