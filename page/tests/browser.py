@@ -255,8 +255,13 @@ def shows_texts_after_messages(page, program, log):
 
 
 def stays_small(page, events):
-    """A long log: few rows are in the tree, at the beginning, in the middle and at the end."""
+    """A long log: few rows are in the tree, at the beginning, in the middle and at the end, and the
+    page takes little processor time to open."""
+    page.driver.execute_cdp_cmd("Performance.enable", {"timeDomain": "threadTicks"})
     page.open()
+    metrics = page.driver.execute_cdp_cmd("Performance.getMetrics", {})["metrics"]
+    took = {it["name"]: it["value"] for it in metrics}["TaskDuration"]
+    assert 0 < took < 4, took
     for place in (0, 0.5, 1):
         page.run("scrollTo(0, document.documentElement.scrollHeight * arguments[0])", place)
         page.run("return new Promise((done) => requestAnimationFrame(() => requestAnimationFrame(done)))")
@@ -267,8 +272,6 @@ def stays_small(page, events):
     page.wait("return document.querySelector('.selected .number')?.innerText === arguments[0]", str(events // 2))
     top = page.run("return document.querySelector('.selected').getBoundingClientRect().top")
     assert 0 < top < 900, top
-    took = page.run("return performance.getEntriesByType('navigation')[0].domComplete")
-    assert took < 10000, took
 
 
 def prints_all_rows(page):
