@@ -3,14 +3,14 @@ ghost use Rattle.std.specs.Prelude.{◌≡◌, [], None, Err, OnOk, IsSome};
 ghost use Rattle.lsp_verdict.specs.RunIo.{source_failures, sink_failures};
 ghost use Rattle.lsp_verdict.specs.declared.outcome.RunFault.TheVariants as faults;
 ghost use Rattle.lsp_command.specs.Ports.{input_error, late_error, output_error, unwritten};
-ghost use Rattle.lsp_command.specs.Tasks.{Answers, RanThrough};
+ghost use Rattle.lsp_command.specs.Tasks.{Answers, RanThrough, handed_on};
 
 use crate::command_line::Task;
 use crate::input::BufferedInput;
 use crate::output::BufferedOutput;
 use crate::task_outcome::{TaskOutcome, of_event, of_run};
 use lsp_explain::{run_compared, run_explain, run_explain_all};
-use lsp_frame::{Limits, Sink, Source};
+use lsp_frame::{Failed, Limits, Sink, Source};
 use lsp_judge::{
     Completeness, Lines, RunFault, run_check, run_check_complete, run_check_line, run_event,
     run_frames, run_normal, run_show, run_show_long, run_text, run_upgrade,
@@ -78,6 +78,19 @@ pub fn run_task<R: Source, W: Sink>(
     }
 }
 
+/// What is answered where a task ended so and its output was then flushed with this answer.
+fn handed_on(
+    ended: Result<TaskOutcome, RunFault>,
+    flushed: Result<(), Failed>,
+) -> Result<TaskOutcome, RunFault>
+    ensures { result ≡ handed_on ended flushed }
+{
+    match flushed {
+        Err(Failed) if ended.is_ok() => Err(RunFault::Write),
+        _ => ended,
+    }
+}
+
 /// Does the task over an input and into an output. What the task wrote is passed on even if it
 /// failed.
 pub fn run_through<'a, R: Read + Drop, W: Write + Drop>(
@@ -101,8 +114,6 @@ pub fn run_through<'a, R: Read + Drop, W: Write + Drop>(
     ensures write_error { result ≡ Err faults.Write → IsSome (output_error output.new) }
 {
     let ended = run_task(alloc, task, input, output, limits);
-    match output.flush() {
-        Err(_) if ended.is_ok() => Err(RunFault::Write),
-        _ => ended,
-    }
+    let flushed = output.flush();
+    handed_on(ended, flushed)
 }

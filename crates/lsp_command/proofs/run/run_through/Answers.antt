@@ -1,0 +1,15 @@
+use Rattle.lsp_command.proofs.run.run_through.Goals as goal
+
+pub returns-clause-ran : goal.returns-clause-ran
+returns-clause-ran g c = record {
+  gathered = _;
+  ended = c.run_task-ended.result;
+  answers = c.run_task-ended.ensures.answers;
+  source_failures = c.run_task-ended.ensures.source_failures;
+  sink_failures = c.run_task-ended.ensures.sink_failures;
+  kept = c.flush-flushed.ensures.bytes;
+  flushed = c.flush-flushed.result;
+  failures = c.flush-flushed.ensures.failures;
+  emptied = c.flush-flushed.ensures.whole;
+  answer = c.handed_on.ensures;
+}
