@@ -282,7 +282,8 @@ pub fn request_of<'a>(alloc: Global, words: &'a [String]) -> Result<Request<'a>,
 {
     let mut command = command_line(alloc)?;
     let matches = command.try_get_matches_from_mut(words)?;
-    match request_in(alloc, &matches)? {
+    let found = request_in(alloc, &matches)?;
+    match found {
         Some(request) => Ok(request),
         None => Err(command.error(ErrorKind::MissingSubcommand, "a command is required")?),
     }

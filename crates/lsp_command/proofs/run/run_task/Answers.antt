@@ -34,20 +34,20 @@ returns-in-Check-Required-clause-sink_failures g c = run_sink _ _ _ _ c.of_run-i
 pub returns-in-CheckLine-clause-answers : goal.returns-in-CheckLine-clause-answers
 returns-in-CheckLine-clause-answers g c =
     rw c.in-CheckLine.is (
-      c.run_check_line.result,
+      c.run_check_line-ended.result,
       c.of_run-in-CheckLine.ensures,
-      c.run_check_line.ensures.checked,
+      c.run_check_line-ended.ensures.checked,
     )
 
 pub returns-in-CheckLine-clause-source_failures : goal.returns-in-CheckLine-clause-source_failures
 returns-in-CheckLine-clause-source_failures g c =
     run_source _ _ _ _ c.of_run-in-CheckLine.ensures
-    c.run_check_line.ensures.checked.counts.source_failures
+    c.run_check_line-ended.ensures.checked.counts.source_failures
 
 pub returns-in-CheckLine-clause-sink_failures : goal.returns-in-CheckLine-clause-sink_failures
 returns-in-CheckLine-clause-sink_failures g c =
     run_sink _ _ _ _ c.of_run-in-CheckLine.ensures
-    c.run_check_line.ensures.checked.counts.sink_failures
+    c.run_check_line-ended.ensures.checked.counts.sink_failures
 
 pub returns-in-Survey-clause-answers : goal.returns-in-Survey-clause-answers
 returns-in-Survey-clause-answers g c =

@@ -9,20 +9,20 @@ use Rattle.lsp_command.proofs.command_line.words.request_in.Goals as goal
 
 pub returns : goal.returns
 returns c =
-    let name = c.in_ok-name.name.now in
-    let arguments = c.in_ok-name.arguments.now in
-    let named = c.in_ok-name.ensures in
+    let name = c.in-Some.name.now in
+    let arguments = c.in-Some.arguments.now in
+    let named = c.in-Some.ensures in
     let found = subcommand_is c.args.matches.now name (rows_in arguments) named.name named.rows in
     let file = c.get_str.ensures ∙ first_value-rows (found_of arguments) (codes "file") in
     let request : Request = record {
-      task = c.in_ok-task.task;
+      task = c.in-Some-task_of.task;
       file = c.file_of-file.result;
       files = c.in_ok-files.files;
       quiet = c.is_set-quiet.result;
       line_ends = c.line_ends_of.result;
     } in
     let asked : AsksFor (Some (name, rows_in arguments)) request = record {
-      task = c.in_ok-task.ensures;
+      task = c.in-Some-task_of.ensures;
       file = c.file_of-file.ensures ∙ ap file_of file;
       files = c.in_ok-files.ensures;
       quiet = c.is_set-quiet.ensures;
