@@ -1,6 +1,7 @@
 -- What commands ask for, by what was found of their arguments.
 use Rattle.std.proofs.Common.{◌≡◌, ◌∙◌, ◌<◌, ◌≤◌, ◌==◌, ◌^◌, ℕ, Bool, true, false, List, [], ◌∷◌}
-use Rattle.std.proofs.Common.{length, map, option_map, Option, Some, None, Result, refl, sym, ap, subst, codes, arith, slice_index}
+use Rattle.std.proofs.Common.{length, map, option_map, Option, Some, None, Result, refl, sym, ap}
+use Rattle.std.proofs.Common.{subst, codes, arith, slice_index}
 use Rattle.std.specs.Prelude.{MatchOption, unwrap_or}
 use Rattle.std.specs.Borrow.{Bor}
 use Rattle.std.specs.Int.NonZero.{non_zero_u64_get}
@@ -15,7 +16,8 @@ use Rattle.clap.proofs.WalkLemmas.{one_text-rows, raw_values-rows}
 use Rattle.lsp_verdict.specs.declared.lines.Lines.{Lines}
 use Rattle.lsp_command.specs.Words.{AsksCheck, AsksExplain, AsksShow, AsksText, GivesNumber}
 use Rattle.lsp_command.specs.Words.{HasTask, IsFlag, NumberIn, check_of, compared_of}
-use Rattle.lsp_command.specs.Words.{completeness_of, explain_of, listing_of, several_of, show_of, text_of}
+use Rattle.lsp_command.specs.Words.{completeness_of, explain_of, listing_of, several_of, show_of}
+use Rattle.lsp_command.specs.Words.{text_of}
 use Rattle.lsp_command.specs.declared.command_line.task.Task.{Task}
 use Rattle.lsp_command.specs.declared.command_line.task.Task.TheVariants as tasks
 
