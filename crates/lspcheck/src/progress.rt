@@ -57,7 +57,8 @@ impl<'a, R: Clock + Eprint> Progress<'a, R> {
     /// Whether a second has passed. A clock that fails ends the line.
     fn is_due(&self) -> bool {
         match self.since.get() {
-            Some(since) => matches!(since.elapsed(self.rt), Ok(passed) if passed.as_secs() >= PAUSE),
+            Some(since) =>
+                matches!(since.elapsed(self.rt), Ok(passed) if passed.as_secs() >= PAUSE),
             None => false,
         }
     }
