@@ -23,7 +23,7 @@ use lsp_command::{
     BufferedInput, BufferedOutput, Hint, Pace, Request, Slip, Supply, TaskOutcome, hint_of,
     remark_of, report_apart, request_of, run_through, status_of_task, status_of_words, uri_alone,
 };
-use lsp_judge::{Outcome, RunFault, Verdict};
+use lsp_judge::RunFault;
 use progress::{MakingWay, Progress, Watched};
 use several::status_of_several;
 use std::alloc::Global;
@@ -33,6 +33,9 @@ use std::process::ExitCode;
 use std::rt::{Clock, Env, Files};
 use std::{env, fs, io};
 use wrong_words::{show_slip, status_of_wrong_words};
+
+/// The status where the verdict is a No.
+const NO: u8 = 1;
 
 /// Which of the two outputs are terminals.
 #[derive(Clone, Copy)]
@@ -69,10 +72,7 @@ impl Ended {
 
     /// Whether the verdict is a No.
     fn is_no(&self) -> bool {
-        matches!(
-            self.answer,
-            Ok(TaskOutcome::Run(Outcome::Judged(Verdict::No { .. })))
-        )
+        status_of_task(&self.answer) == NO
     }
 }
 
