@@ -40,8 +40,8 @@ use Rattle.lsp_types.specs.declared.rules.TheConstants as rules
 
 -- the version that is held, where the URI is open, and the event that set it
 abbrev pub held_fact : Option EventPlace → Option Version → List Fact
-held_fact by None = []
-held_fact by (Some v) = holds v.number by ∷ []
+held_fact set_by None = []
+held_fact set_by (Some v) = holds v.number set_by ∷ []
 
 -- the version that was sent, and how many changes; or that of a snapshot
 abbrev pub sent_facts : Call → List Fact
@@ -53,8 +53,8 @@ sent_facts (saves uri text) = []
 sent_facts (shows uri number text) = line (codes "version" ∷ signed_decimal number ∷ []) ∷ []
 
 abbrev pub head_facts : Option EventPlace → Option Version → Call → List Fact
-head_facts by h call =
-    line (codes "uri" ∷ quoted (uri_of call) ∷ []) ∷ (held_fact by h ++ sent_facts call)
+head_facts set_by h call =
+    line (codes "uri" ∷ quoted (uri_of call) ∷ []) ∷ (held_fact set_by h ++ sent_facts call)
 
 -- ---- lines of a text
 
@@ -269,17 +269,17 @@ AreDetails terms enc h kept waits (shows uri number text) rule facts =
 
 -- the facts on a call that breaks this rule, where this is held of its URI, these versions are kept
 -- and these snapshots wait. Columns count units of the encoding
-pub record AreFactsOf (terms : Terms) (enc : Encoding) (by : Option EventPlace)
-    (h : Option Version) (kept waits : List Version) (call : Call) (rule : ℕ)
+pub record AreFactsOf (terms : Terms) (enc : Encoding) (h : Option Version)
+    (kept waits : List Version) (call : Call) (rule : ℕ) (set_by : Option EventPlace)
     (facts : List Fact) : Type 0 where
   pub details : List Fact
   pub says : AreDetails terms enc h kept waits call rule details
-  pub are : facts ≡ head_facts by h call ++ details
+  pub are : facts ≡ head_facts set_by h call ++ details
 
 -- **the facts on a call that breaks this rule after these calls**, where this event set the version
 -- that is held
-abbrev pub AreDocumentFacts : Terms → Encoding → Option EventPlace → List Call → Call → ℕ
+abbrev pub AreDocumentFacts : Terms → Encoding → List Call → Call → ℕ → Option EventPlace
     → List Fact → Type 0
-AreDocumentFacts terms enc by before call rule facts =
-    AreFactsOf terms enc by (held terms (uri_of call) before) (kept terms (uri_of call) before)
-    (versions_of (uri_of call) (waiting terms before)) call rule facts
+AreDocumentFacts terms enc before call rule set_by facts =
+    AreFactsOf terms enc (held terms (uri_of call) before) (kept terms (uri_of call) before)
+    (versions_of (uri_of call) (waiting terms before)) call rule set_by facts

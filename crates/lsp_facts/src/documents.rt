@@ -39,19 +39,28 @@ pub(crate) fn act_facts<S: TextStore>(
     encoding: Encoding,
     kind: SyncKind,
     act: &Act,
-    by: Option<EventPlace>,
     rule: u16,
+    set_by: Option<EventPlace>,
 ) -> Result<Facts, Memory>
     ensures { IfOk result (λ facts. (calls : List Call) (call : Call) → Stands docs.now calls
         → call_of encoding kind (act_view act.now) ≡ Some call
         → call_rule docs.now.terms calls call ≡ Some rule
-        → AreDocumentFacts docs.now.terms encoding by calls call rule facts) }
+        → AreDocumentFacts docs.now.terms encoding calls call rule set_by facts) }
 {
     match act {
         Act::DidOpen { uri, version, text } => {
             let version = *version;
             let text = text.as_str();
-            opening(alloc, docs, encoding, uri.as_str(), version, text, by, rule)
+            opening(
+                alloc,
+                docs,
+                encoding,
+                uri.as_str(),
+                version,
+                text,
+                rule,
+                set_by,
+            )
         }
         Act::DidChange {
             uri,
@@ -68,17 +77,17 @@ pub(crate) fn act_facts<S: TextStore>(
                 uri.as_str(),
                 version,
                 changes,
-                by,
                 rule,
+                set_by,
             )?;
             Ok(facts)
         }
-        Act::DidClose { uri } => closing(alloc, docs, encoding, uri.as_str(), by),
+        Act::DidClose { uri } => closing(alloc, docs, encoding, uri.as_str(), set_by),
         Act::DidSave { uri, text } => {
             let Some(text) = text else {
                 return Ok(Facts::new(alloc));
             };
-            let facts = saving(alloc, docs, encoding, uri.as_str(), text.as_str(), by)?;
+            let facts = saving(alloc, docs, encoding, uri.as_str(), text.as_str(), set_by)?;
             Ok(facts)
         }
         _ => Ok(Facts::new(alloc)),
@@ -95,15 +104,15 @@ pub(crate) fn snapshot_facts<S: TextStore>(
     uri: &str,
     version: i32,
     text: &str,
-    by: Option<EventPlace>,
     rule: u16,
+    set_by: Option<EventPlace>,
 ) -> Result<Facts, Memory>
     ensures { IfOk result (λ facts. (calls : List Call) → Stands docs.now calls
         → call_rule docs.now.terms calls (shows uri.now version (chars text.now)) ≡ Some rule
-        → AreDocumentFacts docs.now.terms encoding by calls
-        (shows uri.now version (chars text.now)) rule facts) }
+        → AreDocumentFacts docs.now.terms encoding calls
+        (shows uri.now version (chars text.now)) rule set_by facts) }
 {
-    let mut facts = head(alloc, docs, uri, by)?;
+    let mut facts = head(alloc, docs, uri, set_by)?;
     facts.version("version", version)?;
     facts.append(of_snapshot(alloc, docs, encoding, uri, version, text, rule)?)?;
     Ok(facts)
@@ -114,16 +123,16 @@ fn head<S: TextStore>(
     alloc: Global,
     docs: &Docs<S>,
     uri: &str,
-    by: Option<EventPlace>,
+    set_by: Option<EventPlace>,
 ) -> Result<Facts, Memory>
     ensures { IfOk result (λ facts. (calls : List Call) → Stands docs.now calls
         → facts ≡ line (codes "uri" ∷ quoted uri.now ∷ [])
-        ∷ held_fact by (held docs.now.terms uri.now calls)) }
+        ∷ held_fact set_by (held docs.now.terms uri.now calls)) }
 {
     let mut facts = Facts::new(alloc);
     facts.text("uri", uri)?;
     if let Some(version) = docs.version_of(uri) {
-        facts.held(version, by)?;
+        facts.held(version, set_by)?;
     }
     Ok(facts)
 }
@@ -136,15 +145,15 @@ fn opening<S: TextStore>(
     uri: &str,
     version: i32,
     text: &str,
-    by: Option<EventPlace>,
     rule: u16,
+    set_by: Option<EventPlace>,
 ) -> Result<Facts, Memory>
     ensures { IfOk result (λ facts. (calls : List Call) → Stands docs.now calls
         → call_rule docs.now.terms calls (opens uri.now version (chars text.now)) ≡ Some rule
-        → AreDocumentFacts docs.now.terms encoding by calls
-        (opens uri.now version (chars text.now)) rule facts) }
+        → AreDocumentFacts docs.now.terms encoding calls
+        (opens uri.now version (chars text.now)) rule set_by facts) }
 {
-    let mut facts = head(alloc, docs, uri, by)?;
+    let mut facts = head(alloc, docs, uri, set_by)?;
     facts.version("sent", version)?;
     facts.append(of_opening(alloc, docs, encoding, uri, version, text, rule)?)?;
     Ok(facts)
@@ -211,17 +220,17 @@ fn changing<S: TextStore>(
     uri: &str,
     version: i32,
     changes: &[Change],
-    by: Option<EventPlace>,
     rule: u16,
+    set_by: Option<EventPlace>,
 ) -> Result<Facts, Memory>
     ensures { IfOk result (λ facts. (calls : List Call) → Stands docs.now calls
         → call_rule docs.now.terms calls
         (changes_by encoding kind uri.now version (edits_of changes.now)) ≡ Some rule
-        → AreDocumentFacts docs.now.terms encoding by calls
+        → AreDocumentFacts docs.now.terms encoding calls
         (changes_by encoding kind uri.now version (edits_of changes.now)) rule
-        facts) }
+        set_by facts) }
 {
-    let mut facts = head(alloc, docs, uri, by)?;
+    let mut facts = head(alloc, docs, uri, set_by)?;
     facts.version("sent", version)?;
     facts.number("changes", changes.len() as u64)?;
     facts.append(of_change(alloc, docs, encoding, kind, uri, version, changes, rule)?)?;
@@ -280,14 +289,14 @@ fn closing<S: TextStore>(
     docs: &Docs<S>,
     encoding: Encoding,
     uri: &str,
-    by: Option<EventPlace>,
+    set_by: Option<EventPlace>,
 ) -> Result<Facts, Memory>
     ensures { IfOk result (λ facts. (calls : List Call) (rule : ℕ) → Stands docs.now calls
         → call_rule docs.now.terms calls (closes uri.now) ≡ Some rule
-        → AreDocumentFacts docs.now.terms encoding by calls (closes uri.now) rule
-        facts) }
+        → AreDocumentFacts docs.now.terms encoding calls (closes uri.now) rule
+        set_by facts) }
 {
-    let facts = head(alloc, docs, uri, by)?;
+    let facts = head(alloc, docs, uri, set_by)?;
     Ok(facts)
 }
 
@@ -298,14 +307,14 @@ fn saving<S: TextStore>(
     encoding: Encoding,
     uri: &str,
     text: &str,
-    by: Option<EventPlace>,
+    set_by: Option<EventPlace>,
 ) -> Result<Facts, Memory>
     ensures { IfOk result (λ facts. (calls : List Call) (rule : ℕ) → Stands docs.now calls
         → call_rule docs.now.terms calls (saves uri.now (Some (chars text.now))) ≡ Some rule
-        → AreDocumentFacts docs.now.terms encoding by calls
-        (saves uri.now (Some (chars text.now))) rule facts) }
+        → AreDocumentFacts docs.now.terms encoding calls
+        (saves uri.now (Some (chars text.now))) rule set_by facts) }
 {
-    let mut facts = head(alloc, docs, uri, by)?;
+    let mut facts = head(alloc, docs, uri, set_by)?;
     facts.append(of_save(alloc, docs, encoding, uri, text)?)?;
     Ok(facts)
 }

@@ -30,21 +30,21 @@ pub fn message_facts<S: TextStore>(
     docs: &Docs<S>,
     side: Side,
     spoken: &Spoken,
-    by: Option<EventPlace>,
     rule: u16,
+    set_by: Option<EventPlace>,
 ) -> Result<Facts, Memory>
     ensures { IfOk result (λ facts. (content : List ℕ) (kept : List Event)
         → Holds session.now docs.now kept
         → (refused : RefusesMessage side content (message_view spoken.now.message)
         (act_view spoken.now.act) docs.now.terms kept rule)
-        → AreMessageFacts docs.now.terms kept by refused.sent rule facts) }
+        → AreMessageFacts docs.now.terms kept refused.sent rule set_by facts) }
 {
     if rule < rules::FIRST_ON_DOCUMENTS {
         return session_facts(alloc, session, side, &spoken.message, &spoken.act, rule);
     }
     let encoding = session.encoding().unwrap_or(Encoding::Utf16);
     let kind = session.sync_kind().unwrap_or(SyncKind::Nothing);
-    act_facts(alloc, docs, encoding, kind, &spoken.act, by, rule)
+    act_facts(alloc, docs, encoding, kind, &spoken.act, rule, set_by)
 }
 
 /// What is said about a snapshot that offends by this rule. Session and documents hold the kept
@@ -59,15 +59,14 @@ pub fn shown_facts<S: TextStore>(
     version: i32,
     uri: &str,
     text: &str,
-    by: Option<EventPlace>,
     rule: u16,
+    set_by: Option<EventPlace>,
 ) -> Result<Facts, Memory>
     ensures { IfOk result (λ facts. (kept : List Event) → Holds session.now docs.now kept
         → offence docs.now.terms kept (snapshot uri.now version (chars text.now)) ≡ Some rule
-        → AreCallFacts docs.now.terms kept by rule
-        (Some (shows uri.now version (chars text.now)))
+        → AreCallFacts docs.now.terms kept rule (Some (shows uri.now version (chars text.now)))
         facts) }
 {
     let encoding = session.encoding().unwrap_or(Encoding::Utf16);
-    snapshot_facts(alloc, docs, encoding, uri, version, text, by, rule)
+    snapshot_facts(alloc, docs, encoding, uri, version, text, rule, set_by)
 }
