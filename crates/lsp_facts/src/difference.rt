@@ -88,10 +88,9 @@ fn at_difference(
     };
     facts.encoding(encoding)?;
     facts.place(found.at)?;
-    facts.part(
-        "by-messages",
-        &part_at(alloc, found.held, found.held_front)?,
-    )?;
-    facts.part(key, &part_at(alloc, found.other, found.other_front)?)?;
+    let held = part_at(alloc, found.held, found.held_front)?;
+    facts.part("by-messages", &held)?;
+    let other = part_at(alloc, found.other, found.other_front)?;
+    facts.part(key, &other)?;
     Ok(facts)
 }

@@ -1,6 +1,6 @@
 //! What an explanation says, gathered line by line.
 ghost use Rattle.std.specs.Prelude.{◌≡◌, [], ◌∷◌, ◌++◌, Some, OnOk, OnErr, IfOk};
-ghost use Rattle.std.specs.Prelude.{codes, decimal, length, string_bytes};
+ghost use Rattle.std.specs.Prelude.{decimal, length, map, string_bytes};
 ghost use Rattle.std.specs.Fmt.{signed_decimal};
 ghost use Rattle.std.specs.Str.{chars};
 ghost use Rattle.json.specs.Print.{quoted};
@@ -220,7 +220,7 @@ impl Facts {
     }
 
     /// Adds a line, which has its LF.
-    fn push(&mut self, line: String) -> Result<(), Memory>
+    pub(crate) fn push(&mut self, line: String) -> Result<(), Memory>
         ensures ok { OnOk result (self.new ≡ self.old ++ string_bytes line ∷ []) }
         ensures err { OnErr result (self.new ≡ self.old) }
     {
@@ -241,7 +241,14 @@ pub fn push_facts(text: &mut String, facts: &Facts) -> Result<(), Memory>
     ensures { OnOk result (string_bytes text.new
         ≡ string_bytes text.old ++ spec.fact_lines facts.now) }
 {
-    for line in &facts.lines {
+    push_lines(text, facts.lines.as_slice())
+}
+
+fn push_lines(text: &mut String, lines: &[String]) -> Result<(), Memory>
+    ensures { OnOk result (string_bytes text.new
+        ≡ string_bytes text.old ++ spec.fact_lines (map string_bytes lines.now)) }
+{
+    for line in lines {
         text.push_str(line.as_str())?;
     }
     Ok(())

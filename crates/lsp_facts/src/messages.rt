@@ -12,7 +12,7 @@ ghost use Rattle.lsp_session.specs.Handshake.{open_initializes, phase, settled_a
 ghost use Rattle.lsp_session.specs.Sent.{Sent};
 ghost use Rattle.lsp_session.specs.State.{Stands};
 ghost use Rattle.lsp_session.specs.View.{sent};
-ghost use Rattle.lsp_facts.specs.Fact.{in_phase, spaced};
+ghost use Rattle.lsp_facts.specs.Fact.{in_phase, more_words, spaced};
 ghost use Rattle.lsp_facts.specs.Members.{pointer_view};
 ghost use Rattle.lsp_facts.specs.MessageFacts as spec;
 
@@ -125,10 +125,19 @@ fn push_names(facts: &mut Facts, names: &[String]) -> Result<(), Memory>
     let count = count_fitting(names);
     let more = names.len() - count;
     let mut words = shown_names(facts.alloc(), &names[..count])?;
-    if more > 0 {
-        write!(words, " and {more}")?;
-    }
+    push_more(&mut words, more)?;
     facts.push_end(words)
+}
+
+/// Adds how many names are left out, where any are.
+fn push_more(words: &mut String, more: usize) -> Result<(), Memory>
+    ensures { OnOk result (string_bytes words.new ≡ string_bytes words.old ++ more_words more) }
+{
+    if more == 0 {
+        return Ok(());
+    }
+    write!(words, " and {more}")?;
+    Ok(())
 }
 
 /// Names that are offered.

@@ -1,13 +1,14 @@
 //! What is said about texts of documents and changes of them.
 
-ghost use Rattle.std.specs.Prelude.{◌≡◌, ◌<◌, ◌^◌, ◌+◌, [], ◌∷◌, ◌++◌, Some, OnOk, string_bytes};
+ghost use Rattle.std.specs.Prelude.{◌≡◌, ◌<◌, ◌^◌, ◌+◌, [], ◌∷◌, ◌++◌, Some, IfOk, OnOk};
+ghost use Rattle.std.specs.Prelude.{codes, string_bytes};
+ghost use Rattle.std.specs.List.{flat_map};
 ghost use Rattle.std.specs.Str.{chars};
 ghost use Rattle.std.specs.Fmt.{signed_decimal};
 ghost use Rattle.lsp_types.specs.declared.line_ends.LineEnds.TheVariants.{Ignored};
 ghost use Rattle.lsp_text.specs.SameText.{same_text};
 ghost use Rattle.lsp_verdict.specs.Report.{encoding_name};
 ghost use Rattle.lsp_facts.specs.Fact.{counts_in, fails, position_words, spaced};
-ghost use Rattle.lsp_facts.specs.Fact.{span_words};
 ghost use Rattle.lsp_facts.specs.DocumentFacts as spec;
 ghost use Rattle.lsp_facts.specs.Edges.{edges};
 
@@ -15,6 +16,7 @@ use crate::edges::edges;
 use crate::facts::Facts;
 use lsp_text::{line_at, same_lines, width_of};
 use lsp_types::{Encoding, Memory, Position, Span};
+use std::alloc::Global;
 use std::fmt::Write;
 
 impl Facts {
@@ -37,13 +39,8 @@ impl Facts {
             ≡ self.old ++ counts_in encoding ∷ fails (count + 1) span ∷ []) }
     {
         self.encoding(encoding)?;
-        let which = count as u64 + 1;
-        let mut words = format!(in self.alloc(); "change {which}")?;
-        match span {
-            Some(span) => push_span(&mut words, span)?,
-            None => words.push_str(" whole")?,
-        }
-        self.push_end(words)
+        let line = change_line(self.alloc(), count as u64 + 1, span)?;
+        self.push(line)
     }
 
     /// Where two texts first differ.
@@ -84,10 +81,7 @@ impl Facts {
         if names.len() == 0 {
             return Ok(());
         }
-        let mut words = String::from_str(self.alloc(), "fits")?;
-        for encoding in &names {
-            push_encoding(&mut words, *encoding)?;
-        }
+        let words = fits_words(self.alloc(), names.as_slice())?;
         self.push_end(words)
     }
 
@@ -147,6 +141,18 @@ pub fn encoding_name(encoding: Encoding) -> &'static str
     }
 }
 
+/// The encodings in which a position lies at an edge, after their key.
+fn fits_words(alloc: Global, names: &[Encoding]) -> Result<String, Memory>
+    ensures { IfOk result (λ words. string_bytes words ≡ codes "fits"
+        ++ flat_map (λ e. spaced (encoding_name (Some e))) names.now) }
+{
+    let mut words = String::from_str(alloc, "fits")?;
+    for encoding in names {
+        push_encoding(&mut words, *encoding)?;
+    }
+    Ok(words)
+}
+
 fn push_encoding(words: &mut String, encoding: Encoding) -> Result<(), Memory>
     ensures { OnOk result (string_bytes words.new
         ≡ string_bytes words.old ++ spaced (encoding_name (Some encoding))) }
@@ -164,12 +170,18 @@ fn push_version(words: &mut String, version: i32) -> Result<(), Memory>
     Ok(())
 }
 
-fn push_span(words: &mut String, span: Span) -> Result<(), Memory>
-    ensures { OnOk result (string_bytes words.new
-        ≡ string_bytes words.old ++ span_words (Some span)) }
+/// The line of the change of this number, from 1.
+fn change_line(alloc: Global, which: u64, span: Option<Span>) -> Result<String, Memory>
+    ensures { IfOk result (λ line. string_bytes line ≡ fails which span) }
 {
-    push_position(words, span.first)?;
-    push_position(words, span.second)
+    let Some(span) = span else {
+        return Ok(format!(in alloc; "change {which} whole\n")?);
+    };
+    let mut line = format!(in alloc; "change {which}")?;
+    push_position(&mut line, span.first)?;
+    push_position(&mut line, span.second)?;
+    line.push_str("\n")?;
+    Ok(line)
 }
 
 fn push_position(words: &mut String, position: Position) -> Result<(), Memory>
