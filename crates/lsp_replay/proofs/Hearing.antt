@@ -104,7 +104,7 @@ module _ (side : Side) (bytes : List ℕ) (terms : Terms) (events : List Event) 
       reads = is;
       says = says;
       means = refl;
-      clean = offence_is terms events m None none (rule_is terms events m enc kind e k ∙ accepted);
+      accepted = offence_is terms events m None none (rule_is terms events m enc kind e k ∙ accepted);
       holds = record {
         sent = subst (λ (w : List Sent). session.Stands messages w) (sym (sent_in-append events (message m ∷ []))) sent;
         called = subst (λ (w : List Call). docs.Stands documents w)

@@ -60,7 +60,7 @@ pub record Hears (side : Side) (bytes : List ℕ) (said : rpc.Message) (act : Ac
   pub reads : IsSent side bytes sent
   pub says : outline sent.message ≡ outline said
   pub means : sent.act ≡ act
-  pub clean : offence terms events (message sent) ≡ None
+  pub accepted : offence terms events (message sent) ≡ None
   pub holds : Holds messages documents (events ++ message sent ∷ [])
   pub has_value : HasValue events said sent.message
 
@@ -114,7 +114,7 @@ pub record Keeps (raw : Raw) (terms : Terms) (before : Counts) (given : Heard)
   pub is_heard : IsHeard event given
   pub answers : AnswersAs terms events given
   pub whole : HeardWhole events event given
-  pub clean : offence terms events event ≡ None
+  pub accepted : offence terms events event ≡ None
   pub holds : Holds messages documents (events ++ event ∷ [])
   -- also where more events were counted, which were refused
   pub counted : (all : List Event) → AreCounts before all → AreCounts after (all ++ event ∷ [])

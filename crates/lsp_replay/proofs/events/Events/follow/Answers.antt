@@ -44,7 +44,7 @@ returns-in_err-apply-clause-rule g c =
     let means = same_act c.args.side h.said h.whole h.apart.same ∙ h.means in
     let carries = carried h.said h.whole left h.rest c.args.self.now.session (sent_in events) c.args.side act h.apart holds.sent in
     rw p.2 (call_refused c.args.side content _ events (sent_by c.args.side act h.whole) (record { by = refl; reads = h.reads; means = means }) left (same_outline h.said h.whole left h.rest h.apart.same)
-    c.unwrap_or-encoding.result c.unwrap_or-kind.result (sym carries.0 ∙ c.in_ok-admit.ensures.allowed (sent_in events) holds.sent)
+    c.unwrap_or-encoding.result c.unwrap_or-kind.result (sym carries.0 ∙ c.in_ok-admit.ensures.accepted (sent_in events) holds.sent)
     (c.unwrap_or-encoding.ensures ∙ ap (λ o. unwrap_or o Utf16) (c.encoding.ensures (sent_in events) holds.sent))
     (c.unwrap_or-kind.ensures ∙ ap (λ o. unwrap_or o Nothing) (c.sync_kind.ensures (sent_in events) holds.sent))
     _ (c.in_err-apply.ensures.rule (calls events) holds.called)
@@ -71,7 +71,7 @@ returns-clause-ok g c = λ content events h holds.
     let means = same_act c.args.side h.said h.whole h.apart.same ∙ h.means in
     let carries = carried h.said h.whole left h.rest c.args.self.now.session (sent_in events) c.args.side act h.apart holds.sent in
     heard c.args.side content _ events (sent_by c.args.side act h.whole) (record { by = refl; reads = h.reads; means = means }) left (same_outline h.said h.whole left h.rest h.apart.same)
-    c.unwrap_or-encoding.result c.unwrap_or-kind.result (sym carries.0 ∙ c.in_ok-admit.ensures.allowed (sent_in events) holds.sent)
+    c.unwrap_or-encoding.result c.unwrap_or-kind.result (sym carries.0 ∙ c.in_ok-admit.ensures.accepted (sent_in events) holds.sent)
     (c.unwrap_or-encoding.ensures ∙ ap (λ o. unwrap_or o Utf16) (c.encoding.ensures (sent_in events) holds.sent))
     (c.unwrap_or-kind.ensures ∙ ap (λ o. unwrap_or o Nothing) (c.sync_kind.ensures (sent_in events) holds.sent))
     _ _ (c.in_ok-apply.ensures.accepted (calls events) holds.called)

@@ -45,7 +45,7 @@ returns-in_ok-answer-in-Snapshot-clause-ok g c =
       is_heard = (refl, refl, refl);
       answers = answer (calls events) holds.called;
       whole = tt;
-      clean = accepted (calls events) holds.called;
+      accepted = accepted (calls events) holds.called;
       holds = shown_holds c.args.self.now.session c.snapshot.new.self events uri at.version text
           holds.sent (stands (calls events) holds.called);
       counted = λ all counts.
