@@ -2,7 +2,7 @@ use Rattle.std.proofs.Common.{false, length, sym, ap, ◌∙◌, arith}
 use Rattle.std.proofs.lemmas.List.{take_all}
 use Rattle.lsp_text.specs.Ends.{ends_with_return}
 use Rattle.lsp_text.proofs.CutPlaces.{return_at}
-use Rattle.lsp_text.proofs.block.is_return_last.Goals as goal
+use Rattle.lsp_text.proofs.ends.is_return_last.Goals as goal
 
 pub returns-then-bytes-gt0 : goal.returns-then-bytes-gt0
 returns-then-bytes-gt0 c =
