@@ -24,10 +24,6 @@ const GATHERED: usize = 65_536;
 /// the reader gave beyond them.
 const PIECE: usize = 128;
 
-/// How many bytes are copied at once, at most, where more are wanted than are ever read ahead. The
-/// room for so many is often touched for the first time, which is slower in long copies.
-const COPIED: usize = 4_032;
-
 /// A reader of what a run of this task asks for. Frames are asked for by as much as is read ahead
 /// of other tasks, so nothing is read ahead of them: each piece goes straight to the run.
 fn reader_for<R: Read + Drop>(
@@ -148,7 +144,7 @@ impl<'a, R: Read> Source for BufferedInput<'a, R> {
             ≡ take 32 (first_bytes self.old ++ appended_bytes buffer.old.items buffer.new.items)) }
         ensures same_first { OnErr result (first_bytes self.new ≡ first_bytes self.old) }
     {
-        let count = self.reader.ahead().len().min(most).min(at_once(most));
+        let count = self.reader.ahead().len().min(most);
         if count == 0 {
             return pull_fresh(self, buffer, most);
         }
@@ -159,11 +155,6 @@ impl<'a, R: Read> Source for BufferedInput<'a, R> {
         self.supply.note(self.reader.ahead().len());
         Ok(count)
     }
-}
-
-/// How many bytes are copied at once, at most, where this many are wanted.
-fn at_once(wanted: usize) -> usize {
-    if wanted > GATHERED { COPIED } else { GATHERED }
 }
 
 /// Appends what one call of the input gives, at most this many bytes and [`PIECE`].
