@@ -6,7 +6,7 @@ use Rattle.std.specs.Global.{Global}
 use Rattle.lsp_docs.specs.Texts.{Text}
 use Rattle.lsp_docs.specs.Calls.{Bytes}
 use Rattle.lsp_docs.specs.Documents.{Version, versioned, Held}
-use Rattle.lsp_docs.specs.State.{Kept, set_in}
+use Rattle.lsp_docs.specs.State.{Kept, KeepsOn, held_in, set_in}
 
 -- the open documents in the order in which they were opened, and the versions that are kept of each
 -- URI
@@ -26,9 +26,12 @@ held_of seen es = map (λ e. record { uri = string_bytes e.0; version = seen e.1
 abbrev pub kept_of : {D : Type 0} → (D → List Version) → List (String Global × D) → List Kept
 kept_of keeps es = map (λ e. record { uri = string_bytes e.0; versions = keeps e.1 }) es
 
--- the URI is now at this version, with the text that the changes made
-pub record IsSet (old new : List Held) (uri : Bytes) (number : ℤ) (made : Result Text ℕ) : Type 0
-  where
-    pub text : Text
-    pub is_made : made ≡ Ok text
-    pub is : new ≡ set_in uri (versioned number text) old
+-- changes that break no rule were made: the URI is at this version, with the text that they made,
+-- and what it held is kept
+pub record IsChanged (broken : Option ℕ) (made : Result Text ℕ) (most : ℕ) (uri : Bytes)
+    (number : ℤ) (old new : Opened) : Type 0 where
+  pub accepted : broken ≡ None
+  pub text : Text
+  pub is_made : made ≡ Ok text
+  pub held : new.held ≡ set_in uri (versioned number text) old.held
+  pub kept : KeepsOn most uri (held_in uri old.held) old.kept new.kept

@@ -16,7 +16,9 @@ use Rattle.lsp_docs.specs.Documents.{Version, versioned, is_after, is_at, is_bef
 use Rattle.lsp_docs.specs.Documents.{documents}
 use Rattle.lsp_docs.specs.Kept.{kept, last_of}
 use Rattle.lsp_docs.specs.Snapshots.{waiting, versions_of}
-use Rattle.lsp_docs.specs.Rules.{rule_of, rule_of_change, AreAccepted}
+use Rattle.lsp_docs.specs.Rules.{rule_of, rule_of_change, call_rule, AreAccepted}
+use Rattle.lsp_docs.specs.Fault.{Names}
+use Rattle.lsp_docs.specs.declared.fault.DocFault.{DocFault}
 use Rattle.lsp_docs.specs.Missed.{missed}
 use Rattle.lsp_types.specs.declared.rules.TheConstants as rules
 
@@ -182,3 +184,19 @@ pub record Stands (s : State) (calls : List Call) : Type 0 where
 abbrev pub rule_at : State → Call → Option ℕ
 rule_at s c = rule_of s.terms (held_in (uri_of c) s.documents) (kept_in (uri_of c) s.kept)
     (queue_of (uri_of c) s.waits.queues) c
+
+-- the call breaks no rule after any calls that the state stands for
+abbrev pub Allows : State → Call → Type 0
+Allows s c = (calls : List Call) → Stands s calls → call_rule s.terms calls c ≡ None
+
+-- the call is accepted: it breaks no rule, and the new state stands for the calls that the old one
+-- stood for with this one behind them, on the same terms
+pub record Accepts (old new : State) (c : Call) : Type 0 where
+  pub accepted : Allows old c
+  pub stands : (calls : List Call) → Stands old calls → Stands new (calls ++ c ∷ [])
+  pub terms : new.terms ≡ old.terms
+
+-- the call is refused by the rule that the fault names, the least that the call breaks after any
+-- calls that the state stands for, unless memory ran out
+abbrev pub Refuses : State → Call → DocFault → Type 0
+Refuses s c fault = (calls : List Call) → Stands s calls → Names (call_rule s.terms calls c) fault
