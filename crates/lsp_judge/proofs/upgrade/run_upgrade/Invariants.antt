@@ -1,6 +1,6 @@
 use Rattle.lsp_replay.specs.LogEvents.{unread}
 use Rattle.lsp_judge.specs.UpgradedLog.{Upgrading}
-use Rattle.lsp_judge.proofs.upgrade.upgrade_log.Given as goal
+use Rattle.lsp_judge.proofs.upgrade.run_upgrade.Given as goal
 
 abbrev pub invariant-loop-next : goal.invariant-loop-next
 invariant-loop-next g l =
