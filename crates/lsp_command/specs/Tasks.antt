@@ -1,16 +1,13 @@
 -- What each task answers and writes: what the run of its name does with its arguments.
-use Rattle.std.specs.Prelude.{◌≡◌, ◌+◌, ℕ, List, [], Result, Ok, Err, IfOk, OnOk}
-use Rattle.std.specs.Io.KnownBytes.{IsAtEnd}
+use Rattle.std.specs.Prelude.{◌≡◌, ℕ, List, [], Result, Ok, Err, OnOk}
 use Rattle.std.specs.Int.NonZero.{non_zero_u64_get}
 use Rattle.lsp_frame.specs.Bounds.{Bounds}
 use Rattle.lsp_frame.specs.Told.{Told, CountsFailure, KeepsBytes}
 use Rattle.lsp_frame.specs.declared.io.Failed.{Failed}
-use Rattle.lsp_verdict.specs.Given.{verdict_view}
 use Rattle.lsp_judge.specs.Event.{GivesEvent}
 use Rattle.lsp_judge.specs.Normal.{Normalizes}
-use Rattle.lsp_verdict.specs.Complete.{IsVerdictBy}
-use Rattle.lsp_verdict.specs.Ports.{IsOutput, IsSilent, OfInput, Ports}
-use Rattle.lsp_verdict.specs.RunIo.{GaveAtMost, source_failures, sink_failures}
+use Rattle.lsp_verdict.specs.Ports.{Ports}
+use Rattle.lsp_verdict.specs.RunIo.{source_failures, sink_failures}
 use Rattle.lsp_verdict.specs.TextAfter.{AnswersText}
 use Rattle.lsp_judge.specs.Checked.{Checked}
 use Rattle.lsp_judge.specs.CheckedLine.{CheckedLine}
@@ -20,18 +17,13 @@ use Rattle.lsp_judge.specs.StreamRun.{RunsFrames}
 use Rattle.lsp_replay.specs.TextAnswers.{WritesText}
 use Rattle.lsp_explain.specs.AllExplained.{ExplainsAll}
 use Rattle.lsp_explain.specs.Compared.{AnswersCompared}
-use Rattle.lsp_explain.specs.Explained.{IsExplanation, BeginsExplanation}
+use Rattle.lsp_explain.specs.Explained.{WritesExplanation}
 use Rattle.lsp_survey.specs.AllShown.{ShowsAll}
 use Rattle.lsp_survey.specs.KeptText.{AnswersKept}
 use Rattle.lsp_survey.specs.Reported.{SurveysLog}
-use Rattle.lsp_verdict.specs.declared.completeness.Completeness.{Completeness}
 use Rattle.lsp_verdict.specs.declared.outcome.Outcome.{Outcome}
-use Rattle.lsp_verdict.specs.declared.outcome.Outcome.TheVariants as outcomes
 use Rattle.lsp_verdict.specs.declared.outcome.RunFault.{RunFault}
 use Rattle.lsp_verdict.specs.declared.outcome.RunFault.TheVariants as faults
-use Rattle.lsp_verdict.specs.declared.verdict.Summary.{Summary}
-use Rattle.lsp_verdict.specs.declared.verdict.Verdict.{Verdict}
-use Rattle.lsp_verdict.specs.declared.verdict.Verdict.TheVariants as verdicts
 use Rattle.lsp_judge.specs.declared.event.EventOutcome.{EventOutcome}
 use Rattle.lsp_command.specs.Ended.{of_event, of_run}
 use Rattle.lsp_command.specs.declared.task_outcome.TaskOutcome.{TaskOutcome}
@@ -41,23 +33,6 @@ use Rattle.lsp_command.specs.declared.command_line.task.Task.TheVariants.{Explai
 use Rattle.lsp_command.specs.declared.command_line.task.Task.TheVariants.{Show, ShowAll, Text}
 use Rattle.lsp_command.specs.declared.command_line.task.Task.TheVariants.{TextAll, Event}
 use Rattle.lsp_command.specs.declared.command_line.task.Task.TheVariants.{Normal, Upgrade, Frames}
-
--- at most one byte past the limit of a log was read
-abbrev pub StaysWithin : Bounds → Ports → Type 0
-StaysWithin limits p = GaveAtMost (limits.log + 1) p.source_before p.source_after
-
--- `explain`: the verdict on the log read, whose session must be complete or not, and what explains
--- it
-pub record Explained (completeness : Completeness) (limits : Bounds) (p : Ports) (result : Result Outcome RunFault) : Type 0 where
-  pub judged : IfOk result (λ outcome. (v : Verdict) × (outcome ≡ outcomes.Judged v))
-  pub verdict : (v : Verdict) → result ≡ Ok (outcomes.Judged v) → OfInput limits p (λ log. IsVerdictBy completeness limits log (verdict_view v))
-  pub written : (v : Verdict) → result ≡ Ok (outcomes.Judged v)
-      → (out : List ℕ) × IsOutput p out × OfInput limits p (λ log. IsExplanation completeness limits log (verdict_view v) out)
-  pub ended : (s : Summary) → result ≡ Ok (outcomes.Judged (verdicts.Yes s)) → IsAtEnd p.source_after.bytes
-  pub read_fault : result ≡ Err faults.Read → IsSilent p
-  pub memory : result ≡ Err faults.Memory → IsSilent p
-  pub write_fault : result ≡ Err faults.Write → (out : List ℕ) × IsOutput p out × OfInput limits p (λ log. BeginsExplanation completeness limits log out)
-  pub limit : StaysWithin limits p
 
 -- the run over a log or a stream answers so, and the task as it does
 abbrev pub EndsRun : (Result Outcome RunFault → Type 0) → Result TaskOutcome RunFault → Type 0
@@ -70,7 +45,8 @@ Answers limits (CheckLine completeness name) p result =
     EndsRun (CheckedLine completeness limits name.now p) result
 Answers limits (Survey completeness listing) p result =
     EndsRun (SurveysLog completeness listing limits p) result
-Answers limits (Explain completeness) p result = EndsRun (Explained completeness limits p) result
+Answers limits (Explain completeness) p result =
+    EndsRun (WritesExplanation completeness limits p) result
 Answers limits (ExplainAll completeness) p result =
     EndsRun (ExplainsAll completeness limits p) result
 Answers limits (Compared which) p result =

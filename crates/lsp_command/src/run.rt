@@ -1,6 +1,6 @@
 //! Does what the words ask for.
 ghost use Rattle.std.specs.Prelude.{◌≡◌, [], None, Err, OnOk, IsSome};
-ghost use Rattle.lsp_judge.specs.Written.{ports};
+ghost use Rattle.lsp_verdict.specs.Ports.{ports};
 ghost use Rattle.lsp_verdict.specs.declared.outcome.RunFault.TheVariants as faults;
 ghost use Rattle.lsp_command.specs.Ports.{input_error, late_error, output_error, unwritten};
 ghost use Rattle.lsp_command.specs.Tasks.{RanTask, RanThrough, handed_on};
@@ -93,12 +93,11 @@ pub fn run_through<'a, R: Read + Drop, W: Write + Drop>(
     output: &mut BufferedOutput<'a, W>,
     limits: Limits,
 ) -> Result<TaskOutcome, RunFault>
-    ensures ran { RanThrough limits task.entry (record {
-      source_before = ⟦<BufferedInput<'a, R> as Source>⟧.told input.old;
-      source_after = ⟦<BufferedInput<'a, R> as Source>⟧.told input.new;
-      sink_before = ⟦<BufferedOutput<'a, W> as Sink>⟧.told output.old;
-      sink_after = ⟦<BufferedOutput<'a, W> as Sink>⟧.told output.new;
-    }) (unwritten output.new) result }
+    ensures ran { RanThrough limits task.entry
+        (ports (⟦<BufferedInput<'a, R> as Source>⟧.told input.old)
+        (⟦<BufferedInput<'a, R> as Source>⟧.told input.new)
+        (⟦<BufferedOutput<'a, W> as Sink>⟧.told output.old)
+        (⟦<BufferedOutput<'a, W> as Sink>⟧.told output.new)) (unwritten output.new) result }
     ensures flushed { OnOk result (unwritten output.new ≡ []) }
     // No error of the writer is left to be told.
     ensures settled { late_error output.new ≡ None }

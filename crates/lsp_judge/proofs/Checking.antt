@@ -9,14 +9,13 @@ use Rattle.lsp_frame.specs.declared.format.Format.{Format}
 use Rattle.lsp_judge.specs.Answered.{IsClean}
 use Rattle.lsp_judge.specs.Checked.{Checked, YesMeans, NoMeans, EndsAsDue, IsCut, WritesVerdict}
 use Rattle.lsp_judge.specs.LogEvents.{BrokeOff}
-use Rattle.lsp_judge.specs.Written.{ports}
+use Rattle.lsp_verdict.specs.Ports.{ports, IsSilent, OfInput, Ports}
 use Rattle.lsp_log.specs.declared.fault.LogCode.{LogCode}
 use Rattle.lsp_verdict.specs.Complete.{IsVerdictBy}
 use Rattle.lsp_verdict.specs.Event.{Event}
 use Rattle.lsp_verdict.specs.Given.{verdict_view}
 use Rattle.lsp_verdict.specs.Headline.{HasFault}
 use Rattle.lsp_verdict.specs.Outcome.{log_terms}
-use Rattle.lsp_verdict.specs.Ports.{IsSilent, OfInput, Ports}
 use Rattle.lsp_verdict.specs.Report.{report}
 use Rattle.lsp_verdict.specs.RunIo.{GaveAtMost, failures_after, sink_failures_after}
 use Rattle.lsp_verdict.specs.Verdict.{Verdict, no, yes, bad_log, summary}
@@ -35,9 +34,8 @@ use Rattle.lsp_verdict.proofs.Completing.{lack_is_named}
 use Rattle.lsp_verdict.proofs.Logs.Ends.{yes_at_end}
 use Rattle.lsp_verdict.proofs.Meanings.{yes_means_kept, no_names, bad_log_has}
 use Rattle.lsp_verdict.proofs.RunReading.{read_map, read_within}
-use Rattle.lsp_verdict.proofs.RunsJudged.{judged_as}
+use Rattle.lsp_verdict.proofs.RunsJudged.{judged_as, unwritten_sink}
 use Rattle.lsp_judge.proofs.Answering.{clean_yes, clean_complete, read_verdict}
-use Rattle.lsp_judge.proofs.Written.{unwritten_sink}
 
 abbrev pub Reads : Completeness → Bounds → Ports → code.Verdict → Type 0
 Reads completeness limits io v =

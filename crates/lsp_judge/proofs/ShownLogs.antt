@@ -27,11 +27,10 @@ use Rattle.lsp_verdict.specs.Verdict.{Verdict}
 use Rattle.lsp_verdict.proofs.Logs.{same_events, one_verdict, some_verdict}
 use Rattle.lsp_verdict.proofs.LookBackLemmas.{each_from-append, each_of-snoc}
 use Rattle.lsp_verdict.proofs.RunReading.{read_map}
-use Rattle.lsp_verdict.proofs.RunsJudged.{judged_not, judges}
+use Rattle.lsp_verdict.proofs.RunsJudged.{judged_not, judges, unwritten_sink}
 use Rattle.lsp_judge.specs.LogEvents.{EndsAt, EndsBy, BeginsWith, SoFar, Found, BrokeOff}
 use Rattle.lsp_judge.specs.ShownLog.{IsShown, BeginsShown, OneShown, SomeShown, Showed, ShowedAll}
-use Rattle.lsp_judge.specs.Written.{ports}
-use Rattle.lsp_judge.proofs.Written.{unwritten_sink}
+use Rattle.lsp_verdict.specs.Ports.{ports}
 use Rattle.lsp_replay.specs.Lines.{line_of}
 use Rattle.lsp_replay.specs.Places.{place_of}
 use Rattle.lsp_replay.proofs.EventPlaces.{IsPlaceAfter, line_placed, placed}

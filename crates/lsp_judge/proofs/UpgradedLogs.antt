@@ -37,7 +37,7 @@ use Rattle.lsp_verdict.proofs.Entries.{is_first}
 use Rattle.lsp_verdict.proofs.ExactCounts.{exact}
 use Rattle.lsp_verdict.proofs.Outcomes.{offends_final}
 use Rattle.lsp_verdict.proofs.RunReading.{read_map}
-use Rattle.lsp_verdict.proofs.RunsJudged.{judged_not, judges}
+use Rattle.lsp_verdict.proofs.RunsJudged.{judged_not, judges, unwritten_sink}
 use Rattle.lsp_verdict.proofs.Upgrading.{accepted_on, accepted_here, accepted_all, upgraded_more}
 use Rattle.lsp_verdict.proofs.Upgrading.{accepted_none}
 use Rattle.lsp_judge.specs.Heard.{AreHeard, HasHeard}
@@ -45,12 +45,11 @@ use Rattle.lsp_judge.specs.LogEvents.{Finishes}
 use Rattle.lsp_judge.specs.Rulings.{verdict_in}
 use Rattle.lsp_judge.specs.Standing.{Rules}
 use Rattle.lsp_judge.specs.UpgradedLog.{UpgradesLog, Upgrading}
-use Rattle.lsp_judge.specs.Written.{ports}
+use Rattle.lsp_verdict.specs.Ports.{ports}
 use Rattle.lsp_judge.specs.declared.event_reader.EventReader.{EventReader}
 use Rattle.lsp_judge.specs.declared.ruling.Ruling.{Ruling}
 use Rattle.lsp_judge.proofs.LogEvents.{whole_of}
 use Rattle.lsp_judge.proofs.Records.{accepted, rules_offence}
-use Rattle.lsp_judge.proofs.Written.{unwritten_sink}
 
 pub head_is : first_line Two ≡ upgraded []
 head_is = sym (append-nil (first_line Two))

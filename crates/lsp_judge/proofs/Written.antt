@@ -1,20 +1,12 @@
 -- How a run ends that has something due for its input.
-use Rattle.std.proofs.Common.{◌≡◌, List, ℕ, Ok, Err, refl}
+use Rattle.std.proofs.Common.{◌≡◌, List, ℕ, Ok, Err}
 use Rattle.std.specs.Io.KnownBytes.{IsAtEnd}
 use Rattle.lsp_frame.specs.Bounds.{Bounds}
 use Rattle.lsp_judge.specs.Written.{WritesDue}
 use Rattle.lsp_verdict.specs.Ports.{OutputFor, Ports}
 use Rattle.lsp_verdict.specs.RunIo.{failures_after, sink_failures_after}
 use Rattle.lsp_verdict.specs.declared.outcome.RunFault.{RunFault}
-use Rattle.lsp_verdict.specs.declared.outcome.RunFault.TheVariants.{Memory, Read, Write}
 use Rattle.lsp_verdict.proofs.RunReading.{read_within}
-
--- a fault of the reader or of memory, where no write failed
-pub unwritten_sink : (fault : RunFault) (old new : ℕ) → (fault ≡ Write → ⊥) → new ≡ old
-    → new ≡ sink_failures_after fault old
-unwritten_sink Read old new none same = same
-unwritten_sink Memory old new none same = same
-unwritten_sink Write old new none same = absurd (none refl)
 
 module _ {X : Type 0} (limits : Bounds) (io : Ports) (at_end : X)
     (IsDue : List ℕ → List ℕ → X → Type 0) (Begins : List ℕ → List ℕ → Type 0) where

@@ -11,7 +11,7 @@ use Rattle.lsp_frame.specs.Decoder.{State, StandsFor, EndsWith}
 use Rattle.lsp_judge.specs.StreamParts.{IsPart, Refuses, outcome_at}
 use Rattle.lsp_verdict.specs.RunIo.{OfRead, sink_failures_after}
 use Rattle.lsp_judge.specs.StreamRun.{fault_of, HasParts, RunsFrames}
-use Rattle.lsp_judge.specs.Written.{ports}
+use Rattle.lsp_verdict.specs.Ports.{ports}
 use Rattle.lsp_verdict.specs.declared.outcome.Mode.{Mode}
 use Rattle.lsp_verdict.specs.declared.outcome.Mode.TheVariants.{Lengths}
 use Rattle.lsp_verdict.specs.declared.outcome.Outcome.{Outcome}

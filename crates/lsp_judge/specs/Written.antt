@@ -2,18 +2,8 @@
 use Rattle.std.specs.Prelude.{◌≡◌, List, ℕ, Result, Ok, IfOk, OnErr}
 use Rattle.std.specs.Io.KnownBytes.{IsAtEnd}
 use Rattle.lsp_frame.specs.Bounds.{Bounds}
-use Rattle.lsp_frame.specs.Told.{Told}
 use Rattle.lsp_verdict.specs.Ports.{CountsFaults, OutputFor, Ports}
 use Rattle.lsp_verdict.specs.declared.outcome.RunFault.{RunFault}
-
--- what a source tells before and after, and then a sink
-abbrev pub ports : Told → Told → Told → Told → Ports
-ports source_before source_after sink_before sink_after = record {
-  source_before = source_before;
-  source_after = source_after;
-  sink_before = sink_before;
-  sink_after = sink_after;
-}
 
 -- **What is due for the input is written, and the outcome is the one that is due with it**: what is
 -- due, what begins that, and the outcome that is known only at the end of the input

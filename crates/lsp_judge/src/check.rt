@@ -2,7 +2,7 @@
 ghost use Rattle.lsp_frame.specs.Bounds.{IsInRange};
 ghost use Rattle.lsp_judge.specs.Checked.{Checked};
 ghost use Rattle.lsp_judge.specs.LogEvents.{GivesVerdict};
-ghost use Rattle.lsp_judge.specs.Written.{ports};
+ghost use Rattle.lsp_verdict.specs.Ports.{ports};
 
 use crate::contents::take;
 use crate::event_reader::EventReader;

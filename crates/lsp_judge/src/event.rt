@@ -4,7 +4,7 @@ ghost use Rattle.lsp_frame.specs.Bounds.{Bounds};
 ghost use Rattle.lsp_frame.specs.Told.{Told};
 ghost use Rattle.lsp_judge.specs.Event.{GivesEvent};
 ghost use Rattle.lsp_judge.specs.EventSteps.{Answers, Finds, HasPassed, IsOfEnd};
-ghost use Rattle.lsp_judge.specs.Written.{ports};
+ghost use Rattle.lsp_verdict.specs.Ports.{ports};
 ghost use Rattle.lsp_verdict.specs.Lent.{raw_view};
 
 use lsp_frame::{Limits, Sink, Source, put_all};

@@ -9,7 +9,7 @@ ghost use Rattle.lsp_frame.specs.Told.{Told};
 ghost use Rattle.lsp_frame.specs.Pulling.{Misses};
 ghost use Rattle.lsp_judge.specs.StreamParts.{numbers, kind_line, outcome_at};
 ghost use Rattle.lsp_judge.specs.StreamRun.{RunsFrames, fault_of, closing};
-ghost use Rattle.lsp_judge.specs.Written.{ports};
+ghost use Rattle.lsp_verdict.specs.Ports.{ports};
 ghost use Rattle.lsp_verdict.specs.RunIo.{Tells};
 ghost use Rattle.lsp_judge.specs.StreamSteps.{WritesPart, AreParts, Finds, PartsAnswer, ToldAll};
 ghost use Rattle.lsp_judge.specs.StreamSteps.{IsLong, LongAnswer};

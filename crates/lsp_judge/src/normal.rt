@@ -8,7 +8,7 @@ ghost use Rattle.lsp_judge.specs.Normal as normal;
 ghost use Rattle.lsp_judge.specs.Normal.{Normalizes, first_broken};
 ghost use Rattle.lsp_judge.specs.NormalSteps.{Counted, CarriesCapped, EndsLog, EndsWhole};
 ghost use Rattle.lsp_judge.specs.NormalSteps.{WritesEvent, WroteHead};
-ghost use Rattle.lsp_judge.specs.Written.{ports};
+ghost use Rattle.lsp_verdict.specs.Ports.{ports};
 ghost use Rattle.lsp_replay.specs.Streams.{Stands};
 ghost use Rattle.lsp_verdict.specs.Lent.{raw_view};
 ghost use Rattle.lsp_verdict.specs.Placed.{Raw as PlacedRaw};

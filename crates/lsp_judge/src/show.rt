@@ -1,7 +1,7 @@
 //! Shows a log: a line for each event, and the report.
 ghost use Rattle.lsp_frame.specs.Bounds.{IsInRange};
 ghost use Rattle.lsp_judge.specs.ShownLog.{Showed, Shows};
-ghost use Rattle.lsp_judge.specs.Written.{ports};
+ghost use Rattle.lsp_verdict.specs.Ports.{ports};
 
 use crate::contents::hear;
 use crate::event_reader::EventReader;

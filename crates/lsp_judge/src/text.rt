@@ -2,7 +2,7 @@
 ghost use Rattle.std.specs.Prelude.{◌<◌};
 ghost use Rattle.lsp_replay.specs.TextAnswers.{FindsText, WritesText};
 ghost use Rattle.lsp_verdict.specs.TextAfter.{AnswersText};
-ghost use Rattle.lsp_judge.specs.Written.{ports};
+ghost use Rattle.lsp_verdict.specs.Ports.{ports};
 
 use crate::contents::hear;
 use crate::event_reader::EventReader;

@@ -2,7 +2,7 @@
 ghost use Rattle.std.specs.Prelude.{◌≡◌, IfOk};
 ghost use Rattle.lsp_log.specs.Records.{record_view};
 ghost use Rattle.lsp_judge.specs.UpgradedLog.{UpgradesLog};
-ghost use Rattle.lsp_judge.specs.Written.{ports};
+ghost use Rattle.lsp_verdict.specs.Ports.{ports};
 
 use crate::contents::hear_record;
 use crate::event_reader::EventReader;

@@ -18,7 +18,7 @@ use Rattle.lsp_judge.specs.Normal.{form_of, fault_of, EndsNormal, BeginsNormal, 
 use Rattle.lsp_judge.specs.Normal.{Carries, Normalizes}
 use Rattle.lsp_judge.specs.NormalSteps.{mark, CarriesCapped, spelled, IsLate, EndsLog, EndsWhole}
 use Rattle.lsp_judge.specs.NormalSteps.{WritesEvent, SoFar}
-use Rattle.lsp_judge.specs.Written.{ports}
+use Rattle.lsp_verdict.specs.Ports.{ports}
 use Rattle.lsp_verdict.specs.Given.{as_given}
 use Rattle.lsp_verdict.specs.Lent.{raw_view}
 use Rattle.lsp_replay.specs.declared.log_events.End.{End}
@@ -42,7 +42,8 @@ use Rattle.lsp_verdict.proofs.Below.{some_stream}
 use Rattle.lsp_verdict.proofs.ExactCounts.{capped_is, raws_within}
 use Rattle.lsp_verdict.proofs.PlacedLemmas.{placed_whole}
 use Rattle.lsp_verdict.proofs.RunReading.{read_map}
-use Rattle.lsp_judge.proofs.Written.{due_begun, due_written, unwritten_sink}
+use Rattle.lsp_verdict.proofs.RunsJudged.{unwritten_sink}
+use Rattle.lsp_judge.proofs.Written.{due_begun, due_written}
 use Rattle.lsp_judge.proofs.Forming.Counts.{end_exact}
 use Rattle.lsp_judge.proofs.Forming.Forms.{one_broken, one_sound, spelled_behind, spelled_broken}
 use Rattle.lsp_judge.proofs.Forming.OneForm.{broken_normal, due_first}

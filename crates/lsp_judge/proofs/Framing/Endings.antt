@@ -14,7 +14,7 @@ use Rattle.lsp_judge.specs.StreamParts.{RunsThrough}
 use Rattle.lsp_verdict.specs.RunIo.{GoesOn, Tells, failures_after, sink_failures_after}
 use Rattle.lsp_judge.specs.StreamRun.{fault_of, HasParts, closing, IsRun, BeginsRun, RunsFrames}
 use Rattle.lsp_judge.specs.StreamSteps.{AreParts, WroteParts}
-use Rattle.lsp_judge.specs.Written.{ports}
+use Rattle.lsp_verdict.specs.Ports.{ports}
 use Rattle.lsp_verdict.specs.declared.outcome.Mode.{Mode}
 use Rattle.lsp_verdict.specs.declared.outcome.Outcome.{Outcome}
 use Rattle.lsp_verdict.specs.declared.outcome.Outcome.TheVariants.{Done}

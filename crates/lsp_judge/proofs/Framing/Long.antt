@@ -25,7 +25,7 @@ use Rattle.lsp_verdict.specs.declared.outcome.RunFault.TheVariants as faults
 use Rattle.lsp_judge.specs.StreamParts.{numbers, length_line, outcome_at}
 use Rattle.lsp_judge.specs.StreamRun.{RunsFrames, fault_of}
 use Rattle.lsp_judge.specs.StreamSteps.{AreParts, WroteParts, SoFar, ToldAll, IsLong, LongAnswer}
-use Rattle.lsp_judge.specs.Written.{ports}
+use Rattle.lsp_verdict.specs.Ports.{ports}
 use Rattle.lsp_judge.proofs.Framing.Parts.{parts_push}
 use Rattle.lsp_judge.proofs.Framing.Runs.{taken_open, push_on, memory_broke, read_broke, end_ran}
 use Rattle.lsp_judge.proofs.Framing.Runs.{found_broke}

@@ -29,7 +29,7 @@ use Rattle.lsp_verdict.specs.RunIo.{of_pull, failures_after, sink_failures_after
 use Rattle.lsp_judge.specs.StreamRun.{fault_of, HasParts, RunsFrames}
 use Rattle.lsp_judge.specs.StreamSteps.{AreParts, FoundAll, StopsAt, FoundFault, FoundBroken}
 use Rattle.lsp_judge.specs.StreamSteps.{Finds, WroteParts, SoFar, ToldAll}
-use Rattle.lsp_judge.specs.Written.{ports}
+use Rattle.lsp_verdict.specs.Ports.{ports}
 use Rattle.lsp_judge.proofs.Framing.Parts.{run_through, run_refused}
 use Rattle.lsp_judge.proofs.Framing.Due.{stream_front}
 use Rattle.lsp_judge.proofs.Framing.Endings.{begun}

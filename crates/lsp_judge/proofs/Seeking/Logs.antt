@@ -11,7 +11,7 @@ use Rattle.lsp_frame.specs.declared.format.Format.{Format}
 use Rattle.lsp_log.specs.Log.{Record}
 use Rattle.lsp_judge.specs.Event.{content_at, outcome_of, outcome_at, event_at, IsEvent}
 use Rattle.lsp_judge.specs.Event.{BeginsEvent, GivesEvent}
-use Rattle.lsp_judge.specs.Written.{ports}
+use Rattle.lsp_verdict.specs.Ports.{ports}
 use Rattle.lsp_judge.specs.EventSteps.{Answers, Finds, Found, HasPassed, IsOfEnd}
 use Rattle.lsp_replay.specs.LogEvents.{Ended, Gives, HasGiven, IsLogOf, Opens, Reads, flaw_of}
 use Rattle.lsp_verdict.specs.Lent.{raw_view}
@@ -31,7 +31,8 @@ use Rattle.lsp_verdict.proofs.PlacedLemmas.{placed_whole}
 use Rattle.lsp_verdict.proofs.RunReading.{read_map}
 use Rattle.lsp_replay.proofs.Pulling.{log_of, reads_failures, reads_given}
 use Rattle.lsp_frame.proofs.Telling.{took_nothing}
-use Rattle.lsp_judge.proofs.Written.{due_begun, due_written, unwritten_sink}
+use Rattle.lsp_verdict.proofs.RunsJudged.{unwritten_sink}
+use Rattle.lsp_judge.proofs.Written.{due_begun, due_written}
 use Rattle.lsp_judge.proofs.Seeking.Laws.{some_event}
 use Rattle.lsp_judge.proofs.Seeking.Places.{at_place, still_at}
 

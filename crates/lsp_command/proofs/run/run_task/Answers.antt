@@ -37,26 +37,10 @@ returns-in-Survey g c =
 
 pub returns-in-Explain : goal.returns-in-Explain
 returns-in-Explain g c =
-    let is = c.run_explain.ensures in
+    let is = c.run_explain.ensures.explains in
     rw c.in-Explain.is (record {
-      ran = run_ended _ _ _ _ _ c.of_run-in-Explain.ensures (record {
-        source_failures = is.source_failures;
-        sink_failures = is.sink_failures;
-        limit = is.limit;
-      }) (
-        c.run_explain.result,
-        c.of_run-in-Explain.ensures,
-        record {
-          judged = is.judged;
-          verdict = is.verdict;
-          written = is.written;
-          ended = is.ended;
-          read_fault = is.read_fault;
-          memory = is.memory;
-          write_fault = is.write_fault;
-          limit = is.limit;
-        },
-      );
+      ran = run_ended _ _ _ _ _ c.of_run-in-Explain.ensures is.writes.counts
+          (c.run_explain.result, c.of_run-in-Explain.ensures, is);
     })
 
 pub returns-in-ExplainAll : goal.returns-in-ExplainAll
