@@ -220,7 +220,7 @@ accepts-saved s u t e =
       waits-kept s.terms s.waits calls c h.waits rule refl refl (λ x. refl) (λ x. refl),
     ))
 
-held-shown : (terms : Terms) (calls : List Call) (u : Bytes) (n : ℤ) (t : Text)
+pub held-shown : (terms : Terms) (calls : List Call) (u : Bytes) (n : ℤ) (t : Text)
     → held terms u (calls ++ shows u n t ∷ []) ≡ held terms u calls
 held-shown terms calls u n t =
     held-snoc terms u calls (shows u n t) ∙ unchanged (held terms u calls)
