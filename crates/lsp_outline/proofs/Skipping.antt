@@ -61,17 +61,6 @@ with_member k j d old e (Some p) = rw e
 
 -- ---- values
 
-pub number_passed : (depth : ℕ) (digits : List ℕ) (ts : List Token)
-    → is_some (number_of digits) ≡ true
-    → (n : Num) × (converted of_json (value depth (Token.number digits ∷ ts)) ≡ Some (number n, ts))
-number_passed depth digits ts h =
-    let read = some_of (number_of digits) h in (
-      read.0,
-      ap (converted of_json) (value_is depth (Token.number digits ∷ ts))
-          ∙ ap (λ n. option_map {U = Data × List Token} (λ d. (d, ts)) (option_map number n))
-          read.1,
-    )
-
 pub array_passed : (depth : ℕ) (ts rest : List Token) (ds : Items) → 0 < depth
     → converted of_items (items (value (depth - 1)) (length ts) ts) ≡ Some (ds, rest)
     → converted of_json (value depth (Token.begin_array ∷ ts)) ≡ Some (array ds, rest)
