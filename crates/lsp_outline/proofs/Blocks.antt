@@ -13,7 +13,7 @@ use Rattle.std.specs.Int.Bits.{bit_or}
 use Rattle.std.specs.Int.Count.{count_trailing_zeros}
 use Rattle.std.specs.List.{prefix_len}
 use Rattle.std.specs.Simd.Lanes.{zip2, top, mask_l, chunk}
-use Rattle.json.specs.Run.{is_stop, is_plain}
+use Rattle.json.specs.Run.{is_stop}
 
 -- ---- the mask
 

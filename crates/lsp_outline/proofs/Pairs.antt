@@ -1,7 +1,7 @@
 -- Positions and ranges as most programs write them.
-use Rattle.std.proofs.Common.{◌≡◌, ◌||◌, ℕ, zero, suc, ◌+◌, ◌-◌, ◌<◌, ◌≤◌, List, [], ◌∷◌, ◌++◌}
-use Rattle.std.proofs.Common.{length, take, drop, get_or, refl, sym, ap, ap₂, ◌∙◌, arith, codes, Some, None}
-use Rattle.std.proofs.Common.{option_and_then, pos}
+use Rattle.std.proofs.Common.{◌≡◌, ℕ, zero, suc, ◌+◌, ◌-◌, ◌<◌, ◌≤◌, List, [], ◌∷◌, ◌++◌}
+use Rattle.std.proofs.Common.{length, take, drop, get_or, refl, sym, ap, ap₂, ◌∙◌, arith, codes, Some}
+use Rattle.std.proofs.Common.{pos}
 use Rattle.std.proofs.lemmas.List.{get_or-drop, drop-drop, take-append-drop, take-take}
 use Rattle.std.proofs.lemmas.Nat.{le_bytes_8}
 use Rattle.std.specs.Int.{w64, to_le_bytes, from_le_bytes}
@@ -11,7 +11,6 @@ use Rattle.json.specs.Text.{content}
 use Rattle.json.specs.Lex.{lex, between, token, colon}
 use Rattle.json.specs.Lex.{punctuate}
 use Rattle.json.specs.Json.{read_key}
-use Rattle.json.specs.Word.{is_operator, is_space}
 use Rattle.lsp_outline.proofs.Lexing.{key_first}
 use Rattle.serde_json.specs.Data.{Data, Members, object, no_members, put}
 use Rattle.serde_json.proofs.Views.{get_member-put, get_member-put_other}

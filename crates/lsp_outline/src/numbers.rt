@@ -1,8 +1,7 @@
 //! The numbers that numerals of JSON write, as `serde_json` reads them.
-ghost use Rattle.std.specs.Prelude.{◌≡◌, ◌⊎◌, ◌+◌, ◌<◌, ◌≤◌, ◌==◌, drop, get_or, length};
+ghost use Rattle.std.specs.Prelude.{◌≡◌, ◌⊎◌, ◌+◌, ◌<◌, ◌≤◌, ◌==◌, get_or, length};
 ghost use Rattle.std.specs.Prelude.{◌^◌, slice_index, Some, true, false, IsTrue, IfSome, is_some};
 ghost use Rattle.std.specs.Char.{is_ascii_digit};
-ghost use Rattle.std.specs.List.{prefix_len};
 ghost use Rattle.json.specs.Run.{is_no_digit};
 ghost use Rattle.serde_json.specs.Data.{Num, number, unsigned};
 ghost use Rattle.serde_json.specs.Read.{number_of, number_from};
@@ -11,7 +10,7 @@ ghost use Rattle.lsp_outline.specs.Walk.{IsNumeral, IsNatural, IsInteger, AreFew
 ghost use Rattle.lsp_outline.specs.Walk.{MayEndNumber};
 
 use crate::bytes::{byte_at, is_delimiter};
-use crate::runs::{Run, run_end};
+use crate::runs::{Run, near_run_end, run_end};
 use fast_float::Numeral;
 use std::simd::prelude::*;
 
@@ -67,16 +66,6 @@ impl Run for Digits {
     }
 }
 
-/// Where the digits end that begin there.
-#[inline(always)]
-fn digits_end(bytes: &[u8], from: usize) -> usize
-    requires { from ≤ length bytes.now }
-    ensures value { result ≡ from + prefix_len is_ascii_digit (drop from bytes.now) }
-    ensures within { result ≤ length bytes.now }
-{
-    run_end::<Digits>(bytes, from)
-}
-
 /// Whether these digits write an integer that fits, without a zero before others.
 #[inline(always)]
 fn is_integer(digits: &[u8]) -> bool
@@ -119,7 +108,8 @@ fn any_number_end(bytes: &[u8], from: usize) -> Option<usize>
     }
 }
 
-/// Where the integer without a sign ends that begins there, where it has at most eighteen digits.
+/// Where the integer without a sign ends that begins there, where one block of bytes shows it and
+/// if a number may end there.
 #[inline(always)]
 pub(crate) fn short_integer_end(bytes: &[u8], from: usize) -> Option<usize>
     requires { from ≤ length bytes.now }
@@ -127,7 +117,7 @@ pub(crate) fn short_integer_end(bytes: &[u8], from: usize) -> Option<usize>
         MayEndNumber bytes.now end → IsNumeral bytes.now from end) }
     ensures within { IfSome result (λ end. end ≤ length bytes.now) }
 {
-    let end = digits_end(bytes, from);
+    let end = near_run_end::<Digits>(bytes, from)?;
     if is_integer(&bytes[from..end]) {
         Some(end)
     } else {
@@ -143,8 +133,23 @@ pub(crate) fn number_end(bytes: &[u8], from: usize) -> Option<usize>
 {
     match short_integer_end(bytes, from) {
         Some(end) if is_delimiter(byte_at(bytes, end)) => Some(end),
-        _ => any_number_end(bytes, from),
+        Some(_) => any_number_end(bytes, from),
+        None => long_number_end(bytes, from),
     }
+}
+
+/// Where the number of whatever length ends that begins there. `None` where `serde_json` reads
+/// none.
+#[inline(never)]
+fn long_number_end(bytes: &[u8], from: usize) -> Option<usize>
+    requires { from ≤ length bytes.now }
+    ensures { IfSome result (IsNumeral bytes.now from) }
+{
+    let end = run_end::<Digits>(bytes, from);
+    if is_integer(&bytes[from..end]) && is_delimiter(byte_at(bytes, end)) {
+        return Some(end);
+    }
+    any_number_end(bytes, from)
 }
 
 /// Where the number of one or two digits ends that begins there, where a comma comes next.

@@ -1,5 +1,5 @@
 //! Runs of bytes, sixteen bytes at once.
-ghost use Rattle.std.specs.Prelude.{◌≡◌, ℕ, ◌+◌, ◌≤◌, Bool, length, drop, map, not};
+ghost use Rattle.std.specs.Prelude.{◌≡◌, ℕ, ◌+◌, ◌≤◌, Bool, length, drop, map, not, IfSome};
 ghost use Rattle.std.specs.List.{prefix_len};
 ghost use Rattle.std.specs.Simd.Lanes.{mask_l};
 
@@ -21,6 +21,24 @@ pub(crate) trait Run {
     fn stops(block: u8x16) -> u64
         requires { length block ≡ LANES }
         ensures { result ≡ mask_l (map is_stop block) };
+}
+
+/// Where the run ends that is there, if one block of bytes shows it.
+#[inline(always)]
+pub(crate) fn near_run_end<R: Run>(bytes: &[u8], from: usize) -> Option<usize>
+    requires { from ≤ length bytes.now }
+    ensures value { IfSome result (λ end.
+        end ≡ from + prefix_len (λ x. not (R.is_stop x)) (drop from bytes.now)) }
+    ensures within { IfSome result (λ end. end ≤ length bytes.now) }
+{
+    if bytes.len() - from < LANES {
+        return None;
+    }
+    let stops = R::stops(u8x16::from_slice(&bytes[from..]));
+    if stops == 0 {
+        return None;
+    }
+    Some(from + stops.trailing_zeros() as usize)
 }
 
 /// Where the run ends that is there, byte by byte.

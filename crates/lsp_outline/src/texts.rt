@@ -327,6 +327,22 @@ fn write_blocks(room: &mut [u8], bytes: &[u8], from: usize) -> Option<(usize, us
     Some((at, len))
 }
 
+/// Puts these bytes behind the copy, whose size is doubled until they fit.
+#[inline(always)]
+fn extend(copy: &mut Vec<u8>, more: &[u8]) -> Option<()>
+    ensures { IfSome result (λ _. copy.new.items ≡ copy.old.items ++ more.now) }
+{
+    // A size of just what is needed would be about that of the content, whatever the text, and the
+    // C library gives back memory of two such sizes at once, only to ask for it again.
+    let len = copy.len() + more.len();
+    let mut size = copy.capacity().max(1);
+    'doubled: while size < len {
+        size = size.saturating_mul(2);
+    }
+    copy.reserve(size - copy.len()).ok()?;
+    copy.extend_from_slice(more).ok()
+}
+
 /// Puts the text that is there behind the copy, as far as blocks fit, and gives where it continues.
 #[inline(never)]
 fn copy_rooms(bytes: &[u8], from: usize, copy: &mut Vec<u8>) -> Option<usize>
@@ -340,7 +356,7 @@ fn copy_rooms(bytes: &[u8], from: usize, copy: &mut Vec<u8>) -> Option<usize>
     let mut at = from;
     'rooms: loop {
         let (next, end) = write_blocks(&mut room, bytes, at)?;
-        copy.extend_from_slice(&room[..end]).ok()?;
+        extend(copy, &room[..end])?;
         // The room was not filled: the text ends there, or no block fits behind it.
         if next - at < ROOM / 2 {
             return Some(next);

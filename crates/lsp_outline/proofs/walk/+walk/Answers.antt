@@ -1,4 +1,4 @@
-use Rattle.std.proofs.Common.{get_or, true, false, arith}
+use Rattle.std.proofs.Common.{true, false, arith}
 use Rattle.std.proofs.lemmas.Option.{IfSome_then}
 use Rattle.serde_json.specs.Data.{string, boolean, null, array, object, no_items, no_members, put}
 use Rattle.lsp_outline.proofs.Walking.{number_value, true_value, false_value}
