@@ -1,7 +1,8 @@
 //! The numbers that numerals of JSON write, as `serde_json` reads them.
-ghost use Rattle.std.specs.Prelude.{◌≡◌, ◌⊎◌, ◌+◌, ◌<◌, ◌≤◌, ◌==◌, get_or, length};
+ghost use Rattle.std.specs.Prelude.{◌≡◌, ◌⊎◌, ◌+◌, ◌<◌, ◌≤◌, ◌==◌, drop, get_or, length, not};
 ghost use Rattle.std.specs.Prelude.{◌^◌, slice_index, Some, true, false, IsTrue, IfSome, is_some};
 ghost use Rattle.std.specs.Char.{is_ascii_digit};
+ghost use Rattle.std.specs.List.{prefix_len};
 ghost use Rattle.json.specs.Run.{is_no_digit};
 ghost use Rattle.serde_json.specs.Data.{Num, number, unsigned};
 ghost use Rattle.serde_json.specs.Read.{number_of, number_from};
@@ -125,15 +126,28 @@ pub(crate) fn short_integer_end(bytes: &[u8], from: usize) -> Option<usize>
     }
 }
 
+/// Where the number ends that begins there, whose first digits end at `end`. `None` where
+/// `serde_json` reads none.
+#[inline(always)]
+fn end_past_digits(bytes: &[u8], from: usize, end: usize) -> Option<usize>
+    requires digits { end ≡ from + prefix_len (λ x. not (is_no_digit x)) (drop from bytes.now) }
+    requires within { (from ≤ end) × (end ≤ length bytes.now) }
+    ensures { IfSome result (IsNumeral bytes.now from) }
+{
+    if is_integer(&bytes[from..end]) && is_delimiter(byte_at(bytes, end)) {
+        return Some(end);
+    }
+    any_number_end(bytes, from)
+}
+
 /// Where the number ends that begins there. `None` where `serde_json` reads none.
 #[inline(always)]
 pub(crate) fn number_end(bytes: &[u8], from: usize) -> Option<usize>
     requires { from ≤ length bytes.now }
     ensures { IfSome result (IsNumeral bytes.now from) }
 {
-    match short_integer_end(bytes, from) {
-        Some(end) if is_delimiter(byte_at(bytes, end)) => Some(end),
-        Some(_) => any_number_end(bytes, from),
+    match near_run_end::<Digits>(bytes, from) {
+        Some(end) => end_past_digits(bytes, from, end),
         None => long_number_end(bytes, from),
     }
 }
@@ -146,10 +160,7 @@ fn long_number_end(bytes: &[u8], from: usize) -> Option<usize>
     ensures { IfSome result (IsNumeral bytes.now from) }
 {
     let end = run_end::<Digits>(bytes, from);
-    if is_integer(&bytes[from..end]) && is_delimiter(byte_at(bytes, end)) {
-        return Some(end);
-    }
-    any_number_end(bytes, from)
+    end_past_digits(bytes, from, end)
 }
 
 /// Where the number of one or two digits ends that begins there, where a comma comes next.
