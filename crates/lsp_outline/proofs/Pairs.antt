@@ -1,7 +1,7 @@
 -- Positions and ranges as most programs write them.
-use Rattle.std.proofs.Common.{◌≡◌, ◌||◌, ℕ, zero, suc, ◌+◌, ◌-◌, ◌<◌, ◌≤◌, List, [], ◌∷◌, ◌++◌}
-use Rattle.std.proofs.Common.{length, take, drop, get_or, refl, sym, ap, ap₂, ◌∙◌, arith, codes, Some, None}
-use Rattle.std.proofs.Common.{option_and_then, pos}
+use Rattle.std.proofs.Common.{◌≡◌, ℕ, zero, suc, ◌+◌, ◌-◌, ◌<◌, ◌≤◌, List, [], ◌∷◌, ◌++◌}
+use Rattle.std.proofs.Common.{length, take, drop, get_or, refl, sym, ap, ap₂, ◌∙◌, arith, codes, Some}
+use Rattle.std.proofs.Common.{pos}
 use Rattle.std.proofs.lemmas.List.{get_or-drop, drop-drop, take-append-drop, take-take}
 use Rattle.std.proofs.lemmas.Nat.{le_bytes_8}
 use Rattle.std.specs.Int.{w64, to_le_bytes, from_le_bytes}
@@ -11,17 +11,15 @@ use Rattle.json.specs.Text.{content}
 use Rattle.json.specs.Lex.{lex, between, token, colon}
 use Rattle.json.specs.Lex.{punctuate}
 use Rattle.json.specs.Json.{read_key}
-use Rattle.json.specs.Word.{is_operator, is_space}
 use Rattle.lsp_outline.proofs.Lexing.{key_first}
-use Rattle.serde_json.specs.Data.{Data, object, no_members, put}
-use Rattle.lsp_rpc.specs.Params.{as_uinteger, natural, position_at, span_at}
+use Rattle.serde_json.specs.Data.{Data, Members, object, no_members, put}
+use Rattle.serde_json.proofs.Views.{get_member-put, get_member-put_other}
+use Rattle.lsp_rpc.specs.Params.{position_at, span_at}
 use Rattle.lsp_rpc.specs.Shape.{as_integer}
-use Rattle.lsp_types.specs.declared.position.Position.{Position}
-use Rattle.lsp_outline.proofs.Editing.{first_came, second_came}
-use Rattle.lsp_outline.proofs.DigitBlocks.{plain_numeral}
 use Rattle.lsp_outline.proofs.Walking.{object_value, no_members_yet, member_turn, last_member}
-use Rattle.lsp_outline.proofs.Walking.{number_value, numeral_kind, byte}
-use Rattle.lsp_outline.specs.Walk.{IsKey, IsPlainNumber, IsValue, Stand, line_key, character_key}
+use Rattle.lsp_outline.proofs.Walking.{byte}
+use Rattle.lsp_outline.specs.Places.{KeepsBoth, KeepsPosition}
+use Rattle.lsp_outline.specs.Walk.{IsKey, IsValue, Stand, line_key, character_key}
 use Rattle.lsp_outline.specs.Walk.{start_key, end_key}
 
 -- ---- words
@@ -240,76 +238,50 @@ module _ (depth : ℕ) (d : List ℕ) (from : ℕ) where
       (last_member (depth - 1) d (from + 1) (s + 1) b e e second y (put first x no_members) one
       key_y value_y refl brace (omega arith))
 
-  -- of two plain numbers
-  pub two_numbers : (a s b e : ℕ) (first second : List ℕ) → 0 < depth
-      → (get_or d from 0 ≡ 123) × IsKey d (from + 1) a first → IsPlainNumber d a s
-      → (get_or d s 0 ≡ 44) × IsKey d (s + 1) b second → IsPlainNumber d b e
-      → get_or d e 0 ≡ 125 → (x : Data) × IsValue depth d from (e + 1) x
-  two_numbers a s b e first second some key_x number_x key_y number_y brace =
-      let one = plain_numeral d a s number_x (ap (λ x. is_operator x || is_space x) key_y.0) in
-      let two = plain_numeral d b e number_y (ap (λ x. is_operator x || is_space x) brace) in
-      let x = number_value (depth - 1) d a s one (numeral_kind d a s one) in
-      let y = number_value (depth - 1) d b e two (numeral_kind d b e two) in (
-        object (put second y.0 (put first x.0 no_members)),
-        two_members a s b e first second x.0 y.0 some key_x.0 key_x.1 x.1 key_y.0 key_y.1 y.1 brace,
-      )
+-- ---- what is kept of two members, in either order
 
--- ---- positions
+module _ {A : Type 0} (keeps : Data → A → Type 0) (a b : List ℕ) (x y : Data) (kept : A × A) where
+  pub in_order : (a ≡ b → ⊥) → keeps x kept.0 → keeps y kept.1
+      → KeepsBoth keeps a b (put b y (put a x no_members)) kept
+  in_order apart keeps_x keeps_y = record {
+    one = x;
+    two = y;
+    has_one = get_member-put_other a b y (put a x no_members) apart ∙ get_member-put a x no_members;
+    has_two = get_member-put b y (put a x no_members);
+    keeps_one = keeps_x;
+    keeps_two = keeps_y;
+  }
 
--- what the members of a position read as, in either order
-pub line_then_character : (x y : Data) (line column : ℕ) → as_integer x ≡ Some (pos line)
-    → as_integer y ≡ Some (pos column)
-    → position_at (object (put (codes "character") y (put (codes "line") x no_members)))
-    ≡ Some (record { line = line; column = column })
-line_then_character x y line column is_line is_column =
-    let none = no_members in
-    let first = first_came (option_and_then as_uinteger) (option_and_then as_uinteger)
-    (codes "line") (codes "character") (codes "line") x None None refl refl (Some line)
-    (ap (option_and_then natural) is_line) none (refl, refl) in
-    let both = second_came (option_and_then as_uinteger) (option_and_then as_uinteger)
-    (codes "line") (codes "character") (codes "character") y (Some line) None refl refl
-    (Some column) (ap (option_and_then natural) is_column) (put (codes "line") x none) first in
-    rw (both.0, both.1) refl
+  pub turned : (b ≡ a → ⊥) → keeps x kept.0 → keeps y kept.1
+      → KeepsBoth keeps a b (put a x (put b y no_members)) kept
+  turned apart keeps_x keeps_y = record {
+    one = x;
+    two = y;
+    has_one = get_member-put a x (put b y no_members);
+    has_two = get_member-put_other b a x (put b y no_members) apart ∙ get_member-put b y no_members;
+    keeps_one = keeps_x;
+    keeps_two = keeps_y;
+  }
 
-pub character_then_line : (x y : Data) (line column : ℕ) → as_integer x ≡ Some (pos column)
-    → as_integer y ≡ Some (pos line)
-    → position_at (object (put (codes "line") y (put (codes "character") x no_members)))
-    ≡ Some (record { line = line; column = column })
-character_then_line x y line column is_column is_line =
-    let none = no_members in
-    let first = second_came (option_and_then as_uinteger) (option_and_then as_uinteger)
-    (codes "line") (codes "character") (codes "character") x None None refl refl (Some column)
-    (ap (option_and_then natural) is_column) none (refl, refl) in
-    let both = first_came (option_and_then as_uinteger) (option_and_then as_uinteger)
-    (codes "line") (codes "character") (codes "line") y None (Some column) refl refl
-    (Some line) (ap (option_and_then natural) is_line) (put (codes "character") x none) first in
-    rw (both.0, both.1) refl
+-- ---- positions and ranges
 
--- what the members of a range read as, in either order
-pub start_then_end : (x y : Data) (first second : Position) → position_at x ≡ Some first
-    → position_at y ≡ Some second
-    → span_at (object (put (codes "end") y (put (codes "start") x no_members)))
-    ≡ Some (record { first = first; second = second })
-start_then_end x y first second is_first is_second =
-    let none = no_members in
-    let one = first_came (option_and_then position_at) (option_and_then position_at)
-    (codes "start") (codes "end") (codes "start") x None None refl refl (Some first) is_first none
-    (refl, refl) in
-    let both = second_came (option_and_then position_at) (option_and_then position_at)
-    (codes "start") (codes "end") (codes "end") y (Some first) None refl refl (Some second)
-    is_second (put (codes "start") x none) one in
-    rw (both.0, both.1) refl
+abbrev IsKept : Data → ℕ → Type 0
+IsKept d n = as_integer d ≡ Some (pos n)
 
-pub end_then_start : (x y : Data) (first second : Position) → position_at x ≡ Some second
-    → position_at y ≡ Some first
-    → span_at (object (put (codes "start") y (put (codes "end") x no_members)))
-    ≡ Some (record { first = first; second = second })
-end_then_start x y first second is_second is_first =
-    let none = no_members in
-    let one = second_came (option_and_then position_at) (option_and_then position_at)
-    (codes "start") (codes "end") (codes "end") x None None refl refl (Some second) is_second none
-    (refl, refl) in
-    let both = first_came (option_and_then position_at) (option_and_then position_at)
-    (codes "start") (codes "end") (codes "start") y None (Some second) refl refl (Some first)
-    is_first (put (codes "end") x none) one in
-    rw (both.0, both.1) refl
+position_read : (ms : Members) (kept : ℕ × ℕ)
+    → KeepsBoth IsKept (codes "line") (codes "character") ms kept
+    → position_at (object ms) ≡ Some (record { line = kept.0; column = kept.1 })
+position_read ms kept is = rw (is.has_one, is.has_two, is.keeps_one, is.keeps_two) refl
+
+pub span_read : (ms : Members) (kept : (ℕ × ℕ) × (ℕ × ℕ))
+    → KeepsBoth (KeepsPosition IsKept) (codes "start") (codes "end") ms kept
+    → span_at (object ms) ≡ Some (record {
+      first = record { line = kept.0.0; column = kept.0.1 };
+      second = record { line = kept.1.0; column = kept.1.1 };
+    })
+span_read ms kept is =
+    let one = is.keeps_one in
+    let two = is.keeps_two in
+    let first = ap position_at one.1 ∙ position_read one.0 kept.0 one.2 in
+    let second = ap position_at two.1 ∙ position_read two.0 kept.1 two.2 in
+    rw (is.has_one, is.has_two, first, second) refl
