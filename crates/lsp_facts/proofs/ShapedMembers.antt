@@ -1,7 +1,7 @@
 -- A value has the shape of params or of a result exactly where no member of it is wrong.
 use Rattle.std.specs.Prelude.{ℕ, zero, suc, ℤ, Bool, ◌&&◌, is_none, is_some, codes, option_and_then}
-use Rattle.std.specs.Prelude.{option_map, decimal, if◌then◌else◌, unwrap_or}
-use Rattle.std.proofs.Common.{◌≡◌, ◌∙◌, ◌++◌, List, [], ◌∷◌, true, false, Option, Some, None, refl}
+use Rattle.std.specs.Prelude.{option_map, if◌then◌else◌, unwrap_or}
+use Rattle.std.proofs.Common.{◌≡◌, ◌∙◌, List, [], ◌∷◌, true, false, Option, Some, None, refl}
 use Rattle.std.proofs.Common.{sym, ap, subst, true≢false}
 use Rattle.std.proofs.lemmas.Option.{none-some}
 use Rattle.std.proofs.lemmas.Slice.Eq.{bytes_eq-Decides}
@@ -9,13 +9,14 @@ use Rattle.std.specs.Bool.{Decides}
 use Rattle.std.specs.List.{list_all}
 use Rattle.std.specs.Option.{option_or}
 use Rattle.std.specs.Str.{bytes_eq}
-use Rattle.serde_json.specs.Data.{Data, null, boolean, number, string, array, object}
-use Rattle.serde_json.specs.Data.{Items, item, no_items}
+use Rattle.serde_json.specs.Data.{Data, null, number, string, array, object}
+use Rattle.serde_json.specs.Data.{Items, Members, item, no_items}
 use Rattle.serde_json.specs.Find.{as_array, as_str, get_member, unescape, walk}
 use Rattle.lsp_types.specs.declared.position.Position.{Position}
 use Rattle.lsp_types.specs.declared.position.Span.{Span}
 use Rattle.lsp_types.specs.declared.side.Side.TheVariants.{Editor, Server}
 use Rattle.lsp_rpc.specs.Act as Act
+use Rattle.lsp_rpc.specs.Ident.{Ident}
 use Rattle.lsp_rpc.specs.Message.{request, notification, response}
 use Rattle.lsp_rpc.specs.Params as params
 use Rattle.lsp_rpc.specs.Params.{required, allowed, given, both, all_three, all_of, if_given}
@@ -28,7 +29,7 @@ use Rattle.lsp_facts.specs.Members.{Part, Pointer, Row, fits, member_fits, row_f
 use Rattle.lsp_facts.specs.Members.{wrong_item, wrong_row, parts, result_rows}
 use Rattle.lsp_facts.specs.declared.shapes.Kind.{Kind}
 use Rattle.lsp_facts.specs.declared.shapes.Kind.TheVariants as kind
-use Rattle.lsp_facts.specs.declared.shapes.Need.TheVariants.{Needed, Allowed}
+use Rattle.lsp_facts.specs.declared.shapes.Need.TheVariants.{Must, May}
 
 -- ---- words
 
@@ -68,34 +69,27 @@ both_some make None b = refl
 both_some make (Some x) None = refl
 both_some make (Some x) (Some y) = refl
 
-three_some : {A B C D : Type 0} (make : A → B → C → D) (a : Option A) (b : Option B) (c : Option C)
-    → (is_some a && (is_some b && (is_some c && true))) ≡ is_some (all_three make a b c)
-three_some make None b c = refl
-three_some make (Some x) None c = refl
-three_some make (Some x) (Some y) None = refl
-three_some make (Some x) (Some y) (Some z) = refl
-
 -- ---- members
 
 -- these are wrong just where the shape is not there
 module _ {X : Type 0} (k : Kind) (shape : Data → Option X)
     (same : (d : Data) → fits k d ≡ is_some (shape d)) where
   needs_some : fits k null ≡ false → (v : Option Data)
-      → member_fits Needed k (option_and_then unless_null v) ≡ is_some (option_and_then shape v)
+      → member_fits Must k (option_and_then unless_null v) ≡ is_some (option_and_then shape v)
   needs_some unfit None = refl
   needs_some unfit (Some null) = sym unfit ∙ same null
   needs_some unfit (Some d) = same d
 
-  allows_some : (v : Option Data) → member_fits Allowed k v ≡ is_some (if_given shape v)
+  allows_some : (v : Option Data) → member_fits May k v ≡ is_some (if_given shape v)
   allows_some None = refl
   allows_some (Some d) = same d ∙ sym (map_some Some (shape d))
 
 -- a member of an object that is needed, or allowed
 abbrev needs : Kind → Option Data → Bool
-needs k v = member_fits Needed k (option_and_then unless_null v)
+needs k v = member_fits Must k (option_and_then unless_null v)
 
 abbrev allows : Kind → Option Data → Bool
-allows k v = member_fits Allowed k (option_and_then unless_null v)
+allows k v = member_fits May k (option_and_then unless_null v)
 
 -- what a row says of the object that is the member with which its pointer begins
 abbrev sub : Option Data → Row → Bool
@@ -147,7 +141,7 @@ encoding_some (string s) = refl
 encoding_some d = refl
 
 abbrev encodings : Row
-encodings = ([], codes "positionEncodings", Allowed, kind.Array)
+encodings = ([], codes "positionEncodings", May, kind.Array)
 
 abbrev names : Option Data → Bool
 names v = is_none (wrong_item kind.Text [] 0 (unwrap_or (option_and_then as_array v) no_items))
@@ -183,8 +177,8 @@ initialize_some (Some (object ms)) =
     in_general v token = refl
 
     in_capabilities : (v : Option Data) (token : Bool)
-        → ((needs kind.Object v && (sub v ([], codes "general", Allowed, kind.Object)
-        && (sub v (codes "/general", codes "positionEncodings", Allowed, kind.Array) && true)))
+        → ((needs kind.Object v && (sub v ([], codes "general", May, kind.Object)
+        && (sub v (codes "/general", codes "positionEncodings", May, kind.Array) && true)))
         && (names (option_and_then (walk [] (codes "general/positionEncodings")) v) && token))
         ≡ (is_some (option_and_then params.offered_encodings v) && token)
     in_capabilities (Some (object ms)) token =
@@ -197,13 +191,13 @@ initialize_some d = refl
 -- ---- documents
 
 abbrev uri : Row
-uri = ([], codes "uri", Needed, kind.Text)
+uri = ([], codes "uri", Must, kind.Text)
 
 abbrev version : Row
-version = ([], codes "version", Needed, kind.Integer)
+version = ([], codes "version", Must, kind.Integer)
 
 abbrev text : Row
-text = ([], codes "text", Needed, kind.Text)
+text = ([], codes "text", Must, kind.Text)
 
 text_some : (v : Option Data) → needs kind.Text v ≡ is_some (option_and_then as_str v)
 text_some v = needs_some kind.Text as_str (λ d. refl) refl v
@@ -211,21 +205,40 @@ text_some v = needs_some kind.Text as_str (λ d. refl) refl v
 integer_some : (v : Option Data) → needs kind.Integer v ≡ is_some (option_and_then as_integer v)
 integer_some v = needs_some kind.Integer as_integer (λ d. refl) refl v
 
+-- a document of this URI and version, and what else there must be
+versioned_some : {A B : Type 0} (make : Act.Text → ℤ → A → B) (ms : Members) (there good : Bool)
+    (last : Option A) → (there && good) ≡ is_some last
+    → ((needs kind.Text (get_member (codes "uri") ms)
+    && (needs kind.Integer (get_member (codes "version") ms) && (there && true))) && good)
+    ≡ is_some (all_three make (params.uri_at (object ms)) (params.version_at (object ms)) last)
+versioned_some make ms there good last same =
+    let d = object ms in
+    ap (λ b. b && good) (and (text_some (get_member (codes "uri") ms))
+    (ap (λ b. b && (there && true)) (integer_some (get_member (codes "version") ms))))
+    ∙ joined (params.uri_at d) (params.version_at d) there same
+  where
+    joined : (a : Option Act.Text) (b : Option ℤ) (there : Bool) → (there && good) ≡ is_some last
+        → ((is_some a && (is_some b && (there && true))) && good)
+        ≡ is_some (all_three make a b last)
+    joined None b there same = refl
+    joined (Some x) None there same = refl
+    joined (Some x) (Some y) true same = same ∙ sym (map_some (make x y) last)
+    joined (Some x) (Some y) false same = same ∙ sym (map_some (make x y) last)
+
 did_open_some : Keeps (codes "textDocument/didOpen") params.did_open_at
 unfolding parts walk unescape
 did_open_some (Some (object ms)) =
-    last_none _ ∙ rows_none (rows_of parts 3) (object ms)
+    or_none _ None ∙ ap (λ b. b && true) (rows_none (rows_of parts 3) (object ms))
     ∙ in_document (get_member (codes "textDocument") ms)
   where
     in_document : (v : Option Data)
-        → (needs kind.Object v && (sub v uri && (sub v version && (sub v text && true))))
+        → ((needs kind.Object v && (sub v uri && (sub v version && (sub v text && true)))) && true)
         ≡ is_some (option_and_then (λ document. all_three Act.did_open (params.uri_at document)
         (params.version_at document) (params.text_at document)) v)
     in_document (Some (object ms)) =
-        let d = object ms in
-        and (text_some (member (codes "uri") d)) (and (integer_some (member (codes "version") d))
-        (ap (λ b. b && true) (text_some (member (codes "text") d))))
-        ∙ three_some Act.did_open (params.uri_at d) (params.version_at d) (params.text_at d)
+        let v = get_member (codes "text") ms in
+        versioned_some Act.did_open ms (needs kind.Text v) true (option_and_then as_str v)
+        (and_true (needs kind.Text v) ∙ text_some v)
     in_document v = refl
 did_open_some d = refl
 
@@ -236,8 +249,8 @@ regroup true false c d = refl
 regroup false b c d = refl
 
 position_some : (v : Option Data)
-    → (needs kind.Object v && (sub v ([], codes "line", Needed, kind.Uinteger)
-    && (sub v ([], codes "character", Needed, kind.Uinteger) && true)))
+    → (needs kind.Object v && (sub v ([], codes "line", Must, kind.Uinteger)
+    && (sub v ([], codes "character", Must, kind.Uinteger) && true)))
     ≡ is_some (option_and_then params.position_at v)
 position_some (Some (object ms)) =
     let d = object ms in
@@ -264,19 +277,15 @@ change_some (object ms) =
     ∙ in_range _ (get_member (codes "range") ms) (get_member (codes "text") ms)
   where
     in_range : {C : Type 0} (make : Option Span → Act.Text → C) (v w : Option Data)
-        → (allows kind.Object v && (sub v ([], codes "start", Needed, kind.Object)
-        && (sub v (codes "/start", codes "line", Needed, kind.Uinteger)
-        && (sub v (codes "/start", codes "character", Needed, kind.Uinteger)
-        && (sub v ([], codes "end", Needed, kind.Object)
-        && (sub v (codes "/end", codes "line", Needed, kind.Uinteger)
-        && (sub v (codes "/end", codes "character", Needed, kind.Uinteger)
+        → (allows kind.Object v && (sub v ([], codes "start", Must, kind.Object)
+        && (sub v (codes "/start", codes "line", Must, kind.Uinteger)
+        && (sub v (codes "/start", codes "character", Must, kind.Uinteger)
+        && (sub v ([], codes "end", Must, kind.Object)
+        && (sub v (codes "/end", codes "line", Must, kind.Uinteger)
+        && (sub v (codes "/end", codes "character", Must, kind.Uinteger)
         && (needs kind.Text w && true))))))))
         ≡ is_some (both make (if_given params.span_at (option_and_then unless_null v))
         (option_and_then as_str w))
-    in_range make None w =
-        ap (λ b. b && true) (text_some w) ∙ both_some make (Some None) (option_and_then as_str w)
-    in_range make (Some null) w =
-        ap (λ b. b && true) (text_some w) ∙ both_some make (Some None) (option_and_then as_str w)
     in_range make (Some (object ms)) w =
         let d = object ms in
         let pair : Position → Position → Span = λ a b. record { first = a; second = b } in
@@ -287,7 +296,10 @@ change_some (object ms) =
         (ap (λ b. b && true) (text_some w)))
         ∙ span_some make pair (required (codes "start") params.position_at d)
         (required (codes "end") params.position_at d) (option_and_then as_str w)
-    in_range make v w = refl
+    in_range make v w =
+        ap (λ b. allows kind.Object v && (b && true)) (text_some w)
+        ∙ both_some make (if_given params.span_at (option_and_then unless_null v))
+        (option_and_then as_str w)
 change_some d = refl
 
 did_change_some : Keeps (codes "textDocument/didChange") params.did_change_at
@@ -305,19 +317,7 @@ did_change_some (Some (object ms)) =
         ≡ is_some (option_and_then (λ document. all_three Act.did_change (params.uri_at document)
         (params.version_at document) changes) v)
     in_document (Some (object ms)) there good changes same =
-        let d = object ms in
-        ap (λ b. b && good) (and (text_some (member (codes "uri") d))
-        (ap (λ b. b && (there && true)) (integer_some (member (codes "version") d))))
-        ∙ joined (params.uri_at d) (params.version_at d) there good changes same
-      where
-        joined : (a : Option Act.Text) (b : Option ℤ) (there good : Bool)
-            (changes : Option (List Act.Change)) → (there && good) ≡ is_some changes
-            → ((is_some a && (is_some b && (there && true))) && good)
-            ≡ is_some (all_three Act.did_change a b changes)
-        joined None b there good changes same = refl
-        joined (Some x) None there good changes same = refl
-        joined (Some x) (Some y) true good changes same = same ∙ sym (map_some _ changes)
-        joined (Some x) (Some y) false good changes same = same ∙ sym (map_some _ changes)
+        versioned_some Act.did_change ms there good changes same
     in_document v there good changes same = refl
 did_change_some d = refl
 
@@ -347,23 +347,22 @@ did_save_some d = refl
 
 -- ---- cancelling, progress and registrations
 
-id_some : (v : Option Data) → needs kind.Id v ≡ is_some (option_and_then as_id v)
-id_some v = needs_some kind.Id as_id (λ d. refl) refl v
+id_some : {A : Type 0} (name : List ℕ) (make : Ident → A) (ms : Members)
+    → is_none (option_or (wrong_in kind.Object (([], name, Must, kind.Id) ∷ []) (object ms)) None)
+    ≡ is_some (option_map make (required name as_id (object ms)))
+id_some name make ms =
+    last_none _ ∙ rows_none (([], name, Must, kind.Id) ∷ []) (object ms) ∙ and_true _
+    ∙ needs_some kind.Id as_id (λ d. refl) refl (get_member name ms)
+    ∙ sym (map_some make (required name as_id (object ms)))
 
 cancel_some : Keeps (codes "$/cancelRequest") params.cancel_at
 unfolding parts
-cancel_some (Some (object ms)) =
-    last_none _ ∙ rows_none (rows_of parts 8) (object ms) ∙ and_true _
-    ∙ id_some (get_member (codes "id") ms)
-    ∙ sym (map_some Act.cancel (required (codes "id") as_id (object ms)))
+cancel_some (Some (object ms)) = id_some (codes "id") Act.cancel ms
 cancel_some d = refl
 
 progress_some : Keeps (codes "$/progress") params.progress_at
 unfolding parts
-progress_some (Some (object ms)) =
-    last_none _ ∙ rows_none (rows_of parts 9) (object ms) ∙ and_true _
-    ∙ id_some (get_member (codes "token") ms)
-    ∙ sym (map_some Act.progress (required (codes "token") as_id (object ms)))
+progress_some (Some (object ms)) = id_some (codes "token") Act.progress ms
 progress_some d = refl
 
 registration_some : (d : Data) → is_none (wrong_in kind.Object (rows_of parts 11) d)
@@ -394,7 +393,7 @@ picked_some make f g (Some x) None = refl
 picked_some make f g (Some x) (Some y) = refl
 
 abbrev change : Row
-change = ([], codes "change", Allowed, kind.SyncKind)
+change = ([], codes "change", May, kind.SyncKind)
 
 result_some : (d : Data) → is_none (wrong.wrong_result d) ≡ is_some (results.picked_at d)
 unfolding result_rows walk unescape
@@ -402,7 +401,7 @@ result_some (object ms) =
     rows_none result_rows (object ms) ∙ in_capabilities (get_member (codes "capabilities") ms)
   where
     in_synchronisation : (v : Option Data)
-        → (member_fits Allowed kind.Synchronization (option_and_then unless_null v)
+        → (member_fits May kind.Sync (option_and_then unless_null v)
         && (sub v change && true))
         ≡ is_some (if_given results.sync_at (option_and_then unless_null v))
     in_synchronisation (Some (object ms)) =
@@ -416,9 +415,9 @@ result_some (object ms) =
     in_synchronisation v = refl
 
     in_capabilities : (v : Option Data)
-        → (needs kind.Object v && (sub v ([], codes "positionEncoding", Allowed, kind.Text)
-        && (sub v ([], codes "textDocumentSync", Allowed, kind.Synchronization)
-        && (sub v (codes "/textDocumentSync", codes "change", Allowed, kind.SyncKind) && true))))
+        → (needs kind.Object v && (sub v ([], codes "positionEncoding", May, kind.Text)
+        && (sub v ([], codes "textDocumentSync", May, kind.Sync)
+        && (sub v (codes "/textDocumentSync", codes "change", May, kind.SyncKind) && true))))
         ≡ is_some (option_and_then results.picked_in v)
     in_capabilities (Some (object ms)) =
         let d = object ms in
@@ -452,72 +451,51 @@ result_has_member d = (
 abbrev Found : List ℕ → Option Data → Type 0
 Found method d = (p : Pointer) × (wrong_by parts method d ≡ Some p)
 
--- of the method of this row
-of_shape : {X : Type 0} (method : List ℕ) (shape : Data → Option X) (d : Option Data)
-    → Keeps method shape → option_and_then shape d ≡ None → Found method d
-of_shape method shape d same none = there (wrong_by parts method d) (same d ∙ ap is_some none)
+module _ (method : List ℕ) (d : Option Data) where
+  -- of a method by its row, or a later one
+  in_row : (name : List ℕ) (act rest : Option Act.Act)
+      → (act ≡ None → Found name d) → (rest ≡ None → Found method d)
+      → (if bytes_eq method name then act else rest) ≡ None → Found method d
+  in_row name act rest now later none =
+      by (bytes_eq method name) (bytes_eq-Decides method name) none
+    where
+      by : (b : Bool) → Decides b (method ≡ name) → (if b then act else rest) ≡ None
+          → Found method d
+      by true is none = subst (λ m. Found m d) (sym (is.0 refl)) (now none)
+      by false is none = later none
 
--- of a method by its row, or a later one
-in_row : (method name : List ℕ) (d : Option Data) (act rest : Option Act.Act)
-    → (act ≡ None → Found name d) → (rest ≡ None → Found method d)
-    → (if bytes_eq method name then act else rest) ≡ None → Found method d
-in_row method name d act rest now later none =
-    by (bytes_eq method name) (bytes_eq-Decides method name) none
-  where
-    by : (b : Bool) → Decides b (method ≡ name) → (if b then act else rest) ≡ None
-        → Found method d
-    by true is none = subst (λ m. Found m d) (sym (is.0 refl)) (now none)
-    by false is none = later none
+  judged : (name : List ℕ) (shape : Data → Option Act.Act) (rest : Option Act.Act)
+      → Keeps name shape → (rest ≡ None → Found method d)
+      → (if bytes_eq method name then option_and_then shape d else rest) ≡ None → Found method d
+  judged name shape rest same =
+      in_row name (option_and_then shape d) rest
+      (λ none. there (wrong_by parts name d) (same d ∙ ap is_some none))
 
--- of a method whose params are not judged
-of_act : {A : Type 0} (act : Act.Act) → Some act ≡ None → A
-of_act act none = absurd (none-some act (sym none))
+  passed : (name : List ℕ) (act : Act.Act) (rest : Option Act.Act) → (rest ≡ None → Found method d)
+      → (if bytes_eq method name then Some act else rest) ≡ None → Found method d
+  passed name act rest = in_row name (Some act) rest (λ none. absurd (none-some act (sym none)))
 
-editor_request : (method : List ℕ) (d : Option Data)
-    → params.act_by params.editor_requests method d ≡ None → Found method d
-editor_request method d =
-    in_row method (codes "initialize") d _ _
-    (of_shape (codes "initialize") params.initialize_at d initialize_some)
-    (in_row method (codes "shutdown") d _ _ (of_act Act.shutdown) (of_act Act.other))
-
-editor_notification : (method : List ℕ) (d : Option Data)
-    → params.act_by params.editor_notifications method d ≡ None → Found method d
-editor_notification method d =
-    in_row method (codes "initialized") d _ _ (of_act Act.initialized)
-    (in_row method (codes "exit") d _ _ (of_act Act.exit)
-    (in_row method (codes "textDocument/didOpen") d _ _
-    (of_shape (codes "textDocument/didOpen") params.did_open_at d did_open_some)
-    (in_row method (codes "textDocument/didChange") d _ _
-    (of_shape (codes "textDocument/didChange") params.did_change_at d did_change_some)
-    (in_row method (codes "textDocument/didClose") d _ _
-    (of_shape (codes "textDocument/didClose") params.did_close_at d did_close_some)
-    (in_row method (codes "textDocument/didSave") d _ _
-    (of_shape (codes "textDocument/didSave") params.did_save_at d did_save_some)
-    (in_row method (codes "$/cancelRequest") d _ _
-    (of_shape (codes "$/cancelRequest") params.cancel_at d cancel_some) (of_act Act.other)))))))
-
-server_request : (method : List ℕ) (d : Option Data)
-    → params.act_by params.server_requests method d ≡ None → Found method d
-server_request method d =
-    in_row method (codes "window/showMessageRequest") d _ _ (of_act Act.early)
-    (in_row method (codes "client/registerCapability") d _ _
-    (of_shape (codes "client/registerCapability") params.register_at d register_some) (of_act Act.other))
-
-server_notification : (method : List ℕ) (d : Option Data)
-    → params.act_by params.server_notifications method d ≡ None → Found method d
-server_notification method d =
-    in_row method (codes "$/cancelRequest") d _ _
-    (of_shape (codes "$/cancelRequest") params.cancel_at d cancel_some)
-    (in_row method (codes "$/progress") d _ _
-    (of_shape (codes "$/progress") params.progress_at d progress_some)
-    (in_row method (codes "window/showMessage") d _ _ (of_act Act.early)
-    (in_row method (codes "window/logMessage") d _ _ (of_act Act.early)
-    (in_row method (codes "telemetry/event") d _ _ (of_act Act.early) (of_act Act.other)))))
+  other : Some Act.other ≡ None → Found method d
+  other none = absurd (none-some Act.other (sym none))
 
 -- **The params of another shape have a member that is wrong.**
 pub params_have_member : BadParamsHaveMember
-params_have_member Editor (request id method d) none = editor_request method d none
-params_have_member Server (request id method d) none = server_request method d none
-params_have_member Editor (notification method d) none = editor_notification method d none
-params_have_member Server (notification method d) none = server_notification method d none
-params_have_member side (response id reply) none = of_act Act.other none
+params_have_member Editor (request id m d) none =
+    judged m d (codes "initialize") _ _ initialize_some
+    (passed m d (codes "shutdown") _ _ (other m d)) none
+params_have_member Server (request id m d) none =
+    passed m d (codes "window/showMessageRequest") _ _
+    (judged m d (codes "client/registerCapability") _ _ register_some (other m d)) none
+params_have_member Editor (notification m d) none =
+    passed m d (codes "initialized") _ _ (passed m d (codes "exit") _ _
+    (judged m d (codes "textDocument/didOpen") _ _ did_open_some
+    (judged m d (codes "textDocument/didChange") _ _ did_change_some
+    (judged m d (codes "textDocument/didClose") _ _ did_close_some
+    (judged m d (codes "textDocument/didSave") _ _ did_save_some
+    (judged m d (codes "$/cancelRequest") _ _ cancel_some (other m d))))))) none
+params_have_member Server (notification m d) none =
+    judged m d (codes "$/cancelRequest") _ _ cancel_some
+    (judged m d (codes "$/progress") _ _ progress_some
+    (passed m d (codes "window/showMessage") _ _ (passed m d (codes "window/logMessage") _ _
+    (passed m d (codes "telemetry/event") _ _ (other m d))))) none
+params_have_member side (response id reply) none = absurd (none-some Act.other (sym none))

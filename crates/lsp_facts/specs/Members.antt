@@ -17,7 +17,7 @@ use Rattle.lsp_rpc.specs.Shape.{as_integer, holds_unless_absent, is_id, is_objec
 use Rattle.lsp_facts.specs.declared.shapes.Kind.{Kind}
 use Rattle.lsp_facts.specs.declared.shapes.Kind.TheVariants as kind
 use Rattle.lsp_facts.specs.declared.shapes.Need.{Need}
-use Rattle.lsp_facts.specs.declared.shapes.Need.TheVariants.{Needed, Allowed}
+use Rattle.lsp_facts.specs.declared.shapes.Need.TheVariants.{Must, May}
 use Rattle.lsp_facts.specs.declared.shapes.TheConstants.{PARAMS, RESULT}
 
 abbrev pub Pointer : Type 0
@@ -38,7 +38,7 @@ fits kind.Integer d = is_some (as_integer d)
 fits kind.Uinteger d = is_some (as_uinteger d)
 fits kind.Id d = is_id d
 fits kind.SyncKind d = is_some (kind_at d)
-fits kind.Synchronization d = is_object d || is_some (kind_at d)
+fits kind.Sync d = is_object d || is_some (kind_at d)
 fits kind.Array d = is_some (as_array d)
 fits kind.Object d = is_object d
 
@@ -58,8 +58,8 @@ abbrev pub row_view : Bor (List ℕ) × Bor (List ℕ) × Need × Kind → Row
 row_view row = (row.0.now, row.1.now, row.2, row.3)
 
 abbrev pub member_fits : Need → Kind → Option Data → Bool
-member_fits Needed k None = false
-member_fits Allowed k None = true
+member_fits Must k None = false
+member_fits May k None = true
 member_fits need k (Some d) = fits k d
 
 -- whether a value has a member as it must be

@@ -139,7 +139,7 @@ fn row_fits(row: &Row, value: &Value) -> bool
     };
     match given(object, name) {
         Some(member) => kind.fits(member),
-        None => matches!(need, Need::Allowed),
+        None => matches!(need, Need::May),
     }
 }
 
@@ -181,11 +181,11 @@ impl Kind {
     {
         match self {
             Kind::Text => value.is_string(),
-            Kind::Integer => is_integer(value),
-            Kind::Uinteger => is_uinteger(value),
-            Kind::Id => is_id(value),
+            Kind::Integer => integer_of(value).is_some(),
+            Kind::Uinteger => integer_of(value).is_some_and(|n| n >= 0),
+            Kind::Id => value.is_string() || integer_of(value).is_some(),
             Kind::SyncKind => is_sync_kind(value),
-            Kind::Synchronization => value.is_object() || is_sync_kind(value),
+            Kind::Sync => value.is_object() || is_sync_kind(value),
             Kind::Array => value.is_array(),
             Kind::Object => value.is_object(),
         }
@@ -195,43 +195,11 @@ impl Kind {
 fn integer_of(value: &Value) -> Option<i32>
     ensures { result ≡ as_integer (view value.now) }
 {
-    let n = value.as_i64()?;
-    if i64::from(i32::MIN) <= n && n <= i64::from(i32::MAX) {
-        Some(n as i32)
-    } else {
-        None
-    }
-}
-
-fn is_integer(value: &Value) -> bool
-    ensures { result ≡ spec.fits Kind.Integer (view value.now) }
-{
-    integer_of(value).is_some()
-}
-
-fn is_uinteger(value: &Value) -> bool
-    ensures { result ≡ spec.fits Kind.Uinteger (view value.now) }
-{
-    match integer_of(value) {
-        Some(n) => n >= 0,
-        None => false,
-    }
-}
-
-fn is_id(value: &Value) -> bool
-    ensures { result ≡ spec.fits Kind.Id (view value.now) }
-{
-    match value {
-        Value::String(_) => true,
-        value => is_integer(value),
-    }
+    i32::try_from(value.as_i64()?).ok()
 }
 
 fn is_sync_kind(value: &Value) -> bool
     ensures { result ≡ spec.fits Kind.SyncKind (view value.now) }
 {
-    match integer_of(value) {
-        Some(n) => 0 <= n && n <= 2,
-        None => false,
-    }
+    integer_of(value).is_some_and(|n| 0 <= n && n <= 2)
 }

@@ -1,8 +1,8 @@
 //! What the params of a message, and the result of `initialize`, must be (LSP 3.17): the members
 //! that are read, in the order in which they are read. Each is read with all that is inside it
 //! before the next one.
-use Kind::{Array, Id, Integer, Object, SyncKind, Synchronization, Text, Uinteger};
-use Need::{Allowed, Needed};
+use Kind::{Array, Id, Integer, Object, Sync, SyncKind, Text, Uinteger};
+use Need::{May, Must};
 
 /// What a JSON value must be.
 #[derive(Clone, Copy)]
@@ -18,24 +18,24 @@ pub(crate) enum Kind {
     /// 0, 1 or 2 (LSP 3.17, TextDocumentSyncKind).
     SyncKind,
     /// A sync kind or an object (LSP 3.17, ServerCapabilities).
-    Synchronization,
+    Sync,
     /// An array.
     Array,
     /// An object.
     Object,
 }
 
-/// Whether a member must be there.
+/// Whether a member must or may be there.
 #[derive(Clone, Copy)]
 pub(crate) enum Need {
-    /// It must.
-    Needed,
+    /// It must be there.
+    Must,
     /// It may be missing or null.
-    Allowed,
+    May,
 }
 
 /// A member: the JSON pointer (RFC 6901) of the object that it is in, its name, whether it must be
-/// there, and what it must be. Where the pointer leads to no object, nothing is asked.
+/// there, and what it is. Where the pointer leads to no object, nothing is asked.
 pub(crate) type Row = (&'static str, &'static str, Need, Kind);
 
 /// A part of the params of a method: the method, and the JSON pointer of the array whose items are
@@ -44,66 +44,66 @@ pub(crate) type Part = (&'static str, Option<&'static str>, Kind, &'static [Row]
 
 /// InitializeParams, ClientCapabilities, GeneralClientCapabilities.
 const INITIALIZE: [Row; 3] = [
-    ("", "capabilities", Needed, Object),
-    ("/capabilities", "general", Allowed, Object),
-    ("/capabilities/general", "positionEncodings", Allowed, Array),
+    ("", "capabilities", Must, Object),
+    ("/capabilities", "general", May, Object),
+    ("/capabilities/general", "positionEncodings", May, Array),
 ];
 
 /// WorkDoneProgressParams.
-const WORK_DONE_PROGRESS: [Row; 1] = [("", "workDoneToken", Allowed, Id)];
+const WORK_DONE_PROGRESS: [Row; 1] = [("", "workDoneToken", May, Id)];
 
 /// DidOpenTextDocumentParams, TextDocumentItem.
 const DID_OPEN: [Row; 4] = [
-    ("", "textDocument", Needed, Object),
-    ("/textDocument", "uri", Needed, Text),
-    ("/textDocument", "version", Needed, Integer),
-    ("/textDocument", "text", Needed, Text),
+    ("", "textDocument", Must, Object),
+    ("/textDocument", "uri", Must, Text),
+    ("/textDocument", "version", Must, Integer),
+    ("/textDocument", "text", Must, Text),
 ];
 
 /// DidChangeTextDocumentParams, VersionedTextDocumentIdentifier.
 const DID_CHANGE: [Row; 4] = [
-    ("", "textDocument", Needed, Object),
-    ("/textDocument", "uri", Needed, Text),
-    ("/textDocument", "version", Needed, Integer),
-    ("", "contentChanges", Needed, Array),
+    ("", "textDocument", Must, Object),
+    ("/textDocument", "uri", Must, Text),
+    ("/textDocument", "version", Must, Integer),
+    ("", "contentChanges", Must, Array),
 ];
 
 /// TextDocumentContentChangeEvent, Range, Position.
 const CHANGE: [Row; 8] = [
-    ("", "range", Allowed, Object),
-    ("/range", "start", Needed, Object),
-    ("/range/start", "line", Needed, Uinteger),
-    ("/range/start", "character", Needed, Uinteger),
-    ("/range", "end", Needed, Object),
-    ("/range/end", "line", Needed, Uinteger),
-    ("/range/end", "character", Needed, Uinteger),
-    ("", "text", Needed, Text),
+    ("", "range", May, Object),
+    ("/range", "start", Must, Object),
+    ("/range/start", "line", Must, Uinteger),
+    ("/range/start", "character", Must, Uinteger),
+    ("/range", "end", Must, Object),
+    ("/range/end", "line", Must, Uinteger),
+    ("/range/end", "character", Must, Uinteger),
+    ("", "text", Must, Text),
 ];
 
 /// DidCloseTextDocumentParams, TextDocumentIdentifier.
 const DID_CLOSE: [Row; 2] = [
-    ("", "textDocument", Needed, Object),
-    ("/textDocument", "uri", Needed, Text),
+    ("", "textDocument", Must, Object),
+    ("/textDocument", "uri", Must, Text),
 ];
 
 /// DidSaveTextDocumentParams, TextDocumentIdentifier.
 const DID_SAVE: [Row; 3] = [
-    ("", "textDocument", Needed, Object),
-    ("/textDocument", "uri", Needed, Text),
-    ("", "text", Allowed, Text),
+    ("", "textDocument", Must, Object),
+    ("/textDocument", "uri", Must, Text),
+    ("", "text", May, Text),
 ];
 
 /// CancelParams.
-const CANCEL: [Row; 1] = [("", "id", Needed, Id)];
+const CANCEL: [Row; 1] = [("", "id", Must, Id)];
 
 /// ProgressParams.
-const PROGRESS: [Row; 1] = [("", "token", Needed, Id)];
+const PROGRESS: [Row; 1] = [("", "token", Must, Id)];
 
 /// RegistrationParams.
-const REGISTER: [Row; 1] = [("", "registrations", Needed, Array)];
+const REGISTER: [Row; 1] = [("", "registrations", Must, Array)];
 
 /// Registration.
-const REGISTRATION: [Row; 1] = [("", "method", Needed, Text)];
+const REGISTRATION: [Row; 1] = [("", "method", Must, Text)];
 
 /// The params of the methods.
 pub(crate) const PARAMS: [Part; 12] = [
@@ -138,18 +138,8 @@ pub(crate) const PARAMS: [Part; 12] = [
 
 /// InitializeResult, ServerCapabilities, TextDocumentSyncOptions.
 pub(crate) const RESULT: [Row; 4] = [
-    ("", "capabilities", Needed, Object),
-    ("/capabilities", "positionEncoding", Allowed, Text),
-    (
-        "/capabilities",
-        "textDocumentSync",
-        Allowed,
-        Synchronization,
-    ),
-    (
-        "/capabilities/textDocumentSync",
-        "change",
-        Allowed,
-        SyncKind,
-    ),
+    ("", "capabilities", Must, Object),
+    ("/capabilities", "positionEncoding", May, Text),
+    ("/capabilities", "textDocumentSync", May, Sync),
+    ("/capabilities/textDocumentSync", "change", May, SyncKind),
 ];
