@@ -27,10 +27,9 @@ mod making;
 mod members;
 mod messages;
 mod offending;
-mod params;
 mod part;
-mod plain;
 mod refused_change;
+mod shapes;
 mod two_texts;
 mod waiting;
 
