@@ -86,7 +86,7 @@ module _ (rests : Rests) (terms : Terms) where
       let own : Explained = record {
         no = no_by before b.here.note.event b.rule;
         event = event_of (no_by before b.here.note.event b.rule) b.here.raw;
-        facts = traced terms before b.here.note.event b.rule plain.0;
+        facts = plain.0 ++ traced terms before b.here.note.event b.rule;
       } in
       let rest = some_each bs all.1 in (
         own ∷ rest.0,
@@ -106,7 +106,7 @@ module _ (rests : Rests) (terms : Terms) where
       let before = events_of (notes_of b.before) in
       let facts : d.facts ≡ e.facts =
       p.facts_are.2
-      ∙ ap (traced terms before b.here.note.event b.rule)
+      ∙ ap (λ l. l ++ traced terms before b.here.note.event b.rule)
       (one_facts terms (kept_of terms before) b.rule p.facts_are.0 q.facts_are.0 rests b.here.raw
       b.here.note.event p.facts_are.1 q.facts_are.1)
       ∙ sym q.facts_are.2 in

@@ -2,7 +2,7 @@
 -- similar URI are open.
 use Rattle.std.specs.Prelude.{ℕ, ◌*◌, List, [], ◌∷◌, ◌++◌, length, nat_lt, Bool, false, ◌&&◌}
 use Rattle.std.specs.Prelude.{not, ◌==◌}
-use Rattle.std.specs.Prelude.{if◌then◌else◌, Option, Some, None, is_some}
+use Rattle.std.specs.Prelude.{if◌then◌else◌, Option, Some, None, is_some, codes}
 use Rattle.std.specs.List.{flat_map}
 use Rattle.std.specs.Str.{bytes_eq}
 use Rattle.lsp_docs.specs.Calls.{Call, uri_of}
@@ -18,7 +18,9 @@ use Rattle.lsp_survey.specs.Openings.{openings}
 use Rattle.lsp_survey.specs.declared.notes.openings.Closing.{Closing}
 use Rattle.lsp_survey.specs.declared.notes.openings.Closing.TheVariants as closing
 use Rattle.lsp_replay.specs.declared.heard.EventPlace.{EventPlace}
-use Rattle.lsp_facts.specs.Fact.{Fact, closed_by, never_opened, similar_to}
+use Rattle.lsp_facts.specs.Fact.{Fact, cited, place_words}
+use Rattle.lsp_verdict.specs.Report.{line}
+use Rattle.json.specs.Print.{quoted}
 use Rattle.lsp_types.specs.declared.rules.TheConstants as rules
 
 -- ---- URIs that differ in their spelling
@@ -52,6 +54,9 @@ is_standing terms before on =
     is_some (held terms on.uri (calls (kept_of terms before)))
     && is_at on.place (last_on on.uri (last_openings terms before))
 
+abbrev pub similar_to : List ℕ → EventPlace → Fact
+similar_to uri p = line (codes "similar" ∷ quoted uri ∷ place_words p)
+
 abbrev pub similar_fact : Terms → List Event → ℕ → List ℕ → OnDocument → List Fact
 similar_fact terms before size spelling on =
     if is_spelled size spelling on.uri && is_standing terms before on
@@ -64,6 +69,12 @@ similar_facts terms before uri =
     flat_map (similar_fact terms before (length uri) (folded uri)) (last_openings terms before)
 
 -- ---- 602
+
+abbrev pub closed_by : EventPlace → Fact
+closed_by p = cited (codes "closed") p
+
+abbrev pub never_opened : Fact
+never_opened = line (codes "opened" ∷ codes "never" ∷ [])
 
 abbrev pub closing_facts : Closing → List Fact
 closing_facts (closing.Last p) = closed_by p ∷ []

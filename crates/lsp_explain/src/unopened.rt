@@ -6,12 +6,11 @@ ghost use Rattle.lsp_rpc.specs.View.{act_view};
 ghost use Rattle.lsp_survey.specs.Openings.{on_view, ons_view};
 ghost use Rattle.lsp_verdict.specs.Event.{Event};
 ghost use Rattle.lsp_verdict.specs.Spelling as spelled;
-ghost use Rattle.lsp_facts.specs.Fact.{facts_view};
 ghost use Rattle.lsp_explain.specs.Standing.{StandsAfter, terms_in};
 ghost use Rattle.lsp_explain.specs.Traced.{act_call};
 ghost use Rattle.lsp_explain.specs.Unopened as spec;
 
-use lsp_facts::Fact;
+use lsp_facts::Facts;
 use lsp_replay::EventPlace;
 use lsp_rpc::{Act, Memory};
 use lsp_survey::{Closing, DocumentEvent, SurveyReader, folded, uri_in};
@@ -23,13 +22,13 @@ use std::alloc::Global;
 /// events before it.
 pub(crate) fn trace_unopened(
     alloc: Global,
-    facts: &mut Vec<Fact>,
+    facts: &mut Facts,
     events: &SurveyReader,
     act: &Act,
     rule: u16,
 ) -> Result<(), Memory>
     ensures { OnOk result ((before : List Event) → StandsAfter events.now before
-        → facts_view facts.new.items ≡ facts_view facts.old.items
+        → facts.new ≡ facts.old
         ++ spec.unopened_traced (terms_in events.now) before rule
         (act_call (terms_in events.now) before (act_view act.now))) }
 {
@@ -44,25 +43,25 @@ pub(crate) fn trace_unopened(
 
 fn push_unopened(
     alloc: Global,
-    facts: &mut Vec<Fact>,
+    facts: &mut Facts,
     events: &SurveyReader,
     uri: &str,
 ) -> Result<(), Memory>
     ensures { OnOk result ((before : List Event) → StandsAfter events.now before
-        → facts_view facts.new.items ≡ facts_view facts.old.items
+        → facts.new ≡ facts.old
         ++ spec.unopened_facts (terms_in events.now) before uri.now) }
 {
     push_closing(facts, events.openings().closing(uri))?;
     push_similar(alloc, facts, events, uri)
 }
 
-fn push_closing(facts: &mut Vec<Fact>, closing: Closing) -> Result<(), Memory>
-    ensures { OnOk result (facts_view facts.new.items ≡ facts_view facts.old.items
+fn push_closing(facts: &mut Facts, closing: Closing) -> Result<(), Memory>
+    ensures { OnOk result (facts.new ≡ facts.old
         ++ spec.closing_facts closing) }
 {
     match closing {
-        Closing::Last(place) => Ok(facts.push(Fact::Closed(place))?),
-        Closing::Never => Ok(facts.push(Fact::NeverOpened)?),
+        Closing::Last(place) => facts.event("closed", place),
+        Closing::Never => facts.word("opened", "never"),
         Closing::Forgotten => Ok(()),
     }
 }
@@ -70,12 +69,12 @@ fn push_closing(facts: &mut Vec<Fact>, closing: Closing) -> Result<(), Memory>
 /// Adds the open documents of which the URI differs from this one in its spelling alone.
 fn push_similar(
     alloc: Global,
-    facts: &mut Vec<Fact>,
+    facts: &mut Facts,
     events: &SurveyReader,
     uri: &str,
 ) -> Result<(), Memory>
     ensures { OnOk result ((before : List Event) → StandsAfter events.now before
-        → facts_view facts.new.items ≡ facts_view facts.old.items
+        → facts.new ≡ facts.old
         ++ spec.similar_facts (terms_in events.now) before uri.now) }
 {
     let sought = Sought::of(alloc, uri)?;
@@ -85,12 +84,12 @@ fn push_similar(
 /// Adds the open documents of which the URI differs from the sought one in its spelling alone.
 fn push_spelled(
     alloc: Global,
-    facts: &mut Vec<Fact>,
+    facts: &mut Facts,
     events: &SurveyReader,
     sought: &Sought,
 ) -> Result<(), Memory>
     ensures { OnOk result ((before : List Event) → StandsAfter events.now before
-        → facts_view facts.new.items ≡ facts_view facts.old.items
+        → facts.new ≡ facts.old
         ++ flat_map (spec.similar_fact (terms_in events.now) before sought.now.size
         sought.now.spelling.items) (spec.last_openings (terms_in events.now) before)) }
 {
@@ -102,13 +101,13 @@ fn push_spelled(
 /// Adds those of them that these messages opened.
 fn push_spelled_of(
     alloc: Global,
-    facts: &mut Vec<Fact>,
+    facts: &mut Facts,
     events: &SurveyReader,
     sought: &Sought,
     opened: &[DocumentEvent],
 ) -> Result<(), Memory>
     ensures { OnOk result ((before : List Event) → StandsAfter events.now before
-        → facts_view facts.new.items ≡ facts_view facts.old.items
+        → facts.new ≡ facts.old
         ++ flat_map (spec.similar_fact (terms_in events.now) before sought.now.size
         sought.now.spelling.items) (ons_view opened.now)) }
 {
@@ -120,13 +119,13 @@ fn push_spelled_of(
 
 fn push_spelled_one(
     alloc: Global,
-    facts: &mut Vec<Fact>,
+    facts: &mut Facts,
     events: &SurveyReader,
     sought: &Sought,
     on: &DocumentEvent,
 ) -> Result<(), Memory>
     ensures { OnOk result ((before : List Event) → StandsAfter events.now before
-        → facts_view facts.new.items ≡ facts_view facts.old.items
+        → facts.new ≡ facts.old
         ++ spec.similar_fact (terms_in events.now) before sought.now.size
         sought.now.spelling.items (on_view on.now)) }
 {
@@ -136,9 +135,7 @@ fn push_spelled_one(
     if !is_standing(events, on) {
         return Ok(());
     }
-    let uri = String::from_str(alloc, on.uri.as_str())?;
-    let place = on.place;
-    Ok(facts.push(Fact::Similar { uri, place })?)
+    facts.text_by("similar", on.uri.as_str(), on.place)
 }
 
 /// Whether the document is open that this message opened, and none opened it later.

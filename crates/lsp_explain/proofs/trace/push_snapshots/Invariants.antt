@@ -1,8 +1,6 @@
 use Rattle.std.proofs.Common.{◌≡◌, ◌++◌, map, take}
-use Rattle.lsp_facts.specs.Fact.{facts_view, shown_by}
+use Rattle.lsp_explain.specs.Traced.{shown_by}
 use Rattle.lsp_explain.proofs.trace.push_snapshots.Given as goal
 
 abbrev pub invariant-loop-place : goal.invariant-loop-place
-invariant-loop-place l =
-    facts_view l.facts.items
-    ≡ facts_view l.fn.facts.items ++ map shown_by (take l.place-index l.snapshots)
+invariant-loop-place l = l.facts ≡ l.fn.facts ++ map shown_by (take l.place-index l.snapshots)

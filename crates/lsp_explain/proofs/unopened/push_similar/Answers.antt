@@ -1,7 +1,6 @@
 use Rattle.std.proofs.Common.{ℕ, List, ◌++◌, length, ap, ◌∙◌}
 use Rattle.std.specs.List.{flat_map}
 use Rattle.std.proofs.lemmas.Result.{on_ok_weaker}
-use Rattle.lsp_facts.specs.Fact.{facts_view}
 use Rattle.lsp_explain.specs.Standing.{terms_in}
 use Rattle.lsp_explain.specs.Unopened.{last_openings, similar_fact}
 use Rattle.lsp_explain.proofs.unopened.push_similar.Goals as goal
@@ -9,7 +8,7 @@ use Rattle.lsp_explain.proofs.unopened.push_similar.Goals as goal
 pub returns : goal.returns
 returns c =
     let terms = terms_in c.args.events.now in
-    let old = facts_view c.args.facts.now.items in
+    let old = c.args.facts.now in
     let sought = c.in_ok-sought.sought in
     let is = c.in_ok-sought.ensures in
     on_ok_weaker c.push_spelled.result

@@ -5,7 +5,7 @@ use Rattle.std.proofs.lemmas.Grind.{flat_map-append}
 use Rattle.std.proofs.lemmas.Result.{on_ok_weaker}
 use Rattle.lsp_survey.specs.Openings.{AreOpenings, on_view, ons_view}
 use Rattle.lsp_survey.specs.declared.notes.openings.Openings.{Openings}
-use Rattle.lsp_facts.specs.Fact.{Fact, facts_view}
+use Rattle.lsp_facts.specs.Fact.{Fact}
 use Rattle.lsp_explain.specs.Standing.{terms_in}
 use Rattle.lsp_explain.specs.Unopened.{similar_fact}
 use Rattle.lsp_explain.proofs.unopened.push_spelled.Goals as goal
@@ -13,7 +13,7 @@ use Rattle.lsp_explain.proofs.unopened.push_spelled.Goals as goal
 pub returns : goal.returns
 returns c =
     let terms = terms_in c.args.events.now in
-    let old = facts_view c.args.facts.now.items in
+    let old = c.args.facts.now in
     let first = c.last_opened.result.0.now in
     let second = c.last_opened.result.1.now in
     on_ok_weaker c.push_spelled_of-2.result
