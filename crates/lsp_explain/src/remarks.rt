@@ -7,7 +7,6 @@ ghost use Rattle.lsp_survey.specs.Renames.{renamed_view};
 ghost use Rattle.lsp_survey.specs.Touched.{names_view};
 ghost use Rattle.lsp_verdict.specs.Event.{Event};
 ghost use Rattle.lsp_verdict.specs.Given.{verdict_view};
-ghost use Rattle.lsp_verdict.specs.Report.{encoding_name};
 ghost use Rattle.lsp_explain.specs.Remarks as spec;
 ghost use Rattle.lsp_explain.specs.Remarks.{count_line, exit_remarks, misuse_line, name_remarks};
 ghost use Rattle.lsp_explain.specs.Remarks.{noticed, old_name_remarks, remark_lines, remarks_of};
@@ -15,7 +14,7 @@ ghost use Rattle.lsp_explain.specs.Remarks.{uncompared, unshown_line};
 ghost use Rattle.lsp_explain.specs.Standing.{StandsAfter, terms_in};
 
 use crate::trace::push_event;
-use lsp_facts::{Facts, push_facts};
+use lsp_facts::{Facts, encoding_name, push_facts};
 use lsp_replay::EventPlace;
 use lsp_rpc::{Encoding, Memory};
 use lsp_survey::{Misuse, Misused, Renamed, SurveyReader};
@@ -191,14 +190,4 @@ fn other_name<'a>(name: Option<&'a str>, agreed: Option<Encoding>) -> Option<&'a
         return None;
     }
     Some(name)
-}
-
-fn encoding_name(encoding: Encoding) -> &'static str
-    ensures { result.now ≡ encoding_name (Some encoding) }
-{
-    match encoding {
-        Encoding::Utf8 => "utf-8",
-        Encoding::Utf16 => "utf-16",
-        Encoding::Utf32 => "utf-32",
-    }
 }

@@ -60,7 +60,7 @@ pub(crate) fn message_traced(
     let session = events.session();
     let docs = events.docs();
     let set_by = setter_of(events.marks(), uri_in(&spoken.act))?;
-    let mut facts = message_facts(alloc, session, docs, side, spoken, set_by, rule)?;
+    let mut facts = message_facts(alloc, session, docs, side, spoken, rule, set_by)?;
     trace_spoken(alloc, &mut facts, events, place, side, spoken, rule)?;
     Ok(facts)
 }
@@ -89,7 +89,7 @@ pub(crate) fn shown_traced(
     let docs = events.docs();
     let marks = events.marks();
     let set_by = setter_of(marks, Some(uri))?;
-    let mut facts = shown_facts(alloc, session, docs, version, uri, text, set_by, rule)?;
+    let mut facts = shown_facts(alloc, session, docs, version, uri, text, rule, set_by)?;
     trace_document(&mut facts, marks, uri, &[place], Until::Version(version), rule)?;
     Ok(facts)
 }
