@@ -2,6 +2,7 @@
 ghost use Rattle.std.specs.Prelude.{◌≡◌, [], ◌∷◌, ◌++◌, Some, OnOk, OnErr, IfOk};
 ghost use Rattle.std.specs.Prelude.{codes, decimal, length, string_bytes};
 ghost use Rattle.std.specs.Fmt.{signed_decimal};
+ghost use Rattle.std.specs.Str.{chars};
 ghost use Rattle.json.specs.Print.{quoted};
 ghost use Rattle.lsp_rpc.specs.Ident.{id_view};
 ghost use Rattle.lsp_rpc.specs.Words.{id_text};
@@ -188,11 +189,12 @@ impl Facts {
             ≡ self.old ++ spec.part_line key.now (part_view part.now) ∷ []) }
         ensures err { OnErr result (self.new ≡ self.old) }
     {
-        let mut words = text_words(self.alloc(), key, part.text.as_str())?;
-        let Excerpt { before, after, .. } = part;
-        if *before > 0 || *after > 0 {
-            write!(words, " cut {before} {after}")?;
+        let mut words = line_words(self.alloc(), key, part.text.as_str())?;
+        if part.before == 0 && part.after == 0 {
+            return self.push_end(words);
         }
+        let Excerpt { before, after, .. } = part;
+        write!(words, " cut {before} {after}")?;
         self.push_end(words)
     }
 
@@ -252,6 +254,14 @@ fn text_words(alloc: Global, key: &str, text: &str) -> Result<String, Memory>
     let mut words = format!(in alloc; "{key} ")?;
     push_quoted(alloc, &mut words, text)?;
     Ok(words)
+}
+
+/// A key and characters of a document.
+fn line_words(alloc: Global, key: &str, text: &str) -> Result<String, Memory>
+    ensures { IfOk result (λ words. string_bytes words
+        ≡ key.now ++ 32 ∷ spec.quoted_text (chars text.now)) }
+{
+    text_words(alloc, key, text)
 }
 
 /// A key and an id.

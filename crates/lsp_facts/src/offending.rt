@@ -65,7 +65,7 @@ pub fn shown_facts<S: TextStore>(
     ensures { IfOk result (λ facts. (kept : List Event) → Holds session.now docs.now kept
         → offence docs.now.terms kept (snapshot uri.now version (chars text.now)) ≡ Some rule
         → AreCallFacts docs.now.terms kept rule (Some (shows uri.now version (chars text.now)))
-        facts) }
+        set_by facts) }
 {
     let encoding = session.encoding().unwrap_or(Encoding::Utf16);
     snapshot_facts(alloc, docs, encoding, uri, version, text, rule, set_by)

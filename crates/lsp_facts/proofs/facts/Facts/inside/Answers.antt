@@ -6,7 +6,7 @@ use Rattle.std.specs.Prelude.{OnOk, string_bytes}
 use Rattle.std.specs.Str.{chars}
 use lib.Utf8.{encode, encodes, scalar}
 use Rattle.lsp_facts.specs.Fact.{falls_inside}
-use Rattle.lsp_facts.proofs.fact_list.FactList.push_inside.Goals as goal
+use Rattle.lsp_facts.proofs.facts.Facts.inside.Goals as goal
 
 pub returns : goal.returns
 returns c =

@@ -1,7 +1,7 @@
 use Rattle.std.proofs.Common.{◌∷◌, [], ◌++◌, ◌+◌, ap, ◌∙◌, append_assoc}
 use Rattle.std.proofs.lemmas.Result.{on_ok_weaker}
 use Rattle.lsp_facts.specs.Fact.{counts_in, fails}
-use Rattle.lsp_facts.proofs.fact_list.FactList.push_change.Goals as goal
+use Rattle.lsp_facts.proofs.facts.Facts.change.Goals as goal
 
 pub returns : goal.returns
 returns c =
