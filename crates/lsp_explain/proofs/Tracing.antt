@@ -1,22 +1,31 @@
 -- The facts on a message that was heard, with the events that brought it, are those on the message.
-use Rattle.std.specs.Prelude.{nat_lt, map, ◌==◌, if◌then◌else◌}
-use Rattle.std.proofs.Common.{◌≡◌, ◌<◌, ℕ, Bool, true, false, List, [], ◌++◌, sym, ap, ◌∙◌, arith}
+use Rattle.std.specs.Prelude.{nat_lt, map, ◌==◌, codes, if◌then◌else◌, option_map, unwrap_or}
+use Rattle.std.proofs.Common.{◌≡◌, ◌<◌, ℕ, Bool, true, false, List, [], ◌++◌, Option, sym, ap}
+use Rattle.std.proofs.Common.{◌∙◌, arith}
 use Rattle.std.proofs.lemmas.Bool.Decides.{nat_tests}
+use Rattle.lsp_docs.specs.Calls.{uri_of}
 use Rattle.lsp_docs.specs.Terms.{Terms}
+use Rattle.lsp_session.specs.Negotiation.{encoding, sync_kind}
+use Rattle.lsp_types.specs.declared.change.SyncKind.{SyncKind}
+use Rattle.lsp_types.specs.declared.change.SyncKind.TheVariants.{Nothing}
+use Rattle.lsp_types.specs.declared.position.Encoding.{Encoding}
+use Rattle.lsp_types.specs.declared.position.Encoding.TheVariants.{Utf16}
+use Rattle.lsp_verdict.specs.Calls.{call_of}
+use Rattle.lsp_verdict.specs.Offences.{kept_of}
 use Rattle.lsp_rpc.specs.Act.{Act}
 use Rattle.lsp_rpc.specs.Message.{Message}
 use Rattle.lsp_rpc.specs.Outline.{outline}
 use Rattle.lsp_session.specs.Sent.{Sent}
 use Rattle.lsp_types.specs.declared.side.Side.{Side}
-use Rattle.lsp_verdict.specs.Event.{Event, message}
+use Rattle.lsp_verdict.specs.Event.{Event, message, sent_in}
 use Rattle.lsp_survey.specs.Asking.{numbered}
 use Rattle.lsp_survey.specs.Marking.{Step, agreed, recent}
 use Rattle.lsp_replay.specs.Places.{place_of}
 use Rattle.lsp_replay.specs.declared.heard.EventPlace.{EventPlace}
-use Rattle.lsp_facts.specs.Fact.{Fact}
+use Rattle.lsp_facts.specs.Fact.{Fact, cited}
 use Rattle.lsp_facts.specs.MessageFacts.{id_in}
 use Rattle.lsp_explain.specs.Traced.{act_call, apart_facts, document_traced, message_traced}
-use Rattle.lsp_explain.specs.Traced.{session_trace, shown_by, traced}
+use Rattle.lsp_explain.specs.Traced.{session_trace, setter_at, setter_of, traced}
 use Rattle.lsp_explain.specs.declared.suspects.Until.{Until}
 use Rattle.lsp_facts.proofs.Spoken.{id_in-outline}
 
@@ -71,7 +80,7 @@ pub names_no_texts : (done : List Step) (ps qs : List EventPlace) (until : Until
 names_no_texts done ps qs until rule other =
     let is : (rule == 702) ≡ false = grind (arith, nat_tests) in
     let apart : List Fact = apart_facts (agreed done) until (recent done) in
-    ap (λ (b : Bool). if b then map shown_by ps ++ apart
+    ap (λ (b : Bool). if b then map (cited (codes "snapshot")) ps ++ apart
     else (if rule == 608 then apart else [])) is
-    ∙ sym (ap (λ (b : Bool). if b then map shown_by qs ++ apart
+    ∙ sym (ap (λ (b : Bool). if b then map (cited (codes "snapshot")) qs ++ apart
     else (if rule == 608 then apart else [])) is)

@@ -17,7 +17,8 @@ use Rattle.lsp_survey.specs.declared.notes.misuses.Misuse.TheVariants.{AsRequest
 use Rattle.lsp_survey.specs.declared.notes.misuses.Misuse.TheVariants.{ByEditor, ByServer}
 use Rattle.lsp_types.specs.declared.position.Encoding.{Encoding}
 use Rattle.lsp_replay.specs.declared.heard.EventPlace.{EventPlace}
-use Rattle.lsp_facts.specs.Fact.{Fact, cited, fact_lines, place_words}
+use Rattle.lsp_facts.specs.Fact.{Fact, fact_lines, place_words}
+use Rattle.lsp_explain.specs.Traced.{place_facts}
 use Rattle.lsp_verdict.specs.Report.{encoding_name, line}
 use Rattle.lsp_verdict.specs.Verdict.{Verdict, yes, no, bad_log}
 
@@ -33,22 +34,7 @@ misuse_key ByServer = codes "note by-server"
 abbrev pub misuse_line : Misused → Fact
 misuse_line x = line (misuse_key x.misuse ∷ quoted x.method ∷ place_words x.place)
 
--- `exit` without `shutdown`, by the event of this place
-abbrev pub exit_line : EventPlace → Fact
-exit_line p = cited (codes "note exit-without-shutdown") p
-
--- an older `offsetEncoding` that names another encoding than the agreed one
-abbrev pub name_line : List ℕ → Fact
-name_line name = line (codes "note offset-encoding" ∷ quoted name ∷ [])
-
--- a message about a document under a URI that its file lost when it was renamed
-abbrev pub renamed_line : Renamed → Fact
-renamed_line x = line (codes "note renamed" ∷ quoted x.uri ∷ place_words x.place)
-
--- no snapshot was compared, or there is none of a document that was changed
-abbrev pub uncompared_line : Fact
-uncompared_line = line (codes "note" ∷ codes "nothing-compared" ∷ [])
-
+-- a document that was changed and has no snapshot
 abbrev pub unshown_line : List ℕ → Fact
 unshown_line uri = line (codes "note no-snapshot" ∷ quoted uri ∷ [])
 
@@ -67,18 +53,24 @@ other_name (Some name) agreed = differing name agreed
 -- of a Yes: that no snapshot was compared, or else these documents that have none
 abbrev pub uncompared : Verdict → List (List ℕ) → List Fact
 uncompared (yes s) unshown =
-    if s.snapshots == s.unmatched then uncompared_line ∷ [] else map unshown_line unshown
+    if s.snapshots == s.unmatched then line (codes "note" ∷ codes "nothing-compared" ∷ []) ∷ []
+    else map unshown_line unshown
 uncompared (no rule by count event) unshown = []
 uncompared (bad_log at code) unshown = []
 
+-- `exit` without `shutdown`, by the event of this place
 abbrev pub exit_remarks : Option EventPlace → List Fact
-exit_remarks exit = option_to_list (option_map exit_line exit)
+exit_remarks exit = place_facts (codes "note exit-without-shutdown") exit
 
+-- an older `offsetEncoding` that names another encoding than the agreed one
 abbrev pub name_remarks : Option (List ℕ) → List Fact
-name_remarks name = option_to_list (option_map name_line name)
+name_remarks name = option_to_list
+    (option_map (λ own. line (codes "note offset-encoding" ∷ quoted own ∷ [])) name)
 
+-- a message about a document under a URI that its file lost when it was renamed
 abbrev pub old_name_remarks : Option Renamed → List Fact
-old_name_remarks found = option_to_list (option_map renamed_line found)
+old_name_remarks found = option_to_list (option_map
+    (λ (x : Renamed). line (codes "note renamed" ∷ quoted x.uri ∷ place_words x.place)) found)
 
 -- what the notes are on: messages, and the documents that were changed and have no snapshot
 pub record Noticed : Type 0 where

@@ -1,6 +1,6 @@
 -- Which event brought what: what is added to the facts on an offence, read off all events before
 -- it.
-use Rattle.std.specs.Prelude.{◌≡◌, ℕ, ℤ, codes, List, [], ◌∷◌, ◌++◌, map, nat_lt}
+use Rattle.std.specs.Prelude.{◌≡◌, ℕ, codes, List, [], ◌∷◌, ◌++◌, map, nat_lt}
 use Rattle.std.specs.Prelude.{◌==◌, if◌then◌else◌, Option, Some, None, option_map}
 use Rattle.std.specs.Prelude.{option_and_then, option_to_list, unwrap_or}
 use Rattle.lsp_docs.specs.Calls.{Call, opens, changes, closes, saves, shows, uri_of}
@@ -37,32 +37,9 @@ use Rattle.lsp_explain.specs.Unopened.{unopened_traced}
 use Rattle.lsp_explain.specs.Twins.{twin}
 use Rattle.lsp_explain.specs.declared.suspects.Until.{Until}
 
--- ---- the lines
-
--- a snapshot that differs, and the one that was found equal
-abbrev pub shown_by : EventPlace → Fact
-shown_by p = cited (codes "snapshot") p
-
-abbrev pub equal_by : ℤ → EventPlace → Fact
-equal_by number p = version_by (codes "equal") number p
-
--- the open request whose id is the same but for its type, with the event that asked it
-abbrev pub opens_as : Ident → EventPlace → Fact
-opens_as id p = line (codes "open" ∷ id_text id ∷ place_words p)
-
--- the event that answered a request, that asked one, and that led to the phase
-abbrev pub answered_by : EventPlace → Fact
-answered_by p = cited (codes "answered") p
-
-abbrev pub asked_by : EventPlace → Fact
-asked_by p = cited (codes "asked") p
-
-abbrev pub led_by : EventPlace → Fact
-led_by p = cited (codes "since") p
-
--- the line of an event, where there is one
-abbrev pub place_facts : (EventPlace → Fact) → Option EventPlace → List Fact
-place_facts says p = option_to_list (option_map says p)
+-- an earlier event under this key, where there is one
+abbrev pub place_facts : List ℕ → Option EventPlace → List Fact
+place_facts key p = option_to_list (option_map (cited key) p)
 
 -- ---- documents
 
@@ -82,7 +59,7 @@ setter_at terms before event =
 
 abbrev pub equal_facts : Option Shown → List Fact
 equal_facts None = []
-equal_facts (Some shown) = equal_by shown.version shown.place ∷ []
+equal_facts (Some shown) = version_by (codes "equal") shown.version shown.place ∷ []
 
 -- the snapshots that differ from the text of a call after these, by their places: of those that
 -- wait for its version the ones with another text, or it is one itself, of this place
@@ -102,7 +79,7 @@ apart_facts equal until done = equal_facts equal ++ suspect_facts equal until do
 -- 702: these snapshots; and with 608 this
 abbrev pub texts_traced : List EventPlace → List Fact → ℕ → List Fact
 texts_traced snapshots apart rule =
-    if rule == rules.SNAPSHOT_DIFFERS then map shown_by snapshots ++ apart
+    if rule == rules.SNAPSHOT_DIFFERS then map (cited (codes "snapshot")) snapshots ++ apart
     else (if rule == rules.SAVED_TEXT_DIFFERS then apart else [])
 
 abbrev pub document_traced : List Step → List EventPlace → Until → ℕ → List Fact
@@ -130,10 +107,14 @@ message_traced terms before p rule said =
 
 -- ---- messages
 
--- the side's open request with this id, where there is an id
+-- the side's open request with this id, and the event that asked it
+abbrev pub open_facts : Side → List Numbered → Ident → List Fact
+open_facts side said id = option_to_list (option_map
+    (λ p. line (codes "open" ∷ id_text id ∷ place_words p)) (asked side id said))
+
+-- the same, where there is an id
 abbrev pub twin_facts : Side → List Numbered → Option Ident → List Fact
-twin_facts side said None = []
-twin_facts side said (Some own) = place_facts (opens_as own) (asked side own said)
+twin_facts side said id = unwrap_or (option_map (open_facts side said) id) []
 
 -- 301: the open request whose id differs in its type alone; 302: the event that asked the one that
 -- is open; both: the event that answered a request of this id before
@@ -141,16 +122,16 @@ abbrev pub id_trace : ℕ → List Numbered → Side → Ident → List Fact
 id_trace rule said side id =
     if rule == rules.RESPONSE_TO_NO_OPEN_REQUEST
     then twin_facts (other_side side) said (twin id)
-    ++ place_facts answered_by (answered (other_side side) id said)
+    ++ place_facts (codes "answered") (answered (other_side side) id said)
     else (if rule == rules.ID_ALREADY_OPEN
-    then place_facts asked_by (asked side id said) ++ place_facts answered_by (answered side id said)
+    then place_facts (codes "asked") (asked side id said) ++ place_facts (codes "answered") (answered side id said)
     else [])
 
 -- 401 to 412: the event that led to the phase; 301 and 302: those that have to do with the id
 abbrev pub session_trace : ℕ → List Numbered → Side → Option Ident → List Fact
 session_trace rule said side id =
     if is_within rules.EDITOR_BEFORE_INITIALIZE rules.SERVER_WHILE_INITIALIZE_OPEN rule
-    then place_facts led_by (since said)
+    then place_facts (codes "since") (since said)
     else unwrap_or (option_map (id_trace rule said side) id) []
 
 -- **the events that brought one that offends by this rule after these**
@@ -182,4 +163,4 @@ waiting_by said e = waits e.id e.method (asked Editor e.id said)
 -- **the facts on a session that ends after these messages and is not complete**
 abbrev pub lack_traced : List Numbered → List Fact
 lack_traced said = map (waiting_by said) (open_requests Editor (sents said)) ++ in_phase
-    (phase (sents said)) ∷ place_facts led_by (since said)
+    (phase (sents said)) ∷ place_facts (codes "since") (since said)

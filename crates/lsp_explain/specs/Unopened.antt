@@ -54,13 +54,10 @@ is_standing terms before on =
     is_some (held terms on.uri (calls (kept_of terms before)))
     && is_at on.place (last_on on.uri (last_openings terms before))
 
-abbrev pub similar_to : List ℕ → EventPlace → Fact
-similar_to uri p = line (codes "similar" ∷ quoted uri ∷ place_words p)
-
 abbrev pub similar_fact : Terms → List Event → ℕ → List ℕ → OnDocument → List Fact
 similar_fact terms before size spelling on =
     if is_spelled size spelling on.uri && is_standing terms before on
-    then similar_to on.uri on.place ∷ [] else []
+    then line (codes "similar" ∷ quoted on.uri ∷ place_words on.place) ∷ [] else []
 
 -- **the open documents of which the URI differs from this one in its spelling alone**, of those
 -- that were opened last
@@ -70,15 +67,9 @@ similar_facts terms before uri =
 
 -- ---- 602
 
-abbrev pub closed_by : EventPlace → Fact
-closed_by p = cited (codes "closed") p
-
-abbrev pub never_opened : Fact
-never_opened = line (codes "opened" ∷ codes "never" ∷ [])
-
 abbrev pub closing_facts : Closing → List Fact
-closing_facts (closing.Last p) = closed_by p ∷ []
-closing_facts closing.Never = never_opened ∷ []
+closing_facts (closing.Last p) = cited (codes "closed") p ∷ []
+closing_facts closing.Never = line (codes "opened" ∷ codes "never" ∷ []) ∷ []
 closing_facts closing.Forgotten = []
 
 abbrev pub unopened_facts : Terms → List Event → List ℕ → List Fact

@@ -1,6 +1,6 @@
 //! Which events led to an offence: lines that name earlier events.
 ghost use Rattle.std.specs.Prelude.{◌≡◌, ◌++◌, ℕ, Some, chars, nat_lt, if◌then◌else◌, ◌∷◌, []};
-ghost use Rattle.std.specs.Prelude.{List, IfOk, OnOk, map, option_map};
+ghost use Rattle.std.specs.Prelude.{List, IfOk, OnOk, codes, map, option_map};
 ghost use Rattle.lsp_docs.specs.Calls.{Call, shows};
 ghost use Rattle.lsp_docs.specs.Terms.{Terms};
 ghost use Rattle.lsp_rpc.specs.Ident.{id_view};
@@ -249,7 +249,7 @@ fn push_texts(
 }
 
 fn push_snapshots(facts: &mut Facts, snapshots: &[EventPlace]) -> Result<(), Memory>
-    ensures { OnOk result (facts.new ≡ facts.old ++ map spec.shown_by snapshots.now) }
+    ensures { OnOk result (facts.new ≡ facts.old ++ map (cited (codes "snapshot")) snapshots.now) }
 {
     for place in snapshots {
         facts.event("snapshot", *place)?;
@@ -352,7 +352,7 @@ pub(crate) fn push_event(
     key: &str,
     place: Option<EventPlace>,
 ) -> Result<(), Memory>
-    ensures { OnOk result (facts.new ≡ facts.old ++ spec.place_facts (cited key.now) place) }
+    ensures { OnOk result (facts.new ≡ facts.old ++ spec.place_facts key.now place) }
 {
     match place {
         Some(place) => facts.event(key, place),

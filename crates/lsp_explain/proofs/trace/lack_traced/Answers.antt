@@ -1,4 +1,4 @@
-use Rattle.std.specs.Prelude.{map}
+use Rattle.std.specs.Prelude.{codes, map}
 use Rattle.std.proofs.Common.{◌∷◌, [], ◌++◌, Option, List, sym, ap, ◌∙◌, subst, append_assoc}
 use Rattle.lsp_session.specs.Sent.{Sent}
 use Rattle.lsp_session.specs.State.{Stands}
@@ -11,7 +11,7 @@ use Rattle.lsp_survey.specs.declared.notes.session_notes.SessionNotes.{SessionNo
 use Rattle.lsp_survey.proofs.SessionSteps.{sents-numbered}
 use Rattle.lsp_facts.specs.Fact.{Fact, in_phase}
 use Rattle.lsp_explain.specs.Standing.{terms_in}
-use Rattle.lsp_explain.specs.Traced.{led_by, place_facts, waiting_by}
+use Rattle.lsp_explain.specs.Traced.{place_facts, waiting_by}
 use Rattle.lsp_explain.proofs.trace.lack_traced.Goals as goal
 
 pub returns : goal.returns
@@ -29,8 +29,8 @@ returns c = λ before stands.
     ∙ ap (map (waiting_by said)) (c.pending.ensures (sents said) sent) in
     let phase = c.phase.ensures (sents said) sent in
     c.in_ok-push_event.ensures
-    ∙ ap (λ (o : Option EventPlace). c.phase-2.new.self ++ place_facts led_by o)
+    ∙ ap (λ (o : Option EventPlace). c.phase-2.new.self ++ place_facts (codes "since") o)
     (c.since.ensures terms before noted)
-    ∙ ap (λ (l : List Fact). l ++ place_facts led_by (since said))
+    ∙ ap (λ (l : List Fact). l ++ place_facts (codes "since") (since said))
     (c.in_ok-phase.ensures.ok ∙ (λ i. asked i ++ in_phase (phase i) ∷ []))
-    ∙ append_assoc _ _ (place_facts led_by (since said))
+    ∙ append_assoc _ _ (place_facts (codes "since") (since said))
