@@ -1,4 +1,7 @@
 //! The snapshots of one URI that wait for their versions.
+//!
+//! Those of one version know whether two of them differ. If so, at least one differs from any given
+//! text; if not, the first stands for all: however many wait, at most one is compared.
 
 ghost use Rattle.std.specs.Prelude.{◌≡◌, [], ◌++◌, ◌∷◌, None, true, length, filter, int_lt};
 ghost use Rattle.std.specs.Prelude.{if◌then◌else◌, unwrap_or, IfOk, OnOk, OnErr};

@@ -1,4 +1,7 @@
 //! What is done with the blocks of a text one after another.
+//!
+//! Looking up each block from the top would take a time that grows with the square of the text. An
+//! iterator over blocks would need a stack of its own for each level.
 
 ghost use Rattle.std.specs.Prelude.{◌≡◌, ◌++◌, ℕ, List, OnOk, OnErr};
 ghost use Rattle.std.specs.String.{string_bytes};
