@@ -145,12 +145,7 @@ pub(crate) fn push_said(
 
 /// The facts on how a session ends that breaks this rule: 107 has those on the rest of a side, 303
 /// and 407 those on what is missing from the session. The reader stands for all its events.
-fn end_facts(
-    alloc: Global,
-    events: &SurveyReader,
-    rest: &[u8],
-    rule: u16,
-) -> Result<Facts, Memory>
+fn end_facts(alloc: Global, events: &SurveyReader, rest: &[u8], rule: u16) -> Result<Facts, Memory>
     ensures { IfOk result (λ facts. (rests : Rests) (before : List Event) (who : Who)
         (number event : ℕ) → StandsAfter events.now before
         → rest.now ≡ rest_of rests (side_by who)

@@ -140,11 +140,7 @@ fn push_renamed(remarks: &mut Facts, renamed: Option<&Renamed>) -> Result<(), Me
 
 /// Adds of a Yes that no snapshot was compared, or else the documents that were changed and have
 /// none.
-fn push_uncompared(
-    remarks: &mut Facts,
-    verdict: &Verdict,
-    unshown: &[String],
-) -> Result<(), Memory>
+fn push_uncompared(remarks: &mut Facts, verdict: &Verdict, unshown: &[String]) -> Result<(), Memory>
     ensures { OnOk result (remarks.new
         ≡ remarks.old ++ uncompared (verdict_view verdict.now) (names_view unshown.now)) }
 {

@@ -90,7 +90,8 @@ pub(crate) fn shown_traced(
     let marks = events.marks();
     let set_by = setter_of(marks, Some(uri))?;
     let mut facts = shown_facts(alloc, session, docs, version, uri, text, rule, set_by)?;
-    trace_document(&mut facts, marks, uri, &[place], Until::Version(version), rule)?;
+    let until = Until::Version(version);
+    trace_document(&mut facts, marks, uri, &[place], until, rule)?;
     Ok(facts)
 }
 
@@ -161,12 +162,12 @@ fn trace_act(
     let marks = events.marks();
     match act {
         Act::DidOpen { uri, version, .. } => {
-            let version = *version;
-            trace_text(alloc, facts, events, place, act, uri.as_str(), version, rule)
+            let uri = uri.as_str();
+            trace_text(alloc, facts, events, place, act, uri, *version, rule)
         }
         Act::DidChange { uri, version, .. } => {
-            let version = *version;
-            trace_text(alloc, facts, events, place, act, uri.as_str(), version, rule)
+            let uri = uri.as_str();
+            trace_text(alloc, facts, events, place, act, uri, *version, rule)
         }
         Act::DidClose { uri } => trace_document(facts, marks, uri.as_str(), &[], Until::Held, rule),
         Act::DidSave { uri, .. } => {
@@ -401,11 +402,7 @@ fn requests(alloc: Global, pending: &Pending, said: &SessionNotes) -> Result<Fac
     Ok(facts)
 }
 
-fn push_request(
-    facts: &mut Facts,
-    request: &OpenRequest,
-    said: &SessionNotes,
-) -> Result<(), Memory>
+fn push_request(facts: &mut Facts, request: &OpenRequest, said: &SessionNotes) -> Result<(), Memory>
     ensures { OnOk result ((terms : Terms) (before : List Event) → AreNotes terms said.now before
         → facts.new ≡ facts.old
         ++ spec.waiting_by (numbered terms before) (request_view request.now) ∷ []) }
