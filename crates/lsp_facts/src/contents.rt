@@ -7,8 +7,8 @@ ghost use Rattle.lsp_facts.specs.Members.{Finds};
 
 use crate::facts::Facts;
 use crate::json_text::json_break;
+use crate::members::wrong_member;
 use crate::messages::{front_facts, push_member, shown, text_front};
-use crate::params::wrong_member;
 use lsp_rpc::{Memory, RpcFault, read};
 use lsp_types::rules;
 use std::alloc::Global;

@@ -17,7 +17,7 @@ ghost use Rattle.lsp_facts.specs.Members.{pointer_view};
 ghost use Rattle.lsp_facts.specs.MessageFacts as spec;
 
 use crate::facts::Facts;
-use crate::params::wrong_result;
+use crate::members::wrong_result;
 use lsp_rpc::{Act, Id, Memory, Message, Offer, RpcFault, Side, picked_of, push_quoted};
 use lsp_session::{Session, is_synchronisation};
 use lsp_types::rules;
