@@ -287,15 +287,23 @@ fn trace_message(
         → facts.new ≡ facts.old ++ spec.session_trace rule (numbered terms before) side
         (id_in (message_view message.now))) }
 {
-    match rule {
-        rules::EDITOR_BEFORE_INITIALIZE..=rules::SERVER_WHILE_INITIALIZE_OPEN => {
-            push_earlier(facts, "since", said.since())
-        }
-        _ => match id_in(message) {
-            Some(id) => trace_id(alloc, facts, said, side, id, rule),
-            None => Ok(()),
-        },
+    if is_on_phase(rule) {
+        return push_earlier(facts, "since", said.since());
     }
+    match id_in(message) {
+        Some(id) => trace_id(alloc, facts, said, side, id, rule),
+        None => Ok(()),
+    }
+}
+
+/// Whether a rule, 401 to 412, says what may be sent in a phase.
+fn is_on_phase(rule: u16) -> bool
+    ensures { result ≡ spec.is_on_phase rule }
+{
+    matches!(
+        rule,
+        rules::EDITOR_BEFORE_INITIALIZE..=rules::SERVER_WHILE_INITIALIZE_OPEN
+    )
 }
 
 /// Adds to the facts on a message of a side with this id, under 301 the open request whose id
