@@ -1,36 +1,36 @@
 -- A task fails where its run does.
-use Rattle.std.proofs.Common.{◌≡◌, ◌∙◌, ℕ, Result, Ok, Err, ap, refl, sym}
+use Rattle.std.proofs.Common.{◌≡◌, Result, Ok, Err, subst, sym}
+use Rattle.lsp_frame.specs.Bounds.{Bounds}
 use Rattle.lsp_judge.specs.declared.event.EventOutcome.{EventOutcome}
+use Rattle.lsp_verdict.specs.Ports.{CountsFaults, Ports}
 use Rattle.lsp_verdict.specs.RunIo.{source_failures, sink_failures}
 use Rattle.lsp_verdict.specs.declared.outcome.Outcome.{Outcome}
 use Rattle.lsp_verdict.specs.declared.outcome.RunFault.{RunFault}
 use Rattle.lsp_command.specs.Ended.{of_event, of_run}
+use Rattle.lsp_command.specs.Tasks.{Answers, RanTask}
+use Rattle.lsp_command.specs.declared.command_line.task.Task.{Task}
 use Rattle.lsp_command.specs.declared.task_outcome.TaskOutcome.{TaskOutcome}
 
-pub run_source : (ended : Result Outcome RunFault) (result : Result TaskOutcome RunFault) (before after : ℕ) → result ≡ of_run ended → after ≡ source_failures ended before → after ≡ source_failures result before
-run_source ended result before after is counted = counted ∙ by_end ended ∙ ap (λ (r : Result TaskOutcome RunFault). source_failures r before) (sym is)
-  where
-    by_end : (e : Result Outcome RunFault) → source_failures e before ≡ source_failures (of_run e) before
-    by_end (Ok outcome) = refl
-    by_end (Err fault) = refl
+module _ (limits : Bounds) (task : Task) (p : Ports) (result : Result TaskOutcome RunFault) where
+  -- what is counted after this end is counted after this result
+  ran_as : (end : Result TaskOutcome RunFault) → result ≡ end
+      → p.source_after.failures ≡ source_failures end p.source_before.failures
+      → p.sink_after.failures ≡ sink_failures end p.sink_before.failures
+      → Answers limits task p result → RanTask limits task p result
+  ran_as end is source sink answers = record {
+    answers = answers;
+    source_failures = subst (λ (r : Result TaskOutcome RunFault). p.source_after.failures
+        ≡ source_failures r p.source_before.failures) (sym is) source;
+    sink_failures = subst (λ (r : Result TaskOutcome RunFault). p.sink_after.failures
+        ≡ sink_failures r p.sink_before.failures) (sym is) sink;
+  }
 
-pub run_sink : (ended : Result Outcome RunFault) (result : Result TaskOutcome RunFault) (before after : ℕ) → result ≡ of_run ended → after ≡ sink_failures ended before → after ≡ sink_failures result before
-run_sink ended result before after is counted = counted ∙ by_end ended ∙ ap (λ (r : Result TaskOutcome RunFault). sink_failures r before) (sym is)
-  where
-    by_end : (e : Result Outcome RunFault) → sink_failures e before ≡ sink_failures (of_run e) before
-    by_end (Ok outcome) = refl
-    by_end (Err fault) = refl
+  pub run_ended : (ended : Result Outcome RunFault) → result ≡ of_run ended
+      → CountsFaults limits p ended → Answers limits task p result → RanTask limits task p result
+  run_ended (Ok outcome) is counts = ran_as _ is counts.source_failures counts.sink_failures
+  run_ended (Err fault) is counts = ran_as _ is counts.source_failures counts.sink_failures
 
-pub event_source : (ended : Result EventOutcome RunFault) (result : Result TaskOutcome RunFault) (before after : ℕ) → result ≡ of_event ended → after ≡ source_failures ended before → after ≡ source_failures result before
-event_source ended result before after is counted = counted ∙ by_end ended ∙ ap (λ (r : Result TaskOutcome RunFault). source_failures r before) (sym is)
-  where
-    by_end : (e : Result EventOutcome RunFault) → source_failures e before ≡ source_failures (of_event e) before
-    by_end (Ok outcome) = refl
-    by_end (Err fault) = refl
-
-pub event_sink : (ended : Result EventOutcome RunFault) (result : Result TaskOutcome RunFault) (before after : ℕ) → result ≡ of_event ended → after ≡ sink_failures ended before → after ≡ sink_failures result before
-event_sink ended result before after is counted = counted ∙ by_end ended ∙ ap (λ (r : Result TaskOutcome RunFault). sink_failures r before) (sym is)
-  where
-    by_end : (e : Result EventOutcome RunFault) → sink_failures e before ≡ sink_failures (of_event e) before
-    by_end (Ok outcome) = refl
-    by_end (Err fault) = refl
+  pub event_ended : (ended : Result EventOutcome RunFault) → result ≡ of_event ended
+      → CountsFaults limits p ended → Answers limits task p result → RanTask limits task p result
+  event_ended (Ok outcome) is counts = ran_as _ is counts.source_failures counts.sink_failures
+  event_ended (Err fault) is counts = ran_as _ is counts.source_failures counts.sink_failures

@@ -1,40 +1,30 @@
 -- What each task answers and writes: what the run of its name does with its arguments.
-use Rattle.std.specs.Prelude.{◌≡◌, ◌+◌, ℕ, List, [], Result, Ok, Err, IfOk, OnOk, OnErr}
-use Rattle.std.specs.Io.KnownBytes.{IsAtEnd}
+use Rattle.std.specs.Prelude.{◌≡◌, ℕ, List, [], Result, Ok, Err, OnOk}
 use Rattle.std.specs.Int.NonZero.{non_zero_u64_get}
 use Rattle.lsp_frame.specs.Bounds.{Bounds}
 use Rattle.lsp_frame.specs.Told.{Told, CountsFailure, KeepsBytes}
 use Rattle.lsp_frame.specs.declared.io.Failed.{Failed}
-use Rattle.lsp_verdict.specs.Given.{verdict_view}
-use Rattle.lsp_judge.specs.Event.{IsEvent, BeginsEvent}
-use Rattle.lsp_judge.specs.Normal.{EndsNormal, BeginsNormal}
-use Rattle.lsp_verdict.specs.Complete.{IsVerdictBy}
-use Rattle.lsp_verdict.specs.Ports.{IsOutput, IsSilent, OfInput, Ports}
-use Rattle.lsp_verdict.specs.RunIo.{GaveAtMost, source_failures, sink_failures}
+use Rattle.lsp_judge.specs.Event.{GivesEvent}
+use Rattle.lsp_judge.specs.Normal.{Normalizes}
+use Rattle.lsp_verdict.specs.Ports.{Ports}
+use Rattle.lsp_verdict.specs.RunIo.{source_failures, sink_failures}
 use Rattle.lsp_verdict.specs.TextAfter.{AnswersText}
 use Rattle.lsp_judge.specs.Checked.{Checked}
 use Rattle.lsp_judge.specs.CheckedLine.{CheckedLine}
 use Rattle.lsp_judge.specs.ShownLog.{Showed}
 use Rattle.lsp_judge.specs.UpgradedLog.{UpgradesLog}
-use Rattle.lsp_judge.specs.StreamRun.{IsRun, BeginsRun}
+use Rattle.lsp_judge.specs.StreamRun.{RunsFrames}
 use Rattle.lsp_replay.specs.TextAnswers.{WritesText}
 use Rattle.lsp_explain.specs.AllExplained.{ExplainsAll}
 use Rattle.lsp_explain.specs.Compared.{AnswersCompared}
-use Rattle.lsp_explain.specs.Explained.{IsExplanation, BeginsExplanation}
+use Rattle.lsp_explain.specs.Explained.{WritesExplanation}
 use Rattle.lsp_survey.specs.AllShown.{ShowsAll}
 use Rattle.lsp_survey.specs.KeptText.{AnswersKept}
 use Rattle.lsp_survey.specs.Reported.{SurveysLog}
-use Rattle.lsp_verdict.specs.declared.completeness.Completeness.{Completeness}
-use Rattle.lsp_verdict.specs.declared.outcome.Mode.{Mode}
 use Rattle.lsp_verdict.specs.declared.outcome.Outcome.{Outcome}
-use Rattle.lsp_verdict.specs.declared.outcome.Outcome.TheVariants as outcomes
 use Rattle.lsp_verdict.specs.declared.outcome.RunFault.{RunFault}
 use Rattle.lsp_verdict.specs.declared.outcome.RunFault.TheVariants as faults
-use Rattle.lsp_verdict.specs.declared.verdict.Summary.{Summary}
-use Rattle.lsp_verdict.specs.declared.verdict.Verdict.{Verdict}
-use Rattle.lsp_verdict.specs.declared.verdict.Verdict.TheVariants as verdicts
 use Rattle.lsp_judge.specs.declared.event.EventOutcome.{EventOutcome}
-use Rattle.lsp_judge.specs.declared.event.EventOutcome.TheVariants as events
 use Rattle.lsp_command.specs.Ended.{of_event, of_run}
 use Rattle.lsp_command.specs.declared.task_outcome.TaskOutcome.{TaskOutcome}
 use Rattle.lsp_command.specs.declared.command_line.task.Task.{Task}
@@ -43,46 +33,6 @@ use Rattle.lsp_command.specs.declared.command_line.task.Task.TheVariants.{Explai
 use Rattle.lsp_command.specs.declared.command_line.task.Task.TheVariants.{Show, ShowAll, Text}
 use Rattle.lsp_command.specs.declared.command_line.task.Task.TheVariants.{TextAll, Event}
 use Rattle.lsp_command.specs.declared.command_line.task.Task.TheVariants.{Normal, Upgrade, Frames}
-
--- at most one byte past the limit of a log was read
-abbrev pub StaysWithin : Bounds → Ports → Type 0
-StaysWithin limits p = GaveAtMost (limits.log + 1) p.source_before p.source_after
-
--- `explain`: the verdict on the log read, whose session must be complete or not, and what explains
--- it
-pub record Explained (completeness : Completeness) (limits : Bounds) (p : Ports) (result : Result Outcome RunFault) : Type 0 where
-  pub judged : IfOk result (λ outcome. (v : Verdict) × (outcome ≡ outcomes.Judged v))
-  pub verdict : (v : Verdict) → result ≡ Ok (outcomes.Judged v) → OfInput limits p (λ log. IsVerdictBy completeness limits log (verdict_view v))
-  pub written : (v : Verdict) → result ≡ Ok (outcomes.Judged v)
-      → (out : List ℕ) × IsOutput p out × OfInput limits p (λ log. IsExplanation completeness limits log (verdict_view v) out)
-  pub ended : (s : Summary) → result ≡ Ok (outcomes.Judged (verdicts.Yes s)) → IsAtEnd p.source_after.bytes
-  pub read_fault : result ≡ Err faults.Read → IsSilent p
-  pub memory : result ≡ Err faults.Memory → IsSilent p
-  pub write_fault : result ≡ Err faults.Write → (out : List ℕ) × IsOutput p out × OfInput limits p (λ log. BeginsExplanation completeness limits log out)
-  pub limit : StaysWithin limits p
-
--- `event`: what is due for the event of the number, or after a fault what begins it
-pub record GaveEvent (limits : Bounds) (p : Ports) (number : ℕ) (result : Result EventOutcome RunFault) : Type 0 where
-  pub written : IfOk result (λ outcome. (out : List ℕ) × IsOutput p out × OfInput limits p (λ log. IsEvent limits log number out outcome))
-  pub ended : result ≡ Ok events.FewerEvents → IsAtEnd p.source_after.bytes
-  pub fault : OnErr result ((out : List ℕ) × IsOutput p out × OfInput limits p (λ log. BeginsEvent limits log number out))
-  pub read_fault : result ≡ Err faults.Read → IsSilent p
-  pub memory : result ≡ Err faults.Memory → IsSilent p
-  pub limit : StaysWithin limits p
-
--- `normal`: the normal form of the log read, or after a fault what begins it
-pub record Normalized (limits : Bounds) (p : Ports) (result : Result Outcome RunFault) : Type 0 where
-  pub written : IfOk result (λ outcome. (out : List ℕ) × IsOutput p out × OfInput limits p (λ log. EndsNormal limits log out outcome))
-  pub done : result ≡ Ok outcomes.Done → IsAtEnd p.source_after.bytes
-  pub fault : OnErr result ((out : List ℕ) × IsOutput p out × OfInput limits p (λ log. BeginsNormal limits log out))
-  pub limit : StaysWithin limits p
-
--- `frames`: what is due in the mode for the stream read, or after a fault what begins it
-pub record Framed (limits : Bounds) (p : Ports) (mode : Mode) (result : Result Outcome RunFault) : Type 0 where
-  pub written : IfOk result (λ outcome. (out : List ℕ) × IsOutput p out × OfInput limits p (λ stream. IsRun limits mode stream out outcome))
-  pub done : result ≡ Ok outcomes.Done → IsAtEnd p.source_after.bytes
-  pub fault : OnErr result ((out : List ℕ) × IsOutput p out × OfInput limits p (λ stream. BeginsRun limits mode stream out))
-  pub limit : StaysWithin limits p
 
 -- the run over a log or a stream answers so, and the task as it does
 abbrev pub EndsRun : (Result Outcome RunFault → Type 0) → Result TaskOutcome RunFault → Type 0
@@ -95,7 +45,8 @@ Answers limits (CheckLine completeness name) p result =
     EndsRun (CheckedLine completeness limits name.now p) result
 Answers limits (Survey completeness listing) p result =
     EndsRun (SurveysLog completeness listing limits p) result
-Answers limits (Explain completeness) p result = EndsRun (Explained completeness limits p) result
+Answers limits (Explain completeness) p result =
+    EndsRun (WritesExplanation completeness limits p) result
 Answers limits (ExplainAll completeness) p result =
     EndsRun (ExplainsAll completeness limits p) result
 Answers limits (Compared which) p result =
@@ -106,10 +57,19 @@ Answers limits (Text number uri) p result = EndsRun
     (WritesText limits p (λ log. AnswersText limits log (non_zero_u64_get number) uri.now)) result
 Answers limits (TextAll number uri) p result = EndsRun
     (WritesText limits p (λ log. AnswersKept limits log (non_zero_u64_get number) uri.now)) result
-Answers limits (Event number) p result = (ended : Result EventOutcome RunFault) × (result ≡ of_event ended) × GaveEvent limits p (non_zero_u64_get number) ended
-Answers limits Normal p result = EndsRun (Normalized limits p) result
+Answers limits (Event number) p result =
+    (ended : Result EventOutcome RunFault) × (result ≡ of_event ended)
+    × GivesEvent limits p (non_zero_u64_get number) ended
+Answers limits Normal p result = EndsRun (Normalizes limits p) result
 Answers limits Upgrade p result = EndsRun (UpgradesLog limits p) result
-Answers limits (Frames mode) p result = EndsRun (Framed limits p mode) result
+Answers limits (Frames mode) p result = EndsRun (RunsFrames mode limits p) result
+
+-- a task is done, and fails where the source or the sink counted a failure
+pub record RanTask (limits : Bounds) (task : Task) (p : Ports)
+    (result : Result TaskOutcome RunFault) : Type 0 where
+  pub answers : Answers limits task p result
+  pub source_failures : p.source_after.failures ≡ source_failures result p.source_before.failures
+  pub sink_failures : p.sink_after.failures ≡ sink_failures result p.sink_before.failures
 
 -- what is answered where a task ended so and its output was then flushed with this answer: a write
 -- fault where the task ended well and the flush failed, else how the task ended
@@ -121,12 +81,11 @@ handed_on (Err fault) flushed = Err fault
 
 -- the task was done, and then what it had written was passed on, whether or not it ended well; this
 -- much of it is left
-pub record RanThrough (limits : Bounds) (task : Task) (p : Ports) (left : List ℕ) (result : Result TaskOutcome RunFault) : Type 0 where
+pub record RanThrough (limits : Bounds) (task : Task) (p : Ports) (left : List ℕ)
+    (result : Result TaskOutcome RunFault) : Type 0 where
   pub gathered : Told
   pub ended : Result TaskOutcome RunFault
-  pub answers : Answers limits task (record p { sink_after = gathered }) ended
-  pub source_failures : p.source_after.failures ≡ source_failures ended p.source_before.failures
-  pub sink_failures : gathered.failures ≡ sink_failures ended p.sink_before.failures
+  pub ran : RanTask limits task (record p { sink_after = gathered }) ended
   pub kept : KeepsBytes gathered p.sink_after
   pub flushed : Result (Unit {0}) Failed
   pub failures : CountsFailure gathered.failures p.sink_after.failures flushed

@@ -1,9 +1,9 @@
 //! Does what the words ask for.
 ghost use Rattle.std.specs.Prelude.{◌≡◌, [], None, Err, OnOk, IsSome};
-ghost use Rattle.lsp_verdict.specs.RunIo.{source_failures, sink_failures};
+ghost use Rattle.lsp_verdict.specs.Ports.{ports};
 ghost use Rattle.lsp_verdict.specs.declared.outcome.RunFault.TheVariants as faults;
 ghost use Rattle.lsp_command.specs.Ports.{input_error, late_error, output_error, unwritten};
-ghost use Rattle.lsp_command.specs.Tasks.{Answers, RanThrough, handed_on};
+ghost use Rattle.lsp_command.specs.Tasks.{RanTask, RanThrough, handed_on};
 
 use crate::command_line::Task;
 use crate::input::BufferedInput;
@@ -27,16 +27,9 @@ pub fn run_task<R: Source, W: Sink>(
     sink: &mut W,
     limits: Limits,
 ) -> Result<TaskOutcome, RunFault>
-    ensures answers { Answers limits task.entry (record {
-      source_before = R.told source.old;
-      source_after = R.told source.new;
-      sink_before = W.told sink.old;
-      sink_after = W.told sink.new;
-    }) result }
-    ensures source_failures { (R.told source.new).failures
-        ≡ source_failures result (R.told source.old).failures }
-    ensures sink_failures { (W.told sink.new).failures
-        ≡ sink_failures result (W.told sink.old).failures }
+    ensures ran { RanTask limits task.entry
+        (ports (R.told source.old) (R.told source.new) (W.told sink.old) (W.told sink.new))
+        result }
 {
     match task {
         Task::Check(Completeness::Ignored) => of_run(run_check(alloc, source, sink, limits)),
@@ -100,12 +93,11 @@ pub fn run_through<'a, R: Read + Drop, W: Write + Drop>(
     output: &mut BufferedOutput<'a, W>,
     limits: Limits,
 ) -> Result<TaskOutcome, RunFault>
-    ensures ran { RanThrough limits task.entry (record {
-      source_before = ⟦<BufferedInput<'a, R> as Source>⟧.told input.old;
-      source_after = ⟦<BufferedInput<'a, R> as Source>⟧.told input.new;
-      sink_before = ⟦<BufferedOutput<'a, W> as Sink>⟧.told output.old;
-      sink_after = ⟦<BufferedOutput<'a, W> as Sink>⟧.told output.new;
-    }) (unwritten output.new) result }
+    ensures ran { RanThrough limits task.entry
+        (ports (⟦<BufferedInput<'a, R> as Source>⟧.told input.old)
+        (⟦<BufferedInput<'a, R> as Source>⟧.told input.new)
+        (⟦<BufferedOutput<'a, W> as Sink>⟧.told output.old)
+        (⟦<BufferedOutput<'a, W> as Sink>⟧.told output.new)) (unwritten output.new) result }
     ensures flushed { OnOk result (unwritten output.new ≡ []) }
     // No error of the writer is left to be told.
     ensures settled { late_error output.new ≡ None }

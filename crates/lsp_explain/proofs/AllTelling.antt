@@ -37,7 +37,7 @@ use Rattle.lsp_explain.specs.RunSteps.{RestsBehind}
 use Rattle.lsp_explain.specs.Standing.{terms_in}
 use Rattle.lsp_explain.proofs.AllCauses.{causes-push, said_behind, said_under, zip_append}
 use Rattle.lsp_explain.proofs.Explaining.{raws-append, notes-append, noted-append}
-use Rattle.lsp_survey.proofs.Reporting.{by_sink}
+use Rattle.lsp_verdict.proofs.RunsJudged.{unwritten_sink}
 
 abbrev pub lines : List Explained → List ℕ
 lines said = flat_map cause_lines said
@@ -138,7 +138,7 @@ broke_telling completeness limits e t start mid now old new fault inv k broke ha
       inv.said inv.so_far.terms_are inv.are_said)
       completeness start now (lines inv.said) [] (sym (append-nil (lines inv.said))) has;
   source = broke.failures;
-  sink = by_sink old new fault inv.wrote.failures broke.unwritten;
+  sink = unwritten_sink fault old.failures new.failures broke.unwritten inv.wrote.failures;
 }
 
 -- the log could not be opened
@@ -165,7 +165,7 @@ never_told completeness limits start now told fault off = record {
       inl ([], first_said limits [] tt l.0 [] [] (λ rests behind. tt) log all, [], refl))
       off.of_read;
   source = off.failures;
-  sink = by_sink told told fault refl off.unwritten;
+  sink = unwritten_sink fault told.failures told.failures off.unwritten refl;
 }
 
 -- ---- one more event

@@ -1,7 +1,7 @@
 -- What is said about a log that offends: with its offences, the events that offend and the facts on
 -- them.
 use Rattle.std.specs.Prelude.{◌≡◌, ℕ, List, [], ◌∷◌, ◌++◌, map, take, ◌==◌}
-use Rattle.std.specs.Prelude.{if◌then◌else◌, Option, Some, option_map}
+use Rattle.std.specs.Prelude.{if◌then◌else◌, Option, Some, option_map, Result, Err}
 use Rattle.std.specs.List.{AllZip, flat_map}
 use Rattle.lsp_frame.specs.Bounds.{Bounds}
 use Rattle.lsp_frame.specs.declared.format.Format.{Format}
@@ -13,12 +13,18 @@ use Rattle.lsp_verdict.specs.LookBack.{each_of}
 use Rattle.lsp_verdict.specs.Offences.{Noted, Offence, IsNoted, events_of, kept_of, rule_at}
 use Rattle.lsp_verdict.specs.Outcome.{HasRest, ending, log_terms}
 use Rattle.lsp_verdict.specs.Placed.{Raw, Placed, joined}
+use Rattle.lsp_verdict.specs.Complete.{IsVerdictBy}
+use Rattle.lsp_verdict.specs.Ports.{IsSilent, Ports}
 use Rattle.lsp_verdict.specs.Report.{report}
+use Rattle.lsp_verdict.specs.Runs.{Judges}
 use Rattle.lsp_verdict.specs.Survey.{found_in, ends_listed, first_verdict}
 use Rattle.lsp_verdict.specs.Verdict.{Verdict, yes, no, bad_log, Summary, summary, bad_log_of}
 use Rattle.lsp_verdict.specs.Verdict.{no_by}
 use Rattle.lsp_verdict.specs.declared.completeness.Completeness.{Completeness}
 use Rattle.lsp_verdict.specs.declared.offence.Offence as code
+use Rattle.lsp_verdict.specs.declared.outcome.Outcome.{Outcome}
+use Rattle.lsp_verdict.specs.declared.outcome.RunFault.{RunFault}
+use Rattle.lsp_verdict.specs.declared.outcome.RunFault.TheVariants as faults
 use Rattle.lsp_facts.specs.EventFacts.{AreFacts}
 use Rattle.lsp_facts.specs.Fact.{Fact}
 use Rattle.lsp_facts.specs.FlawFacts.{Rests, rest_of, side_by, unfinished_facts, log_facts}
@@ -208,3 +214,14 @@ IsExplanation = IsWritten first_breach (take 1) noted_explanation
 abbrev pub BeginsExplanation : Completeness → Bounds → List ℕ → List ℕ → Type 0
 BeginsExplanation completeness limits log front =
     (v : Verdict) × (left : List ℕ) × IsExplanation completeness limits log v (front ++ left)
+
+-- ---- a run
+
+-- **what `explain` answers and writes**
+pub record WritesExplanation (completeness : Completeness) (limits : Bounds) (io : Ports)
+    (result : Result Outcome RunFault) : Type 0 where
+  pub writes : Judges limits io (IsVerdictBy completeness limits)
+      (IsExplanation completeness limits) (BeginsExplanation completeness limits) result
+  -- After a read fault or where memory was refused nothing is written.
+  pub read_fault : result ≡ Err faults.Read → IsSilent io
+  pub memory : result ≡ Err faults.Memory → IsSilent io

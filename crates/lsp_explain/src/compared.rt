@@ -9,6 +9,7 @@ ghost use Rattle.lsp_verdict.specs.Given.{verdict_view};
 ghost use Rattle.lsp_explain.specs.Compared as spec;
 ghost use Rattle.lsp_explain.specs.Compared.{AnswersCompared, AreTexts, IsAnswer, sound_answer};
 ghost use Rattle.lsp_explain.specs.RunSteps.{Boxed};
+ghost use Rattle.lsp_verdict.specs.Ports.{ports};
 
 use lsp_facts::{TwoTexts, message_texts, shown_texts};
 use lsp_frame::{Limits, Sink, Source};
@@ -40,12 +41,8 @@ pub fn run_compared<R: Source, W: Sink>(
     limits: Limits,
     which: ComparedText,
 ) -> Result<Outcome, RunFault>
-    ensures text { WritesText limits (record {
-      source_before = R.told reader.old;
-      source_after = R.told reader.new;
-      sink_before = W.told writer.old;
-      sink_after = W.told writer.new;
-    }) (λ log. AnswersCompared limits log which) result }
+    ensures text { WritesText limits (ports (R.told reader.old) (R.told reader.new)
+        (W.told writer.old) (W.told writer.new)) (λ log. AnswersCompared limits log which) result }
 {
     let answer = text_of(alloc, reader, limits, which)?;
     answer.write(writer)

@@ -1,20 +1,18 @@
 //! Explains the verdict on a log.
-ghost use Rattle.std.specs.Prelude.{◌≡◌, ◌+◌, ◌++◌, List, [], ℕ, None, Ok, Err, IfOk, IfSome, OnOk};
+ghost use Rattle.std.specs.Prelude.{◌≡◌, ◌++◌, List, [], None, Ok, IfOk, IfSome, OnOk};
 ghost use Rattle.std.specs.Prelude.{Box, option_map, codes, string_bytes};
-ghost use Rattle.std.specs.Io.KnownBytes.{IsAtEnd};
 ghost use Rattle.lsp_frame.specs.Bounds.{Bounds, IsInRange};
-ghost use Rattle.lsp_frame.specs.Told.{Told, Took};
+ghost use Rattle.lsp_frame.specs.Told.{Told};
 ghost use Rattle.lsp_log.specs.Reader.{shown_by};
 ghost use Rattle.lsp_survey.specs.Asking.{numbered};
 ghost use Rattle.lsp_survey.specs.Reads.{IsFresh, SoFar};
-ghost use Rattle.lsp_verdict.specs.Complete.{IsVerdictBy};
 ghost use Rattle.lsp_verdict.specs.Event.{Event};
 ghost use Rattle.lsp_verdict.specs.Given.{offence_view, verdict_view};
 ghost use Rattle.lsp_verdict.specs.Offences.{Noted};
+ghost use Rattle.lsp_verdict.specs.Ports.{ports};
 ghost use Rattle.lsp_verdict.specs.Report.{report};
-ghost use Rattle.lsp_verdict.specs.RunIo.{OfRead, GaveAtMost, source_failures, sink_failures};
 ghost use Rattle.lsp_verdict.specs.Survey.{first_verdict};
-ghost use Rattle.lsp_explain.specs.Explained.{BeginsExplanation, IsExplanation, end_explained};
+ghost use Rattle.lsp_explain.specs.Explained.{WritesExplanation, end_explained};
 ghost use Rattle.lsp_explain.specs.Explained.{flaw_lines, said_of};
 ghost use Rattle.lsp_facts.specs.FlawFacts.{Rests, flaw_facts, rest_of, side_by};
 ghost use Rattle.lsp_facts.specs.Lines.{fact_lines, usual_line};
@@ -51,33 +49,9 @@ pub fn run_explain<R: Source, W: Sink>(
     limits: Limits,
     completeness: Completeness,
 ) -> Result<Outcome, RunFault>
-    // The answer is the verdict on the log read, however it continues where its end was not met.
-    ensures judged { IfOk result (λ outcome. (v : Verdict) × (outcome ≡ Outcome.Judged v)) }
-    ensures verdict { (v : Verdict) → result ≡ Ok (Outcome.Judged v)
-        → OfRead limits (R.told reader.old) (R.told reader.new)
-        (λ log. IsVerdictBy completeness limits log (verdict_view v)) }
-    // What explains it is written, and nothing else.
-    ensures written { (v : Verdict) → result ≡ Ok (Outcome.Judged v) → (out : List ℕ)
-        × Took (W.told writer.old) (W.told writer.new) out
-        × OfRead limits (R.told reader.old) (R.told reader.new)
-        (λ log. IsExplanation completeness limits log (verdict_view v) out) }
-    ensures ended { (s : Summary) → result ≡ Ok (Outcome.Judged (Verdict.Yes s))
-        → IsAtEnd (R.told reader.new).bytes }
-
-    // After a read fault or where memory was refused nothing is written.
-    ensures read_fault { result ≡ Err RunFault.Read → W.told writer.new ≡ W.told writer.old }
-    ensures memory { result ≡ Err RunFault.Memory → W.told writer.new ≡ W.told writer.old }
-    // What is written before a write fault begins the explanation.
-    ensures write_fault { result ≡ Err RunFault.Write → (out : List ℕ)
-        × Took (W.told writer.old) (W.told writer.new) out
-        × OfRead limits (R.told reader.old) (R.told reader.new)
-        (λ log. BeginsExplanation completeness limits log out) }
-    ensures source_failures { (R.told reader.new).failures
-        ≡ source_failures result (R.told reader.old).failures }
-    ensures sink_failures { (W.told writer.new).failures
-        ≡ sink_failures result (W.told writer.old).failures }
-    // At most one byte past the limit is read.
-    ensures limit { GaveAtMost (limits.log + 1) (R.told reader.old) (R.told reader.new) }
+    ensures explains { WritesExplanation completeness limits
+        (ports (R.told reader.old) (R.told reader.new) (W.told writer.old) (W.told writer.new))
+        result }
 {
     let explanation = explain(alloc, reader, limits, completeness)?;
     put_all(writer, explanation.text.as_bytes())?;
@@ -314,5 +288,5 @@ fn push_flaw(
         ++ usual_line (codes "recorder"))) }
 {
     let facts = flaw_facts(alloc, number, events.place(), events.found())?;
-    push_details(alloc, lines, facts.as_slice(), "recorder")
+    push_details(lines, &facts, "recorder")
 }

@@ -18,6 +18,7 @@ ghost use Rattle.lsp_explain.specs.AllSteps.{TellsHeard, ends_said};
 ghost use Rattle.lsp_explain.specs.Explained.{flaw_lines};
 ghost use Rattle.lsp_explain.specs.RunSteps.{Boxed, flaw_held, rests_held};
 ghost use Rattle.lsp_explain.specs.Standing.{StandsAfter, terms_in};
+ghost use Rattle.lsp_verdict.specs.Ports.{ports};
 
 use crate::run::{Explanation, explain_found, explain_listed, explain_sound, flaw_text, side_by};
 use lsp_frame::{Limits, Sink, Source, put_all};
@@ -48,12 +49,9 @@ pub fn run_explain_all<R: Source, W: Sink>(
     completeness: Completeness,
 ) -> Result<Outcome, RunFault>
     // The verdict is the one that `run_check` gives, or `run_check_complete`.
-    ensures explains { ExplainsAll completeness limits (record {
-      source_before = R.told reader.old;
-      source_after = R.told reader.new;
-      sink_before = W.told writer.old;
-      sink_after = W.told writer.new;
-    }) result }
+    ensures explains { ExplainsAll completeness limits
+        (ports (R.told reader.old) (R.told reader.new) (W.told writer.old) (W.told writer.new))
+        result }
 {
     let verdict = explain_all(alloc, reader, writer, limits, completeness)?;
     Ok(Outcome::Judged(verdict))

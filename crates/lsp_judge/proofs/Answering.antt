@@ -5,7 +5,6 @@ use Rattle.std.specs.Prelude.{IfOk, OnErr, option_map}
 use Rattle.std.proofs.lemmas.Option.{same_Some}
 use Rattle.std.proofs.lemmas.Result.{IfOk-weaker}
 use Rattle.lsp_frame.specs.Bounds.{Bounds, IsInRange}
-use Rattle.lsp_frame.specs.Sink.{Stopped}
 use Rattle.lsp_frame.specs.Told.{Told}
 use Rattle.lsp_frame.specs.declared.format.Format.{Format}
 use Rattle.lsp_docs.specs.Terms.{terms_of}
@@ -31,7 +30,7 @@ use Rattle.lsp_verdict.specs.Given.{verdict_view, as_given}
 use Rattle.lsp_verdict.specs.Kept.{AreKept}
 use Rattle.lsp_verdict.specs.Outcome.{IsFinal, IsVerdict, format_or_one, log_terms}
 use Rattle.lsp_verdict.specs.Placed.{IsSession}
-use Rattle.lsp_verdict.specs.RunIo.{OfRead, AppendsFront}
+use Rattle.lsp_verdict.specs.RunIo.{OfRead}
 use Rattle.lsp_judge.specs.Judging.{AnswersEnd, KeepsAnswer}
 use Rattle.lsp_judge.specs.Rulings.{IfRefused, verdict_in}
 use Rattle.lsp_judge.specs.Standing.{HasOffence, State, Stands, WasRefused, is_given}
@@ -46,11 +45,6 @@ use Rattle.lsp_verdict.proofs.Sessions.{some_session}
 use Rattle.lsp_verdict.proofs.Verdicts.{names_first, nothing_offends}
 
 -- ---- the log read
-
-pub front_of : (old new : Told) (written due : List ℕ) → Stopped old new written → written ≡ due
-    → AppendsFront old new due
-front_of old new written due stopped is =
-    (stopped.front, stopped.back, sym is ∙ stopped.whole, stopped.took)
 
 pub read_verdict : (completeness : Completeness) (limits : Bounds) (before after : Told)
     (given v : code.Verdict)

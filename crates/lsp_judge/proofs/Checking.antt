@@ -1,20 +1,21 @@
 -- What `check` answers follows from the verdict that it found, and from what it wrote.
-use Rattle.std.proofs.Common.{◌≡◌, ℕ, ◌+◌, List, [], Option, Result, Ok, Err, refl, subst}
+use Rattle.std.proofs.Common.{◌≡◌, ℕ, ◌+◌, List, [], Option, Result, Ok, Err, refl, subst, sym}
+use Rattle.std.proofs.Common.{◌∙◌}
 use Rattle.std.specs.Io.KnownBytes.{IsAtEnd}
 use Rattle.lsp_frame.specs.Bounds.{Bounds, IsInRange}
-use Rattle.lsp_frame.specs.Sink.{Wrote}
+use Rattle.lsp_frame.specs.Sink.{Stopped, Wrote}
 use Rattle.lsp_frame.specs.Told.{Told, Took}
 use Rattle.lsp_frame.specs.declared.format.Format.{Format}
-use Rattle.lsp_judge.specs.Answered.{IsClean, IsReportCut}
-use Rattle.lsp_judge.specs.Checked.{Checked, YesMeans, NoMeans, EndsAsDue}
+use Rattle.lsp_judge.specs.Answered.{IsClean}
+use Rattle.lsp_judge.specs.Checked.{Checked, YesMeans, NoMeans, EndsAsDue, IsCut, WritesVerdict}
 use Rattle.lsp_judge.specs.LogEvents.{BrokeOff}
+use Rattle.lsp_verdict.specs.Ports.{ports, IsSilent, OfInput, Ports}
 use Rattle.lsp_log.specs.declared.fault.LogCode.{LogCode}
 use Rattle.lsp_verdict.specs.Complete.{IsVerdictBy}
 use Rattle.lsp_verdict.specs.Event.{Event}
 use Rattle.lsp_verdict.specs.Given.{verdict_view}
 use Rattle.lsp_verdict.specs.Headline.{HasFault}
 use Rattle.lsp_verdict.specs.Outcome.{log_terms}
-use Rattle.lsp_verdict.specs.Ports.{IsSilent, OfInput, Ports}
 use Rattle.lsp_verdict.specs.Report.{report}
 use Rattle.lsp_verdict.specs.RunIo.{GaveAtMost, failures_after, sink_failures_after}
 use Rattle.lsp_verdict.specs.Verdict.{Verdict, no, yes, bad_log, summary}
@@ -33,7 +34,7 @@ use Rattle.lsp_verdict.proofs.Completing.{lack_is_named}
 use Rattle.lsp_verdict.proofs.Logs.Ends.{yes_at_end}
 use Rattle.lsp_verdict.proofs.Meanings.{yes_means_kept, no_names, bad_log_has}
 use Rattle.lsp_verdict.proofs.RunReading.{read_map, read_within}
-use Rattle.lsp_verdict.proofs.RunsJudged.{judged_as}
+use Rattle.lsp_verdict.proofs.RunsJudged.{judged_as, unwritten_sink}
 use Rattle.lsp_judge.proofs.Answering.{clean_yes, clean_complete, read_verdict}
 
 abbrev pub Reads : Completeness → Bounds → Ports → code.Verdict → Type 0
@@ -48,7 +49,7 @@ yes_means : (completeness : Completeness) (limits : Bounds) → IsInRange limits
 yes_means Ignored limits sizes log s says = yes_means_kept limits sizes log _ says
 yes_means Required limits sizes log s says = complete_means_ended limits sizes log _ says
 
-pub ended_at : (completeness : Completeness) (limits : Bounds) → IsInRange limits → (io : Ports)
+ended_at : (completeness : Completeness) (limits : Bounds) → IsInRange limits → (io : Ports)
     (s : code_summary.Summary) → Reads completeness limits io (verdicts.Yes s)
     → IsAtEnd io.source_after.bytes
 ended_at Ignored limits sizes io s says = yes_at_end limits sizes _ _ _ says
@@ -82,82 +83,94 @@ kept_means Required limits sizes given log says format events clean ends =
 
 -- ---- how a run ends
 
--- the report was written
-pub reported : (completeness : Completeness) (limits : Bounds) → IsInRange limits → (io : Ports)
-    (v : code.Verdict) (written : List ℕ) → Reads completeness limits io v
-    → io.source_after.failures ≡ io.source_before.failures
-    → written ≡ report (verdict_view v) → Wrote io.sink_before io.sink_after written
-    → Checked completeness limits io (Ok (Judged v))
-reported completeness limits sizes io v written says same is wrote = record {
-  judged = (v, refl);
-  verdict = reads;
-  report = λ w e. judged_as v w (λ x. Took io.sink_before io.sink_after (report (verdict_view x))) e
-      (subst (Took io.sink_before io.sink_after) is wrote.took);
+module _ (completeness : Completeness) (limits : Bounds) (due : Verdict → List ℕ)
+    (io : Ports) where
+  -- what is due was written
+  pub verdict_written : IsInRange limits → (v : code.Verdict) (written : List ℕ)
+      → Reads completeness limits io v → io.source_after.failures ≡ io.source_before.failures
+      → written ≡ due (verdict_view v) → Wrote io.sink_before io.sink_after written
+      → WritesVerdict completeness limits due io (Ok (Judged v))
+  verdict_written sizes v written says same is wrote = record {
+    judged = (v, refl);
+    verdict = λ w e. read_verdict completeness limits _ _ v w says e;
+    written = λ w e. judged_as v w
+        (λ x. Took io.sink_before io.sink_after (due (verdict_view x))) e
+        (subst (Took io.sink_before io.sink_after) is wrote.took);
+    ended = λ s e. ended_at completeness limits sizes io s
+        (read_verdict completeness limits _ _ v (verdicts.Yes s) says e);
+    read_fault = λ e. absurd (cc e);
+    memory = λ e. absurd (cc e);
+    write_fault = λ e. absurd (cc e);
+    counts = record {
+      source_failures = same;
+      sink_failures = wrote.failures;
+      limit = read_within _ _ _ _ says;
+    };
+  }
+
+  -- a fault
+  pub faulted : (fault : RunFault) → (fault ≡ faults.Read → IsSilent io)
+      → (fault ≡ faults.Memory → IsSilent io)
+      → (fault ≡ faults.Write → IsCut completeness limits due io)
+      → io.source_after.failures ≡ failures_after fault io.source_before.failures
+      → io.sink_after.failures ≡ sink_failures_after fault io.sink_before.failures
+      → GaveAtMost (limits.log + 1) io.source_before io.source_after
+      → WritesVerdict completeness limits due io (Err fault)
+  faulted fault read memory write source sink limit = record {
+    judged = tt;
+    verdict = λ v e. absurd (cc e);
+    written = λ v e. absurd (cc e);
+    ended = λ s e. absurd (cc e);
+    read_fault = λ e. read (cc e);
+    memory = λ e. memory (cc e);
+    write_fault = λ e. write (cc e);
+    counts = record { source_failures = source; sink_failures = sink; limit = limit };
+  }
+
+  -- it was not written whole
+  pub verdict_cut : (v : code.Verdict) (written : List ℕ) → Reads completeness limits io v
+      → io.source_after.failures ≡ io.source_before.failures
+      → written ≡ due (verdict_view v) → Stopped io.sink_before io.sink_after written
+      → WritesVerdict completeness limits due io (Err faults.Write)
+  verdict_cut v written says same is stopped = faulted faults.Write (λ e. absurd (cc e))
+      (λ e. absurd (cc e)) (λ e. record {
+        given = verdict_view v;
+        says = says;
+        writes = (stopped.front, stopped.back, sym is ∙ stopped.whole, stopped.took);
+      }) same stopped.failures (read_within _ _ _ _ says)
+
+module _ (completeness : Completeness) (limits : Bounds) (due : Verdict → List ℕ)
+    (before after told : Told) where
+  -- memory was refused before it was written
+  pub verdict_refused : (v : code.Verdict)
+      → Reads completeness limits (ports before after told told) v
+      → after.failures ≡ before.failures
+      → WritesVerdict completeness limits due (ports before after told told) (Err faults.Memory)
+  verdict_refused v says same = faulted completeness limits due _ faults.Memory (λ e. refl)
+      (λ e. refl) (λ e. absurd (cc e)) same refl (read_within _ _ _ _ says)
+
+  -- there is no verdict
+  pub broke : (fault : RunFault) → BrokeOff limits before after [] fault
+      → WritesVerdict completeness limits due (ports before after told told) (Err fault)
+  broke fault b = faulted completeness limits due _ fault (λ e. refl) (λ e. refl)
+      (λ e. absurd (b.unwritten e)) b.failures (unwritten_sink fault _ _ b.unwritten refl)
+      (read_within _ _ _ _ b.of_read)
+
+-- ---- what a report means
+
+pub checked : (completeness : Completeness) (limits : Bounds) (io : Ports)
+    (result : Result Outcome RunFault) → IsInRange limits
+    → WritesVerdict completeness limits report io result → Checked completeness limits io result
+checked completeness limits io result sizes w = record {
+  writes = w;
   yes = λ s e. read_map _ _ _ _ _ (λ log. yes_means completeness limits sizes log s)
-      (reads (verdicts.Yes s) e);
-  ended = λ s e. ended_at completeness limits sizes io s (reads (verdicts.Yes s) e);
+      (w.verdict (verdicts.Yes s) e);
   no = λ rule number event who e. read_map _ _ _ _ _
       (λ log. no_means completeness limits sizes log rule number event who)
-      (reads (verdicts.No rule who number event) e);
+      (w.verdict (verdicts.No rule who number event) e);
   bad_log = λ number fault e. read_map _ _ _ _ _
       (λ log. bad_log_means completeness limits log number fault)
-      (reads (verdicts.BadLog number fault) e);
-  kept = λ w e. read_map _ _ _ _ _ (kept_means completeness limits sizes (verdict_view w))
-      (reads w e);
-  read_fault = λ e. absurd (cc e);
-  memory = λ e. absurd (cc e);
-  write_fault = λ e. absurd (cc e);
-  counts = record {
-    source_failures = same;
-    sink_failures = wrote.failures;
-    limit = read_within _ _ _ _ says;
-  };
-} where
-  reads : (w : code.Verdict)
-      → (let outcome : Result Outcome RunFault = Ok (Judged v) in outcome) ≡ Ok (Judged w)
-      → Reads completeness limits io w
-  reads w e = read_verdict completeness limits _ _ v w says e
-
--- there is no report: a fault
-pub faulted : (completeness : Completeness) (limits : Bounds) (io : Ports) (fault : RunFault)
-    → (fault ≡ faults.Read → IsSilent io) → (fault ≡ faults.Memory → IsSilent io)
-    → (fault ≡ faults.Write → IsReportCut completeness limits io.source_before io.source_after
-    io.sink_before io.sink_after)
-    → io.source_after.failures ≡ failures_after fault io.source_before.failures
-    → io.sink_after.failures ≡ sink_failures_after fault io.sink_before.failures
-    → GaveAtMost (limits.log + 1) io.source_before io.source_after
-    → Checked completeness limits io (Err fault)
-faulted completeness limits io fault read memory write source sink limit = record {
-  judged = tt;
-  verdict = λ v e. absurd (cc e);
-  report = λ v e. absurd (cc e);
-  yes = λ s e. absurd (cc e);
-  ended = λ s e. absurd (cc e);
-  no = λ rule number event who e. absurd (cc e);
-  bad_log = λ number code e. absurd (cc e);
-  kept = λ v e. absurd (cc e);
-  read_fault = λ e. read (cc e);
-  memory = λ e. memory (cc e);
-  write_fault = λ e. write (cc e);
-  counts = record { source_failures = source; sink_failures = sink; limit = limit };
+      (w.verdict (verdicts.BadLog number fault) e);
+  kept = λ v e. read_map _ _ _ _ _ (kept_means completeness limits sizes (verdict_view v))
+      (w.verdict v e);
 }
-
--- a sink that was given nothing has not failed
-pub unwritten_counts : (told : Told) (f : RunFault) → (f ≡ faults.Write → ⊥)
-    → told.failures ≡ sink_failures_after f told.failures
-unwritten_counts told faults.Read never = refl
-unwritten_counts told faults.Write never = absurd (never refl)
-unwritten_counts told faults.Memory never = refl
-
--- there is no verdict
-pub broke : (completeness : Completeness) (limits : Bounds) (before after told : Told)
-    (fault : RunFault) → BrokeOff limits before after [] fault
-    → Checked completeness limits (record {
-      source_before = before;
-      source_after = after;
-      sink_before = told;
-      sink_after = told;
-    }) (Err fault)
-broke completeness limits before after told fault b =
-    faulted completeness limits _ fault (λ e. refl) (λ e. refl) (λ e. absurd (b.unwritten e))
-    b.failures (unwritten_counts told fault b.unwritten) (read_within _ _ _ _ b.of_read)

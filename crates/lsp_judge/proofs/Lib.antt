@@ -1,3 +1,4 @@
+pub mod Written
 pub mod Ruled
 pub mod Hearing
 pub mod Rests
@@ -5,7 +6,6 @@ pub mod Records
 pub mod KeptEvents
 pub mod Answering
 pub mod Checking
-pub mod CheckingLine
 pub mod LogEvents
 pub mod ShownLogs
 pub mod UpgradedLogs

@@ -1,31 +1,36 @@
 -- What is due where a log is shown.
-use Rattle.std.proofs.Common.{◌≡◌, ℕ, List, [], ◌∷◌, ◌++◌, Option, Some, None, Err}
+use Rattle.std.proofs.Common.{◌≡◌, ℕ, List, [], ◌∷◌, ◌++◌, Option, Some, None, Ok, Err}
 use Rattle.std.proofs.Common.{refl, sym, ap, subst, ◌∙◌, append_assoc, append-nil, arith}
 use Rattle.std.specs.Prelude.{unwrap_or}
 use Rattle.std.specs.List.{flat_map, cons_option}
 use Rattle.std.proofs.lemmas.List.Concat.{flat_map-append}
-use Rattle.lsp_frame.specs.Bounds.{Bounds}
+use Rattle.lsp_frame.specs.Bounds.{Bounds, IsInRange}
 use Rattle.lsp_frame.specs.Sink.{Wrote, Stopped}
 use Rattle.lsp_frame.specs.Told.{Told, Took, after_failure}
 use Rattle.lsp_frame.proofs.Telling.{took_then}
-use Rattle.lsp_frame.proofs.Writing.{wrote_nothing, wrote_then}
+use Rattle.lsp_frame.proofs.Writing.{stopped_then, wrote_nothing, wrote_then}
 use Rattle.lsp_verdict.specs.declared.completeness.Completeness.{Completeness}
 use Rattle.lsp_verdict.specs.declared.completeness.Completeness.TheVariants.{Ignored}
 use Rattle.lsp_verdict.specs.declared.lines.Lines.{Lines}
+use Rattle.lsp_verdict.specs.declared.outcome.Outcome.TheVariants.{Judged}
 use Rattle.lsp_verdict.specs.declared.outcome.RunFault.{RunFault}
 use Rattle.lsp_verdict.specs.declared.outcome.RunFault.TheVariants as faults
+use Rattle.lsp_verdict.specs.declared.verdict.Verdict as code
 use Rattle.lsp_verdict.specs.Event.{Event}
 use Rattle.lsp_verdict.specs.LookBack.{each_of, each_from}
 use Rattle.lsp_verdict.specs.Report.{report}
-use Rattle.lsp_verdict.specs.RunIo.{OfRead, Tells, failures_after, sink_failures_after}
+use Rattle.lsp_verdict.specs.Given.{verdict_view}
+use Rattle.lsp_verdict.specs.Outcome.{IsVerdict}
+use Rattle.lsp_verdict.specs.RunIo.{Tells}
 use Rattle.lsp_verdict.specs.Shown.{line_at, lines_of, show_of}
 use Rattle.lsp_verdict.specs.Verdict.{Verdict}
 use Rattle.lsp_verdict.proofs.Logs.{same_events, one_verdict, some_verdict}
 use Rattle.lsp_verdict.proofs.LookBackLemmas.{each_from-append, each_of-snoc}
 use Rattle.lsp_verdict.proofs.RunReading.{read_map}
+use Rattle.lsp_verdict.proofs.RunsJudged.{judged_not, judges, unwritten_sink}
 use Rattle.lsp_judge.specs.LogEvents.{EndsAt, EndsBy, BeginsWith, SoFar, Found, BrokeOff}
-use Rattle.lsp_judge.specs.ShownLog.{IsShown, BeginsShown, OneShown, SomeShown, ShowedAll}
-use Rattle.lsp_judge.specs.ShownLog.{ShowedPart}
+use Rattle.lsp_judge.specs.ShownLog.{IsShown, BeginsShown, OneShown, SomeShown, Showed, ShowedAll}
+use Rattle.lsp_verdict.specs.Ports.{ports}
 use Rattle.lsp_replay.specs.Lines.{line_of}
 use Rattle.lsp_replay.specs.Places.{place_of}
 use Rattle.lsp_replay.proofs.EventPlaces.{IsPlaceAfter, line_placed, placed}
@@ -143,37 +148,35 @@ module _ (lines : Lines) (limits : Bounds) (start now old mid new : Told) (heard
   pub line_failed : (e : EventReader) (event : Event) (place : EventPlace) (fault : RunFault)
       → SoFar limits e start now (heard ++ event ∷ []) → place ≡ place_of heard event
       → Tells mid new (line_of lines place event) (Err fault)
-      → ShowedPart lines limits start now old new fault
+      → Showed lines limits (ports start now old new) (Err fault)
   line_failed e event place faults.Write so_far counted told =
       let is = at_place e event place so_far counted in
       let due : lines_of lines (heard ++ event ∷ [])
       ≡ (lines_of lines heard ++ told.front) ++ told.back =
       lines-snoc lines heard event place is ∙ ap (λ l. lines_of lines heard ++ l) told.whole
       ∙ sym (append_assoc (lines_of lines heard) told.front told.back) in
-      record {
-        out = lines_of lines heard ++ told.front;
-        took = took_then old mid new (lines_of lines heard) told.front wrote.took told.took;
-        due = read_map limits start now (BeginsWith limits (heard ++ event ∷ []))
+      judged_not _ _ _ _ _ _ (
+        lines_of lines heard ++ told.front,
+        took_then old mid new (lines_of lines heard) told.front wrote.took told.took,
+        read_map limits start now (BeginsWith limits (heard ++ event ∷ []))
             (λ log. BeginsShown lines limits log (lines_of lines heard ++ told.front))
             (begins_shown lines limits (heard ++ event ∷ []) (lines_of lines heard ++ told.front)
             told.back due)
-            (so_far_begins limits e start now (heard ++ event ∷ []) so_far);
-        source = so_far_failures limits e start now (heard ++ event ∷ []) so_far;
-        sink = told.failures ∙ ap after_failure wrote.failures;
-      }
+            (so_far_begins limits e start now (heard ++ event ∷ []) so_far),
+      ) (so_far_failures limits e start now (heard ++ event ∷ []) so_far)
+      (told.failures ∙ ap after_failure wrote.failures)
   line_failed e event place faults.Memory so_far counted told =
       let is = at_place e event place so_far counted in
-      record {
-        out = lines_of lines heard;
-        took = subst (λ (t : Told). Took old t (lines_of lines heard)) (sym told) wrote.took;
-        due = read_map limits start now (BeginsWith limits (heard ++ event ∷ []))
+      judged_not _ _ _ _ _ _ (
+        lines_of lines heard,
+        subst (λ (t : Told). Took old t (lines_of lines heard)) (sym told) wrote.took,
+        read_map limits start now (BeginsWith limits (heard ++ event ∷ []))
             (λ log. BeginsShown lines limits log (lines_of lines heard))
             (begins_shown lines limits (heard ++ event ∷ []) (lines_of lines heard)
             (line_of lines place event) (lines-snoc lines heard event place is))
-            (so_far_begins limits e start now (heard ++ event ∷ []) so_far);
-        source = so_far_failures limits e start now (heard ++ event ∷ []) so_far;
-        sink = ap (λ (t : Told). t.failures) told ∙ wrote.failures;
-      }
+            (so_far_begins limits e start now (heard ++ event ∷ []) so_far),
+      ) (so_far_failures limits e start now (heard ++ event ∷ []) so_far)
+      (ap (λ (t : Told). t.failures) told ∙ wrote.failures)
   line_failed e event place faults.Read so_far counted told = absurd told
 
 module _ (lines : Lines) (limits : Bounds) (start now old mid : Told) (heard : List Event)
@@ -193,73 +196,60 @@ module _ (lines : Lines) (limits : Bounds) (start now old mid : Told) (heard : L
 
   -- the log was not read to its verdict
   pub broke_shown : (fault : RunFault) → BrokeOff limits start now heard fault
-      → ShowedPart lines limits start now old mid fault
-  broke_shown fault broke = record {
-    out = lines_of lines heard;
-    took = wrote.took;
-    due = read_map limits start now (BeginsWith limits heard)
-        (λ log. BeginsShown lines limits log (lines_of lines heard))
-        (begins_shown lines limits heard (lines_of lines heard) []
-        (sym (append-nil (lines_of lines heard)))) broke.of_read;
-    source = by_source fault broke.failures broke.unwritten;
-    sink = by_sink fault wrote.failures broke.unwritten;
-  }
-    where
-      by_source : (f : RunFault) → now.failures ≡ failures_after f start.failures
-          → (f ≡ faults.Write → ⊥) → now.failures ≡ failures_after f start.failures
-      by_source faults.Read e unwritten = e
-      by_source faults.Write e unwritten = e
-      by_source faults.Memory e unwritten = e
-
-      by_sink : (f : RunFault) → mid.failures ≡ old.failures → (f ≡ faults.Write → ⊥)
-          → mid.failures ≡ sink_failures_after f old.failures
-      by_sink faults.Read e unwritten = e
-      by_sink faults.Write e unwritten = absurd (unwritten refl)
-      by_sink faults.Memory e unwritten = e
+      → Showed lines limits (ports start now old mid) (Err fault)
+  broke_shown fault broke =
+      judged_not _ _ _ _ _ _ (
+        lines_of lines heard,
+        wrote.took,
+        read_map limits start now (BeginsWith limits heard)
+            (λ log. BeginsShown lines limits log (lines_of lines heard))
+            (begins_shown lines limits heard (lines_of lines heard) []
+            (sym (append-nil (lines_of lines heard)))) broke.of_read,
+      ) broke.failures
+      (unwritten_sink fault _ _ broke.unwritten wrote.failures)
 
 -- ---- the report
 
-pub shown_read : (lines : Lines) (limits : Bounds) (start now old mid new : Told) (v : Verdict)
-    (written : List ℕ) → ShowedAll lines limits start now old mid v → written ≡ report v
-    → Wrote mid new written
-    → (out : List ℕ) × Took old new out
-    × OfRead limits start now (λ log. IsShown lines limits log v out)
-shown_read lines limits start now old mid new v written s is wrote = (
-  s.out ++ report v,
-  subst (λ l. Took old new (s.out ++ l)) is
-      (took_then old mid new s.out written s.wrote.took wrote.took),
-  s.due,
-)
+module _ (lines : Lines) (limits : Bounds) (start now old mid : Told) (v : code.Verdict)
+    (s : ShowedAll lines limits start now old mid (verdict_view v)) where
+  -- memory was refused for the report
+  pub report_refused : Showed lines limits (ports start now old mid) (Err faults.Memory)
+  report_refused = judged_not _ _ _ _ _ _ (
+    s.out,
+    s.wrote.took,
+    read_map limits start now
+        (λ log. IsShown lines limits log (verdict_view v) (s.out ++ report (verdict_view v)))
+        (λ log. BeginsShown lines limits log s.out)
+        (λ log shown. (verdict_view v, report (verdict_view v), shown)) s.due,
+  ) s.failures s.wrote.failures
 
--- memory was refused for the report
-pub lines_begun : (lines : Lines) (limits : Bounds) (start now old new : Told) (v : Verdict)
-    → ShowedAll lines limits start now old new v
-    → (out : List ℕ) × Took old new out
-    × OfRead limits start now (λ log. BeginsShown lines limits log out)
-lines_begun lines limits start now old new v s = (
-  s.out,
-  s.wrote.took,
-  read_map limits start now
-      (λ log. IsShown lines limits log v (s.out ++ report v))
-      (λ log. BeginsShown lines limits log s.out) (λ log shown. (v, report v, shown)) s.due,
-)
+  module _ (new : Told) (written : List ℕ) (is : written ≡ report (verdict_view v)) where
+    -- the report was not written
+    pub report_cut : Stopped mid new written
+        → Showed lines limits (ports start now old new) (Err faults.Write)
+    report_cut stopped =
+        let all = stopped_then old mid new s.out written s.wrote stopped in
+        judged_not _ _ _ _ _ _ (
+          all.front,
+          all.took,
+          read_map limits start now
+              (λ log. IsShown lines limits log (verdict_view v) (s.out ++ report (verdict_view v)))
+              (λ log. BeginsShown lines limits log all.front)
+              (λ log shown. (
+                verdict_view v,
+                all.back,
+                subst (IsShown lines limits log (verdict_view v))
+                    (ap (λ l. s.out ++ l) (sym is) ∙ all.whole) shown,
+              )) s.due,
+        ) s.failures all.failures
 
--- the report was not written
-pub report_begun : (lines : Lines) (limits : Bounds) (start now old mid new : Told) (v : Verdict)
-    (written : List ℕ) → ShowedAll lines limits start now old mid v → written ≡ report v
-    → Stopped mid new written
-    → (out : List ℕ) × Took old new out
-    × OfRead limits start now (λ log. BeginsShown lines limits log out)
-report_begun lines limits start now old mid new v written s is stopped = (
-  s.out ++ stopped.front,
-  took_then old mid new s.out stopped.front s.wrote.took stopped.took,
-  read_map limits start now (λ log. IsShown lines limits log v (s.out ++ report v))
-      (λ log. BeginsShown lines limits log (s.out ++ stopped.front))
-      (λ log shown. (
-        v,
-        stopped.back,
-        subst (IsShown lines limits log v)
-            (ap (λ l. s.out ++ l) (sym is ∙ stopped.whole)
-            ∙ sym (append_assoc s.out stopped.front stopped.back)) shown,
-      )) s.due,
-)
+    -- all was written
+    pub shown : IsInRange limits → Wrote mid new written
+        → Showed lines limits (ports start now old new) (Ok (Judged v))
+    shown sizes wrote =
+        let all = wrote_then old mid new s.out written s.wrote wrote in
+        judges limits sizes _ _ _ _ v
+        (read_map _ _ _ _ (λ log. IsVerdict limits log (verdict_view v))
+        (λ log shown. shown.0) s.due)
+        (s.out ++ report (verdict_view v), subst (λ l. Took old new (s.out ++ l)) is all.took, s.due)
+        (λ log s says. says) s.failures all.failures

@@ -1,5 +1,5 @@
 -- The records of a log, written in format 2 as they are accepted.
-use Rattle.std.proofs.Common.{◌≡◌, ℕ, List, [], ◌∷◌, ◌++◌, Option, Some, None, IsSome, Ok}
+use Rattle.std.proofs.Common.{◌≡◌, ℕ, List, [], ◌∷◌, ◌++◌, Option, Some, None, IsSome, Ok, Err}
 use Rattle.std.proofs.Common.{refl, sym, ap, subst, ◌∙◌, append_assoc, append-nil}
 use Rattle.std.specs.List.{flat_map}
 use Rattle.lsp_frame.specs.Bounds.{Bounds, IsInRange}
@@ -23,12 +23,13 @@ use Rattle.lsp_verdict.specs.Entries.{HasFirst, IsKnown}
 use Rattle.lsp_verdict.specs.Given.{verdict_view, as_given}
 use Rattle.lsp_verdict.specs.Outcome.{IsFinal, IsVerdict, Offends, format_or_one, log_terms}
 use Rattle.lsp_verdict.specs.Placed.{Raw}
-use Rattle.lsp_verdict.specs.RunIo.{OfRead, sink_failures_after}
+use Rattle.lsp_verdict.specs.RunIo.{OfRead}
 use Rattle.lsp_verdict.specs.Upgraded.{upgraded, AreAccepted, HasAccepted, IsUpgraded}
 use Rattle.lsp_verdict.specs.Upgraded.{BeginsUpgraded}
 use Rattle.lsp_verdict.specs.Verdict.{Verdict}
 use Rattle.lsp_verdict.specs.declared.completeness.Completeness.TheVariants.{Ignored}
 use Rattle.lsp_verdict.specs.declared.counts.Counts.{Counts}
+use Rattle.lsp_verdict.specs.declared.outcome.Outcome.TheVariants.{Judged}
 use Rattle.lsp_verdict.specs.declared.outcome.RunFault.{RunFault}
 use Rattle.lsp_verdict.specs.declared.outcome.RunFault.TheVariants as faults
 use Rattle.lsp_verdict.specs.declared.verdict.Verdict as code
@@ -36,13 +37,15 @@ use Rattle.lsp_verdict.proofs.Entries.{is_first}
 use Rattle.lsp_verdict.proofs.ExactCounts.{exact}
 use Rattle.lsp_verdict.proofs.Outcomes.{offends_final}
 use Rattle.lsp_verdict.proofs.RunReading.{read_map}
+use Rattle.lsp_verdict.proofs.RunsJudged.{judged_not, judges, unwritten_sink}
 use Rattle.lsp_verdict.proofs.Upgrading.{accepted_on, accepted_here, accepted_all, upgraded_more}
 use Rattle.lsp_verdict.proofs.Upgrading.{accepted_none}
 use Rattle.lsp_judge.specs.Heard.{AreHeard, HasHeard}
 use Rattle.lsp_judge.specs.LogEvents.{Finishes}
 use Rattle.lsp_judge.specs.Rulings.{verdict_in}
 use Rattle.lsp_judge.specs.Standing.{Rules}
-use Rattle.lsp_judge.specs.UpgradedLog.{UpgradedAll, UpgradedPart, Upgrading}
+use Rattle.lsp_judge.specs.UpgradedLog.{UpgradesLog, Upgrading}
+use Rattle.lsp_verdict.specs.Ports.{ports}
 use Rattle.lsp_judge.specs.declared.event_reader.EventReader.{EventReader}
 use Rattle.lsp_judge.specs.declared.ruling.Ruling.{Ruling}
 use Rattle.lsp_judge.proofs.LogEvents.{whole_of}
@@ -161,81 +164,75 @@ module _ (limits : Bounds) (known : Option Format) (records : List Record)
     pub unwritten : (front back : List ℕ) → upgraded records ≡ front ++ back → Took old mid front
         → mid.failures ≡ after_failure old.failures → now.failures ≡ start.failures
         → OfRead limits start now (HasFirst limits known records)
-        → UpgradedPart limits start now old mid faults.Write
-    unwritten front back is took failures source first = record {
-      out = front;
-      took = took;
-      due = read_map limits start now (HasFirst limits known records)
-          (λ log. BeginsUpgraded limits log front) (begins front back is) first;
-      source = source;
-      sink = failures;
-    }
+        → UpgradesLog limits (ports start now old mid) (Err faults.Write)
+    unwritten front back is took failures source first = judged_not _ _ _ _ _ _ (
+      front,
+      took,
+      read_map limits start now (HasFirst limits known records)
+          (λ log. BeginsUpgraded limits log front) (begins front back is) first,
+    ) source failures
 
     -- the log was not read to its verdict
     pub broke : (fault : RunFault) → Wrote old mid (upgraded records)
         → entries.BrokeOff limits start now known records fault
-        → UpgradedPart limits start now old mid fault
-    broke fault wrote off = record {
-      out = upgraded records;
-      took = wrote.took;
-      due = read_map limits start now (HasFirst limits known records)
-          (λ log. BeginsUpgraded limits log (upgraded records))
-          (begins (upgraded records) [] (sym (append-nil (upgraded records)))) off.of_read;
-      source = off.failures;
-      sink = by_sink fault off.unwritten;
-    }
-      where
-        by_sink : (f : RunFault) → (f ≡ faults.Write → ⊥)
-            → mid.failures ≡ sink_failures_after f old.failures
-        by_sink faults.Read not = wrote.failures
-        by_sink faults.Write not = absurd (not refl)
-        by_sink faults.Memory not = wrote.failures
+        → UpgradesLog limits (ports start now old mid) (Err fault)
+    broke fault wrote off =
+        judged_not _ _ _ _ _ _ (
+          upgraded records,
+          wrote.took,
+          read_map limits start now (HasFirst limits known records)
+              (λ log. BeginsUpgraded limits log (upgraded records))
+              (begins (upgraded records) [] (sym (append-nil (upgraded records)))) off.of_read,
+        ) off.failures
+        (unwritten_sink fault _ _ off.unwritten wrote.failures)
 
 -- ---- the next entry
 
 module _ (limits : Bounds) (e : LogEvents) (records : List Record)
     (a : Accepted limits e.log.format records) (start now old mid : Told) (given : List Raw)
     (wrote : Wrote old mid (upgraded records)) where
+  -- the verdict was found
+  all_written : (v : code.Verdict)
+      → OfRead limits start now (λ log. IsUpgraded limits log (verdict_view v) (upgraded records))
+      → now.failures ≡ start.failures
+      → UpgradesLog limits (ports start now old mid) (Ok (Judged v))
+  all_written v due failures = judges limits a.range _ _ _ _ v
+      (read_map _ _ _ _ (λ log. IsVerdict limits log (verdict_view v))
+      (λ log upgrade. upgrade.whole) due) (upgraded records, wrote.took, due) (λ log s says. says)
+      failures wrote.failures
+
   -- an event of the next record offends
   pub offended : (next : Record) (ruling : Ruling) (v : code.Verdict)
       → IsIdle limits e start now (records ++ next ∷ []) records given
       → verdict_in ruling ≡ Some (verdict_view v)
       → Rules limits (format_or_one e.log.format) (records ++ next ∷ []) ruling
-      → UpgradedAll limits start now old mid (verdict_view v)
+      → UpgradesLog limits (ports start now old mid) (Ok (Judged v))
   offended next ruling v idle is rules =
       let all : List Record = records ++ next ∷ [] in
       let offence = rules_offence limits (format_or_one e.log.format) all ruling (verdict_view v) is
       rules in
-      record {
-        out = upgraded records;
-        wrote = wrote;
-        due = read_map limits start now (HasFirst limits e.log.format all)
-            (λ log. IsUpgraded limits log (verdict_view v) (upgraded records))
-            (λ log has. upgraded_no limits e.log.format records a next log offence.0
-            (verdict_view v) (known_record e.log.format records next idle.at.early) has offence.1
-            offence.2)
-            (is_first e.log limits start now all idle.same idle.at);
-        failures = idle.at.failures;
-      }
+      all_written v
+      (read_map limits start now (HasFirst limits e.log.format all)
+      (λ log. IsUpgraded limits log (verdict_view v) (upgraded records))
+      (λ log has. upgraded_no limits e.log.format records a next log offence.0 (verdict_view v)
+      (known_record e.log.format records next idle.at.early) has offence.1 offence.2)
+      (is_first e.log limits start now all idle.same idle.at)) idle.at.failures
 
   -- the log ends
   pub all_upgraded : (end : End) (v : code.Verdict)
       → Ended limits e.log.format e start now records given end
       → Finishes Ignored limits e.log.format records end (Ok v)
-      → UpgradedAll limits start now old mid (verdict_view v)
-  all_upgraded end v ended says = record {
-    out = upgraded records;
-    wrote = wrote;
-    due = read_map limits start now (IsLogOf e.log limits records (flaw_of end))
-        (λ log. IsUpgraded limits log (verdict_view v) (upgraded records))
-        (λ log is. upgraded_end limits e.log.format records a (flaw_of end) log (verdict_view v)
-        (log_of limits e.log records (flaw_of end) log is) says) ended.ends.of_read;
-    failures = ended.ends.failures;
-  }
+      → UpgradesLog limits (ports start now old mid) (Ok (Judged v))
+  all_upgraded end v ended says = all_written v
+      (read_map limits start now (IsLogOf e.log limits records (flaw_of end))
+      (λ log. IsUpgraded limits log (verdict_view v) (upgraded records))
+      (λ log is. upgraded_end limits e.log.format records a (flaw_of end) log (verdict_view v)
+      (log_of limits e.log records (flaw_of end) log is) says) ended.ends.of_read)
+      ended.ends.failures
 
   -- memory was refused at the end
   pub refused_end : (end : End) → Ended limits e.log.format e start now records given end
-      → UpgradedPart limits start now old mid faults.Memory
+      → UpgradesLog limits (ports start now old mid) (Err faults.Memory)
   refused_end end ended = broke limits e.log.format records a start now old mid faults.Memory wrote
       (record {
         of_read = read_map limits start now (IsLogOf e.log limits records (flaw_of end))

@@ -2,21 +2,16 @@
 use Rattle.std.specs.Prelude.{◌≡◌, ℕ, List, Option, None}
 use Rattle.lsp_frame.specs.Bounds.{Bounds}
 use Rattle.lsp_frame.specs.declared.format.Format.{Format}
-use Rattle.lsp_frame.specs.Told.{Told}
 use Rattle.lsp_types.specs.declared.side.Side.TheVariants.{Editor, Server}
 use Rattle.lsp_docs.specs.Terms.{terms_of}
 use Rattle.lsp_log.specs.Log.{Record, IsLog}
-use Rattle.lsp_verdict.specs.declared.completeness.Completeness.{Completeness}
 use Rattle.lsp_verdict.specs.BroughtToEnd.{AreCutShort}
-use Rattle.lsp_verdict.specs.Complete.{IsVerdictBy}
 use Rattle.lsp_verdict.specs.Event.{Event}
 use Rattle.lsp_verdict.specs.Given.{as_given}
 use Rattle.lsp_verdict.specs.Headline.{Names, HasRest107}
 use Rattle.lsp_verdict.specs.Kept.{NothingOffends, AreFrames}
 use Rattle.lsp_verdict.specs.Outcome.{format_or_one}
 use Rattle.lsp_verdict.specs.Placed.{IsSession, joined}
-use Rattle.lsp_verdict.specs.Report.{report}
-use Rattle.lsp_verdict.specs.RunIo.{OfRead, AppendsFront}
 use Rattle.lsp_verdict.specs.Verdict.{Verdict, yes, summary}
 
 -- ---- No of records, whatever their length: a count past the greatest u64 is given as that
@@ -74,12 +69,3 @@ IsClean limits log format events =
 abbrev pub SaysYes : Bounds → Format → List Event → Verdict → Type 0
 SaysYes limits format events given =
     given ≡ as_given (yes (summary (terms_of limits format) events))
-
--- ---- a report
-
--- the verdict on the log read was found, and a prefix of its report is written
-pub record IsReportCut (completeness : Completeness) (limits : Bounds)
-    (before after old new : Told) : Type 0 where
-  pub given : Verdict
-  pub says : OfRead limits before after (λ log. IsVerdictBy completeness limits log given)
-  pub writes : AppendsFront old new (report given)

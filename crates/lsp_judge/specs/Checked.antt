@@ -4,7 +4,7 @@ use Rattle.std.specs.Io.KnownBytes.{IsAtEnd}
 use Rattle.lsp_frame.specs.Bounds.{Bounds}
 use Rattle.lsp_frame.specs.declared.format.Format.{Format}
 use Rattle.lsp_log.specs.declared.fault.LogCode.{LogCode}
-use Rattle.lsp_judge.specs.Answered.{IsClean, IsReportCut}
+use Rattle.lsp_judge.specs.Answered.{IsClean}
 use Rattle.lsp_verdict.specs.BroughtToEnd.{IsBroughtToEnd, IsComplete, IsCutShort}
 use Rattle.lsp_verdict.specs.Complete.{IsVerdictBy}
 use Rattle.lsp_verdict.specs.Event.{Event}
@@ -13,7 +13,8 @@ use Rattle.lsp_verdict.specs.Headline.{HasFault, Refuses}
 use Rattle.lsp_verdict.specs.Kept.{IsKept}
 use Rattle.lsp_verdict.specs.Outcome.{log_terms}
 use Rattle.lsp_verdict.specs.Ports.{CountsFaults, IsOutput, IsSilent, OfInput, Ports}
-use Rattle.lsp_verdict.specs.Report as text
+use Rattle.lsp_verdict.specs.Report.{report}
+use Rattle.lsp_verdict.specs.RunIo.{AppendsFront}
 use Rattle.lsp_verdict.specs.Verdict as spec
 use Rattle.lsp_verdict.specs.declared.completeness.Completeness.{Completeness}
 use Rattle.lsp_verdict.specs.declared.completeness.Completeness.TheVariants.{Ignored, Required}
@@ -42,19 +43,38 @@ abbrev pub EndsAsDue : Completeness → List Event → Type 0
 EndsAsDue Ignored events = Unit {0}
 EndsAsDue Required events = IsBroughtToEnd events
 
-pub record Checked (completeness : Completeness) (limits : Bounds) (io : Ports)
-    (result : Result Outcome RunFault) : Type 0 where
-  -- The answer is the verdict on the log read, however it continues where its end was not met; its
-  -- report and nothing else is written.
+-- the verdict on the log read was found, and a prefix of what is due for it is written
+pub record IsCut (completeness : Completeness) (limits : Bounds) (due : spec.Verdict → List ℕ)
+    (io : Ports) : Type 0 where
+  pub given : spec.Verdict
+  pub says : OfInput limits io (λ log. IsVerdictBy completeness limits log given)
+  pub writes : AppendsFront io.sink_before io.sink_after (due given)
+
+-- **The answer is the verdict on the log read, and what is due for it is written**
+pub record WritesVerdict (completeness : Completeness) (limits : Bounds)
+    (due : spec.Verdict → List ℕ) (io : Ports) (result : Result Outcome RunFault) : Type 0 where
+  -- The answer holds for the log read, however it continues where its end was not met.
   pub judged : IfOk result (λ outcome. (v : Verdict) × (outcome ≡ Judged v))
   pub verdict : (v : Verdict) → result ≡ Ok (Judged v)
       → OfInput limits io (λ log. IsVerdictBy completeness limits log (verdict_view v))
-  pub report : (v : Verdict) → result ≡ Ok (Judged v)
-      → IsOutput io (text.report (verdict_view v))
-  -- Yes means that the log is kept, and that its end was met.
+  -- What is due for that verdict is written, and nothing else.
+  pub written : (v : Verdict) → result ≡ Ok (Judged v) → IsOutput io (due (verdict_view v))
+  -- Yes means that the end of the log was met.
+  pub ended : (s : Summary) → result ≡ Ok (Judged (Yes s)) → IsAtEnd io.source_after.bytes
+  -- After a read fault or where memory was refused nothing is written, after a write fault a
+  -- prefix.
+  pub read_fault : result ≡ Err Read → IsSilent io
+  pub memory : result ≡ Err Memory → IsSilent io
+  pub write_fault : result ≡ Err Write → IsCut completeness limits due io
+  pub counts : CountsFaults limits io result
+
+pub record Checked (completeness : Completeness) (limits : Bounds) (io : Ports)
+    (result : Result Outcome RunFault) : Type 0 where
+  -- The answer is the verdict on the log read; its report is written.
+  pub writes : WritesVerdict completeness limits report io result
+  -- Yes means that the log is kept.
   pub yes : (s : Summary) → result ≡ Ok (Judged (Yes s))
       → OfInput limits io (YesMeans completeness limits)
-  pub ended : (s : Summary) → result ≡ Ok (Judged (Yes s)) → IsAtEnd io.source_after.bytes
   -- A No names what is wrong first.
   pub no : (rule number event : ℕ) (who : Who) → result ≡ Ok (Judged (No rule who number event))
       → OfInput limits io (λ log. NoMeans completeness limits log (spec.no rule who number event))
@@ -67,10 +87,3 @@ pub record Checked (completeness : Completeness) (limits : Bounds) (io : Ports)
       → OfInput limits io (λ log. (format : Option Format) (events : List Event)
       → IsClean limits log format events → EndsAsDue completeness events
       → verdict_view v ≡ spec.yes (spec.summary (log_terms limits format) events))
-  -- After a read fault or where memory was refused nothing is written, after a write fault a
-  -- prefix.
-  pub read_fault : result ≡ Err Read → IsSilent io
-  pub memory : result ≡ Err Memory → IsSilent io
-  pub write_fault : result ≡ Err Write → IsReportCut completeness limits io.source_before
-      io.source_after io.sink_before io.sink_after
-  pub counts : CountsFaults limits io result

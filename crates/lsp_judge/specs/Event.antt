@@ -1,5 +1,6 @@
 -- The content of one event of a log.
-use Rattle.std.specs.Prelude.{◌≡◌, ℕ, ◌-◌, List, [], ◌++◌, Option, Some, None, slice_get}
+use Rattle.std.specs.Prelude.{◌≡◌, ℕ, ◌-◌, List, [], ◌++◌, Option, Some, None, slice_get, Result}
+use Rattle.std.specs.Prelude.{Err}
 use Rattle.lsp_frame.specs.Bounds.{Bounds}
 use Rattle.lsp_frame.specs.declared.format.Format.{Format}
 use Rattle.lsp_log.specs.declared.fault.LogCode.{LogCode}
@@ -7,7 +8,11 @@ use Rattle.lsp_log.specs.Log.{Record, IsLog}
 use Rattle.lsp_judge.specs.declared.event.EventOutcome.{EventOutcome}
 use Rattle.lsp_judge.specs.declared.event.EventOutcome.TheVariants.{Done, NoContent, FewerEvents}
 use Rattle.lsp_judge.specs.declared.event.EventOutcome.TheVariants.{BadLog}
+use Rattle.lsp_judge.specs.Written.{WritesDue}
 use Rattle.lsp_verdict.specs.Placed.{Raw, content, broken, show, Placed}
+use Rattle.lsp_verdict.specs.Ports.{IsSilent, Ports}
+use Rattle.lsp_verdict.specs.declared.outcome.RunFault.{RunFault}
+use Rattle.lsp_verdict.specs.declared.outcome.RunFault.TheVariants as faults
 
 -- ---- one event
 
@@ -60,3 +65,13 @@ pub record IsEvent (limits : Bounds) (log : List ℕ) (n : ℕ) (out : List ℕ)
 abbrev pub BeginsEvent : Bounds → List ℕ → ℕ → List ℕ → Type 0
 BeginsEvent limits log n front =
     (outcome : EventOutcome) × (left : List ℕ) × IsEvent limits log n (front ++ left) outcome
+
+-- **what `event` answers and writes**
+pub record GivesEvent (limits : Bounds) (io : Ports) (number : ℕ)
+    (result : Result EventOutcome RunFault) : Type 0 where
+  -- That there are fewer events is known only at the end of the log.
+  pub writes : WritesDue limits io FewerEvents (λ log. IsEvent limits log number)
+      (λ log. BeginsEvent limits log number) result
+  -- After a read fault or where memory was refused nothing is written.
+  pub read_fault : result ≡ Err faults.Read → IsSilent io
+  pub memory : result ≡ Err faults.Memory → IsSilent io

@@ -1,3 +1,4 @@
+pub mod Written
 pub mod Answered
 pub mod Checked
 pub mod CheckedLine

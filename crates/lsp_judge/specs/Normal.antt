@@ -1,7 +1,7 @@
 -- The normal form of a log: each content as its canonical frame, in records that are full but for
 -- the last, and each snapshot as it is.
 use Rattle.std.specs.Prelude.{◌≡◌, ℕ, ◌+◌, List, [], ◌∷◌, ◌++◌, length, map, filter, Bool, true}
-use Rattle.std.specs.Prelude.{false, Option, Some, None}
+use Rattle.std.specs.Prelude.{false, Option, Some, None, Result}
 use Rattle.std.specs.Int.{div_ceil}
 use Rattle.std.specs.List.{flat_map}
 use Rattle.std.specs.Option.{option_or}
@@ -17,11 +17,14 @@ use Rattle.lsp_log.specs.Log.{Record, chunk, shown, first_line, spelling, IsLog}
 use Rattle.lsp_verdict.specs.declared.outcome.Outcome.{Outcome}
 use Rattle.lsp_verdict.specs.declared.outcome.Outcome.TheVariants.{Done, Judged, Stream, NoDocument}
 use Rattle.lsp_verdict.specs.declared.outcome.Outcome.TheVariants.{NoDifference, TooFew}
+use Rattle.lsp_verdict.specs.declared.outcome.RunFault.{RunFault}
 use Rattle.lsp_verdict.specs.Given.{verdict_view}
 use Rattle.lsp_verdict.specs.LookBack.{first_of}
 use Rattle.lsp_verdict.specs.Outcome.{HasRest, ending, format_or_one}
 use Rattle.lsp_verdict.specs.Placed.{Raw, content, broken, show, Placed, joined}
+use Rattle.lsp_verdict.specs.Ports.{Ports}
 use Rattle.lsp_verdict.specs.Verdict.{Verdict, no, Ending, who_of, bad_log_of}
+use Rattle.lsp_judge.specs.Written.{WritesDue}
 use Rattle.lsp_types.specs.declared.rules.TheConstants as rules
 
 -- ---- what is written
@@ -117,3 +120,8 @@ abbrev pub BeginsNormal : Bounds → List ℕ → List ℕ → Type 0
 BeginsNormal limits log written =
     (out : List ℕ) (fault : Option Verdict) → IsNormal limits log out fault
     → (left : List ℕ) × (out ≡ written ++ left)
+
+-- **what `normal` answers and writes**; all was well only where the end of the log was met
+abbrev pub Normalizes : Bounds → Ports → Result Outcome RunFault → Type 0
+Normalizes limits io result =
+    WritesDue limits io Done (EndsNormal limits) (BeginsNormal limits) result

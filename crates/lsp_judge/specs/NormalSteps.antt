@@ -1,7 +1,6 @@
 -- What the steps of a run that writes a normal form answer.
 use Rattle.std.specs.Prelude.{◌≡◌, ℕ, List, [], ◌∷◌, ◌++◌, chars, map, option_map, Option, Some}
 use Rattle.std.specs.Prelude.{None, Result, Ok, Err}
-use Rattle.std.specs.Io.KnownBytes.{IsAtEnd}
 use Rattle.std.specs.List.{flat_map}
 use Rattle.lsp_frame.specs.Bounds.{Bounds}
 use Rattle.lsp_frame.specs.Sink.{Wrote}
@@ -10,23 +9,21 @@ use Rattle.lsp_frame.specs.declared.format.Format.{Format}
 use Rattle.lsp_types.specs.declared.side.Side.TheVariants.{Editor, Server}
 use Rattle.lsp_log.specs.Log.{Record, spelling, first_line}
 use Rattle.lsp_replay.specs.LogEvents.{Reads}
-use Rattle.lsp_judge.specs.Normal.{records_of, no_at, first_broken, fault_of, EndsNormal}
-use Rattle.lsp_judge.specs.Normal.{BeginsNormal}
+use Rattle.lsp_judge.specs.Normal.{Carries, records_of, no_at, first_broken, fault_of}
 use Rattle.lsp_replay.specs.declared.log_events.End.{End}
 use Rattle.lsp_replay.specs.declared.log_events.End.TheVariants.{Sound, Bad}
 use Rattle.lsp_replay.specs.declared.log_events.LogEvents.{LogEvents}
 use Rattle.lsp_verdict.specs.Counting.{AreCounts}
 use Rattle.lsp_verdict.specs.Event as event
 use Rattle.lsp_verdict.specs.Event.{Event}
-use Rattle.lsp_verdict.specs.Given.{verdict_view, as_given}
+use Rattle.lsp_verdict.specs.Given.{as_given}
 use Rattle.lsp_verdict.specs.Outcome.{HasRest, ending, format_or_one}
 use Rattle.lsp_verdict.specs.Placed.{Raw, content, broken, show, joined}
-use Rattle.lsp_verdict.specs.RunIo.{OfRead, failures_after, sink_failures_after}
+use Rattle.lsp_verdict.specs.RunIo.{sink_failures_after}
 use Rattle.lsp_verdict.specs.Verdict.{Verdict}
 use Rattle.lsp_verdict.specs.declared.counts.Counts.{Counts}
 use Rattle.lsp_verdict.specs.declared.outcome.Outcome.{Outcome}
-use Rattle.lsp_verdict.specs.declared.outcome.Outcome.TheVariants.{Done, Judged, Stream, NoDocument}
-use Rattle.lsp_verdict.specs.declared.outcome.Outcome.TheVariants.{NoDifference, TooFew}
+use Rattle.lsp_verdict.specs.declared.outcome.Outcome.TheVariants.{Judged}
 use Rattle.lsp_verdict.specs.declared.outcome.RunFault.{RunFault}
 use Rattle.lsp_verdict.specs.declared.outcome.RunFault.TheVariants as faults
 use Rattle.lsp_verdict.specs.declared.verdict.Verdict.TheVariants as verdicts
@@ -42,12 +39,7 @@ Counted counts raws = AreCounts counts (map mark raws)
 
 -- the outcome carries the fault as its verdict, its numbers as they are counted
 abbrev pub CarriesCapped : Outcome → Option Verdict → Type 0
-CarriesCapped Done fault = fault ≡ None
-CarriesCapped (Judged v) fault = option_map as_given fault ≡ Some (verdict_view v)
-CarriesCapped (Stream frame fault) _ = ⊥
-CarriesCapped NoDocument fault = ⊥
-CarriesCapped TooFew fault = ⊥
-CarriesCapped NoDifference fault = ⊥
+CarriesCapped outcome fault = Carries outcome (option_map as_given fault)
 
 -- the records of these events, as they are written
 abbrev pub spelled : ℕ → List Raw → List ℕ
@@ -114,36 +106,3 @@ pub record SoFar (limits : Bounds) (format : Option Format) (e : LogEvents) (cou
   pub sound : first_broken given ≡ None
   pub counted : Counted counts given
   pub wrote : Wrote old new (spelled limits.chunk given)
-
--- ---- a run
-
--- the normal form of the log is written, and the outcome carries its fault
-abbrev pub WroteNormal : Bounds → Told → Told → Told → Told → Outcome → Type 0
-WroteNormal limits before now sink_before sink_now outcome =
-    (out : List ℕ) × Took sink_before sink_now out
-    × OfRead limits before now (λ log. EndsNormal limits log out outcome)
-
--- what is written begins the normal form of the log
-abbrev pub BeganNormal : Bounds → Told → Told → Told → Told → Type 0
-BeganNormal limits before now sink_before sink_now =
-    (out : List ℕ) × Took sink_before sink_now out
-    × OfRead limits before now (λ log. BeginsNormal limits log out)
-
-pub record Ended (limits : Bounds) (before now sink_before sink_now : Told)
-    (outcome : Outcome) : Type 0 where
-  pub normal : WroteNormal limits before now sink_before sink_now outcome
-  pub done : outcome ≡ Done → IsAtEnd now.bytes
-  pub source : now.failures ≡ before.failures
-  pub sink : sink_now.failures ≡ sink_before.failures
-
-pub record BrokeOff (limits : Bounds) (before now sink_before sink_now : Told)
-    (fault : RunFault) : Type 0 where
-  pub cut_short : BeganNormal limits before now sink_before sink_now
-  pub source : now.failures ≡ failures_after fault before.failures
-  pub sink : sink_now.failures ≡ sink_failures_after fault sink_before.failures
-
-abbrev pub Forms : Bounds → Told → Told → Told → Told → Result Outcome RunFault → Type 0
-Forms limits before now sink_before sink_now (Ok outcome) =
-    Ended limits before now sink_before sink_now outcome
-Forms limits before now sink_before sink_now (Err fault) =
-    BrokeOff limits before now sink_before sink_now fault

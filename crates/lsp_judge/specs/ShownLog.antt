@@ -3,16 +3,16 @@
 use Rattle.std.specs.Prelude.{◌≡◌, List, ◌++◌, ℕ, Result, Ok, Err}
 use Rattle.lsp_frame.specs.Bounds.{Bounds, IsInRange}
 use Rattle.lsp_frame.specs.Sink.{Wrote}
-use Rattle.lsp_frame.specs.Told.{Told, Took}
+use Rattle.lsp_frame.specs.Told.{Told}
 use Rattle.lsp_verdict.specs.declared.lines.Lines.{Lines}
 use Rattle.lsp_verdict.specs.declared.outcome.Outcome.{Outcome}
 use Rattle.lsp_verdict.specs.declared.outcome.RunFault.{RunFault}
 use Rattle.lsp_verdict.specs.declared.verdict.Verdict as code
 use Rattle.lsp_verdict.specs.Given.{verdict_view}
 use Rattle.lsp_verdict.specs.Outcome.{IsVerdict}
-use Rattle.lsp_verdict.specs.Ports.{Ports}
+use Rattle.lsp_verdict.specs.Ports.{Ports, ports}
 use Rattle.lsp_verdict.specs.Report.{report}
-use Rattle.lsp_verdict.specs.RunIo.{OfRead, failures_after, sink_failures_after}
+use Rattle.lsp_verdict.specs.RunIo.{OfRead}
 use Rattle.lsp_verdict.specs.Runs.{Judges}
 use Rattle.lsp_verdict.specs.Shown.{show_of}
 use Rattle.lsp_verdict.specs.Verdict.{Verdict}
@@ -56,21 +56,12 @@ pub record ShowedAll (lines : Lines) (limits : Bounds) (start now old new : Told
   pub due : OfRead limits start now (λ log. IsShown lines limits log v (out ++ report v))
   pub failures : now.failures ≡ start.failures
 
--- what is written before the fault begins what is due
-pub record ShowedPart (lines : Lines) (limits : Bounds) (start now old new : Told)
-    (fault : RunFault) : Type 0 where
-  pub out : List ℕ
-  pub took : Took old new out
-  pub due : OfRead limits start now (λ log. BeginsShown lines limits log out)
-  pub source : now.failures ≡ failures_after fault start.failures
-  pub sink : new.failures ≡ sink_failures_after fault old.failures
-
 -- ---- a run
 
--- the lines of the events before the verdict's place are written, or, before a fault, a prefix of
--- what is due
+-- the lines of the events before the verdict's place are written, or a fault ends the run
 abbrev pub Shows : Lines → Bounds → Told → Told → Told → Told → Result code.Verdict RunFault
     → Type 0
 Shows lines limits start now old new (Ok v) =
     ShowedAll lines limits start now old new (verdict_view v)
-Shows lines limits start now old new (Err fault) = ShowedPart lines limits start now old new fault
+Shows lines limits start now old new (Err fault) =
+    Showed lines limits (ports start now old new) (Err fault)

@@ -1,15 +1,18 @@
 -- What a run over a stream writes, and how it ends.
 use Rattle.std.specs.Prelude.{◌≡◌, ℕ, List, [], ◌∷◌, ◌++◌, length, take, Option, Some, None, Bool}
-use Rattle.std.specs.Prelude.{true, false, nat_lt}
+use Rattle.std.specs.Prelude.{true, false, nat_lt, Result}
 use Rattle.lsp_frame.specs.Bounds.{Bounds}
 use Rattle.lsp_frame.specs.Frame.{IsStream}
 use Rattle.lsp_judge.specs.StreamParts.{RunsThrough}
+use Rattle.lsp_judge.specs.Written.{WritesDue}
+use Rattle.lsp_verdict.specs.Ports.{Ports}
 use Rattle.lsp_verdict.specs.StreamReport.{stream_report}
 use Rattle.lsp_verdict.specs.declared.outcome.Mode.{Mode}
 use Rattle.lsp_verdict.specs.declared.outcome.Mode.TheVariants.{Lengths, Canonical, Kinds}
 use Rattle.lsp_verdict.specs.declared.outcome.Outcome.{Outcome}
 use Rattle.lsp_verdict.specs.declared.outcome.Outcome.TheVariants.{Done, Judged, Stream, NoDocument}
 use Rattle.lsp_verdict.specs.declared.outcome.Outcome.TheVariants.{NoDifference, TooFew}
+use Rattle.lsp_verdict.specs.declared.outcome.RunFault.{RunFault}
 use Rattle.lsp_verdict.specs.declared.outcome.StreamFault.{StreamFault}
 use Rattle.lsp_verdict.specs.declared.outcome.StreamFault.TheVariants.{Rule, TooLong}
 use Rattle.lsp_types.specs.declared.rules.TheConstants as rules
@@ -57,3 +60,9 @@ abbrev pub BeginsRun : Bounds → Mode → List ℕ → List ℕ → Type 0
 BeginsRun limits mode stream written =
     (out : List ℕ) (outcome : Outcome) → IsRun limits mode stream out outcome
     → (left : List ℕ) × (out ≡ written ++ left)
+
+-- **what `frames` answers and writes in a mode**; all was well only where the end of the stream was
+-- met
+abbrev pub RunsFrames : Mode → Bounds → Ports → Result Outcome RunFault → Type 0
+RunsFrames mode limits io result =
+    WritesDue limits io Done (IsRun limits mode) (BeginsRun limits mode) result

@@ -9,8 +9,9 @@ use Rattle.lsp_frame.specs.Pulling.{Misses}
 use Rattle.lsp_frame.specs.declared.decoder.Missing.{Missing}
 use Rattle.lsp_frame.specs.Decoder.{State, StandsFor, EndsWith}
 use Rattle.lsp_judge.specs.StreamParts.{IsPart, Refuses, outcome_at}
-use Rattle.lsp_verdict.specs.RunIo.{HasRead, OfRead, failures_after, sink_failures_after}
-use Rattle.lsp_judge.specs.StreamRun.{fault_of, HasParts}
+use Rattle.lsp_verdict.specs.RunIo.{OfRead, sink_failures_after}
+use Rattle.lsp_judge.specs.StreamRun.{fault_of, HasParts, RunsFrames}
+use Rattle.lsp_verdict.specs.Ports.{ports}
 use Rattle.lsp_verdict.specs.declared.outcome.Mode.{Mode}
 use Rattle.lsp_verdict.specs.declared.outcome.Mode.TheVariants.{Lengths}
 use Rattle.lsp_verdict.specs.declared.outcome.Outcome.{Outcome}
@@ -99,28 +100,12 @@ pub record WroteParts (limits : Bounds) (mode : Mode) (before after sink_before 
   pub wrote : Wrote sink_before sink_after parts
   pub due : OfRead limits before after (λ stream. HasParts limits mode stream parts outcome)
 
--- what is written begins the parts of the contents in the bytes read
-pub record BrokeOff (limits : Bounds) (mode : Mode) (before after sink_before sink_after : Told)
-    (fault : RunFault) : Type 0 where
-  pub bytes : List ℕ
-  pub contents : List (List ℕ)
-  pub rest : List ℕ
-  pub written : List ℕ
-  pub left : List ℕ
-  pub read : HasRead limits before after bytes false
-  pub within : length bytes ≤ limits.log
-  pub frames : Frames limits bytes contents rest
-  pub are_parts : AreParts mode 1 contents (written ++ left)
-  pub wrote : Took sink_before sink_after written
-  pub source : after.failures ≡ failures_after fault before.failures
-  pub sink : sink_after.failures ≡ sink_failures_after fault sink_before.failures
-
 abbrev pub PartsAnswer : Bounds → Mode → Told → Told → Told → Told → Result Outcome RunFault
     → Type 0
 PartsAnswer limits mode before after sink_before sink_after (Ok outcome) =
     WroteParts limits mode before after sink_before sink_after outcome
 PartsAnswer limits mode before after sink_before sink_after (Err fault) =
-    BrokeOff limits mode before after sink_before sink_after fault
+    RunsFrames mode limits (ports before after sink_before sink_after) (Err fault)
 
 -- ---- a run so far
 
@@ -164,4 +149,4 @@ LongAnswer limits mode before after sink_before sink_after d given read (Ok fals
     ≡ outcome_at (given + 1) (fault_of None false d.rest))
     → WroteParts limits mode before after sink_before sink_after outcome
 LongAnswer limits mode before after sink_before sink_after d given read (Err fault) =
-    BrokeOff limits mode before after sink_before sink_after fault
+    RunsFrames mode limits (ports before after sink_before sink_after) (Err fault)

@@ -1,22 +1,18 @@
 -- The records of a log, written in format 2 as they are accepted.
-use Rattle.std.specs.Prelude.{◌≡◌, ℕ, List, [], None, Result, Ok, Err}
+use Rattle.std.specs.Prelude.{◌≡◌, List, [], None, Result}
 use Rattle.lsp_frame.specs.Bounds.{Bounds}
 use Rattle.lsp_frame.specs.Sink.{Wrote}
-use Rattle.lsp_frame.specs.Told.{Told, Took}
+use Rattle.lsp_frame.specs.Told.{Told}
 use Rattle.lsp_log.specs.Log.{Record}
 use Rattle.lsp_replay.specs.LogEvents.{IsNext}
 use Rattle.lsp_replay.specs.declared.log_events.Entry.{Entry}
-use Rattle.lsp_verdict.specs.Given.{verdict_view}
 use Rattle.lsp_verdict.specs.Outcome.{IsVerdict, format_or_one}
 use Rattle.lsp_verdict.specs.Ports.{Ports}
-use Rattle.lsp_verdict.specs.RunIo.{OfRead, failures_after, sink_failures_after}
 use Rattle.lsp_verdict.specs.Runs.{Judges}
 use Rattle.lsp_verdict.specs.Upgraded.{upgraded, IsUpgraded, BeginsUpgraded}
-use Rattle.lsp_verdict.specs.Verdict.{Verdict}
 use Rattle.lsp_verdict.specs.declared.completeness.Completeness.TheVariants.{Ignored}
 use Rattle.lsp_verdict.specs.declared.outcome.Outcome.{Outcome}
 use Rattle.lsp_verdict.specs.declared.outcome.RunFault.{RunFault}
-use Rattle.lsp_verdict.specs.declared.verdict.Verdict as code
 use Rattle.lsp_judge.specs.Heard.{AreHeard}
 use Rattle.lsp_judge.specs.declared.event_reader.EventReader.{EventReader}
 
@@ -39,23 +35,3 @@ pub record Upgrading (limits : Bounds) (e : EventReader) (next : Entry)
   pub next_is : IsNext limits e.log start now records heard.1.past next
   pub ignored : e.completeness ≡ Ignored
   pub wrote : Wrote old new (upgraded records)
-
--- the upgrade of the log is written
-pub record UpgradedAll (limits : Bounds) (start now old new : Told) (v : Verdict) : Type 0 where
-  pub out : List ℕ
-  pub wrote : Wrote old new out
-  pub due : OfRead limits start now (λ log. IsUpgraded limits log v out)
-  pub failures : now.failures ≡ start.failures
-
--- what is written before the fault begins it
-pub record UpgradedPart (limits : Bounds) (start now old new : Told)
-    (fault : RunFault) : Type 0 where
-  pub out : List ℕ
-  pub took : Took old new out
-  pub due : OfRead limits start now (λ log. BeginsUpgraded limits log out)
-  pub source : now.failures ≡ failures_after fault start.failures
-  pub sink : new.failures ≡ sink_failures_after fault old.failures
-
-abbrev pub Upgrades : Bounds → Told → Told → Told → Told → Result code.Verdict RunFault → Type 0
-Upgrades limits start now old new (Ok v) = UpgradedAll limits start now old new (verdict_view v)
-Upgrades limits start now old new (Err fault) = UpgradedPart limits start now old new fault

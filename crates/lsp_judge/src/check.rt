@@ -2,6 +2,7 @@
 ghost use Rattle.lsp_frame.specs.Bounds.{IsInRange};
 ghost use Rattle.lsp_judge.specs.Checked.{Checked};
 ghost use Rattle.lsp_judge.specs.LogEvents.{GivesVerdict};
+ghost use Rattle.lsp_verdict.specs.Ports.{ports};
 
 use crate::contents::take;
 use crate::event_reader::EventReader;
@@ -24,12 +25,9 @@ pub fn run_check<R: Source, W: Sink>(
     writer: &mut W,
     limits: Limits,
 ) -> Result<Outcome, RunFault>
-    ensures checked { Checked Completeness.Ignored limits (record {
-      source_before = R.told reader.old;
-      source_after = R.told reader.new;
-      sink_before = W.told writer.old;
-      sink_after = W.told writer.new;
-    }) result }
+    ensures checked { Checked Completeness.Ignored limits
+        (ports (R.told reader.old) (R.told reader.new) (W.told writer.old) (W.told writer.new))
+        result }
 {
     check(alloc, reader, writer, limits, Completeness::Ignored)
 }
@@ -46,12 +44,9 @@ pub fn run_check_complete<R: Source, W: Sink>(
     writer: &mut W,
     limits: Limits,
 ) -> Result<Outcome, RunFault>
-    ensures checked { Checked Completeness.Required limits (record {
-      source_before = R.told reader.old;
-      source_after = R.told reader.new;
-      sink_before = W.told writer.old;
-      sink_after = W.told writer.new;
-    }) result }
+    ensures checked { Checked Completeness.Required limits
+        (ports (R.told reader.old) (R.told reader.new) (W.told writer.old) (W.told writer.new))
+        result }
 {
     check(alloc, reader, writer, limits, Completeness::Required)
 }
@@ -63,12 +58,8 @@ fn check<R: Source, W: Sink>(
     limits: Limits,
     completeness: Completeness,
 ) -> Result<Outcome, RunFault>
-    ensures checked { Checked completeness limits (record {
-      source_before = R.told reader.old;
-      source_after = R.told reader.new;
-      sink_before = W.told writer.old;
-      sink_after = W.told writer.new;
-    }) result }
+    ensures checked { Checked completeness limits (ports (R.told reader.old) (R.told reader.new)
+        (W.told writer.old) (W.told writer.new)) result }
 {
     let verdict = verdict_of(alloc, reader, limits, completeness)?;
     let report = report_of(alloc, &verdict)?;

@@ -3,6 +3,7 @@ ghost use Rattle.std.specs.Prelude.{◌≡◌, ◌==◌, IfOk};
 ghost use Rattle.std.specs.List.{position_or_len};
 ghost use Rattle.lsp_verdict.specs.Given.{verdict_view};
 ghost use Rattle.lsp_judge.specs.CheckedLine.{CheckedLine, line_for};
+ghost use Rattle.lsp_verdict.specs.Ports.{ports};
 
 use crate::check::verdict_of;
 use lsp_frame::{Limits, Sink, Source, put_all};
@@ -25,12 +26,9 @@ pub fn run_check_line<R: Source, W: Sink>(
     completeness: Completeness,
     name: &str,
 ) -> Result<Outcome, RunFault>
-    ensures checked { CheckedLine completeness limits name.now (record {
-      source_before = R.told reader.old;
-      source_after = R.told reader.new;
-      sink_before = W.told writer.old;
-      sink_after = W.told writer.new;
-    }) result }
+    ensures checked { CheckedLine completeness limits name.now
+        (ports (R.told reader.old) (R.told reader.new) (W.told writer.old) (W.told writer.new))
+        result }
 {
     let verdict = verdict_of(alloc, reader, limits, completeness)?;
     let line = line_for(alloc, name, &verdict)?;

@@ -1,12 +1,11 @@
 //! The content of one event of a log.
-ghost use Rattle.std.specs.Prelude.{◌≡◌, ◌<◌, ◌+◌, [], ℕ, List, Err, IfOk, OnErr};
-ghost use Rattle.std.specs.Io.KnownBytes.{IsAtEnd};
+ghost use Rattle.std.specs.Prelude.{◌≡◌, ◌<◌, [], ℕ, Err, IfOk};
 ghost use Rattle.lsp_frame.specs.Bounds.{Bounds};
-ghost use Rattle.lsp_frame.specs.Told.{Told, Took};
-ghost use Rattle.lsp_judge.specs.Event.{IsEvent, BeginsEvent};
+ghost use Rattle.lsp_frame.specs.Told.{Told};
+ghost use Rattle.lsp_judge.specs.Event.{GivesEvent};
 ghost use Rattle.lsp_judge.specs.EventSteps.{Answers, Finds, HasPassed, IsOfEnd};
+ghost use Rattle.lsp_verdict.specs.Ports.{ports};
 ghost use Rattle.lsp_verdict.specs.Lent.{raw_view};
-ghost use Rattle.lsp_verdict.specs.RunIo.{OfRead, GaveAtMost, source_failures, sink_failures};
 
 use lsp_frame::{Limits, Sink, Source, put_all};
 use lsp_log::LogCode;
@@ -85,20 +84,6 @@ impl EventAnswer {
     }
 }
 
-/// Reads a log up to the event of this number.
-fn find_event<R: Source>(
-    alloc: Global,
-    reader: &mut R,
-    limits: Limits,
-    number: u64,
-) -> Result<EventAnswer, RunFault>
-    requires { 0 < number }
-    ensures { Finds limits number (R.told reader.old) (R.told reader.new) result }
-{
-    let mut events = LogEvents::open(alloc, reader, limits)?;
-    find_next(alloc, &mut events, reader, number)
-}
-
 /// Skips the events that come next, up to the one of this number, from 1.
 fn find_next<R: Source>(
     alloc: Global,
@@ -144,30 +129,11 @@ pub fn run_event<R: Source, W: Sink>(
     number: u64,
 ) -> Result<EventOutcome, RunFault>
     requires { 0 < number }
-    // What is due for that event of the log read, however it continues where its end was not met,
-    // is written, and nothing else; the outcome is the one that is due.
-    ensures written { IfOk result
-        (λ outcome. (out : List ℕ) × Took (W.told writer.old) (W.told writer.new) out
-        × OfRead limits (R.told reader.old) (R.told reader.new)
-        (λ log. IsEvent limits log number out outcome)) }
-    // That there are fewer events is known only at the source's end.
-    ensures ended { result ≡ Ok EventOutcome.FewerEvents → IsAtEnd (R.told reader.new).bytes }
-
-    // What is written before a fault begins what is due; after a read fault or where memory was
-    // refused that is nothing.
-    ensures fault { OnErr result ((out : List ℕ) × Took (W.told writer.old) (W.told writer.new) out
-        × OfRead limits (R.told reader.old) (R.told reader.new)
-        (λ log. BeginsEvent limits log number out)) }
-    ensures read_fault { result ≡ Err RunFault.Read → W.told writer.new ≡ W.told writer.old }
-    ensures memory { result ≡ Err RunFault.Memory → W.told writer.new ≡ W.told writer.old }
-    ensures source_failures { (R.told reader.new).failures
-        ≡ source_failures result (R.told reader.old).failures }
-    ensures sink_failures { (W.told writer.new).failures
-        ≡ sink_failures result (W.told writer.old).failures }
-    // At most one byte past the limit is read.
-    ensures limit { GaveAtMost (limits.log + 1) (R.told reader.old) (R.told reader.new) }
+    ensures gives { GivesEvent limits (ports (R.told reader.old) (R.told reader.new)
+        (W.told writer.old) (W.told writer.new)) number result }
 {
-    let answer = find_event(alloc, reader, limits, number)?;
+    let mut events = LogEvents::open(alloc, reader, limits)?;
+    let answer = find_next(alloc, &mut events, reader, number)?;
     put_all(writer, answer.content.as_slice())?;
     Ok(answer.outcome)
 }

@@ -1,17 +1,16 @@
 //! A run over one raw stream of frames (LSP 3.17, "Base Protocol"): one direction of what passed
 //! between an editor and a server.
 ghost use Rattle.std.specs.Prelude.{◌≡◌, ◌≤◌, ◌<◌, ◌+◌, ◌^◌, ◌∷◌, ◌++◌, [], ℕ, List, length, drop};
-ghost use Rattle.std.specs.Prelude.{decimal, None, false, Ok, IfOk, IfSome, OnErr};
-ghost use Rattle.std.specs.Io.KnownBytes.{IsAtEnd};
+ghost use Rattle.std.specs.Prelude.{decimal, None, false, IfSome};
 ghost use Rattle.lsp_frame.specs.Bounds.{Bounds, IsInRange};
 ghost use Rattle.lsp_frame.specs.Decoder.{StandsFor};
 ghost use Rattle.lsp_frame.specs.Sink.{Writes};
-ghost use Rattle.lsp_frame.specs.Told.{Told, Took};
+ghost use Rattle.lsp_frame.specs.Told.{Told};
 ghost use Rattle.lsp_frame.specs.Pulling.{Misses};
 ghost use Rattle.lsp_judge.specs.StreamParts.{numbers, kind_line, outcome_at};
-ghost use Rattle.lsp_verdict.specs.RunIo.{OfRead, GaveAtMost, Tells, source_failures};
-ghost use Rattle.lsp_verdict.specs.RunIo.{sink_failures};
-ghost use Rattle.lsp_judge.specs.StreamRun.{fault_of, closing, IsRun, BeginsRun};
+ghost use Rattle.lsp_judge.specs.StreamRun.{RunsFrames, fault_of, closing};
+ghost use Rattle.lsp_verdict.specs.Ports.{ports};
+ghost use Rattle.lsp_verdict.specs.RunIo.{Tells};
 ghost use Rattle.lsp_judge.specs.StreamSteps.{WritesPart, AreParts, Finds, PartsAnswer, ToldAll};
 ghost use Rattle.lsp_judge.specs.StreamSteps.{IsLong, LongAnswer};
 ghost use Rattle.lsp_verdict.specs.declared.outcome.Mode.TheVariants.{Lengths};
@@ -284,25 +283,8 @@ pub fn run_frames<R: Source, W: Sink>(
     limits: Limits,
     mode: Mode,
 ) -> Result<Outcome, RunFault>
-    // What is due for the stream read, however it continues where its end was not met, is written,
-    // and nothing else.
-    ensures written { IfOk result
-        (λ outcome. (out : List ℕ) × Took (W.told writer.old) (W.told writer.new) out
-        × OfRead limits (R.told reader.old) (R.told reader.new)
-        (λ stream. IsRun limits mode stream out outcome)) }
-    // All was well only where the source's end was met.
-    ensures done { result ≡ Ok Outcome.Done → IsAtEnd (R.told reader.new).bytes }
-
-    // What is written before a fault begins what is due for the stream read.
-    ensures fault { OnErr result ((out : List ℕ) × Took (W.told writer.old) (W.told writer.new) out
-        × OfRead limits (R.told reader.old) (R.told reader.new)
-        (λ stream. BeginsRun limits mode stream out)) }
-    ensures source_failures { (R.told reader.new).failures
-        ≡ source_failures result (R.told reader.old).failures }
-    ensures sink_failures { (W.told writer.new).failures
-        ≡ sink_failures result (W.told writer.old).failures }
-    // At most one byte past the limit is read.
-    ensures limit { GaveAtMost (limits.log + 1) (R.told reader.old) (R.told reader.new) }
+    ensures framed { RunsFrames mode limits (ports (R.told reader.old) (R.told reader.new)
+        (W.told writer.old) (W.told writer.new)) result }
 {
     let outcome = write_parts(alloc, reader, writer, limits, mode)?;
     write_closing(alloc, writer, mode, &outcome)?;

@@ -1,18 +1,17 @@
 //! The normal form of a log: each message as its canonical frame, in full records.
-ghost use Rattle.std.specs.Prelude.{◌≡◌, ◌+◌, [], ℕ, List, Some, None, Ok, IfOk, OnErr};
-ghost use Rattle.std.specs.Io.KnownBytes.{IsAtEnd};
+ghost use Rattle.std.specs.Prelude.{◌≡◌, [], List, Some, None};
 ghost use Rattle.lsp_frame.specs.Bounds.{Bounds};
-ghost use Rattle.lsp_frame.specs.Told.{Told, Took};
+ghost use Rattle.lsp_frame.specs.Told.{Told};
 ghost use Rattle.lsp_log.specs.Log as log;
 ghost use Rattle.lsp_replay.specs.LogEvents.{Opens};
 ghost use Rattle.lsp_judge.specs.Normal as normal;
-ghost use Rattle.lsp_judge.specs.Normal.{first_broken, EndsNormal, BeginsNormal};
-ghost use Rattle.lsp_judge.specs.NormalSteps.{Counted, CarriesCapped, EndsLog, EndsWhole, Forms};
+ghost use Rattle.lsp_judge.specs.Normal.{Normalizes, first_broken};
+ghost use Rattle.lsp_judge.specs.NormalSteps.{Counted, CarriesCapped, EndsLog, EndsWhole};
 ghost use Rattle.lsp_judge.specs.NormalSteps.{WritesEvent, WroteHead};
+ghost use Rattle.lsp_verdict.specs.Ports.{ports};
 ghost use Rattle.lsp_replay.specs.Streams.{Stands};
 ghost use Rattle.lsp_verdict.specs.Lent.{raw_view};
 ghost use Rattle.lsp_verdict.specs.Placed.{Raw as PlacedRaw};
-ghost use Rattle.lsp_verdict.specs.RunIo.{OfRead, GaveAtMost, source_failures, sink_failures};
 
 use crate::pieces::Pieces;
 use lsp_frame::{Format, Limits, Sink, Source};
@@ -92,21 +91,6 @@ fn outcome_at(events: &LogEvents, counts: &Counts, end: End) -> Outcome
     }
 }
 
-/// Writes the normal form of a log.
-fn write_normal<R: Source, W: Sink>(
-    alloc: Global,
-    reader: &mut R,
-    writer: &mut W,
-    limits: Limits,
-) -> Result<Outcome, RunFault>
-    ensures { Forms limits (R.told reader.old) (R.told reader.new) (W.told writer.old)
-        (W.told writer.new) result }
-{
-    let mut events = LogEvents::open(alloc, reader, limits)?;
-    write_head_of(writer, events.format().unwrap_or(Format::One))?;
-    write_events(alloc, reader, writer, limits, &mut events)
-}
-
 /// Writes the records of the events of a log.
 fn write_events<R: Source, W: Sink>(
     alloc: Global,
@@ -118,7 +102,7 @@ fn write_events<R: Source, W: Sink>(
     requires { (start : Told) × Opens limits start (R.told reader.old) events.old }
     ensures { (start sink : Told) → Opens limits start (R.told reader.old) events.old
         → WroteHead events.old sink (W.told writer.old)
-        → Forms limits start (R.told reader.new) sink (W.told writer.new) result }
+        → Normalizes limits (ports start (R.told reader.new) sink (W.told writer.new)) result }
 {
     let size = limits.chunk() as usize;
     let mut pieces = Pieces::new(alloc, size);
@@ -153,26 +137,10 @@ pub fn run_normal<R: Source, W: Sink>(
     writer: &mut W,
     limits: Limits,
 ) -> Result<Outcome, RunFault>
-    // The normal form of the log read, however it continues where its end was not met, is written,
-    // and nothing else; the outcome carries the fault that ends it.
-    ensures written { IfOk result
-        (λ outcome. (out : List ℕ) × Took (W.told writer.old) (W.told writer.new) out
-        × OfRead limits (R.told reader.old) (R.told reader.new)
-        (λ log. EndsNormal limits log out outcome)) }
-    // All was well only where the source's end was met.
-    ensures done { result ≡ Ok Outcome.Done → IsAtEnd (R.told reader.new).bytes }
-
-    // What is written before a fault begins the normal form of the log read.
-    ensures fault { OnErr result ((out : List ℕ) × Took (W.told writer.old) (W.told writer.new) out
-        × OfRead limits (R.told reader.old) (R.told reader.new)
-        (λ log. BeginsNormal limits log out)) }
-    ensures source_failures { (R.told reader.new).failures
-        ≡ source_failures result (R.told reader.old).failures }
-    ensures sink_failures { (W.told writer.new).failures
-        ≡ sink_failures result (W.told writer.old).failures }
-    // At most one byte past the limit is read.
-    ensures limit { GaveAtMost (limits.log + 1) (R.told reader.old) (R.told reader.new) }
+    ensures normalized { Normalizes limits (ports (R.told reader.old) (R.told reader.new)
+        (W.told writer.old) (W.told writer.new)) result }
 {
-    let outcome = write_normal(alloc, reader, writer, limits)?;
-    Ok(outcome)
+    let mut events = LogEvents::open(alloc, reader, limits)?;
+    write_head_of(writer, events.format().unwrap_or(Format::One))?;
+    write_events(alloc, reader, writer, limits, &mut events)
 }

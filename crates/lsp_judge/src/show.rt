@@ -1,6 +1,7 @@
 //! Shows a log: a line for each event, and the report.
 ghost use Rattle.lsp_frame.specs.Bounds.{IsInRange};
 ghost use Rattle.lsp_judge.specs.ShownLog.{Showed, Shows};
+ghost use Rattle.lsp_verdict.specs.Ports.{ports};
 
 use crate::contents::hear;
 use crate::event_reader::EventReader;
@@ -24,12 +25,8 @@ pub fn run_show<R: Source, W: Sink>(
     writer: &mut W,
     limits: Limits,
 ) -> Result<Outcome, RunFault>
-    ensures showed { Showed Lines.Short limits (record {
-      source_before = R.told reader.old;
-      source_after = R.told reader.new;
-      sink_before = W.told writer.old;
-      sink_after = W.told writer.new;
-    }) result }
+    ensures showed { Showed Lines.Short limits (ports (R.told reader.old) (R.told reader.new)
+        (W.told writer.old) (W.told writer.new)) result }
 {
     show(alloc, reader, writer, limits, Lines::Short)
 }
@@ -46,12 +43,8 @@ pub fn run_show_long<R: Source, W: Sink>(
     writer: &mut W,
     limits: Limits,
 ) -> Result<Outcome, RunFault>
-    ensures showed { Showed Lines.Long limits (record {
-      source_before = R.told reader.old;
-      source_after = R.told reader.new;
-      sink_before = W.told writer.old;
-      sink_after = W.told writer.new;
-    }) result }
+    ensures showed { Showed Lines.Long limits (ports (R.told reader.old) (R.told reader.new)
+        (W.told writer.old) (W.told writer.new)) result }
 {
     show(alloc, reader, writer, limits, Lines::Long)
 }
@@ -65,12 +58,8 @@ fn show<R: Source, W: Sink>(
     limits: Limits,
     lines: Lines,
 ) -> Result<Outcome, RunFault>
-    ensures showed { Showed lines limits (record {
-      source_before = R.told reader.old;
-      source_after = R.told reader.new;
-      sink_before = W.told writer.old;
-      sink_after = W.told writer.new;
-    }) result }
+    ensures showed { Showed lines limits (ports (R.told reader.old) (R.told reader.new)
+        (W.told writer.old) (W.told writer.new)) result }
 {
     let verdict = show_log(alloc, reader, writer, limits, lines)?;
     let report = report_of(alloc, &verdict)?;

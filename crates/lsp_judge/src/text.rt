@@ -2,6 +2,7 @@
 ghost use Rattle.std.specs.Prelude.{◌<◌};
 ghost use Rattle.lsp_replay.specs.TextAnswers.{FindsText, WritesText};
 ghost use Rattle.lsp_verdict.specs.TextAfter.{AnswersText};
+ghost use Rattle.lsp_verdict.specs.Ports.{ports};
 
 use crate::contents::hear;
 use crate::event_reader::EventReader;
@@ -60,12 +61,9 @@ pub fn run_text<R: Source, W: Sink>(
     uri: &str,
 ) -> Result<Outcome, RunFault>
     requires { 0 < number }
-    ensures text { WritesText limits (record {
-      source_before = R.told reader.old;
-      source_after = R.told reader.new;
-      sink_before = W.told writer.old;
-      sink_after = W.told writer.new;
-    }) (λ log. AnswersText limits log number uri.now) result }
+    ensures text { WritesText limits
+        (ports (R.told reader.old) (R.told reader.new) (W.told writer.old) (W.told writer.new))
+        (λ log. AnswersText limits log number uri.now) result }
 {
     let answer = text_after(alloc, reader, limits, number, uri)?;
     answer.write(writer)

@@ -1,8 +1,8 @@
 //! Writes a log again in format 2.
 ghost use Rattle.std.specs.Prelude.{◌≡◌, IfOk};
-ghost use Rattle.lsp_frame.specs.Bounds.{IsInRange};
 ghost use Rattle.lsp_log.specs.Records.{record_view};
-ghost use Rattle.lsp_judge.specs.UpgradedLog.{Upgrades, UpgradesLog};
+ghost use Rattle.lsp_judge.specs.UpgradedLog.{UpgradesLog};
+ghost use Rattle.lsp_verdict.specs.Ports.{ports};
 
 use crate::contents::hear_record;
 use crate::event_reader::EventReader;
@@ -10,7 +10,7 @@ use lsp_frame::{Format, Limits, Sink, Source};
 use lsp_log::{Record, write_head_of, write_record};
 use lsp_replay::{Entry, LogEvents};
 use lsp_rpc::Memory;
-use lsp_verdict::{Completeness, Outcome, RunFault, Verdict};
+use lsp_verdict::{Completeness, Outcome, RunFault};
 use std::alloc::Global;
 
 /// Reads a log up to the first event that offends, or to its end, and writes it again in format 2:
@@ -28,28 +28,8 @@ pub fn run_upgrade<R: Source, W: Sink>(
     writer: &mut W,
     limits: Limits,
 ) -> Result<Outcome, RunFault>
-    ensures upgraded { UpgradesLog limits (record {
-      source_before = R.told reader.old;
-      source_after = R.told reader.new;
-      sink_before = W.told writer.old;
-      sink_after = W.told writer.new;
-    }) result }
-{
-    let verdict = upgrade_log(alloc, reader, writer, limits)?;
-    Ok(Outcome::Judged(verdict))
-}
-
-/// Reads a log up to its verdict, and writes its upgrade. The first entry tells the format of the
-/// log.
-fn upgrade_log<R: Source, W: Sink>(
-    alloc: Global,
-    reader: &mut R,
-    writer: &mut W,
-    limits: Limits,
-) -> Result<Verdict, RunFault>
-    ensures range { IsInRange limits }
-    ensures answer { Upgrades limits (R.told reader.old) (R.told reader.new) (W.told writer.old)
-        (W.told writer.new) result }
+    ensures upgraded { UpgradesLog limits (ports (R.told reader.old) (R.told reader.new)
+        (W.told writer.old) (W.told writer.new)) result }
 {
     let mut log = LogEvents::new(alloc, limits);
     write_head_of(writer, Format::Two)?;
@@ -57,12 +37,12 @@ fn upgrade_log<R: Source, W: Sink>(
     let mut events = EventReader::of(alloc, limits, log, Completeness::Ignored);
     loop {
         match next {
-            Entry::End(end) => return Ok(events.finish(alloc, end)?),
+            Entry::End(end) => return Ok(Outcome::Judged(events.finish(alloc, end)?)),
             Entry::Record(record) => {
                 let copy = copy_of(&record)?;
                 match hear_record(&mut events.log.streams, &mut events.events, record) {
                     Ok(()) => write_record(writer, &copy)?,
-                    Err(ruling) => return Ok(ruling.answer()?),
+                    Err(ruling) => return Ok(Outcome::Judged(ruling.answer()?)),
                 }
             }
         }

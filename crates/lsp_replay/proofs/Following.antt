@@ -50,7 +50,7 @@ message_keeps side bytes spoken terms before after m d events h counts = record 
   is_heard = (h.reads.by, h.says, h.means);
   answers = tt;
   whole = h.has_value;
-  clean = h.clean;
+  accepted = h.accepted;
   holds = h.holds;
   counted = λ all counted. counts all (message h.sent) counted
       (whose_content side bytes (message h.sent) h.reads);
@@ -70,7 +70,7 @@ pub follows_on : (raw : Raw) (old_m new_m : session.State) (old_d new_d : docs.S
     → Follows new_m new_d new_c (events ++ k.event ∷ [])
 follows_on raw old_m new_m old_d new_d old_c new_c given events follows terms k = record {
   clean = ap (λ l. first_no l (events ++ k.event ∷ [])) terms
-      ∙ clean_on old_d.terms events k.event follows.clean k.clean;
+      ∙ clean_on old_d.terms events k.event follows.clean k.accepted;
   holds = k.holds;
   counted = k.counted events follows.counted;
 }

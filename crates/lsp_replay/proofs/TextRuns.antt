@@ -5,8 +5,8 @@ use Rattle.lsp_frame.specs.Told.{Told}
 use Rattle.lsp_replay.specs.TextAnswers.{FindsText, WritesAnswer, WritesText, answer_view}
 use Rattle.lsp_replay.specs.declared.text_answer.TextAnswer as code
 use Rattle.lsp_replay.specs.declared.text_answer.TextAnswer.TheVariants as answers
-use Rattle.lsp_verdict.specs.Ports.{Ports}
-use Rattle.lsp_verdict.specs.RunIo.{BreaksOff, OfRead, sink_failures_after}
+use Rattle.lsp_verdict.specs.Ports.{Ports, ports}
+use Rattle.lsp_verdict.specs.RunIo.{BreaksOff, OfRead}
 use Rattle.lsp_verdict.specs.Shown.{TextAnswer}
 use Rattle.lsp_verdict.specs.TextAfter.{BeginsText, EndsAs, IsText, written_of}
 use Rattle.lsp_verdict.specs.declared.outcome.Outcome.{Outcome}
@@ -15,6 +15,7 @@ use Rattle.lsp_verdict.specs.declared.outcome.Outcome.TheVariants.{NoDifference,
 use Rattle.lsp_verdict.specs.declared.outcome.RunFault.{RunFault}
 use Rattle.lsp_verdict.specs.declared.outcome.RunFault.TheVariants as faults
 use Rattle.lsp_verdict.proofs.RunReading.{read_map, read_within}
+use Rattle.lsp_verdict.proofs.RunsJudged.{unwritten_sink}
 
 -- a run ends in some way with each answer
 some_end : (a : code.TextAnswer) → (outcome : Outcome) × EndsAs (answer_view a) outcome
@@ -97,12 +98,7 @@ module _ (limits : Bounds) (Answers : List ℕ → TextAnswer → Type 0) where
 
   -- there is no answer
   pub text_broke : (start now told : Told) (fault : RunFault) → BreaksOff limits start now fault
-      → WritesText limits (record {
-        source_before = start;
-        source_after = now;
-        sink_before = told;
-        sink_after = told;
-      }) Answers (Err fault)
+      → WritesText limits (ports start now told told) Answers (Err fault)
   text_broke start now told fault broke = record {
     written = tt;
     read_fault = λ e. refl;
@@ -110,16 +106,10 @@ module _ (limits : Bounds) (Answers : List ℕ → TextAnswer → Type 0) where
     write_fault = λ e. absurd (broke.unwritten (same e));
     counts = record {
       source_failures = broke.failures;
-      sink_failures = unwritten fault broke.unwritten;
+      sink_failures = unwritten_sink fault told.failures told.failures broke.unwritten refl;
       limit = read_within _ _ _ _ broke.of_read;
     };
   } where
     same : (let r : Result Outcome RunFault = Err fault in r) ≡ Err faults.Write
         → fault ≡ faults.Write
     same e = cc e
-
-    unwritten : (f : RunFault) → (f ≡ faults.Write → ⊥)
-        → told.failures ≡ sink_failures_after f told.failures
-    unwritten faults.Read never = refl
-    unwritten faults.Write never = absurd (never refl)
-    unwritten faults.Memory never = refl

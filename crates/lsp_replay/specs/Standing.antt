@@ -1,5 +1,5 @@
 -- For which events the parts that hear them stand, and what the next event is heard as.
-use Rattle.std.specs.Prelude.{◌≡◌, ◌⊎◌, ℕ, List, [], ◌∷◌, ◌++◌, Some, None, chars}
+use Rattle.std.specs.Prelude.{◌≡◌, ◌⊎◌, ℕ, List, [], ◌∷◌, ◌++◌, Option, Some, None, chars}
 use Rattle.lsp_rpc.specs.Act.{Act}
 use Rattle.lsp_rpc.specs.Message as rpc
 use Rattle.lsp_rpc.specs.Outline.{outline, without_params}
@@ -10,10 +10,12 @@ use Rattle.lsp_session.specs.Handshake.{open_initializes}
 use Rattle.lsp_session.specs.Sent.{Sent}
 use Rattle.lsp_session.specs.State as session
 use Rattle.lsp_docs.specs.Answer.{answer_of}
+use Rattle.lsp_docs.specs.Calls.{Call}
 use Rattle.lsp_docs.specs.Documents.{held}
 use Rattle.lsp_docs.specs.Kept.{kept}
 use Rattle.lsp_docs.specs.State as docs
 use Rattle.lsp_docs.specs.Terms.{Terms}
+use Rattle.lsp_docs.specs.declared.fault.DocFault.{DocFault}
 use Rattle.lsp_verdict.specs.declared.counts.Counts.{Counts}
 use Rattle.lsp_verdict.specs.Calls.{calls}
 use Rattle.lsp_verdict.specs.Contents.{IsSent, ReadsAs}
@@ -44,6 +46,17 @@ pub record Follows (messages : session.State) (documents : docs.State) (counts :
   pub holds : Holds messages documents events
   pub counted : AreCounts counts events
 
+-- ---- a call
+
+-- what an act says about a document is accepted; where it says nothing, what is held stays
+abbrev pub TakesCall : docs.State → docs.State → Option Call → Type 0
+TakesCall old new None = new ≡ old
+TakesCall old new (Some call) = docs.Accepts old new call
+
+-- the act says something about a document, which is refused
+abbrev pub RefusesCall : docs.State → Option Call → DocFault → Type 0
+RefusesCall old said why = (call : Call) × (said ≡ Some call) × docs.Refuses old call why
+
 -- ---- a content
 
 -- after these events the message is the whole one without its params; or no `initialize` is open,
@@ -60,7 +73,7 @@ pub record Hears (side : Side) (bytes : List ℕ) (said : rpc.Message) (act : Ac
   pub reads : IsSent side bytes sent
   pub says : outline sent.message ≡ outline said
   pub means : sent.act ≡ act
-  pub clean : offence terms events (message sent) ≡ None
+  pub accepted : offence terms events (message sent) ≡ None
   pub holds : Holds messages documents (events ++ message sent ∷ [])
   pub has_value : HasValue events said sent.message
 
@@ -114,7 +127,7 @@ pub record Keeps (raw : Raw) (terms : Terms) (before : Counts) (given : Heard)
   pub is_heard : IsHeard event given
   pub answers : AnswersAs terms events given
   pub whole : HeardWhole events event given
-  pub clean : offence terms events event ≡ None
+  pub accepted : offence terms events event ≡ None
   pub holds : Holds messages documents (events ++ event ∷ [])
   -- also where more events were counted, which were refused
   pub counted : (all : List Event) → AreCounts before all → AreCounts after (all ++ event ∷ [])

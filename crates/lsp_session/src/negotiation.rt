@@ -57,7 +57,7 @@ fn offers(offer: &Offer, name: &str) -> bool
 
 fn check_picked(offer: &Offer, picked: &Picked) -> Result<Agreed, Refusal>
     ensures ok { IfOk result (λ agreed. spec.agreed_by (picked_view picked.now) ≡ Some agreed) }
-    ensures allowed { OnOk result
+    ensures accepted { OnOk result
         (spec.pick_rule (offer_view offer.now) (Some (picked_view picked.now)) ≡ None) }
     ensures rule { IfErr result
         (Names (spec.pick_rule (offer_view offer.now) (Some (picked_view picked.now)))) }
@@ -77,7 +77,7 @@ fn check_picked(offer: &Offer, picked: &Picked) -> Result<Agreed, Refusal>
 /// What a result agrees on that answers this offer. Memory is taken only where it has the shape.
 pub(crate) fn agree(alloc: Global, offer: &Offer, value: &Value) -> Result<Agreed, Refusal>
     ensures ok { IfOk result (λ agreed. spec.agreed_at (view value.now) ≡ Some agreed) }
-    ensures allowed { OnOk result
+    ensures accepted { OnOk result
         (spec.pick_rule (offer_view offer.now) (picked_at (view value.now)) ≡ None) }
     ensures rule { IfErr result
         (Names (spec.pick_rule (offer_view offer.now) (picked_at (view value.now)))) }

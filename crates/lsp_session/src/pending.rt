@@ -101,7 +101,7 @@ impl Pending {
     pub fn ask(&mut self, id: &Id, method: &str) -> Result<(), Refusal>
         ensures added { OnOk result
             (self.new ≡ self.old ++ new_entry (id_view id.now) method.now ∷ []) }
-        ensures allowed { OnOk result (ask_rule (id_view id.now) self.old ≡ None) }
+        ensures accepted { OnOk result (ask_rule (id_view id.now) self.old ≡ None) }
         ensures rule { IfErr result (Names (ask_rule (id_view id.now) self.old)) }
         ensures memory { result ≡ Err Refusal.Memory → ask_rule (id_view id.now) self.old ≡ None }
         ensures unchanged { OnErr result (self.new ≡ self.old) }

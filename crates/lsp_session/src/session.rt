@@ -86,7 +86,7 @@ impl Session {
     pub fn admit(&mut self, side: Side, message: &Message, act: &Act) -> Result<(), Refusal>
         ensures admitted { OnOk result ((before : List Sent) → Stands self.old before
             → Stands self.new (before ++ sent side message.now act.now ∷ [])) }
-        ensures allowed { OnOk result ((before : List Sent) → Stands self.old before
+        ensures accepted { OnOk result ((before : List Sent) → Stands self.old before
             → rule_after before (sent side message.now act.now) ≡ None) }
         ensures rule { IfErr result (λ refusal. (before : List Sent) → Stands self.old before
             → Names (rule_after before (sent side message.now act.now)) refusal) }
@@ -338,7 +338,7 @@ impl Session {
     fn settle(&self, side: Side, message: &Message) -> Result<Option<Agreed>, Refusal>
         ensures ok { IfOk result (λ agreed. option_map (λ a. Some a) agreed
             ≡ by_state.agreed_by self.now side (message_view message.now)) }
-        ensures allowed { OnOk result
+        ensures accepted { OnOk result
             (by_state.result_rule self.now side (message_view message.now) ≡ None) }
         ensures rule { IfErr result
             (Names (by_state.result_rule self.now side (message_view message.now))) }

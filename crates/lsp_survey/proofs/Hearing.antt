@@ -232,7 +232,7 @@ kept_heard raw old new notes given m d c walks terms_are same_m same_d same_c
     let before : List Event = kept_of old.events.docs.terms events in
     by_event old new notes walks
     (ap (λ (w : docs.State). w.terms) same_d ∙ terms_are) is_broken is_passed unheard raw given
-    k.event k.reads k.is_heard k.answers k.whole k.clean
+    k.event k.reads k.is_heard k.answers k.whole k.accepted
     (subst (λ (w : session.State). Holds w new.events.docs (before ++ k.event ∷ [])) (sym same_m)
     (subst (λ (w : docs.State). Holds m w (before ++ k.event ∷ [])) (sym same_d) k.holds))
     (subst (λ (w : Counts). AreCounts w (events ++ k.event ∷ [])) (sym same_c)

@@ -23,7 +23,6 @@ use Rattle.lsp_verdict.specs.Given.{offence_view, verdict_view}
 use Rattle.lsp_verdict.specs.Offences.{Noted, Offence}
 use Rattle.lsp_verdict.specs.Placed.{Raw}
 use Rattle.lsp_verdict.specs.RunIo.{OfRead, Tells, TellsSome, failures_after}
-use Rattle.lsp_verdict.specs.RunIo.{sink_failures_after}
 use Rattle.lsp_verdict.specs.Survey.{IsSurvey, all_report, bad_lines, first_verdict, found_line}
 use Rattle.lsp_verdict.specs.Survey.{offence_lines, shown_of}
 use Rattle.lsp_verdict.specs.Complete.{IsCompleteVerdict, IsVerdictBy}
@@ -44,6 +43,7 @@ use Rattle.lsp_verdict.specs.declared.completeness.Completeness.{Completeness}
 use Rattle.lsp_verdict.specs.declared.outcome.RunFault.{RunFault}
 use Rattle.lsp_verdict.specs.declared.outcome.RunFault.TheVariants as faults
 use Rattle.lsp_verdict.proofs.RunReading.{read_map}
+use Rattle.lsp_verdict.proofs.RunsJudged.{unwritten_sink}
 
 -- ---- lines
 
@@ -108,12 +108,6 @@ begins_at completeness limits listing found out left whole log (later, bad, s, i
       },
     )
 
-pub by_sink : (old mid : Told) (f : RunFault) → mid.failures ≡ old.failures → (f ≡ faults.Write → ⊥)
-    → mid.failures ≡ sink_failures_after f old.failures
-by_sink old mid faults.Read e unwritten = e
-by_sink old mid faults.Write e unwritten = absurd (unwritten refl)
-by_sink old mid faults.Memory e unwritten = e
-
 -- ---- a run
 
 -- these events of the log were heard, and the lines of the offences among them written
@@ -142,7 +136,7 @@ module _ (limits : Bounds) (Begins : List ℕ → List ℕ → Type 0) (start no
     took = wrote.took;
     due = begins;
     source = failures;
-    sink = by_sink old mid fault wrote.failures unwritten;
+    sink = unwritten_sink fault old.failures mid.failures unwritten wrote.failures;
   }
 
   -- not all of what is due next was written

@@ -15,6 +15,7 @@ ghost use Rattle.lsp_verdict.specs.Report.{line};
 ghost use Rattle.lsp_verdict.specs.RunIo.{Tells, TellsSome};
 ghost use Rattle.lsp_verdict.specs.Survey.{bad_lines, first_verdict};
 ghost use Rattle.lsp_verdict.specs.Verdict.{summary, yes};
+ghost use Rattle.lsp_verdict.specs.Ports.{ports};
 
 use crate::offence_count::OffenceCount;
 use crate::offending::Judged;
@@ -48,12 +49,9 @@ pub fn run_survey<R: Source, W: Sink>(
 ) -> Result<Outcome, RunFault>
     // The verdict is the one that `run_check` gives, or `run_check_complete`: the first No that is
     // listed, else the fault of the log, else Yes.
-    ensures surveyed { SurveysLog completeness listing limits (record {
-      source_before = R.told reader.old;
-      source_after = R.told reader.new;
-      sink_before = W.told writer.old;
-      sink_after = W.told writer.new;
-    }) result }
+    ensures surveyed { SurveysLog completeness listing limits
+        (ports (R.told reader.old) (R.told reader.new) (W.told writer.old) (W.told writer.new))
+        result }
 {
     let verdict = report_all(alloc, reader, writer, limits, completeness, listing)?;
     Ok(Outcome::Judged(verdict))

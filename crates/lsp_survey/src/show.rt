@@ -7,6 +7,7 @@ ghost use Rattle.lsp_survey.specs.Reads.{IsFresh, SoFar, found_in};
 ghost use Rattle.lsp_survey.specs.Reported.{IsTally};
 ghost use Rattle.lsp_verdict.specs.Offences.{Offence as SpecOffence};
 ghost use Rattle.lsp_verdict.specs.RunIo.{Tells};
+ghost use Rattle.lsp_verdict.specs.Ports.{ports};
 
 use crate::offence_count::OffenceCount;
 use crate::offending::Judged;
@@ -34,12 +35,8 @@ pub fn run_show_all<R: Source, W: Sink>(
     lines: Lines,
 ) -> Result<Outcome, RunFault>
     // The verdict is the one that `run_check` gives.
-    ensures shown { ShowsAll lines limits (record {
-      source_before = R.told reader.old;
-      source_after = R.told reader.new;
-      sink_before = W.told writer.old;
-      sink_after = W.told writer.new;
-    }) result }
+    ensures shown { ShowsAll lines limits (ports (R.told reader.old) (R.told reader.new)
+        (W.told writer.old) (W.told writer.new)) result }
 {
     let verdict = show_log(alloc, reader, writer, limits, lines)?;
     Ok(Outcome::Judged(verdict))

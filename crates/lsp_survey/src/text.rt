@@ -6,6 +6,7 @@ ghost use Rattle.lsp_frame.specs.Told.{Told};
 ghost use Rattle.lsp_survey.specs.KeptText.{AnswersKept, end_answer};
 ghost use Rattle.lsp_survey.specs.Reads.{IsFresh, SoFar};
 ghost use Rattle.lsp_verdict.specs.Given.{verdict_view};
+ghost use Rattle.lsp_verdict.specs.Ports.{ports};
 
 use crate::survey_reader::{NextJudged, SurveyEnd, SurveyReader};
 use lsp_frame::{Limits, Sink, Source};
@@ -31,12 +32,9 @@ pub fn run_text_all<R: Source, W: Sink>(
     uri: &str,
 ) -> Result<Outcome, RunFault>
     requires { 0 < number }
-    ensures text { WritesText limits (record {
-      source_before = R.told reader.old;
-      source_after = R.told reader.new;
-      sink_before = W.told writer.old;
-      sink_after = W.told writer.new;
-    }) (λ log. AnswersKept limits log number uri.now) result }
+    ensures text { WritesText limits
+        (ports (R.told reader.old) (R.told reader.new) (W.told writer.old) (W.told writer.new))
+        (λ log. AnswersKept limits log number uri.now) result }
 {
     let answer = text_of(alloc, reader, limits, number, uri)?;
     answer.write(writer)

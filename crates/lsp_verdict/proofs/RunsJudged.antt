@@ -13,11 +13,19 @@ use Rattle.lsp_verdict.specs.declared.completeness.Completeness.TheVariants.{Ign
 use Rattle.lsp_verdict.specs.declared.outcome.Outcome.{Outcome}
 use Rattle.lsp_verdict.specs.declared.outcome.Outcome.TheVariants.{Judged}
 use Rattle.lsp_verdict.specs.declared.outcome.RunFault.{RunFault}
+use Rattle.lsp_verdict.specs.declared.outcome.RunFault.TheVariants as faults
 use Rattle.lsp_verdict.specs.declared.verdict.Verdict.{Verdict}
 use Rattle.lsp_verdict.specs.declared.verdict.Verdict.TheVariants.{Yes}
 use Rattle.lsp_verdict.proofs.Completing.{plain_yes}
 use Rattle.lsp_verdict.proofs.Logs.Ends.{yes_at_end}
 use Rattle.lsp_verdict.proofs.RunReading.{read_map, read_within}
+
+-- a fault of the reader or of memory, where no write failed
+pub unwritten_sink : (fault : RunFault) (old new : ℕ) → (fault ≡ faults.Write → ⊥) → new ≡ old
+    → new ≡ sink_failures_after fault old
+unwritten_sink faults.Read old new none same = same
+unwritten_sink faults.Memory old new none same = same
+unwritten_sink faults.Write old new none same = absurd (none refl)
 
 -- this holds of the verdict that is judged
 pub judged_as : (given v : Verdict) (P : Verdict → Type 0)

@@ -13,6 +13,15 @@ pub record Ports : Type 0 where
   pub sink_before : Told
   pub sink_after : Told
 
+-- what a source tells before and after, and then a sink
+abbrev pub ports : Told → Told → Told → Told → Ports
+ports source_before source_after sink_before sink_after = record {
+  source_before = source_before;
+  source_after = source_after;
+  sink_before = sink_before;
+  sink_after = sink_after;
+}
+
 -- this holds of the bytes read, however they continue where their end was not met
 abbrev pub OfInput : Bounds → Ports → (List ℕ → Type 0) → Type 0
 OfInput limits io Holds = OfRead limits io.source_before io.source_after Holds

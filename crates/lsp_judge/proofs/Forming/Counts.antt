@@ -11,9 +11,6 @@ use Rattle.lsp_types.specs.declared.side.Side.TheVariants.{Editor, Server}
 use Rattle.lsp_docs.specs.State.{capped}
 use Rattle.lsp_log.specs.Log.{Record, IsLog}
 use Rattle.lsp_log.specs.declared.fault.LogCode.{LogCode}
-use Rattle.lsp_verdict.specs.declared.outcome.Outcome.{Outcome}
-use Rattle.lsp_verdict.specs.declared.outcome.Outcome.TheVariants.{Done, Judged, Stream, NoDocument}
-use Rattle.lsp_verdict.specs.declared.outcome.Outcome.TheVariants.{NoDifference, TooFew}
 use Rattle.lsp_verdict.specs.Given.{as_given}
 use Rattle.lsp_verdict.specs.LookBack.{first_from}
 use Rattle.lsp_verdict.specs.Outcome.{ending}
@@ -22,8 +19,6 @@ use Rattle.lsp_verdict.specs.Verdict.{Verdict, no, who_of}
 use Rattle.lsp_verdict.proofs.EventCounts.{count_few}
 use Rattle.lsp_verdict.proofs.ExactCounts.{capped_is, raws_within}
 use Rattle.lsp_judge.specs.Normal.{is_of, no_next, no_at, first_broken, rest_of, fault_of}
-use Rattle.lsp_judge.specs.Normal.{Carries}
-use Rattle.lsp_judge.specs.NormalSteps.{CarriesCapped}
 
 next_exact : (rule : ℕ) (side : Side) (before : List Raw) → length before + 1 < 2 ^ 64
     → as_given (no_next rule side before) ≡ no_next rule side before
@@ -84,12 +79,3 @@ end_exact limits sizes log format records raws editor server is_log placed sound
     ) in
     let is : fault_of raws end ≡ rest = ap (λ (o : Option Verdict). option_or o rest) sound in
     ap (option_map as_given) is ∙ rest_exact raws end.editor_rest end.server_rest small ∙ sym is
-
-pub carries_exact : (outcome : Outcome) (fault : Option Verdict) → option_map as_given fault ≡ fault
-    → CarriesCapped outcome fault → Carries outcome fault
-carries_exact Done fault exact carries = carries
-carries_exact (Judged v) fault exact carries = sym exact ∙ carries
-carries_exact (Stream frame f) fault exact carries = absurd carries
-carries_exact NoDocument fault exact carries = absurd carries
-carries_exact TooFew fault exact carries = absurd carries
-carries_exact NoDifference fault exact carries = absurd carries

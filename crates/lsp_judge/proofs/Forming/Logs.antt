@@ -15,8 +15,11 @@ use Rattle.lsp_log.specs.declared.fault.LogCode.{LogCode}
 use Rattle.lsp_replay.specs.LogEvents as log_events
 use Rattle.lsp_replay.specs.LogEvents.{Gives, HasGiven, IsLogOf, Opens, flaw_of}
 use Rattle.lsp_judge.specs.Normal.{form_of, fault_of, EndsNormal, BeginsNormal, IsNormal}
+use Rattle.lsp_judge.specs.Normal.{Carries, Normalizes}
 use Rattle.lsp_judge.specs.NormalSteps.{mark, CarriesCapped, spelled, IsLate, EndsLog, EndsWhole}
-use Rattle.lsp_judge.specs.NormalSteps.{WritesEvent, SoFar, Ended, BrokeOff}
+use Rattle.lsp_judge.specs.NormalSteps.{WritesEvent, SoFar}
+use Rattle.lsp_verdict.specs.Ports.{ports}
+use Rattle.lsp_verdict.specs.Given.{as_given}
 use Rattle.lsp_verdict.specs.Lent.{raw_view}
 use Rattle.lsp_replay.specs.declared.log_events.End.{End}
 use Rattle.lsp_replay.specs.declared.log_events.End.TheVariants.{Sound, Bad}
@@ -31,8 +34,7 @@ use Rattle.lsp_verdict.specs.RunIo.{BreaksOff, failures_after, sink_failures_aft
 use Rattle.lsp_verdict.specs.Verdict.{Verdict, bad_log}
 use Rattle.lsp_verdict.specs.declared.counts.Counts.{Counts}
 use Rattle.lsp_verdict.specs.declared.outcome.Outcome.{Outcome}
-use Rattle.lsp_verdict.specs.declared.outcome.Outcome.TheVariants.{Done, Judged, Stream, NoDocument}
-use Rattle.lsp_verdict.specs.declared.outcome.Outcome.TheVariants.{NoDifference, TooFew}
+use Rattle.lsp_verdict.specs.declared.outcome.Outcome.TheVariants.{Done, Judged}
 use Rattle.lsp_verdict.specs.declared.outcome.RunFault.{RunFault}
 use Rattle.lsp_verdict.specs.declared.outcome.RunFault.TheVariants as faults
 use Rattle.lsp_verdict.specs.declared.verdict.Verdict.TheVariants as verdicts
@@ -40,7 +42,9 @@ use Rattle.lsp_verdict.proofs.Below.{some_stream}
 use Rattle.lsp_verdict.proofs.ExactCounts.{capped_is, raws_within}
 use Rattle.lsp_verdict.proofs.PlacedLemmas.{placed_whole}
 use Rattle.lsp_verdict.proofs.RunReading.{read_map}
-use Rattle.lsp_judge.proofs.Forming.Counts.{end_exact, carries_exact}
+use Rattle.lsp_verdict.proofs.RunsJudged.{unwritten_sink}
+use Rattle.lsp_judge.proofs.Written.{due_begun, due_written}
+use Rattle.lsp_judge.proofs.Forming.Counts.{end_exact}
 use Rattle.lsp_judge.proofs.Forming.Forms.{one_broken, one_sound, spelled_behind, spelled_broken}
 use Rattle.lsp_judge.proofs.Forming.OneForm.{broken_normal, due_first}
 use Rattle.lsp_replay.proofs.Pulling.{log_of, reads_failures, reads_given}
@@ -49,65 +53,42 @@ use Rattle.lsp_replay.proofs.Pulling.{log_of, reads_failures, reads_given}
 
 -- an outcome that carries a fault is not `Done`
 carried : (outcome : Outcome) (v : Verdict) → CarriesCapped outcome (Some v) → outcome ≡ Done → ⊥
-carried Done v carries e = absurd cc
-carried (Judged w) v carries e = absurd cc
-carried (Stream frame fault) v carries e = absurd cc
-carried NoDocument v carries e = absurd cc
-carried TooFew v carries e = absurd cc
-carried NoDifference v carries e = absurd cc
+carried outcome v carries e =
+    absurd (cc (subst (λ (o : Outcome). Carries o (Some (as_given v))) e carries))
 
 late_source : (fault : RunFault) (n : ℕ) → IsLate fault → n ≡ failures_after fault n
 late_source faults.Read n late = absurd late
 late_source faults.Write n late = refl
 late_source faults.Memory n late = refl
 
--- a fault after what was written
-failures_along : (fault : RunFault) (a b c : ℕ) → b ≡ a → c ≡ sink_failures_after fault b
-    → c ≡ sink_failures_after fault a
-failures_along fault a b c same is = is ∙ ap (sink_failures_after fault) same
-
--- a fault of the reader or of memory, where no write failed
-unwritten_sink : (fault : RunFault) (n : ℕ) → (fault ≡ faults.Write → ⊥)
-    → n ≡ sink_failures_after fault n
-unwritten_sink faults.Read n none = refl
-unwritten_sink faults.Memory n none = refl
-unwritten_sink faults.Write n none = absurd (none refl)
-
 -- ---- nothing was written
 
 -- reading broke off before the first record
 pub none_read : (limits : Bounds) (start now sink : Told) (fault : RunFault)
-    → BreaksOff limits start now fault → BrokeOff limits start now sink sink fault
-none_read limits start now sink fault broke = record {
-  cut_short = (
-    [],
-    took_nothing sink,
-    read_map limits start now (λ log. Unit {0})
-        (λ log. BeginsNormal limits log []) (λ log u out due_fault normal. (out, refl))
-        broke.of_read,
-  );
-  source = broke.failures;
-  sink = unwritten_sink fault sink.failures broke.unwritten;
-}
+    → BreaksOff limits start now fault → Normalizes limits (ports start now sink sink) (Err fault)
+none_read limits start now sink fault broke = due_begun limits _ Done _ _ fault (
+  [],
+  took_nothing sink,
+  read_map limits start now (λ log. Unit {0})
+      (λ log. BeginsNormal limits log []) (λ log u out due_fault normal. (out, refl))
+      broke.of_read,
+) broke.failures (unwritten_sink fault _ _ broke.unwritten refl)
 
 -- the first line was not written whole
 pub head_cut : (limits : Bounds) (e : LogEvents) (start now sink new : Told)
     → Opens limits start now e → Stopped sink new (first_line (format_or_one e.log.format))
-    → BrokeOff limits start now sink new faults.Write
-head_cut limits e start now sink new (records, due, reads) stopped = record {
-  cut_short = (
-    stopped.front,
-    stopped.took,
-    read_map limits start now (HasGiven limits e.log.format records [])
-        (λ log. BeginsNormal limits log stopped.front)
-        (λ log has. due_first limits reads.stands.range log e.log.format records [] has
-        stopped.front stopped.back
-        (append-nil (first_line (format_or_one e.log.format)) ∙ stopped.whole))
-        (reads_given limits e.log.format e start now records [] due reads),
-  );
-  source = reads_failures limits e.log.format e start now records [] due reads;
-  sink = stopped.failures;
-}
+    → Normalizes limits (ports start now sink new) (Err faults.Write)
+head_cut limits e start now sink new (records, due, reads) stopped =
+    due_begun limits _ Done _ _ faults.Write (
+      stopped.front,
+      stopped.took,
+      read_map limits start now (HasGiven limits e.log.format records [])
+          (λ log. BeginsNormal limits log stopped.front)
+          (λ log has. due_first limits reads.stands.range log e.log.format records [] has
+          stopped.front stopped.back
+          (append-nil (first_line (format_or_one e.log.format)) ∙ stopped.whole))
+          (reads_given limits e.log.format e start now records [] due reads),
+    ) (reads_failures limits e.log.format e start now records [] due reads) stopped.failures
 
 -- none of the events was given
 pub none_formed : (limits : Bounds) (e : LogEvents) (counts : Counts) (start now old : Told)
@@ -188,7 +169,7 @@ module _ (limits : Bounds) (format : Option Format) (old new : LogEvents) (count
         (sink_new : Told) → Gives limits format new start now so.records so.given
         (Ok (next.Event raw)) → WritesEvent size counted_now sink_now sink_new so.given
         (raw_view raw) (Ok (Some outcome))
-        → Ended limits start now sink sink_new outcome
+        → Normalizes limits (ports start now sink sink_new) (Ok outcome)
     unfolding line
     fault_ends raw counted_now size outcome sink_new (more, due, reads)
         (stays, (verdict, is, carries)) =
@@ -204,32 +185,29 @@ module _ (limits : Bounds) (format : Option Format) (old new : LogEvents) (count
         wrote_then sink sink_before sink_now line (spelled limits.chunk given) head
         (subst (Wrote sink_before sink_now) (sym same) so.wrote) in
         let all = subst (λ (t : Told). Wrote sink t form) (sym stays) wrote in
-        record {
-          normal = (
-            form,
-            all.took,
-            read_map limits start now (HasGiven limits format (so.records ++ more) given)
-                (λ log. EndsNormal limits log form outcome)
-                (λ log has.
-                let normal = broken_normal limits reads.stands.range log format (so.records ++ more)
-                given has verdict breaks in (
-                  Some verdict,
-                  normal.0,
-                  carries_exact outcome (Some verdict) (ap Some normal.1) carries,
-                ))
-                (reads_given limits format new start now (so.records ++ more) given due reads),
-          );
-          done = λ done. absurd (carried outcome verdict carries done);
-          source = reads_failures limits format new start now (so.records ++ more) given due reads;
-          sink = all.failures;
-        }
+        due_written limits _ Done _ _ outcome (
+          form,
+          all.took,
+          read_map limits start now (HasGiven limits format (so.records ++ more) given)
+              (λ log. EndsNormal limits log form outcome)
+              (λ log has.
+              let normal = broken_normal limits reads.stands.range log format (so.records ++ more)
+              given has verdict breaks in (
+                Some verdict,
+                normal.0,
+                subst (Carries outcome) (ap Some normal.1) carries,
+              ))
+              (reads_given limits format new start now (so.records ++ more) given due reads),
+        ) (λ done. absurd (carried outcome verdict carries done))
+        (reads_failures limits format new start now (so.records ++ more) given due reads)
+        all.failures
 
     -- its records were not written whole
     pub part_written : (raw : code.Raw) (counted_now : Counts) (size : ℕ) (fault : RunFault)
         (sink_new : Told) → size ≡ limits.chunk
         → Gives limits format new start now so.records so.given (Ok (next.Event raw))
         → WritesEvent size counted_now sink_now sink_new so.given (raw_view raw) (Err fault)
-        → BrokeOff limits start now sink sink_new fault
+        → Normalizes limits (ports start now sink sink_new) (Err fault)
     unfolding line
     part_written raw counted_now size fault sink_new is (more, due, reads) (none, late, part) =
         let given : List Raw = so.given ++ raw_view raw ∷ [] in
@@ -246,21 +224,17 @@ module _ (limits : Bounds) (format : Option Format) (old new : LogEvents) (count
         ∙ ap (λ (w : List ℕ). line ++ (spelled limits.chunk so.given ++ w)) due_now
         ∙ sym (append_assoc line (spelled limits.chunk so.given) (part.front ++ part.back))
         ∙ sym (append_assoc before_it part.front part.back) in
-        record {
-          cut_short = (
-            before_it ++ part.front,
-            took_then sink sink_now sink_new before_it part.front wrote.took part.took,
-            read_map limits start now (HasGiven limits format (so.records ++ more) given)
-                (λ log. BeginsNormal limits log (before_it ++ part.front))
-                (λ log has. due_first limits reads.stands.range log format (so.records ++ more)
-                given has (before_it ++ part.front) part.back whole)
-                (reads_given limits format new start now (so.records ++ more) given due reads),
-          );
-          source = reads_failures limits format new start now (so.records ++ more) given due reads
-              ∙ late_source fault start.failures late;
-          sink = failures_along fault sink.failures sink_now.failures sink_new.failures
-              wrote.failures part.failures;
-        }
+        due_begun limits _ Done _ _ fault (
+          before_it ++ part.front,
+          took_then sink sink_now sink_new before_it part.front wrote.took part.took,
+          read_map limits start now (HasGiven limits format (so.records ++ more) given)
+              (λ log. BeginsNormal limits log (before_it ++ part.front))
+              (λ log has. due_first limits reads.stands.range log format (so.records ++ more)
+              given has (before_it ++ part.front) part.back whole)
+              (reads_given limits format new start now (so.records ++ more) given due reads),
+        ) (reads_failures limits format new start now (so.records ++ more) given due reads
+        ∙ late_source fault start.failures late)
+        (part.failures ∙ ap (sink_failures_after fault) wrote.failures)
 
     wrote_given : Wrote sink sink_now (form_of (format_or_one format) limits.chunk so.given)
     unfolding line
@@ -270,22 +244,18 @@ module _ (limits : Bounds) (format : Option Format) (old new : LogEvents) (count
     -- reading broke off
     pub broke_off : (fault : RunFault)
         → Gives limits format new start now so.records so.given (Err fault)
-        → BrokeOff limits start now sink sink_now fault
+        → Normalizes limits (ports start now sink sink_now) (Err fault)
     broke_off fault (more, broke) =
         let form : List ℕ = form_of (format_or_one format) limits.chunk so.given in
-        record {
-          cut_short = (
-            form,
-            wrote_given.took,
-            read_map limits start now (HasGiven limits format (so.records ++ more) so.given)
-                (λ log. BeginsNormal limits log form)
-                (λ log has. due_first limits so.reads.stands.range log format (so.records ++ more)
-                so.given has form [] (sym (append-nil form))) broke.of_read,
-          );
-          source = broke.failures;
-          sink = failures_along fault sink.failures sink_now.failures sink_now.failures
-              wrote_given.failures (unwritten_sink fault sink_now.failures broke.unwritten);
-        }
+        due_begun limits _ Done _ _ fault (
+          form,
+          wrote_given.took,
+          read_map limits start now (HasGiven limits format (so.records ++ more) so.given)
+              (λ log. BeginsNormal limits log form)
+              (λ log has. due_first limits so.reads.stands.range log format (so.records ++ more)
+              so.given has form [] (sym (append-nil form))) broke.of_read,
+        ) broke.failures
+        (unwritten_sink fault _ _ broke.unwritten wrote_given.failures)
 
     module _ (more : List Record) (end : End)
         (ended : log_events.Ended limits format new start now (so.records ++ more) so.given end)
@@ -323,37 +293,33 @@ module _ (limits : Bounds) (format : Option Format) (old new : LogEvents) (count
     log_ends : (outcome : Outcome)
         → (gives : Gives limits format new start now so.records so.given (Ok (next.End Sound)))
         → EndsWhole limits (so.records ++ gives.0) so.given outcome
-        → Ended limits start now sink sink_now outcome
+        → Normalizes limits (ports start now sink sink_now) (Ok outcome)
     unfolding records form normal_of
     log_ends outcome (more, ended) ends =
         let all : List Record = so.records ++ more in
         let placed = placed_whole limits all so.given [] refl ended.reads.stands.placed in
         let due : Option Verdict = fault_of so.given (ending None ends.editor ends.server) in
         let written : List ℕ = form_of (format_or_one format) limits.chunk so.given in
-        record {
-          normal = (
-            written,
-            wrote_given.took,
-            read_map limits start now (IsLogOf new.log limits all None)
-                (λ log. EndsNormal limits log written outcome)
-                (λ log is. (
-                  due,
-                  normal_of more Sound ended log ends.editor ends.server is ends.editor_rest
-                      ends.server_rest,
-                  carries_exact outcome due
-                      (end_exact limits so.reads.stands.range log new.log.format all so.given
-                      ends.editor ends.server is placed so.sound) ends.carries,
-                )) ended.ends.of_read,
-          );
-          done = λ done. ended.ends.met refl;
-          source = ended.ends.failures;
-          sink = wrote_given.failures;
-        }
+        due_written limits _ Done _ _ outcome (
+          written,
+          wrote_given.took,
+          read_map limits start now (IsLogOf new.log limits all None)
+              (λ log. EndsNormal limits log written outcome)
+              (λ log is. (
+                due,
+                normal_of more Sound ended log ends.editor ends.server is ends.editor_rest
+                    ends.server_rest,
+                subst (Carries outcome)
+                    (end_exact limits so.reads.stands.range log new.log.format all so.given
+                    ends.editor ends.server is placed so.sound) ends.carries,
+              )) ended.ends.of_read,
+        ) (λ done. ended.ends.met refl) ended.ends.failures wrote_given.failures
 
     -- the log has a fault
     bad_ends : (number : ℕ) (fault : LogCode)
         → Gives limits format new start now so.records so.given (Ok (next.End (Bad number fault)))
-        → Ended limits start now sink sink_now (Judged (verdicts.BadLog number fault))
+        → Normalizes limits (ports start now sink sink_now)
+        (Ok (Judged (verdicts.BadLog number fault)))
     unfolding records form normal_of
     bad_ends number fault (more, ended) =
         let all : List Record = so.records ++ more in
@@ -361,29 +327,24 @@ module _ (limits : Bounds) (format : Option Format) (old new : LogEvents) (count
         let outcome : Outcome = Judged (verdicts.BadLog number fault) in
         let editor = some_stream limits (joined Editor all) in
         let server = some_stream limits (joined Server all) in
-        record {
-          normal = (
-            written,
-            wrote_given.took,
-            read_map limits start now (IsLogOf new.log limits all (Some (number, fault)))
-                (λ log. EndsNormal limits log written outcome)
-                (λ log is. (
-                  fault_of so.given (ending (Some (number, fault)) editor.1 server.1),
-                  normal_of more (Bad number fault) ended log editor.1 server.1 is
-                      (editor.0, editor.2, editor.3) (server.0, server.2, server.3),
-                  ap (λ (o : Option Verdict). option_or o (Some (bad_log number fault))) so.sound,
-                )) ended.ends.of_read,
-          );
-          done = λ done. absurd (cc done);
-          source = ended.ends.failures;
-          sink = wrote_given.failures;
-        }
+        due_written limits _ Done _ _ outcome (
+          written,
+          wrote_given.took,
+          read_map limits start now (IsLogOf new.log limits all (Some (number, fault)))
+              (λ log. EndsNormal limits log written outcome)
+              (λ log is. (
+                fault_of so.given (ending (Some (number, fault)) editor.1 server.1),
+                normal_of more (Bad number fault) ended log editor.1 server.1 is
+                    (editor.0, editor.2, editor.3) (server.0, server.2, server.3),
+                ap (λ (o : Option Verdict). option_or o (Some (bad_log number fault))) so.sound,
+              )) ended.ends.of_read,
+        ) (λ done. absurd (cc done)) ended.ends.failures wrote_given.failures
 
     pub end_formed : (end : End) (outcome : Outcome)
         → (gives : Gives limits format new start now so.records so.given (Ok (next.End end)))
         → EndsLog limits (so.records ++ gives.0) so.given end outcome
-        → Ended limits start now sink sink_now outcome
+        → Normalizes limits (ports start now sink sink_now) (Ok outcome)
     end_formed Sound outcome gives ends = log_ends outcome gives ends
     end_formed (Bad number fault) outcome gives is =
-        subst (λ (o : Outcome). Ended limits start now sink sink_now o) (sym is)
+        subst (λ (o : Outcome). Normalizes limits (ports start now sink sink_now) (Ok o)) (sym is)
         (bad_ends number fault gives)

@@ -1,18 +1,20 @@
 -- A run with what comes after its parts.
-use Rattle.std.proofs.Common.{◌≡◌, ℕ, ◌+◌, ◌<◌, List, [], ◌∷◌, ◌++◌, length, Bool, true, false}
-use Rattle.std.proofs.Common.{Option, Some, None, Err, replicate, refl, sym, subst, ◌∙◌}
+use Rattle.std.proofs.Common.{◌≡◌, ℕ, ◌+◌, ◌<◌, ◌≤◌, List, [], ◌∷◌, ◌++◌, length, Bool, true, false}
+use Rattle.std.proofs.Common.{Option, Some, None, Ok, Err, replicate, refl, sym, subst, ◌∙◌}
 use Rattle.std.proofs.Common.{append_assoc, arith, inl, inr}
 use Rattle.std.specs.Io.KnownBytes.{IsAtEnd}
 use Rattle.std.proofs.lemmas.Bool.{false≢true, lt-ltb}
 use Rattle.std.proofs.lemmas.List.{length-append, length-replicate}
 use Rattle.lsp_frame.specs.Bounds.{Bounds}
-use Rattle.lsp_frame.specs.Sink.{Wrote, Stopped}
-use Rattle.lsp_frame.specs.Told.{Told, Took}
+use Rattle.lsp_frame.specs.Frame.{Frames}
+use Rattle.lsp_frame.specs.Sink.{Wrote}
+use Rattle.lsp_frame.specs.Told.{Told, Gave, Took}
 use Rattle.lsp_frame.proofs.Writing.{wrote_then, stopped_then}
 use Rattle.lsp_judge.specs.StreamParts.{RunsThrough}
-use Rattle.lsp_verdict.specs.RunIo.{OfRead, GoesOn, Tells}
-use Rattle.lsp_judge.specs.StreamRun.{fault_of, HasParts, closing, IsRun, BeginsRun}
-use Rattle.lsp_judge.specs.StreamSteps.{WroteParts, BrokeOff}
+use Rattle.lsp_verdict.specs.RunIo.{GoesOn, Tells, failures_after, sink_failures_after}
+use Rattle.lsp_judge.specs.StreamRun.{fault_of, HasParts, closing, IsRun, BeginsRun, RunsFrames}
+use Rattle.lsp_judge.specs.StreamSteps.{AreParts, WroteParts}
+use Rattle.lsp_verdict.specs.Ports.{ports}
 use Rattle.lsp_verdict.specs.declared.outcome.Mode.{Mode}
 use Rattle.lsp_verdict.specs.declared.outcome.Outcome.{Outcome}
 use Rattle.lsp_verdict.specs.declared.outcome.Outcome.TheVariants.{Done}
@@ -20,29 +22,38 @@ use Rattle.lsp_verdict.specs.declared.outcome.RunFault.{RunFault}
 use Rattle.lsp_verdict.specs.declared.outcome.RunFault.TheVariants.{Read, Write, Memory}
 use Rattle.lsp_verdict.proofs.RunReading.{read_map}
 use Rattle.lsp_judge.proofs.Framing.Due.{due_is, due_begins}
+use Rattle.lsp_judge.proofs.Written.{due_begun, due_written}
 
--- all that is due is written
-abbrev pub WroteRun : Bounds → Mode → Told → Told → Told → Told → Outcome → Type 0
-WroteRun limits mode before after sink_before sink_after outcome =
-    (out : List ℕ) × Took sink_before sink_after out
-    × OfRead limits before after (λ stream. IsRun limits mode stream out outcome)
+-- ---- faults
 
--- what is written begins what is due
-abbrev pub BeganRun : Bounds → Mode → Told → Told → Told → Told → Type 0
-BeganRun limits mode before after sink_before sink_after =
-    (out : List ℕ) × Took sink_before sink_after out
-    × OfRead limits before after (λ stream. BeginsRun limits mode stream out)
-
-pub ran : (limits : Bounds) (mode : Mode) (before after sink_before sink_mid sink_after : Told)
-    (outcome : Outcome) → WroteParts limits mode before after sink_before sink_mid outcome
-    → Wrote sink_mid sink_after (closing mode outcome)
-    → WroteRun limits mode before after sink_before sink_after outcome
-ran limits mode before after sink_before sink_mid sink_after outcome parts closed = (
-  parts.parts ++ closing mode outcome,
-  (wrote_then sink_before sink_mid sink_after parts.parts (closing mode outcome) parts.wrote
-      closed).took,
-  read_map limits before after _ _ (λ stream has. (parts.parts, has, refl)) parts.due,
-)
+-- what begins the parts of the contents in the bytes read begins what is due
+pub begun : (limits : Bounds) (mode : Mode) (before after sink_before sink_after : Told)
+    (fault : RunFault) (bytes rest written left : List ℕ) (contents : List (List ℕ))
+    → Gave before after bytes → length bytes ≤ limits.log → Frames limits bytes contents rest
+    → AreParts mode 1 contents (written ++ left) → Took sink_before sink_after written
+    → after.failures ≡ failures_after fault before.failures
+    → sink_after.failures ≡ sink_failures_after fault sink_before.failures
+    → RunsFrames mode limits (ports before after sink_before sink_after) (Err fault)
+begun limits mode before after sink_before sink_after fault bytes rest written left contents gave
+    within frames are_parts took source sink =
+    due_begun limits _ Done _ _ fault (
+      written,
+      took,
+      record {
+        bytes = bytes;
+        ended = false;
+        read = record {
+          gave = gave;
+          no_further = omega (arith, within);
+          end = λ h. absurd (false≢true h);
+        };
+        holds = λ stream goes out outcome run.
+            let b = due_begins limits mode bytes contents rest (written ++ left) goes.0 out outcome
+            frames within are_parts
+            (subst (λ (w : List ℕ). IsRun limits mode w out outcome) goes.1 run) in
+            (left ++ b.0, b.1 ∙ append_assoc written left b.0);
+      },
+    ) source sink
 
 -- what is due after the parts goes on as what is written does
 due_on : (limits : Bounds) (mode : Mode) (stream parts written left : List ℕ) (outcome : Outcome)
@@ -51,64 +62,32 @@ due_on : (limits : Bounds) (mode : Mode) (stream parts written left : List ℕ) 
 due_on limits mode stream parts written left outcome whole has =
     λ out other run. (left, due_is limits mode stream parts out outcome other has run ∙ whole)
 
--- a prefix of what comes after the parts was written
-closing_stopped : (limits : Bounds) (mode : Mode)
-    (before after sink_before sink_mid sink_after : Told) (outcome : Outcome)
+-- what comes after the parts was not written, or not all of it
+pub closing_cut : (limits : Bounds) (mode : Mode)
+    (before after sink_before sink_mid sink_after : Told) (outcome : Outcome) (fault : RunFault)
     → WroteParts limits mode before after sink_before sink_mid outcome
-    → Stopped sink_mid sink_after (closing mode outcome)
-    → BeganRun limits mode before after sink_before sink_after
-closing_stopped limits mode before after sink_before sink_mid sink_after outcome parts stopped =
+    → Tells sink_mid sink_after (closing mode outcome) (Err fault)
+    → RunsFrames mode limits (ports before after sink_before sink_after) (Err fault)
+closing_cut limits mode before after sink_before sink_mid sink_after outcome Write parts closes =
     let all = stopped_then sink_before sink_mid sink_after parts.parts (closing mode outcome)
-    parts.wrote stopped in (
+    parts.wrote closes in
+    due_begun limits _ Done _ _ Write (
       all.front,
       all.took,
       read_map limits before after _ _
           (λ stream. due_on limits mode stream parts.parts all.front all.back outcome all.whole)
           parts.due,
-    )
-
--- nothing of what comes after the parts was written
-closing_refused : (limits : Bounds) (mode : Mode) (before after sink_before sink_after : Told)
-    (outcome : Outcome) → WroteParts limits mode before after sink_before sink_after outcome
-    → BeganRun limits mode before after sink_before sink_after
-closing_refused limits mode before after sink_before sink_after outcome parts = (
-  parts.parts,
-  parts.wrote.took,
-  read_map limits before after _ _
-      (λ stream. due_on limits mode stream parts.parts parts.parts (closing mode outcome) outcome
-      refl) parts.due,
-)
-
--- the parts were broken off
-pub broken : (limits : Bounds) (mode : Mode) (before after sink_before sink_after : Told)
-    (fault : RunFault) → BrokeOff limits mode before after sink_before sink_after fault
-    → BeganRun limits mode before after sink_before sink_after
-broken limits mode before after sink_before sink_after fault off = (
-  off.written,
-  off.wrote,
-  record {
-    bytes = off.bytes;
-    ended = false;
-    read = off.read;
-    holds = λ stream goes out outcome run.
-        let b = due_begins limits mode off.bytes off.contents off.rest (off.written ++ off.left)
-        goes.0 out outcome off.frames off.within off.are_parts
-        (subst (λ (w : List ℕ). IsRun limits mode w out outcome) goes.1 run) in
-        (off.left ++ b.0, b.1 ∙ append_assoc off.written off.left b.0);
-  },
-)
-
--- a run stopped after the parts
-pub closing_cut : (limits : Bounds) (mode : Mode)
-    (before after sink_before sink_mid sink_after : Told) (outcome : Outcome) (fault : RunFault)
-    → WroteParts limits mode before after sink_before sink_mid outcome
-    → Tells sink_mid sink_after (closing mode outcome) (Err fault)
-    → BeganRun limits mode before after sink_before sink_after
-closing_cut limits mode before after sink_before sink_mid sink_after outcome Write parts closes =
-    closing_stopped limits mode before after sink_before sink_mid sink_after outcome parts closes
+    ) parts.no_fault all.failures
 closing_cut limits mode before after sink_before sink_mid sink_after outcome Memory parts closes =
-    subst (λ (t : Told). BeganRun limits mode before after sink_before t) (sym closes)
-    (closing_refused limits mode before after sink_before sink_mid outcome parts)
+    let all : Wrote sink_before sink_after parts.parts =
+    subst (λ (t : Told). Wrote sink_before t parts.parts) (sym closes) parts.wrote in
+    due_begun limits _ Done _ _ Memory (
+      parts.parts,
+      all.took,
+      read_map limits before after _ _
+          (λ stream. due_on limits mode stream parts.parts parts.parts (closing mode outcome)
+          outcome refl) parts.due,
+    ) parts.no_fault all.failures
 closing_cut limits mode before after sink_before sink_mid sink_after outcome Read parts closes =
     absurd closes
 
@@ -139,7 +118,7 @@ at_end_if false end is not = absurd (not refl)
 goes_on : (bytes more : List ℕ) (ended : Bool) → ended ≡ false → GoesOn bytes ended (bytes ++ more)
 goes_on bytes more ended is = (more, refl, λ e. absurd (false≢true (sym is ∙ e)))
 
-pub done_at_end : (limits : Bounds) (mode : Mode) (before after sink_before sink_after : Told)
+done_at_end : (limits : Bounds) (mode : Mode) (before after sink_before sink_after : Told)
     (outcome : Outcome) → WroteParts limits mode before after sink_before sink_after outcome
     → outcome ≡ Done → IsAtEnd after.bytes
 done_at_end limits mode before after sink_before sink_after outcome parts done =
@@ -153,3 +132,19 @@ done_at_end limits mode before after sink_before sink_after outcome parts done =
     long_not_done limits mode stream parts.parts long
     (subst (λ (o : Outcome). HasParts limits mode stream parts.parts o) done
     (due.holds stream (goes_on due.bytes more due.ended open_end))))
+
+-- ---- the whole run
+
+pub ran : (limits : Bounds) (mode : Mode) (before after sink_before sink_mid sink_after : Told)
+    (outcome : Outcome) → WroteParts limits mode before after sink_before sink_mid outcome
+    → Wrote sink_mid sink_after (closing mode outcome)
+    → RunsFrames mode limits (ports before after sink_before sink_after) (Ok outcome)
+ran limits mode before after sink_before sink_mid sink_after outcome parts closed =
+    let all = wrote_then sink_before sink_mid sink_after parts.parts (closing mode outcome)
+    parts.wrote closed in
+    due_written limits _ Done _ _ outcome (
+      parts.parts ++ closing mode outcome,
+      all.took,
+      read_map limits before after _ _ (λ stream has. (parts.parts, has, refl)) parts.due,
+    ) (done_at_end limits mode before after sink_before sink_mid outcome parts) parts.no_fault
+    all.failures

@@ -23,9 +23,9 @@ use Rattle.lsp_verdict.specs.declared.outcome.Outcome.{Outcome}
 use Rattle.lsp_verdict.specs.declared.outcome.RunFault.{RunFault}
 use Rattle.lsp_verdict.specs.declared.outcome.RunFault.TheVariants as faults
 use Rattle.lsp_judge.specs.StreamParts.{numbers, length_line, outcome_at}
-use Rattle.lsp_judge.specs.StreamRun.{fault_of}
-use Rattle.lsp_judge.specs.StreamSteps.{AreParts, WroteParts, BrokeOff, SoFar, ToldAll, IsLong}
-use Rattle.lsp_judge.specs.StreamSteps.{LongAnswer}
+use Rattle.lsp_judge.specs.StreamRun.{RunsFrames, fault_of}
+use Rattle.lsp_judge.specs.StreamSteps.{AreParts, WroteParts, SoFar, ToldAll, IsLong, LongAnswer}
+use Rattle.lsp_verdict.specs.Ports.{ports}
 use Rattle.lsp_judge.proofs.Framing.Parts.{parts_push}
 use Rattle.lsp_judge.proofs.Framing.Runs.{taken_open, push_on, memory_broke, read_broke, end_ran}
 use Rattle.lsp_judge.proofs.Framing.Runs.{found_broke}
@@ -74,7 +74,7 @@ pub long_unread : (limits : Bounds) (before now after sink_before sink_now : Tol
     (given read : ℕ) (missing : Missing) → Misses d missing
     → ToldAll limits Lengths before now sink_before sink_now d given read
     → FailsPast now after missing.bytes → read + missing.bytes ≤ limits.log
-    → BrokeOff limits Lengths before after sink_before sink_now faults.Read
+    → RunsFrames Lengths limits (ports before after sink_before sink_now) (Err faults.Read)
 long_unread limits before now after sink_before sink_now d given read missing misses told fails
     fits =
     read_broke limits Lengths before fails.middle after sink_before sink_now
@@ -170,7 +170,7 @@ pub long_unwritten : (limits : Bounds) (before now after sink_before sink_now si
     → ToldAll limits Lengths before now sink_before sink_now d given read
     → PassesAll d e now after missing → read + missing.bytes ≤ limits.log
     → Stopped sink_now sink_new (numbers (given + 1) missing.content (10 ∷ []))
-    → BrokeOff limits Lengths before after sink_before sink_new faults.Write
+    → RunsFrames Lengths limits (ports before after sink_before sink_new) (Err faults.Write)
 unfolding push_on
 long_unwritten limits before now after sink_before sink_now sink_new d e given read missing misses
     told passes fits stopped =
@@ -208,7 +208,7 @@ pub long_failed : (limits : Bounds) (before now after sink_before sink_now : Tol
     (given read : ℕ) (missing : Missing) (fault : PullFault) → Misses d missing
     → ToldAll limits Lengths before now sink_before sink_now d given read
     → Passes d e now after missing (Err fault) → read + missing.bytes ≤ limits.log
-    → BrokeOff limits Lengths before after sink_before sink_now (of_pull fault)
+    → RunsFrames Lengths limits (ports before after sink_before sink_now) (Err (of_pull fault))
 long_failed limits before now after sink_before sink_now d e given read missing pulls.Read misses
     told passes fits = long_unread limits before now after sink_before sink_now d given read missing
     misses told passes.0 fits

@@ -26,11 +26,13 @@ use Rattle.lsp_verdict.specs.declared.outcome.RunFault.TheVariants as faults
 use Rattle.lsp_verdict.specs.declared.outcome.StreamFault.TheVariants.{Rule, TooLong}
 use Rattle.lsp_judge.specs.StreamParts.{Refuses, outcome_at, RunsThrough}
 use Rattle.lsp_verdict.specs.RunIo.{of_pull, failures_after, sink_failures_after}
-use Rattle.lsp_judge.specs.StreamRun.{fault_of, HasParts}
+use Rattle.lsp_judge.specs.StreamRun.{fault_of, HasParts, RunsFrames}
 use Rattle.lsp_judge.specs.StreamSteps.{AreParts, FoundAll, StopsAt, FoundFault, FoundBroken}
-use Rattle.lsp_judge.specs.StreamSteps.{Finds, WroteParts, BrokeOff, SoFar, ToldAll}
+use Rattle.lsp_judge.specs.StreamSteps.{Finds, WroteParts, SoFar, ToldAll}
+use Rattle.lsp_verdict.specs.Ports.{ports}
 use Rattle.lsp_judge.proofs.Framing.Parts.{run_through, run_refused}
 use Rattle.lsp_judge.proofs.Framing.Due.{stream_front}
+use Rattle.lsp_judge.proofs.Framing.Endings.{begun}
 use Rattle.lsp_judge.proofs.SameLimits.{frames_at, stream_at}
 
 pub told_all : (limits : Bounds) (mode : Mode) (before now sink_before sink_now sink_new : Told)
@@ -71,38 +73,27 @@ pub found_broke : (limits : Bounds) (mode : Mode) (before now sink_before sink_n
     → FoundBroken e mode sink_now sink_new so_far.bytes so_far.parts fault → e.limits ≡ d.limits
     → failures_after fault before.failures ≡ before.failures
     → sink_failures_after fault sink_now.failures ≡ sink_failures_after fault sink_before.failures
-    → BrokeOff limits mode before now sink_before sink_new fault
+    → RunsFrames mode limits (ports before now sink_before sink_new) (Err fault)
 found_broke limits mode before now sink_before sink_now sink_new d e given read fault so_far found
     same source sink =
     let len = so_far.len in
     let within = so_far.within in
-    record {
-      bytes = so_far.bytes;
-      contents = found.contents;
-      rest = found.rest;
-      written = so_far.parts ++ found.written;
-      left = found.left;
-      read = record {
-        gave = so_far.took;
-        no_further = omega (arith, len, within);
-        end = λ h. absurd (false≢true h);
-      };
-      within = omega (arith, len, within);
-      frames = frames_at e.limits limits so_far.bytes found.contents found.rest
-          (same ∙ so_far.same_limits) found.frames;
-      are_parts = subst (λ (w : List ℕ). AreParts mode 1 found.contents w)
-          (sym (append_assoc so_far.parts found.written found.left)) found.are_parts;
-      wrote = took_then sink_before sink_now sink_new so_far.parts found.written so_far.wrote.took
-          found.wrote;
-      source = so_far.no_fault ∙ sym source;
-      sink = found.sink ∙ sink;
-    }
+    begun limits mode before now sink_before sink_new fault so_far.bytes found.rest
+    (so_far.parts ++ found.written) found.left found.contents so_far.took
+    (omega (arith, len, within))
+    (frames_at e.limits limits so_far.bytes found.contents found.rest (same ∙ so_far.same_limits)
+    found.frames)
+    (subst (λ (w : List ℕ). AreParts mode 1 found.contents w)
+    (sym (append_assoc so_far.parts found.written found.left)) found.are_parts)
+    (took_then sink_before sink_now sink_new so_far.parts found.written so_far.wrote.took
+    found.wrote) (so_far.no_fault ∙ sym source) (found.sink ∙ sink)
 
 pub write_broke : (limits : Bounds) (mode : Mode) (before now sink_before sink_now sink_new : Told)
     (d e : State) (given given' read : ℕ) (fault : RunFault)
     (so_far : SoFar limits mode before now sink_before sink_now d given read)
     → Finds e mode sink_now sink_new given' so_far.bytes so_far.parts (Err fault)
-    → e.limits ≡ d.limits → BrokeOff limits mode before now sink_before sink_new fault
+    → e.limits ≡ d.limits
+    → RunsFrames mode limits (ports before now sink_before sink_new) (Err fault)
 write_broke limits mode before now sink_before sink_now sink_new d e given given' read faults.Write
     so_far found same =
     found_broke limits mode before now sink_before sink_now sink_new d e given read faults.Write
@@ -113,37 +104,6 @@ write_broke limits mode before now sink_before sink_now sink_new d e given given
     so_far found same refl so_far.wrote.failures
 write_broke limits mode before now sink_before sink_now sink_new d e given given' read faults.Read
     so_far found same = absurd found
-
--- memory was refused, and the reader gave nothing
-pub memory_broke : (limits : Bounds) (mode : Mode) (before now after sink_before sink_now : Told)
-    (d : State) (given read : ℕ) → ToldAll limits mode before now sink_before sink_now d given read
-    → after ≡ now → BrokeOff limits mode before after sink_before sink_now faults.Memory
-memory_broke limits mode before now after sink_before sink_now d given read told same =
-    let so_far = told.so_far in
-    let len = so_far.len in
-    let within = so_far.within in
-    subst (λ (t : Told). BrokeOff limits mode before t sink_before sink_now faults.Memory)
-    (sym same)
-    (record {
-      bytes = so_far.bytes;
-      contents = so_far.contents;
-      rest = so_far.stands.rest;
-      written = so_far.parts;
-      left = [];
-      read = record {
-        gave = so_far.took;
-        no_further = omega (arith, len, within);
-        end = λ h. absurd (false≢true h);
-      };
-      within = omega (arith, len, within);
-      frames = frames_at d.limits limits so_far.bytes so_far.contents so_far.stands.rest
-          so_far.same_limits so_far.stands.frames;
-      are_parts = subst (λ (w : List ℕ). AreParts mode 1 so_far.contents w)
-          (sym (append-nil so_far.parts)) so_far.are_parts;
-      wrote = so_far.wrote.took;
-      source = so_far.no_fault;
-      sink = so_far.wrote.failures;
-    })
 
 -- a run at its start
 pub nothing_yet : (limits : Bounds) (mode : Mode) (before sink_before : Told) (d : State)
@@ -164,35 +124,44 @@ nothing_yet limits mode before sink_before d fresh = record {
   same_limits = ap (λ (s : State). s.limits) fresh;
 }
 
--- a failed pull gave nothing
-pub read_broke : (limits : Bounds) (mode : Mode) (before now after sink_before sink_now : Told)
-    (d : State) (given read : ℕ) → ToldAll limits mode before now sink_before sink_now d given read
-    → KeepsBytes now after → after.failures ≡ after_failure now.failures
-    → BrokeOff limits mode before after sink_before sink_now faults.Read
-read_broke limits mode before now after sink_before sink_now d given read told keeps failed =
+-- nothing more was read
+pub unread : (limits : Bounds) (mode : Mode) (before now after sink_before sink_now : Told)
+    (d : State) (given read : ℕ) (fault : RunFault)
+    → (told : ToldAll limits mode before now sink_before sink_now d given read)
+    → Gave before after told.so_far.bytes
+    → after.failures ≡ failures_after fault before.failures
+    → sink_failures_after fault sink_before.failures ≡ sink_before.failures
+    → RunsFrames mode limits (ports before after sink_before sink_now) (Err fault)
+unread limits mode before now after sink_before sink_now d given read fault told gave source sink =
     let so_far = told.so_far in
     let len = so_far.len in
     let within = so_far.within in
-    record {
-      bytes = so_far.bytes;
-      contents = so_far.contents;
-      rest = so_far.stands.rest;
-      written = so_far.parts;
-      left = [];
-      read = record {
-        gave = gave_kept before now after so_far.bytes so_far.took keeps;
-        no_further = omega (arith, len, within);
-        end = λ h. absurd (false≢true h);
-      };
-      within = omega (arith, len, within);
-      frames = frames_at d.limits limits so_far.bytes so_far.contents so_far.stands.rest
-          so_far.same_limits so_far.stands.frames;
-      are_parts = subst (λ (w : List ℕ). AreParts mode 1 so_far.contents w)
-          (sym (append-nil so_far.parts)) so_far.are_parts;
-      wrote = so_far.wrote.took;
-      source = failed ∙ ap after_failure so_far.no_fault;
-      sink = so_far.wrote.failures;
-    }
+    begun limits mode before after sink_before sink_now fault so_far.bytes so_far.stands.rest
+    so_far.parts [] so_far.contents gave (omega (arith, len, within))
+    (frames_at d.limits limits so_far.bytes so_far.contents so_far.stands.rest so_far.same_limits
+    so_far.stands.frames)
+    (subst (λ (w : List ℕ). AreParts mode 1 so_far.contents w) (sym (append-nil so_far.parts))
+    so_far.are_parts) so_far.wrote.took source (so_far.wrote.failures ∙ sym sink)
+
+-- the reader failed
+pub read_broke : (limits : Bounds) (mode : Mode) (before now after sink_before sink_now : Told)
+    (d : State) (given read : ℕ) → ToldAll limits mode before now sink_before sink_now d given read
+    → KeepsBytes now after → after.failures ≡ after_failure now.failures
+    → RunsFrames mode limits (ports before after sink_before sink_now) (Err faults.Read)
+read_broke limits mode before now after sink_before sink_now d given read told keeps failed =
+    unread limits mode before now after sink_before sink_now d given read faults.Read told
+    (gave_kept before now after told.so_far.bytes told.so_far.took keeps)
+    (failed ∙ ap after_failure told.so_far.no_fault) refl
+
+-- memory was refused
+pub memory_broke : (limits : Bounds) (mode : Mode) (before now after sink_before sink_now : Told)
+    (d : State) (given read : ℕ) → ToldAll limits mode before now sink_before sink_now d given read
+    → after ≡ now
+    → RunsFrames mode limits (ports before after sink_before sink_now) (Err faults.Memory)
+memory_broke limits mode before now after sink_before sink_now d given read told same =
+    unread limits mode before now after sink_before sink_now d given read faults.Memory told
+    (subst (λ (t : Told). Gave before t told.so_far.bytes) (sym same) told.so_far.took)
+    (ap (λ (t : Told). t.failures) same ∙ told.so_far.no_fault) refl
 
 abbrev failed_pull : PullFault → Result ℕ PullFault
 failed_pull fault = Err fault
@@ -203,7 +172,7 @@ pub pull_broke : (limits : Bounds) (mode : Mode) (before now after sink_before s
     (told : ToldAll limits mode before now sink_before sink_now d given read)
     → (failed_pull fault ≡ failed_pull pulls.Read → PullFails d e now after most)
     → (failed_pull fault ≡ failed_pull pulls.Memory → (e ≡ d) × (after ≡ now))
-    → BrokeOff limits mode before after sink_before sink_now (of_pull fault)
+    → RunsFrames mode limits (ports before after sink_before sink_now) (Err (of_pull fault))
 pull_broke limits mode before now after sink_before sink_now d e given read most pulls.Read told
     failed refused = read_broke limits mode before now after sink_before sink_now d given read told
     (failed refl).keeps (failed refl).failures

@@ -5,11 +5,13 @@ use Rattle.std.proofs.lemmas.List.{length_push}
 use Rattle.std.proofs.lemmas.Option.{slice_get_past}
 use Rattle.std.specs.Io.KnownBytes.{IsAtEnd}
 use Rattle.lsp_frame.specs.Bounds.{Bounds}
+use Rattle.lsp_frame.specs.Sink.{Stopped, Wrote}
 use Rattle.lsp_frame.specs.Told.{Told}
 use Rattle.lsp_frame.specs.declared.format.Format.{Format}
 use Rattle.lsp_log.specs.Log.{Record}
 use Rattle.lsp_judge.specs.Event.{content_at, outcome_of, outcome_at, event_at, IsEvent}
-use Rattle.lsp_judge.specs.Event.{BeginsEvent}
+use Rattle.lsp_judge.specs.Event.{BeginsEvent, GivesEvent}
+use Rattle.lsp_verdict.specs.Ports.{ports}
 use Rattle.lsp_judge.specs.EventSteps.{Answers, Finds, Found, HasPassed, IsOfEnd}
 use Rattle.lsp_replay.specs.LogEvents.{Ended, Gives, HasGiven, IsLogOf, Opens, Reads, flaw_of}
 use Rattle.lsp_verdict.specs.Lent.{raw_view}
@@ -22,12 +24,15 @@ use Rattle.lsp_replay.specs.declared.log_events.LogEvents.{LogEvents}
 use Rattle.lsp_replay.specs.declared.log_events.Next.TheVariants as next
 use Rattle.lsp_verdict.specs.declared.raw.Raw as code
 use Rattle.lsp_verdict.specs.Placed.{Raw, content, broken, show}
-use Rattle.lsp_verdict.specs.RunIo.{OfRead, BreaksOff, failures_after}
+use Rattle.lsp_verdict.specs.RunIo.{BreaksOff, failures_after}
 use Rattle.lsp_verdict.specs.declared.outcome.RunFault.{RunFault}
 use Rattle.lsp_verdict.specs.declared.outcome.RunFault.TheVariants as faults
 use Rattle.lsp_verdict.proofs.PlacedLemmas.{placed_whole}
 use Rattle.lsp_verdict.proofs.RunReading.{read_map}
 use Rattle.lsp_replay.proofs.Pulling.{log_of, reads_failures, reads_given}
+use Rattle.lsp_frame.proofs.Telling.{took_nothing}
+use Rattle.lsp_verdict.proofs.RunsJudged.{unwritten_sink}
+use Rattle.lsp_judge.proofs.Written.{due_begun, due_written}
 use Rattle.lsp_judge.proofs.Seeking.Laws.{some_event}
 use Rattle.lsp_judge.proofs.Seeking.Places.{at_place, still_at}
 
@@ -170,23 +175,47 @@ none_passed limits e start now n (records, due, reads) = record {
   count = omega arith;
 }
 
--- what was written before a fault begins what is due
-pub none_written : (limits : Bounds) (start now : Told) (n : ℕ) (fault : RunFault)
-    → BreaksOff limits start now fault
-    → OfRead limits start now (λ log. BeginsEvent limits log n [])
-none_written limits start now n fault broke =
+-- reading broke off
+pub not_found : (limits : Bounds) (start now sink : Told) (n : ℕ) (fault : RunFault)
+    → BreaksOff limits start now fault → GivesEvent limits (ports start now sink sink) n (Err fault)
+not_found limits start now sink n fault broke = record {
+  writes = due_begun limits _ FewerEvents _ _ fault (
+    [],
+    took_nothing sink,
     read_map limits start now (λ log. Unit {0}) (λ log. BeginsEvent limits log n [])
-    (λ log u. let due = some_event limits log n in (due.1, due.0, due.2)) broke.of_read
+        (λ log u. let due = some_event limits log n in (due.1, due.0, due.2)) broke.of_read,
+  ) broke.failures (unwritten_sink fault _ _ broke.unwritten refl);
+  read_fault = λ is. refl;
+  memory = λ is. refl;
+}
 
-pub front_written : (limits : Bounds) (start now : Told) (n : ℕ) (answer : EventAnswer)
-    (front back : List ℕ) → Found limits n start now answer → answer.content.items ≡ front ++ back
-    → OfRead limits start now (λ log. BeginsEvent limits log n front)
-front_written limits start now n answer front back found whole =
-    read_map limits start now (λ log. IsEvent limits log n answer.content.items answer.outcome)
-    (λ log. BeginsEvent limits log n front)
-    (λ log is. (
-      answer.outcome,
-      back,
-      subst (λ (w : List ℕ). IsEvent limits log n w answer.outcome)
-          whole is,
-    )) found.of_read
+module _ (limits : Bounds) (start now sink new : Told) (n : ℕ) (answer : EventAnswer)
+    (found : Found limits n start now answer) where
+  -- what the event holds was not written whole
+  pub not_written : Stopped sink new answer.content.items
+      → GivesEvent limits (ports start now sink new) n (Err faults.Write)
+  not_written stopped = record {
+    writes = due_begun limits _ FewerEvents _ _ faults.Write (
+      stopped.front,
+      stopped.took,
+      read_map limits start now (λ log. IsEvent limits log n answer.content.items answer.outcome)
+          (λ log. BeginsEvent limits log n stopped.front)
+          (λ log is. (
+            answer.outcome,
+            stopped.back,
+            subst (λ (w : List ℕ). IsEvent limits log n w answer.outcome) stopped.whole is,
+          )) found.of_read,
+    ) found.failures stopped.failures;
+    read_fault = λ is. absurd (cc is);
+    memory = λ is. absurd (cc is);
+  }
+
+  pub event_given : Wrote sink new answer.content.items
+      → GivesEvent limits (ports start now sink new) n (Ok answer.outcome)
+  event_given wrote = record {
+    writes = due_written limits _ FewerEvents _ _ answer.outcome
+        (answer.content.items, wrote.took, found.of_read) found.ended found.failures
+        wrote.failures;
+    read_fault = λ is. absurd (cc is);
+    memory = λ is. absurd (cc is);
+  }

@@ -1,279 +1,134 @@
-use Rattle.lsp_command.proofs.Endings.{run_source, run_sink, event_source, event_sink}
+use Rattle.lsp_command.proofs.Endings.{event_ended, run_ended}
 use Rattle.lsp_command.proofs.run.run_task.Goals as goal
 
-pub returns-in-Check-Ignored-clause-answers : goal.returns-in-Check-Ignored-clause-answers
-returns-in-Check-Ignored-clause-answers g c =
+pub returns-in-Check-Ignored : goal.returns-in-Check-Ignored
+returns-in-Check-Ignored g c =
     let of = rw c.in-Check-Ignored.is at c.in-Check-Ignored.field-0-is in
-    rw (c.in-Check-Ignored.is, of) (
-      c.run_check.result,
-      c.of_run.ensures,
-      c.run_check.ensures.checked,
-    )
+    let is = c.run_check.ensures.checked in
+    rw (c.in-Check-Ignored.is, of) (record {
+      ran = run_ended _ _ _ _ _ c.of_run.ensures is.writes.counts
+          (c.run_check.result, c.of_run.ensures, is);
+    })
 
-pub returns-in-Check-Ignored-clause-source_failures : goal.returns-in-Check-Ignored-clause-source_failures
-returns-in-Check-Ignored-clause-source_failures g c = run_source _ _ _ _ c.of_run.ensures c.run_check.ensures.checked.counts.source_failures
-
-pub returns-in-Check-Ignored-clause-sink_failures : goal.returns-in-Check-Ignored-clause-sink_failures
-returns-in-Check-Ignored-clause-sink_failures g c = run_sink _ _ _ _ c.of_run.ensures c.run_check.ensures.checked.counts.sink_failures
-
-pub returns-in-Check-Required-clause-answers : goal.returns-in-Check-Required-clause-answers
-returns-in-Check-Required-clause-answers g c =
+pub returns-in-Check-Required : goal.returns-in-Check-Required
+returns-in-Check-Required g c =
     let of = rw c.in-Check-Required.is at c.in-Check-Required.field-0-is in
-    rw (c.in-Check-Required.is, of) (
-      c.run_check_complete.result,
-      c.of_run-in-Check-Required.ensures,
-      c.run_check_complete.ensures.checked,
-    )
+    let is = c.run_check_complete.ensures.checked in
+    rw (c.in-Check-Required.is, of) (record {
+      ran = run_ended _ _ _ _ _ c.of_run-in-Check-Required.ensures is.writes.counts
+          (c.run_check_complete.result, c.of_run-in-Check-Required.ensures, is);
+    })
 
-pub returns-in-Check-Required-clause-source_failures : goal.returns-in-Check-Required-clause-source_failures
-returns-in-Check-Required-clause-source_failures g c = run_source _ _ _ _ c.of_run-in-Check-Required.ensures c.run_check_complete.ensures.checked.counts.source_failures
+pub returns-in-CheckLine : goal.returns-in-CheckLine
+returns-in-CheckLine g c =
+    let is = c.run_check_line-ended.ensures.checked in
+    rw c.in-CheckLine.is (record {
+      ran = run_ended _ _ _ _ _ c.of_run-in-CheckLine.ensures is.counts
+          (c.run_check_line-ended.result, c.of_run-in-CheckLine.ensures, is);
+    })
 
-pub returns-in-Check-Required-clause-sink_failures : goal.returns-in-Check-Required-clause-sink_failures
-returns-in-Check-Required-clause-sink_failures g c = run_sink _ _ _ _ c.of_run-in-Check-Required.ensures c.run_check_complete.ensures.checked.counts.sink_failures
+pub returns-in-Survey : goal.returns-in-Survey
+returns-in-Survey g c =
+    let is = c.run_survey.ensures.surveyed in
+    rw c.in-Survey.is (record {
+      ran = run_ended _ _ _ _ _ c.of_run-in-Survey.ensures is.counts
+          (c.run_survey.result, c.of_run-in-Survey.ensures, is);
+    })
 
-pub returns-in-CheckLine-clause-answers : goal.returns-in-CheckLine-clause-answers
-returns-in-CheckLine-clause-answers g c =
-    rw c.in-CheckLine.is (
-      c.run_check_line-ended.result,
-      c.of_run-in-CheckLine.ensures,
-      c.run_check_line-ended.ensures.checked,
-    )
+pub returns-in-Explain : goal.returns-in-Explain
+returns-in-Explain g c =
+    let is = c.run_explain.ensures.explains in
+    rw c.in-Explain.is (record {
+      ran = run_ended _ _ _ _ _ c.of_run-in-Explain.ensures is.writes.counts
+          (c.run_explain.result, c.of_run-in-Explain.ensures, is);
+    })
 
-pub returns-in-CheckLine-clause-source_failures : goal.returns-in-CheckLine-clause-source_failures
-returns-in-CheckLine-clause-source_failures g c =
-    run_source _ _ _ _ c.of_run-in-CheckLine.ensures
-    c.run_check_line-ended.ensures.checked.counts.source_failures
+pub returns-in-ExplainAll : goal.returns-in-ExplainAll
+returns-in-ExplainAll g c =
+    let is = c.run_explain_all.ensures.explains in
+    rw c.in-ExplainAll.is (record {
+      ran = run_ended _ _ _ _ _ c.of_run-in-ExplainAll.ensures is.counts
+          (c.run_explain_all.result, c.of_run-in-ExplainAll.ensures, is);
+    })
 
-pub returns-in-CheckLine-clause-sink_failures : goal.returns-in-CheckLine-clause-sink_failures
-returns-in-CheckLine-clause-sink_failures g c =
-    run_sink _ _ _ _ c.of_run-in-CheckLine.ensures
-    c.run_check_line-ended.ensures.checked.counts.sink_failures
+pub returns-in-Compared : goal.returns-in-Compared
+returns-in-Compared g c =
+    let is = c.run_compared.ensures.text in
+    rw c.in-Compared.is (record {
+      ran = run_ended _ _ _ _ _ c.of_run-in-Compared.ensures is.counts
+          (c.run_compared.result, c.of_run-in-Compared.ensures, is);
+    })
 
-pub returns-in-Survey-clause-answers : goal.returns-in-Survey-clause-answers
-returns-in-Survey-clause-answers g c =
-    rw c.in-Survey.is (
-      c.run_survey.result,
-      c.of_run-in-Survey.ensures,
-      c.run_survey.ensures.surveyed,
-    )
-
-pub returns-in-Survey-clause-source_failures : goal.returns-in-Survey-clause-source_failures
-returns-in-Survey-clause-source_failures g c =
-    run_source _ _ _ _ c.of_run-in-Survey.ensures
-    c.run_survey.ensures.surveyed.counts.source_failures
-
-pub returns-in-Survey-clause-sink_failures : goal.returns-in-Survey-clause-sink_failures
-returns-in-Survey-clause-sink_failures g c =
-    run_sink _ _ _ _ c.of_run-in-Survey.ensures
-    c.run_survey.ensures.surveyed.counts.sink_failures
-
-pub returns-in-Explain-clause-answers : goal.returns-in-Explain-clause-answers
-returns-in-Explain-clause-answers g c =
-    rw c.in-Explain.is (
-      c.run_explain.result,
-      c.of_run-in-Explain.ensures,
-      record {
-        judged = c.run_explain.ensures.judged;
-        verdict = c.run_explain.ensures.verdict;
-        written = c.run_explain.ensures.written;
-        ended = c.run_explain.ensures.ended;
-        read_fault = c.run_explain.ensures.read_fault;
-        memory = c.run_explain.ensures.memory;
-        write_fault = c.run_explain.ensures.write_fault;
-        limit = c.run_explain.ensures.limit;
-      },
-    )
-
-pub returns-in-Explain-clause-source_failures : goal.returns-in-Explain-clause-source_failures
-returns-in-Explain-clause-source_failures g c = run_source _ _ _ _ c.of_run-in-Explain.ensures c.run_explain.ensures.source_failures
-
-pub returns-in-Explain-clause-sink_failures : goal.returns-in-Explain-clause-sink_failures
-returns-in-Explain-clause-sink_failures g c = run_sink _ _ _ _ c.of_run-in-Explain.ensures c.run_explain.ensures.sink_failures
-
-pub returns-in-ExplainAll-clause-answers : goal.returns-in-ExplainAll-clause-answers
-returns-in-ExplainAll-clause-answers g c =
-    rw c.in-ExplainAll.is (
-      c.run_explain_all.result,
-      c.of_run-in-ExplainAll.ensures,
-      c.run_explain_all.ensures.explains,
-    )
-
-pub returns-in-ExplainAll-clause-source_failures : goal.returns-in-ExplainAll-clause-source_failures
-returns-in-ExplainAll-clause-source_failures g c =
-    run_source _ _ _ _ c.of_run-in-ExplainAll.ensures
-    c.run_explain_all.ensures.explains.counts.source_failures
-
-pub returns-in-ExplainAll-clause-sink_failures : goal.returns-in-ExplainAll-clause-sink_failures
-returns-in-ExplainAll-clause-sink_failures g c =
-    run_sink _ _ _ _ c.of_run-in-ExplainAll.ensures
-    c.run_explain_all.ensures.explains.counts.sink_failures
-
-pub returns-in-Compared-clause-answers : goal.returns-in-Compared-clause-answers
-returns-in-Compared-clause-answers g c =
-    rw c.in-Compared.is (
-      c.run_compared.result,
-      c.of_run-in-Compared.ensures,
-      c.run_compared.ensures.text,
-    )
-
-pub returns-in-Compared-clause-source_failures : goal.returns-in-Compared-clause-source_failures
-returns-in-Compared-clause-source_failures g c =
-    run_source _ _ _ _ c.of_run-in-Compared.ensures
-    c.run_compared.ensures.text.counts.source_failures
-
-pub returns-in-Compared-clause-sink_failures : goal.returns-in-Compared-clause-sink_failures
-returns-in-Compared-clause-sink_failures g c =
-    run_sink _ _ _ _ c.of_run-in-Compared.ensures c.run_compared.ensures.text.counts.sink_failures
-
-pub returns-in-Show-Short-clause-answers : goal.returns-in-Show-Short-clause-answers
-returns-in-Show-Short-clause-answers g c =
+pub returns-in-Show-Short : goal.returns-in-Show-Short
+returns-in-Show-Short g c =
     let of = rw c.in-Show-Short.is at c.in-Show-Short.field-0-is in
-    rw (c.in-Show-Short.is, of) (
-      c.run_show.result,
-      c.of_run-in-Show-Short.ensures,
-      c.run_show.ensures.showed,
-    )
+    let is = c.run_show.ensures.showed in
+    rw (c.in-Show-Short.is, of) (record {
+      ran = run_ended _ _ _ _ _ c.of_run-in-Show-Short.ensures is.counts
+          (c.run_show.result, c.of_run-in-Show-Short.ensures, is);
+    })
 
-pub returns-in-Show-Short-clause-source_failures : goal.returns-in-Show-Short-clause-source_failures
-returns-in-Show-Short-clause-source_failures g c = run_source _ _ _ _ c.of_run-in-Show-Short.ensures c.run_show.ensures.showed.counts.source_failures
-
-pub returns-in-Show-Short-clause-sink_failures : goal.returns-in-Show-Short-clause-sink_failures
-returns-in-Show-Short-clause-sink_failures g c = run_sink _ _ _ _ c.of_run-in-Show-Short.ensures c.run_show.ensures.showed.counts.sink_failures
-
-pub returns-in-Show-Long-clause-answers : goal.returns-in-Show-Long-clause-answers
-returns-in-Show-Long-clause-answers g c =
+pub returns-in-Show-Long : goal.returns-in-Show-Long
+returns-in-Show-Long g c =
     let of = rw c.in-Show-Long.is at c.in-Show-Long.field-0-is in
-    rw (c.in-Show-Long.is, of) (
-      c.run_show_long.result,
-      c.of_run-in-Show-Long.ensures,
-      c.run_show_long.ensures.showed,
-    )
+    let is = c.run_show_long.ensures.showed in
+    rw (c.in-Show-Long.is, of) (record {
+      ran = run_ended _ _ _ _ _ c.of_run-in-Show-Long.ensures is.counts
+          (c.run_show_long.result, c.of_run-in-Show-Long.ensures, is);
+    })
 
-pub returns-in-Show-Long-clause-source_failures : goal.returns-in-Show-Long-clause-source_failures
-returns-in-Show-Long-clause-source_failures g c = run_source _ _ _ _ c.of_run-in-Show-Long.ensures c.run_show_long.ensures.showed.counts.source_failures
+pub returns-in-ShowAll : goal.returns-in-ShowAll
+returns-in-ShowAll g c =
+    let is = c.run_show_all.ensures.shown in
+    rw c.in-ShowAll.is (record {
+      ran = run_ended _ _ _ _ _ c.of_run-in-ShowAll.ensures is.counts
+          (c.run_show_all.result, c.of_run-in-ShowAll.ensures, is);
+    })
 
-pub returns-in-Show-Long-clause-sink_failures : goal.returns-in-Show-Long-clause-sink_failures
-returns-in-Show-Long-clause-sink_failures g c = run_sink _ _ _ _ c.of_run-in-Show-Long.ensures c.run_show_long.ensures.showed.counts.sink_failures
+pub returns-in-Text : goal.returns-in-Text
+returns-in-Text g c =
+    let is = c.run_text.ensures.text in
+    rw (c.in-Text.is, ← c.get.ensures.value) (record {
+      ran = run_ended _ _ _ _ _ c.of_run-in-Text.ensures is.counts
+          (c.run_text.result, c.of_run-in-Text.ensures, is);
+    })
 
-pub returns-in-ShowAll-clause-answers : goal.returns-in-ShowAll-clause-answers
-returns-in-ShowAll-clause-answers g c =
-    rw c.in-ShowAll.is (
-      c.run_show_all.result,
-      c.of_run-in-ShowAll.ensures,
-      c.run_show_all.ensures.shown,
-    )
+pub returns-in-TextAll : goal.returns-in-TextAll
+returns-in-TextAll g c =
+    let is = c.run_text_all.ensures.text in
+    rw (c.in-TextAll.is, ← c.get-in-TextAll.ensures.value) (record {
+      ran = run_ended _ _ _ _ _ c.of_run-in-TextAll.ensures is.counts
+          (c.run_text_all.result, c.of_run-in-TextAll.ensures, is);
+    })
 
-pub returns-in-ShowAll-clause-source_failures : goal.returns-in-ShowAll-clause-source_failures
-returns-in-ShowAll-clause-source_failures g c =
-    run_source _ _ _ _ c.of_run-in-ShowAll.ensures
-    c.run_show_all.ensures.shown.counts.source_failures
+pub returns-in-Event : goal.returns-in-Event
+returns-in-Event g c =
+    let is = c.run_event.ensures.gives in
+    rw (c.in-Event.is, ← c.get-in-Event.ensures.value) (record {
+      ran = event_ended _ _ _ _ _ c.of_event.ensures is.writes.counts
+          (c.run_event.result, c.of_event.ensures, is);
+    })
 
-pub returns-in-ShowAll-clause-sink_failures : goal.returns-in-ShowAll-clause-sink_failures
-returns-in-ShowAll-clause-sink_failures g c =
-    run_sink _ _ _ _ c.of_run-in-ShowAll.ensures
-    c.run_show_all.ensures.shown.counts.sink_failures
+pub returns-in-Normal : goal.returns-in-Normal
+returns-in-Normal g c =
+    let is = c.run_normal.ensures.normalized in
+    rw c.in-Normal.is (record {
+      ran = run_ended _ _ _ _ _ c.of_run-in-Normal.ensures is.counts
+          (c.run_normal.result, c.of_run-in-Normal.ensures, is);
+    })
 
-pub returns-in-Text-clause-answers : goal.returns-in-Text-clause-answers
-returns-in-Text-clause-answers g c =
-    rw (c.in-Text.is, ← c.get.ensures.value) (
-      c.run_text.result,
-      c.of_run-in-Text.ensures,
-      c.run_text.ensures.text,
-    )
+pub returns-in-Upgrade : goal.returns-in-Upgrade
+returns-in-Upgrade g c =
+    let is = c.run_upgrade.ensures.upgraded in
+    rw c.in-Upgrade.is (record {
+      ran = run_ended _ _ _ _ _ c.of_run-in-Upgrade.ensures is.counts
+          (c.run_upgrade.result, c.of_run-in-Upgrade.ensures, is);
+    })
 
-pub returns-in-Text-clause-source_failures : goal.returns-in-Text-clause-source_failures
-returns-in-Text-clause-source_failures g c = run_source _ _ _ _ c.of_run-in-Text.ensures c.run_text.ensures.text.counts.source_failures
-
-pub returns-in-Text-clause-sink_failures : goal.returns-in-Text-clause-sink_failures
-returns-in-Text-clause-sink_failures g c = run_sink _ _ _ _ c.of_run-in-Text.ensures c.run_text.ensures.text.counts.sink_failures
-
-pub returns-in-TextAll-clause-answers : goal.returns-in-TextAll-clause-answers
-returns-in-TextAll-clause-answers g c =
-    rw (c.in-TextAll.is, ← c.get-in-TextAll.ensures.value) (
-      c.run_text_all.result,
-      c.of_run-in-TextAll.ensures,
-      c.run_text_all.ensures.text,
-    )
-
-pub returns-in-TextAll-clause-source_failures : goal.returns-in-TextAll-clause-source_failures
-returns-in-TextAll-clause-source_failures g c =
-    let counts = c.run_text_all.ensures.text.counts in
-    run_source _ _ _ _ c.of_run-in-TextAll.ensures counts.source_failures
-
-pub returns-in-TextAll-clause-sink_failures : goal.returns-in-TextAll-clause-sink_failures
-returns-in-TextAll-clause-sink_failures g c =
-    let counts = c.run_text_all.ensures.text.counts in
-    run_sink _ _ _ _ c.of_run-in-TextAll.ensures counts.sink_failures
-
-pub returns-in-Event-clause-answers : goal.returns-in-Event-clause-answers
-returns-in-Event-clause-answers g c =
-    rw (c.in-Event.is, ← c.get-in-Event.ensures.value) (
-      c.run_event.result,
-      c.of_event.ensures,
-      record {
-        written = c.run_event.ensures.written;
-        ended = c.run_event.ensures.ended;
-        fault = c.run_event.ensures.fault;
-        read_fault = c.run_event.ensures.read_fault;
-        memory = c.run_event.ensures.memory;
-        limit = c.run_event.ensures.limit;
-      },
-    )
-
-pub returns-in-Event-clause-source_failures : goal.returns-in-Event-clause-source_failures
-returns-in-Event-clause-source_failures g c = event_source _ _ _ _ c.of_event.ensures c.run_event.ensures.source_failures
-
-pub returns-in-Event-clause-sink_failures : goal.returns-in-Event-clause-sink_failures
-returns-in-Event-clause-sink_failures g c = event_sink _ _ _ _ c.of_event.ensures c.run_event.ensures.sink_failures
-
-pub returns-in-Normal-clause-answers : goal.returns-in-Normal-clause-answers
-returns-in-Normal-clause-answers g c =
-    rw c.in-Normal.is (
-      c.run_normal.result,
-      c.of_run-in-Normal.ensures,
-      record {
-        written = c.run_normal.ensures.written;
-        done = c.run_normal.ensures.done;
-        fault = c.run_normal.ensures.fault;
-        limit = c.run_normal.ensures.limit;
-      },
-    )
-
-pub returns-in-Normal-clause-source_failures : goal.returns-in-Normal-clause-source_failures
-returns-in-Normal-clause-source_failures g c = run_source _ _ _ _ c.of_run-in-Normal.ensures c.run_normal.ensures.source_failures
-
-pub returns-in-Normal-clause-sink_failures : goal.returns-in-Normal-clause-sink_failures
-returns-in-Normal-clause-sink_failures g c = run_sink _ _ _ _ c.of_run-in-Normal.ensures c.run_normal.ensures.sink_failures
-
-pub returns-in-Upgrade-clause-answers : goal.returns-in-Upgrade-clause-answers
-returns-in-Upgrade-clause-answers g c =
-    rw c.in-Upgrade.is (
-      c.run_upgrade.result,
-      c.of_run-in-Upgrade.ensures,
-      c.run_upgrade.ensures.upgraded,
-    )
-
-pub returns-in-Upgrade-clause-source_failures : goal.returns-in-Upgrade-clause-source_failures
-returns-in-Upgrade-clause-source_failures g c = run_source _ _ _ _ c.of_run-in-Upgrade.ensures c.run_upgrade.ensures.upgraded.counts.source_failures
-
-pub returns-in-Upgrade-clause-sink_failures : goal.returns-in-Upgrade-clause-sink_failures
-returns-in-Upgrade-clause-sink_failures g c = run_sink _ _ _ _ c.of_run-in-Upgrade.ensures c.run_upgrade.ensures.upgraded.counts.sink_failures
-
-pub returns-in-Frames-clause-answers : goal.returns-in-Frames-clause-answers
-returns-in-Frames-clause-answers g c =
-    rw c.in-Frames.is (
-      c.run_frames.result,
-      c.of_run-in-Frames.ensures,
-      record {
-        written = c.run_frames.ensures.written;
-        done = c.run_frames.ensures.done;
-        fault = c.run_frames.ensures.fault;
-        limit = c.run_frames.ensures.limit;
-      },
-    )
-
-pub returns-in-Frames-clause-source_failures : goal.returns-in-Frames-clause-source_failures
-returns-in-Frames-clause-source_failures g c = run_source _ _ _ _ c.of_run-in-Frames.ensures c.run_frames.ensures.source_failures
-
-pub returns-in-Frames-clause-sink_failures : goal.returns-in-Frames-clause-sink_failures
-returns-in-Frames-clause-sink_failures g c = run_sink _ _ _ _ c.of_run-in-Frames.ensures c.run_frames.ensures.sink_failures
+pub returns-in-Frames : goal.returns-in-Frames
+returns-in-Frames g c =
+    let is = c.run_frames.ensures.framed in
+    rw c.in-Frames.is (record {
+      ran = run_ended _ _ _ _ _ c.of_run-in-Frames.ensures is.counts
+          (c.run_frames.result, c.of_run-in-Frames.ensures, is);
+    })

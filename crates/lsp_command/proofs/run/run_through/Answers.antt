@@ -4,9 +4,7 @@ pub returns-clause-ran : goal.returns-clause-ran
 returns-clause-ran g c = record {
   gathered = _;
   ended = c.run_task-ended.result;
-  answers = c.run_task-ended.ensures.answers;
-  source_failures = c.run_task-ended.ensures.source_failures;
-  sink_failures = c.run_task-ended.ensures.sink_failures;
+  ran = c.run_task-ended.ensures.ran;
   kept = c.flush-flushed.ensures.bytes;
   flushed = c.flush-flushed.result;
   failures = c.flush-flushed.ensures.failures;

@@ -1,37 +1,42 @@
+use Rattle.std.proofs.Common.{subst}
 use Rattle.std.proofs.lemmas.Result.{err_from_is_err_and}
-use Rattle.lsp_verdict.proofs.RunReading.{read_within}
+use Rattle.lsp_frame.specs.Sink.{Wrote, Stopped}
+use Rattle.lsp_frame.specs.declared.format.Format.{Format}
+use Rattle.lsp_log.specs.Log.{first_line}
+use Rattle.lsp_verdict.proofs.Outcomes.{judged_by}
+use Rattle.lsp_judge.proofs.Forming.Logs.{head_cut, none_read}
 use Rattle.lsp_judge.proofs.normal.run_normal.Goals as goal
 
-pub returns-in_err-outcome-clause-fault : goal.returns-in_err-outcome-clause-fault
-returns-in_err-outcome-clause-fault g c =
+pub write_events-requires : goal.write_events-requires
+write_events-requires g c = (g.R.Source.told c.args.reader.now, c.in_ok-events.ensures.ok)
+
+pub returns-in_err-events : goal.returns-in_err-events
+returns-in_err-events g c =
     let p = err_from_is_err_and c.from_residual.result c.from_residual.ensures.1 in
-    rw p.1 c.in_err-outcome.ensures.cut_short
+    rw (p.1, p.2) (record {
+      normalized = none_read c.args.limits _ _ _ _ c.in_err-events.ensures.err;
+    })
 
-pub returns-in_err-outcome-clause-source_failures :
-    goal.returns-in_err-outcome-clause-source_failures
-returns-in_err-outcome-clause-source_failures g c =
-    let p = err_from_is_err_and c.from_residual.result c.from_residual.ensures.1 in
-    rw (p.1, p.2) c.in_err-outcome.ensures.source
+pub returns-in_err-write_head_of : goal.returns-in_err-write_head_of
+returns-in_err-write_head_of g c =
+    let from = c.from_residual-in_err-write_head_of in
+    let p = err_from_is_err_and from.result from.ensures.1 in
+    let sink = g.W.Sink.told c.args.writer.now in
+    let new = g.W.Sink.told c.write_head_of.new.writer in
+    let events = c.in_ok-events.events in
+    let format = judged_by _ _ _ c.unwrap_or.ensures c.format.ensures in
+    let stopped = subst (λ (f : Format). Stopped sink new (first_line f)) format
+    c.in_err-write_head_of.ensures in
+    rw (p.1, p.2) (record {
+      normalized = head_cut c.args.limits events _ _ sink new c.in_ok-events.ensures.ok stopped;
+    })
 
-pub returns-in_err-outcome-clause-sink_failures : goal.returns-in_err-outcome-clause-sink_failures
-returns-in_err-outcome-clause-sink_failures g c =
-    let p = err_from_is_err_and c.from_residual.result c.from_residual.ensures.1 in
-    rw (p.1, p.2) c.in_err-outcome.ensures.sink
-
-pub returns-in_err-outcome-clause-limit : goal.returns-in_err-outcome-clause-limit
-returns-in_err-outcome-clause-limit g c = read_within _ _ _ _ c.in_err-outcome.ensures.cut_short.2
-
-pub returns-clause-written : goal.returns-clause-written
-returns-clause-written g c = c.in_ok-outcome.ensures.normal
-
-pub returns-clause-done : goal.returns-clause-done
-returns-clause-done g c = λ done. c.in_ok-outcome.ensures.done (cc done)
-
-pub returns-clause-source_failures : goal.returns-clause-source_failures
-returns-clause-source_failures g c = c.in_ok-outcome.ensures.source
-
-pub returns-clause-sink_failures : goal.returns-clause-sink_failures
-returns-clause-sink_failures g c = c.in_ok-outcome.ensures.sink
-
-pub returns-clause-limit : goal.returns-clause-limit
-returns-clause-limit g c = read_within _ _ _ _ c.in_ok-outcome.ensures.normal.2
+pub returns : goal.returns
+returns g c =
+    let sink = g.W.Sink.told c.args.writer.now in
+    let mid = g.W.Sink.told c.write_head_of.new.writer in
+    let events = c.in_ok-events.events in
+    let format = judged_by _ _ _ c.unwrap_or.ensures c.format.ensures in
+    let head = subst (λ (f : Format). Wrote sink mid (first_line f)) format
+    c.in_ok-write_head_of.ensures in
+    record { normalized = c.write_events.ensures _ sink c.in_ok-events.ensures.ok head }
