@@ -69,21 +69,26 @@ offence_is terms events m rule none is = ap (λ o. option_or o (document_rule te
 
 -- what a call that was taken, or refused, says of the calls before it
 module _ (old : docs.State) (made : List Call) (h : docs.Stands old made) where
-  pub taken : (new : docs.State) (said : Option Call) → TakesCall old new said
+  pub call_taken : (new : docs.State) (said : Option Call) → TakesCall old new said
       → (option_and_then (call_rule old.terms made) said ≡ None)
       × docs.Stands new (made ++ cons_option said [])
-  taken new None same = (
+  call_taken new None same = (
     refl,
     subst (λ (d : docs.State). docs.Stands d (made ++ [])) (sym same)
         (subst (docs.Stands old) (sym (append-nil made)) h),
   )
-  taken new (Some call) accepts = (accepts.accepted made h, accepts.stands made h)
+  call_taken new (Some call) accepts = (accepts.accepted made h, accepts.stands made h)
 
-  pub named : (said : Option Call) (f : DocFault) → RefusesCall old said f
+  pub call_named : (said : Option Call) (f : DocFault) → RefusesCall old said f
       → docs_fault.Names (option_and_then (call_rule old.terms made) said) f
-  named said f refuses =
-      subst (λ o. docs_fault.Names (option_and_then (call_rule old.terms made) o) f)
-      (sym refuses.1) (refuses.2 made h)
+  call_named None f refuses = absurd refuses
+  call_named (Some call) f refuses = refuses made h
+
+-- only an act that says something of a document is refused
+pub call_said : (old : docs.State) (said : Option Call) (f : DocFault) → RefusesCall old said f
+    → (call : Call) × (said ≡ Some call)
+call_said old None f refuses = absurd refuses
+call_said old (Some call) f refuses = (call, refl)
 
 -- the terms stay
 pub same_terms : (old new : docs.State) (said : Option Call) → TakesCall old new said
