@@ -23,7 +23,7 @@ use Rattle.lsp_types.specs.declared.line_ends.LineEnds.{LineEnds}
 use Rattle.lsp_text.specs.SameText.{same_text}
 use Rattle.lsp_docs.specs.Rules.{rule_of, call_rule}
 use Rattle.lsp_docs.specs.State.{State, Waits, held_in, set_in, without, queue_of, reached}
-use Rattle.lsp_docs.specs.State.{missed_one, Kept, kept_in, KeepsSame, KeepsOn, KeepsNone, Stands}
+use Rattle.lsp_docs.specs.State.{missed_one, Queue, KeepsSame, KeepsOn, KeepsNone, Stands}
 use Rattle.lsp_docs.specs.State.{rule_at, text_in, IsAdded, IsReleased, AreWaits}
 use Rattle.lsp_docs.specs.State.{capped, Allows, Accepts, Refuses}
 use Rattle.lsp_docs.specs.Opened.{IsChanged, Opened}
@@ -51,7 +51,7 @@ held-stands s calls u h = ap (held_in u) h.documents ∙ sym (held-documents s.t
 pub rule-stands : (s : State) (calls : List Call) (c : Call) → Stands s calls
     → rule_at s c ≡ call_rule s.terms calls c
 rule-stands s calls c h =
-    ap (λ o. rule_of s.terms o (kept_in (uri_of c) s.kept) (queue_of (uri_of c) s.waits.queues) c)
+    ap (λ o. rule_of s.terms o (queue_of (uri_of c) s.kept) (queue_of (uri_of c) s.waits.queues) c)
     (held-stands s calls (uri_of c) h)
     ∙ (ap (λ ks. rule_of s.terms (held s.terms (uri_of c) calls) ks
     (queue_of (uri_of c) s.waits.queues) c) (h.kept (uri_of c))
@@ -69,9 +69,9 @@ pub breaks : (s : State) (c : Call) (n : ℕ) → rule_at s c ≡ Some n → Ref
 breaks s c n e = refuses s c (Rule n) e
 
 pub answers : (s : State) (u : Bytes) (n : ℤ) (m : Match)
-    → m ≡ answer_of n (kept_in u s.kept) (held_in u s.documents) → IsAnswer s u n m
+    → m ≡ answer_of n (queue_of u s.kept) (held_in u s.documents) → IsAnswer s u n m
 answers s u n m e calls h =
-    e ∙ (ap (answer_of n (kept_in u s.kept)) (held-stands s calls u h)
+    e ∙ (ap (answer_of n (queue_of u s.kept)) (held-stands s calls u h)
     ∙ ap (λ ks. answer_of n ks (held s.terms u calls)) (h.kept u))
 
 -- ---- steps
@@ -79,24 +79,24 @@ answers s u n m e calls h =
 abbrev pub terms_in : ℕ → ℕ → LineEnds → Terms
 terms_in limit kept ends = record { limit = limit; kept = kept; line_ends = ends }
 
-abbrev pub stated : Terms → List Held → List Kept → Waits → State
+abbrev pub stated : Terms → List Held → List Queue → Waits → State
 stated terms hs ks w = record { terms = terms; documents = hs; kept = ks; waits = w }
 
 -- a call that neither closes nor changes a document leaves what is kept of it
-kept-same : (s : State) (calls : List Call) (c : Call) (ks : List Kept)
+kept-same : (s : State) (calls : List Call) (c : Call) (ks : List Queue)
     → ((uri : Bytes) → is_close uri c ≡ false) → ((uri : Bytes) → is_change uri c ≡ false)
     → KeepsSame s.kept ks → Stands s calls → (uri : Bytes)
-    → kept_in uri ks ≡ kept s.terms uri (calls ++ c ∷ [])
+    → queue_of uri ks ≡ kept s.terms uri (calls ++ c ∷ [])
 kept-same s calls c ks p q same h uri =
     same uri ∙ (h.kept uri ∙ ap (last_of s.terms.kept)
     (sym (past-same s.terms uri calls c (p uri) (q uri))))
 
 -- the held version of the changed document is kept from now on
 kept-changed : (s : State) (calls : List Call) (enc : Encoding) (k : SyncKind) (u : Bytes) (n : ℤ)
-    (cs : List Edit) (v : Version) (ks : List Kept)
+    (cs : List Edit) (v : Version) (ks : List Queue)
     → held_in u s.documents ≡ Some v → KeepsOn s.terms.kept u (held_in u s.documents) s.kept ks
     → Stands s calls
-    → (uri : Bytes) → kept_in uri ks ≡ kept s.terms uri (calls ++ changes enc k u n cs ∷ [])
+    → (uri : Bytes) → queue_of uri ks ≡ kept s.terms uri (calls ++ changes enc k u n cs ∷ [])
 kept-changed s calls enc k u n cs v ks there keeps h uri =
     keeps few uri
     ∙ elim (cases_Bool (bytes_eq u uri)) [
@@ -104,7 +104,7 @@ kept-changed s calls enc k u n cs v ks there keeps h uri =
           let now : held s.terms uri calls ≡ Some v =
           ap (λ x. held s.terms x calls) (sym (uri_is u uri p))
           ∙ (sym (held-stands s calls u h) ∙ there) in
-          rw p (ap (λ o. last_of most (kept_in uri s.kept ++ option_to_list o)) there
+          rw p (ap (λ o. last_of most (queue_of uri s.kept ++ option_to_list o)) there
           ∙ (ap (λ l. last_of most (l ++ v ∷ [])) (h.kept uri)
           ∙ (last-snoc most (past s.terms uri calls) v
           ∙ ap (last_of most) (sym (past-changed s.terms uri calls c v (uri_flip uri u ∙ p) now)))))
@@ -118,12 +118,12 @@ kept-changed s calls enc k u n cs v ks there keeps h uri =
     c : Call
     c = changes enc k u n cs
 
-    few : length (kept_in u s.kept) ≤ most
+    few : length (queue_of u s.kept) ≤ most
     few = subst (λ l. length l ≤ most) (sym (h.kept u)) (last-few most (past s.terms u calls))
 
 -- nothing is kept of a closed document
-kept-closed : (s : State) (calls : List Call) (u : Bytes) (ks : List Kept) → KeepsNone u s.kept ks
-    → Stands s calls → (uri : Bytes) → kept_in uri ks ≡ kept s.terms uri (calls ++ closes u ∷ [])
+kept-closed : (s : State) (calls : List Call) (u : Bytes) (ks : List Queue) → KeepsNone u s.kept ks
+    → Stands s calls → (uri : Bytes) → queue_of uri ks ≡ kept s.terms uri (calls ++ closes u ∷ [])
 kept-closed s calls u ks drops h uri =
     drops uri
     ∙ elim (cases_Bool (bytes_eq u uri)) [
@@ -134,11 +134,11 @@ kept-closed s calls u ks drops h uri =
           (sym (past-same s.terms uri calls (closes u) (uri_flip uri u ∙ p) refl)))
     ]
 
-accepts : (s : State) (c : Call) (hs : List Held) (ks : List Kept) (w : Waits)
+accepts : (s : State) (c : Call) (hs : List Held) (ks : List Queue) (w : Waits)
     → rule_at s c ≡ None
     → ((calls : List Call) → Stands s calls → call_rule s.terms calls c ≡ None
     → (hs ≡ documents s.terms (calls ++ c ∷ []))
-    × ((uri : Bytes) → kept_in uri ks ≡ kept s.terms uri (calls ++ c ∷ []))
+    × ((uri : Bytes) → queue_of uri ks ≡ kept s.terms uri (calls ++ c ∷ []))
     × AreWaits s.terms w (calls ++ c ∷ []))
     → Accepts s (stated s.terms hs ks w) c
 accepts s c hs ks w e then_stands = record {
@@ -155,7 +155,7 @@ accepts s c hs ks w e then_stands = record {
   terms = refl;
 }
 
-pub accepts-opened : (s : State) (u : Bytes) (n : ℤ) (t : Text) (hs : List Held) (ks : List Kept)
+pub accepts-opened : (s : State) (u : Bytes) (n : ℤ) (t : Text) (hs : List Held) (ks : List Queue)
     (w : Waits) → rule_at s (opens u n t) ≡ None
     → hs ≡ s.documents ++ record { uri = u; version = versioned n t } ∷ [] → KeepsSame s.kept ks
     → w ≡ reached u n s.waits → Accepts s (stated s.terms hs ks w) (opens u n t)
@@ -194,7 +194,7 @@ accepts-changed s enc k u n cs broken new w e made reaches =
           (waits-changed s.terms s.waits calls enc k u n cs h.waits rule),
     ))
 
-pub accepts-closed : (s : State) (u : Bytes) (hs : List Held) (ks : List Kept) (w : Waits)
+pub accepts-closed : (s : State) (u : Bytes) (hs : List Held) (ks : List Queue) (w : Waits)
     → rule_at s (closes u) ≡ None → hs ≡ without u s.documents → KeepsNone u s.kept ks
     → IsReleased u s.waits.queues w.queues
     → w.missed ≡ capped (s.waits.missed + length (queue_of u s.waits.queues))
@@ -254,7 +254,7 @@ module _ (s : State) (u : Bytes) (n : ℤ) (t : Text) where
   is_ahead_in = is_ahead n (held_in u s.documents)
 
   abbrev has_in : Bool
-  has_in = has_number n (kept_in u s.kept) (held_in u s.documents)
+  has_in = has_number n (queue_of u s.kept) (held_in u s.documents)
 
   -- and off the calls
   module _ (calls : List Call) (h : Stands s calls) where
@@ -265,7 +265,7 @@ module _ (s : State) (u : Bytes) (n : ℤ) (t : Text) where
     has_now : (b : Bool) → has_in ≡ b
         → has_number n (kept s.terms u calls) (held s.terms u calls) ≡ b
     has_now b p = ap (λ ks. has_number n ks (held s.terms u calls)) (sym (h.kept u))
-        ∙ (ap (has_number n (kept_in u s.kept)) (sym (held-stands s calls u h)) ∙ p)
+        ∙ (ap (has_number n (queue_of u s.kept)) (sym (held-stands s calls u h)) ∙ p)
 
     missed_now : (a f : Bool) → is_ahead_in ≡ a → has_in ≡ f
         → missed_at s.terms calls c ≡ (if not a && not f then 1 else 0)

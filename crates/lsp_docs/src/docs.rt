@@ -2,7 +2,7 @@
 
 ghost use Rattle.std.specs.Prelude.{◌≡◌, [], ◌++◌, ◌∷◌, List, None, Some, Ok, Err, false};
 ghost use Rattle.std.specs.Prelude.{length, map, slice_get, nat_lt, IfErr, IfOk};
-ghost use Rattle.std.specs.Prelude.{OnOk, OnErr, option_map};
+ghost use Rattle.std.specs.Prelude.{OnOk, OnErr, option_map, unwrap_or};
 ghost use Rattle.std.specs.List.{list_any};
 ghost use Rattle.std.specs.Str.{chars};
 ghost use Rattle.lsp_docs.specs.Texts.{byte_len};
@@ -10,12 +10,11 @@ ghost use Rattle.lsp_docs.specs.Terms.{terms_of, kept_of as kept_by};
 ghost use Rattle.lsp_docs.specs.Calls.{Call, opens, changes as changes_by, closes, saves, shows};
 ghost use Rattle.lsp_docs.specs.Documents.{versioned, held, documents};
 ghost use Rattle.lsp_docs.specs.Kept.{kept};
-ghost use Rattle.lsp_docs.specs.Opened.{or_nothing};
 ghost use Rattle.lsp_docs.specs.Snapshots.{texts_at, waiting, unmatched, versions_of};
 ghost use Rattle.lsp_docs.specs.Others.{other_than};
 ghost use Rattle.lsp_docs.specs.Rules.{differs};
 ghost use Rattle.lsp_docs.specs.Stored.{texts_of};
-ghost use Rattle.lsp_docs.specs.State.{capped, held_in, kept_in, queue_of, early_rule, rule_at};
+ghost use Rattle.lsp_docs.specs.State.{capped, held_in, queue_of, early_rule, rule_at};
 ghost use Rattle.lsp_docs.specs.State.{Stands, Allows, Accepts, Refuses};
 ghost use Rattle.lsp_docs.specs.Fault.{Names, IsRule};
 ghost use Rattle.lsp_text.specs.Changes.{edits_of};
@@ -339,7 +338,7 @@ impl<S: TextStore> Docs<S> {
     /// Judges a snapshot by what is held and kept of its URI.
     fn judge(&self, uri: &str, version: i32, text: &str) -> Result<Match, DocFault>
         ensures answer { IfOk result
-            (λ answer. answer ≡ answer_of version (kept_in uri.now self.now.kept)
+            (λ answer. answer ≡ answer_of version (queue_of uri.now self.now.kept)
             (held_in uri.now self.now.documents)) }
         ensures accepted { OnOk result
             (rule_at self.now (shows uri.now version (chars text.now)) ≡ None) }
@@ -357,8 +356,8 @@ impl<S: TextStore> Docs<S> {
         ensures held { option_map
             (λ d. versioned d.now.held.version (S.content d.now.held.store)) result
             ≡ held_in uri.now self.now.documents }
-        ensures kept { or_nothing (option_map (λ d. d.now.kept) result)
-            ≡ kept_in uri.now self.now.kept }
+        ensures kept { unwrap_or (option_map (λ d. d.now.kept) result) []
+            ≡ queue_of uri.now self.now.kept }
     {
         self.documents.get(uri)
     }

@@ -288,5 +288,5 @@ fn push_flaw(
         ++ usual_line (codes "recorder"))) }
 {
     let facts = flaw_facts(alloc, number, events.place(), events.found())?;
-    push_details(alloc, lines, facts.as_slice(), "recorder")
+    push_details(lines, &facts, "recorder")
 }

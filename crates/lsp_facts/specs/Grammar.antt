@@ -83,10 +83,11 @@ in_text after x =
 
 -- ---- numbers
 
+abbrev pub or_e : ℕ → Option Number
+or_e x = then_some (x == 101 || x == 69) numbers.AfterE
+
 abbrev pub after_whole : ℕ → Option Number
-after_whole x =
-    if x == 46 then Some numbers.AfterPoint
-    else then_some (x == 101 || x == 69) numbers.AfterE
+after_whole x = if x == 46 then Some numbers.AfterPoint else or_e x
 
 -- where the number goes on
 abbrev pub in_number : Number → ℕ → Option Number
@@ -95,9 +96,7 @@ in_number numbers.AfterMinus x =
 in_number numbers.AfterZero x = after_whole x
 in_number numbers.Whole x = if is_ascii_digit x then Some numbers.Whole else after_whole x
 in_number numbers.AfterPoint x = then_some (is_ascii_digit x) numbers.Fraction
-in_number numbers.Fraction x =
-    if is_ascii_digit x then Some numbers.Fraction
-    else then_some (x == 101 || x == 69) numbers.AfterE
+in_number numbers.Fraction x = if is_ascii_digit x then Some numbers.Fraction else or_e x
 in_number numbers.AfterE x =
     if x == 43 || x == 45 then Some numbers.AfterSign
     else then_some (is_ascii_digit x) numbers.Exponent
@@ -137,37 +136,6 @@ after_value Array x =
 after_value Object x =
     if x == 44 then Some (To (places.Gap gaps.Key)) else then_some (x == 125) Close
 
-abbrev pub after_space : Gap → Option Around → Bool → ℕ → Option Move
-after_space gaps.Value around room x = begin_value room x
-after_space gaps.FirstItem around room x = if x == 93 then Some Close else begin_value room x
-after_space gaps.FirstKey around room x = if x == 125 then Some Close else begin_key x
-after_space gaps.Key around room x = begin_key x
-after_space gaps.Colon around room x = then_some (x == 58) (To (places.Gap gaps.Value))
-after_space gaps.AfterValue around room x =
-    option_and_then (λ around. after_value around x) around
-
-abbrev pub in_gap : Gap → Option Around → Bool → ℕ → Option Move
-in_gap gap around room x =
-    if is_space x then Some (To (places.Gap gap)) else after_space gap around room x
-
--- ---- a text
-
-abbrev pub or_after : Number → Option Around → Bool → ℕ → Option Number → Option Move
-or_after number around room x None =
-    if may_end number then in_gap gaps.AfterValue around room x else None
-or_after number around room x (Some later) = Some (To (places.Number later))
-
-abbrev pub number_move : Number → Option Around → Bool → ℕ → Option Move
-number_move number around room x = or_after number around room x (in_number number x)
-
--- **what a byte leads to**; `None` where it cannot stand
-abbrev pub move : Place → Option Around → Bool → ℕ → Option Move
-move (places.Gap gap) around room x = in_gap gap around room x
-move (places.Text after) around room x = option_map To (in_text after x)
-move (places.Escape escape after) around room x = option_map To (in_escape escape after x)
-move (places.Row row at after) around room x = option_map To (in_row row at after x)
-move (places.Number number) around room x = number_move number around room x
-
 -- arrays and objects nest at most so deep
 abbrev pub most_open : ℕ
 most_open = 127
@@ -175,8 +143,37 @@ most_open = 127
 abbrev pub last : List Around → Option Around
 last opened = slice_get opened (length opened - 1)
 
+abbrev pub after_space : Gap → List Around → ℕ → Option Move
+after_space gaps.Value opened x = begin_value (nat_lt (length opened) most_open) x
+after_space gaps.FirstItem opened x =
+    if x == 93 then Some Close else begin_value (nat_lt (length opened) most_open) x
+after_space gaps.FirstKey opened x = if x == 125 then Some Close else begin_key x
+after_space gaps.Key opened x = begin_key x
+after_space gaps.Colon opened x = then_some (x == 58) (To (places.Gap gaps.Value))
+after_space gaps.AfterValue opened x =
+    option_and_then (λ around. after_value around x) (last opened)
+
+abbrev pub in_gap : Gap → List Around → ℕ → Option Move
+in_gap gap opened x =
+    if is_space x then Some (To (places.Gap gap)) else after_space gap opened x
+
+-- ---- a text
+
+abbrev pub or_after : Number → List Around → ℕ → Option Number → Option Move
+or_after number opened x None =
+    if may_end number then in_gap gaps.AfterValue opened x else None
+or_after number opened x (Some later) = Some (To (places.Number later))
+
+abbrev pub number_move : Number → List Around → ℕ → Option Move
+number_move number opened x = or_after number opened x (in_number number x)
+
+-- **what a byte leads to**, where these are open; `None` where it cannot stand
 abbrev pub move_in : Place → List Around → ℕ → Option Move
-move_in place opened x = move place (last opened) (nat_lt (length opened) most_open) x
+move_in (places.Gap gap) opened x = in_gap gap opened x
+move_in (places.Text after) opened x = option_map To (in_text after x)
+move_in (places.Escape escape after) opened x = option_map To (in_escape escape after x)
+move_in (places.Row row at after) opened x = option_map To (in_row row at after x)
+move_in (places.Number number) opened x = number_move number opened x
 
 abbrev pub to : Move → Place
 to (To place) = place

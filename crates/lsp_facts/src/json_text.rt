@@ -96,16 +96,16 @@ fn in_text(after: Gap, byte: u8) -> Option<Place>
 fn in_number(number: Number, byte: u8) -> Option<Number>
     ensures { result ≡ spec.in_number number byte }
 {
-    match (number, byte) {
-        (Number::AfterMinus, b'0') => Some(Number::AfterZero),
-        (Number::AfterMinus | Number::Whole, b'0'..=b'9') => Some(Number::Whole),
-        (Number::AfterZero | Number::Whole, b'.') => Some(Number::AfterPoint),
-        (Number::AfterPoint | Number::Fraction, b'0'..=b'9') => Some(Number::Fraction),
-        (Number::AfterZero | Number::Whole | Number::Fraction, b'e' | b'E') => Some(Number::AfterE),
-        (Number::AfterE, b'+' | b'-') => Some(Number::AfterSign),
-        (Number::AfterE | Number::AfterSign | Number::Exponent, b'0'..=b'9') => {
+    match (byte, number) {
+        (b'0', Number::AfterMinus) => Some(Number::AfterZero),
+        (b'0'..=b'9', Number::AfterMinus | Number::Whole) => Some(Number::Whole),
+        (b'0'..=b'9', Number::AfterPoint | Number::Fraction) => Some(Number::Fraction),
+        (b'0'..=b'9', Number::AfterE | Number::AfterSign | Number::Exponent) => {
             Some(Number::Exponent)
         }
+        (b'.', Number::AfterZero | Number::Whole) => Some(Number::AfterPoint),
+        (b'e' | b'E', Number::AfterZero | Number::Whole | Number::Fraction) => Some(Number::AfterE),
+        (b'+' | b'-', Number::AfterE) => Some(Number::AfterSign),
         _ => None,
     }
 }
@@ -152,54 +152,47 @@ fn after_value(around: Around, byte: u8) -> Option<Move>
     }
 }
 
-fn in_gap(gap: Gap, around: Option<Around>, room: bool, byte: u8) -> Option<Move>
-    ensures { result ≡ spec.in_gap gap around room byte }
+/// Where these are open, the last one innermost.
+fn in_gap(gap: Gap, opened: &[Around], byte: u8) -> Option<Move>
+    ensures { result ≡ spec.in_gap gap opened.now byte }
 {
     match (gap, byte) {
         (_, b' ' | b'\t' | b'\n' | b'\r') => Some(Move::To(Place::Gap(gap))),
         (Gap::FirstItem, b']') | (Gap::FirstKey, b'}') => Some(Move::Close),
-        (Gap::Value | Gap::FirstItem, _) => begin_value(room, byte),
+        (Gap::Value | Gap::FirstItem, _) => begin_value(opened.len() < MOST_OPEN, byte),
         (Gap::FirstKey | Gap::Key, b'"') => Some(Move::To(Place::Text(Gap::Colon))),
         (Gap::Colon, b':') => Some(Move::To(Place::Gap(Gap::Value))),
-        (Gap::AfterValue, _) => after_value(around?, byte),
+        (Gap::AfterValue, _) => after_value(*opened.last()?, byte),
         _ => None,
     }
 }
 
 // ---- a text
 
-fn number_move(number: Number, around: Option<Around>, room: bool, byte: u8) -> Option<Move>
-    ensures { result ≡ spec.number_move number around room byte }
+fn number_move(number: Number, opened: &[Around], byte: u8) -> Option<Move>
+    ensures { result ≡ spec.number_move number opened.now byte }
 {
     if let Some(later) = in_number(number, byte) {
         return Some(Move::To(Place::Number(later)));
     }
     if may_end(number) {
-        in_gap(Gap::AfterValue, around, room, byte)
+        in_gap(Gap::AfterValue, opened, byte)
     } else {
         None
     }
 }
 
 /// What a byte leads to; `None` where it cannot stand.
-fn move_at(place: Place, around: Option<Around>, room: bool, byte: u8) -> Option<Move>
-    ensures { result ≡ spec.move place around room byte }
-{
-    match place {
-        Place::Gap(gap) => in_gap(gap, around, room, byte),
-        Place::Text(after) => in_text(after, byte).map(Move::To),
-        Place::Escape(escape, after) => in_escape(escape, after, byte).map(Move::To),
-        Place::Row(row, at, after) => in_row(row, at, after, byte).map(Move::To),
-        Place::Number(number) => number_move(number, around, room, byte),
-    }
-}
-
-/// The same, where these are open, the last one innermost.
 fn move_in(place: Place, opened: &[Around], byte: u8) -> Option<Move>
     ensures { result ≡ spec.move_in place opened.now byte }
 {
-    let room = opened.len() < MOST_OPEN;
-    move_at(place, opened.last().copied(), room, byte)
+    match place {
+        Place::Gap(gap) => in_gap(gap, opened, byte),
+        Place::Text(after) => in_text(after, byte).map(Move::To),
+        Place::Escape(escape, after) => in_escape(escape, after, byte).map(Move::To),
+        Place::Row(row, at, after) => in_row(row, at, after, byte).map(Move::To),
+        Place::Number(number) => number_move(number, opened, byte),
+    }
 }
 
 /// What is open after a move, and the place that it leads to.

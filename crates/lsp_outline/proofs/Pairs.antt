@@ -1,41 +1,48 @@
 -- Positions and ranges as most programs write them.
 use Rattle.std.proofs.Common.{◌≡◌, ℕ, zero, suc, ◌+◌, ◌-◌, ◌<◌, ◌≤◌, List, [], ◌∷◌, ◌++◌}
-use Rattle.std.proofs.Common.{length, take, drop, get_or, refl, sym, ap, ap₂, ◌∙◌, arith, codes, Some}
-use Rattle.std.proofs.Common.{pos}
+use Rattle.std.proofs.Common.{nat_lt, true, length, take, drop, get_or, refl, sym, ap, ap₂}
+use Rattle.std.proofs.Common.{◌∙◌, arith, codes, Some, option_map, pos}
+use Rattle.std.proofs.lemmas.Bool.{and_parts}
+use Rattle.std.proofs.lemmas.Bool.Decides.{nat_tests}
 use Rattle.std.proofs.lemmas.List.{get_or-drop, drop-drop, take-append-drop, take-take}
 use Rattle.std.proofs.lemmas.Nat.{le_bytes_8}
 use Rattle.std.specs.Int.{w64, to_le_bytes, from_le_bytes}
-use Rattle.std.specs.Simd.Lanes.{Each1}
+use Rattle.std.specs.List.{list_all}
 use Rattle.json.specs.Token as token_of
 use Rattle.json.specs.Text.{content}
 use Rattle.json.specs.Lex.{lex, between, token, colon}
 use Rattle.json.specs.Lex.{punctuate}
 use Rattle.json.specs.Json.{read_key}
 use Rattle.lsp_outline.proofs.Lexing.{key_first}
-use Rattle.serde_json.specs.Data.{Data, Members, object, no_members, put}
+use Rattle.serde_json.specs.Data.{Data, null, boolean, number, string, array, object}
+use Rattle.serde_json.specs.Data.{no_members, put}
 use Rattle.serde_json.proofs.Views.{get_member-put, get_member-put_other}
-use Rattle.lsp_rpc.specs.Params.{position_at, span_at}
-use Rattle.lsp_rpc.specs.Shape.{as_integer}
+use Rattle.lsp_rpc.specs.Params.{if_given, position_at, span_at}
+use Rattle.lsp_rpc.specs.Shape.{as_integer, unless_null}
+use Rattle.lsp_types.specs.declared.position.Span.{Span}
 use Rattle.lsp_outline.proofs.Walking.{object_value, no_members_yet, member_turn, last_member}
 use Rattle.lsp_outline.proofs.Walking.{byte}
-use Rattle.lsp_outline.specs.Places.{KeepsBoth, KeepsPosition}
+use Rattle.lsp_outline.specs.Places.{KeepsBoth, KeepsPosition, KeepsRange}
 use Rattle.lsp_outline.specs.Walk.{IsKey, IsValue, Stand, line_key, character_key}
 use Rattle.lsp_outline.specs.Walk.{start_key, end_key}
 
 -- ---- words
 
-each_below : (xs : List ℕ) → Each1 (λ x. x < 256) xs → (i : ℕ) → get_or xs i 0 < 256
-each_below [] all i = omega arith
-each_below (x ∷ xs) all zero = all.0
-each_below (x ∷ xs) all (suc i) = each_below xs all.1 i
+each_below : (x : ℕ) (xs : List ℕ) → x < 256 → list_all (λ y. nat_lt y 256) xs ≡ true → (i : ℕ)
+    → get_or (x ∷ xs) i 0 < 256
+each_below x xs fits all zero = fits
+each_below x [] fits all (suc i) = omega arith
+each_below x (y ∷ ys) fits all (suc i) =
+    let both = and_parts (nat_lt y 256) (list_all (λ z. nat_lt z 256) ys) all in
+    each_below y ys (grind (arith, nat_tests, both.0)) both.1 i
 
 -- the bytes of a word that equals this one
-word_is : (bs s : List ℕ) (word key : ℕ) → length bs ≡ 8 → Each1 (λ x. x < 256) bs
-    → key ≡ from_le_bytes w64 bs → to_le_bytes w64 word ≡ take 8 s → word ≡ key
-    → take 8 s ≡ bs
-word_is bs s word key long all is reads same =
+word_is : (x : ℕ) (xs s : List ℕ) (word key : ℕ) → length (x ∷ xs) ≡ 8 → x < 256
+    → list_all (λ y. nat_lt y 256) xs ≡ true → key ≡ from_le_bytes w64 (x ∷ xs)
+    → to_le_bytes w64 word ≡ take 8 s → word ≡ key → take 8 s ≡ x ∷ xs
+word_is x xs s word key long fits all is reads same =
     sym reads ∙ ap (to_le_bytes w64) same
-    ∙ le_bytes_8 bs key long (each_below bs all) is
+    ∙ le_bytes_8 (x ∷ xs) key long (each_below x xs fits all) is
 
 stand : (d : List ℕ) (from n : ℕ) (bs : List ℕ) → take n (drop from d) ≡ bs
     → drop from d ≡ bs ++ drop (from + n) d
@@ -47,7 +54,7 @@ pub line_stands : (d : List ℕ) (from before word key : ℕ) → from + 8 ≤ l
     → word ≡ key → Stand d from (before ∷ line_key) (from + 8)
 line_stands d from before word key room fits is reads same = record {
   are = stand d from 8 (before ∷ line_key)
-      (word_is (before ∷ line_key) (drop from d) word key refl (fits, (omega arith, (omega arith, (omega arith, (omega arith, (omega arith, (omega arith, (omega arith, tt)))))))) is reads same);
+      (word_is before line_key (drop from d) word key refl fits refl is reads same);
   is = refl;
   within = room;
 }
@@ -66,9 +73,10 @@ pub character_stands : (d : List ℕ) (from before word key after end : ℕ) →
 character_stands d from before word key after end room fits is reads same is_back reads_back same_back =
     let s = drop from d in
     let first : take 8 s ≡ front before =
-    word_is (front before) s word key refl (fits, (omega arith, (omega arith, (omega arith, (omega arith, (omega arith, (omega arith, (omega arith, tt)))))))) is reads same in
+    word_is before _ s word key refl fits refl is reads same in
     let second : take 8 (drop (from + 5) d) ≡ back =
-    word_is back (drop (from + 5) d) after end refl (omega arith, (omega arith, (omega arith, (omega arith, (omega arith, (omega arith, (omega arith, (omega arith, tt)))))))) is_back reads_back same_back in
+    word_is 114 _ (drop (from + 5) d) after end refl (omega arith) refl is_back reads_back same_back
+    in
     let five : take 5 s ≡ take 5 (front before) = sym (take-take 5 8 s (omega arith)) ∙ ap (take 5) first in
     let there : from + 5 + 8 ≡ from + 13 = omega arith in
     record {
@@ -87,28 +95,7 @@ pub start_stands : (d : List ℕ) (from before word key : ℕ) → from + 9 ≤ 
     → word ≡ key → get_or d (from + 8) 0 ≡ 58 → Stand d from (before ∷ start_key) (from + 9)
 start_stands d from before word key room fits is reads same mark =
     let first : take 8 (drop from d) ≡ start_front before =
-    word_is (start_front before) (drop from d) word key refl (
-      fits,
-      (
-        omega arith,
-        (
-          omega arith,
-          (
-            omega arith,
-            (
-              omega arith,
-              (
-                omega arith,
-                (
-                  omega arith,
-                  (omega arith, tt),
-                ),
-              ),
-            ),
-          ),
-        ),
-      ),
-    ) is reads same in
+    word_is before _ (drop from d) word key refl fits refl is reads same in
     let last = byte d (from + 8) 58 mark (omega arith) in
     let there : from + 8 + 1 ≡ from + 9 = omega arith in
     record {
@@ -126,28 +113,7 @@ pub end_stands : (d : List ℕ) (from before word key : ℕ) → from + 8 ≤ le
     → word ≡ key → Stand d from (before ∷ end_key) (from + 7)
 end_stands d from before word key room fits is reads same =
     let first : take 8 (drop from d) ≡ end_front before =
-    word_is (end_front before) (drop from d) word key refl (
-      fits,
-      (
-        omega arith,
-        (
-          omega arith,
-          (
-            omega arith,
-            (
-              omega arith,
-              (
-                omega arith,
-                (
-                  omega arith,
-                  (omega arith, tt),
-                ),
-              ),
-            ),
-          ),
-        ),
-      ),
-    ) is reads same in
+    word_is before _ (drop from d) word key refl fits refl is reads same in
     let seven : take 7 (drop from d) ≡ take 7 (end_front before) =
     sym (take-take 7 8 (drop from d) (omega arith)) ∙ ap (take 7) first in
     record {
@@ -242,7 +208,7 @@ module _ (depth : ℕ) (d : List ℕ) (from : ℕ) where
 
 module _ {A : Type 0} (keeps : Data → A → Type 0) (a b : List ℕ) (x y : Data) (kept : A × A) where
   pub in_order : (a ≡ b → ⊥) → keeps x kept.0 → keeps y kept.1
-      → KeepsBoth keeps a b (put b y (put a x no_members)) kept
+      → KeepsBoth keeps a b (object (put b y (put a x no_members))) kept
   in_order apart keeps_x keeps_y = record {
     one = x;
     two = y;
@@ -253,7 +219,7 @@ module _ {A : Type 0} (keeps : Data → A → Type 0) (a b : List ℕ) (x y : Da
   }
 
   pub turned : (b ≡ a → ⊥) → keeps x kept.0 → keeps y kept.1
-      → KeepsBoth keeps a b (put a x (put b y no_members)) kept
+      → KeepsBoth keeps a b (object (put a x (put b y no_members))) kept
   turned apart keeps_x keeps_y = record {
     one = x;
     two = y;
@@ -268,20 +234,26 @@ module _ {A : Type 0} (keeps : Data → A → Type 0) (a b : List ℕ) (x y : Da
 abbrev IsKept : Data → ℕ → Type 0
 IsKept d n = as_integer d ≡ Some (pos n)
 
-position_read : (ms : Members) (kept : ℕ × ℕ)
-    → KeepsBoth IsKept (codes "line") (codes "character") ms kept
-    → position_at (object ms) ≡ Some (record { line = kept.0; column = kept.1 })
-position_read ms kept is = rw (is.has_one, is.has_two, is.keeps_one, is.keeps_two) refl
+position_read : (x : Data) (kept : ℕ × ℕ) → KeepsPosition IsKept x kept
+    → position_at x ≡ Some (record { line = kept.0; column = kept.1 })
+position_read x kept is = rw (is.has_one, is.has_two, is.keeps_one, is.keeps_two) refl
 
-pub span_read : (ms : Members) (kept : (ℕ × ℕ) × (ℕ × ℕ))
-    → KeepsBoth (KeepsPosition IsKept) (codes "start") (codes "end") ms kept
-    → span_at (object ms) ≡ Some (record {
+pub span_read : (x : Data) (kept : (ℕ × ℕ) × (ℕ × ℕ)) → KeepsRange IsKept x kept
+    → span_at x ≡ Some (record {
       first = record { line = kept.0.0; column = kept.0.1 };
       second = record { line = kept.1.0; column = kept.1.1 };
     })
-span_read ms kept is =
-    let one = is.keeps_one in
-    let two = is.keeps_two in
-    let first = ap position_at one.1 ∙ position_read one.0 kept.0 one.2 in
-    let second = ap position_at two.1 ∙ position_read two.0 kept.1 two.2 in
+span_read x kept is =
+    let first = position_read is.one kept.0 is.keeps_one in
+    let second = position_read is.two kept.1 is.keeps_two in
     rw (is.has_one, is.has_two, first, second) refl
+
+-- null is no range
+pub given_span : (x : Data) (span : Span) → span_at x ≡ Some span
+    → if_given span_at (unless_null x) ≡ Some (Some span)
+given_span null span is = absurd (cc)
+given_span (boolean b) span is = ap (option_map Some) is
+given_span (number n) span is = ap (option_map Some) is
+given_span (string t) span is = ap (option_map Some) is
+given_span (array ds) span is = ap (option_map Some) is
+given_span (object ms) span is = ap (option_map Some) is

@@ -435,7 +435,8 @@ module _ (depth : ℕ) (d : List ℕ) (from : ℕ) where
       → stop + 1 ≤ then → then ≤ length d → SomeItems depth d from at → SomeItems depth d from then
   tiny_turn at stop then is mark after more within old =
       let found = number_value d at stop is in
-      item_turn at stop stop then found.0 old (found.1 depth) refl mark after (omega arith) more within
+      item_turn at stop stop then found.0 old (found.1 depth) refl mark after (omega arith) more
+      within
 
   unfoldable pub last_item : (at end next : ℕ) (x : Data) → SomeItems depth d from at
       → IsValue depth d at end x → lex between (drop next d) ≡ lex between (drop end d)

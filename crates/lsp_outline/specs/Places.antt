@@ -1,33 +1,28 @@
 -- Positions and ranges, and what is kept of their numbers.
 use Rattle.std.specs.Prelude.{◌≡◌, ℕ, ◌<◌, List, Some, codes}
-use Rattle.serde_json.specs.Data.{Data, Members, object}
-use Rattle.serde_json.specs.Find.{get_member}
+use Rattle.serde_json.specs.Data.{Data, object}
+use Rattle.serde_json.specs.Find.{get}
 use Rattle.lsp_outline.specs.Walk.{IsValue}
 
--- the members have these two names, and of their values this is kept
-pub record KeepsBoth {A : Type 0} (keeps : Data → A → Type 0) (first second : List ℕ)
-    (ms : Members) (kept : A × A) : Type 0 where
+-- an object with two members, of whose values this is kept
+pub record KeepsBoth {A : Type 0} (keeps : Data → A → Type 0) (first second : List ℕ) (x : Data)
+    (kept : A × A) : Type 0 where
   pub one : Data
   pub two : Data
-  pub has_one : get_member first ms ≡ Some one
-  pub has_two : get_member second ms ≡ Some two
+  pub has_one : get first x ≡ Some one
+  pub has_two : get second x ≡ Some two
   pub keeps_one : keeps one kept.0
   pub keeps_two : keeps two kept.1
 
--- a position, of whose line and character this is kept
+-- of a position, its line and its character
 abbrev pub KeepsPosition : {A : Type 0} → (Data → A → Type 0) → Data → A × A → Type 0
-KeepsPosition keeps d kept = (ms : Members) × (d ≡ object ms)
-    × KeepsBoth keeps (codes "line") (codes "character") ms kept
+KeepsPosition keeps = KeepsBoth keeps (codes "line") (codes "character")
 
--- a position stands there, wherever one level more may nest
-abbrev pub IsPosition : {A : Type 0} → (Data → A → Type 0) → List ℕ → ℕ → (A × A) × ℕ → Type 0
-IsPosition keeps d from r = (depth : ℕ) → 0 < depth → (ms : Members)
-    × IsValue depth d from r.1 (object ms)
-    × KeepsBoth keeps (codes "line") (codes "character") ms r.0
+-- of a range, its start and its end
+abbrev pub KeepsRange : {A : Type 0} → (Data → A → Type 0) → Data → (A × A) × (A × A) → Type 0
+KeepsRange keeps = KeepsBoth (KeepsPosition keeps) (codes "start") (codes "end")
 
--- a range stands there, wherever two levels more may nest
-abbrev pub IsRange : {A : Type 0} → (Data → A → Type 0) → List ℕ → ℕ → ((A × A) × (A × A)) × ℕ
-    → Type 0
-IsRange keeps d from r = (depth : ℕ) → 1 < depth → (ms : Members)
-    × IsValue depth d from r.1 (object ms)
-    × KeepsBoth (KeepsPosition keeps) (codes "start") (codes "end") ms r.0
+-- a value of which this is kept, where more than so many levels may nest
+abbrev pub StandsKept : {A : Type 0} → ℕ → (Data → A → Type 0) → List ℕ → ℕ → A × ℕ → Type 0
+StandsKept levels keeps d from r = (depth : ℕ) → levels < depth
+    → (x : Data) × IsValue depth d from r.1 x × keeps x r.0

@@ -123,8 +123,7 @@ impl Gathered for SpanParts {
 fn plain_span_at(text: &str, from: usize) -> Option<(Span, usize)>
     requires { from ≤ length text.now }
     ensures { IfSome result (λ r. (depth : ℕ) → 1 < depth
-        → (ms : Members) × IsValue depth text.now from r.1 (object ms)
-        × (spec.span_at (object ms) ≡ Some r.0)) }
+        → (x : Data) × IsValue depth text.now from r.1 x × (spec.span_at x ≡ Some r.0)) }
 {
     let ((start, stop), end) = range_at(text.as_bytes(), from)?;
     let span = Span {
@@ -151,8 +150,8 @@ fn span_at(
     tries: &mut bool,
 ) -> Option<(Span, usize)>
     requires { from ≤ length text.now }
-    ensures { IfSome result (λ r. (ms : Members) × IsValue depth text.now from r.1 (object ms)
-        × (spec.span_at (object ms) ≡ Some r.0)) }
+    ensures { IfSome result (λ r. (x : Data) × IsValue depth text.now from r.1 x
+        × (spec.span_at x ≡ Some r.0)) }
 {
     if depth < 2 || !*tries {
         return any_span_at(alloc, text, from, depth);
@@ -168,8 +167,8 @@ fn span_at(
 #[inline(never)]
 fn any_span_at(alloc: Global, text: &str, from: usize, depth: usize) -> Option<(Span, usize)>
     requires { from ≤ length text.now }
-    ensures { IfSome result (λ r. (ms : Members) × IsValue depth text.now from r.1 (object ms)
-        × (spec.span_at (object ms) ≡ Some r.0)) }
+    ensures { IfSome result (λ r. (x : Data) × IsValue depth text.now from r.1 x
+        × (spec.span_at x ≡ Some r.0)) }
 {
     let (parts, end): (SpanParts, usize) = object_at(alloc, text, from, depth)?;
     let span = Span {

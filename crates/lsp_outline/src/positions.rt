@@ -5,7 +5,7 @@ ghost use Rattle.std.specs.Int.{w64};
 ghost use Rattle.std.specs.Prelude.{pos, Some};
 ghost use Rattle.serde_json.specs.Data.{Data};
 ghost use Rattle.lsp_rpc.specs.Shape.{as_integer};
-ghost use Rattle.lsp_outline.specs.Places.{IsPosition, IsRange};
+ghost use Rattle.lsp_outline.specs.Places.{KeepsPosition, KeepsRange, StandsKept};
 ghost use Rattle.lsp_outline.specs.Walk.{IsValue, MayEndNumber, Stand, line_key, character_key};
 ghost use Rattle.lsp_outline.specs.Walk.{start_key, end_key};
 
@@ -141,7 +141,7 @@ impl Kept for u32 {
 #[inline(always)]
 fn line_first_at<K: Kept>(bytes: &[u8], from: usize) -> Option<((K, K), usize)>
     requires { from ≤ length bytes.now }
-    ensures { IfSome result (IsPosition K.keeps bytes.now from) }
+    ensures { IfSome result (StandsKept 0 (KeepsPosition K.keeps) bytes.now from) }
 {
     if !names_line(bytes, from, b'{') {
         return None;
@@ -161,7 +161,7 @@ fn line_first_at<K: Kept>(bytes: &[u8], from: usize) -> Option<((K, K), usize)>
 #[inline(always)]
 fn character_first_at<K: Kept>(bytes: &[u8], from: usize) -> Option<((K, K), usize)>
     requires { from ≤ length bytes.now }
-    ensures { IfSome result (IsPosition K.keeps bytes.now from) }
+    ensures { IfSome result (StandsKept 0 (KeepsPosition K.keeps) bytes.now from) }
 {
     if !names_character(bytes, from, b'{') {
         return None;
@@ -181,7 +181,7 @@ fn character_first_at<K: Kept>(bytes: &[u8], from: usize) -> Option<((K, K), usi
 #[inline(always)]
 fn position_at<K: Kept>(bytes: &[u8], from: usize) -> Option<((K, K), usize)>
     requires { from ≤ length bytes.now }
-    ensures { IfSome result (IsPosition K.keeps bytes.now from) }
+    ensures { IfSome result (StandsKept 0 (KeepsPosition K.keeps) bytes.now from) }
 {
     if first_letter(bytes, from) == b'l' {
         line_first_at(bytes, from)
@@ -194,7 +194,7 @@ fn position_at<K: Kept>(bytes: &[u8], from: usize) -> Option<((K, K), usize)>
 #[inline(always)]
 fn start_first_at<K: Kept>(bytes: &[u8], from: usize) -> Option<(((K, K), (K, K)), usize)>
     requires { from ≤ length bytes.now }
-    ensures { IfSome result (IsRange K.keeps bytes.now from) }
+    ensures { IfSome result (StandsKept 1 (KeepsRange K.keeps) bytes.now from) }
 {
     if !names_start(bytes, from, b'{') {
         return None;
@@ -214,7 +214,7 @@ fn start_first_at<K: Kept>(bytes: &[u8], from: usize) -> Option<(((K, K), (K, K)
 #[inline(always)]
 fn end_first_at<K: Kept>(bytes: &[u8], from: usize) -> Option<(((K, K), (K, K)), usize)>
     requires { from ≤ length bytes.now }
-    ensures { IfSome result (IsRange K.keeps bytes.now from) }
+    ensures { IfSome result (StandsKept 1 (KeepsRange K.keeps) bytes.now from) }
 {
     if !names_end(bytes, from, b'{') {
         return None;
@@ -234,7 +234,7 @@ fn end_first_at<K: Kept>(bytes: &[u8], from: usize) -> Option<(((K, K), (K, K)),
 #[inline(always)]
 pub(crate) fn range_at<K: Kept>(bytes: &[u8], from: usize) -> Option<(((K, K), (K, K)), usize)>
     requires { from ≤ length bytes.now }
-    ensures { IfSome result (IsRange K.keeps bytes.now from) }
+    ensures { IfSome result (StandsKept 1 (KeepsRange K.keeps) bytes.now from) }
 {
     if first_letter(bytes, from) == b's' {
         start_first_at(bytes, from)

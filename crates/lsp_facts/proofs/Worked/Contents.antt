@@ -14,7 +14,7 @@ use Rattle.json.specs.Word.{word, after_number}
 use Rattle.serde_json.specs.Read.{number_of}
 use Rattle.lsp_facts.specs.ContentFacts.{content_facts, wrong_in}
 use Rattle.lsp_facts.specs.Grammar.{json_break}
-use Rattle.lsp_facts.specs.Lines.{fact_lines}
+use Rattle.lsp_facts.specs.Fact.{fact_lines}
 
 -- ---- where a text is no longer the front of a JSON text
 

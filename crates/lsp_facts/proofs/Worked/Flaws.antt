@@ -12,7 +12,7 @@ use Rattle.lsp_types.specs.declared.side.Side.TheVariants.{Editor}
 use Rattle.lsp_log.specs.Log.{chunk}
 use Rattle.lsp_log.specs.declared.fault.LogCode.TheVariants.{L2}
 use Rattle.lsp_facts.specs.FlawFacts.{frame_facts, unfinished_facts, log_facts}
-use Rattle.lsp_facts.specs.Lines.{fact_lines}
+use Rattle.lsp_facts.specs.Fact.{fact_lines}
 
 -- the header part alone, whatever follows
 a_misspelt_field : fact_lines (frame_facts (codes "Content-Lenght: 2\r\n\r\n{}Content")) ≡ codes "begins \"Content-Lenght: 2\\r\\n\\r\\n\"\n"

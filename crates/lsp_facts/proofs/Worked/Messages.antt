@@ -15,8 +15,7 @@ use Rattle.serde_json.specs.Read.{number_of}
 use Rattle.lsp_verdict.specs.Event.{Event, message, sent_in}
 use Rattle.lsp_verdict.proofs.Worked.Templates.{I1, IE, IT, A, A1, START, REQ, SH, EX, RES, ERR}
 use Rattle.lsp_verdict.proofs.Worked.Templates.{LOG, PROG, REG, CANCEL}
-use Rattle.lsp_facts.specs.Fact.{begins}
-use Rattle.lsp_facts.specs.Lines.{fact_lines}
+use Rattle.lsp_facts.specs.Fact.{fact_lines}
 use Rattle.lsp_facts.specs.MessageFacts.{front_facts, session_facts}
 
 -- what is said of a message that breaks this rule behind these events
@@ -115,10 +114,10 @@ unfolding utf8_valid_len is_utf8 chars encode digits escape_byte
 a_greeting = refl
 
 -- a character that breaks off is left out
-cut_inside : front_facts (97 ∷ 195 ∷ []) ≡ begins (97 ∷ []) ∷ []
-unfolding utf8_valid_len is_utf8 chars encode
+cut_inside : fact_lines (front_facts (97 ∷ 195 ∷ [])) ≡ codes "begins \"a\"\n"
+unfolding utf8_valid_len is_utf8 chars encode digits escape_byte
 cut_inside = refl
 
-not_a_byte : front_facts (255 ∷ 97 ∷ []) ≡ begins [] ∷ []
-unfolding utf8_valid_len is_utf8 chars encode
+not_a_byte : fact_lines (front_facts (255 ∷ 97 ∷ [])) ≡ codes "begins \"\"\n"
+unfolding utf8_valid_len is_utf8 chars encode digits escape_byte
 not_a_byte = refl

@@ -1,6 +1,6 @@
 use Rattle.std.proofs.Common.{◌≡◌, ◌+◌, ◌-◌, ◌||◌, ℕ, codes, get_or, refl, ap, arith}
 use Rattle.json.specs.Word.{is_operator, is_space}
-use Rattle.serde_json.specs.Data.{no_members, put}
+use Rattle.serde_json.specs.Data.{object, no_members, put}
 use Rattle.lsp_outline.proofs.Outlining.{differ}
 use Rattle.lsp_outline.proofs.Pairs.{line_read, character_read, two_members, in_order}
 use Rattle.lsp_outline.proofs.positions.line_first_at.Goals as goal
@@ -18,7 +18,7 @@ returns g c =
     let x = c.in_ok-line.ensures.read (ap ends key_y.0) in
     let y = c.in_ok-column.ensures.read (ap ends brace) in
     λ depth some. (
-      put (codes "character") y.0 (put (codes "line") x.0 no_members),
+      object (put (codes "character") y.0 (put (codes "line") x.0 no_members)),
       two_members depth d from (from + 8) stop (stop + 13) close (codes "line")
           (codes "character") x.0 y.0 some key_x.0 key_x.1 (x.1 (depth - 1)) key_y.0 key_y.1
           (y.1 (depth - 1)) brace,

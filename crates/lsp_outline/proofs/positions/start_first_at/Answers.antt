@@ -18,11 +18,10 @@ returns g c =
     λ depth some.
     let x = c.in_ok-start.ensures (depth - 1) (omega (arith, some)) in
     let y = c.in_ok-end.ensures (depth - 1) (omega (arith, some)) in (
-      put (codes "end") (object y.0) (put (codes "start") (object x.0) no_members),
-      two_members depth d from (from + 9) stop (stop + 7) c.in_ok-end.close
-          (codes "start") (codes "end") (object x.0) (object y.0) (omega (arith, some)) key_x.0
-          key_x.1 x.1 key_y.0 key_y.1 y.1 (grind arith),
-      in_order (KeepsPosition g.K.Kept.keeps) (codes "start") (codes "end") (object x.0)
-          (object y.0) _ (differ (codes "start") (codes "end") refl) (x.0, refl, x.2)
-          (y.0, refl, y.2),
+      object (put (codes "end") y.0 (put (codes "start") x.0 no_members)),
+      two_members depth d from (from + 9) stop (stop + 7) c.in_ok-end.close (codes "start")
+          (codes "end") x.0 y.0 (omega (arith, some)) key_x.0 key_x.1 x.1 key_y.0 key_y.1 y.1
+          (grind arith),
+      in_order (KeepsPosition g.K.Kept.keeps) (codes "start") (codes "end") x.0 y.0 _
+          (differ (codes "start") (codes "end") refl) x.2 y.2,
     )

@@ -1,6 +1,6 @@
 use Rattle.std.proofs.Common.{◌≡◌, ap, ◌∙◌, sym, is_some, false, true, rules}
 use Rattle.lsp_docs.specs.Calls.{closes}
-use Rattle.lsp_docs.specs.State.{held_in, kept_in, queue_of}
+use Rattle.lsp_docs.specs.State.{held_in, queue_of}
 use Rattle.lsp_docs.proofs.Stepping.{accepts-closed, breaks, close-none, close-some, stated}
 use Rattle.lsp_docs.proofs.Stepping.{terms_in}
 use Rattle.lsp_docs.proofs.docs.Docs.did_close.Goals as goal
@@ -14,7 +14,7 @@ returns-then-not-remove-clause-refuses g c =
     ap (λ x. is_some (held_in uri x.documents)) (sym c.self.view_is)
     ∙ (sym c.remove.ensures.found ∙ out) in
     breaks s (closes uri) _
-    (close-none s.terms (held_in uri s.documents) (kept_in uri s.kept) (queue_of uri s.waits.queues)
+    (close-none s.terms (held_in uri s.documents) (queue_of uri s.kept) (queue_of uri s.waits.queues)
     uri gone)
 
 pub returns-then-not-remove-clause-err : goal.returns-then-not-remove-clause-err
@@ -32,6 +32,6 @@ returns-clause-accepts g c =
     let uri = c.args.uri.now in
     let out : c.remove.result ≡ true = search rules in
     rw (← c.self.view_is) (accepts-closed was uri _ _ _
-    (close-some was.terms (held_in uri was.documents) (kept_in uri was.kept)
+    (close-some was.terms (held_in uri was.documents) (queue_of uri was.kept)
     (queue_of uri was.waits.queues) uri (sym c.remove.ensures.found ∙ out))
     c.remove.ensures.held c.remove.ensures.kept c.release.ensures.left c.release.ensures.missed)

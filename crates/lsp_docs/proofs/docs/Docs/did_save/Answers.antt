@@ -3,7 +3,7 @@ use Rattle.std.specs.Str.{chars}
 use Rattle.lsp_docs.specs.Calls.{saves}
 use Rattle.lsp_docs.specs.Documents.{Version, versioned}
 use Rattle.lsp_text.specs.SameText.{same_text}
-use Rattle.lsp_docs.specs.State.{State, held_in, kept_in, queue_of, rule_at}
+use Rattle.lsp_docs.specs.State.{State, held_in, queue_of, rule_at}
 use Rattle.lsp_docs.proofs.Stepping.{accepts-saved, breaks, save-differs, save-same}
 use Rattle.lsp_docs.proofs.Stepping.{save-no-text, save-closed}
 use Rattle.lsp_docs.proofs.docs.Docs.did_save.Goals as goal
@@ -17,7 +17,7 @@ returns-in_default-clause-accepts g c =
     let uri = c.args.uri.now in
     accepts-saved s uri (said c.args.text)
     (ap (λ t. rule_at s (saves uri t)) (ap said c.in_default.is)
-    ∙ save-no-text s.terms (held_in uri s.documents) (kept_in uri s.kept)
+    ∙ save-no-text s.terms (held_in uri s.documents) (queue_of uri s.kept)
     (queue_of uri s.waits.queues) uri)
 
 pub returns-in_default-get-clause-accepts : goal.returns-in_default-get-clause-accepts
@@ -28,7 +28,7 @@ returns-in_default-get-clause-accepts g c =
     (λ d. versioned d.now.held.version (g.S.TextStore.content d.now.held.store)))
     c.in_default-get.is in
     accepts-saved s uri (said c.args.text)
-    (save-closed s.terms (held_in uri s.documents) (kept_in uri s.kept)
+    (save-closed s.terms (held_in uri s.documents) (queue_of uri s.kept)
     (queue_of uri s.waits.queues) uri (said c.args.text) none)
 
 pub returns-then-has_text-clause-accepts : goal.returns-then-has_text-clause-accepts
@@ -42,7 +42,7 @@ returns-then-has_text-clause-accepts g c =
     c.in-Some-get.is in
     accepts-saved s uri (said c.args.text)
     (ap (λ t. rule_at s (saves uri t)) (ap said c.in-Some.is)
-    ∙ save-same s.terms (held_in uri s.documents) (kept_in uri s.kept) (queue_of uri s.waits.queues)
+    ∙ save-same s.terms (held_in uri s.documents) (queue_of uri s.kept) (queue_of uri s.waits.queues)
     uri v (chars c.in-Some.text.now) there
     (ap (λ (x : State). same_text x.terms.line_ends v.text (chars c.in-Some.text.now))
     (sym c.self.view_is) ∙ (sym c.has_text.ensures ∙ c.if-has_text.true)))
@@ -58,7 +58,7 @@ returns-else-has_text-clause-refuses g c =
     c.in-Some-get.is in
     breaks s (saves uri (said c.args.text)) _
     (ap (λ t. rule_at s (saves uri t)) (ap said c.in-Some.is)
-    ∙ save-differs s.terms (held_in uri s.documents) (kept_in uri s.kept)
+    ∙ save-differs s.terms (held_in uri s.documents) (queue_of uri s.kept)
     (queue_of uri s.waits.queues) uri v (chars c.in-Some.text.now) there
     (ap (λ (x : State). same_text x.terms.line_ends v.text (chars c.in-Some.text.now))
     (sym c.self.view_is) ∙ (sym c.has_text.ensures ∙ c.if-has_text.false)))

@@ -14,7 +14,8 @@ use Rattle.lsp_docs.specs.Documents.{Version, versioned}
 use Rattle.lsp_docs.specs.Fault.{Names}
 use Rattle.lsp_docs.specs.Opened.{kept_of}
 use Rattle.lsp_docs.specs.State.{KeepsOn, early_rule, held_in, rule_with, set_in, text_in}
-use Rattle.lsp_docs.proofs.Entries.{held_in-of, held-set, keeps-on, written-same}
+use Rattle.lsp_docs.proofs.Entries.{held_in-of, held-set, keeps-on}
+use Rattle.lsp_docs.proofs.Queues.{written-same}
 use Rattle.lsp_docs.proofs.Faults.{on_ok_four}
 use Rattle.lsp_docs.proofs.opened.OpenDocuments.change.Given.{Over}
 use Rattle.lsp_docs.proofs.opened.OpenDocuments.change.Goals as goal
