@@ -1,6 +1,6 @@
 -- What is said of calls that break a rule on documents, one of each.
 use Rattle.std.proofs.Common.{◌<◌, ℕ, Bool, false, List, [], ◌∷◌, ◌++◌, Option, Some, None, refl, ap, inl, inr, arith, true≢false}
-use Rattle.std.specs.Prelude.{◌==◌, codes, pos}
+use Rattle.std.specs.Prelude.{◌==◌, if◌then◌else◌, codes, pos}
 use Rattle.std.specs.Fmt.{digits}
 use lib.Utf8.{encode}
 use Rattle.json.specs.Print.{escape_byte}
@@ -14,6 +14,7 @@ use Rattle.lsp_docs.specs.Texts.{Text}
 use Rattle.lsp_docs.specs.Terms.{Terms}
 use Rattle.lsp_docs.specs.Calls.{Call, opens, changes, closes, saves, shows}
 use Rattle.lsp_facts.specs.DocumentFacts.{AreDocumentFacts}
+use Rattle.lsp_facts.specs.Fact.{Fact}
 
 abbrev A : List ℕ
 A = codes "a"
@@ -47,52 +48,59 @@ abbrev is_char : ℕ → Option ℕ → Bool
 is_char c None = false
 is_char c (Some d) = d == c
 
+-- the lines of a text
+abbrev put : ℕ → List Fact → List Fact
+put b [] = (b ∷ []) ∷ []
+put b (line ∷ lines) = (b ∷ line) ∷ lines
+
+abbrev said : List ℕ → List Fact
+said [] = []
+said (b ∷ bs) = if b == 10 then (10 ∷ []) ∷ said bs else put b (said bs)
+
 -- 601: the URI is open
 opened_again : AreDocumentFacts terms Utf16 opened (opens A (pos 4) []) 601 None
-    (codes "uri \"a\"\n" ∷ codes "held 1\n" ∷ codes "sent 4\n" ∷ [])
+    (said (codes "uri \"a\"\nheld 1\nsent 4\n"))
 unfolding digits escape_byte encode
 opened_again = record { details = []; says = inl (refl, refl); are = refl }
 
 -- 602: it is not
 not_open : AreDocumentFacts terms Utf16 [] (changes Utf16 Full A (pos 2) (edit None [] ∷ [])) 602 None
-    (codes "uri \"a\"\n" ∷ codes "sent 2\n" ∷ codes "changes 1\n" ∷ [])
+    (said (codes "uri \"a\"\nsent 2\nchanges 1\n"))
 unfolding digits escape_byte encode
 not_open = record { details = []; says = (refl, refl); are = refl }
 
 closed_twice : AreDocumentFacts terms Utf16 [] (closes A) 602 None
-    (codes "uri \"a\"\n" ∷ [])
+    (said (codes "uri \"a\"\n"))
 unfolding digits escape_byte encode
 closed_twice = record { details = []; says = (refl, refl); are = refl }
 
 -- 603: the version stays
 same_version : AreDocumentFacts terms Utf16 opened (changes Utf16 Full A (pos 1) (edit None [] ∷ [])) 603 None
-    (codes "uri \"a\"\n" ∷ codes "held 1\n" ∷ codes "sent 1\n" ∷ codes "changes 1\n" ∷ [])
+    (said (codes "uri \"a\"\nheld 1\nsent 1\nchanges 1\n"))
 unfolding digits escape_byte encode
 same_version = record { details = []; says = inl (refl, refl); are = refl }
 
 -- 604: under Full the second change has a span; its line is one of the text that the first makes
 span_under_full :
     AreDocumentFacts terms Utf16 opened (changes Utf16 Full A (pos 2) (edit None (codes "xyz") ∷ edit (between (at 0 1) (at 0 2)) [] ∷ [])) 604 None
-    (codes "uri \"a\"\n" ∷ codes "held 1\n" ∷ codes "sent 2\n" ∷ codes "changes 2\n"
-    ∷ codes "sync full\n" ∷ codes "encoding utf-16\n" ∷ codes "change 2 0 1 0 2\n"
-    ∷ codes "length 3\n" ∷ [])
+    (said (codes "uri \"a\"\nheld 1\nsent 2\nchanges 2\nsync full\nencoding utf-16\n"
+    ++ codes "change 2 0 1 0 2\nlength 3\n"))
 unfolding digits escape_byte encode
 span_under_full = record { details = _; says = inr (inl (refl, refl)); are = refl }
 
 -- where nothing is to be sent, a notification without changes breaks it too
 none_under_none :
     AreDocumentFacts terms Utf16 opened (changes Utf16 Nothing A (pos 2) []) 604 None
-    (codes "uri \"a\"\n" ∷ codes "held 1\n" ∷ codes "sent 2\n" ∷ codes "changes 0\n"
-    ∷ codes "sync none\n" ∷ [])
+    (said (codes "uri \"a\"\nheld 1\nsent 2\nchanges 0\nsync none\n"))
 unfolding digits escape_byte encode
 none_under_none = record { details = _; says = inr (inl (refl, refl)); are = refl }
 
 -- 605: the second position lies inside the smile; the line has four units of UTF-16
 inside_a_smile :
     AreDocumentFacts terms Utf16 opened (changes Utf16 Incremental A (pos 2) (edit (between (at 0 0) (at 0 1)) [] ∷ edit (between (at 0 9) (at 1 2)) (codes "z") ∷ [])) 605 None
-    (codes "uri \"a\"\n" ∷ codes "held 1\n" ∷ codes "sent 2\n" ∷ codes "changes 2\n"
-    ∷ codes "encoding utf-16\n" ∷ codes "change 2 0 9 1 2\n" ∷ codes "length 4\n"
-    ∷ (codes "inside \"" ++ 240 ∷ 159 ∷ 152 ∷ 128 ∷ codes "\"\n") ∷ codes "fits utf-32\n" ∷ [])
+    (said (codes "uri \"a\"\nheld 1\nsent 2\nchanges 2\nencoding utf-16\nchange 2 0 9 1 2\n"
+    ++ codes "length 4\ninside \""
+    ++ 240 ∷ 159 ∷ 152 ∷ 128 ∷ codes "\"\nfits utf-32\n"))
 unfolding digits escape_byte encode
 inside_a_smile =
     record {
@@ -125,8 +133,8 @@ inside_a_smile =
 -- 606: the second position stands before the first
 reversed :
     AreDocumentFacts terms Utf8 opened (changes Utf8 Incremental A (pos 2) (edit (between (at 1 6) (at 0 1)) [] ∷ [])) 606 None
-    (codes "uri \"a\"\n" ∷ codes "held 1\n" ∷ codes "sent 2\n" ∷ codes "changes 1\n"
-    ∷ codes "encoding utf-8\n" ∷ codes "change 1 1 6 0 1\n" ∷ codes "length 6\n" ∷ [])
+    (said (codes "uri \"a\"\nheld 1\nsent 2\nchanges 1\nencoding utf-8\nchange 1 1 6 0 1\n"
+    ++ codes "length 6\n"))
 unfolding digits escape_byte encode
 reversed =
     record {
@@ -146,15 +154,14 @@ reversed =
 -- 607: a text of 21 bytes, of an opening and of a change
 
 too_long_to_open : AreDocumentFacts terms Utf16 [] (opens A (pos 1) (codes "0123456789abcdefghijk")) 607 None
-    (codes "uri \"a\"\n" ∷ codes "sent 1\n" ∷ codes "bytes 21\n" ∷ codes "limit 20\n" ∷ [])
+    (said (codes "uri \"a\"\nsent 1\nbytes 21\nlimit 20\n"))
 unfolding digits escape_byte encode
 too_long_to_open = record { details = _; says = inr (inl (refl, refl)); are = refl }
 
 too_long_to_change :
     AreDocumentFacts terms Utf16 opened (changes Utf16 Incremental A (pos 2) (edit (between (at 1 0) (at 9 0)) (codes "0123456789abcdefgh") ∷ [])) 607 None
-    (codes "uri \"a\"\n" ∷ codes "held 1\n" ∷ codes "sent 2\n" ∷ codes "changes 1\n"
-    ∷ codes "encoding utf-16\n" ∷ codes "change 1 1 0 9 0\n" ∷ codes "length 4\n"
-    ∷ codes "bytes 21\n" ∷ codes "limit 20\n" ∷ [])
+    (said (codes "uri \"a\"\nheld 1\nsent 2\nchanges 1\nencoding utf-16\nchange 1 1 0 9 0\n"
+    ++ codes "length 4\nbytes 21\nlimit 20\n"))
 unfolding digits escape_byte encode
 too_long_to_change =
     record {
@@ -185,9 +192,8 @@ too_long_to_change =
 -- 608: the saved text lacks a character of the second line
 saved_other :
     AreDocumentFacts terms Utf16 opened (saves A (Some (codes "ab\nxy\n"))) 608 None
-    (codes "uri \"a\"\n" ∷ codes "held 1\n" ∷ codes "encoding utf-16\n" ∷ codes "at 1 1\n"
-    ∷ (codes "by-messages \"x" ++ 240 ∷ 159 ∷ 152 ∷ 128 ∷ codes "y\\n\"\n")
-    ∷ codes "saved \"xy\\n\"\n" ∷ [])
+    (said (codes "uri \"a\"\nheld 1\nencoding utf-16\nat 1 1\nby-messages \"x"
+    ++ 240 ∷ 159 ∷ 152 ∷ 128 ∷ codes "y\\n\"\nsaved \"xy\\n\"\n"))
 unfolding digits escape_byte encode
 saved_other =
     record {
@@ -206,9 +212,8 @@ saved_other =
 -- a saved text differs in its line ends alone
 saved_ends : AreDocumentFacts terms Utf16 opened
     (saves A (Some (codes "ab\r\nx" ++ 128512 ∷ codes "y"))) 608 None
-    (codes "uri \"a\"\n" ∷ codes "held 1\n" ∷ codes "encoding utf-16\n" ∷ codes "at 0 2\n"
-    ∷ codes "by-messages \"ab\\n\"\n" ∷ codes "saved \"ab\\r\\n\"\n"
-    ∷ codes "line-ends option --ignore-line-ends\n" ∷ [])
+    (said (codes "uri \"a\"\nheld 1\nencoding utf-16\nat 0 2\nby-messages \"ab\\n\"\n"
+    ++ codes "saved \"ab\\r\\n\"\nline-ends option --ignore-line-ends\n"))
 unfolding digits escape_byte encode
 saved_ends =
     record {
@@ -227,9 +232,8 @@ saved_ends =
 -- where line ends do not count, the texts first differ in the second line
 saved_line_differs : AreDocumentFacts by_lines Utf16 opened
     (saves A (Some (codes "ab\r\nxy\r\n"))) 608 None
-    (codes "uri \"a\"\n" ∷ codes "held 1\n" ∷ codes "encoding utf-16\n" ∷ codes "at 1 1\n"
-    ∷ (codes "by-messages \"x" ++ 240 ∷ 159 ∷ 152 ∷ 128 ∷ codes "y\"\n")
-    ∷ codes "saved \"xy\"\n" ∷ [])
+    (said (codes "uri \"a\"\nheld 1\nencoding utf-16\nat 1 1\nby-messages \"x"
+    ++ 240 ∷ 159 ∷ 152 ∷ 128 ∷ codes "y\"\nsaved \"xy\"\n"))
 unfolding digits escape_byte encode
 saved_line_differs =
     record {
@@ -252,15 +256,15 @@ edited =
 
 -- 701: two versions are kept besides the held one
 late : AreDocumentFacts terms Utf16 edited (shows A (pos 2) []) 701 None
-    (codes "uri \"a\"\n" ∷ codes "held 6\n" ∷ codes "version 2\n" ∷ codes "kept 3 5\n" ∷ [])
+    (said (codes "uri \"a\"\nheld 6\nversion 2\nkept 3 5\n"))
 unfolding digits escape_byte encode
 late = record { details = _; says = inl (refl, refl); are = refl }
 
 -- 702: the text of a kept version is another
 kept_differs :
     AreDocumentFacts terms Utf16 edited (shows A (pos 5) (codes "p")) 702 None
-    (codes "uri \"a\"\n" ∷ codes "held 6\n" ∷ codes "version 5\n" ∷ codes "encoding utf-16\n"
-    ∷ codes "at 0 0\n" ∷ codes "by-messages \"q\"\n" ∷ codes "in-editor \"p\"\n" ∷ [])
+    (said (codes "uri \"a\"\nheld 6\nversion 5\nencoding utf-16\nat 0 0\nby-messages \"q\"\n"
+    ++ codes "in-editor \"p\"\n"))
 unfolding digits escape_byte encode
 kept_differs =
     record {
@@ -283,8 +287,8 @@ kept_differs =
 -- a snapshot that waits refutes the text of an opening
 refuted :
     AreDocumentFacts terms Utf16 (shows A (pos 4) (codes "new") ∷ []) (opens A (pos 4) (codes "now")) 702 None
-    (codes "uri \"a\"\n" ∷ codes "sent 4\n" ∷ codes "encoding utf-16\n" ∷ codes "at 0 1\n"
-    ∷ codes "by-messages \"now\"\n" ∷ codes "in-editor \"new\"\n" ∷ [])
+    (said (codes "uri \"a\"\nsent 4\nencoding utf-16\nat 0 1\nby-messages \"now\"\n"
+    ++ codes "in-editor \"new\"\n"))
 unfolding digits escape_byte encode
 refuted =
     record {
