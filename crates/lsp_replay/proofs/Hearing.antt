@@ -90,12 +90,6 @@ pub call_said : (old : docs.State) (said : Option Call) (f : DocFault) → Refus
 call_said old None f refuses = absurd refuses
 call_said old (Some call) f refuses = (call, refl)
 
--- the terms stay
-pub same_terms : (old new : docs.State) (said : Option Call) → TakesCall old new said
-    → new.terms ≡ old.terms
-same_terms old new None same = ap (λ (d : docs.State). d.terms) same
-same_terms old new (Some call) accepts = accepts.terms
-
 -- a message, and what is left of it
 module _ (side : Side) (bytes : List ℕ) (terms : Terms) (events : List Event) (m : Sent) (is : IsSent side bytes m) (said : Message) (says : outline m.message ≡ outline said) where
   -- the session doesn't admit it
