@@ -1,5 +1,5 @@
 -- As many names as fit.
-use Rattle.std.proofs.Common.{◌≡◌, ℕ, ◌-◌, [], ◌∷◌, ◌++◌, List, length, take, sym, ap, ◌∙◌, append_assoc, string_bytes}
+use Rattle.std.proofs.Common.{◌≡◌, ℕ, ◌-◌, [], ◌∷◌, ◌++◌, List, length, take, sym, ap, ◌∙◌, string_bytes}
 use Rattle.std.specs.Prelude.{String, codes}
 use Rattle.std.specs.Global.{Global}
 use Rattle.std.specs.List.{flat_map}
@@ -24,12 +24,7 @@ pub offer_is : (names : List (String Global)) (n : ℕ) (words : List ℕ)
     ++ more_words (length names - n)
     → words ++ 10 ∷ [] ≡ offer_fact (texts_view names)
 offer_is names n words count is =
-    let shown = flat_map (λ name. spaced (quoted name)) (texts_view (take n names)) in
-    let all : words ++ 10 ∷ [] ≡ offers (texts_view (take n names)) (length names - n) =
     ap (λ (w : List ℕ). w ++ 10 ∷ []) is
-    ∙ ap (λ (w : List ℕ). codes "offered" ++ w)
-    (append_assoc shown (more_words (length names - n)) (10 ∷ [])) in
-    all
     ∙ ap (λ (l : List Text). offers l (length names - n)) (sym (take-map bytes_of n names))
     ∙ ap (λ (k : ℕ). offers (take n (texts_view names)) (k - n)) (sym (length-map names bytes_of))
     ∙ ap (λ (k : ℕ). offers (take k (texts_view names)) (length (texts_view names) - k)) count
