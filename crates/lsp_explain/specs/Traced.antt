@@ -1,7 +1,7 @@
 -- Which event brought what: what is added to the facts on an offence, read off all events before
 -- it.
 use Rattle.std.specs.Prelude.{◌≡◌, ℕ, codes, List, [], ◌∷◌, ◌++◌, map, nat_lt}
-use Rattle.std.specs.Prelude.{◌==◌, if◌then◌else◌, Option, Some, None, option_map}
+use Rattle.std.specs.Prelude.{◌==◌, if◌then◌else◌, Bool, Option, Some, None, option_map}
 use Rattle.std.specs.Prelude.{option_and_then, option_to_list, unwrap_or}
 use Rattle.lsp_docs.specs.Calls.{Call, opens, changes, closes, saves, shows, uri_of}
 use Rattle.lsp_docs.specs.Terms.{Terms}
@@ -127,11 +127,15 @@ id_trace rule said side id =
     then place_facts (codes "asked") (asked side id said) ++ place_facts (codes "answered") (answered side id said)
     else [])
 
+-- 401 to 412
+abbrev pub is_on_phase : ℕ → Bool
+is_on_phase rule =
+    is_within rules.EDITOR_BEFORE_INITIALIZE rules.SERVER_WHILE_INITIALIZE_OPEN rule
+
 -- 401 to 412: the event that led to the phase; 301 and 302: those that have to do with the id
 abbrev pub session_trace : ℕ → List Numbered → Side → Option Ident → List Fact
 session_trace rule said side id =
-    if is_within rules.EDITOR_BEFORE_INITIALIZE rules.SERVER_WHILE_INITIALIZE_OPEN rule
-    then place_facts (codes "since") (since said)
+    if is_on_phase rule then place_facts (codes "since") (since said)
     else unwrap_or (option_map (id_trace rule said side) id) []
 
 -- **the events that brought one that offends by this rule after these**

@@ -13,7 +13,7 @@ ghost use Rattle.lsp_explain.specs.Remarks.{noticed, old_name_remarks, remark_li
 ghost use Rattle.lsp_explain.specs.Remarks.{uncompared, unshown_line};
 ghost use Rattle.lsp_explain.specs.Standing.{StandsAfter, terms_in};
 
-use crate::trace::push_event;
+use crate::trace::push_earlier;
 use lsp_facts::{Facts, encoding_name, push_facts};
 use lsp_replay::EventPlace;
 use lsp_rpc::{Encoding, Memory};
@@ -78,7 +78,7 @@ fn remarks(
 {
     let mut remarks = Facts::new(alloc);
     push_misuses(&mut remarks, misuses)?;
-    push_event(&mut remarks, "note exit-without-shutdown", exit)?;
+    push_earlier(&mut remarks, "note exit-without-shutdown", exit)?;
     push_name(&mut remarks, name)?;
     push_renamed(&mut remarks, renamed)?;
     push_uncompared(&mut remarks, verdict, unshown)?;

@@ -287,15 +287,23 @@ fn trace_message(
         → facts.new ≡ facts.old ++ spec.session_trace rule (numbered terms before) side
         (id_in (message_view message.now))) }
 {
-    match rule {
-        rules::EDITOR_BEFORE_INITIALIZE..=rules::SERVER_WHILE_INITIALIZE_OPEN => {
-            push_event(facts, "since", said.since())
-        }
-        _ => match id_in(message) {
-            Some(id) => trace_id(alloc, facts, said, side, id, rule),
-            None => Ok(()),
-        },
+    if is_on_phase(rule) {
+        return push_earlier(facts, "since", said.since());
     }
+    match id_in(message) {
+        Some(id) => trace_id(alloc, facts, said, side, id, rule),
+        None => Ok(()),
+    }
+}
+
+/// Whether a rule, 401 to 412, says what may be sent in a phase.
+fn is_on_phase(rule: u16) -> bool
+    ensures { result ≡ spec.is_on_phase rule }
+{
+    matches!(
+        rule,
+        rules::EDITOR_BEFORE_INITIALIZE..=rules::SERVER_WHILE_INITIALIZE_OPEN
+    )
 }
 
 /// Adds to the facts on a message of a side with this id, under 301 the open request whose id
@@ -316,11 +324,11 @@ fn trace_id(
     match rule {
         rules::RESPONSE_TO_NO_OPEN_REQUEST => {
             push_twin(alloc, facts, said, other_side(side), id)?;
-            push_event(facts, "answered", said.answered(other_side(side), id))
+            push_earlier(facts, "answered", said.answered(other_side(side), id))
         }
         rules::ID_ALREADY_OPEN => {
-            push_event(facts, "asked", said.asked(side, id))?;
-            push_event(facts, "answered", said.answered(side, id))
+            push_earlier(facts, "asked", said.asked(side, id))?;
+            push_earlier(facts, "answered", said.answered(side, id))
         }
         _ => Ok(()),
     }
@@ -348,7 +356,7 @@ fn push_twin(
 }
 
 /// Adds an earlier event under this key, where there is one.
-pub(crate) fn push_event(
+pub(crate) fn push_earlier(
     facts: &mut Facts,
     key: &str,
     place: Option<EventPlace>,
@@ -384,7 +392,7 @@ pub(crate) fn lack_traced(alloc: Global, events: &SurveyReader) -> Result<Facts,
     let said = events.session_notes();
     let mut facts = requests(alloc, session.pending(Side::Editor), said)?;
     facts.phase(session.phase())?;
-    push_event(&mut facts, "since", said.since())?;
+    push_earlier(&mut facts, "since", said.since())?;
     Ok(facts)
 }
 
