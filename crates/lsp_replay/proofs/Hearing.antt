@@ -81,15 +81,14 @@ module _ (old : docs.State) (made : List Call) (h : docs.Stands old made) where
 
   pub call_named : (said : Option Call) (f : DocFault) → RefusesCall old said f
       → docs_fault.Names (option_and_then (call_rule old.terms made) said) f
-  call_named said f refuses =
-      subst (λ o. docs_fault.Names (option_and_then (call_rule old.terms made) o) f)
-      (sym refuses.1) (refuses.2 made h)
+  call_named None f refuses = absurd refuses
+  call_named (Some call) f refuses = refuses made h
 
--- the terms stay
-pub same_terms : (old new : docs.State) (said : Option Call) → TakesCall old new said
-    → new.terms ≡ old.terms
-same_terms old new None same = ap (λ (d : docs.State). d.terms) same
-same_terms old new (Some call) accepts = accepts.terms
+-- only an act that says something of a document is refused
+pub call_said : (old : docs.State) (said : Option Call) (f : DocFault) → RefusesCall old said f
+    → (call : Call) × (said ≡ Some call)
+call_said old None f refuses = absurd refuses
+call_said old (Some call) f refuses = (call, refl)
 
 -- a message, and what is left of it
 module _ (side : Side) (bytes : List ℕ) (terms : Terms) (events : List Event) (m : Sent) (is : IsSent side bytes m) (said : Message) (says : outline m.message ≡ outline said) where

@@ -55,7 +55,8 @@ TakesCall old new (Some call) = docs.Accepts old new call
 
 -- the act says something about a document, which is refused
 abbrev pub RefusesCall : docs.State → Option Call → DocFault → Type 0
-RefusesCall old said why = (call : Call) × (said ≡ Some call) × docs.Refuses old call why
+RefusesCall old None why = ⊥
+RefusesCall old (Some call) why = docs.Refuses old call why
 
 -- ---- a content
 

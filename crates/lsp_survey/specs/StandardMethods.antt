@@ -5,5 +5,5 @@ use Rattle.lsp_survey.specs.declared.notes.standard_methods.MethodUse.{MethodUse
 use Rattle.lsp_survey.specs.declared.notes.standard_methods.TheConstants.{METHODS}
 
 -- **what has this method**
-abbrev pub use_of : List ℕ → Option MethodUse
+unfoldable pub use_of : List ℕ → Option MethodUse
 use_of name = option_map (λ row. row.1) (find (λ row. bytes_eq row.0.now name) METHODS)

@@ -112,6 +112,7 @@ pub(crate) const METHODS: [(&str, MethodUse); 90] = [
 ];
 
 /// What has this method; nothing where LSP 3.17 does not have it.
+#[tactic(auto, unfolding(crate::specs::StandardMethods::use_of))]
 pub(crate) fn use_of(name: &str) -> Option<MethodUse>
     ensures { result ≡ spec.use_of name.now }
 {

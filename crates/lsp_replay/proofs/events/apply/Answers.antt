@@ -1,4 +1,4 @@
-use Rattle.std.proofs.Common.{refl, rules, w32}
+use Rattle.std.proofs.Common.{rules, w32}
 use Rattle.std.proofs.lemmas.Int.{to_z-of_z}
 use Rattle.std.proofs.lemmas.Result.{err_from_is_err_and}
 use mir.Val.{SFits}
@@ -17,21 +17,4 @@ returns-in_err-did_change-in-DidChange-clause-refuses g c =
     let p = err_from_is_err_and from.result from.ensures.1 in
     let fits : SFits w32 c.in-DidChange.version = search rules in
     let refuses = simp to_z-of_z at c.in_err-did_change-in-DidChange.ensures.refuses in
-    rw (p.1, p.2, c.in-DidChange.is, ← c.as_str-in-DidChange.ensures.value, ← c.as_slice.ensures.value, ← edits_seen c.as_slice.result.now) (_, refl, refuses)
-
-pub returns-in_err-did_open-in-DidOpen-clause-refuses : goal.returns-in_err-did_open-in-DidOpen-clause-refuses
-returns-in_err-did_open-in-DidOpen-clause-refuses g c =
-    let p = err_from_is_err_and c.from_residual.result c.from_residual.ensures.1 in
-    let fits : SFits w32 c.in-DidOpen.version = search rules in
-    let refuses = simp to_z-of_z at c.in_err-did_open-in-DidOpen.ensures.refuses in
-    rw (p.1, p.2, c.in-DidOpen.is) (_, refl, refuses)
-
-pub returns-in_err-did_close-in-DidClose-clause-refuses : goal.returns-in_err-did_close-in-DidClose-clause-refuses
-returns-in_err-did_close-in-DidClose-clause-refuses g c =
-    let p = err_from_is_err_and c.from_residual-in_err-did_close-in-DidClose.result c.from_residual-in_err-did_close-in-DidClose.ensures.1 in
-    rw (p.1, p.2, c.in-DidClose.is) (_, refl, c.in_err-did_close-in-DidClose.ensures.refuses)
-
-pub returns-in_err-did_save-in-DidSave-clause-refuses : goal.returns-in_err-did_save-in-DidSave-clause-refuses
-returns-in_err-did_save-in-DidSave-clause-refuses g c =
-    let p = err_from_is_err_and c.from_residual-in_err-did_save-in-DidSave.result c.from_residual-in_err-did_save-in-DidSave.ensures.1 in
-    rw (p.1, p.2, c.in-DidSave.is) (_, refl, c.in_err-did_save-in-DidSave.ensures.refuses)
+    rw (p.1, p.2, c.in-DidChange.is, ← c.as_str-in-DidChange.ensures.value, ← c.as_slice.ensures.value, ← edits_seen c.as_slice.result.now) refuses

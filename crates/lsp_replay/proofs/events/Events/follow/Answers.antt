@@ -11,7 +11,7 @@ use Rattle.lsp_verdict.specs.Calls.{calls}
 use Rattle.lsp_verdict.specs.Event.{sent_in}
 use Rattle.lsp_verdict.proofs.Offences.Quiet.{leaves_session}
 use Rattle.lsp_replay.proofs.Apart.{same_act, same_outline, whole_left, carried, rule_named}
-use Rattle.lsp_replay.proofs.Hearing.{message_refused, call_refused, heard, call_named, call_taken}
+use Rattle.lsp_replay.proofs.Hearing.{message_refused, call_refused, heard, call_named, call_said, call_taken}
 use Rattle.lsp_replay.proofs.events.Events.follow.Goals as goal
 
 pub returns-in_err-admit-clause-rule : goal.returns-in_err-admit-clause-rule
@@ -55,12 +55,12 @@ returns-in_err-apply-clause-err g c =
     let p = err_from_is_err_and c.from_residual-in_err-apply.result c.from_residual-in_err-apply.ensures.1 in
     let left = message_view c.args.spoken.now.message in
     let act = act_view c.args.spoken.now.act in
-    let refuses = c.in_err-apply.ensures.refuses in
+    let said = call_said c.args.self.now.docs _ _ c.in_err-apply.ensures.refuses in
     rw p.1 (λ content events h holds.
     let means = same_act c.args.side h.said h.whole h.apart.same ∙ h.means in
     let carries = carried h.said h.whole left h.rest c.args.self.now.session (sent_in events) c.args.side act h.apart holds.sent in
     record {
-      sent = c.in_ok-admit.ensures.admitted (sent_in events) holds.sent ∙ carries.1 ∙ leaves_session (sent_in events) c.args.side h.whole act _ _ refuses.0 means refuses.1;
+      sent = c.in_ok-admit.ensures.admitted (sent_in events) holds.sent ∙ carries.1 ∙ leaves_session (sent_in events) c.args.side h.whole act _ _ said.0 means said.1;
       called = subst (λ (d : docs.State). docs.Stands d (calls events)) (sym c.in_err-apply.ensures.err) holds.called;
     })
 
