@@ -17,7 +17,7 @@ use Rattle.std.specs.BTreeMap.{insert_entry}
 use Rattle.lsp_docs.specs.Texts.{Text}
 use Rattle.lsp_docs.specs.Documents.{Version, versioned, is_after, is_at, is_before}
 use Rattle.lsp_docs.specs.Snapshots.{texts_at}
-use Rattle.lsp_docs.specs.State.{SameOrder, SameVersions, capped}
+use Rattle.lsp_docs.specs.State.{SameOrder, capped}
 use Rattle.lsp_docs.specs.Stored.{versions_in, is_first_within, rest_of, first_before}
 use Rattle.std.specs.Prelude.{unwrap_or}
 use Rattle.std.proofs.lemmas.Bool.Decides.{Decides-int_eq}
@@ -303,69 +303,6 @@ map-behind : (k : ℤ) (ts : List Text) (x : Text)
     → map (versioned k) (ts ++ x ∷ []) ≡ map (versioned k) ts ++ versioned k x ∷ []
 map-behind k ts x = map-append (versioned k) ts (x ∷ [])
 
-module _ (n : ℤ) (x : Text) (p : Version → Bool) where
-  abbrev many : List Version → ℕ
-  many vs = length (filter p vs)
-
-  abbrev one : List Version
-  one = versioned n x ∷ []
-
-  sums : (a b c : List Version) → many ((a ++ b) ++ c) ≡ many a + many b + many c
-  sums a b c = count-append p (a ++ b) c ∙ ap (λ k. k + many c) (count-append p a b)
-
-  count-there : (es : Entries) (ts w : List Text) → lookup (int_eq n) es ≡ Some ts
-      → w ≡ ts ++ x ∷ [] → many (versions_in es ++ one)
-      ≡ many (versions_in (set_value (int_eq n) es w))
-  count-there [] ts w h e = absurd (none-some ts h)
-  count-there (y ∷ es) ts w h e =
-      elim (cases_Bool (int_eq n y.0)) [
-        | inl k ↦
-            let same : n ≡ y.0 = int_is n y.0 k in
-            let own : y.1 ≡ ts = head_is (int_eq n y.0) y.1 (lookup (int_eq n) es) ts h k in
-            let now : map (versioned y.0) w ≡ map (versioned y.0) y.1 ++ one =
-            ap (map (versioned y.0)) (e ∙ ap (λ l. l ++ x ∷ []) (sym own))
-            ∙ (map-behind y.0 y.1 x ∙ ap (λ z. map (versioned y.0) y.1 ++ versioned z x ∷ [])
-            (sym same)) in
-            let left = sums (map (versioned y.0) y.1) (versions_in es) one in
-            let right = ap (λ l. many (l ++ versions_in es)) now
-            ∙ sums (map (versioned y.0) y.1) one (versions_in es) in
-            rw k (omega (arith, left, right))
-        | inr k ↦
-            let rest = count-there es ts w (rest_of_entry (int_eq n y.0) y.1 (lookup (int_eq n) es)
-            (Some ts) h k) e in
-            let left = sums (map (versioned y.0) y.1) (versions_in es) one in
-            let short = count-append p (versions_in es) one in
-            let right = count-append p (map (versioned y.0) y.1)
-            (versions_in (set_value (int_eq n) es w)) in
-            rw k (omega (arith, left, right, rest, short))
-      ]
-
-  abbrev with_one : List Version → List Version → Type 0
-  with_one vs ws = many (vs ++ one) ≡ many ws
-
-  put_at : (y : ℤ × List Text) (es rest : Entries) (o : Ordering) → int_cmp n y.0 ≡ o
-      → int_eq n y.0 ≡ false → with_one (versions_in es) (versions_in rest)
-      → with_one (versions_in (y ∷ es))
-      (versions_in (match_ordering o ((n, x ∷ []) ∷ y ∷ es) ((y.0, x ∷ []) ∷ es) (y ∷ rest)))
-  put_at y es rest Less e other h =
-      let left = count-append p (versions_in (y ∷ es)) one in
-      let right = count-append p one (versions_in (y ∷ es)) in
-      omega (arith, left, right)
-  put_at y es rest Equal e other h = absurd (true≢false (sym (ap is_eq e) ∙ other))
-  put_at y es rest Greater e other h =
-      let left = sums (map (versioned y.0) y.1) (versions_in es) one in
-      let short = count-append p (versions_in es) one in
-      let right = count-append p (map (versioned y.0) y.1) (versions_in rest) in
-      omega (arith, left, right, h, short)
-
-  count-new : (es : Entries) → lookup (int_eq n) es ≡ None
-      → many (versions_in es ++ one) ≡ many (versions_in (insert_entry int_cmp es n (x ∷ [])))
-  count-new [] h = refl
-  count-new (y ∷ es) h =
-      let other = not_head (int_eq n y.0) y.1 (lookup (int_eq n) es) h in
-      put_at y es (insert_entry int_cmp es n (x ∷ [])) (int_cmp n y.0) refl other
-      (count-new es (rest_of_entry (int_eq n y.0) y.1 (lookup (int_eq n) es) None h other))
-
 swapped : (a b : List Version) → (a ≡ []) ⊎ (b ≡ []) → a ++ b ≡ b ++ a
 swapped a b (inl e) = ap (λ l. l ++ b) e ∙ (sym (append-nil b) ∙ sym (ap (λ l. b ++ l) e))
 swapped a b (inr e) = ap (λ l. a ++ l) e ∙ (append-nil a ∙ sym (ap (λ l. l ++ a) e))
@@ -455,18 +392,6 @@ pub ordered-new : (n : ℤ) (x : Text) (es : Entries) (w : List Text)
 ordered-new n x es w s h e =
     λ m. order-new n x m es s h
     ∙ ap (λ v. filter (is_at m) (versions_in (insert_entry int_cmp es n v))) (sym e)
-
-pub added-there : (n : ℤ) (x : Text) (es : Entries) (ts w : List Text)
-    → lookup (int_eq n) es ≡ Some ts → w ≡ ts ++ x ∷ []
-    → SameVersions (versions_in es ++ versioned n x ∷ []) (versions_in (set_value (int_eq n) es w))
-added-there n x es ts w h e = λ p. count-there n x p es ts w h e
-
-pub added-new : (n : ℤ) (x : Text) (es : Entries) (w : List Text) → lookup (int_eq n) es ≡ None
-    → w ≡ x ∷ [] → SameVersions (versions_in es ++ versioned n x ∷ [])
-    (versions_in (insert_entry int_cmp es n w))
-added-new n x es w h e =
-    λ p. count-new n x p es h
-    ∙ ap (λ v. length (filter p (versions_in (insert_entry int_cmp es n v)))) (sym e)
 
 pub same-written : (n : ℤ) (es : Entries) (ts w : List Text) → lookup (int_eq n) es ≡ Some ts
     → w ≡ ts → versions_in (set_value (int_eq n) es w) ≡ versions_in es

@@ -14,8 +14,9 @@ use Rattle.lsp_types.specs.Texts.{is_text}
 use Rattle.lsp_docs.specs.Calls.{Bytes}
 use Rattle.lsp_docs.specs.Documents.{Version}
 use Rattle.lsp_docs.specs.Kept.{last_of}
-use Rattle.lsp_docs.specs.State.{held_in, kept_in, set_in, without, KeepsSame, KeepsOn, KeepsNone}
-use Rattle.lsp_docs.specs.Opened.{held_of, kept_of, or_nothing}
+use Rattle.lsp_docs.specs.State.{held_in, queue_of, set_in, without, KeepsSame, KeepsOn, KeepsNone}
+use Rattle.lsp_docs.specs.Opened.{held_of, kept_of}
+use Rattle.lsp_docs.proofs.Queues.{queue_of-there, written-others, written-there}
 use Rattle.lsp_docs.proofs.Words.{uri_is, uri_flip}
 
 pub copied-map : {D R : Type 0} (f : D → R) (r : Option (Bor D))
@@ -39,19 +40,6 @@ module _ {D : Type 0} where
   absent-removed uri (e ∷ es) h = elim (cases_Bool (is_text uri e.0)) [
     | inl p ↦ absurd (true≢false (rw p at h))
     | inr p ↦ rw p (ap (λ l. e ∷ l) (absent-removed uri es (rw p at h)))
-  ]
-
-  -- what a function makes of the entries, where one is written that it does not tell from the old
-  -- one
-  pub written-same : {X : Type 0} (f : String Global × D → X) (uri : Bytes) (d v : D)
-      → ((k : String Global) → f (k, d) ≡ f (k, v)) → (es : List (String Global × D))
-      → lookup (is_text uri) es ≡ Some v
-      → map f (set_value (is_text uri) es d) ≡ map f es
-  written-same f uri d v same [] h = absurd (none-some v h)
-  written-same f uri d v same (e ∷ es) h = elim (cases_Bool (is_text uri e.0)) [
-    | inl p ↦ rw p (ap (λ x. x ∷ map f es) (same e.0
-        ∙ ap (λ x. f (e.0, x)) (sym (same_Some e.1 v (rw p at h)))))
-    | inr p ↦ rw p (ap (λ l. f e ∷ l) (written-same f uri d v same es (rw p at h)))
   ]
 
   module _ (seen : D → Version) where
@@ -98,12 +86,6 @@ module _ {D : Type 0} where
     ]
 
   module _ (keeps : D → List Version) where
-    pub kept_in-of : (uri : Bytes) (es : List (String Global × D))
-        → kept_in uri (kept_of keeps es) ≡ or_nothing (option_map keeps (lookup (is_text uri) es))
-    kept_in-of uri [] = refl
-    kept_in-of uri (e ∷ es) =
-        elim (cases_Bool (is_text uri e.0)) [ inl p ↦ rw p refl | inr p ↦ rw p (kept_in-of uri es) ]
-
     -- of a document that was opened nothing is kept
     pub kept-push : (k : String Global) (d : D) → keeps d ≡ [] → (es : List (String Global × D))
         → KeepsSame (kept_of keeps es) (kept_of keeps (es ++ (k, d) ∷ []))
@@ -113,46 +95,24 @@ module _ {D : Type 0} where
         elim (cases_Bool (bytes_eq u (string_bytes e.0)))
         [ inl p ↦ rw p refl | inr p ↦ rw p (kept-push k d nothing es u) ]
 
-    kept-set : (uri : Bytes) (d v : D) (es : List (String Global × D))
-        → lookup (is_text uri) es ≡ Some v
-        → (u : Bytes) → kept_in u (kept_of keeps (set_value (is_text uri) es d))
-        ≡ (if bytes_eq uri u then keeps d else kept_in u (kept_of keeps es))
-    kept-set uri d v [] h u = absurd (none-some v h)
-    kept-set uri d v (e ∷ es) h u = elim (cases_Bool (is_text uri e.0)) [
-      | inl p ↦
-          let is = uri_is uri (string_bytes e.0) p in
-          rw p (elim (cases_Bool (bytes_eq uri u)) [
-            | inl q ↦ rw (q, ap (bytes_eq u) (sym is) ∙ (uri_flip u uri ∙ q)) refl
-            | inr q ↦ rw (q, ap (bytes_eq u) (sym is) ∙ (uri_flip u uri ∙ q)) refl
-          ])
-      | inr p ↦ rw p (elim (cases_Bool (bytes_eq uri u)) [
-        | inl q ↦ rw (ap (λ x. bytes_eq x (string_bytes e.0)) (sym (uri_is uri u q)) ∙ p)
-            (kept-set uri d v es (rw p at h) u ∙ rw q refl)
-        | inr q ↦ elim (cases_Bool (bytes_eq u (string_bytes e.0))) [
-          | inl r ↦ rw (r, q) refl
-          | inr r ↦ rw r (kept-set uri d v es (rw p at h) u ∙ rw q refl)
-        ]
-      ])
-    ]
-
     -- the held version joins those that are kept of the URI
     pub keeps-on : (most : ℕ) (h : Option Version) (was : Version) (uri : Bytes) (d v : D)
         (es : List (String Global × D)) → lookup (is_text uri) es ≡ Some v → h ≡ Some was
         → (length (keeps v) ≤ most → keeps d ≡ last_of most (keeps v ++ was ∷ []))
         → KeepsOn most uri h (kept_of keeps es) (kept_of keeps (set_value (is_text uri) es d))
     keeps-on most h was uri d v es there is joins few u =
-        let here : kept_in uri (kept_of keeps es) ≡ keeps v =
-        kept_in-of uri es ∙ ap (λ o. or_nothing (option_map keeps o)) there in
-        kept-set uri d v es there u
-        ∙ elim (cases_Bool (bytes_eq uri u)) [
-          | inl p ↦ rw (p, is, ap (λ x. kept_in x (kept_of keeps es)) (sym (uri_is uri u p)) ∙ here)
-              (joins (subst (λ l. length l ≤ most) here few))
-          | inr p ↦ rw p refl
+        let here = queue_of-there keeps uri es v there in
+        let now = queue_of-there keeps uri (set_value (is_text uri) es d) d
+        (written-there keeps uri v d es there) in
+        elim (cases_Bool (bytes_eq uri u)) [
+          | inl p ↦ rw (p, is, ← uri_is uri u p, here)
+              (now ∙ joins (subst (λ l. length l ≤ most) here few))
+          | inr p ↦ rw p (written-others keeps uri u d (uri_flip u uri ∙ p) es)
         ]
 
     none-kept : (uri : Bytes) (k : String Global) (es : List (String Global × D))
         → uri ≡ string_bytes k → AllByRecursion (λ y. string_eq k y ≡ false) (keys_of es)
-        → kept_in uri (kept_of keeps es) ≡ []
+        → queue_of uri (kept_of keeps es) ≡ []
     none-kept uri k [] is d = refl
     none-kept uri k (e ∷ es) is d =
         rw (ap (λ x. bytes_eq x (string_bytes e.0)) is ∙ d.0) (none-kept uri k es is d.1)

@@ -8,19 +8,21 @@ use Rattle.std.specs.String.{string_eq}
 use Rattle.std.specs.Map.{lookup, set_value}
 use Rattle.std.specs.Str.{bytes_eq}
 use Rattle.std.specs.Map.{keys_of, values_of, KeepsOthers}
-use Rattle.std.specs.Prelude.{slice_get}
+use Rattle.std.specs.Prelude.{option_map, slice_get, unwrap_or}
 use Rattle.std.specs.List.{position, sum_by, swap_remove}
 use Rattle.std.proofs.Math.ListN.{get_or}
 use Rattle.std.proofs.lemmas.List.Sums.{sum_by-cons, sum_by-swap_remove}
 use Rattle.indexmap.specs.IndexMap.{insert_entry, swap_remove_entry}
 use Rattle.indexmap.proofs.MapLemmas.{Found-position, Missing-position, swap_remove_entry-found}
 use Rattle.std.proofs.lemmas.Bool.{cases_Bool}
+use Rattle.lsp_types.specs.Texts.{is_text}
+use Rattle.lsp_docs.specs.Calls.{Bytes}
 use Rattle.lsp_docs.specs.Documents.{Version}
-use Rattle.lsp_docs.specs.State.{Queue, queue_of, keep_in, total, SameOrder, SameVersions, IsAdded}
+use Rattle.lsp_docs.specs.State.{Queue, queue_of, keep_in, total, SameOrder, IsAdded}
 use Rattle.lsp_docs.specs.State.{IsReleased}
 use Rattle.lsp_docs.specs.Stored.{queues_in, lengths}
 use Rattle.lsp_docs.proofs.Words.{uri_is, uri_same}
-use Rattle.lsp_docs.proofs.SameVersions.{order-of, same-length, same-of}
+use Rattle.lsp_docs.proofs.SameVersions.{order-length, order-of}
 
 -- a key other than the first entry's finds what it finds in the rest
 pub rest_of : {D : Type 0} (b : Bool) (d : D) (rest x : Option D) → cond b (Some d) rest ≡ x
@@ -38,24 +40,29 @@ pub not_head : {D : Type 0} (b : Bool) (d : D) (rest : Option D) → cond b (Som
 not_head true d rest h = absurd (none-some d (sym h))
 not_head false d rest h = refl
 
-abbrev found_in : {D : Type 0} → (D → List Version) → Option D → List Version
-found_in versions None = []
-found_in versions (Some d) = versions d
-
-queue_of-found : {D : Type 0} (versions : D → List Version) (u : List ℕ)
-    (es : List (String Global × D))
-    → queue_of u (map (λ e. record {
-      uri = string_bytes e.0;
-      versions = versions e.1;
-    }) es) ≡ found_in versions (lookup (λ key. bytes_eq u (string_bytes key)) es)
-queue_of-found versions u [] = refl
-queue_of-found versions u (e ∷ es) =
-    elim (cases_Bool (bytes_eq u (string_bytes e.0)))
-    [ inl p ↦ rw p refl | inr p ↦ rw p (queue_of-found versions u es) ]
+-- what a function makes of the entries, where one is written that it does not tell from the old one
+pub written-same : {D X : Type 0} (f : String Global × D → X) (uri : Bytes) (d v : D)
+    → ((k : String Global) → f (k, d) ≡ f (k, v)) → (es : List (String Global × D))
+    → lookup (is_text uri) es ≡ Some v
+    → map f (set_value (is_text uri) es d) ≡ map f es
+written-same f uri d v same [] h = absurd (none-some v h)
+written-same f uri d v same (e ∷ es) h = elim (cases_Bool (is_text uri e.0)) [
+  | inl p ↦ rw p (ap (λ x. x ∷ map f es) (same e.0
+      ∙ ap (λ x. f (e.0, x)) (sym (same_Some e.1 v (rw p at h)))))
+  | inr p ↦ rw p (ap (λ l. f e ∷ l) (written-same f uri d v same es (rw p at h)))
+]
 
 module _ {D : Type 0} (versions : D → List Version) where
   abbrev pub queued : String Global × D → Queue
   queued e = record { uri = string_bytes e.0; versions = versions e.1 }
+
+  pub queue_of-found : (uri : List ℕ) (es : List (String Global × D))
+      → queue_of uri (map queued es)
+      ≡ unwrap_or (option_map versions (lookup (λ key. bytes_eq uri (string_bytes key)) es)) []
+  queue_of-found uri [] = refl
+  queue_of-found uri (e ∷ es) =
+      elim (cases_Bool (bytes_eq uri (string_bytes e.0)))
+      [ inl p ↦ rw p refl | inr p ↦ rw p (queue_of-found uri es) ]
 
   module _ (uri : List ℕ) where
     abbrev pub is_key : String Global → Bool
@@ -63,20 +70,13 @@ module _ {D : Type 0} (versions : D → List Version) where
 
     pub queue_of-there : (es : List (String Global × D)) (d : D) → lookup is_key es ≡ Some d
         → queue_of uri (map queued es) ≡ versions d
-    queue_of-there [] d h = absurd (none-some d h)
-    queue_of-there (e ∷ es) d h =
-        elim (cases_Bool (is_key e.0)) [
-          | inl p ↦ rw p (ap versions (head_is (is_key e.0) e.1 (lookup is_key es) d h p))
-          | inr p ↦ rw p (queue_of-there es d (rest_of (is_key e.0) e.1 (lookup is_key es) (Some d)
-              h p))
-        ]
+    queue_of-there es d h =
+        queue_of-found uri es ∙ ap (λ o. unwrap_or (option_map versions o) []) h
 
     pub queue_of-absent : (es : List (String Global × D)) → lookup is_key es ≡ None
         → queue_of uri (map queued es) ≡ []
-    queue_of-absent [] h = refl
-    queue_of-absent (e ∷ es) h =
-        let p = not_head (is_key e.0) e.1 (lookup is_key es) h in
-        rw p (queue_of-absent es (rest_of (is_key e.0) e.1 (lookup is_key es) None h p))
+    queue_of-absent es h =
+        queue_of-found uri es ∙ ap (λ o. unwrap_or (option_map versions o) []) h
 
     pub keep_in-there : (p : Version → Bool) (d w : D) → versions w ≡ filter p (versions d)
         → (es : List (String Global × D)) → lookup is_key es ≡ Some d
@@ -97,17 +97,6 @@ module _ {D : Type 0} (versions : D → List Version) where
         let p = not_head (is_key e.0) e.1 (lookup is_key es) h in
         rw p (ap (λ l. queued e ∷ l) (keep_in-absent q es
         (rest_of (is_key e.0) e.1 (lookup is_key es) None h p)))
-
-    pub queued-same : (d w : D) → versions w ≡ versions d → (es : List (String Global × D))
-        → lookup is_key es ≡ Some d → map queued (set_value is_key es w) ≡ map queued es
-    queued-same d w same [] h = refl
-    queued-same d w same (e ∷ es) h =
-        elim (cases_Bool (is_key e.0)) [
-          | inl p ↦ let found = head_is (is_key e.0) e.1 (lookup is_key es) d h p in
-              rw (p, same ∙ ap versions (sym found)) refl
-          | inr p ↦ rw p (ap (λ l. queued e ∷ l) (queued-same d w same es
-              (rest_of (is_key e.0) e.1 (lookup is_key es) (Some d) h p)))
-        ]
 
     pub written-there : (d w : D) (es : List (String Global × D)) → lookup is_key es ≡ Some d
         → lookup is_key (set_value is_key es w) ≡ Some w
@@ -147,20 +136,15 @@ module _ {D : Type 0} (versions : D → List Version) where
         ]
 
     -- one more in a queue that is there
-    pub added-there : (v : Version) (d w : D) → SameVersions (versions d ++ v ∷ []) (versions w)
-        → SameOrder (versions d ++ v ∷ []) (versions w) → (es : List (String Global × D))
-        → lookup is_key es ≡ Some d
+    pub added-there : (v : Version) (d w : D) → SameOrder (versions d ++ v ∷ []) (versions w)
+        → (es : List (String Global × D)) → lookup is_key es ≡ Some d
         → IsAdded uri v (map queued es) (map queued (set_value is_key es w))
-    added-there v d w same order es h =
+    added-there v d w order es h =
         let more : length (versions w) ≡ length (versions d) + 1 =
-        sym (same-length (versions d ++ v ∷ []) (versions w) same)
+        sym (order-length (versions d ++ v ∷ []) (versions w) order)
         ∙ length-append (versions d) (v ∷ []) in
         record {
-          own = subst (λ l. SameVersions (l ++ v ∷ [])
-              (queue_of uri (map queued (set_value is_key es w)))) (sym (queue_of-there es d h))
-              (subst (SameVersions (versions d ++ v ∷ []))
-              (sym (queue_of-there (set_value is_key es w) w (written-there d w es h))) same);
-          order = subst (λ l. SameOrder (l ++ v ∷ [])
+          own = subst (λ l. SameOrder (l ++ v ∷ [])
               (queue_of uri (map queued (set_value is_key es w)))) (sym (queue_of-there es d h))
               (subst (SameOrder (versions d ++ v ∷ []))
               (sym (queue_of-there (set_value is_key es w) w (written-there d w es h))) order);
@@ -205,10 +189,7 @@ module _ {D : Type 0} (versions : D → List Version) where
           → IsAdded uri v (map queued es) (map queued (put es))
       added-new es h =
           subst (λ l. IsAdded uri v (map queued es) (map queued l)) (sym (put_is es h)) (record {
-            own = subst (λ l. SameVersions (l ++ v ∷ [])
-                (queue_of uri (map queued (es ++ (k, w) ∷ [])))) (sym (queue_of-absent es h))
-                (same-of (v ∷ []) _ (sym (end_own es h)));
-            order = subst (λ l. SameOrder (l ++ v ∷ [])
+            own = subst (λ l. SameOrder (l ++ v ∷ [])
                 (queue_of uri (map queued (es ++ (k, w) ∷ [])))) (sym (queue_of-absent es h))
                 (order-of (v ∷ []) _ (sym (end_own es h)));
             others = λ u apart. end_others u apart es;
@@ -255,12 +236,12 @@ module _ {D : Type 0} (versions : D → List Version) where
         → queue_of u (map queued fs) ≡ queue_of u (map queued es)
     unfolding KeepsOthers
     others-left es fs keeps u apart =
-        queue_of-found versions u fs
-        ∙ (ap (found_in versions)
+        queue_of-found u fs
+        ∙ (ap (λ o. unwrap_or (option_map versions o) [])
         (keeps (λ key. bytes_eq u (string_bytes key))
         (λ x y h. ap (λ b. bytes_eq b (string_bytes y)) (uri_is u (string_bytes x) h))
         (λ k h. ap (λ b. bytes_eq u b) (sym (uri_is uri (string_bytes k) h)) ∙ apart))
-        ∙ sym (queue_of-found versions u es))
+        ∙ sym (queue_of-found u es))
 
     -- all of a URI left a map
     pub released : (es fs : List (String Global × D)) (d : D) → lookup is_key es ≡ Some d

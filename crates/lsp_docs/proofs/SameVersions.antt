@@ -1,7 +1,7 @@
--- Lists of versions that have the same versions, in whatever order.
-use Rattle.std.proofs.Common.{◌≡◌, ℕ, zero, suc, ◌+◌, Bool, true, false, ◌&&◌, ◌||◌, List, [], ◌∷◌}
+-- Lists that have the same versions, those of each number in the same order.
+use Rattle.std.proofs.Common.{◌≡◌, ℕ, zero, suc, ◌+◌, ◌≤◌, Bool, true, false, ◌&&◌, ◌||◌, List, [], ◌∷◌}
 use Rattle.std.proofs.Common.{◌++◌, map, filter, length, length-append, refl, sym, ap, ◌∙◌, inl}
-use Rattle.std.proofs.Common.{inr, true≢false, Option, Some, None, Result, Ok, Err}
+use Rattle.std.proofs.Common.{inr, true≢false, Option, Some, None, Result, Ok, Err, arith}
 use Rattle.std.specs.Prelude.{ℤ, if◌then◌else◌, is_some, nat_lt, not, int_lt}
 use Rattle.std.specs.List.{list_any}
 use Rattle.std.specs.Ordering.{int_eq}
@@ -21,62 +21,11 @@ use Rattle.lsp_text.specs.SameText.{same_text}
 use Rattle.lsp_docs.specs.Rules.{differs, version_rule, text_rule, change_rule, rule_of, first_row}
 use Rattle.lsp_docs.specs.Rules.{fits_kind}
 use Rattle.lsp_docs.specs.Snapshots.{texts_at}
-use Rattle.lsp_docs.specs.State.{SameOrder, SameVersions, due_rule, rule_with}
-use Rattle.lsp_docs.proofs.Words.{filter-all}
-
-pub same-of : (vs ws : List Version) → vs ≡ ws → SameVersions vs ws
-same-of vs ws e = λ p. ap (λ l. length (filter p l)) e
-
-pub same-then : (vs ws us : List Version) → SameVersions vs ws → SameVersions ws us
-    → SameVersions vs us
-same-then vs ws us h k = λ p. h p ∙ k p
+use Rattle.lsp_docs.specs.State.{SameOrder, due_rule, rule_with}
 
 pub count-append : (p : Version → Bool) (vs ws : List Version)
     → length (filter p (vs ++ ws)) ≡ length (filter p vs) + length (filter p ws)
 count-append p vs ws = ap length (filter-append p vs ws) ∙ length-append (filter p vs) (filter p ws)
-
-pub same-length : (vs ws : List Version) → SameVersions vs ws → length vs ≡ length ws
-same-length vs ws h = sym (ap length (filter-all vs)) ∙ (h (λ _. true) ∙ ap length (filter-all ws))
-
-pub same-behind : (vs ws us : List Version) → SameVersions vs ws
-    → SameVersions (vs ++ us) (ws ++ us)
-same-behind vs ws us h =
-    λ p. count-append p vs us
-    ∙ (ap (λ n. n + length (filter p us)) (h p) ∙ sym (count-append p ws us))
-
-filter-both : (p q : Version → Bool) (vs : List Version)
-    → filter p (filter q vs) ≡ filter (λ v. q v && p v) vs
-filter-both p q [] = refl
-filter-both p q (v ∷ vs) =
-    elim (cases_Bool (q v)) [
-      | inl h ↦ elim (cases_Bool (p v)) [
-        | inl k ↦ rw (h, k) (ap (λ l. v ∷ l) (filter-both p q vs))
-        | inr k ↦ rw (h, k) (filter-both p q vs)
-      ]
-      | inr h ↦ rw h (filter-both p q vs)
-    ]
-
-pub same-filtered : (q : Version → Bool) (vs ws : List Version) → SameVersions vs ws
-    → SameVersions (filter q vs) (filter q ws)
-same-filtered q vs ws h =
-    λ p. ap length (filter-both p q vs)
-    ∙ (h (λ v. q v && p v) ∙ sym (ap length (filter-both p q ws)))
-
-abbrev is_more : ℕ → Bool
-is_more zero = false
-is_more (suc n) = true
-
-any-counted : (p : Version → Bool) (vs : List Version)
-    → list_any p vs ≡ is_more (length (filter p vs))
-any-counted p [] = refl
-any-counted p (v ∷ vs) =
-    elim (cases_Bool (p v)) [ inl h ↦ rw h refl | inr h ↦ rw h (any-counted p vs) ]
-
-pub same-any : (p : Version → Bool) (vs ws : List Version) → SameVersions vs ws
-    → list_any p vs ≡ list_any p ws
-same-any p vs ws h = any-counted p vs ∙ (ap is_more (h p) ∙ sym (any-counted p ws))
-
--- ---- order
 
 pub order-of : (vs ws : List Version) → vs ≡ ws → SameOrder vs ws
 order-of vs ws e = λ n. ap (filter (is_at n)) e
@@ -108,6 +57,44 @@ pub order-filtered : (q : Version → Bool) (vs ws : List Version) → SameOrder
     → SameOrder (filter q vs) (filter q ws)
 order-filtered q vs ws h =
     λ n. filter-swap (is_at n) q vs ∙ (ap (filter q) (h n) ∙ filter-swap q (is_at n) ws)
+
+-- those that pass a test, and the others
+length-parts : (p : Version → Bool) (vs : List Version)
+    → length vs ≡ length (filter p vs) + length (filter (λ v. not (p v)) vs)
+length-parts p [] = refl
+length-parts p (v ∷ vs) =
+    elim (cases_Bool (p v)) [
+      | inl h ↦ rw h (omega (arith, length-parts p vs))
+      | inr h ↦ rw h (omega (arith, length-parts p vs))
+    ]
+
+-- the first one is among those of its number
+has-first : (v : Version) (vs : List Version)
+    → filter (is_at v.number) (v ∷ vs) ≡ v ∷ filter (is_at v.number) vs
+has-first v vs = rw ((Decides-int_eq v.number v.number).1 refl) refl
+
+-- as many as without those of the first number, and with them
+length-within : (most : ℕ) (vs ws : List Version) → length vs ≤ most → SameOrder vs ws
+    → length vs ≡ length ws
+length-within most [] [] le h = refl
+length-within most [] (w ∷ ws) le h =
+    let clash : [] ≡ w ∷ filter (is_at w.number) ws = h w.number ∙ has-first w ws in absurd (cc)
+length-within zero (v ∷ vs) ws le h = absurd (omega (arith, le))
+length-within (suc most) (v ∷ vs) ws le h =
+    let own = is_at v.number in
+    let other : Version → Bool = λ w. not (own w) in
+    let first = ap length (has-first v vs) in
+    let parts = length-parts own (v ∷ vs) in
+    let rest = length-within most (filter other (v ∷ vs)) (filter other ws)
+    (omega (arith, le, first, parts)) (order-filtered other (v ∷ vs) ws h) in
+    omega (arith, parts, length-parts own ws, ap length (h v.number), rest)
+
+pub order-length : (vs ws : List Version) → SameOrder vs ws → length vs ≡ length ws
+order-length vs ws h = length-within (length vs) vs ws (omega arith) h
+
+pub order-count : (p : Version → Bool) (vs ws : List Version) → SameOrder vs ws
+    → length (filter p vs) ≡ length (filter p ws)
+order-count p vs ws h = order-length (filter p vs) (filter p ws) (order-filtered p vs ws h)
 
 -- the texts of a version are the same
 pub order-texts : (n : ℤ) (vs ws : List Version) → SameOrder vs ws → texts_at n vs ≡ texts_at n ws
@@ -158,10 +145,13 @@ change-due terms vs due enc k n cs (Some v) is =
     (ap (λ d. due_rule terms.line_ends d (applied terms.limit enc v.text cs)) is
     ∙ due-texts terms.line_ends n vs (applied terms.limit enc v.text cs))
 
-module _ (vs ws : List Version) (h : SameVersions vs ws) where
+module _ (vs ws : List Version) (h : SameOrder vs ws) where
   version-same : (ends : LineEnds) (v : Version) → version_rule ends vs v ≡ version_rule ends ws v
   version-same ends v =
-      ap (λ b. if b then Some 702 else None) (same-any (differs ends v) vs ws h)
+      ap (λ b. if b then Some 702 else None)
+      (differs-texts ends v vs
+      ∙ (ap (list_any (λ t. not (same_text ends v.text t))) (order-texts v.number vs ws h)
+      ∙ sym (differs-texts ends v ws)))
 
   text-same : (ends : LineEnds) (n : ℤ) (r : Result Text ℕ)
       → text_rule ends vs n r ≡ text_rule ends ws n r
@@ -178,7 +168,7 @@ module _ (vs ws : List Version) (h : SameVersions vs ws) where
       ) ∷ (true, r) ∷ []))
       (text-same terms.line_ends n (applied terms.limit enc v.text cs))
 
-  -- the order of the snapshots that wait doesn't matter to a rule
+  -- the order of snapshots of several numbers doesn't matter to a rule
   pub rule-same : (terms : Terms) (o : Option Version) (ks : List Version) (c : Call)
       → rule_of terms o ks vs c ≡ rule_of terms o ks ws c
   rule-same terms o ks (opens u n t) =

@@ -18,7 +18,7 @@ use Rattle.lsp_docs.specs.Snapshots.{Shown, shown_entry, waiting, versions_of}
 use Rattle.lsp_docs.specs.Rules.{call_rule, AreAcceptedFrom, AreAccepted}
 use Rattle.lsp_docs.specs.Missed.{ends_waiting, missed_at, missed}
 use Rattle.lsp_docs.specs.State.{Queue, Waits, held_in, queue_of, keep_in, total, capped, reached}
-use Rattle.lsp_docs.specs.State.{missed_one, SameOrder, SameVersions, IsAdded, IsReleased, AreWaits}
+use Rattle.lsp_docs.specs.State.{missed_one, SameOrder, IsAdded, IsReleased, AreWaits}
 use Rattle.lsp_docs.proofs.Words.{no_some, filter-none, filter-all, capped-add, uri_is, uri_same}
 use Rattle.lsp_docs.proofs.Words.{uri_flip, and_first}
 use Rattle.lsp_docs.proofs.DocumentSteps.{after_call, stays, documents-push, held-documents}
@@ -28,8 +28,7 @@ use Rattle.lsp_docs.proofs.WaitingSteps.{versions-kept, count-kept, count-ended,
 use Rattle.lsp_docs.proofs.WaitingSteps.{none_row}
 use Rattle.lsp_docs.proofs.QueueSteps.{queue-kept, queue-others, total-kept}
 use Rattle.lsp_docs.proofs.SameVersions.{order-of, order-then, order-behind, order-filtered}
-use Rattle.lsp_docs.proofs.SameVersions.{same-of, same-then, same-length, same-behind}
-use Rattle.lsp_docs.proofs.SameVersions.{same-filtered}
+use Rattle.lsp_docs.proofs.SameVersions.{order-length, order-count}
 
 -- ---- accepted calls
 
@@ -184,37 +183,12 @@ module _ (terms : Terms) (w : Waits) (calls : List Call) (c : Call) (h : AreWait
         → still c s ≡ true
     apart x p s k = others s (ap (bytes_eq u) (sym (uri_is x s.uri k)) ∙ (uri_flip u x ∙ p))
 
-    queues_now : (x : Bytes)
-        → SameVersions (queue_of x ns) (versions_of x (waiting terms (calls ++ c ∷ [])))
-    queues_now x =
-        elim (cases_Bool (bytes_eq x u)) [
-          | inl p ↦
-              let mine = same-of (queue_of x ns) (filter q (queue_of u w.queues))
-              (ap (λ y. queue_of y ns) (uri_is x u p) ∙ own) in
-              let judged = same-filtered q (queue_of u w.queues)
-              (versions_of u (waiting terms calls)) (h.queues u) in
-              let now = same-of (filter q (versions_of u (waiting terms calls)))
-              (versions_of x (waiting terms (calls ++ c ∷ [])))
-              (sym (versions-kept u (still c) q stay (waiting terms calls))
-              ∙ (ap (versions_of u) (sym left)
-              ∙ ap (λ y. versions_of y (waiting terms (calls ++ c ∷ [])))
-              (sym (uri_is x u p)))) in
-              λ t. mine t ∙ (judged t ∙ now t)
-          | inr p ↦
-              let same = same-of (queue_of x ns) (queue_of x w.queues) (rest x p) in
-              let now = same-of (versions_of x (waiting terms calls))
-              (versions_of x (waiting terms (calls ++ c ∷ [])))
-              (sym (filter-all (versions_of x (waiting terms calls)))
-              ∙ (sym (versions-kept x (still c) (λ _. true) (apart x p) (waiting terms calls))
-              ∙ ap (versions_of x) (sym left))) in
-              λ t. same t ∙ (h.queues x t ∙ now t)
-        ]
-
     count_now : total ns ≡ length (waiting terms (calls ++ c ∷ []))
     count_now =
-        let all = same-length (queue_of u w.queues) (versions_of u (waiting terms calls))
-        (h.queues u) in
-        let here = h.queues u q in
+        let mine = queue_of u w.queues in
+        let theirs = versions_of u (waiting terms calls) in
+        let all = order-length mine theirs (h.queues u) in
+        let here = order-count q mine theirs (h.queues u) in
         let defined = count-kept u (still c) q stay others (waiting terms calls) in
         let same : total ns ≡ length (filter (still c) (waiting terms calls)) =
         omega (arith, sums, all, here, defined, h.count) in
@@ -225,20 +199,21 @@ module _ (terms : Terms) (w : Waits) (calls : List Call) (c : Call) (h : AreWait
     missed_now =
         ap (λ m. capped (m + length (filter r (queue_of u w.queues)))) h.missed
         ∙ (capped-add (missed terms calls) (length (filter r (queue_of u w.queues)))
-        ∙ ap capped (ap (λ k. missed terms calls + k) (h.queues u r)
+        ∙ ap capped (ap (λ k. missed terms calls + k)
+        (order-count r (queue_of u w.queues) (versions_of u (waiting terms calls)) (h.queues u))
         ∙ (ap (λ m. missed terms calls + m)
         (sym (count-ended u (ends_waiting c) r go none (waiting terms calls)))
         ∙ sym (missed-quiet terms calls c silent))))
 
-    order_now : (x : Bytes) → SameOrder (queue_of x ns)
+    queues_now : (x : Bytes) → SameOrder (queue_of x ns)
         (versions_of x (waiting terms (calls ++ c ∷ [])))
-    order_now x =
+    queues_now x =
         elim (cases_Bool (bytes_eq x u)) [
           | inl p ↦
               let mine = order-of (queue_of x ns) (filter q (queue_of u w.queues))
               (ap (λ y. queue_of y ns) (uri_is x u p) ∙ own) in
               let judged = order-filtered q (queue_of u w.queues)
-              (versions_of u (waiting terms calls)) (h.order u) in
+              (versions_of u (waiting terms calls)) (h.queues u) in
               let now = order-of (filter q (versions_of u (waiting terms calls)))
               (versions_of x (waiting terms (calls ++ c ∷ [])))
               (sym (versions-kept u (still c) q stay (waiting terms calls))
@@ -253,7 +228,7 @@ module _ (terms : Terms) (w : Waits) (calls : List Call) (c : Call) (h : AreWait
               (sym (filter-all (versions_of x (waiting terms calls)))
               ∙ (sym (versions-kept x (still c) (λ _. true) (apart x p) (waiting terms calls))
               ∙ ap (versions_of x) (sym left))) in
-              λ t. same t ∙ (h.order x t ∙ now t)
+              λ t. same t ∙ (h.queues x t ∙ now t)
         ]
 
     pub waits-judged : AreWaits terms (record {
@@ -262,7 +237,6 @@ module _ (terms : Terms) (w : Waits) (calls : List Call) (c : Call) (h : AreWait
     }) (calls ++ c ∷ [])
     waits-judged = record {
       queues = queues_now;
-      order = order_now;
       count = count_now;
       missed = missed_now;
     }
@@ -341,7 +315,6 @@ waits-closed terms w calls u new h e left counted =
     (λ s p. rw p refl) (λ s p. rw p refl) (λ s p. p) (λ s p. p) refl in
     record {
       queues = judged.queues;
-      order = judged.order;
       count = judged.count;
       missed = counted ∙ (ap (λ l. capped (w.missed + length l)) (sym (filter-all mine))
           ∙ judged.missed);
@@ -355,10 +328,8 @@ pub waits-kept : (terms : Terms) (w : Waits) (calls : List Call) (c : Call) → 
 waits-kept terms w calls c h e nothing silent stay none =
     let same = now terms w calls c h e [] nothing stay none ∙ append-nil (waiting terms calls) in
     record {
-      queues = λ x. same-then (queue_of x w.queues) (versions_of x (waiting terms calls)) _
-          (h.queues x) (same-of _ _ (ap (versions_of x) (sym same)));
-      order = λ x. order-then (queue_of x w.queues) (versions_of x (waiting terms calls)) _
-          (h.order x) (order-of _ _ (ap (versions_of x) (sym same)));
+      queues = λ x. order-then (queue_of x w.queues) (versions_of x (waiting terms calls)) _
+          (h.queues x) (order-of _ _ (ap (versions_of x) (sym same)));
       count = h.count ∙ ap length (sym same);
       missed = h.missed ∙ ap capped (sym (missed_same terms w calls c h e [] nothing stay none
           silent));
@@ -386,45 +357,25 @@ waits-shown terms w calls u n t new h e shown silent added counted =
     let all = waiting terms calls in
     let same = now terms w calls (shows u n t) h e one shown (λ s. refl) (λ s. refl) in
     let own : (x : Bytes) → bytes_eq x u ≡ true
-    → SameVersions (queue_of x new.queues)
-    (versions_of x (waiting terms (calls ++ shows u n t ∷ []))) = λ x p q.
-    ap (λ y. length (filter q (queue_of y new.queues))) (uri_is x u p)
-    ∙ (sym (added.own q) ∙ (same-behind (queue_of u w.queues) (versions_of u all) (v ∷ [])
-    (h.queues u) q
-    ∙ ap (λ l. length (filter q l))
-    (ap (λ l. versions_of u all ++ l) (sym (versions-own u v)) ∙ (sym (versions_of-append u all one)
-    ∙ (ap (versions_of u) (sym same)
-    ∙ ap (λ y. versions_of y (waiting terms (calls ++ shows u n t ∷ [])))
-    (sym (uri_is x u p))))))) in
-    let other : (x : Bytes) → bytes_eq x u ≡ false
-    → SameVersions (queue_of x new.queues)
-    (versions_of x (waiting terms (calls ++ shows u n t ∷ []))) = λ x p q.
-    ap (λ l. length (filter q l)) (added.others x p)
-    ∙ (h.queues x q ∙ ap (λ l. length (filter q l)) (sym (append-nil (versions_of x all))
-    ∙ (ap (λ l. versions_of x all ++ l) (sym (versions-one x u v p))
-    ∙ (sym (versions_of-append x all one) ∙ ap (versions_of x) (sym same))))) in
-    let own_order : (x : Bytes) → bytes_eq x u ≡ true
     → SameOrder (queue_of x new.queues)
     (versions_of x (waiting terms (calls ++ shows u n t ∷ []))) = λ x p q.
     ap (λ y. filter (is_at q) (queue_of y new.queues)) (uri_is x u p)
-    ∙ (sym (added.order q) ∙ (order-behind (queue_of u w.queues) (versions_of u all) (v ∷ [])
-    (h.order u) q
+    ∙ (sym (added.own q) ∙ (order-behind (queue_of u w.queues) (versions_of u all) (v ∷ [])
+    (h.queues u) q
     ∙ ap (filter (is_at q)) (ap (λ l. versions_of u all ++ l) (sym (versions-own u v))
     ∙ (sym (versions_of-append u all one)
     ∙ (ap (versions_of u) (sym same)
     ∙ ap (λ y. versions_of y (waiting terms (calls ++ shows u n t ∷ [])))
     (sym (uri_is x u p))))))) in
-    let other_order : (x : Bytes) → bytes_eq x u ≡ false
+    let other : (x : Bytes) → bytes_eq x u ≡ false
     → SameOrder (queue_of x new.queues)
     (versions_of x (waiting terms (calls ++ shows u n t ∷ []))) = λ x p q.
     ap (filter (is_at q)) (added.others x p)
-    ∙ (h.order x q ∙ ap (filter (is_at q)) (sym (append-nil (versions_of x all))
+    ∙ (h.queues x q ∙ ap (filter (is_at q)) (sym (append-nil (versions_of x all))
     ∙ (ap (λ l. versions_of x all ++ l) (sym (versions-one x u v p))
     ∙ (sym (versions_of-append x all one) ∙ ap (versions_of x) (sym same))))) in
     record {
       queues = λ x. elim (cases_Bool (bytes_eq x u)) [ inl p ↦ own x p | inr p ↦ other x p ];
-      order = λ x. elim (cases_Bool (bytes_eq x u))
-          [ inl p ↦ own_order x p | inr p ↦ other_order x p ];
       count = added.count ∙ (ap (λ m. m + 1) h.count
           ∙ (sym (length-append all one) ∙ ap length (sym same)));
       missed = counted ∙ (h.missed ∙ ap capped
@@ -442,10 +393,8 @@ waits-missed terms w calls u n t h e nothing at =
     let same = now terms w calls (shows u n t) h e [] nothing (λ s. refl) (λ s. refl)
     ∙ append-nil (waiting terms calls) in
     record {
-      queues = λ x. same-then (queue_of x w.queues) (versions_of x (waiting terms calls)) _
-          (h.queues x) (same-of _ _ (ap (versions_of x) (sym same)));
-      order = λ x. order-then (queue_of x w.queues) (versions_of x (waiting terms calls)) _
-          (h.order x) (order-of _ _ (ap (versions_of x) (sym same)));
+      queues = λ x. order-then (queue_of x w.queues) (versions_of x (waiting terms calls)) _
+          (h.queues x) (order-of _ _ (ap (versions_of x) (sym same)));
       count = h.count ∙ ap length (sym same);
       missed = ap (λ m. capped (m + 1)) h.missed
           ∙ (capped-add (missed terms calls) 1

@@ -9,6 +9,7 @@ use Rattle.std.proofs.lemmas.Option.{none-some}
 use Rattle.lsp_types.specs.declared.position.Encoding.{Encoding}
 use Rattle.lsp_types.specs.declared.change.SyncKind.{SyncKind}
 use Rattle.lsp_docs.specs.declared.fault.DocFault.{DocFault}
+use Rattle.lsp_docs.specs.declared.fault.DocFault.TheVariants.{Rule}
 use Rattle.lsp_docs.specs.Texts.{Text}
 use Rattle.lsp_docs.specs.Terms.{Terms}
 use Rattle.lsp_text.specs.Edits.{Edit, applied}
@@ -22,13 +23,14 @@ use Rattle.lsp_types.specs.declared.line_ends.LineEnds.{LineEnds}
 use Rattle.lsp_text.specs.SameText.{same_text}
 use Rattle.lsp_docs.specs.Rules.{rule_of, call_rule}
 use Rattle.lsp_docs.specs.State.{State, Waits, held_in, set_in, without, queue_of, reached}
-use Rattle.lsp_docs.specs.State.{missed_one, Kept, kept_in, KeepsSame, KeepsOn, KeepsNone, Stands}
-use Rattle.lsp_docs.specs.State.{rule_at, text_in, IsAdded, IsReleased}
-use Rattle.lsp_docs.specs.State.{capped}
+use Rattle.lsp_docs.specs.State.{missed_one, Queue, KeepsSame, KeepsOn, KeepsNone, Stands}
+use Rattle.lsp_docs.specs.State.{rule_at, text_in, IsAdded, IsReleased, AreWaits}
+use Rattle.lsp_docs.specs.State.{capped, Allows, Accepts, Refuses}
+use Rattle.lsp_docs.specs.Opened.{IsChanged, Opened}
 use Rattle.lsp_docs.specs.Fault.{Names}
-use Rattle.lsp_docs.specs.Answer.{answer_of}
+use Rattle.lsp_docs.specs.Answer.{answer_of, IsAnswer}
 use Rattle.lsp_docs.specs.declared.snapshot.Match.{Match}
-use Rattle.lsp_docs.specs.declared.snapshot.Match.TheVariants as answers
+use Rattle.lsp_docs.specs.declared.snapshot.Match.TheVariants as matches
 use Rattle.lsp_docs.proofs.Words.{uri_is, uri_flip, unchanged}
 use Rattle.lsp_docs.proofs.HeldSteps.{held-snoc}
 use Rattle.lsp_docs.proofs.DocumentSteps.{documents-push, held-documents, all_stay, all_saved}
@@ -49,7 +51,7 @@ held-stands s calls u h = ap (held_in u) h.documents ∙ sym (held-documents s.t
 pub rule-stands : (s : State) (calls : List Call) (c : Call) → Stands s calls
     → rule_at s c ≡ call_rule s.terms calls c
 rule-stands s calls c h =
-    ap (λ o. rule_of s.terms o (kept_in (uri_of c) s.kept) (queue_of (uri_of c) s.waits.queues) c)
+    ap (λ o. rule_of s.terms o (queue_of (uri_of c) s.kept) (queue_of (uri_of c) s.waits.queues) c)
     (held-stands s calls (uri_of c) h)
     ∙ (ap (λ ks. rule_of s.terms (held s.terms (uri_of c) calls) ks
     (queue_of (uri_of c) s.waits.queues) c) (h.kept (uri_of c))
@@ -57,40 +59,44 @@ rule-stands s calls c h =
     (versions_of (uri_of c) (waiting s.terms calls)) (h.waits.queues (uri_of c)) s.terms
     (held s.terms (uri_of c) calls) (kept s.terms (uri_of c) calls) c)
 
-pub names-stands : (s : State) (calls : List Call) (c : Call) (f : DocFault) → Stands s calls
-    → Names (rule_at s c) f → Names (call_rule s.terms calls c) f
-names-stands s calls c f h n = subst (λ r. Names r f) (rule-stands s calls c h) n
+pub allows : (s : State) (c : Call) → rule_at s c ≡ None → Allows s c
+allows s c e calls h = sym (rule-stands s calls c h) ∙ e
 
-pub answer-stands : (s : State) (calls : List Call) (u : Bytes) (n : ℤ) → Stands s calls
-    → answer_of n (kept_in u s.kept) (held_in u s.documents)
-    ≡ answer_of n (kept s.terms u calls) (held s.terms u calls)
-answer-stands s calls u n h =
-    ap (answer_of n (kept_in u s.kept)) (held-stands s calls u h)
-    ∙ ap (λ ks. answer_of n ks (held s.terms u calls)) (h.kept u)
+pub refuses : (s : State) (c : Call) (f : DocFault) → Names (rule_at s c) f → Refuses s c f
+refuses s c f n calls h = subst (λ r. Names r f) (rule-stands s calls c h) n
+
+pub breaks : (s : State) (c : Call) (n : ℕ) → rule_at s c ≡ Some n → Refuses s c (Rule n)
+breaks s c n e = refuses s c (Rule n) e
+
+pub answers : (s : State) (u : Bytes) (n : ℤ) (m : Match)
+    → m ≡ answer_of n (queue_of u s.kept) (held_in u s.documents) → IsAnswer s u n m
+answers s u n m e calls h =
+    e ∙ (ap (answer_of n (queue_of u s.kept)) (held-stands s calls u h)
+    ∙ ap (λ ks. answer_of n ks (held s.terms u calls)) (h.kept u))
 
 -- ---- steps
 
 abbrev pub terms_in : ℕ → ℕ → LineEnds → Terms
 terms_in limit kept ends = record { limit = limit; kept = kept; line_ends = ends }
 
-abbrev pub stated : Terms → List Held → List Kept → Waits → State
+abbrev pub stated : Terms → List Held → List Queue → Waits → State
 stated terms hs ks w = record { terms = terms; documents = hs; kept = ks; waits = w }
 
 -- a call that neither closes nor changes a document leaves what is kept of it
-kept-same : (s : State) (calls : List Call) (c : Call) (ks : List Kept)
+kept-same : (s : State) (calls : List Call) (c : Call) (ks : List Queue)
     → ((uri : Bytes) → is_close uri c ≡ false) → ((uri : Bytes) → is_change uri c ≡ false)
     → KeepsSame s.kept ks → Stands s calls → (uri : Bytes)
-    → kept_in uri ks ≡ kept s.terms uri (calls ++ c ∷ [])
+    → queue_of uri ks ≡ kept s.terms uri (calls ++ c ∷ [])
 kept-same s calls c ks p q same h uri =
     same uri ∙ (h.kept uri ∙ ap (last_of s.terms.kept)
     (sym (past-same s.terms uri calls c (p uri) (q uri))))
 
 -- the held version of the changed document is kept from now on
 kept-changed : (s : State) (calls : List Call) (enc : Encoding) (k : SyncKind) (u : Bytes) (n : ℤ)
-    (cs : List Edit) (v : Version) (ks : List Kept)
+    (cs : List Edit) (v : Version) (ks : List Queue)
     → held_in u s.documents ≡ Some v → KeepsOn s.terms.kept u (held_in u s.documents) s.kept ks
     → Stands s calls
-    → (uri : Bytes) → kept_in uri ks ≡ kept s.terms uri (calls ++ changes enc k u n cs ∷ [])
+    → (uri : Bytes) → queue_of uri ks ≡ kept s.terms uri (calls ++ changes enc k u n cs ∷ [])
 kept-changed s calls enc k u n cs v ks there keeps h uri =
     keeps few uri
     ∙ elim (cases_Bool (bytes_eq u uri)) [
@@ -98,7 +104,7 @@ kept-changed s calls enc k u n cs v ks there keeps h uri =
           let now : held s.terms uri calls ≡ Some v =
           ap (λ x. held s.terms x calls) (sym (uri_is u uri p))
           ∙ (sym (held-stands s calls u h) ∙ there) in
-          rw p (ap (λ o. last_of most (kept_in uri s.kept ++ option_to_list o)) there
+          rw p (ap (λ o. last_of most (queue_of uri s.kept ++ option_to_list o)) there
           ∙ (ap (λ l. last_of most (l ++ v ∷ [])) (h.kept uri)
           ∙ (last-snoc most (past s.terms uri calls) v
           ∙ ap (last_of most) (sym (past-changed s.terms uri calls c v (uri_flip uri u ∙ p) now)))))
@@ -112,12 +118,12 @@ kept-changed s calls enc k u n cs v ks there keeps h uri =
     c : Call
     c = changes enc k u n cs
 
-    few : length (kept_in u s.kept) ≤ most
+    few : length (queue_of u s.kept) ≤ most
     few = subst (λ l. length l ≤ most) (sym (h.kept u)) (last-few most (past s.terms u calls))
 
 -- nothing is kept of a closed document
-kept-closed : (s : State) (calls : List Call) (u : Bytes) (ks : List Kept) → KeepsNone u s.kept ks
-    → Stands s calls → (uri : Bytes) → kept_in uri ks ≡ kept s.terms uri (calls ++ closes u ∷ [])
+kept-closed : (s : State) (calls : List Call) (u : Bytes) (ks : List Queue) → KeepsNone u s.kept ks
+    → Stands s calls → (uri : Bytes) → queue_of uri ks ≡ kept s.terms uri (calls ++ closes u ∷ [])
 kept-closed s calls u ks drops h uri =
     drops uri
     ∙ elim (cases_Bool (bytes_eq u uri)) [
@@ -128,193 +134,193 @@ kept-closed s calls u ks drops h uri =
           (sym (past-same s.terms uri calls (closes u) (uri_flip uri u ∙ p) refl)))
     ]
 
-pub Stands-opened : (s : State) (calls : List Call) (u : Bytes) (n : ℤ) (t : Text) (ks : List Kept)
-    → rule_at s (opens u n t) ≡ None → KeepsSame s.kept ks → Stands s calls
-    → Stands (stated s.terms (s.documents ++ record {
-      uri = u;
-      version = versioned n t;
-    } ∷ []) ks (reached u n s.waits)) (calls ++ opens u n t ∷ [])
-Stands-opened s calls u n t ks e same h =
-    let c = opens u n t in
-    let rule = sym (rule-stands s calls c h) ∙ e in
-    let new : Held = record { uri = u; version = versioned n t } in
-    record {
-      accepted = accepted-push s.terms calls c h.accepted rule;
-      documents = ap (λ l. l ++ new ∷ []) (h.documents
-          ∙ sym (all_stay s.terms u n t (documents s.terms calls)))
-          ∙ sym (documents-push s.terms calls c);
-      kept = kept-same s calls c ks (λ x. refl) (λ x. refl) same h;
-      waits = waits-opened s.terms s.waits calls u n t h.waits rule;
-    }
+accepts : (s : State) (c : Call) (hs : List Held) (ks : List Queue) (w : Waits)
+    → rule_at s c ≡ None
+    → ((calls : List Call) → Stands s calls → call_rule s.terms calls c ≡ None
+    → (hs ≡ documents s.terms (calls ++ c ∷ []))
+    × ((uri : Bytes) → queue_of uri ks ≡ kept s.terms uri (calls ++ c ∷ []))
+    × AreWaits s.terms w (calls ++ c ∷ []))
+    → Accepts s (stated s.terms hs ks w) c
+accepts s c hs ks w e then_stands = record {
+  accepted = allows s c e;
+  stands = λ calls h.
+      let rule = allows s c e calls h in
+      let now = then_stands calls h rule in
+      record {
+        accepted = accepted-push s.terms calls c h.accepted rule;
+        documents = now.0;
+        kept = now.1;
+        waits = now.2;
+      };
+  terms = refl;
+}
 
-pub Stands-changed : (s : State) (calls : List Call) (enc : Encoding) (k : SyncKind) (u : Bytes)
-    (n : ℤ) (cs : List Edit) (t : Text) (ks : List Kept)
+pub accepts-opened : (s : State) (u : Bytes) (n : ℤ) (t : Text) (hs : List Held) (ks : List Queue)
+    (w : Waits) → rule_at s (opens u n t) ≡ None
+    → hs ≡ s.documents ++ record { uri = u; version = versioned n t } ∷ [] → KeepsSame s.kept ks
+    → w ≡ reached u n s.waits → Accepts s (stated s.terms hs ks w) (opens u n t)
+accepts-opened s u n t hs ks w e opened same reaches =
+    let c = opens u n t in
+    let new : Held = record { uri = u; version = versioned n t } in
+    accepts s c hs ks w e (λ calls h rule. (
+      opened ∙ (ap (λ l. l ++ new ∷ []) (h.documents
+          ∙ sym (all_stay s.terms u n t (documents s.terms calls)))
+          ∙ sym (documents-push s.terms calls c)),
+      kept-same s calls c ks (λ x. refl) (λ x. refl) same h,
+      subst (λ v. AreWaits s.terms v (calls ++ c ∷ [])) (sym reaches)
+          (waits-opened s.terms s.waits calls u n t h.waits rule),
+    ))
+
+pub accepts-changed : (s : State) (enc : Encoding) (k : SyncKind) (u : Bytes) (n : ℤ)
+    (cs : List Edit) (broken : Option ℕ) (new : Opened) (w : Waits)
     → rule_at s (changes enc k u n cs) ≡ None
-    → applied s.terms.limit enc (text_in (held_in u s.documents)) cs ≡ Ok t
-    → KeepsOn s.terms.kept u (held_in u s.documents) s.kept ks → Stands s calls
-    → Stands (stated s.terms (set_in u (versioned n t) s.documents) ks (reached u n s.waits))
-    (calls ++ changes enc k u n cs ∷ [])
-Stands-changed s calls enc k u n cs t ks e made keeps h =
+    → IsChanged broken (applied s.terms.limit enc (text_in (held_in u s.documents)) cs) s.terms.kept
+    u n (record { held = s.documents; kept = s.kept }) new → w ≡ reached u n s.waits
+    → Accepts s (stated s.terms new.held new.kept w) (changes enc k u n cs)
+accepts-changed s enc k u n cs broken new w e made reaches =
     let c = changes enc k u n cs in
-    let rule = sym (rule-stands s calls c h) ∙ e in
     let parts = change_parts s.terms (queue_of u s.waits.queues) enc k n cs (held_in u s.documents)
     e in
-    let text : applied s.terms.limit enc parts.old.text cs ≡ Ok t =
-    ap (λ o. applied s.terms.limit enc (text_in o) cs) (sym parts.is) ∙ made in
-    let there : held_in u (documents s.terms calls) ≡ Some parts.old =
-    sym (ap (held_in u) h.documents) ∙ parts.is in
-    record {
-      accepted = accepted-push s.terms calls c h.accepted rule;
-      documents = ap (set_in u (versioned n t)) h.documents
-          ∙ (sym (changed_is s.terms enc k u n cs parts.old t text (documents s.terms calls)
-          (documents-distinct s.terms calls h.accepted) there)
-          ∙ (sym (append-nil _) ∙ sym (documents-push s.terms calls c)));
-      kept = kept-changed s calls enc k u n cs parts.old ks parts.is keeps h;
-      waits = waits-changed s.terms s.waits calls enc k u n cs h.waits rule;
-    }
+    let text : applied s.terms.limit enc parts.old.text cs ≡ Ok made.text =
+    ap (λ o. applied s.terms.limit enc (text_in o) cs) (sym parts.is) ∙ made.is_made in
+    accepts s c new.held new.kept w e (λ calls h rule. (
+      made.held ∙ (ap (set_in u (versioned n made.text)) h.documents
+          ∙ (sym (changed_is s.terms enc k u n cs parts.old made.text text
+          (documents s.terms calls) (documents-distinct s.terms calls h.accepted)
+          (sym (ap (held_in u) h.documents) ∙ parts.is))
+          ∙ (sym (append-nil _) ∙ sym (documents-push s.terms calls c)))),
+      kept-changed s calls enc k u n cs parts.old new.kept parts.is made.kept h,
+      subst (λ v. AreWaits s.terms v (calls ++ c ∷ [])) (sym reaches)
+          (waits-changed s.terms s.waits calls enc k u n cs h.waits rule),
+    ))
 
-pub Stands-closed : (s : State) (calls : List Call) (u : Bytes) (ks : List Kept) (new : Waits)
-    → rule_at s (closes u) ≡ None → IsReleased u s.waits.queues new.queues
-    → new.missed ≡ capped (s.waits.missed + length (queue_of u s.waits.queues))
-    → KeepsNone u s.kept ks → Stands s calls
-    → Stands (stated s.terms (without u s.documents) ks new) (calls ++ closes u ∷ [])
-Stands-closed s calls u ks new e left counted drops h =
-    let c = closes u in
-    let rule = sym (rule-stands s calls c h) ∙ e in
-    record {
-      accepted = accepted-push s.terms calls c h.accepted rule;
-      documents = ap (without u) h.documents
+pub accepts-closed : (s : State) (u : Bytes) (hs : List Held) (ks : List Queue) (w : Waits)
+    → rule_at s (closes u) ≡ None → hs ≡ without u s.documents → KeepsNone u s.kept ks
+    → IsReleased u s.waits.queues w.queues
+    → w.missed ≡ capped (s.waits.missed + length (queue_of u s.waits.queues))
+    → Accepts s (stated s.terms hs ks w) (closes u)
+accepts-closed s u hs ks w e closed drops left counted =
+    accepts s (closes u) hs ks w e (λ calls h rule. (
+      closed ∙ (ap (without u) h.documents
           ∙ (sym (closed_is s.terms u (documents s.terms calls)
           (documents-distinct s.terms calls h.accepted))
-          ∙ (sym (append-nil _) ∙ sym (documents-push s.terms calls c)));
-      kept = kept-closed s calls u ks drops h;
-      waits = waits-closed s.terms s.waits calls u new h.waits rule left counted;
-    }
+          ∙ (sym (append-nil _) ∙ sym (documents-push s.terms calls (closes u))))),
+      kept-closed s calls u ks drops h,
+      waits-closed s.terms s.waits calls u w h.waits rule left counted,
+    ))
 
-pub Stands-saved : (s : State) (calls : List Call) (u : Bytes) (t : Option Text)
-    → rule_at s (saves u t) ≡ None → Stands s calls → Stands s (calls ++ saves u t ∷ [])
-Stands-saved s calls u t e h =
+pub accepts-saved : (s : State) (u : Bytes) (t : Option Text) → rule_at s (saves u t) ≡ None
+    → Accepts s s (saves u t)
+accepts-saved s u t e =
     let c = saves u t in
-    let rule = sym (rule-stands s calls c h) ∙ e in
-    record {
-      accepted = accepted-push s.terms calls c h.accepted rule;
-      documents = h.documents ∙ (sym (all_saved s.terms u t (documents s.terms calls))
-          ∙ (sym (append-nil _) ∙ sym (documents-push s.terms calls c)));
-      kept = kept-same s calls c s.kept (λ x. refl) (λ x. refl) (λ x. refl) h;
-      waits = waits-kept s.terms s.waits calls c h.waits rule refl refl (λ x. refl) (λ x. refl);
-    }
+    accepts s c s.documents s.kept s.waits e (λ calls h rule. (
+      h.documents ∙ (sym (all_saved s.terms u t (documents s.terms calls))
+          ∙ (sym (append-nil _) ∙ sym (documents-push s.terms calls c))),
+      kept-same s calls c s.kept (λ x. refl) (λ x. refl) (λ x. refl) h,
+      waits-kept s.terms s.waits calls c h.waits rule refl refl (λ x. refl) (λ x. refl),
+    ))
 
 pub held-shown : (terms : Terms) (calls : List Call) (u : Bytes) (n : ℤ) (t : Text)
     → held terms u (calls ++ shows u n t ∷ []) ≡ held terms u calls
 held-shown terms calls u n t =
     held-snoc terms u calls (shows u n t) ∙ unchanged (held terms u calls)
 
-documents-shown : (s : State) (calls : List Call) (u : Bytes) (n : ℤ) (t : Text) → Stands s calls
-    → s.documents ≡ documents s.terms (calls ++ shows u n t ∷ [])
-documents-shown s calls u n t h =
-    h.documents ∙ (sym (all_shown s.terms u n t (documents s.terms calls))
-    ∙ (sym (append-nil _) ∙ sym (documents-push s.terms calls (shows u n t))))
-
 -- ---- answers
 
 abbrev answered : Bool → Bool → Match
-answered f a = if f then answers.Equal else (if a then answers.Waits else answers.Missed)
+answered f a = if f then matches.Equal else (if a then matches.Waits else matches.Missed)
 
-is_equal : (f a : Bool) → answered f a ≡ answers.Equal → f ≡ true
+is_equal : (f a : Bool) → answered f a ≡ matches.Equal → f ≡ true
 is_equal true a e = refl
-is_equal false true e = let clash : answers.Waits ≡ answers.Equal = e in absurd cc
-is_equal false false e = let clash : answers.Missed ≡ answers.Equal = e in absurd cc
+is_equal false true e = let clash : matches.Waits ≡ matches.Equal = e in absurd cc
+is_equal false false e = let clash : matches.Missed ≡ matches.Equal = e in absurd cc
 
-is_waiting : (f a : Bool) → answered f a ≡ answers.Waits → (f ≡ false) × (a ≡ true)
-is_waiting true a e = let clash : answers.Equal ≡ answers.Waits = e in absurd cc
+is_waiting : (f a : Bool) → answered f a ≡ matches.Waits → (f ≡ false) × (a ≡ true)
+is_waiting true a e = let clash : matches.Equal ≡ matches.Waits = e in absurd cc
 is_waiting false true e = (refl, refl)
-is_waiting false false e = let clash : answers.Missed ≡ answers.Waits = e in absurd cc
+is_waiting false false e = let clash : matches.Missed ≡ matches.Waits = e in absurd cc
 
-is_passed : (f a : Bool) → answered f a ≡ answers.Missed → (f ≡ false) × (a ≡ false)
-is_passed true a e = let clash : answers.Equal ≡ answers.Missed = e in absurd cc
-is_passed false true e = let clash : answers.Waits ≡ answers.Missed = e in absurd cc
+is_passed : (f a : Bool) → answered f a ≡ matches.Missed → (f ≡ false) × (a ≡ false)
+is_passed true a e = let clash : matches.Equal ≡ matches.Missed = e in absurd cc
+is_passed false true e = let clash : matches.Waits ≡ matches.Missed = e in absurd cc
 is_passed false false e = (refl, refl)
 
-pub equal-holds : (n : ℤ) (ks : List Version) (o : Option Version)
-    → answer_of n ks o ≡ answers.Equal → has_number n ks o ≡ true
-equal-holds n ks o e = is_equal (has_number n ks o) (is_ahead n o) e
-
-pub waits-ahead : (n : ℤ) (ks : List Version) (o : Option Version)
-    → answer_of n ks o ≡ answers.Waits → (has_number n ks o ≡ false) × (is_ahead n o ≡ true)
-waits-ahead n ks o e = is_waiting (has_number n ks o) (is_ahead n o) e
-
-pub missed-passed : (n : ℤ) (ks : List Version) (o : Option Version)
-    → answer_of n ks o ≡ answers.Missed → (has_number n ks o ≡ false) × (is_ahead n o ≡ false)
-missed-passed n ks o e = is_passed (has_number n ks o) (is_ahead n o) e
-
-module _ (s : State) (calls : List Call) (u : Bytes) (n : ℤ) (t : Text)
-    (e : rule_at s (shows u n t) ≡ None) (h : Stands s calls) where
+module _ (s : State) (u : Bytes) (n : ℤ) (t : Text) where
   abbrev c : Call
   c = shows u n t
 
-  rule : call_rule s.terms calls c ≡ None
-  rule = sym (rule-stands s calls c h) ∙ e
+  -- what is read off the state
+  abbrev is_ahead_in : Bool
+  is_ahead_in = is_ahead n (held_in u s.documents)
 
-  ahead_now : (b : Bool) → is_ahead n (held_in u s.documents) ≡ b
-      → is_ahead n (held s.terms u (calls ++ c ∷ [])) ≡ b
-  ahead_now b p = ap (is_ahead n) (held-shown s.terms calls u n t ∙ sym (held-stands s calls u h))
-      ∙ p
+  abbrev has_in : Bool
+  has_in = has_number n (queue_of u s.kept) (held_in u s.documents)
 
-  has_now : (b : Bool) → has_number n (kept_in u s.kept) (held_in u s.documents) ≡ b
-      → has_number n (kept s.terms u calls) (held s.terms u calls) ≡ b
-  has_now b p = ap (λ ks. has_number n ks (held s.terms u calls)) (sym (h.kept u))
-      ∙ (ap (has_number n (kept_in u s.kept)) (sym (held-stands s calls u h)) ∙ p)
+  -- and off the calls
+  module _ (calls : List Call) (h : Stands s calls) where
+    ahead_now : (b : Bool) → is_ahead_in ≡ b → is_ahead n (held s.terms u (calls ++ c ∷ [])) ≡ b
+    ahead_now b p =
+        ap (is_ahead n) (held-shown s.terms calls u n t ∙ sym (held-stands s calls u h)) ∙ p
 
-  missed_now : (a f : Bool) → is_ahead n (held_in u s.documents) ≡ a
-      → has_number n (kept_in u s.kept) (held_in u s.documents) ≡ f
-      → missed_at s.terms calls c ≡ (if not a && not f then 1 else 0)
-  missed_now a f p q = rw (has_now f q, ap (is_ahead n) (sym (held-stands s calls u h)) ∙ p) refl
+    has_now : (b : Bool) → has_in ≡ b
+        → has_number n (kept s.terms u calls) (held s.terms u calls) ≡ b
+    has_now b p = ap (λ ks. has_number n ks (held s.terms u calls)) (sym (h.kept u))
+        ∙ (ap (has_number n (queue_of u s.kept)) (sym (held-stands s calls u h)) ∙ p)
 
-  entry_now : (a : Bool) → is_ahead n (held_in u s.documents) ≡ a
-      → shown_entry s.terms (calls ++ c ∷ []) c [] ≡ (if a && true then record {
-        uri = u;
-        version = versioned n t;
-      } ∷ [] else [])
-  entry_now a p = ap (λ b. if b && true then record { uri = u; version = versioned n t } ∷ [] else
-      []) (ahead_now a p)
+    missed_now : (a f : Bool) → is_ahead_in ≡ a → has_in ≡ f
+        → missed_at s.terms calls c ≡ (if not a && not f then 1 else 0)
+    missed_now a f p q = rw (has_now f q, ap (is_ahead n) (sym (held-stands s calls u h)) ∙ p) refl
 
-  pub Stands-equal : has_number n (kept_in u s.kept) (held_in u s.documents) ≡ true
-      → Stands s (calls ++ c ∷ [])
-  Stands-equal equal =
-      let behind : is_ahead n (held_in u s.documents) ≡ false =
+    entry_now : (a : Bool) → is_ahead_in ≡ a
+        → shown_entry s.terms (calls ++ c ∷ []) c [] ≡ (if a && true then record {
+          uri = u;
+          version = versioned n t;
+        } ∷ [] else [])
+    entry_now a p = ap (λ b. if b && true then record { uri = u; version = versioned n t } ∷ [] else
+        []) (ahead_now a p)
+
+  -- the documents and what is kept of them stay
+  accepts-shown : (w : Waits) → rule_at s c ≡ None
+      → ((calls : List Call) → Stands s calls → call_rule s.terms calls c ≡ None
+      → AreWaits s.terms w (calls ++ c ∷ []))
+      → Accepts s (stated s.terms s.documents s.kept w) c
+  accepts-shown w e waits = accepts s c s.documents s.kept w e (λ calls h rule. (
+    h.documents ∙ (sym (all_shown s.terms u n t (documents s.terms calls))
+        ∙ (sym (append-nil _) ∙ sym (documents-push s.terms calls c))),
+    kept-same s calls c s.kept (λ x. refl) (λ x. refl) (λ x. refl) h,
+    waits calls h rule,
+  ))
+
+  pub accepts-equal : rule_at s c ≡ None → answered has_in is_ahead_in ≡ matches.Equal
+      → Accepts s s c
+  accepts-equal e is =
+      let equal = is_equal has_in is_ahead_in is in
+      accepts-shown s.waits e (λ calls h rule.
+      let behind : is_ahead_in ≡ false =
       ap (is_ahead n) (held-stands s calls u h)
-      ∙ reached-number s.terms u calls n h.accepted (has_now true equal) in
-      record {
-        accepted = accepted-push s.terms calls c h.accepted rule;
-        documents = documents-shown s calls u n t h;
-        kept = kept-same s calls c s.kept (λ x. refl) (λ x. refl) (λ x. refl) h;
-        waits = waits-kept s.terms s.waits calls c h.waits rule (entry_now false behind)
-            (missed_now false true behind equal) (λ x. refl) (λ x. refl);
-      }
+      ∙ reached-number s.terms u calls n h.accepted (has_now calls h true equal) in
+      waits-kept s.terms s.waits calls c h.waits rule (entry_now calls h false behind)
+      (missed_now calls h false true behind equal) (λ x. refl) (λ x. refl))
 
-  pub Stands-shown : (new : Waits) → IsAdded u (versioned n t) s.waits.queues new.queues
-      → new.missed ≡ s.waits.missed
-      → has_number n (kept_in u s.kept) (held_in u s.documents) ≡ false
-      → is_ahead n (held_in u s.documents) ≡ true
-      → Stands (stated s.terms s.documents s.kept new) (calls ++ c ∷ [])
-  Stands-shown new added counted other before = record {
-    accepted = accepted-push s.terms calls c h.accepted rule;
-    documents = documents-shown s calls u n t h;
-    kept = kept-same s calls c s.kept (λ x. refl) (λ x. refl) (λ x. refl) h;
-    waits = waits-shown s.terms s.waits calls u n t new h.waits rule (entry_now true before)
-        (missed_now true false before other) added counted;
-  }
+  pub accepts-waiting : (w : Waits) → rule_at s c ≡ None
+      → answered has_in is_ahead_in ≡ matches.Waits
+      → IsAdded u (versioned n t) s.waits.queues w.queues → w.missed ≡ s.waits.missed
+      → Accepts s (stated s.terms s.documents s.kept w) c
+  accepts-waiting w e is added counted =
+      let said = is_waiting has_in is_ahead_in is in
+      accepts-shown w e (λ calls h rule.
+      waits-shown s.terms s.waits calls u n t w h.waits rule (entry_now calls h true said.1)
+      (missed_now calls h true false said.1 said.0) added counted)
 
-  pub Stands-missed : has_number n (kept_in u s.kept) (held_in u s.documents) ≡ false
-      → is_ahead n (held_in u s.documents) ≡ false
-      → Stands (stated s.terms s.documents s.kept (missed_one s.waits)) (calls ++ c ∷ [])
-  Stands-missed other behind = record {
-    accepted = accepted-push s.terms calls c h.accepted rule;
-    documents = documents-shown s calls u n t h;
-    kept = kept-same s calls c s.kept (λ x. refl) (λ x. refl) (λ x. refl) h;
-    waits = waits-missed s.terms s.waits calls u n t h.waits rule (entry_now false behind)
-        (missed_now false false behind other);
-  }
+  pub accepts-missed : (w : Waits) → rule_at s c ≡ None
+      → answered has_in is_ahead_in ≡ matches.Missed → w ≡ missed_one s.waits
+      → Accepts s (stated s.terms s.documents s.kept w) c
+  accepts-missed w e is missing =
+      let said = is_passed has_in is_ahead_in is in
+      accepts-shown w e (λ calls h rule.
+      subst (λ v. AreWaits s.terms v (calls ++ c ∷ [])) (sym missing)
+      (waits-missed s.terms s.waits calls u n t h.waits rule (entry_now calls h false said.1)
+      (missed_now calls h false false said.1 said.0)))
 
 -- ---- rules of a close, a save and a snapshot
 

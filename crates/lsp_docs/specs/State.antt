@@ -16,29 +16,30 @@ use Rattle.lsp_docs.specs.Documents.{Version, versioned, is_after, is_at, is_bef
 use Rattle.lsp_docs.specs.Documents.{documents}
 use Rattle.lsp_docs.specs.Kept.{kept, last_of}
 use Rattle.lsp_docs.specs.Snapshots.{waiting, versions_of}
-use Rattle.lsp_docs.specs.Rules.{rule_of, rule_of_change, AreAccepted}
+use Rattle.lsp_docs.specs.Rules.{rule_of, rule_of_change, call_rule, AreAccepted}
+use Rattle.lsp_docs.specs.Fault.{Names}
+use Rattle.lsp_docs.specs.declared.fault.DocFault.{DocFault}
 use Rattle.lsp_docs.specs.Missed.{missed}
 use Rattle.lsp_types.specs.declared.rules.TheConstants as rules
 
--- the snapshots of one URI that wait
+-- versions of one URI: those that are kept of it, or those of its snapshots that wait
 pub record Queue : Type 0 where
   pub uri : Bytes
   pub versions : List Version
+
+abbrev pub queue_of : Bytes → List Queue → List Version
+queue_of uri [] = []
+queue_of uri (n ∷ ns) = if bytes_eq uri n.uri then n.versions else queue_of uri ns
 
 -- the snapshots that wait, by URI, and how many were missed
 pub record Waits : Type 0 where
   pub queues : List Queue
   pub missed : ℕ
 
--- the versions that are kept of one URI
-pub record Kept : Type 0 where
-  pub uri : Bytes
-  pub versions : List Version
-
 pub record State : Type 0 where
   pub terms : Terms
   pub documents : List Held
-  pub kept : List Kept
+  pub kept : List Queue
   pub waits : Waits
 
 -- a count, as far as 64 bits tell it
@@ -64,31 +65,23 @@ without uri (h ∷ hs) = if bytes_eq uri h.uri then hs else h ∷ without uri hs
 
 -- ---- kept versions
 
-abbrev pub kept_in : Bytes → List Kept → List Version
-kept_in uri [] = []
-kept_in uri (k ∷ ks) = if bytes_eq uri k.uri then k.versions else kept_in uri ks
-
 -- the same is kept of each URI
-abbrev pub KeepsSame : List Kept → List Kept → Type 0
-KeepsSame old new = (u : Bytes) → kept_in u new ≡ kept_in u old
+abbrev pub KeepsSame : List Queue → List Queue → Type 0
+KeepsSame old new = (u : Bytes) → queue_of u new ≡ queue_of u old
 
 -- where at most this many versions of the URI were kept, its held version joins them, and the last
 -- ones are kept, at most this many
-abbrev pub KeepsOn : ℕ → Bytes → Option Version → List Kept → List Kept → Type 0
+abbrev pub KeepsOn : ℕ → Bytes → Option Version → List Queue → List Queue → Type 0
 KeepsOn most uri h old new =
-    length (kept_in uri old) ≤ most → (u : Bytes)
-    → kept_in u new ≡ (if bytes_eq uri u then last_of most (kept_in u old ++ option_to_list h) else
-    kept_in u old)
+    length (queue_of uri old) ≤ most → (u : Bytes)
+    → queue_of u new ≡ (if bytes_eq uri u then last_of most (queue_of u old ++ option_to_list h) else
+    queue_of u old)
 
 -- nothing is kept of the URI
-abbrev pub KeepsNone : Bytes → List Kept → List Kept → Type 0
-KeepsNone uri old new = (u : Bytes) → kept_in u new ≡ (if bytes_eq uri u then [] else kept_in u old)
+abbrev pub KeepsNone : Bytes → List Queue → List Queue → Type 0
+KeepsNone uri old new = (u : Bytes) → queue_of u new ≡ (if bytes_eq uri u then [] else queue_of u old)
 
 -- ---- snapshots
-
-abbrev pub queue_of : Bytes → List Queue → List Version
-queue_of uri [] = []
-queue_of uri (n ∷ ns) = if bytes_eq uri n.uri then n.versions else queue_of uri ns
 
 -- those of the URI that pass the test stay
 abbrev pub keep_in : Bytes → (Version → Bool) → List Queue → List Queue
@@ -99,11 +92,7 @@ keep_in uri p (n ∷ ns) =
       versions = filter p n.versions;
     } ∷ ns else n ∷ keep_in uri p ns
 
--- the same versions, each as often, in whatever order
-abbrev pub SameVersions : List Version → List Version → Type 0
-SameVersions vs ws = (p : Version → Bool) → length (filter p vs) ≡ length (filter p ws)
-
--- those of each number, in the same order
+-- the same versions, those of each number in the same order
 abbrev pub SameOrder : List Version → List Version → Type 0
 SameOrder vs ws = (n : ℤ) → filter (is_at n) vs ≡ filter (is_at n) ws
 
@@ -114,8 +103,7 @@ total (n ∷ ns) = length n.versions + total ns
 
 -- one more of the URI
 pub record IsAdded (uri : Bytes) (v : Version) (old new : List Queue) : Type 0 where
-  pub own : SameVersions (queue_of uri old ++ v ∷ []) (queue_of uri new)
-  pub order : SameOrder (queue_of uri old ++ v ∷ []) (queue_of uri new)
+  pub own : SameOrder (queue_of uri old ++ v ∷ []) (queue_of uri new)
   pub others : (u : Bytes) → bytes_eq u uri ≡ false → queue_of u new ≡ queue_of u old
   pub count : total new ≡ total old + 1
 
@@ -165,8 +153,6 @@ rule_with limit ends due enc kind number cs h =
 -- the snapshots that wait are those that the definitions give for these calls
 pub record AreWaits (terms : Terms) (w : Waits) (calls : List Call) : Type 0 where
   pub queues : (uri : Bytes)
-      → SameVersions (queue_of uri w.queues) (versions_of uri (waiting terms calls))
-  pub order : (uri : Bytes)
       → SameOrder (queue_of uri w.queues) (versions_of uri (waiting terms calls))
   pub count : total w.queues ≡ length (waiting terms calls)
   pub missed : w.missed ≡ capped (missed terms calls)
@@ -175,10 +161,26 @@ pub record AreWaits (terms : Terms) (w : Waits) (calls : List Call) : Type 0 whe
 pub record Stands (s : State) (calls : List Call) : Type 0 where
   pub accepted : AreAccepted s.terms calls
   pub documents : s.documents ≡ documents s.terms calls
-  pub kept : (uri : Bytes) → kept_in uri s.kept ≡ kept s.terms uri calls
+  pub kept : (uri : Bytes) → queue_of uri s.kept ≡ kept s.terms uri calls
   pub waits : AreWaits s.terms s.waits calls
 
 -- the rule that a call breaks, read off the state
 abbrev pub rule_at : State → Call → Option ℕ
-rule_at s c = rule_of s.terms (held_in (uri_of c) s.documents) (kept_in (uri_of c) s.kept)
+rule_at s c = rule_of s.terms (held_in (uri_of c) s.documents) (queue_of (uri_of c) s.kept)
     (queue_of (uri_of c) s.waits.queues) c
+
+-- the call breaks no rule after any calls that the state stands for
+abbrev pub Allows : State → Call → Type 0
+Allows s c = (calls : List Call) → Stands s calls → call_rule s.terms calls c ≡ None
+
+-- the call is accepted: it breaks no rule, and the new state stands for the calls that the old one
+-- stood for with this one behind them, on the same terms
+pub record Accepts (old new : State) (c : Call) : Type 0 where
+  pub accepted : Allows old c
+  pub stands : (calls : List Call) → Stands old calls → Stands new (calls ++ c ∷ [])
+  pub terms : new.terms ≡ old.terms
+
+-- the call is refused by the rule that the fault names, the least that the call breaks after any
+-- calls that the state stands for, unless memory ran out
+abbrev pub Refuses : State → Call → DocFault → Type 0
+Refuses s c fault = (calls : List Call) → Stands s calls → Names (call_rule s.terms calls c) fault

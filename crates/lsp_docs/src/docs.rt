@@ -2,7 +2,7 @@
 
 ghost use Rattle.std.specs.Prelude.{◌≡◌, [], ◌++◌, ◌∷◌, List, None, Some, Ok, Err, false};
 ghost use Rattle.std.specs.Prelude.{length, map, slice_get, nat_lt, IfErr, IfOk};
-ghost use Rattle.std.specs.Prelude.{OnOk, OnErr, option_map};
+ghost use Rattle.std.specs.Prelude.{OnOk, OnErr, option_map, unwrap_or};
 ghost use Rattle.std.specs.List.{list_any};
 ghost use Rattle.std.specs.Str.{chars};
 ghost use Rattle.lsp_docs.specs.Texts.{byte_len};
@@ -10,16 +10,15 @@ ghost use Rattle.lsp_docs.specs.Terms.{terms_of, kept_of as kept_by};
 ghost use Rattle.lsp_docs.specs.Calls.{Call, opens, changes as changes_by, closes, saves, shows};
 ghost use Rattle.lsp_docs.specs.Documents.{versioned, held, documents};
 ghost use Rattle.lsp_docs.specs.Kept.{kept};
-ghost use Rattle.lsp_docs.specs.Opened.{or_nothing};
 ghost use Rattle.lsp_docs.specs.Snapshots.{texts_at, waiting, unmatched, versions_of};
 ghost use Rattle.lsp_docs.specs.Others.{other_than};
-ghost use Rattle.lsp_docs.specs.Rules.{differs, show_rule, call_rule};
+ghost use Rattle.lsp_docs.specs.Rules.{differs};
 ghost use Rattle.lsp_docs.specs.Stored.{texts_of};
-ghost use Rattle.lsp_docs.specs.State.{capped, held_in, kept_in, queue_of, early_rule, rule_at};
-ghost use Rattle.lsp_docs.specs.State.{Stands};
+ghost use Rattle.lsp_docs.specs.State.{capped, held_in, queue_of, early_rule, rule_at};
+ghost use Rattle.lsp_docs.specs.State.{Stands, Allows, Accepts, Refuses};
 ghost use Rattle.lsp_docs.specs.Fault.{Names, IsRule};
 ghost use Rattle.lsp_text.specs.Changes.{edits_of};
-ghost use Rattle.lsp_docs.specs.Answer.{answer_of};
+ghost use Rattle.lsp_docs.specs.Answer.{answer_of, IsAnswer};
 
 use crate::document::Document;
 use crate::fault::DocFault;
@@ -217,16 +216,11 @@ impl<S: TextStore> Docs<S> {
     /// limit, 702 where a snapshot that waits for this version has another text; by the least of
     /// them. Memory is requested only where none of them applies.
     pub fn did_open(&mut self, uri: &str, version: i32, text: &str) -> Result<(), DocFault>
-        ensures stands { OnOk result ((calls : List Call) → Stands self.old calls
-            → Stands self.new (calls ++ opens uri.now version (chars text.now) ∷ [])) }
-        ensures accepted { OnOk result ((calls : List Call) → Stands self.old calls
-            → call_rule self.old.terms calls (opens uri.now version (chars text.now)) ≡ None) }
-        ensures terms { self.new.terms ≡ self.old.terms }
-        ensures rule { IfErr result (λ fault. (calls : List Call) → Stands self.old calls
-            → Names (call_rule self.old.terms calls
-            (opens uri.now version (chars text.now))) fault) }
-        ensures memory { result ≡ Err DocFault.Memory → ((calls : List Call) → Stands self.old calls
-            → call_rule self.old.terms calls (opens uri.now version (chars text.now)) ≡ None) }
+        ensures accepts { OnOk result (Accepts self.old self.new
+            (opens uri.now version (chars text.now))) }
+        ensures refuses { IfErr result (Refuses self.old (opens uri.now version (chars text.now))) }
+        ensures memory { result ≡ Err DocFault.Memory
+            → Allows self.old (opens uri.now version (chars text.now)) }
         ensures err { OnErr result (self.new ≡ self.old) }
     {
         if let Some(rule) = self.open_rule(uri, version, text) {
@@ -255,16 +249,10 @@ impl<S: TextStore> Docs<S> {
         version: i32,
         changes: &[Change],
     ) -> Result<(), DocFault>
-        ensures stands { OnOk result ((calls : List Call) → Stands self.old calls
-            → Stands self.new (calls
-            ++ changes_by encoding kind uri.now version (edits_of changes.now) ∷ [])) }
-        ensures accepted { OnOk result ((calls : List Call) → Stands self.old calls
-            → call_rule self.old.terms calls
-            (changes_by encoding kind uri.now version (edits_of changes.now)) ≡ None) }
-        ensures terms { self.new.terms ≡ self.old.terms }
-        ensures rule { IfErr result (λ fault. (calls : List Call) → Stands self.old calls
-            → Names (call_rule self.old.terms calls
-            (changes_by encoding kind uri.now version (edits_of changes.now))) fault) }
+        ensures accepts { OnOk result (Accepts self.old self.new
+            (changes_by encoding kind uri.now version (edits_of changes.now))) }
+        ensures refuses { IfErr result (Refuses self.old
+            (changes_by encoding kind uri.now version (edits_of changes.now))) }
         ensures memory { result ≡ Err DocFault.Memory → ((calls : List Call) → Stands self.old calls
             → early_rule kind version (edits_of changes.now) (held self.old.terms uri.now calls)
             ≡ None) }
@@ -282,13 +270,8 @@ impl<S: TextStore> Docs<S> {
     ///
     /// Refused by 602 where the URI is not open.
     pub fn did_close(&mut self, uri: &str) -> Result<(), DocFault>
-        ensures stands { OnOk result ((calls : List Call) → Stands self.old calls
-            → Stands self.new (calls ++ closes uri.now ∷ [])) }
-        ensures accepted { OnOk result ((calls : List Call) → Stands self.old calls
-            → call_rule self.old.terms calls (closes uri.now) ≡ None) }
-        ensures terms { self.new.terms ≡ self.old.terms }
-        ensures rule { IfErr result (λ fault. (calls : List Call) → Stands self.old calls
-            → Names (call_rule self.old.terms calls (closes uri.now)) fault) }
+        ensures accepts { OnOk result (Accepts self.old self.new (closes uri.now)) }
+        ensures refuses { IfErr result (Refuses self.old (closes uri.now)) }
         ensures rule_only { IfErr result IsRule }
         ensures err { OnErr result (self.new ≡ self.old) }
     {
@@ -304,15 +287,10 @@ impl<S: TextStore> Docs<S> {
     /// Refused by 608 where the document is open, and a text is given that differs from the held
     /// one.
     pub fn did_save(&self, uri: &str, text: Option<&str>) -> Result<(), DocFault>
-        ensures stands { OnOk result ((calls : List Call) → Stands self.now calls
-            → Stands self.now (calls
-            ++ saves uri.now (option_map (λ t. chars t.now) text.entry) ∷ [])) }
-        ensures accepted { OnOk result ((calls : List Call) → Stands self.now calls
-            → call_rule self.now.terms calls
-            (saves uri.now (option_map (λ t. chars t.now) text.entry)) ≡ None) }
-        ensures rule { IfErr result (λ fault. (calls : List Call) → Stands self.now calls
-            → Names (call_rule self.now.terms calls
-            (saves uri.now (option_map (λ t. chars t.now) text.entry))) fault) }
+        ensures accepts { OnOk result (Accepts self.now self.now
+            (saves uri.now (option_map (λ t. chars t.now) text.entry))) }
+        ensures refuses { IfErr result (Refuses self.now
+            (saves uri.now (option_map (λ t. chars t.now) text.entry))) }
         ensures rule_only { IfErr result IsRule }
     {
         let Some(text) = text else {
@@ -334,24 +312,14 @@ impl<S: TextStore> Docs<S> {
     /// Refused by 701 where its version is below the held one and each kept one, and by 702 where
     /// its version is held or kept with another text. Memory is requested only where it must wait.
     pub fn snapshot(&mut self, uri: &str, version: i32, text: &str) -> Result<Match, DocFault>
-        ensures stands { OnOk result ((calls : List Call) → Stands self.old calls
-            → Stands self.new (calls ++ shows uri.now version (chars text.now) ∷ [])) }
-        ensures accepted { OnOk result ((calls : List Call) → Stands self.old calls
-            → call_rule self.old.terms calls (shows uri.now version (chars text.now)) ≡ None) }
-        ensures answer { IfOk result (λ answer. (calls : List Call) → Stands self.old calls
-            → answer ≡ answer_of version (kept self.old.terms uri.now calls)
-            (held self.old.terms uri.now calls)) }
-        ensures terms { self.new.terms ≡ self.old.terms }
-        ensures rule { IfErr result (λ fault. (calls : List Call) → Stands self.old calls
-            → Names (call_rule self.old.terms calls
-            (shows uri.now version (chars text.now))) fault) }
-        ensures memory { result ≡ Err DocFault.Memory → ((calls : List Call) → Stands self.old calls
-            → call_rule self.old.terms calls (shows uri.now version (chars text.now)) ≡ None) }
+        ensures accepts { OnOk result (Accepts self.old self.new
+            (shows uri.now version (chars text.now))) }
+        ensures answer { IfOk result (IsAnswer self.old uri.now version) }
+        ensures refuses { IfErr result (Refuses self.old (shows uri.now version (chars text.now))) }
+        ensures memory { result ≡ Err DocFault.Memory
+            → Allows self.old (shows uri.now version (chars text.now)) }
         ensures memory_waits { result ≡ Err DocFault.Memory
-            → ((calls : List Call) → Stands self.old calls
-            → answer_of version (kept self.old.terms uri.now calls)
-            (held self.old.terms uri.now calls)
-            ≡ Match.Waits) }
+            → IsAnswer self.old uri.now version Match.Waits }
         ensures err { OnErr result (self.new ≡ self.old) }
     {
         match self.judge(uri, version, text)? {
@@ -370,14 +338,12 @@ impl<S: TextStore> Docs<S> {
     /// Judges a snapshot by what is held and kept of its URI.
     fn judge(&self, uri: &str, version: i32, text: &str) -> Result<Match, DocFault>
         ensures answer { IfOk result
-            (λ answer. answer ≡ answer_of version (kept_in uri.now self.now.kept)
+            (λ answer. answer ≡ answer_of version (queue_of uri.now self.now.kept)
             (held_in uri.now self.now.documents)) }
-        ensures allowed { OnOk result
-            (show_rule self.now.terms.line_ends version (chars text.now)
-            (kept_in uri.now self.now.kept) (held_in uri.now self.now.documents) ≡ None) }
+        ensures accepted { OnOk result
+            (rule_at self.now (shows uri.now version (chars text.now)) ≡ None) }
         ensures rule { IfErr result
-            (Names (show_rule self.now.terms.line_ends version (chars text.now)
-            (kept_in uri.now self.now.kept) (held_in uri.now self.now.documents))) }
+            (Names (rule_at self.now (shows uri.now version (chars text.now)))) }
         ensures rule_only { IfErr result IsRule }
     {
         match self.get(uri) {
@@ -390,8 +356,8 @@ impl<S: TextStore> Docs<S> {
         ensures held { option_map
             (λ d. versioned d.now.held.version (S.content d.now.held.store)) result
             ≡ held_in uri.now self.now.documents }
-        ensures kept { or_nothing (option_map (λ d. d.now.kept) result)
-            ≡ kept_in uri.now self.now.kept }
+        ensures kept { unwrap_or (option_map (λ d. d.now.kept) result) []
+            ≡ queue_of uri.now self.now.kept }
     {
         self.documents.get(uri)
     }

@@ -12,7 +12,7 @@ ghost use Rattle.lsp_docs.specs.Rules.{show_rule};
 ghost use Rattle.lsp_docs.specs.Answer.{answer_of};
 ghost use Rattle.lsp_docs.specs.Fault.{IsRule, Names};
 ghost use Rattle.lsp_docs.specs.Others.{other_than};
-ghost use Rattle.lsp_docs.specs.State.{due_rule, early_rule, rule_with};
+ghost use Rattle.lsp_docs.specs.State.{early_rule, rule_with};
 
 use crate::fault::DocFault;
 use crate::history::History;
@@ -62,8 +62,11 @@ impl<S: TextStore> Document<S> {
     }
 
     /// Makes the changes in order, each in the text that the one before left. The version is that
-    /// of the text after all of them, and `due` are the texts of the snapshots that wait for it. A
-    /// refused change leaves the document as it is.
+    /// of the text after all of them, and `due` are the texts of the snapshots that wait for it.
+    ///
+    /// They are made in a copy, which replaces the held store if no text that is due contradicts
+    /// it. Where no version is kept, one change is made in the held store itself, which a refused
+    /// change leaves as it is.
     pub(crate) fn change(
         &mut self,
         terms: Terms,
@@ -80,7 +83,7 @@ impl<S: TextStore> Document<S> {
         ensures kept { OnOk result (length self.old.kept ≤ terms.kept
             → self.new.kept ≡ last_of terms.kept (self.old.kept
             ++ versioned self.old.held.version (S.content self.old.held.store) ∷ [])) }
-        ensures allowed { OnOk result
+        ensures accepted { OnOk result
             (rule_with terms.limit terms.line_ends (unwrap_or (option_copied due.entry) [])
             encoding kind version (edits_of changes.now)
             (Some (versioned self.old.held.version (S.content self.old.held.store))) ≡ None) }
@@ -91,15 +94,25 @@ impl<S: TextStore> Document<S> {
         ensures memory { result ≡ Err DocFault.Memory
             → early_rule kind version (edits_of changes.now)
             (Some (versioned self.old.held.version (S.content self.old.held.store))) ≡ None }
-        ensures err_held { OnErr result
-            (versioned self.new.held.version (S.content self.new.held.store)
-            ≡ versioned self.old.held.version (S.content self.old.held.store)) }
-        ensures err_kept { OnErr result (self.new.kept ≡ self.old.kept) }
+        ensures err { OnErr result ((self.new.kept ≡ self.old.kept)
+            × (versioned self.new.held.version (S.content self.new.held.store)
+            ≡ versioned self.old.held.version (S.content self.old.held.store))) }
     {
         if let Some(rule) = self.change_rule(kind, version, changes) {
             return Err(DocFault::Rule(rule));
         }
-        self.set_text(terms, encoding, version, changes, due)
+        if terms.kept == 0 && changes.len() == 1 && due.is_none() {
+            return self
+                .held
+                .change(terms.limit, encoding, version, &changes[0]);
+        }
+        let alloc = self.kept.alloc();
+        let changed = self.held.changed(alloc, terms.limit, encoding, changes)?;
+        if refutes(due, terms.line_ends, &changed) {
+            return Err(DocFault::Rule(rules::SNAPSHOT_DIFFERS));
+        }
+        self.revise(terms.kept, version, changed)?;
+        Ok(())
     }
 
     /// The rule that a change breaks, whatever text it leads to.
@@ -116,80 +129,6 @@ impl<S: TextStore> Document<S> {
         }
     }
 
-    /// Makes the changes, which no text that is due may contradict. Where no version is kept, one
-    /// change is made in the held store, which a refused change leaves as it is.
-    fn set_text(
-        &mut self,
-        terms: Terms,
-        encoding: Encoding,
-        version: i32,
-        changes: &[Change],
-        due: Option<&Texts>,
-    ) -> Result<(), DocFault>
-        ensures version { OnOk result (self.new.held.version ≡ version) }
-        ensures store { OnOk result
-            (applied terms.limit encoding (S.content self.old.held.store) (edits_of changes.now)
-            ≡ Ok (S.content self.new.held.store)) }
-        ensures kept { OnOk result (length self.old.kept ≤ terms.kept
-            → self.new.kept ≡ last_of terms.kept (self.old.kept
-            ++ versioned self.old.held.version (S.content self.old.held.store) ∷ [])) }
-        ensures allowed { OnOk result
-            (due_rule terms.line_ends (unwrap_or (option_copied due.entry) [])
-            (applied terms.limit encoding (S.content self.old.held.store) (edits_of changes.now))
-            ≡ None) }
-        ensures rule { IfErr result
-            (Names (due_rule terms.line_ends (unwrap_or (option_copied due.entry) [])
-            (applied terms.limit encoding (S.content self.old.held.store)
-            (edits_of changes.now)))) }
-        ensures err_held { OnErr result
-            (versioned self.new.held.version (S.content self.new.held.store)
-            ≡ versioned self.old.held.version (S.content self.old.held.store)) }
-        ensures err_kept { OnErr result (self.new.kept ≡ self.old.kept) }
-    {
-        if terms.kept == 0 && changes.len() == 1 && due.is_none() {
-            self.held
-                .change(terms.limit, encoding, version, &changes[0])
-        } else {
-            self.change_copy(terms, encoding, version, changes, due)
-        }
-    }
-
-    /// Makes the changes in a copy, which replaces the held store if no text that is due
-    /// contradicts it.
-    fn change_copy(
-        &mut self,
-        terms: Terms,
-        encoding: Encoding,
-        version: i32,
-        changes: &[Change],
-        due: Option<&Texts>,
-    ) -> Result<(), DocFault>
-        ensures version { OnOk result (self.new.held.version ≡ version) }
-        ensures store { OnOk result
-            (applied terms.limit encoding (S.content self.old.held.store) (edits_of changes.now)
-            ≡ Ok (S.content self.new.held.store)) }
-        ensures kept { OnOk result (length self.old.kept ≤ terms.kept
-            → self.new.kept ≡ last_of terms.kept (self.old.kept
-            ++ versioned self.old.held.version (S.content self.old.held.store) ∷ [])) }
-        ensures allowed { OnOk result
-            (due_rule terms.line_ends (unwrap_or (option_copied due.entry) [])
-            (applied terms.limit encoding (S.content self.old.held.store) (edits_of changes.now))
-            ≡ None) }
-        ensures rule { IfErr result
-            (Names (due_rule terms.line_ends (unwrap_or (option_copied due.entry) [])
-            (applied terms.limit encoding (S.content self.old.held.store)
-            (edits_of changes.now)))) }
-        ensures err { OnErr result (self.new ≡ self.old) }
-    {
-        let alloc = self.kept.alloc();
-        let changed = self.held.changed(alloc, terms.limit, encoding, changes)?;
-        if refutes(due, terms.line_ends, &changed) {
-            return Err(DocFault::Rule(rules::SNAPSHOT_DIFFERS));
-        }
-        self.revise(terms.kept, version, changed)?;
-        Ok(())
-    }
-
     /// Judges a snapshot by what is held and kept.
     pub(crate) fn judge(
         &self,
@@ -200,7 +139,7 @@ impl<S: TextStore> Document<S> {
         ensures answer { IfOk result
             (λ answer. answer ≡ answer_of version self.now.kept
             (Some (versioned self.now.held.version (S.content self.now.held.store)))) }
-        ensures allowed { OnOk result
+        ensures accepted { OnOk result
             (show_rule line_ends version (chars text.now) self.now.kept
             (Some (versioned self.now.held.version (S.content self.now.held.store))) ≡ None) }
         ensures rule { IfErr result

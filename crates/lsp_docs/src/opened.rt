@@ -7,8 +7,8 @@ ghost use Rattle.lsp_text.specs.Changes.{edits_of};
 ghost use Rattle.lsp_text.specs.Edits.{applied};
 ghost use Rattle.lsp_docs.specs.Documents.{versioned};
 ghost use Rattle.lsp_docs.specs.Fault.{Names};
-ghost use Rattle.lsp_docs.specs.Opened.{IsSet, or_nothing};
-ghost use Rattle.lsp_docs.specs.State.{KeepsNone, KeepsOn, KeepsSame, held_in, kept_in};
+ghost use Rattle.lsp_docs.specs.Opened.{IsChanged};
+ghost use Rattle.lsp_docs.specs.State.{KeepsNone, KeepsSame, held_in, queue_of};
 ghost use Rattle.lsp_docs.specs.State.{early_rule, rule_with, text_in, without};
 
 use crate::document::Document;
@@ -85,8 +85,8 @@ impl<S: TextStore> OpenDocuments<S> {
         ensures held { option_map
             (λ d. versioned d.now.held.version (S.content d.now.held.store)) result
             ≡ held_in uri.now self.now.held }
-        ensures kept { or_nothing (option_map (λ d. d.now.kept) result)
-            ≡ kept_in uri.now self.now.kept }
+        ensures kept { unwrap_or (option_map (λ d. d.now.kept) result) []
+            ≡ queue_of uri.now self.now.kept }
     {
         self.documents.get_str(uri)
     }
@@ -127,16 +127,11 @@ impl<S: TextStore> OpenDocuments<S> {
         changes: &[Change],
         due: Option<&Texts>,
     ) -> Result<(), DocFault>
-        ensures held { OnOk result (IsSet self.old.held self.new.held uri.now version
-            (applied terms.limit encoding (text_in (held_in uri.now self.old.held))
-            (edits_of changes.now))) }
-        ensures kept { OnOk result
-            (KeepsOn terms.kept uri.now (held_in uri.now self.old.held) self.old.kept
-            self.new.kept) }
-        ensures allowed { OnOk result
+        ensures accepts { OnOk result (IsChanged
             (rule_with terms.limit terms.line_ends (unwrap_or (option_copied due.entry) [])
-            encoding kind version (edits_of changes.now) (held_in uri.now self.old.held)
-            ≡ None) }
+            encoding kind version (edits_of changes.now) (held_in uri.now self.old.held))
+            (applied terms.limit encoding (text_in (held_in uri.now self.old.held))
+            (edits_of changes.now)) terms.kept uri.now version self.old self.new) }
         ensures rule { IfErr result
             (Names (rule_with terms.limit terms.line_ends (unwrap_or (option_copied due.entry) [])
             encoding kind version (edits_of changes.now) (held_in uri.now self.old.held))) }

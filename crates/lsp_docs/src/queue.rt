@@ -1,4 +1,7 @@
 //! The snapshots of one URI that wait for their versions.
+//!
+//! Those of one version know whether two of them differ. If so, at least one differs from any given
+//! text; if not, the first stands for all: however many wait, at most one is compared.
 
 ghost use Rattle.std.specs.Prelude.{◌≡◌, [], ◌++◌, ◌∷◌, None, true, length, filter, int_lt};
 ghost use Rattle.std.specs.Prelude.{if◌then◌else◌, unwrap_or, IfOk, OnOk, OnErr};
@@ -8,7 +11,7 @@ ghost use Rattle.std.specs.Ordering.{int_eq, int_cmp};
 ghost use Rattle.std.specs.BTreeMap.{IsOrdered};
 ghost use Rattle.lsp_docs.specs.Documents.{versioned, is_after, is_before};
 ghost use Rattle.lsp_docs.specs.Snapshots.{texts_at};
-ghost use Rattle.lsp_docs.specs.State.{SameOrder, SameVersions, capped};
+ghost use Rattle.lsp_docs.specs.State.{SameOrder, capped};
 ghost use Rattle.lsp_docs.specs.Stored.{text_of, versions_in, is_first_within, rest_of};
 ghost use Rattle.lsp_docs.specs.Stored.{first_before};
 
@@ -59,8 +62,6 @@ impl SnapshotQueue {
         text: String,
     ) -> Result<(), AllocError>
         ensures ok { OnOk result
-            (SameVersions (self.old ++ versioned version (text_of text) ∷ []) self.new) }
-        ensures order { OnOk result
             (SameOrder (self.old ++ versioned version (text_of text) ∷ []) self.new) }
         ensures err { OnErr result (self.new ≡ self.old) }
     {
@@ -104,9 +105,6 @@ fn add_text(
 ) -> Result<(), AllocError>
     requires { IsOrdered int_cmp texts.old }
     ensures ok { OnOk result
-        (SameVersions (versions_in texts.old.entries ++ versioned version (text_of text) ∷ [])
-        (versions_in texts.new.entries)) }
-    ensures order { OnOk result
         (SameOrder (versions_in texts.old.entries ++ versioned version (text_of text) ∷ [])
         (versions_in texts.new.entries)) }
     ensures err { OnErr result (versions_in texts.new.entries ≡ versions_in texts.old.entries) }
@@ -128,9 +126,6 @@ fn add_version(
     requires new { lookup (int_eq version) texts.old.entries ≡ None }
     requires ordered { IsOrdered int_cmp texts.old }
     ensures ok { OnOk result
-        (SameVersions (versions_in texts.old.entries ++ versioned version (text_of text) ∷ [])
-        (versions_in texts.new.entries)) }
-    ensures order { OnOk result
         (SameOrder (versions_in texts.old.entries ++ versioned version (text_of text) ∷ [])
         (versions_in texts.new.entries)) }
     ensures err { OnErr result (versions_in texts.new.entries ≡ versions_in texts.old.entries) }

@@ -15,5 +15,4 @@ pub mod AllTelling
 pub mod AllEnding
 pub mod AllLaws
 pub mod OneExplanation
-pub mod NoteLines
 pub mod Written

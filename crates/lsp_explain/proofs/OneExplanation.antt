@@ -34,7 +34,7 @@ use Rattle.lsp_explain.specs.Explained.{breach_at, breaches, end_explained, even
 use Rattle.lsp_explain.specs.Explained.{first_breach, noted_explanation, notes_of, raws_of}
 use Rattle.lsp_explain.specs.ExplainLaws.{SomeExplanation, OneExplanation, SomeExplanationOfAll}
 use Rattle.lsp_explain.specs.ExplainLaws.{OneExplanationOfAll}
-use Rattle.lsp_explain.specs.Traced.{traced}
+use Rattle.lsp_explain.specs.Traced.{setter_at, traced}
 use Rattle.lsp_explain.proofs.Explaining.{hears}
 
 -- ---- an event that offends
@@ -81,12 +81,13 @@ module _ (rests : Rests) (terms : Terms) where
   some_each [] all = ([], tt)
   some_each (b ∷ bs) all =
       let before = events_of (notes_of b.before) in
-      let plain = some_facts terms (kept_of terms before) b.rule rests b.here.raw b.here.note.event
-      all.0 in
+      let set_by = setter_at terms before b.here.note.event in
+      let plain = some_facts terms (kept_of terms before) b.rule set_by rests b.here.raw
+      b.here.note.event all.0 in
       let own : Explained = record {
         no = no_by before b.here.note.event b.rule;
         event = event_of (no_by before b.here.note.event b.rule) b.here.raw;
-        facts = traced terms before b.here.note.event b.rule plain.0;
+        facts = plain.0 ++ traced terms before b.here.note.event b.rule;
       } in
       let rest = some_each bs all.1 in (
         own ∷ rest.0,
@@ -106,9 +107,9 @@ module _ (rests : Rests) (terms : Terms) where
       let before = events_of (notes_of b.before) in
       let facts : d.facts ≡ e.facts =
       p.facts_are.2
-      ∙ ap (traced terms before b.here.note.event b.rule)
-      (one_facts terms (kept_of terms before) b.rule p.facts_are.0 q.facts_are.0 rests b.here.raw
-      b.here.note.event p.facts_are.1 q.facts_are.1)
+      ∙ ap (λ l. l ++ traced terms before b.here.note.event b.rule)
+      (one_facts terms (kept_of terms before) b.rule (setter_at terms before b.here.note.event)
+      p.facts_are.0 q.facts_are.0 rests b.here.raw b.here.note.event p.facts_are.1 q.facts_are.1)
       ∙ sym q.facts_are.2 in
       ap (λ v. let x : Explained = record {
         no = v;

@@ -1,7 +1,7 @@
 -- What is said of an event that offends, by how it was found.
 use Rattle.std.specs.Prelude.{chars, string_bytes, ℤ, String}
 use Rattle.std.specs.Global.{Global}
-use Rattle.std.proofs.Common.{◌≡◌, ℕ, List, Some, refl, sym, ap, ◌∙◌, subst}
+use Rattle.std.proofs.Common.{◌≡◌, ℕ, List, Some, append-nil, refl, sym, ap, ◌∙◌, subst}
 use Rattle.lsp_docs.specs.Calls.{shows}
 use Rattle.lsp_docs.specs.Terms.{Terms}
 use Rattle.lsp_replay.specs.Standing.{RefusesMessage}
@@ -85,13 +85,13 @@ module _ (terms : Terms) (before : List Event) (rule : ℕ) where
       → AreAll rests raw event facts
   facts_said rest rests (broken side code) event (what.Frames by) facts reads is offends seen says =
       subst (λ e. AreAll rests (broken side code) e facts) (sym reads)
-      (facts, says ∙ ap front_facts seen ∙ ap (λ s. frame_facts (rest_of rests s)) is, refl)
+      (facts, says ∙ ap front_facts seen ∙ ap (λ s. frame_facts (rest_of rests s)) is, sym (append-nil facts))
   facts_said rest rests (content side bytes) event (what.Content by given) facts reads is offends
       seen says =
       let same : event ≡ fault side rule =
       one_event side bytes event (fault side rule) reads is.2 in
       subst (λ e. AreAll rests (content side bytes) e facts) (sym same)
-      (facts, says ∙ ap (content_facts rule) is.1, refl)
+      (facts, says ∙ ap (content_facts rule) is.1, sym (append-nil facts))
   facts_said rest rests (content side bytes) event (what.Message by spoken) facts reads is offends
       seen says =
       let refused = is.1 in

@@ -1,82 +1,86 @@
 -- The facts on a message that was heard, with the events that brought it, are those on the message.
-use Rattle.std.specs.Prelude.{nat_lt, map, insert, ◌==◌, if◌then◌else◌}
-use Rattle.std.specs.List.{remove}
-use Rattle.std.proofs.Common.{◌≡◌, ◌<◌, ◌≤◌, ℕ, Bool, true, false, List, [], ◌∷◌, ◌++◌, length}
-use Rattle.std.proofs.Common.{get_or, Some, sym, ap, ◌∙◌, arith}
+use Rattle.std.specs.Prelude.{nat_lt, map, ◌==◌, codes, if◌then◌else◌, option_map, unwrap_or}
+use Rattle.std.proofs.Common.{◌≡◌, ◌<◌, ℕ, Bool, true, false, List, [], ◌++◌, Option, sym, ap}
+use Rattle.std.proofs.Common.{◌∙◌, arith}
 use Rattle.std.proofs.lemmas.Bool.Decides.{nat_tests}
+use Rattle.lsp_docs.specs.Calls.{uri_of}
 use Rattle.lsp_docs.specs.Terms.{Terms}
+use Rattle.lsp_session.specs.Negotiation.{encoding, sync_kind}
+use Rattle.lsp_types.specs.declared.change.SyncKind.{SyncKind}
+use Rattle.lsp_types.specs.declared.change.SyncKind.TheVariants.{Nothing}
+use Rattle.lsp_types.specs.declared.position.Encoding.{Encoding}
+use Rattle.lsp_types.specs.declared.position.Encoding.TheVariants.{Utf16}
+use Rattle.lsp_verdict.specs.Calls.{call_of}
+use Rattle.lsp_verdict.specs.Offences.{kept_of}
 use Rattle.lsp_rpc.specs.Act.{Act}
 use Rattle.lsp_rpc.specs.Message.{Message}
 use Rattle.lsp_rpc.specs.Outline.{outline}
 use Rattle.lsp_session.specs.Sent.{Sent}
 use Rattle.lsp_types.specs.declared.side.Side.{Side}
-use Rattle.lsp_verdict.specs.Event.{Event, message}
+use Rattle.lsp_verdict.specs.Event.{Event, message, sent_in}
 use Rattle.lsp_survey.specs.Asking.{numbered}
 use Rattle.lsp_survey.specs.Marking.{Step, agreed, recent}
 use Rattle.lsp_replay.specs.Places.{place_of}
 use Rattle.lsp_replay.specs.declared.heard.EventPlace.{EventPlace}
-use Rattle.lsp_facts.specs.Fact.{Fact, fact_view, shown_by}
-use Rattle.lsp_facts.specs.declared.fact.Fact as code
+use Rattle.lsp_facts.specs.Fact.{Fact, cited}
 use Rattle.lsp_facts.specs.MessageFacts.{id_in}
-use Rattle.lsp_explain.specs.Traced.{act_call, apart_facts, brought, document_traced, held_by}
-use Rattle.lsp_explain.specs.Traced.{message_traced, session_trace, traced, with_setter}
+use Rattle.lsp_explain.specs.Traced.{act_call, apart_facts, document_traced, message_traced}
+use Rattle.lsp_explain.specs.Traced.{session_trace, setter_at, setter_of, traced}
 use Rattle.lsp_explain.specs.declared.suspects.Until.{Until}
 use Rattle.lsp_facts.proofs.Spoken.{id_in-outline}
 
-module _ (terms : Terms) (before : List Event) (place : EventPlace) (rule : ℕ)
-    (plain : List Fact) where
+module _ (terms : Terms) (before : List Event) (place : EventPlace) (rule : ℕ) where
   -- what is added, where the rule is one on messages or not
   abbrev added : Bool → Side → Message → Act → List Fact
-  added b side said act = if b then plain ++ session_trace rule (numbered terms before) side
-      (id_in said) else message_traced terms before place rule (act_call terms before act) plain
+  added b side said act = if b then session_trace rule (numbered terms before) side (id_in said)
+      else message_traced terms before place rule (act_call terms before act)
 
   -- below 601 the rule is one on messages
   pub added_to_messages : (side : Side) (said : Message) (act : Act) → rule < 601
       → added (nat_lt rule 601) side said act
-      ≡ plain ++ session_trace rule (numbered terms before) side (id_in said)
+      ≡ session_trace rule (numbered terms before) side (id_in said)
   added_to_messages side said act less =
       let below : nat_lt rule 601 ≡ true =
       grind (arith, nat_tests) in ap (λ (b : Bool). added b side said act) below
 
   pub same_traced : (m : Sent) (side : Side) (said : Message) (act : Act) → m.side ≡ side
       → outline m.message ≡ outline said → m.act ≡ act → place ≡ place_of before (message m)
-      → added (nat_lt rule 601) side said act ≡ traced terms before (message m) rule plain
+      → added (nat_lt rule 601) side said act ≡ traced terms before (message m) rule
   same_traced m side said act by same means is = by_test (nat_lt rule 601)
     where
       ids : id_in said ≡ id_in m.message
       ids = id_in-outline said ∙ sym (ap id_in same) ∙ sym (id_in-outline m.message)
 
       at : EventPlace → Bool → Side → Message → Act → List Fact
-      at p b side said act = if b then plain ++ session_trace rule (numbered terms before) side
-          (id_in said) else message_traced terms before p rule (act_call terms before act) plain
+      at p b side said act =
+          if b then session_trace rule (numbered terms before) side (id_in said)
+          else message_traced terms before p rule (act_call terms before act)
 
       by_test : (b : Bool) → added b side said act
           ≡ at (place_of before (message m)) b m.side m.message m.act
-      by_test true = λ i. plain ++ session_trace rule (numbered terms before) (sym by i) (ids i)
+      by_test true = λ i. session_trace rule (numbered terms before) (sym by i) (ids i)
       by_test false = λ i. message_traced terms before (is i) rule
-          (act_call terms before (sym means i)) plain
+          (act_call terms before (sym means i))
 
--- the second fact gives way to the same with the event that set the version
-pub second_set : (p : EventPlace) (facts : List code.Fact) (taken put : code.Fact)
-    (left now : List code.Fact) → 2 ≤ length facts → taken ≡ get_or facts 1 taken
-    → fact_view put ≡ held_by p (fact_view taken) → left ≡ remove facts 1
-    → now ≡ insert left 1 put
-    → map fact_view now ≡ with_setter (Some p) (map fact_view facts)
-second_set p [] taken put left now long at is without puts = absurd (omega arith)
-second_set p (first ∷ []) taken put left now long at is without puts = absurd (omega arith)
-second_set p (first ∷ second ∷ facts) taken put left now long at is without puts =
-    ap (map fact_view) (puts ∙ ap (λ (l : List code.Fact). insert l 1 put) without)
-    ∙ ap (λ (f : Fact). fact_view first ∷ f ∷ map fact_view facts)
-    (is ∙ ap (λ (f : code.Fact). held_by p (fact_view f)) at)
+-- the URI in an act is that of the document of which the message speaks
+pub same_setter : (terms : Terms) (before : List Event) (m : Sent) (act : Act)
+    (uri : Option (List ℕ)) → m.act ≡ act
+    → ((enc : Encoding) (kind : SyncKind) → uri ≡ option_map uri_of (call_of enc kind act))
+    → setter_of terms before uri ≡ setter_at terms before (message m)
+same_setter terms before m act uri means is =
+    let sent = sent_in (kept_of terms before) in
+    let enc = unwrap_or (encoding sent) Utf16 in
+    let kind = unwrap_or (sync_kind sent) Nothing in
+    ap (setter_of terms before) (is enc kind
+    ∙ ap (λ a. option_map uri_of (call_of enc kind a)) (sym means))
 
 -- under another rule than 702 no snapshot that differs is named
 pub names_no_texts : (done : List Step) (ps qs : List EventPlace) (until : Until) (rule : ℕ)
-    (plain : List Fact) → (rule ≡ 702 → ⊥)
-    → document_traced done ps until rule plain ≡ document_traced done qs until rule plain
-names_no_texts done ps qs until rule plain other =
+    → (rule ≡ 702 → ⊥) → document_traced done ps until rule ≡ document_traced done qs until rule
+names_no_texts done ps qs until rule other =
     let is : (rule == 702) ≡ false = grind (arith, nat_tests) in
     let apart : List Fact = apart_facts (agreed done) until (recent done) in
-    ap (λ (b : Bool). with_setter (brought (recent done))
-    plain ++ (if b then map shown_by ps ++ apart else (if rule == 608 then apart else []))) is
-    ∙ sym (ap (λ (b : Bool). with_setter (brought (recent done))
-    plain ++ (if b then map shown_by qs ++ apart else (if rule == 608 then apart else []))) is)
+    ap (λ (b : Bool). if b then map (cited (codes "snapshot")) ps ++ apart
+    else (if rule == 608 then apart else [])) is
+    ∙ sym (ap (λ (b : Bool). if b then map (cited (codes "snapshot")) qs ++ apart
+    else (if rule == 608 then apart else [])) is)

@@ -1,7 +1,7 @@
 -- Which messages can have made texts differ: those that set a version after the one that was found
 -- equal, up to the one that differs.
 use Rattle.std.specs.Prelude.{ℕ, ◌+◌, ◌-◌, int_lt, nat_lt, List, [], ◌∷◌, ◌++◌, map, take, drop}
-use Rattle.std.specs.Prelude.{Bool, true, not, Option, Some, None}
+use Rattle.std.specs.Prelude.{Bool, true, not, Option, Some, None, codes, decimal}
 use Rattle.std.specs.List.{prefix_len}
 use Rattle.lsp_docs.specs.Calls.{Call, opens, changes, closes, saves, shows}
 use Rattle.lsp_survey.specs.LastOnes.{last_ones}
@@ -9,7 +9,8 @@ use Rattle.lsp_survey.specs.Marking.{next_rank, rank_or}
 use Rattle.lsp_survey.specs.declared.notes.mark.Setter.{Setter}
 use Rattle.lsp_survey.specs.declared.notes.mark.Shown.{Shown}
 use Rattle.lsp_replay.specs.declared.heard.EventPlace.{EventPlace}
-use Rattle.lsp_facts.specs.Fact.{Fact, has_suspects, suspects}
+use Rattle.lsp_facts.specs.Fact.{Fact, version_by}
+use Rattle.lsp_verdict.specs.Report.{line}
 use Rattle.lsp_explain.specs.declared.suspects.Until.{Until}
 use Rattle.lsp_explain.specs.declared.suspects.Until.TheVariants as until
 
@@ -60,16 +61,16 @@ abbrev pub suspect_count : ℕ → Until → List Setter → ℕ
 suspect_count rank limit named = rank_at rank limit named - rank
 
 abbrev pub named_facts : List Setter → List Fact
-named_facts named = map (λ (s : Setter). suspects s.version s.place) named
+named_facts named = map (λ (s : Setter). version_by (codes "suspect") s.version s.place) named
 
 -- the call itself
 abbrev pub own_facts : Until → List Fact
-own_facts (until.Message p number) = suspects number p ∷ []
+own_facts (until.Message p number) = version_by (codes "suspect") number p ∷ []
 own_facts limit = []
 
 -- **the messages that can have made the texts differ**: how many, and each of those that are named
 abbrev pub suspect_facts : Option Shown → Until → List Setter → List Fact
 suspect_facts equal limit done =
     let named = suspected (equal_rank equal) limit done in
-    has_suspects (suspect_count (equal_rank equal) limit named)
+    line (codes "suspects" ∷ decimal (suspect_count (equal_rank equal) limit named) ∷ [])
     ∷ (named_facts named ++ own_facts limit)

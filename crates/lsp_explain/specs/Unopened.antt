@@ -2,7 +2,7 @@
 -- similar URI are open.
 use Rattle.std.specs.Prelude.{ℕ, ◌*◌, List, [], ◌∷◌, ◌++◌, length, nat_lt, Bool, false, ◌&&◌}
 use Rattle.std.specs.Prelude.{not, ◌==◌}
-use Rattle.std.specs.Prelude.{if◌then◌else◌, Option, Some, None, is_some}
+use Rattle.std.specs.Prelude.{if◌then◌else◌, Option, Some, None, is_some, codes}
 use Rattle.std.specs.List.{flat_map}
 use Rattle.std.specs.Str.{bytes_eq}
 use Rattle.lsp_docs.specs.Calls.{Call, uri_of}
@@ -18,7 +18,9 @@ use Rattle.lsp_survey.specs.Openings.{openings}
 use Rattle.lsp_survey.specs.declared.notes.openings.Closing.{Closing}
 use Rattle.lsp_survey.specs.declared.notes.openings.Closing.TheVariants as closing
 use Rattle.lsp_replay.specs.declared.heard.EventPlace.{EventPlace}
-use Rattle.lsp_facts.specs.Fact.{Fact, closed_by, never_opened, similar_to}
+use Rattle.lsp_facts.specs.Fact.{Fact, cited, place_words}
+use Rattle.lsp_verdict.specs.Report.{line}
+use Rattle.json.specs.Print.{quoted}
 use Rattle.lsp_types.specs.declared.rules.TheConstants as rules
 
 -- ---- URIs that differ in their spelling
@@ -55,7 +57,7 @@ is_standing terms before on =
 abbrev pub similar_fact : Terms → List Event → ℕ → List ℕ → OnDocument → List Fact
 similar_fact terms before size spelling on =
     if is_spelled size spelling on.uri && is_standing terms before on
-    then similar_to on.uri on.place ∷ [] else []
+    then line (codes "similar" ∷ quoted on.uri ∷ place_words on.place) ∷ [] else []
 
 -- **the open documents of which the URI differs from this one in its spelling alone**, of those
 -- that were opened last
@@ -66,8 +68,8 @@ similar_facts terms before uri =
 -- ---- 602
 
 abbrev pub closing_facts : Closing → List Fact
-closing_facts (closing.Last p) = closed_by p ∷ []
-closing_facts closing.Never = never_opened ∷ []
+closing_facts (closing.Last p) = cited (codes "closed") p ∷ []
+closing_facts closing.Never = line (codes "opened" ∷ codes "never" ∷ []) ∷ []
 closing_facts closing.Forgotten = []
 
 abbrev pub unopened_facts : Terms → List Event → List ℕ → List Fact

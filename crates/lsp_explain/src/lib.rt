@@ -2,9 +2,8 @@
 //! is wrong.
 //!
 //! [`run_explain`] reads a log and explains the verdict on it, and [`run_explain_all`] all that is
-//! wrong with it. An offence is explained by the facts of `lsp_facts`, whose public names are
-//! exported again here, and by the earlier events that led to it. [`run_compared`] writes one of
-//! two whole texts, if the verdict says that they differ.
+//! wrong with it. An offence is explained by the facts of `lsp_facts` and by the earlier events that
+//! led to it. [`run_compared`] writes one of two whole texts, if the verdict says that they differ.
 #![tactic(auto)]
 
 mod compared;
@@ -23,10 +22,6 @@ pub use laws::{
     all_explained_are_causes, explanation_begins_with_report, explanation_of_yes_is_report,
     first_explained_is_verdict, one_compared_text, one_explanation, one_explanation_of_all,
     some_explanation, some_explanation_of_all,
-};
-pub use lsp_facts::{
-    Fact, act_facts, bad_params_have_a_member, bad_result_has_a_member, content_facts, flaw_facts,
-    frame_facts, session_facts, snapshot_facts, unfinished_facts,
 };
 pub use run::run_explain;
 pub use run_all::run_explain_all;

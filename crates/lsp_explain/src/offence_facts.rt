@@ -12,7 +12,7 @@ ghost use Rattle.lsp_verdict.specs.Verdict.{no};
 ghost use Rattle.lsp_verdict.specs.declared.verdict.Who.{Who};
 ghost use Rattle.lsp_explain.specs.Explained.{end_explained, end_facts, place_in, said_of};
 ghost use Rattle.lsp_facts.specs.EventFacts.{AreFacts};
-ghost use Rattle.lsp_facts.specs.Fact.{Fact as SpecFact, facts_view};
+ghost use Rattle.lsp_facts.specs.Fact.{Fact};
 ghost use Rattle.lsp_facts.specs.FlawFacts.{Rests, rest_of, side_by};
 ghost use Rattle.lsp_facts.specs.Lines.{detail_lines, event_line};
 ghost use Rattle.lsp_explain.specs.RunSteps.{ShowsFault};
@@ -21,8 +21,8 @@ ghost use Rattle.lsp_explain.specs.Traced.{AreTraced};
 
 use crate::trace::{lack_traced, message_traced, shown_traced};
 use lsp_facts::{
-    Fact, content_facts, frame_facts, push_bare_event, push_content_event, push_details,
-    push_end_event, push_message_event, unfinished_facts, usual,
+    Facts, content_facts, frame_facts, front_facts, push_bare_event, push_content_event,
+    push_details, push_end_event, push_message_event, usual,
 };
 use lsp_replay::EventPlace;
 use lsp_rpc::Memory;
@@ -40,7 +40,7 @@ fn facts_of(
     offending: &OffendingEvent,
     place: EventPlace,
     rule: u16,
-) -> Result<Vec<Fact>, Memory>
+) -> Result<Facts, Memory>
     ensures { IfOk result (λ facts. (raw : Raw) (event : Event) (before : List Event)
         → StandsAfter events.now before → place ≡ place_of before event → Reads raw event
         → IsOffending raw (terms_in events.now)
@@ -49,7 +49,7 @@ fn facts_of(
         → (rests : Rests) → ShowsFault rests offending.now rest.now
         → AreTraced (AreFacts rests (terms_in events.now)
         (kept_of (terms_in events.now) before) raw event rule)
-        (terms_in events.now) before event rule (facts_view facts.items)) }
+        (terms_in events.now) before event rule facts) }
 {
     match offending {
         OffendingEvent::Frames(_) => frame_facts(alloc, rest),
@@ -126,7 +126,7 @@ pub(crate) fn push_said(
         → IsOffending raw (terms_in events.now)
         (kept_of (terms_in events.now) before) found.now.offence.rule found.now.offending
         → rule_at (terms_in events.now) before event ≡ Some found.now.offence.rule
-        → (facts : List SpecFact)
+        → (facts : List Fact)
         × ((rests : Rests) → ShowsFault rests found.now.offending rest.now
         → AreTraced (AreFacts rests (terms_in events.now)
         (kept_of (terms_in events.now) before) raw event found.now.offence.rule)
@@ -140,25 +140,20 @@ pub(crate) fn push_said(
     let place = place_in(offence);
     let facts = facts_of(alloc, events, rest, offending, place, offence.rule)?;
     let usual = usual(offence.rule, offence.who);
-    push_details(alloc, lines, facts.as_slice(), usual)
+    push_details(lines, &facts, usual)
 }
 
 /// The facts on how a session ends that breaks this rule: 107 has those on the rest of a side, 303
 /// and 407 those on what is missing from the session. The reader stands for all its events.
-fn end_facts(
-    alloc: Global,
-    events: &SurveyReader,
-    rest: &[u8],
-    rule: u16,
-) -> Result<Vec<Fact>, Memory>
+fn end_facts(alloc: Global, events: &SurveyReader, rest: &[u8], rule: u16) -> Result<Facts, Memory>
     ensures { IfOk result (λ facts. (rests : Rests) (before : List Event) (who : Who)
         (number event : ℕ) → StandsAfter events.now before
         → rest.now ≡ rest_of rests (side_by who)
-        → facts_view facts.items
+        → facts
         ≡ end_facts rests (numbered (terms_in events.now) before) (no rule who number event)) }
 {
     if rule == rules::STREAM_ENDS_INSIDE_FRAME {
-        return unfinished_facts(alloc, rest);
+        return front_facts(alloc, rest);
     }
     lack_traced(alloc, events)
 }
@@ -181,5 +176,5 @@ pub(crate) fn push_end(
     push_end_event(lines, end.event, end.who)?;
     let facts = end_facts(alloc, events, rest, end.rule)?;
     let usual = usual(end.rule, end.who);
-    push_details(alloc, lines, facts.as_slice(), usual)
+    push_details(lines, &facts, usual)
 }

@@ -1,27 +1,24 @@
 //! The notes on a session, which change no verdict.
-ghost use Rattle.std.specs.Prelude.{◌≡◌, ◌++◌, List, Some, OnOk, IfOk, length, map, option_map};
-ghost use Rattle.std.specs.Prelude.{◌∷◌, codes, string_bytes};
-ghost use Rattle.std.specs.List.{flat_map};
+ghost use Rattle.std.specs.Prelude.{◌≡◌, ◌++◌, ◌∷◌, [], List, OnOk, IfOk, map, option_map, codes};
+ghost use Rattle.std.specs.Prelude.{option_to_list, string_bytes};
+ghost use Rattle.json.specs.Print.{quoted};
 ghost use Rattle.lsp_survey.specs.Misuses.{misused_view, misused_views};
-ghost use Rattle.lsp_verdict.specs.Event.{Event};
-ghost use Rattle.lsp_verdict.specs.Given.{verdict_view};
-ghost use Rattle.lsp_verdict.specs.Report.{encoding_name, line};
-ghost use Rattle.lsp_facts.specs.Lines.{place_words};
-ghost use Rattle.lsp_explain.specs.Remarks as spec;
-ghost use Rattle.lsp_explain.specs.Remarks.{calls_wrongly, count_line, exit_remarks};
-ghost use Rattle.lsp_explain.specs.Remarks.{exits_abruptly, line_if, misuse_line};
-ghost use Rattle.lsp_explain.specs.Remarks.{name_remarks, names_another};
-ghost use Rattle.lsp_explain.specs.Remarks.{noticed, old_name_remarks, remark_line, remark_lines};
-ghost use Rattle.lsp_explain.specs.Remarks.{remarks_of, renamed_line, uncompared, unshown_line};
-ghost use Rattle.lsp_explain.specs.Remarks.{uses_old_name};
 ghost use Rattle.lsp_survey.specs.Renames.{renamed_view};
 ghost use Rattle.lsp_survey.specs.Touched.{names_view};
+ghost use Rattle.lsp_verdict.specs.Event.{Event};
+ghost use Rattle.lsp_verdict.specs.Given.{verdict_view};
+ghost use Rattle.lsp_explain.specs.Remarks as spec;
+ghost use Rattle.lsp_explain.specs.Remarks.{count_line, exit_remarks, misuse_line, name_remarks};
+ghost use Rattle.lsp_explain.specs.Remarks.{noticed, old_name_remarks, remark_lines, remarks_of};
+ghost use Rattle.lsp_explain.specs.Remarks.{uncompared, unshown_line};
 ghost use Rattle.lsp_explain.specs.Standing.{StandsAfter, terms_in};
 
+use crate::trace::push_earlier;
+use lsp_facts::{Facts, encoding_name, push_facts};
 use lsp_replay::EventPlace;
-use lsp_rpc::{Encoding, Memory, push_quoted};
+use lsp_rpc::{Encoding, Memory};
 use lsp_survey::{Misuse, Misused, Renamed, SurveyReader};
-use lsp_verdict::{Verdict, who_name};
+use lsp_verdict::Verdict;
 use std::alloc::Global;
 use std::fmt::Write;
 
@@ -42,217 +39,128 @@ pub(crate) fn push_remarks(
     let notes = events.session_notes();
     let name = other_name(notes.older_encoding(), events.session().encoding());
     let unshown = events.openings().unshown()?;
-    push_all(
+    let remarks = remarks(
         alloc,
-        lines,
         notes.misuses(),
         notes.abrupt_exit(),
         name,
         notes.renamed(),
         unshown.as_slice(),
         verdict,
-    )
+    )?;
+    push_counted(lines, &remarks)
 }
 
-/// Adds the lines of all kinds of notes, and how many they are.
-fn push_all(
+/// Adds the lines of notes, and how many they are.
+fn push_counted(lines: &mut String, remarks: &Facts) -> Result<(), Memory>
+    ensures { OnOk result (string_bytes lines.new
+        ≡ string_bytes lines.old ++ remark_lines remarks.now) }
+{
+    push_facts(lines, remarks)?;
+    push_count(lines, remarks.len())
+}
+
+/// The notes of all kinds.
+fn remarks(
     alloc: Global,
-    lines: &mut String,
     misuses: &[Misused],
     exit: Option<EventPlace>,
     name: Option<&str>,
     renamed: Option<&Renamed>,
     unshown: &[String],
     verdict: &Verdict,
-) -> Result<(), Memory>
-    ensures { OnOk result (string_bytes lines.new ≡ string_bytes lines.old
-        ++ remark_lines (map calls_wrongly (misused_views misuses.now) ++ exit_remarks exit
+) -> Result<Facts, Memory>
+    ensures { IfOk result (λ remarks. remarks
+        ≡ map misuse_line (misused_views misuses.now) ++ exit_remarks exit
         ++ name_remarks (option_map (λ s. s.now) name.entry)
         ++ old_name_remarks (option_map (λ r. renamed_view r.now) renamed.entry)
-        ++ uncompared (verdict_view verdict.now) (names_view unshown.now))) }
+        ++ uncompared (verdict_view verdict.now) (names_view unshown.now)) }
 {
-    push_misuses(alloc, lines, misuses)?;
-    let exits = push_exit(lines, exit)?;
-    let names = push_name(alloc, lines, name)?;
-    let old_names = push_renamed(alloc, lines, renamed)?;
-    let uncompared = push_uncompared(alloc, lines, verdict, unshown)?;
-    let count = misuses.len() + exits + names + old_names + uncompared;
-    push_count(lines, count)
+    let mut remarks = Facts::new(alloc);
+    push_misuses(&mut remarks, misuses)?;
+    push_earlier(&mut remarks, "note exit-without-shutdown", exit)?;
+    push_name(&mut remarks, name)?;
+    push_renamed(&mut remarks, renamed)?;
+    push_uncompared(&mut remarks, verdict, unshown)?;
+    Ok(remarks)
 }
 
-/// Adds the lines of calls that were not sent as LSP 3.17 defines them.
-fn push_misuses(alloc: Global, lines: &mut String, misuses: &[Misused]) -> Result<(), Memory>
-    ensures { OnOk result (string_bytes lines.new
-        ≡ string_bytes lines.old ++ flat_map misuse_line (misused_views misuses.now)) }
+/// Adds the calls that were not sent as LSP 3.17 defines them.
+fn push_misuses(remarks: &mut Facts, misuses: &[Misused]) -> Result<(), Memory>
+    ensures { OnOk result (remarks.new
+        ≡ remarks.old ++ map misuse_line (misused_views misuses.now)) }
 {
     for misused in misuses {
-        push_misuse(alloc, lines, misused)?;
+        push_misuse(remarks, misused)?;
     }
     Ok(())
 }
 
-fn push_misuse(alloc: Global, lines: &mut String, misused: &Misused) -> Result<(), Memory>
-    ensures { OnOk result (string_bytes lines.new
-        ≡ string_bytes lines.old ++ misuse_line (misused_view misused.now)) }
+fn push_misuse(remarks: &mut Facts, misused: &Misused) -> Result<(), Memory>
+    ensures { OnOk result (remarks.new
+        ≡ remarks.old ++ misuse_line (misused_view misused.now) ∷ []) }
 {
-    let name = misuse_name(misused.misuse);
-    let EventPlace { event, who, number } = misused.place;
-    let who = who_name(who);
-    write!(lines, "note {name} ")?;
-    push_quoted(alloc, lines, misused.method.as_str())?;
-    writeln!(lines, " event {event} {who} {number}")?;
-    Ok(())
+    let key = misuse_key(misused.misuse);
+    remarks.text_by(key, misused.method.as_str(), misused.place)
 }
 
-fn misuse_name(misuse: Misuse) -> &'static str
-    ensures { result.now ≡ spec.misuse_name misuse }
+fn misuse_key(misuse: Misuse) -> &'static str
+    ensures { result.now ≡ spec.misuse_key misuse }
 {
     match misuse {
-        Misuse::AsRequest => "as-request",
-        Misuse::AsNotification => "as-notification",
-        Misuse::ByEditor => "by-editor",
-        Misuse::ByServer => "by-server",
+        Misuse::AsRequest => "note as-request",
+        Misuse::AsNotification => "note as-notification",
+        Misuse::ByEditor => "note by-editor",
+        Misuse::ByServer => "note by-server",
     }
 }
 
-/// Adds the line of an `exit` without `shutdown`, the event of this place, if there is one; how
-/// many lines these are.
-fn push_exit(lines: &mut String, exit: Option<EventPlace>) -> Result<usize, Memory>
-    ensures text { OnOk result (string_bytes lines.new
-        ≡ string_bytes lines.old ++ line_if (option_map exits_abruptly exit)) }
-    ensures count { IfOk result (λ count. count ≡ length (exit_remarks exit)) }
+/// Adds the encoding that is named in the older way, if there is one.
+fn push_name(remarks: &mut Facts, name: Option<&str>) -> Result<(), Memory>
+    ensures { OnOk result (remarks.new
+        ≡ remarks.old ++ name_remarks (option_map (λ s. s.now) name.entry)) }
 {
-    let Some(place) = exit else {
-        return Ok(0);
+    match name {
+        Some(name) => remarks.text("note offset-encoding", name),
+        None => Ok(()),
+    }
+}
+
+/// Adds the message about a document under a URI that its file lost when it was renamed, if there
+/// is one.
+fn push_renamed(remarks: &mut Facts, renamed: Option<&Renamed>) -> Result<(), Memory>
+    ensures { OnOk result (remarks.new
+        ≡ remarks.old ++ old_name_remarks (option_map (λ r. renamed_view r.now) renamed.entry)) }
+{
+    match renamed {
+        Some(renamed) => remarks.text_by("note renamed", renamed.uri.as_str(), renamed.place),
+        None => Ok(()),
+    }
+}
+
+/// Adds of a Yes that no snapshot was compared, or else the documents that were changed and have
+/// none.
+fn push_uncompared(remarks: &mut Facts, verdict: &Verdict, unshown: &[String]) -> Result<(), Memory>
+    ensures { OnOk result (remarks.new
+        ≡ remarks.old ++ uncompared (verdict_view verdict.now) (names_view unshown.now)) }
+{
+    let Verdict::Yes(summary) = verdict else {
+        return Ok(());
     };
-    push_exit_at(lines, place)?;
-    Ok(1)
-}
-
-fn push_exit_at(lines: &mut String, place: EventPlace) -> Result<(), Memory>
-    ensures { OnOk result (string_bytes lines.new
-        ≡ string_bytes lines.old ++ remark_line (exits_abruptly place)) }
-{
-    push_placed(lines, "exit-without-shutdown", place)
-}
-
-/// Adds the line of a note on the event of a place.
-fn push_placed(lines: &mut String, note: &str, place: EventPlace) -> Result<(), Memory>
-    ensures { OnOk result (string_bytes lines.new ≡ string_bytes lines.old
-        ++ line (codes "note" ∷ note.now ∷ place_words place)) }
-{
-    let EventPlace { event, who, number } = place;
-    let name = who_name(who);
-    writeln!(lines, "note {note} event {event} {name} {number}")?;
-    Ok(())
-}
-
-/// Adds the line of an encoding that is named in the older way, if there is one; how many lines
-/// these are.
-fn push_name(alloc: Global, lines: &mut String, name: Option<&str>) -> Result<usize, Memory>
-    ensures text { OnOk result (string_bytes lines.new ≡ string_bytes lines.old
-        ++ line_if (option_map names_another (option_map (λ s. s.now) name.entry))) }
-    ensures count { IfOk result
-        (λ count. count ≡ length (name_remarks (option_map (λ s. s.now) name.entry))) }
-{
-    let Some(name) = name else {
-        return Ok(0);
-    };
-    write!(lines, "note offset-encoding ")?;
-    push_quoted(alloc, lines, name)?;
-    writeln!(lines)?;
-    Ok(1)
-}
-
-/// Adds the line of a message about a document under a URI that its file lost when it was renamed,
-/// if there is one; how many lines these are.
-fn push_renamed(
-    alloc: Global,
-    lines: &mut String,
-    renamed: Option<&Renamed>,
-) -> Result<usize, Memory>
-    ensures text { OnOk result (string_bytes lines.new ≡ string_bytes lines.old ++ line_if
-        (option_map uses_old_name (option_map (λ r. renamed_view r.now) renamed.entry))) }
-    ensures count { IfOk result (λ count. count
-        ≡ length (old_name_remarks (option_map (λ r. renamed_view r.now) renamed.entry))) }
-{
-    let Some(renamed) = renamed else {
-        return Ok(0);
-    };
-    push_renamed_line(alloc, lines, renamed)?;
-    Ok(1)
-}
-
-fn push_renamed_line(alloc: Global, lines: &mut String, renamed: &Renamed) -> Result<(), Memory>
-    ensures { OnOk result (string_bytes lines.new
-        ≡ string_bytes lines.old ++ renamed_line (renamed_view renamed.now)) }
-{
-    let EventPlace { event, who, number } = renamed.place;
-    let who = who_name(who);
-    write!(lines, "note renamed ")?;
-    push_quoted(alloc, lines, renamed.uri.as_str())?;
-    writeln!(lines, " event {event} {who} {number}")?;
-    Ok(())
-}
-
-/// Adds the line of a Yes where no snapshot was compared, or else those of the documents that were
-/// changed and have none; how many lines these are.
-fn push_uncompared(
-    alloc: Global,
-    lines: &mut String,
-    verdict: &Verdict,
-    unshown: &[String],
-) -> Result<usize, Memory>
-    ensures text { OnOk result (string_bytes lines.new ≡ string_bytes lines.old
-        ++ flat_map remark_line (uncompared (verdict_view verdict.now) (names_view unshown.now))) }
-    ensures count { IfOk result (λ count. count
-        ≡ length (uncompared (verdict_view verdict.now) (names_view unshown.now))) }
-{
-    if is_uncompared(verdict) {
-        writeln!(lines, "note nothing-compared")?;
-        return Ok(1);
+    if summary.snapshots == summary.unmatched {
+        return remarks.word("note", "nothing-compared");
     }
-    if !is_yes(verdict) {
-        return Ok(0);
-    }
-    push_unshown(alloc, lines, unshown)?;
-    Ok(unshown.len())
+    push_unshown(remarks, unshown)
 }
 
-/// Whether it is a Yes, and no snapshot was compared.
-fn is_uncompared(verdict: &Verdict) -> bool
-    ensures { result ≡ spec.says_little (verdict_view verdict.now) }
-{
-    match verdict {
-        Verdict::Yes(summary) => summary.snapshots == summary.unmatched,
-        _ => false,
-    }
-}
-
-fn is_yes(verdict: &Verdict) -> bool
-    ensures { result ≡ spec.is_yes (verdict_view verdict.now) }
-{
-    matches!(verdict, Verdict::Yes(_))
-}
-
-/// Adds the lines of documents that were changed and have no snapshot.
-fn push_unshown(alloc: Global, lines: &mut String, unshown: &[String]) -> Result<(), Memory>
-    ensures { OnOk result (string_bytes lines.new
-        ≡ string_bytes lines.old ++ flat_map unshown_line (names_view unshown.now)) }
+/// Adds the documents that were changed and have no snapshot.
+fn push_unshown(remarks: &mut Facts, unshown: &[String]) -> Result<(), Memory>
+    ensures { OnOk result (remarks.new
+        ≡ remarks.old ++ map unshown_line (names_view unshown.now)) }
 {
     for uri in unshown {
-        push_unshown_line(alloc, lines, uri.as_str())?;
+        remarks.text("note no-snapshot", uri.as_str())?;
     }
-    Ok(())
-}
-
-fn push_unshown_line(alloc: Global, lines: &mut String, uri: &str) -> Result<(), Memory>
-    ensures { OnOk result (string_bytes lines.new
-        ≡ string_bytes lines.old ++ unshown_line uri.now) }
-{
-    write!(lines, "note no-snapshot ")?;
-    push_quoted(alloc, lines, uri)?;
-    writeln!(lines)?;
     Ok(())
 }
 
@@ -278,14 +186,4 @@ fn other_name<'a>(name: Option<&'a str>, agreed: Option<Encoding>) -> Option<&'a
         return None;
     }
     Some(name)
-}
-
-fn encoding_name(encoding: Encoding) -> &'static str
-    ensures { result.now ≡ encoding_name (Some encoding) }
-{
-    match encoding {
-        Encoding::Utf8 => "utf-8",
-        Encoding::Utf16 => "utf-16",
-        Encoding::Utf32 => "utf-32",
-    }
 }

@@ -15,7 +15,8 @@ ghost use Rattle.lsp_verdict.specs.Survey.{first_verdict};
 ghost use Rattle.lsp_explain.specs.Explained.{WritesExplanation, end_explained};
 ghost use Rattle.lsp_explain.specs.Explained.{flaw_lines, said_of};
 ghost use Rattle.lsp_facts.specs.FlawFacts.{Rests, flaw_facts, rest_of, side_by};
-ghost use Rattle.lsp_facts.specs.Lines.{fact_lines, usual_line};
+ghost use Rattle.lsp_facts.specs.Fact.{fact_lines};
+ghost use Rattle.lsp_facts.specs.Lines.{usual_line};
 ghost use Rattle.lsp_explain.specs.RunSteps.{AddsNotes, EndsWhole, ExplainsLog, IsSound, TellsEnd};
 ghost use Rattle.lsp_explain.specs.RunSteps.{Boxed, TellsFirst, TellsOf, flaw_held, side_of};
 ghost use Rattle.lsp_explain.specs.RunSteps.{summary_behind};
@@ -288,5 +289,5 @@ fn push_flaw(
         ++ usual_line (codes "recorder"))) }
 {
     let facts = flaw_facts(alloc, number, events.place(), events.found())?;
-    push_details(alloc, lines, facts.as_slice(), "recorder")
+    push_details(lines, &facts, "recorder")
 }

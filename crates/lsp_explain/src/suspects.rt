@@ -1,12 +1,11 @@
 //! Which messages may have made texts differ.
-ghost use Rattle.std.specs.Prelude.{◌≡◌, ◌≤◌, ◌++◌, ◌∷◌, [], OnOk, length};
+ghost use Rattle.std.specs.Prelude.{◌≡◌, ◌≤◌, ◌++◌, OnOk, length};
 ghost use Rattle.std.specs.List.{prefix_len};
 ghost use Rattle.lsp_survey.specs.LastOnes.{last_ones};
 ghost use Rattle.lsp_survey.specs.Marking.{rank_or};
-ghost use Rattle.lsp_facts.specs.Fact.{facts_view};
 ghost use Rattle.lsp_explain.specs.Suspects as spec;
 
-use lsp_facts::Fact;
+use lsp_facts::Facts;
 use lsp_replay::EventPlace;
 use lsp_rpc::Memory;
 use lsp_survey::{Setter, Shown};
@@ -27,18 +26,18 @@ pub(crate) enum Until {
 
 /// Adds how many messages can have made texts differ, and the last of them, in order.
 pub(crate) fn push_suspects(
-    facts: &mut Vec<Fact>,
+    facts: &mut Facts,
     equal: Option<Shown>,
     until: Until,
     setters: &[Setter],
 ) -> Result<(), Memory>
-    ensures { OnOk result (facts_view facts.new.items ≡ facts_view facts.old.items
+    ensures { OnOk result (facts.new ≡ facts.old
         ++ spec.suspect_facts equal until setters.now) }
 {
     let rank = equal_rank(equal);
     let named = last_named(up_to(until, after_equal(rank, setters)));
     let count = suspect_count(rank, until, named);
-    facts.push(Fact::Suspects(count))?;
+    facts.number("suspects", count)?;
     push_named(facts, named)?;
     push_own(facts, until)
 }
@@ -137,31 +136,23 @@ fn last_rank(rank: u64, named: &[Setter]) -> u64
     }
 }
 
-fn push_named(facts: &mut Vec<Fact>, named: &[Setter]) -> Result<(), Memory>
-    ensures { OnOk result (facts_view facts.new.items ≡ facts_view facts.old.items
-        ++ spec.named_facts named.now) }
+fn push_named(facts: &mut Facts, named: &[Setter]) -> Result<(), Memory>
+    ensures { OnOk result (facts.new ≡ facts.old ++ spec.named_facts named.now) }
 {
     for setter in named {
-        push_suspect(facts, setter)?;
+        let Setter { place, version, .. } = *setter;
+        facts.version_by("suspect", version, place)?;
     }
     Ok(())
 }
 
-fn push_suspect(facts: &mut Vec<Fact>, setter: &Setter) -> Result<(), Memory>
-    ensures { OnOk result (facts_view facts.new.items ≡ facts_view facts.old.items
-        ++ spec.named_facts (setter.now ∷ [])) }
-{
-    let Setter { place, version, .. } = *setter;
-    Ok(facts.push(Fact::Suspect { version, place })?)
-}
-
 /// Adds the message that offends, where the text came about by it.
-fn push_own(facts: &mut Vec<Fact>, until: Until) -> Result<(), Memory>
-    ensures { OnOk result (facts_view facts.new.items ≡ facts_view facts.old.items
+fn push_own(facts: &mut Facts, until: Until) -> Result<(), Memory>
+    ensures { OnOk result (facts.new ≡ facts.old
         ++ spec.own_facts until) }
 {
     match until {
-        Until::Message { place, version } => Ok(facts.push(Fact::Suspect { version, place })?),
+        Until::Message { place, version } => facts.version_by("suspect", version, place),
         _ => Ok(()),
     }
 }

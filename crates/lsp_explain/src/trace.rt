@@ -1,7 +1,6 @@
-//! Which events led to an offence: facts that name earlier events.
-ghost use Rattle.std.specs.Prelude.{◌≡◌, ◌≤◌, ◌++◌, ℕ, Some, chars, nat_lt, if◌then◌else◌, ◌∷◌, []};
-ghost use Rattle.std.specs.Prelude.{List, IfOk, OnOk, map, vec_len};
-ghost use Rattle.std.specs.Prelude.{option_and_then};
+//! Which events led to an offence: lines that name earlier events.
+ghost use Rattle.std.specs.Prelude.{◌≡◌, ◌++◌, ℕ, Some, chars, nat_lt, if◌then◌else◌, ◌∷◌, []};
+ghost use Rattle.std.specs.Prelude.{List, IfOk, OnOk, codes, map, option_map};
 ghost use Rattle.lsp_docs.specs.Calls.{Call, shows};
 ghost use Rattle.lsp_docs.specs.Terms.{Terms};
 ghost use Rattle.lsp_rpc.specs.Ident.{id_view};
@@ -14,14 +13,13 @@ ghost use Rattle.lsp_verdict.specs.Event.{Event, message, snapshot};
 ghost use Rattle.lsp_verdict.specs.Offences.{kept_of, rule_at};
 ghost use Rattle.lsp_verdict.specs.Verdict.{who_of};
 ghost use Rattle.lsp_verdict.specs.declared.verdict.Who.{Who};
-ghost use Rattle.lsp_survey.specs.Asking.{answered, asked, numbered};
+ghost use Rattle.lsp_survey.specs.Asking.{numbered};
 ghost use Rattle.lsp_survey.specs.Marking.{steps, waiting_for};
 ghost use Rattle.lsp_survey.specs.Marks.{AreMarks};
 ghost use Rattle.lsp_replay.specs.Places.{place_next};
 ghost use Rattle.lsp_survey.specs.SessionNoting.{AreNotes};
 ghost use Rattle.lsp_facts.specs.EventFacts.{AreCallFacts, AreMessageFacts};
-ghost use Rattle.lsp_facts.specs.Fact.{answered_by, asked_by, fact_view, facts_view, led_by};
-ghost use Rattle.lsp_facts.specs.Fact.{shown_by};
+ghost use Rattle.lsp_facts.specs.Fact.{cited};
 ghost use Rattle.lsp_facts.specs.MessageFacts.{id_in};
 ghost use Rattle.lsp_facts.specs.Refuting.{refuting};
 ghost use Rattle.lsp_explain.specs.Standing.{StandsAfter, terms_in};
@@ -32,11 +30,11 @@ ghost use Rattle.lsp_types.specs.declared.rules.TheConstants as rules;
 use crate::suspects::{Until, push_suspects};
 use crate::twins::twin_of;
 use crate::unopened::trace_unopened;
-use lsp_facts::{Fact, id_in, message_facts, refuting, shown_facts};
+use lsp_facts::{Facts, id_in, message_facts, refuting, shown_facts};
 use lsp_replay::EventPlace;
-use lsp_rpc::{Act, Encoding, Id, Memory, Message, Side, Spoken, copy_id};
+use lsp_rpc::{Act, Encoding, Id, Memory, Message, Side, Spoken};
 use lsp_session::{OpenRequest, Pending};
-use lsp_survey::{Marks, SessionNotes, Setter, Shown, SurveyReader};
+use lsp_survey::{Marks, SessionNotes, Setter, Shown, SurveyReader, uri_in};
 use lsp_types::rules;
 use std::alloc::Global;
 
@@ -49,7 +47,7 @@ pub(crate) fn message_traced(
     side: Side,
     spoken: &Spoken,
     rule: u16,
-) -> Result<Vec<Fact>, Memory>
+) -> Result<Facts, Memory>
     ensures { IfOk result (λ facts. (content : List ℕ) (before : List Event)
         → StandsAfter events.now before → place ≡ place_next before (who_of side)
         → (refused : RefusesMessage side content (message_view spoken.now.message)
@@ -57,10 +55,12 @@ pub(crate) fn message_traced(
         (kept_of (terms_in events.now) before) rule)
         → spec.AreTraced (AreMessageFacts (terms_in events.now)
         (kept_of (terms_in events.now) before) refused.sent rule)
-        (terms_in events.now) before (message refused.sent) rule (facts_view facts.items)) }
+        (terms_in events.now) before (message refused.sent) rule facts) }
 {
     let session = events.session();
-    let mut facts = message_facts(alloc, session, events.docs(), side, spoken, rule)?;
+    let docs = events.docs();
+    let set_by = setter_of(events.marks(), uri_in(&spoken.act))?;
+    let mut facts = message_facts(alloc, session, docs, side, spoken, rule, set_by)?;
     trace_spoken(alloc, &mut facts, events, place, side, spoken, rule)?;
     Ok(facts)
 }
@@ -75,7 +75,7 @@ pub(crate) fn shown_traced(
     uri: &str,
     text: &str,
     rule: u16,
-) -> Result<Vec<Fact>, Memory>
+) -> Result<Facts, Memory>
     ensures { IfOk result (λ facts. (before : List Event) → StandsAfter events.now before
         → place ≡ place_next before Who.Snapshot
         → rule_at (terms_in events.now) before (snapshot uri.now version (chars text.now))
@@ -83,20 +83,46 @@ pub(crate) fn shown_traced(
         → spec.AreTraced (AreCallFacts (terms_in events.now)
         (kept_of (terms_in events.now) before) rule
         (Some (shows uri.now version (chars text.now))))
-        (terms_in events.now) before (snapshot uri.now version (chars text.now)) rule
-        (facts_view facts.items)) }
+        (terms_in events.now) before (snapshot uri.now version (chars text.now)) rule facts) }
 {
     let session = events.session();
-    let mut facts = shown_facts(alloc, session, events.docs(), version, uri, text, rule)?;
-    trace_snapshot(&mut facts, events.marks(), place, version, uri, rule)?;
+    let docs = events.docs();
+    let marks = events.marks();
+    let set_by = setter_of(marks, Some(uri))?;
+    let mut facts = shown_facts(alloc, session, docs, version, uri, text, rule, set_by)?;
+    let until = Until::Version(version);
+    trace_document(&mut facts, marks, uri, &[place], until, rule)?;
     Ok(facts)
+}
+
+/// The event that set the version that is held of a URI.
+fn setter_of(marks: &Marks, uri: Option<&str>) -> Result<Option<EventPlace>, Memory>
+    ensures { IfOk result (λ place. (terms : Terms) (before : List Event)
+        → AreMarks terms marks.now.map.entries before
+        → place ≡ spec.setter_of terms before (option_map (λ u. u.now) uri.entry)) }
+{
+    let Some(uri) = uri else {
+        return Ok(None);
+    };
+    let setters = marks.setters(uri)?;
+    Ok(last_place(setters.as_slice()))
+}
+
+/// The place of the last of these messages, which set the held version.
+fn last_place(setters: &[Setter]) -> Option<EventPlace>
+    ensures { result ≡ spec.last_place setters.now }
+{
+    match setters.last() {
+        Some(setter) => Some(setter.place),
+        None => None,
+    }
 }
 
 /// Adds to the facts on a message of a side, the event of this place, that breaks this rule the
 /// events that brought it. The reader stands for the events before it.
 fn trace_spoken(
     alloc: Global,
-    facts: &mut Vec<Fact>,
+    facts: &mut Facts,
     events: &SurveyReader,
     place: EventPlace,
     side: Side,
@@ -104,12 +130,11 @@ fn trace_spoken(
     rule: u16,
 ) -> Result<(), Memory>
     ensures { OnOk result ((before : List Event) → StandsAfter events.now before
-        → facts_view facts.new.items ≡ (if nat_lt rule rules.FIRST_ON_DOCUMENTS
-        then facts_view facts.old.items ++ spec.session_trace rule
-        (numbered (terms_in events.now) before) side (id_in (message_view spoken.now.message))
+        → facts.new ≡ facts.old ++ (if nat_lt rule rules.FIRST_ON_DOCUMENTS
+        then spec.session_trace rule (numbered (terms_in events.now) before) side
+        (id_in (message_view spoken.now.message))
         else spec.message_traced (terms_in events.now) before place rule
-        (spec.act_call (terms_in events.now) before (act_view spoken.now.act))
-        (facts_view facts.old.items))) }
+        (spec.act_call (terms_in events.now) before (act_view spoken.now.act)))) }
 {
     if rule < rules::FIRST_ON_DOCUMENTS {
         let said = events.session_notes();
@@ -119,51 +144,35 @@ fn trace_spoken(
     trace_unopened(alloc, facts, events, &spoken.act, rule)
 }
 
-/// Adds to the facts on an act, the event of this place, that breaks this rule on documents the
-/// event that set the held version; under 702 the snapshots that wait for the version in it and
-/// have another text; under 608 and 702 the snapshot that was found equal, and the messages that
-/// can have made the texts differ.
+/// Adds to the facts on an act, the event of this place, that breaks this rule on documents, under
+/// 702 the snapshots that wait for the version in it and have another text; under 608 and 702 the
+/// snapshot that was found equal, and the messages that can have made the texts differ.
 fn trace_act(
     alloc: Global,
-    facts: &mut Vec<Fact>,
+    facts: &mut Facts,
     events: &SurveyReader,
     place: EventPlace,
     act: &Act,
     rule: u16,
 ) -> Result<(), Memory>
     ensures { OnOk result ((before : List Event) → StandsAfter events.now before
-        → facts_view facts.new.items
-        ≡ spec.call_traced (terms_in events.now) before place rule
-        (spec.act_call (terms_in events.now) before (act_view act.now))
-        (facts_view facts.old.items)) }
+        → facts.new ≡ facts.old ++ spec.call_traced (terms_in events.now) before place rule
+        (spec.act_call (terms_in events.now) before (act_view act.now))) }
 {
+    let marks = events.marks();
     match act {
         Act::DidOpen { uri, version, .. } => {
-            trace_text(
-                alloc,
-                facts,
-                events,
-                place,
-                act,
-                uri.as_str(),
-                *version,
-                rule,
-            )
+            let uri = uri.as_str();
+            trace_text(alloc, facts, events, place, act, uri, *version, rule)
         }
         Act::DidChange { uri, version, .. } => {
-            trace_text(
-                alloc,
-                facts,
-                events,
-                place,
-                act,
-                uri.as_str(),
-                *version,
-                rule,
-            )
+            let uri = uri.as_str();
+            trace_text(alloc, facts, events, place, act, uri, *version, rule)
         }
-        Act::DidClose { uri } => trace_held(facts, events.marks(), uri.as_str(), rule),
-        Act::DidSave { uri, .. } => trace_held(facts, events.marks(), uri.as_str(), rule),
+        Act::DidClose { uri } => trace_document(facts, marks, uri.as_str(), &[], Until::Held, rule),
+        Act::DidSave { uri, .. } => {
+            trace_document(facts, marks, uri.as_str(), &[], Until::Held, rule)
+        }
         _ => Ok(()),
     }
 }
@@ -171,7 +180,7 @@ fn trace_act(
 /// The same of an act that brings this document to a version.
 fn trace_text(
     alloc: Global,
-    facts: &mut Vec<Fact>,
+    facts: &mut Facts,
     events: &SurveyReader,
     place: EventPlace,
     act: &Act,
@@ -181,11 +190,11 @@ fn trace_text(
 ) -> Result<(), Memory>
     ensures { OnOk result ((before : List Event) (call : Call) → StandsAfter events.now before
         → spec.act_call (terms_in events.now) before (act_view act.now) ≡ Some call
-        → facts_view facts.new.items
-        ≡ spec.document_traced (steps (terms_in events.now) uri.now before)
+        → facts.new ≡ facts.old
+        ++ spec.document_traced (steps (terms_in events.now) uri.now before)
         (refuting (terms_in events.now) (calls (kept_of (terms_in events.now) before)) call
         (waiting_for version (steps (terms_in events.now) uri.now before)))
-        (Until.Message place version) rule (facts_view facts.old.items)) }
+        (Until.Message place version) rule) }
 {
     let marks = events.marks();
     let until = Until::Message { place, version };
@@ -198,125 +207,165 @@ fn trace_text(
     trace_document(facts, marks, uri, snapshots.as_slice(), until, rule)
 }
 
-/// The same of an act that leaves this document at its version.
-fn trace_held(facts: &mut Vec<Fact>, marks: &Marks, uri: &str, rule: u16) -> Result<(), Memory>
-    ensures { OnOk result ((terms : Terms) (before : List Event)
-        → AreMarks terms marks.now.map.entries before
-        → facts_view facts.new.items
-        ≡ spec.document_traced (steps terms uri.now before) [] Until.Held rule
-        (facts_view facts.old.items)) }
-{
-    trace_document(facts, marks, uri, &[], Until::Held, rule)
-}
-
-/// The same of a snapshot of this version, the event of this place, which is named itself under
-/// 702.
-fn trace_snapshot(
-    facts: &mut Vec<Fact>,
+/// Adds to the facts on a call that speaks of this document.
+fn trace_document(
+    facts: &mut Facts,
     marks: &Marks,
-    place: EventPlace,
-    version: i32,
     uri: &str,
+    snapshots: &[EventPlace],
+    until: Until,
     rule: u16,
 ) -> Result<(), Memory>
     ensures { OnOk result ((terms : Terms) (before : List Event)
         → AreMarks terms marks.now.map.entries before
-        → facts_view facts.new.items
-        ≡ spec.document_traced (steps terms uri.now before) (place ∷ []) (Until.Version version)
-        rule (facts_view facts.old.items)) }
+        → facts.new ≡ facts.old
+        ++ spec.document_traced (steps terms uri.now before) snapshots.now until rule) }
 {
-    trace_document(facts, marks, uri, &[place], Until::Version(version), rule)
+    let equal = marks.agreed(uri);
+    let setters = marks.setters(uri)?;
+    push_texts(facts, equal, setters.as_slice(), snapshots, until, rule)
 }
 
-/// Adds to the facts on a message of a side that breaks this rule, 301 to 504, under 301 and 302
-/// the event that answered a request of its id before, under 301 also the open request whose id
-/// differs in its type alone, under 302 the event that asked the request that is open, under 401 to
-/// 412 the one that led to the phase.
+/// Adds the snapshots that differ, the one that was found equal, and the messages that can have
+/// made the texts differ.
+fn push_texts(
+    facts: &mut Facts,
+    equal: Option<Shown>,
+    setters: &[Setter],
+    snapshots: &[EventPlace],
+    until: Until,
+    rule: u16,
+) -> Result<(), Memory>
+    ensures { OnOk result (facts.new ≡ facts.old ++ spec.texts_traced snapshots.now
+        (spec.apart_facts equal until setters.now) rule) }
+{
+    if rule == rules::SNAPSHOT_DIFFERS {
+        push_snapshots(facts, snapshots)?;
+        return push_apart(facts, equal, setters, until);
+    }
+    if rule == rules::SAVED_TEXT_DIFFERS {
+        return push_apart(facts, equal, setters, until);
+    }
+    Ok(())
+}
+
+fn push_snapshots(facts: &mut Facts, snapshots: &[EventPlace]) -> Result<(), Memory>
+    ensures { OnOk result (facts.new ≡ facts.old ++ map (cited (codes "snapshot")) snapshots.now) }
+{
+    for place in snapshots {
+        facts.event("snapshot", *place)?;
+    }
+    Ok(())
+}
+
+/// Adds the snapshot that was found equal, and the messages that can have made the texts differ.
+fn push_apart(
+    facts: &mut Facts,
+    equal: Option<Shown>,
+    setters: &[Setter],
+    until: Until,
+) -> Result<(), Memory>
+    ensures { OnOk result (facts.new ≡ facts.old ++ spec.apart_facts equal until setters.now) }
+{
+    if let Some(Shown { place, version, .. }) = equal {
+        facts.version_by("equal", version, place)?;
+    }
+    push_suspects(facts, equal, until, setters)
+}
+
+/// Adds to the facts on a message of a side that breaks this rule, 301 to 504, under 401 to 412 the
+/// event that led to the phase, under 301 and 302 the events that have to do with its id.
 fn trace_message(
     alloc: Global,
-    facts: &mut Vec<Fact>,
+    facts: &mut Facts,
     said: &SessionNotes,
     side: Side,
     message: &Message,
     rule: u16,
 ) -> Result<(), Memory>
     ensures { OnOk result ((terms : Terms) (before : List Event) → AreNotes terms said.now before
-        → facts_view facts.new.items ≡ facts_view facts.old.items
-        ++ spec.session_trace rule (numbered terms before) side
+        → facts.new ≡ facts.old ++ spec.session_trace rule (numbered terms before) side
         (id_in (message_view message.now))) }
 {
-    match rule {
-        rules::RESPONSE_TO_NO_OPEN_REQUEST => {
-            push_twin(alloc, facts, said, other_side(side), message)?;
-            push_answered(facts, answered(said, other_side(side), message))
-        }
-        rules::ID_ALREADY_OPEN => {
-            push_asked(facts, asked(said, side, message))?;
-            push_answered(facts, answered(said, side, message))
-        }
-        rules::EDITOR_BEFORE_INITIALIZE..=rules::SERVER_WHILE_INITIALIZE_OPEN => push_since(
-            facts,
-            said.since(),
-        ),
-        _ => Ok(()),
+    if is_on_phase(rule) {
+        return push_earlier(facts, "since", said.since());
     }
-}
-
-/// Adds this side's open request whose id differs from that of a message in its type alone.
-fn push_twin(
-    alloc: Global,
-    facts: &mut Vec<Fact>,
-    said: &SessionNotes,
-    side: Side,
-    message: &Message,
-) -> Result<(), Memory>
-    ensures { OnOk result ((terms : Terms) (before : List Event) → AreNotes terms said.now before
-        → facts_view facts.new.items ≡ facts_view facts.old.items
-        ++ spec.twin_facts side (numbered terms before)
-        (option_and_then twin (id_in (message_view message.now)))) }
-{
-    let Some(id) = id_in(message) else {
-        return Ok(());
-    };
-    match twin_of(alloc, id)? {
-        Some(twin) => push_open(facts, said, side, twin),
+    match id_in(message) {
+        Some(id) => trace_id(alloc, facts, said, side, id, rule),
         None => Ok(()),
     }
 }
 
-/// Adds the open request of this side with this id, if there is one.
-fn push_open(facts: &mut Vec<Fact>, said: &SessionNotes, side: Side, id: Id) -> Result<(), Memory>
-    ensures { OnOk result ((terms : Terms) (before : List Event) → AreNotes terms said.now before
-        → facts_view facts.new.items ≡ facts_view facts.old.items
-        ++ spec.twin_facts side (numbered terms before) (Some (id_view id))) }
+/// Whether a rule, 401 to 412, says what may be sent in a phase.
+fn is_on_phase(rule: u16) -> bool
+    ensures { result ≡ spec.is_on_phase rule }
 {
-    let Some(place) = said.asked(side, &id) else {
-        return Ok(());
-    };
-    Ok(facts.push(Fact::Open { id, place })?)
+    matches!(
+        rule,
+        rules::EDITOR_BEFORE_INITIALIZE..=rules::SERVER_WHILE_INITIALIZE_OPEN
+    )
 }
 
-/// The event that answered a request of this side with the id of a message last.
-fn answered(said: &SessionNotes, side: Side, message: &Message) -> Option<EventPlace>
-    ensures { (terms : Terms) (before : List Event) → AreNotes terms said.now before
-        → result ≡ option_and_then
-        (λ id. answered side id (numbered terms before)) (id_in (message_view message.now)) }
+/// Adds to the facts on a message of a side with this id, under 301 the open request whose id
+/// differs in its type alone, under 302 the event that asked the request that is open, under both
+/// the one that answered a request of this id before.
+fn trace_id(
+    alloc: Global,
+    facts: &mut Facts,
+    said: &SessionNotes,
+    side: Side,
+    id: &Id,
+    rule: u16,
+) -> Result<(), Memory>
+    ensures { OnOk result ((terms : Terms) (before : List Event) → AreNotes terms said.now before
+        → facts.new ≡ facts.old
+        ++ spec.id_trace rule (numbered terms before) side (id_view id.now)) }
 {
-    match id_in(message) {
-        Some(id) => said.answered(side, id),
-        None => None,
+    match rule {
+        rules::RESPONSE_TO_NO_OPEN_REQUEST => {
+            push_twin(alloc, facts, said, other_side(side), id)?;
+            push_earlier(facts, "answered", said.answered(other_side(side), id))
+        }
+        rules::ID_ALREADY_OPEN => {
+            push_earlier(facts, "asked", said.asked(side, id))?;
+            push_earlier(facts, "answered", said.answered(side, id))
+        }
+        _ => Ok(()),
     }
 }
 
-/// The event that asked the open request of this side with the id of a message.
-fn asked(said: &SessionNotes, side: Side, message: &Message) -> Option<EventPlace>
-    ensures { (terms : Terms) (before : List Event) → AreNotes terms said.now before
-        → result ≡ option_and_then
-        (λ id. asked side id (numbered terms before)) (id_in (message_view message.now)) }
+/// Adds this side's open request whose id differs from this one in its type alone.
+fn push_twin(
+    alloc: Global,
+    facts: &mut Facts,
+    said: &SessionNotes,
+    side: Side,
+    id: &Id,
+) -> Result<(), Memory>
+    ensures { OnOk result ((terms : Terms) (before : List Event) → AreNotes terms said.now before
+        → facts.new ≡ facts.old
+        ++ spec.twin_facts side (numbered terms before) (twin (id_view id.now))) }
 {
-    match id_in(message) {
-        Some(id) => said.asked(side, id),
-        None => None,
+    let Some(twin) = twin_of(alloc, id)? else {
+        return Ok(());
+    };
+    match said.asked(side, &twin) {
+        Some(place) => facts.id_by("open", &twin, place),
+        None => Ok(()),
+    }
+}
+
+/// Adds an earlier event under this key, where there is one.
+pub(crate) fn push_earlier(
+    facts: &mut Facts,
+    key: &str,
+    place: Option<EventPlace>,
+) -> Result<(), Memory>
+    ensures { OnOk result (facts.new ≡ facts.old ++ spec.place_facts key.now place) }
+{
+    match place {
+        Some(place) => facts.event(key, place),
+        None => Ok(()),
     }
 }
 
@@ -329,205 +378,43 @@ fn other_side(side: Side) -> Side
     }
 }
 
-/// Adds to the facts on a call that speaks of this document.
-fn trace_document(
-    facts: &mut Vec<Fact>,
-    marks: &Marks,
-    uri: &str,
-    snapshots: &[EventPlace],
-    until: Until,
-    rule: u16,
-) -> Result<(), Memory>
-    ensures { OnOk result ((terms : Terms) (before : List Event)
-        → AreMarks terms marks.now.map.entries before
-        → facts_view facts.new.items
-        ≡ spec.document_traced (steps terms uri.now before) snapshots.now until rule
-        (facts_view facts.old.items)) }
-{
-    let setters = marks.setters(uri)?;
-    put_setter(facts, last_place(setters.as_slice()))?;
-    push_texts(
-        facts,
-        marks.agreed(uri),
-        setters.as_slice(),
-        snapshots,
-        until,
-        rule,
-    )
-}
-
-/// The place of the last of these messages, which set the held version.
-fn last_place(setters: &[Setter]) -> Option<EventPlace>
-    ensures { result ≡ spec.brought setters.now }
-{
-    match setters.last() {
-        Some(setter) => Some(setter.place),
-        None => None,
-    }
-}
-
-/// Adds the event that set the held version to that fact.
-fn put_setter(facts: &mut Vec<Fact>, brought: Option<EventPlace>) -> Result<(), Memory>
-    ensures { OnOk result (facts_view facts.new.items
-        ≡ spec.with_setter brought (facts_view facts.old.items)) }
-{
-    let Some(place) = brought else {
-        return Ok(());
-    };
-    if facts.len() < 2 {
-        return Ok(());
-    }
-    set_second(facts, place)
-}
-
-/// Adds the event that set the held version, if the second fact is that version.
-fn set_second(facts: &mut Vec<Fact>, place: EventPlace) -> Result<(), Memory>
-    requires { 2 ≤ vec_len facts.old }
-    ensures { OnOk result (facts_view facts.new.items
-        ≡ spec.with_setter (Some place) (facts_view facts.old.items)) }
-{
-    let fact = held_by(facts.remove(1), place);
-    Ok(facts.insert(1, fact)?)
-}
-
-/// The version that is held, with the event that set it; another fact as it is.
-fn held_by(fact: Fact, place: EventPlace) -> Fact
-    ensures { fact_view result ≡ spec.held_by place (fact_view fact) }
-{
-    if let Fact::Held(version) = fact {
-        return Fact::HeldBy { version, place };
-    }
-    fact
-}
-
-/// Adds the snapshots that differ, the one that was found equal, and the messages that can have
-/// made the texts differ.
-fn push_texts(
-    facts: &mut Vec<Fact>,
-    equal: Option<Shown>,
-    setters: &[Setter],
-    snapshots: &[EventPlace],
-    until: Until,
-    rule: u16,
-) -> Result<(), Memory>
-    ensures { OnOk result (facts_view facts.new.items ≡ facts_view facts.old.items
-        ++ spec.texts_traced snapshots.now (spec.apart_facts equal until setters.now) rule) }
-{
-    if rule == rules::SNAPSHOT_DIFFERS {
-        push_snapshots(facts, snapshots)?;
-        return push_apart(facts, equal, setters, until);
-    }
-    if rule == rules::SAVED_TEXT_DIFFERS {
-        return push_apart(facts, equal, setters, until);
-    }
-    Ok(())
-}
-
-/// Adds the snapshot that was found equal, and the messages that can have made the texts differ.
-fn push_apart(
-    facts: &mut Vec<Fact>,
-    equal: Option<Shown>,
-    setters: &[Setter],
-    until: Until,
-) -> Result<(), Memory>
-    ensures { OnOk result (facts_view facts.new.items ≡ facts_view facts.old.items
-        ++ spec.apart_facts equal until setters.now) }
-{
-    push_equal(facts, equal)?;
-    push_suspects(facts, equal, until, setters)
-}
-
-fn push_snapshots(facts: &mut Vec<Fact>, snapshots: &[EventPlace]) -> Result<(), Memory>
-    ensures { OnOk result (facts_view facts.new.items ≡ facts_view facts.old.items
-        ++ map shown_by snapshots.now) }
-{
-    for place in snapshots {
-        facts.push(Fact::Snapshot(*place))?;
-    }
-    Ok(())
-}
-
-fn push_equal(facts: &mut Vec<Fact>, equal: Option<Shown>) -> Result<(), Memory>
-    ensures { OnOk result (facts_view facts.new.items ≡ facts_view facts.old.items
-        ++ spec.equal_facts equal) }
-{
-    let Some(Shown { place, version, .. }) = equal else {
-        return Ok(());
-    };
-    Ok(facts.push(Fact::Equal { version, place })?)
-}
-
-fn push_answered(facts: &mut Vec<Fact>, place: Option<EventPlace>) -> Result<(), Memory>
-    ensures { OnOk result (facts_view facts.new.items ≡ facts_view facts.old.items
-        ++ spec.place_facts answered_by place) }
-{
-    let Some(place) = place else {
-        return Ok(());
-    };
-    Ok(facts.push(Fact::Answered(place))?)
-}
-
-fn push_asked(facts: &mut Vec<Fact>, place: Option<EventPlace>) -> Result<(), Memory>
-    ensures { OnOk result (facts_view facts.new.items ≡ facts_view facts.old.items
-        ++ spec.place_facts asked_by place) }
-{
-    let Some(place) = place else {
-        return Ok(());
-    };
-    Ok(facts.push(Fact::Asked(place))?)
-}
-
-fn push_since(facts: &mut Vec<Fact>, place: Option<EventPlace>) -> Result<(), Memory>
-    ensures { OnOk result (facts_view facts.new.items ≡ facts_view facts.old.items
-        ++ spec.place_facts led_by place) }
-{
-    let Some(place) = place else {
-        return Ok(());
-    };
-    Ok(facts.push(Fact::Since(place))?)
-}
-
 /// What is said about a session that ends and is not complete: the requests of the editor's that
 /// wait, in the order in which they were sent, with the events that sent them; how far the session
 /// has come, and the event that led there. The reader stands for all its events.
 ///
 /// # Errors
 /// `Memory` where memory was refused.
-pub(crate) fn lack_traced(alloc: Global, events: &SurveyReader) -> Result<Vec<Fact>, Memory>
+pub(crate) fn lack_traced(alloc: Global, events: &SurveyReader) -> Result<Facts, Memory>
     ensures { IfOk result (λ facts. (before : List Event) → StandsAfter events.now before
-        → facts_view facts.items ≡ spec.lack_traced (numbered (terms_in events.now) before)) }
+        → facts ≡ spec.lack_traced (numbered (terms_in events.now) before)) }
 {
     let session = events.session();
     let said = events.session_notes();
     let mut facts = requests(alloc, session.pending(Side::Editor), said)?;
-    facts.push(Fact::Phase(session.phase()))?;
-    push_since(&mut facts, said.since())?;
+    facts.phase(session.phase())?;
+    push_earlier(&mut facts, "since", said.since())?;
     Ok(facts)
 }
 
 /// The requests that wait, with the events that asked them.
-fn requests(alloc: Global, pending: &Pending, said: &SessionNotes) -> Result<Vec<Fact>, Memory>
+fn requests(alloc: Global, pending: &Pending, said: &SessionNotes) -> Result<Facts, Memory>
     ensures { IfOk result (λ facts. (terms : Terms) (before : List Event)
         → AreNotes terms said.now before
-        → facts_view facts.items ≡ map (spec.waiting_by (numbered terms before)) pending.now) }
+        → facts ≡ map (spec.waiting_by (numbered terms before)) pending.now) }
 {
-    let mut facts = Vec::new(alloc);
+    let mut facts = Facts::new(alloc);
     let mut requests = pending.walk();
     while let Some(request) = requests.next() {
-        facts.push(request_by(alloc, request, said)?)?;
+        push_request(&mut facts, request, said)?;
     }
     Ok(facts)
 }
 
-fn request_by(alloc: Global, request: &OpenRequest, said: &SessionNotes) -> Result<Fact, Memory>
-    ensures { IfOk result (λ fact. (terms : Terms) (before : List Event)
-        → AreNotes terms said.now before
-        → fact_view fact ≡ spec.waiting_by (numbered terms before) (request_view request.now)) }
+fn push_request(facts: &mut Facts, request: &OpenRequest, said: &SessionNotes) -> Result<(), Memory>
+    ensures { OnOk result ((terms : Terms) (before : List Event) → AreNotes terms said.now before
+        → facts.new ≡ facts.old
+        ++ spec.waiting_by (numbered terms before) (request_view request.now) ∷ []) }
 {
-    let id = copy_id(&request.id)?;
-    let method = String::from_str(alloc, request.method.as_str())?;
-    match said.asked(Side::Editor, &request.id) {
-        Some(place) => Ok(Fact::RequestBy { id, method, place }),
-        None => Ok(Fact::Request { id, method }),
-    }
+    let asked = said.asked(Side::Editor, &request.id);
+    facts.request(&request.id, request.method.as_str(), asked)
 }

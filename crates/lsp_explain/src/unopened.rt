@@ -1,17 +1,14 @@
 //! What is said about a document that is not open.
-ghost use Rattle.std.specs.Prelude.{◌≡◌, ◌++◌, List, IfOk, OnOk, length};
+ghost use Rattle.std.specs.Prelude.{◌≡◌, ◌++◌, List, IfOk, OnOk};
 ghost use Rattle.std.specs.List.{flat_map};
-ghost use Rattle.std.specs.Str.{bytes_eq};
 ghost use Rattle.lsp_rpc.specs.View.{act_view};
 ghost use Rattle.lsp_survey.specs.Openings.{on_view, ons_view};
 ghost use Rattle.lsp_verdict.specs.Event.{Event};
-ghost use Rattle.lsp_verdict.specs.Spelling as spelled;
-ghost use Rattle.lsp_facts.specs.Fact.{facts_view};
 ghost use Rattle.lsp_explain.specs.Standing.{StandsAfter, terms_in};
 ghost use Rattle.lsp_explain.specs.Traced.{act_call};
 ghost use Rattle.lsp_explain.specs.Unopened as spec;
 
-use lsp_facts::Fact;
+use lsp_facts::Facts;
 use lsp_replay::EventPlace;
 use lsp_rpc::{Act, Memory};
 use lsp_survey::{Closing, DocumentEvent, SurveyReader, folded, uri_in};
@@ -23,13 +20,13 @@ use std::alloc::Global;
 /// events before it.
 pub(crate) fn trace_unopened(
     alloc: Global,
-    facts: &mut Vec<Fact>,
+    facts: &mut Facts,
     events: &SurveyReader,
     act: &Act,
     rule: u16,
 ) -> Result<(), Memory>
     ensures { OnOk result ((before : List Event) → StandsAfter events.now before
-        → facts_view facts.new.items ≡ facts_view facts.old.items
+        → facts.new ≡ facts.old
         ++ spec.unopened_traced (terms_in events.now) before rule
         (act_call (terms_in events.now) before (act_view act.now))) }
 {
@@ -44,25 +41,25 @@ pub(crate) fn trace_unopened(
 
 fn push_unopened(
     alloc: Global,
-    facts: &mut Vec<Fact>,
+    facts: &mut Facts,
     events: &SurveyReader,
     uri: &str,
 ) -> Result<(), Memory>
     ensures { OnOk result ((before : List Event) → StandsAfter events.now before
-        → facts_view facts.new.items ≡ facts_view facts.old.items
+        → facts.new ≡ facts.old
         ++ spec.unopened_facts (terms_in events.now) before uri.now) }
 {
     push_closing(facts, events.openings().closing(uri))?;
     push_similar(alloc, facts, events, uri)
 }
 
-fn push_closing(facts: &mut Vec<Fact>, closing: Closing) -> Result<(), Memory>
-    ensures { OnOk result (facts_view facts.new.items ≡ facts_view facts.old.items
+fn push_closing(facts: &mut Facts, closing: Closing) -> Result<(), Memory>
+    ensures { OnOk result (facts.new ≡ facts.old
         ++ spec.closing_facts closing) }
 {
     match closing {
-        Closing::Last(place) => Ok(facts.push(Fact::Closed(place))?),
-        Closing::Never => Ok(facts.push(Fact::NeverOpened)?),
+        Closing::Last(place) => facts.event("closed", place),
+        Closing::Never => facts.word("opened", "never"),
         Closing::Forgotten => Ok(()),
     }
 }
@@ -70,75 +67,60 @@ fn push_closing(facts: &mut Vec<Fact>, closing: Closing) -> Result<(), Memory>
 /// Adds the open documents of which the URI differs from this one in its spelling alone.
 fn push_similar(
     alloc: Global,
-    facts: &mut Vec<Fact>,
+    facts: &mut Facts,
     events: &SurveyReader,
     uri: &str,
 ) -> Result<(), Memory>
     ensures { OnOk result ((before : List Event) → StandsAfter events.now before
-        → facts_view facts.new.items ≡ facts_view facts.old.items
-        ++ spec.similar_facts (terms_in events.now) before uri.now) }
+        → facts.new ≡ facts.old ++ spec.similar_facts (terms_in events.now) before uri.now) }
 {
-    let sought = Sought::of(alloc, uri)?;
-    push_spelled(alloc, facts, events, &sought)
+    let size = uri.len();
+    let spelling = folded(alloc, uri)?;
+    let spelling = spelling.as_slice();
+    let (first, second) = events.openings().last_opened();
+    push_spelled(alloc, facts, events, size, spelling, first)?;
+    push_spelled(alloc, facts, events, size, spelling, second)
 }
 
-/// Adds the open documents of which the URI differs from the sought one in its spelling alone.
+/// Adds those of the open documents that these messages opened and that differ in their spelling
+/// alone from a URI of this size with this spelling.
 fn push_spelled(
     alloc: Global,
-    facts: &mut Vec<Fact>,
+    facts: &mut Facts,
     events: &SurveyReader,
-    sought: &Sought,
-) -> Result<(), Memory>
-    ensures { OnOk result ((before : List Event) → StandsAfter events.now before
-        → facts_view facts.new.items ≡ facts_view facts.old.items
-        ++ flat_map (spec.similar_fact (terms_in events.now) before sought.now.size
-        sought.now.spelling.items) (spec.last_openings (terms_in events.now) before)) }
-{
-    let (first, second) = events.openings().last_opened();
-    push_spelled_of(alloc, facts, events, sought, first)?;
-    push_spelled_of(alloc, facts, events, sought, second)
-}
-
-/// Adds those of them that these messages opened.
-fn push_spelled_of(
-    alloc: Global,
-    facts: &mut Vec<Fact>,
-    events: &SurveyReader,
-    sought: &Sought,
+    size: usize,
+    spelling: &[u8],
     opened: &[DocumentEvent],
 ) -> Result<(), Memory>
     ensures { OnOk result ((before : List Event) → StandsAfter events.now before
-        → facts_view facts.new.items ≡ facts_view facts.old.items
-        ++ flat_map (spec.similar_fact (terms_in events.now) before sought.now.size
-        sought.now.spelling.items) (ons_view opened.now)) }
+        → facts.new ≡ facts.old ++ flat_map (spec.similar_fact (terms_in events.now) before size
+        spelling.now) (ons_view opened.now)) }
 {
     for on in opened {
-        push_spelled_one(alloc, facts, events, sought, on)?;
+        push_spelled_one(alloc, facts, events, size, spelling, on)?;
     }
     Ok(())
 }
 
 fn push_spelled_one(
     alloc: Global,
-    facts: &mut Vec<Fact>,
+    facts: &mut Facts,
     events: &SurveyReader,
-    sought: &Sought,
+    size: usize,
+    spelling: &[u8],
     on: &DocumentEvent,
 ) -> Result<(), Memory>
     ensures { OnOk result ((before : List Event) → StandsAfter events.now before
-        → facts_view facts.new.items ≡ facts_view facts.old.items
-        ++ spec.similar_fact (terms_in events.now) before sought.now.size
-        sought.now.spelling.items (on_view on.now)) }
+        → facts.new ≡ facts.old ++ spec.similar_fact (terms_in events.now) before size
+        spelling.now (on_view on.now)) }
 {
-    if !is_spelled(alloc, sought, on.uri.as_str())? {
+    if !is_spelled(alloc, size, spelling, on.uri.as_str())? {
         return Ok(());
     }
     if !is_standing(events, on) {
         return Ok(());
     }
-    let uri = String::from_str(alloc, on.uri.as_str())?;
-    let place = on.place;
-    Ok(facts.push(Fact::Similar { uri, place })?)
+    facts.text_by("similar", on.uri.as_str(), on.place)
 }
 
 /// Whether the document is open that this message opened, and none opened it later.
@@ -159,38 +141,16 @@ fn is_at(place: EventPlace, other: Option<EventPlace>) -> bool
     }
 }
 
-/// A URI that others are compared with.
-#[derive(Drop)]
-struct Sought {
-    /// Its bytes of UTF-8.
-    size: usize,
-    /// What it has in common with those that differ from it in their spelling alone.
-    spelling: Vec<u8>,
-}
-
-impl Sought {
-    fn of(alloc: Global, uri: &str) -> Result<Sought, Memory>
-        ensures { IfOk result (λ sought. (sought.size ≡ length uri.now)
-            × (sought.spelling.items ≡ spelled.folded uri.now)) }
-    {
-        let spelling = folded(alloc, uri)?;
-        Ok(Sought {
-            size: uri.len(),
-            spelling,
-        })
-    }
-}
-
-/// Whether a URI differs from the sought one in its spelling alone, and is at most three times as
-/// long.
-fn is_spelled(alloc: Global, sought: &Sought, other: &str) -> Result<bool, Memory>
-    ensures { IfOk result (λ spelled.
-        spelled ≡ spec.is_spelled sought.now.size sought.now.spelling.items other.now) }
+/// Whether another URI differs in its spelling alone from one of this size with this spelling, and
+/// is at most three times as long.
+fn is_spelled(alloc: Global, size: usize, spelling: &[u8], other: &str) -> Result<bool, Memory>
+    ensures { IfOk result (λ spelled. spelled ≡ spec.is_spelled size spelling.now other.now) }
 {
-    if is_long(sought.size, other.len()) {
+    if is_long(size, other.len()) {
         return Ok(false);
     }
-    has_spelling(alloc, sought.spelling.as_slice(), other)
+    let folded = folded(alloc, other)?;
+    Ok(spelling == folded.as_slice())
 }
 
 /// Whether the other size is more than three times this one.
@@ -198,11 +158,4 @@ fn is_long(size: usize, other: usize) -> bool
     ensures { result ≡ spec.is_long size other }
 {
     other > size.saturating_mul(3)
-}
-
-fn has_spelling(alloc: Global, spelling: &[u8], other: &str) -> Result<bool, Memory>
-    ensures { IfOk result (λ has. has ≡ bytes_eq spelling.now (spelled.folded other.now)) }
-{
-    let folded = folded(alloc, other)?;
-    Ok(spelling == folded.as_slice())
 }

@@ -1,6 +1,6 @@
 -- What a call breaks, as the facts on it are gathered.
 use Rattle.std.proofs.Common.{◌≡◌, ◌≢◌, ◌⊎◌, ◌≤◌, ℕ, Bool, true, false, cond, ◌&&◌, ◌||◌, List, [], ◌∷◌, ◌++◌, length, Option, Some, None, Result, Ok, Err, refl, sym, ap, subst, ◌∙◌, inl, inr, true≢false}
-use Rattle.std.specs.Prelude.{ℤ, int_lt, not, if◌then◌else◌, slice_get, option_to_list}
+use Rattle.std.specs.Prelude.{ℤ, codes, int_lt, not, if◌then◌else◌, slice_get, option_to_list}
 use Rattle.std.specs.List.{find, list_any, list_all}
 use Rattle.std.specs.Option.{option_map}
 use Rattle.std.specs.Ordering.{int_eq}
@@ -24,7 +24,7 @@ use Rattle.lsp_docs.specs.Snapshots.{texts_at}
 use Rattle.lsp_docs.proofs.SameVersions.{differs-texts}
 use Rattle.lsp_facts.specs.Fact.{Fact}
 use Rattle.lsp_facts.specs.DocumentFacts.{IsRefused, IsRefuted, AreApart, AreOfChange, AreOfSnapshot, AreDocumentFacts}
-use Rattle.lsp_facts.specs.Fact.{in_editor}
+use Rattle.lsp_replay.specs.declared.heard.EventPlace.{EventPlace}
 use Rattle.lsp_facts.specs.Making.{IsRejected, IsMade}
 use Rattle.lsp_facts.specs.Refuting.{first_other, is_other}
 use Rattle.lsp_facts.proofs.MadeChanges.{fails_there, makes_all}
@@ -133,7 +133,7 @@ pub show_explained : (ends : LineEnds) (enc : Encoding) (number : ℤ) (t : Text
     (h : Option Version) (rule : ℕ) (u : Text) (facts : List Fact) → (rule ≡ 701 → ⊥)
     → show_rule ends number t ks h ≡ Some rule
     → other_than ends (versioned number t) ks h ≡ Some u
-    → (IsOther ends u t → AreApart ends enc u t in_editor facts)
+    → (IsOther ends u t → AreApart ends enc u t (codes "in-editor") facts)
     → AreOfSnapshot ends enc ks h (versioned number t) rule facts
 show_explained ends enc number t ks h rule u facts no701 e other apart =
     elim (show_breaks ends number t ks h rule e) [
@@ -231,8 +231,8 @@ module _ (terms : Terms) (ws : List Version) (enc : Encoding) (kind : SyncKind) 
 -- ---- any call
 
 -- what is said of the call that an act is
-pub explains : (terms : Terms) (enc : Encoding) (calls : List Call) (made : Call) (rule : ℕ) (facts : List Fact) → (call_rule terms calls made ≡ Some rule → AreDocumentFacts terms enc calls made rule facts)
-    → (call : Call) → (let o : Option Call = Some made in o) ≡ Some call → call_rule terms calls call ≡ Some rule → AreDocumentFacts terms enc calls call rule facts
-explains terms enc calls made rule facts told call is e =
+pub explains : (terms : Terms) (enc : Encoding) (calls : List Call) (made : Call) (rule : ℕ) (set_by : Option EventPlace) (facts : List Fact) → (call_rule terms calls made ≡ Some rule → AreDocumentFacts terms enc calls made rule set_by facts)
+    → (call : Call) → (let o : Option Call = Some made in o) ≡ Some call → call_rule terms calls call ≡ Some rule → AreDocumentFacts terms enc calls call rule set_by facts
+explains terms enc calls made rule set_by facts told call is e =
     let same : made ≡ call = cc in
-    subst (λ (x : Call). AreDocumentFacts terms enc calls x rule facts) same (told (ap (λ (x : Call). call_rule terms calls x) same ∙ e))
+    subst (λ (x : Call). AreDocumentFacts terms enc calls x rule set_by facts) same (told (ap (λ (x : Call). call_rule terms calls x) same ∙ e))

@@ -1,6 +1,6 @@
 -- The facts on an event are the same, however they are found.
 use Rattle.std.proofs.Common.{◌≡◌, ◌⊎◌, ◌+◌, ◌<◌, ◌≤◌, ℕ, zero, suc, Bool, true, false, cond, List, [], ◌∷◌, ◌++◌, take, Option, Some, None, Result, Ok, Err, inl, inr, refl, sym, ap, subst, ◌∙◌, arith}
-use Rattle.std.specs.Prelude.{ℤ, nat_lt, slice_get, unwrap_or}
+use Rattle.std.specs.Prelude.{ℤ, codes, nat_lt, slice_get, unwrap_or}
 use Rattle.std.proofs.lemmas.Bool.{cases_lt}
 use Rattle.std.proofs.lemmas.Bool.Decides.{nat_tests}
 use Rattle.std.proofs.lemmas.Option.{same_Some}
@@ -22,7 +22,7 @@ use Rattle.lsp_docs.specs.Kept.{kept as versions_kept}
 use Rattle.lsp_docs.specs.Snapshots.{waiting, versions_of}
 use Rattle.lsp_docs.specs.Terms.{Terms}
 use Rattle.lsp_docs.specs.Texts.{Text}
-use Rattle.lsp_facts.specs.DocumentFacts.{fits_fact, head_facts, line_length, first_length, stray}
+use Rattle.lsp_facts.specs.DocumentFacts.{falls_inside, fits_fact, head_facts, line_length, first_length, stray}
 use Rattle.lsp_facts.specs.DocumentFacts.{difference_facts, ends_facts, IsStray, IsTooLong}
 use Rattle.lsp_facts.specs.DocumentFacts.{IsLongWithLine, IsReason, IsRefused, IsFailing}
 use Rattle.lsp_facts.specs.DocumentFacts.{AreApart, AreOfDifference, IsRefuted, IsRefuting}
@@ -36,8 +36,8 @@ use Rattle.lsp_verdict.specs.Placed.{Raw}
 use Rattle.lsp_facts.specs.EventFacts.{AreCallFacts, AreFactsBy, AreFacts}
 use Rattle.lsp_facts.specs.FlawFacts.{Rests}
 use Rattle.lsp_facts.specs.Edges.{edges}
-use Rattle.lsp_facts.specs.Part.{Part}
-use Rattle.lsp_facts.specs.Fact.{Fact, falls_inside, would_have, may_have, in_editor, saved_line, counts_in, fails}
+use Rattle.lsp_facts.specs.Fact.{Fact, would_have, may_have, counts_in, fails}
+use Rattle.lsp_replay.specs.declared.heard.EventPlace.{EventPlace}
 use Rattle.lsp_facts.proofs.MadeChanges.{fails_there}
 
 same_text : (t u : Text) → (let r : Result Text ℕ = Ok t in r) ≡ Ok u → t ≡ u
@@ -52,17 +52,17 @@ either one apart across other (inr p) (inr q) = other p q
 
 -- ---- texts that differ
 
-one_difference : (enc : Encoding) (t u : Text) (line : Part → Fact) (f g : List Fact)
-    → AreOfDifference enc t u line f → AreOfDifference enc t u line g → f ≡ g
-one_difference enc t u line f g p q =
-    p.2 ∙ ap (difference_facts enc t u line) (one_place t u p.0 q.0 p.1 q.1) ∙ sym q.2
+one_difference : (enc : Encoding) (t u : Text) (key : List ℕ) (f g : List Fact)
+    → AreOfDifference enc t u key f → AreOfDifference enc t u key g → f ≡ g
+one_difference enc t u key f g p q =
+    p.2 ∙ ap (difference_facts enc t u key) (one_place t u p.0 q.0 p.1 q.1) ∙ sym q.2
 
-one_apart : (ends : LineEnds) (enc : Encoding) (t u : Text) (line : Part → Fact) (f g : List Fact)
-    → AreApart ends enc t u line f → AreApart ends enc t u line g → f ≡ g
-one_apart ends enc t u line f g p q =
+one_apart : (ends : LineEnds) (enc : Encoding) (t u : Text) (key : List ℕ) (f g : List Fact)
+    → AreApart ends enc t u key f → AreApart ends enc t u key g → f ≡ g
+one_apart ends enc t u key f g p q =
     p.are
     ∙ ap (λ (l : List Fact). l ++ ends_facts t u)
-    (one_difference enc (compared ends t) (compared ends u) line p.place q.place p.at q.at)
+    (one_difference enc (compared ends t) (compared ends u) key p.place q.place p.at q.at)
     ∙ sym q.are
 
 -- ---- a change that a rule refuses
@@ -83,9 +83,9 @@ module _ (limit : ℕ) (enc : Encoding) (t : Text) where
       let spans : p.of ≡ q.of = same_Some p.of q.of (sym p.there ∙ q.there) in
       let at : LiesInside enc t (stray enc t q.of) p.char = subst (λ s. LiesInside enc t (stray enc t s) p.char) spans p.lies in
       p.are
-      ∙ ap (λ s. line_length enc t (stray enc t s) ++ falls_inside (p.char ∷ []) ∷ fits_fact
+      ∙ ap (λ s. line_length enc t (stray enc t s) ++ falls_inside p.char ∷ fits_fact
       (edges t (stray enc t s))) spans
-      ∙ ap (λ c. line_length enc t (stray enc t q.of) ++ falls_inside (c ∷ []) ∷ fits_fact
+      ∙ ap (λ c. line_length enc t (stray enc t q.of) ++ falls_inside c ∷ fits_fact
       (edges t (stray enc t q.of))) (positions_lie_inside.once enc t (stray enc t q.of) p.char q.char at q.lies)
       ∙ sym q.are
 
@@ -156,8 +156,8 @@ one_refuted : (ends : LineEnds) (enc : Encoding) (ws : List Version) (v : Versio
     (f g : List Fact) → IsRefuted ends enc ws v f → IsRefuted ends enc ws v g → f ≡ g
 one_refuted ends enc ws v f g p q =
     let others : p.other ≡ q.other = same_Some p.other q.other (sym p.waiting ∙ q.waiting) in
-    one_apart ends enc v.text q.other in_editor f g
-    (subst (λ u. AreApart ends enc v.text u in_editor f) others p.apart) q.apart
+    one_apart ends enc v.text q.other (codes "in-editor") f g
+    (subst (λ u. AreApart ends enc v.text u (codes "in-editor") f) others p.apart) q.apart
 
 -- ---- by what was called
 
@@ -214,7 +214,7 @@ module _ (terms : Terms) (enc : Encoding) (ws : List Version) (f g : List Fact) 
 
 one_of_save : (ends : LineEnds) (enc : Encoding) (text : Option Text) (o : Option Version)
     (f g : List Fact) → AreOfSave ends enc text o f → AreOfSave ends enc text o g → f ≡ g
-one_of_save ends enc (Some t) (Some v) f g p q = one_apart ends enc v.text t saved_line f g p q
+one_of_save ends enc (Some t) (Some v) f g p q = one_apart ends enc v.text t (codes "saved") f g p q
 one_of_save ends enc (Some t) None f g p q = p ∙ sym q
 one_of_save ends enc None o f g p q = p ∙ sym q
 
@@ -227,8 +227,8 @@ one_of_snapshot ends enc ks o s rule f g p q =
     refuting : IsRefuting ends enc ks o s f → IsRefuting ends enc ks o s g → f ≡ g
     refuting a b =
         let texts : a.text ≡ b.text = same_Some a.text b.text (sym a.other ∙ b.other) in
-        one_apart ends enc b.text s.text in_editor f g
-        (subst (λ u. AreApart ends enc u s.text in_editor f) texts a.apart) b.apart
+        one_apart ends enc b.text s.text (codes "in-editor") f g
+        (subst (λ u. AreApart ends enc u s.text (codes "in-editor") f) texts a.apart) b.apart
 
 module _ (terms : Terms) (enc : Encoding) (h : Option Version) (ks ws : List Version) (rule : ℕ) where
   one_details : (call : Call) (f g : List Fact) → AreDetails terms enc h ks ws call rule f → AreDetails terms enc h ks ws call rule g → f ≡ g
@@ -241,22 +241,27 @@ module _ (terms : Terms) (enc : Encoding) (h : Option Version) (ks ws : List Ver
   one_details (shows uri number text) f g p q =
       one_of_snapshot terms.line_ends enc ks h (versioned number text) rule f g p q
 
-  pub one_facts_of : (call : Call) (f g : List Fact) → AreFactsOf terms enc h ks ws call rule f → AreFactsOf terms enc h ks ws call rule g → f ≡ g
-  one_facts_of call f g p q = p.are ∙ ap (λ l. head_facts h call ++ l) (one_details call p.details q.details p.says q.says) ∙ sym q.are
+  pub one_facts_of : (call : Call) (set_by : Option EventPlace) (f g : List Fact)
+      → AreFactsOf terms enc h ks ws call rule set_by f
+      → AreFactsOf terms enc h ks ws call rule set_by g → f ≡ g
+  one_facts_of call set_by f g p q = p.are ∙ ap (λ l. head_facts set_by h call ++ l) (one_details call p.details q.details p.says q.says) ∙ sym q.are
 
 -- ---- any event
 
-module _ (terms : Terms) (kept : List Event) (rule : ℕ) (f g : List Fact) where
-  one_call_facts : (said : Option Call) → AreCallFacts terms kept rule said f → AreCallFacts terms kept rule said g → f ≡ g
+module _ (terms : Terms) (kept : List Event) (rule : ℕ) (set_by : Option EventPlace)
+    (f g : List Fact) where
+  one_call_facts : (said : Option Call) → AreCallFacts terms kept rule said set_by f → AreCallFacts terms kept rule said set_by g → f ≡ g
   one_call_facts None p q = p ∙ sym q
   one_call_facts (Some call) p q =
-      one_facts_of terms (unwrap_or (encoding (sent_in kept)) Utf16) (held terms (uri_of call) (calls kept)) (versions_kept terms (uri_of call) (calls kept)) (versions_of (uri_of call) (waiting terms (calls kept))) rule call f g p q
+      one_facts_of terms (unwrap_or (encoding (sent_in kept)) Utf16) (held terms (uri_of call) (calls kept)) (versions_kept terms (uri_of call) (calls kept)) (versions_of (uri_of call) (waiting terms (calls kept))) rule call set_by f g p q
 
-  one_message_facts : (m : Sent) (b : Bool) → AreFactsBy b terms kept m rule f → AreFactsBy b terms kept m rule g → f ≡ g
+  one_message_facts : (m : Sent) (b : Bool) → AreFactsBy b terms kept m rule set_by f
+      → AreFactsBy b terms kept m rule set_by g → f ≡ g
   one_message_facts m true p q = p ∙ sym q
   one_message_facts m false p q = one_call_facts (call_at kept (message m)) p q
 
-  pub one_facts : (rests : Rests) (raw : Raw) (event : Event) → AreFacts rests terms kept raw event rule f → AreFacts rests terms kept raw event rule g → f ≡ g
+  pub one_facts : (rests : Rests) (raw : Raw) (event : Event) → AreFacts rests terms kept raw event rule set_by f
+      → AreFacts rests terms kept raw event rule set_by g → f ≡ g
   one_facts rests raw (fault side number) p q = p ∙ sym q
   one_facts rests raw (message m) p q = one_message_facts m (nat_lt rule 601) p q
   one_facts rests raw (snapshot uri number text) p q = one_call_facts (call_at kept (snapshot uri number text)) p q

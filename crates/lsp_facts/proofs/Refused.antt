@@ -22,6 +22,7 @@ use Rattle.lsp_verdict.specs.Verdict.{document_rule, offence}
 use Rattle.lsp_facts.specs.DocumentFacts.{AreDocumentFacts}
 use Rattle.lsp_facts.specs.EventFacts.{AreCallFacts, AreFactsBy, AreMessageFacts}
 use Rattle.lsp_facts.specs.Fact.{Fact}
+use Rattle.lsp_replay.specs.declared.heard.EventPlace.{EventPlace}
 
 -- the message says something of a document that breaks the rule
 pub record BreaksCall (terms : Terms) (kept : List Event) (m : Sent) (rule : ℕ) : Type 0 where
@@ -44,17 +45,17 @@ pub breaks_call : (terms : Terms) (kept : List Event) (m : Sent) (rule : ℕ) �
 breaks_call terms kept m rule least e = by_rule terms kept m rule least (rule_after (sent_in kept) m) refl e
 
 -- a message that breaks a rule on documents: the facts are those on what it says of one
-pub on_document : (terms : Terms) (kept : List Event) (m : Sent) (act : Act) (rule : ℕ) (facts : List Fact) (enc : Encoding) (kind : SyncKind)
+pub on_document : (terms : Terms) (kept : List Event) (m : Sent) (act : Act) (rule : ℕ) (set_by : Option EventPlace) (facts : List Fact) (enc : Encoding) (kind : SyncKind)
     → 601 ≤ rule → offence terms kept (message m) ≡ Some rule → m.act ≡ act
     → enc ≡ unwrap_or (encoding (sent_in kept)) Utf16 → kind ≡ unwrap_or (sync_kind (sent_in kept)) Nothing
-    → ((call : Call) → call_of enc kind act ≡ Some call → call_rule terms (calls kept) call ≡ Some rule → AreDocumentFacts terms enc (calls kept) call rule facts)
-    → AreMessageFacts terms kept m rule facts
-on_document terms kept m act rule facts enc kind least offends means agreed sent_so says =
+    → ((call : Call) → call_of enc kind act ≡ Some call → call_rule terms (calls kept) call ≡ Some rule → AreDocumentFacts terms enc (calls kept) call rule set_by facts)
+    → AreMessageFacts terms kept m rule set_by facts
+on_document terms kept m act rule set_by facts enc kind least offends means agreed sent_so says =
     let b = breaks_call terms kept m rule least offends in
     let said : call_of enc kind act ≡ Some b.call =
     ap (λ e. call_of e kind act) agreed ∙ ap (λ k. call_of (unwrap_or (encoding (sent_in kept)) Utf16) k act) sent_so
     ∙ ap (λ a. call_of (unwrap_or (encoding (sent_in kept)) Utf16) (unwrap_or (sync_kind (sent_in kept)) Nothing) a) (sym means) ∙ b.says in
-    let there : AreCallFacts terms kept rule (Some b.call) facts =
-    subst (λ e. AreDocumentFacts terms e (calls kept) b.call rule facts) agreed (says b.call said b.breaks) in
+    let there : AreCallFacts terms kept rule (Some b.call) set_by facts =
+    subst (λ e. AreDocumentFacts terms e (calls kept) b.call rule set_by facts) agreed (says b.call said b.breaks) in
     let is : nat_lt rule 601 ≡ false = grind (arith, nat_tests) in
-    subst (λ t. AreFactsBy t terms kept m rule facts) (sym is) (subst (λ c. AreCallFacts terms kept rule c facts) (sym b.says) there)
+    subst (λ t. AreFactsBy t terms kept m rule set_by facts) (sym is) (subst (λ c. AreCallFacts terms kept rule c set_by facts) (sym b.says) there)

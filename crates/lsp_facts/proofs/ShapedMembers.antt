@@ -1,442 +1,433 @@
 -- A value has the shape of params or of a result exactly where no member of it is wrong.
-use Rattle.std.specs.Prelude.{ℕ, suc, Bool, ◌&&◌, is_none, is_some, codes, option_and_then}
-use Rattle.std.specs.Prelude.{option_map, decimal}
-use Rattle.std.specs.Prelude.{if◌then◌else◌}
-use Rattle.std.proofs.Common.{◌≡◌, ◌∙◌, List, ◌∷◌, true, false, Option, Some, None, refl, sym, ap}
-use Rattle.std.proofs.Common.{subst, true≢false}
+use Rattle.std.specs.Prelude.{ℕ, zero, suc, ℤ, Bool, ◌&&◌, is_none, is_some, codes, option_and_then}
+use Rattle.std.specs.Prelude.{option_map, if◌then◌else◌, unwrap_or}
+use Rattle.std.proofs.Common.{◌≡◌, ◌∙◌, List, [], ◌∷◌, true, false, Option, Some, None, refl}
+use Rattle.std.proofs.Common.{sym, ap, subst, true≢false}
 use Rattle.std.proofs.lemmas.Option.{none-some}
 use Rattle.std.proofs.lemmas.Slice.Eq.{bytes_eq-Decides}
 use Rattle.std.specs.Bool.{Decides}
+use Rattle.std.specs.List.{list_all}
 use Rattle.std.specs.Option.{option_or}
 use Rattle.std.specs.Str.{bytes_eq}
-use Rattle.serde_json.specs.Data.{Data, null, boolean, number, string, array, object}
-use Rattle.serde_json.specs.Data.{Items, item, no_items}
-use Rattle.serde_json.specs.Find.{as_str}
+use Rattle.serde_json.specs.Data.{Data, null, number, string, array, object}
+use Rattle.serde_json.specs.Data.{Items, Members, item, no_items}
+use Rattle.serde_json.specs.Find.{as_array, as_str, get_member, unescape, walk}
+use Rattle.lsp_types.specs.declared.position.Position.{Position}
+use Rattle.lsp_types.specs.declared.position.Span.{Span}
 use Rattle.lsp_types.specs.declared.side.Side.TheVariants.{Editor, Server}
 use Rattle.lsp_rpc.specs.Act as Act
+use Rattle.lsp_rpc.specs.Ident.{Ident}
 use Rattle.lsp_rpc.specs.Message.{request, notification, response}
 use Rattle.lsp_rpc.specs.Params as params
 use Rattle.lsp_rpc.specs.Params.{required, allowed, given, both, all_three, all_of, if_given}
 use Rattle.lsp_rpc.specs.Params.{array_of, as_uinteger}
 use Rattle.lsp_rpc.specs.Results as results
-use Rattle.lsp_rpc.specs.Shape.{member, as_id, as_integer, holds_of, holds_unless_absent}
+use Rattle.lsp_rpc.specs.Shape.{as_id, as_integer, is_object, holds_unless_absent, member, unless_null}
 use Rattle.lsp_facts.specs.MemberLaws.{BadParamsHaveMember, BadResultHasMember}
 use Rattle.lsp_facts.specs.Members as wrong
-use Rattle.lsp_facts.specs.Members.{Pointer, below, unless, in_items, in_array, needs, allows}
-use Rattle.lsp_facts.specs.Members.{fits, if_there}
-use Rattle.lsp_facts.specs.declared.plain.Plain.{Plain}
-use Rattle.lsp_facts.specs.declared.plain.Plain.TheVariants as plain
+use Rattle.lsp_facts.specs.Members.{Part, Pointer, Row, fits, member_fits, row_fits, wrong_by, wrong_in}
+use Rattle.lsp_facts.specs.Members.{wrong_item, wrong_row, parts, result_rows}
+use Rattle.lsp_facts.specs.declared.shapes.Kind.{Kind}
+use Rattle.lsp_facts.specs.declared.shapes.Kind.TheVariants as kind
+use Rattle.lsp_facts.specs.declared.shapes.Need.TheVariants.{Must, May}
 
 -- ---- words
 
-below_none : (name : List ℕ) (found : Option Pointer) → is_none (below name found) ≡ is_none found
-below_none name None = refl
-below_none name (Some p) = refl
+and : {a b c d : Bool} → a ≡ b → c ≡ d → (a && c) ≡ (b && d)
+and {b = b} {c = c} first second = ap (λ x. x && c) first ∙ ap (λ x. b && x) second
 
-unless_none : (good : Bool) → is_none (unless good) ≡ good
-unless_none true = refl
-unless_none false = refl
+map_none : {A B : Type 0} (f : A → B) (a : Option A) → is_none (option_map f a) ≡ is_none a
+map_none f None = refl
+map_none f (Some x) = refl
 
 or_none : (a b : Option Pointer) → is_none (option_or a b) ≡ (is_none a && is_none b)
 or_none None b = refl
 or_none (Some p) b = refl
 
-both_some : {A B C : Type 0} (make : A → B → C) (a : Option A) (b : Option B)
-    → is_some (both make a b) ≡ (is_some a && is_some b)
-both_some make None b = refl
-both_some make (Some x) None = refl
-both_some make (Some x) (Some y) = refl
+if_none : (b : Bool) (a : Option Pointer) (p : Pointer)
+    → is_none (if b then a else Some p) ≡ (b && is_none a)
+if_none true a p = refl
+if_none false a p = refl
 
-three_some : {A B C D : Type 0} (make : A → B → C → D) (a : Option A) (b : Option B) (c : Option C)
-    → is_some (all_three make a b c) ≡ ((is_some a && is_some b) && is_some c)
-three_some make None b c = refl
-three_some make (Some x) None c = refl
-three_some make (Some x) (Some y) None = refl
-three_some make (Some x) (Some y) (Some z) = refl
+rows_none : (rows : List Row) (d : Data)
+    → is_none (wrong_row rows d) ≡ list_all (λ row. row_fits row d) rows
+rows_none [] d = refl
+rows_none (row ∷ rows) d =
+    if_none (row_fits row d) _ _ ∙ ap (λ b. row_fits row d && b) (rows_none rows d)
 
 map_some : {A B : Type 0} (f : A → B) (a : Option A) → is_some (option_map f a) ≡ is_some a
 map_some f None = refl
 map_some f (Some x) = refl
 
+and_true : (b : Bool) → (b && true) ≡ b
+and_true true = refl
+and_true false = refl
+
+both_some : {A B C : Type 0} (make : A → B → C) (a : Option A) (b : Option B)
+    → (is_some a && (is_some b && true)) ≡ is_some (both make a b)
+both_some make None b = refl
+both_some make (Some x) None = refl
+both_some make (Some x) (Some y) = refl
+
+-- ---- members
+
 -- these are wrong just where the shape is not there
-abbrev Fits : {X : Type 0} → (Data → Option Pointer) → (Data → Option X) → Type 0
-Fits {X} wrong shape = (d : Data) → is_none (wrong d) ≡ is_some (shape d)
+module _ {X : Type 0} (k : Kind) (shape : Data → Option X)
+    (same : (d : Data) → fits k d ≡ is_some (shape d)) where
+  needs_some : fits k null ≡ false → (v : Option Data)
+      → member_fits Must k (option_and_then unless_null v) ≡ is_some (option_and_then shape v)
+  needs_some unfit None = refl
+  needs_some unfit (Some null) = sym unfit ∙ same null
+  needs_some unfit (Some d) = same d
 
--- the same of a value that may be missing
-abbrev Keeps : {X : Type 0} → (Option Data → Option Pointer) → (Data → Option X) → Type 0
-Keeps {X} wrong shape = (d : Option Data) → is_none (wrong d) ≡ is_some (option_and_then shape d)
+  allows_some : (v : Option Data) → member_fits May k v ≡ is_some (if_given shape v)
+  allows_some None = refl
+  allows_some (Some d) = same d ∙ sym (map_some Some (shape d))
 
--- the same of one that may be null, too
-abbrev Allows : {X : Type 0} → (Option Data → Option Pointer) → (Data → Option X) → Type 0
-Allows {X} wrong shape = (d : Option Data) → is_none (wrong d) ≡ is_some (if_given shape d)
+-- a member of an object that is needed, or allowed
+abbrev needs : Kind → Option Data → Bool
+needs k v = member_fits Must k (option_and_then unless_null v)
 
-module _ {X : Type 0} (name : List ℕ) (p : Plain) (shape : Data → Option X)
-    (same : (d : Data) → fits p d ≡ is_some (shape d)) where
-  needs_some : Fits (needs name p) (required name shape)
-  needs_some d = below_none name _ ∙ unless_none _ ∙ by (member name d)
-    where
-      by : (v : Option Data) → holds_of (fits p) v ≡ is_some (option_and_then shape v)
-      by None = refl
-      by (Some v) = same v
+abbrev allows : Kind → Option Data → Bool
+allows k v = member_fits May k (option_and_then unless_null v)
 
-  allows_some : Fits (allows name p) (allowed name shape)
-  allows_some d = below_none name _ ∙ unless_none _ ∙ by (given name d)
-    where
-      by : (v : Option Data) → holds_unless_absent (fits p) v ≡ is_some (if_given shape v)
-      by None = refl
-      by (Some v) = same v ∙ sym (map_some Some (shape v))
+-- what a row says of the object that is the member with which its pointer begins
+abbrev sub : Option Data → Row → Bool
+sub v ([], name, need, k) =
+    holds_unless_absent (λ o. member_fits need k (given name o))
+    (option_and_then (λ o. if is_object o then Some o else None) v)
+sub v (slash ∷ at, name, need, k) =
+    holds_unless_absent (λ o. member_fits need k (given name o))
+    (option_and_then (λ o. if is_object o then Some o else None) (option_and_then (walk [] at) v))
+
+-- the rows of a part of the table
+abbrev rows_of : List Part → ℕ → List Row
+rows_of [] n = []
+rows_of (part ∷ rest) zero = part.3
+rows_of (part ∷ rest) (suc n) = rows_of rest n
+
+last_none : (a : Option Pointer) → is_none (option_or a None) ≡ is_none a
+last_none None = refl
+last_none (Some p) = refl
+
+-- what the table says of a method is wrong just where its params do not have the shape
+abbrev Keeps : {X : Type 0} → List ℕ → (Data → Option X) → Type 0
+Keeps {X} method shape =
+    (d : Option Data) → is_none (wrong_by parts method d) ≡ is_some (option_and_then shape d)
 
 -- ---- arrays
 
-module _ {X : Type 0} (w : Data → Option Pointer) (shape : Data → Option X)
-    (same : Fits w shape) where
-  items_some : (n : ℕ) (ds : Items) → is_none (in_items w n ds) ≡ is_some (all_of shape ds)
+module _ {X : Type 0} (k : Kind) (rows : List Row) (shape : Data → Option X)
+    (same : (d : Data) → is_none (wrong_in k rows d) ≡ is_some (shape d)) where
+  items_some : (n : ℕ) (ds : Items)
+      → is_none (wrong_item k rows n ds) ≡ is_some (all_of shape ds)
   items_some n no_items = refl
   items_some n (item d ds) =
-      or_none (below (decimal n) (w d)) (in_items w (suc n) ds)
-      ∙ ap (λ b. b && is_none (in_items w (suc n) ds)) (below_none (decimal n) (w d) ∙ same d)
-      ∙ ap (λ b. is_some (shape d) && b) (items_some (suc n) ds)
-      ∙ sym (both_some (λ x xs. x ∷ xs) (shape d) (all_of shape ds))
+      or_none _ (wrong_item k rows (suc n) ds)
+      ∙ and (map_none _ (wrong_in k rows d) ∙ same d)
+      (items_some (suc n) ds ∙ sym (and_true _))
+      ∙ both_some (λ x xs. x ∷ xs) (shape d) (all_of shape ds)
 
-  array_some : Keeps (in_array w) (array_of shape)
-  array_some None = refl
-  array_some (Some null) = refl
-  array_some (Some (boolean b)) = refl
-  array_some (Some (number n)) = refl
-  array_some (Some (string s)) = refl
+  array_some : (v : Option Data)
+      → (needs kind.Array v && is_none (wrong_item k rows 0 (unwrap_or (option_and_then as_array v) no_items)))
+      ≡ is_some (option_and_then (array_of shape) v)
   array_some (Some (array ds)) = items_some 0 ds
-  array_some (Some (object ms)) = refl
-
--- what must be there may also be missing
-may_miss : {X : Type 0} (w : Option Data → Option Pointer) (shape : Data → Option X)
-    → Keeps w shape → Allows (if_there w) shape
-may_miss w shape same None = refl
-may_miss w shape same (Some d) = same (Some d) ∙ sym (map_some Some (shape d))
-
--- the members of an object
-member_some : {X : Type 0} (name : List ℕ) (w : Option Data → Option Pointer)
-    (shape : Data → Option X) → Keeps w shape
-    → Fits (λ d. below name (w (member name d))) (required name shape)
-member_some name w shape same d = below_none name _ ∙ same (member name d)
-
-given_some : {X : Type 0} (name : List ℕ) (w : Option Data → Option Pointer)
-    (shape : Data → Option X) → Allows w shape
-    → Fits (λ d. below name (w (given name d))) (allowed name shape)
-given_some name w shape same d = below_none name _ ∙ same (given name d)
+  array_some v = refl
 
 -- ---- the handshake
 
-name_some : Fits wrong.name_item as_str
-name_some d = unless_none (fits plain.Text d)
+encoding_some : (d : Data) → is_none (wrong_in kind.Text [] d) ≡ is_some (as_str d)
+encoding_some (string s) = refl
+encoding_some d = refl
 
-encodings_some : Allows wrong.encodings (array_of as_str)
-encodings_some =
-    may_miss (in_array wrong.name_item) (array_of as_str)
-    (array_some wrong.name_item as_str name_some)
+abbrev encodings : Row
+encodings = ([], codes "positionEncodings", May, kind.Array)
 
-general_some : Allows wrong.general params.general_encodings
-general_some None = refl
-general_some (Some null) = refl
-general_some (Some (boolean b)) = refl
-general_some (Some (number n)) = refl
-general_some (Some (string s)) = refl
-general_some (Some (array ds)) = refl
-general_some (Some (object ms)) =
-    given_some (codes "positionEncodings") wrong.encodings (array_of as_str) encodings_some
-    (object ms) ∙ sym (map_some Some (params.general_encodings (object ms)))
+abbrev names : Option Data → Bool
+names v = is_none (wrong_item kind.Text [] 0 (unwrap_or (option_and_then as_array v) no_items))
 
-capabilities_some : Keeps wrong.capabilities params.offered_encodings
-capabilities_some None = refl
-capabilities_some (Some null) = refl
-capabilities_some (Some (boolean b)) = refl
-capabilities_some (Some (number n)) = refl
-capabilities_some (Some (string s)) = refl
-capabilities_some (Some (array ds)) = refl
-capabilities_some (Some (object ms)) =
-    given_some (codes "general") wrong.general params.general_encodings general_some (object ms)
-    ∙ sym (map_some params.flat (allowed (codes "general") params.general_encodings (object ms)))
-
-initialize_some : Keeps wrong.initialize params.initialize_at
-initialize_some None = refl
-initialize_some (Some null) = refl
-initialize_some (Some (boolean b)) = refl
-initialize_some (Some (number n)) = refl
-initialize_some (Some (string s)) = refl
-initialize_some (Some (array ds)) = refl
+initialize_some : Keeps (codes "initialize") params.initialize_at
+unfolding parts walk unescape
 initialize_some (Some (object ms)) =
     let d = object ms in
-    let first = member_some (codes "capabilities") wrong.capabilities params.offered_encodings
-    capabilities_some d in
-    let second = allows_some (codes "workDoneToken") plain.Id as_id (λ v. refl) d in
-    or_none _ _ ∙ ap (λ b. b && is_none (allows (codes "workDoneToken") plain.Id d)) first
-    ∙ ap (λ b. is_some (required (codes "capabilities") params.offered_encodings d) && b) second
-    ∙ sym (both_some _ (required (codes "capabilities") params.offered_encodings d)
-    (allowed (codes "workDoneToken") as_id d))
-    ∙ sym (map_some _ (params.offer_at d))
+    or_none _ _
+    ∙ and (rows_none (rows_of parts 0) d)
+    (or_none _ _ ∙ and (map_none _ _) (last_none _ ∙ rows_none (rows_of parts 2) d
+    ∙ ap (λ b. b && true) (allows_some kind.Id as_id (λ v. refl) (given (codes "workDoneToken") d))))
+    ∙ in_capabilities (get_member (codes "capabilities") ms) _
+    ∙ both_some _ (required (codes "capabilities") params.offered_encodings d)
+    (allowed (codes "workDoneToken") as_id d)
+    ∙ sym (map_some Act.initialize (params.offer_at d))
+  where
+    in_encodings : (v : Option Data) (token : Bool)
+        → ((allows kind.Array v && true) && (names v && token))
+        ≡ (is_some (if_given (array_of as_str) (option_and_then unless_null v)) && token)
+    in_encodings (Some (array ds)) token =
+        ap (λ b. b && token) (items_some kind.Text [] as_str encoding_some 0 ds
+        ∙ sym (map_some Some (all_of as_str ds)))
+    in_encodings v token = refl
+
+    in_general : (v : Option Data) (token : Bool)
+        → ((allows kind.Object v && (sub v encodings && true))
+        && (names (option_and_then (walk [] (codes "positionEncodings")) v) && token))
+        ≡ (is_some (if_given params.general_encodings (option_and_then unless_null v)) && token)
+    in_general (Some (object ms)) token =
+        in_encodings (get_member (codes "positionEncodings") ms) token
+        ∙ ap (λ b. b && token) (sym (map_some Some (params.general_encodings (object ms))))
+    in_general v token = refl
+
+    in_capabilities : (v : Option Data) (token : Bool)
+        → ((needs kind.Object v && (sub v ([], codes "general", May, kind.Object)
+        && (sub v (codes "/general", codes "positionEncodings", May, kind.Array) && true)))
+        && (names (option_and_then (walk [] (codes "general/positionEncodings")) v) && token))
+        ≡ (is_some (option_and_then params.offered_encodings v) && token)
+    in_capabilities (Some (object ms)) token =
+        in_general (get_member (codes "general") ms) token
+        ∙ ap (λ b. b && token) (sym (map_some params.flat
+        (allowed (codes "general") params.general_encodings (object ms))))
+    in_capabilities v token = refl
+initialize_some d = refl
 
 -- ---- documents
 
-opened_some : (d : Data) → is_none (wrong.opened_document (Some d))
-    ≡ ((is_some (params.uri_at d) && is_some (params.version_at d)) && is_some (params.text_at d))
-opened_some null = refl
-opened_some (boolean b) = refl
-opened_some (number n) = refl
-opened_some (string s) = refl
-opened_some (array ds) = refl
-opened_some (object ms) =
-    let d = object ms in
-    or_none _ _
-    ∙ ap (λ b. b && is_none (needs (codes "text") plain.Text d))
-    (or_none _ _
-    ∙ ap (λ b. b && is_none (needs (codes "version") plain.Integer d))
-    (needs_some (codes "uri") plain.Text as_str (λ v. refl) d)
-    ∙ ap (λ b. is_some (params.uri_at d) && b)
-    (needs_some (codes "version") plain.Integer as_integer (λ v. refl) d))
-    ∙ ap (λ b. (is_some (params.uri_at d) && is_some (params.version_at d)) && b)
-    (needs_some (codes "text") plain.Text as_str (λ v. refl) d)
+abbrev uri : Row
+uri = ([], codes "uri", Must, kind.Text)
 
-did_open_some : Keeps wrong.did_open params.did_open_at
-did_open_some None = refl
-did_open_some (Some null) = refl
-did_open_some (Some (boolean b)) = refl
-did_open_some (Some (number n)) = refl
-did_open_some (Some (string s)) = refl
-did_open_some (Some (array ds)) = refl
-did_open_some (Some (object ms)) =
-    below_none (codes "textDocument") _ ∙ by (member (codes "textDocument") (object ms))
+abbrev version : Row
+version = ([], codes "version", Must, kind.Integer)
+
+abbrev text : Row
+text = ([], codes "text", Must, kind.Text)
+
+text_some : (v : Option Data) → needs kind.Text v ≡ is_some (option_and_then as_str v)
+text_some v = needs_some kind.Text as_str (λ d. refl) refl v
+
+integer_some : (v : Option Data) → needs kind.Integer v ≡ is_some (option_and_then as_integer v)
+integer_some v = needs_some kind.Integer as_integer (λ d. refl) refl v
+
+-- a document of this URI and version, and what else there must be
+versioned_some : {A B : Type 0} (make : Act.Text → ℤ → A → B) (ms : Members) (there good : Bool)
+    (last : Option A) → (there && good) ≡ is_some last
+    → ((needs kind.Text (get_member (codes "uri") ms)
+    && (needs kind.Integer (get_member (codes "version") ms) && (there && true))) && good)
+    ≡ is_some (all_three make (params.uri_at (object ms)) (params.version_at (object ms)) last)
+versioned_some make ms there good last same =
+    let d = object ms in
+    ap (λ b. b && good) (and (text_some (get_member (codes "uri") ms))
+    (ap (λ b. b && (there && true)) (integer_some (get_member (codes "version") ms))))
+    ∙ joined (params.uri_at d) (params.version_at d) there same
   where
-    by : (v : Option Data) → is_none (wrong.opened_document v)
+    joined : (a : Option Act.Text) (b : Option ℤ) (there : Bool) → (there && good) ≡ is_some last
+        → ((is_some a && (is_some b && (there && true))) && good)
+        ≡ is_some (all_three make a b last)
+    joined None b there same = refl
+    joined (Some x) None there same = refl
+    joined (Some x) (Some y) true same = same ∙ sym (map_some (make x y) last)
+    joined (Some x) (Some y) false same = same ∙ sym (map_some (make x y) last)
+
+did_open_some : Keeps (codes "textDocument/didOpen") params.did_open_at
+unfolding parts walk unescape
+did_open_some (Some (object ms)) =
+    or_none _ None ∙ ap (λ b. b && true) (rows_none (rows_of parts 3) (object ms))
+    ∙ in_document (get_member (codes "textDocument") ms)
+  where
+    in_document : (v : Option Data)
+        → ((needs kind.Object v && (sub v uri && (sub v version && (sub v text && true)))) && true)
         ≡ is_some (option_and_then (λ document. all_three Act.did_open (params.uri_at document)
         (params.version_at document) (params.text_at document)) v)
-    by None = refl
-    by (Some d) = opened_some d
-        ∙ sym (three_some Act.did_open (params.uri_at d) (params.version_at d) (params.text_at d))
+    in_document (Some (object ms)) =
+        let v = get_member (codes "text") ms in
+        versioned_some Act.did_open ms (needs kind.Text v) true (option_and_then as_str v)
+        (and_true (needs kind.Text v) ∙ text_some v)
+    in_document v = refl
+did_open_some d = refl
 
-changed_some : (d : Data) → is_none (wrong.changed_document (Some d))
-    ≡ (is_some (params.uri_at d) && is_some (params.version_at d))
-changed_some null = refl
-changed_some (boolean b) = refl
-changed_some (number n) = refl
-changed_some (string s) = refl
-changed_some (array ds) = refl
-changed_some (object ms) =
-    let d = object ms in
-    or_none _ _
-    ∙ ap (λ b. b && is_none (needs (codes "version") plain.Integer d))
-    (needs_some (codes "uri") plain.Text as_str (λ v. refl) d)
-    ∙ ap (λ b. is_some (params.uri_at d) && b)
-    (needs_some (codes "version") plain.Integer as_integer (λ v. refl) d)
+regroup : (a b c d : Bool) → (a && (b && (c && d))) ≡ ((a && (b && (c && true))) && d)
+regroup true true true d = refl
+regroup true true false d = refl
+regroup true false c d = refl
+regroup false b c d = refl
 
-uinteger_fits : (v : Data) → fits plain.Uinteger v ≡ is_some (as_uinteger v)
-uinteger_fits v = refl
-
-position_some : Keeps wrong.position params.position_at
-position_some None = refl
-position_some (Some null) = refl
-position_some (Some (boolean b)) = refl
-position_some (Some (number n)) = refl
-position_some (Some (string s)) = refl
-position_some (Some (array ds)) = refl
+position_some : (v : Option Data)
+    → (needs kind.Object v && (sub v ([], codes "line", Must, kind.Uinteger)
+    && (sub v ([], codes "character", Must, kind.Uinteger) && true)))
+    ≡ is_some (option_and_then params.position_at v)
 position_some (Some (object ms)) =
     let d = object ms in
-    or_none _ _
-    ∙ ap (λ b. b && is_none (needs (codes "character") plain.Uinteger d))
-    (needs_some (codes "line") plain.Uinteger as_uinteger uinteger_fits d)
-    ∙ ap (λ b. is_some (required (codes "line") as_uinteger d) && b)
-    (needs_some (codes "character") plain.Uinteger as_uinteger uinteger_fits d)
-    ∙ sym (both_some _ (required (codes "line") as_uinteger d)
-    (required (codes "character") as_uinteger d))
+    let uinteger_some = needs_some kind.Uinteger as_uinteger (λ v. refl) refl in
+    and (uinteger_some (member (codes "line") d))
+    (ap (λ b. b && true) (uinteger_some (member (codes "character") d)))
+    ∙ both_some _ (required (codes "line") as_uinteger d) (required (codes "character") as_uinteger d)
+position_some v = refl
 
-range_some : Allows wrong.range params.span_at
-range_some None = refl
-range_some (Some null) = refl
-range_some (Some (boolean b)) = refl
-range_some (Some (number n)) = refl
-range_some (Some (string s)) = refl
-range_some (Some (array ds)) = refl
-range_some (Some (object ms)) =
-    let d = object ms in
-    or_none _ _
-    ∙ ap (λ b. b && is_none (below (codes "end") (wrong.position (member (codes "end") d))))
-    (member_some (codes "start") wrong.position params.position_at position_some d)
-    ∙ ap (λ b. is_some (required (codes "start") params.position_at d) && b)
-    (member_some (codes "end") wrong.position params.position_at position_some d)
-    ∙ sym (both_some _ (required (codes "start") params.position_at d)
-    (required (codes "end") params.position_at d))
-    ∙ sym (map_some Some (params.span_at d))
+span_some : {A B C D E : Type 0} (make : Option C → D → E) (pair : A → B → C)
+    (a : Option A) (b : Option B) (c : Option D)
+    → (is_some a && (is_some b && (is_some c && true)))
+    ≡ is_some (both make (option_map Some (both pair a b)) c)
+span_some make pair None b c = refl
+span_some make pair (Some x) None c = refl
+span_some make pair (Some x) (Some y) None = refl
+span_some make pair (Some x) (Some y) (Some z) = refl
 
-change_some : Fits wrong.change_item params.change_at
-change_some null = refl
-change_some (boolean b) = refl
-change_some (number n) = refl
-change_some (string s) = refl
-change_some (array ds) = refl
+change_some : (d : Data)
+    → is_none (wrong_in kind.Object (rows_of parts 5) d) ≡ is_some (params.change_at d)
+unfolding parts walk unescape
 change_some (object ms) =
-    let d = object ms in
-    or_none _ _
-    ∙ ap (λ b. b && is_none (needs (codes "text") plain.Text d))
-    (given_some (codes "range") wrong.range params.span_at range_some d)
-    ∙ ap (λ b. is_some (allowed (codes "range") params.span_at d) && b)
-    (needs_some (codes "text") plain.Text as_str (λ v. refl) d)
-    ∙ sym (both_some _ (allowed (codes "range") params.span_at d) (params.text_at d))
-
-did_change_some : Keeps wrong.did_change params.did_change_at
-did_change_some None = refl
-did_change_some (Some null) = refl
-did_change_some (Some (boolean b)) = refl
-did_change_some (Some (number n)) = refl
-did_change_some (Some (string s)) = refl
-did_change_some (Some (array ds)) = refl
-did_change_some (Some (object ms)) =
-    let d = object ms in
-    or_none _ _
-    ∙ ap (λ b. b && is_none (below (codes "contentChanges")
-    (wrong.changes (member (codes "contentChanges") d))))
-    (below_none (codes "textDocument") _)
-    ∙ ap (λ b. is_none (wrong.changed_document (member (codes "textDocument") d)) && b)
-    (member_some (codes "contentChanges") wrong.changes (array_of params.change_at)
-    (array_some wrong.change_item params.change_at change_some) d)
-    ∙ by (member (codes "textDocument") d) (required (codes "contentChanges")
-    (array_of params.change_at) d)
+    rows_none (rows_of parts 5) (object ms)
+    ∙ in_range _ (get_member (codes "range") ms) (get_member (codes "text") ms)
   where
-    by : (v : Option Data) (cs : Option (List Act.Change))
-        → (is_none (wrong.changed_document v) && is_some cs)
+    in_range : {C : Type 0} (make : Option Span → Act.Text → C) (v w : Option Data)
+        → (allows kind.Object v && (sub v ([], codes "start", Must, kind.Object)
+        && (sub v (codes "/start", codes "line", Must, kind.Uinteger)
+        && (sub v (codes "/start", codes "character", Must, kind.Uinteger)
+        && (sub v ([], codes "end", Must, kind.Object)
+        && (sub v (codes "/end", codes "line", Must, kind.Uinteger)
+        && (sub v (codes "/end", codes "character", Must, kind.Uinteger)
+        && (needs kind.Text w && true))))))))
+        ≡ is_some (both make (if_given params.span_at (option_and_then unless_null v))
+        (option_and_then as_str w))
+    in_range make (Some (object ms)) w =
+        let d = object ms in
+        let pair : Position → Position → Span = λ a b. record { first = a; second = b } in
+        regroup (needs kind.Object (member (codes "start") d)) _ _ _
+        ∙ and (position_some (get_member (codes "start") ms))
+        (regroup (needs kind.Object (member (codes "end") d)) _ _ _
+        ∙ and (position_some (get_member (codes "end") ms))
+        (ap (λ b. b && true) (text_some w)))
+        ∙ span_some make pair (required (codes "start") params.position_at d)
+        (required (codes "end") params.position_at d) (option_and_then as_str w)
+    in_range make v w =
+        ap (λ b. allows kind.Object v && (b && true)) (text_some w)
+        ∙ both_some make (if_given params.span_at (option_and_then unless_null v))
+        (option_and_then as_str w)
+change_some d = refl
+
+did_change_some : Keeps (codes "textDocument/didChange") params.did_change_at
+unfolding parts walk unescape
+did_change_some (Some (object ms)) =
+    or_none _ _
+    ∙ and (rows_none (rows_of parts 4) (object ms)) (last_none _ ∙ map_none _ _)
+    ∙ in_document (get_member (codes "textDocument") ms) _ _ _
+    (array_some kind.Object (rows_of parts 5) params.change_at change_some
+    (get_member (codes "contentChanges") ms))
+  where
+    in_document : (v : Option Data) (there good : Bool) (changes : Option (List Act.Change))
+        → (there && good) ≡ is_some changes
+        → ((needs kind.Object v && (sub v uri && (sub v version && (there && true)))) && good)
         ≡ is_some (option_and_then (λ document. all_three Act.did_change (params.uri_at document)
-        (params.version_at document) cs) v)
-    by None cs = refl
-    by (Some d) cs = ap (λ b. b && is_some cs) (changed_some d)
-        ∙ sym (three_some Act.did_change (params.uri_at d) (params.version_at d) cs)
+        (params.version_at document) changes) v)
+    in_document (Some (object ms)) there good changes same =
+        versioned_some Act.did_change ms there good changes same
+    in_document v there good changes same = refl
+did_change_some d = refl
 
-document_some : Keeps wrong.document params.uri_at
-document_some None = refl
-document_some (Some null) = refl
-document_some (Some (boolean b)) = refl
-document_some (Some (number n)) = refl
-document_some (Some (string s)) = refl
-document_some (Some (array ds)) = refl
-document_some (Some (object ms)) =
-    needs_some (codes "uri") plain.Text as_str (λ v. refl) (object ms)
+document_some : (v : Option Data) (b : Bool)
+    → (needs kind.Object v && (sub v uri && b)) ≡ (is_some (option_and_then params.uri_at v) && b)
+document_some (Some (object ms)) b = ap (λ a. a && b) (text_some (get_member (codes "uri") ms))
+document_some v b = refl
 
-did_close_some : Keeps wrong.did_close params.did_close_at
-did_close_some None = refl
-did_close_some (Some null) = refl
-did_close_some (Some (boolean b)) = refl
-did_close_some (Some (number n)) = refl
-did_close_some (Some (string s)) = refl
-did_close_some (Some (array ds)) = refl
+did_close_some : Keeps (codes "textDocument/didClose") params.did_close_at
+unfolding parts walk unescape
 did_close_some (Some (object ms)) =
-    member_some (codes "textDocument") wrong.document params.uri_at document_some (object ms)
-    ∙ sym (map_some Act.did_close (required (codes "textDocument") params.uri_at (object ms)))
+    let v = get_member (codes "textDocument") ms in
+    last_none _ ∙ rows_none (rows_of parts 6) (object ms) ∙ document_some v true ∙ and_true _
+    ∙ sym (map_some Act.did_close (option_and_then params.uri_at v))
+did_close_some d = refl
 
-did_save_some : Keeps wrong.did_save params.did_save_at
-did_save_some None = refl
-did_save_some (Some null) = refl
-did_save_some (Some (boolean b)) = refl
-did_save_some (Some (number n)) = refl
-did_save_some (Some (string s)) = refl
-did_save_some (Some (array ds)) = refl
+did_save_some : Keeps (codes "textDocument/didSave") params.did_save_at
+unfolding parts walk unescape
 did_save_some (Some (object ms)) =
     let d = object ms in
-    or_none _ _
-    ∙ ap (λ b. b && is_none (allows (codes "text") plain.Text d))
-    (member_some (codes "textDocument") wrong.document params.uri_at document_some d)
-    ∙ ap (λ b. is_some (required (codes "textDocument") params.uri_at d) && b)
-    (allows_some (codes "text") plain.Text as_str (λ v. refl) d)
-    ∙ sym (both_some Act.did_save (required (codes "textDocument") params.uri_at d)
-    (allowed (codes "text") as_str d))
+    last_none _ ∙ rows_none (rows_of parts 7) d ∙ document_some (get_member (codes "textDocument") ms) _
+    ∙ ap (λ b. is_some (required (codes "textDocument") params.uri_at d) && (b && true))
+    (allows_some kind.Text as_str (λ v. refl) (given (codes "text") d))
+    ∙ both_some Act.did_save (required (codes "textDocument") params.uri_at d)
+    (allowed (codes "text") as_str d)
+did_save_some d = refl
 
 -- ---- cancelling, progress and registrations
 
-cancel_some : Keeps wrong.cancel params.cancel_at
-cancel_some None = refl
-cancel_some (Some null) = refl
-cancel_some (Some (boolean b)) = refl
-cancel_some (Some (number n)) = refl
-cancel_some (Some (string s)) = refl
-cancel_some (Some (array ds)) = refl
-cancel_some (Some (object ms)) =
-    needs_some (codes "id") plain.Id as_id (λ v. refl) (object ms)
-    ∙ sym (map_some Act.cancel (required (codes "id") as_id (object ms)))
+id_some : {A : Type 0} (name : List ℕ) (make : Ident → A) (ms : Members)
+    → is_none (option_or (wrong_in kind.Object (([], name, Must, kind.Id) ∷ []) (object ms)) None)
+    ≡ is_some (option_map make (required name as_id (object ms)))
+id_some name make ms =
+    last_none _ ∙ rows_none (([], name, Must, kind.Id) ∷ []) (object ms) ∙ and_true _
+    ∙ needs_some kind.Id as_id (λ d. refl) refl (get_member name ms)
+    ∙ sym (map_some make (required name as_id (object ms)))
 
-progress_some : Keeps wrong.progress params.progress_at
-progress_some None = refl
-progress_some (Some null) = refl
-progress_some (Some (boolean b)) = refl
-progress_some (Some (number n)) = refl
-progress_some (Some (string s)) = refl
-progress_some (Some (array ds)) = refl
-progress_some (Some (object ms)) =
-    needs_some (codes "token") plain.Id as_id (λ v. refl) (object ms)
-    ∙ sym (map_some Act.progress (required (codes "token") as_id (object ms)))
+cancel_some : Keeps (codes "$/cancelRequest") params.cancel_at
+unfolding parts
+cancel_some (Some (object ms)) = id_some (codes "id") Act.cancel ms
+cancel_some d = refl
 
-registration_some : Fits wrong.registration_item (required (codes "method") as_str)
-registration_some null = refl
-registration_some (boolean b) = refl
-registration_some (number n) = refl
-registration_some (string s) = refl
-registration_some (array ds) = refl
+progress_some : Keeps (codes "$/progress") params.progress_at
+unfolding parts
+progress_some (Some (object ms)) = id_some (codes "token") Act.progress ms
+progress_some d = refl
+
+registration_some : (d : Data) → is_none (wrong_in kind.Object (rows_of parts 11) d)
+    ≡ is_some (required (codes "method") as_str d)
+unfolding parts
 registration_some (object ms) =
-    needs_some (codes "method") plain.Text as_str (λ v. refl) (object ms)
+    rows_none (rows_of parts 11) (object ms) ∙ and_true _ ∙ text_some (get_member (codes "method") ms)
+registration_some d = refl
 
-register_some : Keeps wrong.register params.register_at
-register_some None = refl
-register_some (Some null) = refl
-register_some (Some (boolean b)) = refl
-register_some (Some (number n)) = refl
-register_some (Some (string s)) = refl
-register_some (Some (array ds)) = refl
+register_some : Keeps (codes "client/registerCapability") params.register_at
+unfolding parts walk unescape
 register_some (Some (object ms)) =
-    member_some (codes "registrations") wrong.registrations
-    (array_of (required (codes "method") as_str))
-    (array_some wrong.registration_item (required (codes "method") as_str) registration_some)
-    (object ms)
+    or_none _ _
+    ∙ and (rows_none (rows_of parts 10) (object ms) ∙ and_true _) (last_none _ ∙ map_none _ _)
+    ∙ array_some kind.Object (rows_of parts 11) (required (codes "method") as_str)
+    registration_some (get_member (codes "registrations") ms)
     ∙ sym (map_some Act.register (required (codes "registrations")
     (array_of (required (codes "method") as_str)) (object ms)))
+register_some d = refl
 
 -- ---- the result of `initialize`
 
-synchronisation_some : Fits wrong.synchronisation results.sync_at
-synchronisation_some null = unless_none _
-synchronisation_some (boolean b) = unless_none _
-synchronisation_some (number n) = unless_none _
-synchronisation_some (string s) = unless_none _
-synchronisation_some (array ds) = unless_none _
-synchronisation_some (object ms) =
-    allows_some (codes "change") plain.Kind results.kind_at (λ v. refl) (object ms)
-    ∙ sym (map_some results.or_nothing (allowed (codes "change") results.kind_at (object ms)))
+picked_some : {A B C D E : Type 0} (make : B → D → E) (f : A → B) (g : C → D)
+    (a : Option A) (b : Option C)
+    → (is_some a && is_some b) ≡ is_some (both make (option_map f a) (option_map g b))
+picked_some make f g None b = refl
+picked_some make f g (Some x) None = refl
+picked_some make f g (Some x) (Some y) = refl
 
-if_synchronisation_some : Allows wrong.if_synchronisation results.sync_at
-if_synchronisation_some None = refl
-if_synchronisation_some (Some d) = synchronisation_some d ∙ sym (map_some Some (results.sync_at d))
+abbrev change : Row
+change = ([], codes "change", May, kind.SyncKind)
 
-picked_some : Keeps wrong.picked results.picked_in
-picked_some None = refl
-picked_some (Some null) = refl
-picked_some (Some (boolean b)) = refl
-picked_some (Some (number n)) = refl
-picked_some (Some (string s)) = refl
-picked_some (Some (array ds)) = refl
-picked_some (Some (object ms)) =
-    let d = object ms in
-    or_none _ _
-    ∙ ap (λ b. b && is_none (below (codes "textDocumentSync")
-    (wrong.if_synchronisation (given (codes "textDocumentSync") d))))
-    (allows_some (codes "positionEncoding") plain.Text as_str (λ v. refl) d
-    ∙ sym (map_some results.or_utf16 (allowed (codes "positionEncoding") as_str d)))
-    ∙ ap (λ b. is_some (results.encoding_in d) && b)
-    (given_some (codes "textDocumentSync") wrong.if_synchronisation results.sync_at
-    if_synchronisation_some d
-    ∙ sym (map_some results.or_nothing (allowed (codes "textDocumentSync") results.sync_at d)))
-    ∙ sym (both_some _ (results.encoding_in d) (results.kind_in d))
-
-result_some : Fits wrong.wrong_result results.picked_at
-result_some null = refl
-result_some (boolean b) = refl
-result_some (number n) = refl
-result_some (string s) = refl
-result_some (array ds) = refl
+result_some : (d : Data) → is_none (wrong.wrong_result d) ≡ is_some (results.picked_at d)
+unfolding result_rows walk unescape
 result_some (object ms) =
-    member_some (codes "capabilities") wrong.picked results.picked_in picked_some (object ms)
+    rows_none result_rows (object ms) ∙ in_capabilities (get_member (codes "capabilities") ms)
+  where
+    in_synchronisation : (v : Option Data)
+        → (member_fits May kind.Sync (option_and_then unless_null v)
+        && (sub v change && true))
+        ≡ is_some (if_given results.sync_at (option_and_then unless_null v))
+    in_synchronisation (Some (object ms)) =
+        and_true (sub (Some (object ms)) change) ∙ allows_some kind.SyncKind results.kind_at (λ d. refl)
+        (given (codes "change") (object ms))
+        ∙ sym (map_some results.or_nothing (allowed (codes "change") results.kind_at (object ms)))
+        ∙ sym (map_some Some (results.sync_at (object ms)))
+    in_synchronisation (Some (number n)) =
+        and_true (is_some (results.kind_at (number n)))
+        ∙ sym (map_some Some (results.kind_at (number n)))
+    in_synchronisation v = refl
+
+    in_capabilities : (v : Option Data)
+        → (needs kind.Object v && (sub v ([], codes "positionEncoding", May, kind.Text)
+        && (sub v ([], codes "textDocumentSync", May, kind.Sync)
+        && (sub v (codes "/textDocumentSync", codes "change", May, kind.SyncKind) && true))))
+        ≡ is_some (option_and_then results.picked_in v)
+    in_capabilities (Some (object ms)) =
+        let d = object ms in
+        and (allows_some kind.Text as_str (λ v. refl) (given (codes "positionEncoding") d))
+        (in_synchronisation (get_member (codes "textDocumentSync") ms))
+        ∙ picked_some _ results.or_utf16 results.or_nothing
+        (allowed (codes "positionEncoding") as_str d)
+        (allowed (codes "textDocumentSync") results.sync_at d)
+    in_capabilities v = refl
+result_some d = refl
 
 -- ---- laws
 
@@ -458,75 +449,53 @@ result_has_member d = (
 
 -- a member of the params of this method
 abbrev Found : List ℕ → Option Data → Type 0
-Found method d = (p : Pointer) × (wrong.wrong_by wrong.rows method d ≡ Some p)
+Found method d = (p : Pointer) × (wrong_by parts method d ≡ Some p)
 
--- of the method of this row
-of_shape : {X : Type 0} (w : Option Data → Option Pointer) (shape : Data → Option X)
-    (d : Option Data) → Keeps w shape → option_and_then shape d ≡ None
-    → (p : Pointer) × (w d ≡ Some p)
-of_shape w shape d same none = there (w d) (same d ∙ ap is_some none)
+module _ (method : List ℕ) (d : Option Data) where
+  -- of a method by its row, or a later one
+  in_row : (name : List ℕ) (act rest : Option Act.Act)
+      → (act ≡ None → Found name d) → (rest ≡ None → Found method d)
+      → (if bytes_eq method name then act else rest) ≡ None → Found method d
+  in_row name act rest now later none =
+      by (bytes_eq method name) (bytes_eq-Decides method name) none
+    where
+      by : (b : Bool) → Decides b (method ≡ name) → (if b then act else rest) ≡ None
+          → Found method d
+      by true is none = subst (λ m. Found m d) (sym (is.0 refl)) (now none)
+      by false is none = later none
 
--- of a method by its row, or a later one
-in_row : (method name : List ℕ) (d : Option Data) (act rest : Option Act.Act)
-    → (act ≡ None → Found name d) → (rest ≡ None → Found method d)
-    → (if bytes_eq method name then act else rest) ≡ None → Found method d
-in_row method name d act rest now later none =
-    by (bytes_eq method name) (bytes_eq-Decides method name) none
-  where
-    by : (b : Bool) → Decides b (method ≡ name) → (if b then act else rest) ≡ None
-        → Found method d
-    by true is none = subst (λ m. Found m d) (sym (is.0 refl)) (now none)
-    by false is none = later none
+  judged : (name : List ℕ) (shape : Data → Option Act.Act) (rest : Option Act.Act)
+      → Keeps name shape → (rest ≡ None → Found method d)
+      → (if bytes_eq method name then option_and_then shape d else rest) ≡ None → Found method d
+  judged name shape rest same =
+      in_row name (option_and_then shape d) rest
+      (λ none. there (wrong_by parts name d) (same d ∙ ap is_some none))
 
--- of a method whose params are not judged
-of_act : {A : Type 0} (act : Act.Act) → Some act ≡ None → A
-of_act act none = absurd (none-some act (sym none))
+  passed : (name : List ℕ) (act : Act.Act) (rest : Option Act.Act) → (rest ≡ None → Found method d)
+      → (if bytes_eq method name then Some act else rest) ≡ None → Found method d
+  passed name act rest = in_row name (Some act) rest (λ none. absurd (none-some act (sym none)))
 
-editor_request : (method : List ℕ) (d : Option Data)
-    → params.act_by params.editor_requests method d ≡ None → Found method d
-editor_request method d =
-    in_row method (codes "initialize") d _ _
-    (of_shape wrong.initialize params.initialize_at d initialize_some)
-    (in_row method (codes "shutdown") d _ _ (of_act Act.shutdown) (of_act Act.other))
-
-editor_notification : (method : List ℕ) (d : Option Data)
-    → params.act_by params.editor_notifications method d ≡ None → Found method d
-editor_notification method d =
-    in_row method (codes "initialized") d _ _ (of_act Act.initialized)
-    (in_row method (codes "exit") d _ _ (of_act Act.exit)
-    (in_row method (codes "textDocument/didOpen") d _ _
-    (of_shape wrong.did_open params.did_open_at d did_open_some)
-    (in_row method (codes "textDocument/didChange") d _ _
-    (of_shape wrong.did_change params.did_change_at d did_change_some)
-    (in_row method (codes "textDocument/didClose") d _ _
-    (of_shape wrong.did_close params.did_close_at d did_close_some)
-    (in_row method (codes "textDocument/didSave") d _ _
-    (of_shape wrong.did_save params.did_save_at d did_save_some)
-    (in_row method (codes "$/cancelRequest") d _ _
-    (of_shape wrong.cancel params.cancel_at d cancel_some) (of_act Act.other)))))))
-
-server_request : (method : List ℕ) (d : Option Data)
-    → params.act_by params.server_requests method d ≡ None → Found method d
-server_request method d =
-    in_row method (codes "window/showMessageRequest") d _ _ (of_act Act.early)
-    (in_row method (codes "client/registerCapability") d _ _
-    (of_shape wrong.register params.register_at d register_some) (of_act Act.other))
-
-server_notification : (method : List ℕ) (d : Option Data)
-    → params.act_by params.server_notifications method d ≡ None → Found method d
-server_notification method d =
-    in_row method (codes "$/cancelRequest") d _ _
-    (of_shape wrong.cancel params.cancel_at d cancel_some)
-    (in_row method (codes "$/progress") d _ _
-    (of_shape wrong.progress params.progress_at d progress_some)
-    (in_row method (codes "window/showMessage") d _ _ (of_act Act.early)
-    (in_row method (codes "window/logMessage") d _ _ (of_act Act.early)
-    (in_row method (codes "telemetry/event") d _ _ (of_act Act.early) (of_act Act.other)))))
+  other : Some Act.other ≡ None → Found method d
+  other none = absurd (none-some Act.other (sym none))
 
 -- **The params of another shape have a member that is wrong.**
 pub params_have_member : BadParamsHaveMember
-params_have_member Editor (request id method d) none = editor_request method d none
-params_have_member Server (request id method d) none = server_request method d none
-params_have_member Editor (notification method d) none = editor_notification method d none
-params_have_member Server (notification method d) none = server_notification method d none
-params_have_member side (response id reply) none = of_act Act.other none
+params_have_member Editor (request id m d) none =
+    judged m d (codes "initialize") _ _ initialize_some
+    (passed m d (codes "shutdown") _ _ (other m d)) none
+params_have_member Server (request id m d) none =
+    passed m d (codes "window/showMessageRequest") _ _
+    (judged m d (codes "client/registerCapability") _ _ register_some (other m d)) none
+params_have_member Editor (notification m d) none =
+    passed m d (codes "initialized") _ _ (passed m d (codes "exit") _ _
+    (judged m d (codes "textDocument/didOpen") _ _ did_open_some
+    (judged m d (codes "textDocument/didChange") _ _ did_change_some
+    (judged m d (codes "textDocument/didClose") _ _ did_close_some
+    (judged m d (codes "textDocument/didSave") _ _ did_save_some
+    (judged m d (codes "$/cancelRequest") _ _ cancel_some (other m d))))))) none
+params_have_member Server (notification m d) none =
+    judged m d (codes "$/cancelRequest") _ _ cancel_some
+    (judged m d (codes "$/progress") _ _ progress_some
+    (passed m d (codes "window/showMessage") _ _ (passed m d (codes "window/logMessage") _ _
+    (passed m d (codes "telemetry/event") _ _ (other m d))))) none
+params_have_member side (response id reply) none = absurd (none-some Act.other (sym none))

@@ -1,6 +1,6 @@
 -- Facts on each event that offends.
 use Rattle.std.proofs.Common.{◌≡◌, ◌≢◌, ◌+◌, ◌≤◌, ℕ, suc, Bool, true, false, cond, List, [], ◌∷◌, ◌++◌, take, Option, Some, None, Result, Ok, Err, inl, inr, refl, sym, ap, subst, ◌∙◌, arith, true≢false}
-use Rattle.std.specs.Prelude.{ℤ, int_lt, nat_lt, not, is_some, slice_get, if◌then◌else◌, option_and_then, unwrap_or}
+use Rattle.std.specs.Prelude.{ℤ, codes, int_lt, nat_lt, not, is_some, slice_get, if◌then◌else◌, option_and_then, unwrap_or}
 use Rattle.std.specs.List.{list_any}
 use Rattle.std.proofs.lemmas.Bool.Decides.{nat_tests}
 use Rattle.std.proofs.lemmas.Slice.Eq.{bytes_eq-Decides}
@@ -22,7 +22,7 @@ use Rattle.lsp_docs.specs.Rules.{differs, version_rule, text_rule, change_rule, 
 use Rattle.lsp_docs.specs.Snapshots.{waiting, versions_of}
 use Rattle.lsp_docs.specs.Terms.{Terms}
 use Rattle.lsp_docs.specs.Texts.{Text, byte_len}
-use Rattle.lsp_facts.specs.DocumentFacts.{fits_fact, head_facts, first_length, line_length}
+use Rattle.lsp_facts.specs.DocumentFacts.{falls_inside, fits_fact, head_facts, first_length, line_length}
 use Rattle.lsp_facts.specs.DocumentFacts.{kept_fact, kind_facts, difference_facts, ends_facts}
 use Rattle.lsp_facts.specs.DocumentFacts.{stray, IsReason, IsFailing, AreApart, IsRefuted}
 use Rattle.lsp_facts.specs.DocumentFacts.{AreOfOpening, AreOfChange, AreOfSnapshot, AreDetails}
@@ -36,9 +36,9 @@ use Rattle.lsp_verdict.specs.Verdict.{offence}
 use Rattle.lsp_facts.specs.EventFacts.{fault_facts, AreCallFacts, AreFactsBy, AreFacts}
 use Rattle.lsp_facts.specs.FlawFacts.{Rests}
 use Rattle.lsp_facts.specs.Edges.{edges}
-use Rattle.lsp_facts.specs.Part.{Part}
 use Rattle.lsp_facts.specs.MessageFacts.{session_facts}
-use Rattle.lsp_facts.specs.Fact.{Fact, falls_inside, would_have, may_have, in_editor, saved_line, counts_in, fails}
+use Rattle.lsp_facts.specs.Fact.{Fact, would_have, may_have, counts_in, fails}
+use Rattle.lsp_replay.specs.declared.heard.EventPlace.{EventPlace}
 use Rattle.lsp_facts.proofs.DocumentRules.{IsOther, other_apart, show_breaks, version_breaks}
 use Rattle.lsp_facts.proofs.DocumentRules.{waiting_apart, waiting_some}
 use Rattle.lsp_facts.proofs.Refusals.{first_stray, second_stray}
@@ -52,17 +52,17 @@ same_number a b e = cc
 
 -- ---- texts that differ
 
-pub some_apart : (ends : LineEnds) (enc : Encoding) (t u : Text) (line : Part → Fact)
-    → IsOther ends t u → (facts : List Fact) × AreApart ends enc t u line facts
-some_apart ends enc t u line differ =
+pub some_apart : (ends : LineEnds) (enc : Encoding) (t u : Text) (key : List ℕ)
+    → IsOther ends t u → (facts : List Fact) × AreApart ends enc t u key facts
+some_apart ends enc t u key differ =
     let a = compared ends t in
     let b = compared ends u in
     elim (one_difference a b) [
       | inl same ↦ absurd (differ same.0)
       | inr at ↦ (
-        difference_facts enc a b line at.0 ++ ends_facts t u,
+        difference_facts enc a b key at.0 ++ ends_facts t u,
         record {
-          place = difference_facts enc a b line at.0;
+          place = difference_facts enc a b key at.0;
           at = (at.0, at.1.first, refl);
           are = refl;
         },
@@ -89,7 +89,7 @@ module _ (limit : ℕ) (enc : Encoding) (t : Text) (x : Text) (rule : ℕ) where
 
   -- one of its positions lies inside a character
   inside : (span : Span) → rule ≡ 605 → (c : ℕ) → LiesInside enc t (stray enc t span) c → HasReason (Some span)
-  inside span is c lies = (line_length enc t (stray enc t span) ++ falls_inside (c ∷ []) ∷ fits_fact (edges t (stray enc t span)), inl (is, record { of = span; there = refl; char = c; lies = lies; are = refl }))
+  inside span is c lies = (line_length enc t (stray enc t span) ++ falls_inside c ∷ fits_fact (edges t (stray enc t span)), inl (is, record { of = span; there = refl; char = c; lies = lies; are = refl }))
 
   -- both are places
   between : (span : Span) (a b : ℕ) → place_of enc t span.first ≡ Some a → place_of enc t span.second ≡ Some b → (r : Bool) → nat_lt b a ≡ r
@@ -147,7 +147,7 @@ some_refuted : (ends : LineEnds) (enc : Encoding) (ws : List Version) (v : Versi
 some_refuted ends enc ws v any =
     let other = waiting_some ends v ws any in
     let facts =
-    some_apart ends enc v.text other.0 in_editor (waiting_apart ends v.text other.0 _ other.1) in
+    some_apart ends enc v.text other.0 (codes "in-editor") (waiting_apart ends v.text other.0 _ other.1) in
     (facts.0, record { other = other.0; waiting = other.1; apart = facts.1 })
 
 -- ---- by what was called
@@ -214,7 +214,7 @@ module _ (terms : Terms) (enc : Encoding) (h : Option Version) (ks ws : List Ver
   some_of_save uri (Some t) (Some v) e =
       let ends = terms.line_ends in
       let breaks = save_breaks (same_text ends v.text t) rule e in
-      let facts = some_apart ends enc v.text t saved_line (λ same. true≢false
+      let facts = some_apart ends enc v.text t (codes "saved") (λ same. true≢false
       (sym ((bytes_eq-Decides (compared ends v.text) (compared ends t)).1 same) ∙ breaks.1)) in
       (facts.0, (breaks.0, facts.1))
 
@@ -226,7 +226,7 @@ module _ (terms : Terms) (enc : Encoding) (h : Option Version) (ks ws : List Ver
       elim (show_breaks terms.line_ends number text ks h rule e) [
         | inl is ↦ (kept_fact ks, inl (is, refl))
         | inr is ↦ (
-            let facts = some_apart terms.line_ends enc is.1 text in_editor
+            let facts = some_apart terms.line_ends enc is.1 text (codes "in-editor")
             (other_apart terms.line_ends (versioned number text) ks h is.1 is.2) in
             (facts.0, inr (is.0, record { text = is.1; other = is.2; apart = facts.1 }))
             )
@@ -241,20 +241,22 @@ module _ (terms : Terms) (enc : Encoding) (h : Option Version) (ks ws : List Ver
   some_details (saves uri text) e = some_of_save uri text h e
   some_details (shows uri number text) e = some_of_snapshot number text e
 
-  pub some_facts_of : (call : Call) → rule_of terms h ks ws call ≡ Some rule → (facts : List Fact) × AreFactsOf terms enc h ks ws call rule facts
-  some_facts_of call e =
+  pub some_facts_of : (call : Call) (set_by : Option EventPlace)
+      → rule_of terms h ks ws call ≡ Some rule
+      → (facts : List Fact) × AreFactsOf terms enc h ks ws call rule set_by facts
+  some_facts_of call set_by e =
       let details = some_details call e in
-      (head_facts h call ++ details.0, record { details = details.0; says = details.1; are = refl })
+      (head_facts set_by h call ++ details.0, record { details = details.0; says = details.1; are = refl })
 
 -- ---- any event
 
-module _ (terms : Terms) (kept : List Event) (rule : ℕ) where
-  some_call_facts : (said : Option Call) → option_and_then (call_rule terms (calls kept)) said ≡ Some rule → (facts : List Fact) × AreCallFacts terms kept rule said facts
+module _ (terms : Terms) (kept : List Event) (rule : ℕ) (set_by : Option EventPlace) where
+  some_call_facts : (said : Option Call) → option_and_then (call_rule terms (calls kept)) said ≡ Some rule → (facts : List Fact) × AreCallFacts terms kept rule said set_by facts
   some_call_facts None e = absurd (cc)
   some_call_facts (Some call) e =
-      some_facts_of terms (unwrap_or (encoding (sent_in kept)) Utf16) (held terms (uri_of call) (calls kept)) (versions_kept terms (uri_of call) (calls kept)) (versions_of (uri_of call) (waiting terms (calls kept))) rule call e
+      some_facts_of terms (unwrap_or (encoding (sent_in kept)) Utf16) (held terms (uri_of call) (calls kept)) (versions_kept terms (uri_of call) (calls kept)) (versions_of (uri_of call) (waiting terms (calls kept))) rule call set_by e
 
-  some_message_facts : (m : Sent) → offence terms kept (message m) ≡ Some rule → (b : Bool) → nat_lt rule 601 ≡ b → (facts : List Fact) × AreFactsBy b terms kept m rule facts
+  some_message_facts : (m : Sent) → offence terms kept (message m) ≡ Some rule → (b : Bool) → nat_lt rule 601 ≡ b → (facts : List Fact) × AreFactsBy b terms kept m rule set_by facts
   some_message_facts m e true below = (session_facts rule (sent_in kept) m, refl)
   some_message_facts m e false below =
       let least : 601 ≤ rule = grind (arith, nat_tests) in
@@ -262,7 +264,7 @@ module _ (terms : Terms) (kept : List Event) (rule : ℕ) where
       some_call_facts (call_at kept (message m)) (ap (option_and_then (call_rule terms (calls kept))) broken.says ∙ broken.breaks)
 
   -- there are facts on each event that offends
-  pub some_facts : (rests : Rests) (raw : Raw) (event : Event) → offence terms kept event ≡ Some rule → (facts : List Fact) × AreFacts rests terms kept raw event rule facts
+  pub some_facts : (rests : Rests) (raw : Raw) (event : Event) → offence terms kept event ≡ Some rule → (facts : List Fact) × AreFacts rests terms kept raw event rule set_by facts
   some_facts rests raw (fault side number) e = (fault_facts rests rule raw, refl)
   some_facts rests raw (message m) e = some_message_facts m e (nat_lt rule 601) refl
   some_facts rests raw (snapshot uri number text) e = some_call_facts (call_at kept (snapshot uri number text)) e

@@ -144,5 +144,5 @@ pub texts_differ : TextsDiffer
 texts_differ terms before call rule of e =
     let some = some_facts_of terms Utf16 (held terms (uri_of call) before)
     (kept terms (uri_of call) before) (versions_of (uri_of call) (waiting terms before)) rule call
-    e in
+    None e in
     by_call terms before rule of call some.1.details e some.1.says

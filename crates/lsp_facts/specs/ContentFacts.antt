@@ -2,10 +2,13 @@
 -- have the shape of their method (209).
 use Rattle.std.specs.Prelude.{ℕ, ◌-◌, ◌&&◌, ◌==◌, nat_lt, nat_le, List, [], ◌∷◌, ◌++◌, length, take}
 use Rattle.std.specs.Prelude.{drop, Bool, if◌then◌else◌, Option, Some, None, option_and_then}
+use Rattle.std.specs.Prelude.{codes, decimal}
 use Rattle.std.specs.Bool.{then_some}
 use Rattle.std.specs.List.{prefix_len}
 use Rattle.std.specs.Option.{option_or}
-use Rattle.lsp_facts.specs.Fact.{Fact, breaks, before, after}
+use Rattle.json.specs.Print.{quoted}
+use Rattle.lsp_verdict.specs.Report.{line}
+use Rattle.lsp_facts.specs.Fact.{Fact}
 use Rattle.lsp_facts.specs.Grammar.{json_break}
 use Rattle.lsp_facts.specs.Lines.{content_message}
 use Rattle.lsp_facts.specs.Members.{wrong_member}
@@ -41,9 +44,9 @@ part bytes from end = take (end - from) (drop from bytes)
 
 abbrev pub place_facts : List ℕ → ℕ → List Fact
 place_facts content n =
-    breaks n
-    ∷ before (from_character (part content (n - around_bytes) n))
-    ∷ after (shown around_bytes (drop n content))
+    line (codes "breaks" ∷ decimal n ∷ [])
+    ∷ line (codes "before" ∷ quoted (from_character (part content (n - around_bytes) n)) ∷ [])
+    ∷ line (codes "after" ∷ quoted (shown around_bytes (drop n content)) ∷ [])
     ∷ []
 
 abbrev pub break_facts : List ℕ → Option ℕ → List Fact

@@ -2,7 +2,10 @@
 use Rattle.std.specs.Prelude.{◌≡◌, ◌⊎◌, ◌+◌, ℕ, ℤ, List, [], ◌∷◌, ◌++◌, length, take, map}
 use Rattle.std.specs.Prelude.{slice_get, Bool, true, false, is_some, is_none, if◌then◌else◌, Option}
 use Rattle.std.specs.Prelude.{Some, None, option_map, option_to_list, Result, Ok, Err}
-use Rattle.std.specs.List.{prefix_len}
+use Rattle.std.specs.Prelude.{codes, decimal}
+use Rattle.std.specs.Fmt.{signed_decimal}
+use Rattle.std.specs.List.{flat_map, prefix_len}
+use Rattle.json.specs.Print.{quoted}
 use Rattle.lsp_types.specs.declared.position.Encoding.{Encoding}
 use Rattle.lsp_types.specs.declared.position.Position.{Position}
 use Rattle.lsp_types.specs.declared.position.Span.{Span}
@@ -24,39 +27,41 @@ use Rattle.lsp_docs.specs.Documents.{Version, versioned, held}
 use Rattle.lsp_docs.specs.Kept.{kept}
 use Rattle.lsp_docs.specs.Snapshots.{texts_at, waiting, versions_of}
 use Rattle.lsp_docs.specs.Others.{other_than}
-use Rattle.lsp_facts.specs.Fact.{Fact, of_uri, holds, sends, shows_version, has_changes}
-use Rattle.lsp_facts.specs.Fact.{has_kind, counts_in, fails, line_has}
-use Rattle.lsp_facts.specs.Fact.{falls_inside, fits_in, would_have, may_have, differs_at}
-use Rattle.lsp_facts.specs.Fact.{by_messages}
-use Rattle.lsp_facts.specs.Fact.{in_editor, in_line_ends, saved_line, keeps}
+use Rattle.lsp_replay.specs.declared.heard.EventPlace.{EventPlace}
+use Rattle.lsp_verdict.specs.Report.{line, encoding_name, kind_name}
+use Rattle.lsp_facts.specs.Fact.{Fact, holds, sends, counts_in, fails, would_have, may_have}
+use Rattle.lsp_facts.specs.Fact.{part_line, position_words, quoted_text, spaced}
 use Rattle.lsp_facts.specs.Edges.{edges}
-use Rattle.lsp_facts.specs.Part.{Part, part_around}
+use Rattle.lsp_facts.specs.Part.{part_around}
 use Rattle.lsp_facts.specs.Refuting.{first_other}
 use Rattle.lsp_types.specs.declared.rules.TheConstants as rules
 
 -- ---- what is said under each rule
 
--- the version that is held, where the URI is open
-abbrev pub held_fact : Option Version → List Fact
-held_fact None = []
-held_fact (Some v) = holds v.number ∷ []
+-- the version that is held, where the URI is open, and the event that set it
+abbrev pub held_fact : Option EventPlace → Option Version → List Fact
+held_fact set_by None = []
+held_fact set_by (Some v) = holds v.number set_by ∷ []
 
 -- the version that was sent, and how many changes; or that of a snapshot
 abbrev pub sent_facts : Call → List Fact
 sent_facts (opens uri number text) = sends number ∷ []
-sent_facts (changes enc kind uri number edits) = sends number ∷ has_changes (length edits) ∷ []
+sent_facts (changes enc kind uri number edits) =
+    sends number ∷ line (codes "changes" ∷ decimal (length edits) ∷ []) ∷ []
 sent_facts (closes uri) = []
 sent_facts (saves uri text) = []
-sent_facts (shows uri number text) = shows_version number ∷ []
+sent_facts (shows uri number text) = line (codes "version" ∷ signed_decimal number ∷ []) ∷ []
 
-abbrev pub head_facts : Option Version → Call → List Fact
-head_facts h call = of_uri (uri_of call) ∷ (held_fact h ++ sent_facts call)
+abbrev pub head_facts : Option EventPlace → Option Version → Call → List Fact
+head_facts set_by h call =
+    line (codes "uri" ∷ quoted (uri_of call) ∷ []) ∷ (held_fact set_by h ++ sent_facts call)
 
 -- ---- lines of a text
 
 -- the units of the line of a position, its line end not counted, where the text has that line
 abbrev pub line_length : Encoding → Text → Position → List Fact
-line_length enc t p = option_to_list (option_map (λ (l : Line). line_has (units enc l.text))
+line_length enc t p = option_to_list
+    (option_map (λ (l : Line). line (codes "length" ∷ decimal (units enc l.text) ∷ []))
     (slice_get (lines_of t) p.line))
 
 -- the same of the first position of a span, where there is one
@@ -90,7 +95,8 @@ misfit_facts limit enc t cs n (Some edit) =
 
 abbrev pub kind_facts : ℕ → Encoding → SyncKind → Text → List Edit → List Fact
 kind_facts limit enc kind t cs =
-    has_kind kind ∷ misfit_facts limit enc t cs (fitting kind cs) (slice_get cs (fitting kind cs))
+    line (codes "sync" ∷ kind_name (Some kind) ∷ [])
+    ∷ misfit_facts limit enc t cs (fitting kind cs) (slice_get cs (fitting kind cs))
 
 -- ---- 605 to 607: a change that fails
 
@@ -98,10 +104,15 @@ kind_facts limit enc kind t cs =
 abbrev pub stray : Encoding → Text → Span → Position
 stray enc t span = if is_some (place_of enc t span.first) then span.second else span.first
 
+-- the character into which a column falls
+abbrev pub falls_inside : ℕ → Fact
+falls_inside char = line (codes "inside" ∷ quoted_text (char ∷ []) ∷ [])
+
 -- the encodings in which a column fits, where there are any
 abbrev pub fits_fact : List Encoding → List Fact
 fits_fact [] = []
-fits_fact (enc ∷ encs) = fits_in (enc ∷ encs) ∷ []
+fits_fact (enc ∷ encs) =
+    (codes "fits" ++ flat_map (λ e. spaced (encoding_name (Some e))) (enc ∷ encs) ++ 10 ∷ []) ∷ []
 
 -- 605: the line of that position, the character, and the encodings in which it would fit
 pub record IsStray (enc : Encoding) (t : Text) (span : Option Span) (facts : List Fact) : Type 0
@@ -111,7 +122,7 @@ pub record IsStray (enc : Encoding) (t : Text) (span : Option Span) (facts : Lis
     pub char : ℕ
     pub lies : LiesInside enc t (stray enc t of) char
     pub are : facts ≡ line_length enc t (stray enc t of)
-        ++ falls_inside (char ∷ []) ∷ fits_fact (edges t (stray enc t of))
+        ++ falls_inside char ∷ fits_fact (edges t (stray enc t of))
 
 -- 607: the bytes that the text would have, and how many it may have
 pub record IsTooLong (limit : ℕ) (enc : Encoding) (t : Text) (edit : Edit)
@@ -154,26 +165,32 @@ pub record IsFailing (limit : ℕ) (enc : Encoding) (t : Text) (cs : List Edit) 
 
 -- ---- 608 and 702: texts that differ
 
--- where they first differ, and the line of each there, of a long one the part around the place
-abbrev pub difference_facts : Encoding → Text → Text → (Part → Fact) → ℕ → List Fact
-difference_facts enc t other line n =
-    counts_in enc ∷ differs_at (position_at enc t n)
-    ∷ by_messages (part_around t n) ∷ line (part_around other n) ∷ []
+abbrev pub differs_at : Position → Fact
+differs_at place = codes "at" ++ position_words place ++ 10 ∷ []
 
-abbrev pub AreOfDifference : Encoding → Text → Text → (Part → Fact) → List Fact → Type 0
-AreOfDifference enc t other line facts =
-    DifferFirst t other (λ n. facts ≡ difference_facts enc t other line n)
+-- where they first differ, and the line of each there, of a long one the part around the place; the
+-- key is that of the other text
+abbrev pub difference_facts : Encoding → Text → Text → List ℕ → ℕ → List Fact
+difference_facts enc t other key n =
+    counts_in enc ∷ differs_at (position_at enc t n)
+    ∷ part_line (codes "by-messages") (part_around t n) ∷ part_line key (part_around other n) ∷ []
+
+abbrev pub AreOfDifference : Encoding → Text → Text → List ℕ → List Fact → Type 0
+AreOfDifference enc t other key facts =
+    DifferFirst t other (λ n. facts ≡ difference_facts enc t other key n)
 
 -- that they differ in line ends alone, where they do
 abbrev pub ends_facts : Text → Text → List Fact
-ends_facts t other = if same_text Ignored t other then in_line_ends ∷ [] else []
+ends_facts t other =
+    if same_text Ignored t other
+    then line (codes "line-ends" ∷ codes "option" ∷ codes "--ignore-line-ends" ∷ []) ∷ [] else []
 
 -- **two texts that are not the same**: where they first differ, as they are compared, and whether
 -- they differ in line ends alone
-pub record AreApart (ends : LineEnds) (enc : Encoding) (t other : Text) (line : Part → Fact)
+pub record AreApart (ends : LineEnds) (enc : Encoding) (t other : Text) (key : List ℕ)
     (facts : List Fact) : Type 0 where
   pub place : List Fact
-  pub at : AreOfDifference enc (compared ends t) (compared ends other) line place
+  pub at : AreOfDifference enc (compared ends t) (compared ends other) key place
   pub are : facts ≡ place ++ ends_facts t other
 
 -- a snapshot that waits for this version has another text; of several, the first that came
@@ -181,14 +198,14 @@ pub record IsRefuted (ends : LineEnds) (enc : Encoding) (waits : List Version) (
     (facts : List Fact) : Type 0 where
   pub other : Text
   pub waiting : first_other ends v.text (texts_at v.number waits) ≡ Some other
-  pub apart : AreApart ends enc v.text other in_editor facts
+  pub apart : AreApart ends enc v.text other (codes "in-editor") facts
 
 -- the text that is held or kept of the snapshot's version is another
 pub record IsRefuting (ends : LineEnds) (enc : Encoding) (kept : List Version)
     (h : Option Version) (s : Version) (facts : List Fact) : Type 0 where
   pub text : Text
   pub other : other_than ends s kept h ≡ Some text
-  pub apart : AreApart ends enc text s.text in_editor facts
+  pub apart : AreApart ends enc text s.text (codes "in-editor") facts
 
 -- ---- by what was called
 
@@ -217,10 +234,14 @@ AreOfChange terms enc kind waits number cs (Some v) rule facts =
     ⊎ ((rule ≡ rules.SNAPSHOT_DIFFERS) × IsRefutedText terms enc waits number v.text cs facts)))
 
 abbrev pub AreOfSave : LineEnds → Encoding → Option Text → Option Version → List Fact → Type 0
-AreOfSave ends enc (Some t) (Some v) facts = AreApart ends enc v.text t saved_line facts
+AreOfSave ends enc (Some t) (Some v) facts = AreApart ends enc v.text t (codes "saved") facts
 AreOfSave ends enc _ _ facts = facts ≡ []
 
 -- the versions that are kept, where there are any
+abbrev pub keeps : List ℤ → Fact
+keeps numbers =
+    codes "kept" ++ flat_map (λ number. spaced (signed_decimal number)) numbers ++ 10 ∷ []
+
 abbrev pub kept_fact : List Version → List Fact
 kept_fact [] = []
 kept_fact (v ∷ vs) = keeps (v.number ∷ map (λ (w : Version). w.number) vs) ∷ []
@@ -249,13 +270,16 @@ AreDetails terms enc h kept waits (shows uri number text) rule facts =
 -- the facts on a call that breaks this rule, where this is held of its URI, these versions are kept
 -- and these snapshots wait. Columns count units of the encoding
 pub record AreFactsOf (terms : Terms) (enc : Encoding) (h : Option Version)
-    (kept waits : List Version) (call : Call) (rule : ℕ) (facts : List Fact) : Type 0 where
+    (kept waits : List Version) (call : Call) (rule : ℕ) (set_by : Option EventPlace)
+    (facts : List Fact) : Type 0 where
   pub details : List Fact
   pub says : AreDetails terms enc h kept waits call rule details
-  pub are : facts ≡ head_facts h call ++ details
+  pub are : facts ≡ head_facts set_by h call ++ details
 
--- **the facts on a call that breaks this rule after these calls**
-abbrev pub AreDocumentFacts : Terms → Encoding → List Call → Call → ℕ → List Fact → Type 0
-AreDocumentFacts terms enc before call rule facts =
+-- **the facts on a call that breaks this rule after these calls**, where this event set the version
+-- that is held
+abbrev pub AreDocumentFacts : Terms → Encoding → List Call → Call → ℕ → Option EventPlace
+    → List Fact → Type 0
+AreDocumentFacts terms enc before call rule set_by facts =
     AreFactsOf terms enc (held terms (uri_of call) before) (kept terms (uri_of call) before)
-    (versions_of (uri_of call) (waiting terms before)) call rule facts
+    (versions_of (uri_of call) (waiting terms before)) call rule set_by facts

@@ -13,4 +13,3 @@ pub mod EventFacts
 pub mod Making
 pub mod Members
 pub mod MemberLaws
-pub mod Comparing

@@ -1,16 +1,14 @@
 //! Facts about contents that are not a message, and about messages whose params have the wrong
 //! shape.
-ghost use Rattle.std.specs.Prelude.{◌≡◌, ◌≤◌, ◌-◌, IfOk, IfSome, length};
+ghost use Rattle.std.specs.Prelude.{◌≡◌, ◌≤◌, ◌-◌, ◌++◌, IfOk, IfSome, OnOk, length};
 ghost use Rattle.std.specs.List.{prefix_len};
 ghost use Rattle.lsp_facts.specs.ContentFacts as spec;
-ghost use Rattle.lsp_facts.specs.Fact.{facts_view};
 ghost use Rattle.lsp_facts.specs.Members.{Finds};
-ghost use Rattle.lsp_facts.specs.MessageFacts.{member_facts};
 
-use crate::fact::Fact;
+use crate::facts::Facts;
 use crate::json_text::json_break;
+use crate::members::wrong_member;
 use crate::messages::{front_facts, push_member, shown, text_front};
-use crate::params::wrong_member;
 use lsp_rpc::{Memory, RpcFault, read};
 use lsp_types::rules;
 use std::alloc::Global;
@@ -24,40 +22,30 @@ const AROUND_BYTES: usize = 32;
 ///
 /// # Errors
 /// `Memory` where memory was refused.
-pub fn content_facts(alloc: Global, content: &[u8], rule: u16) -> Result<Vec<Fact>, Memory>
-    ensures { IfOk result (λ facts. facts_view facts.items ≡ spec.content_facts rule content.now) }
+pub fn content_facts(alloc: Global, content: &[u8], rule: u16) -> Result<Facts, Memory>
+    ensures { IfOk result (λ facts. facts ≡ spec.content_facts rule content.now) }
 {
     let mut facts = front_facts(alloc, content)?;
-    let mut reason = reason_facts(alloc, content, rule)?;
-    facts.append(&mut reason)?;
+    push_reason(&mut facts, content, rule)?;
     Ok(facts)
 }
 
-fn reason_facts(alloc: Global, content: &[u8], rule: u16) -> Result<Vec<Fact>, Memory>
-    ensures { IfOk result (λ facts. facts_view facts.items ≡ spec.reason_facts rule content.now) }
+fn push_reason(facts: &mut Facts, content: &[u8], rule: u16) -> Result<(), Memory>
+    ensures { OnOk result (facts.new ≡ facts.old ++ spec.reason_facts rule content.now) }
 {
     if rule == rules::CONTENT_NOT_JSON {
-        return break_facts(alloc, content);
+        return push_break(facts, content);
     }
     if rule == rules::BAD_METHOD_PARAMS {
-        return member_facts(alloc, content);
+        let found = member_in(facts.alloc(), content)?;
+        return push_member(facts, found);
     }
-    Ok(Vec::new(alloc))
+    Ok(())
 }
 
 // ---- 209
 
 /// The member of the params that does not have its shape, if there is one.
-fn member_facts(alloc: Global, content: &[u8]) -> Result<Vec<Fact>, Memory>
-    ensures { IfOk result (λ facts. facts_view facts.items
-        ≡ member_facts (spec.wrong_in content.now)) }
-{
-    let found = member_in(alloc, content)?;
-    let mut facts = Vec::new(alloc);
-    push_member(&mut facts, found)?;
-    Ok(facts)
-}
-
 fn member_in(alloc: Global, content: &[u8]) -> Result<Option<String>, Memory>
     ensures { Finds result (spec.wrong_in content.now) }
 {
@@ -71,13 +59,13 @@ fn member_in(alloc: Global, content: &[u8]) -> Result<Option<String>, Memory>
 // ---- 201
 
 /// Where a content is no longer the front of a JSON text, and what is around that place.
-fn break_facts(alloc: Global, content: &[u8]) -> Result<Vec<Fact>, Memory>
-    ensures { IfOk result (λ facts. facts_view facts.items
-        ≡ spec.break_facts content.now (spec.content_break content.now)) }
+fn push_break(facts: &mut Facts, content: &[u8]) -> Result<(), Memory>
+    ensures { OnOk result (facts.new ≡ facts.old
+        ++ spec.break_facts content.now (spec.content_break content.now)) }
 {
-    match content_break(alloc, content)? {
-        Some(place) => place_facts(alloc, content, place),
-        None => Ok(Vec::new(alloc)),
+    match content_break(facts.alloc(), content)? {
+        Some(place) => push_place(facts, content, place),
+        None => Ok(()),
     }
 }
 
@@ -95,18 +83,13 @@ fn content_break(alloc: Global, content: &[u8]) -> Result<Option<usize>, Memory>
 }
 
 /// A place, and what is before and after it.
-fn place_facts(alloc: Global, content: &[u8], place: usize) -> Result<Vec<Fact>, Memory>
+fn push_place(facts: &mut Facts, content: &[u8], place: usize) -> Result<(), Memory>
     requires { place ≤ length content.now }
-    ensures { IfOk result (λ facts. facts_view facts.items
-        ≡ spec.place_facts content.now place) }
+    ensures { OnOk result (facts.new ≡ facts.old ++ spec.place_facts content.now place) }
 {
-    let before = String::from_str(alloc, text_before(content, place))?;
-    let after = String::from_str(alloc, shown(&content[place..], AROUND_BYTES))?;
-    let mut facts = Vec::new(alloc);
-    facts.push(Fact::Breaks(place as u64))?;
-    facts.push(Fact::Before(before))?;
-    facts.push(Fact::After(after))?;
-    Ok(facts)
+    facts.number("breaks", place as u64)?;
+    facts.text("before", text_before(content, place))?;
+    facts.text("after", shown(&content[place..], AROUND_BYTES))
 }
 
 /// The last bytes before a place, from the first whole character on.

@@ -5,25 +5,12 @@ ghost use Rattle.std.specs.Str.{chars};
 ghost use Rattle.lsp_types.specs.declared.line_ends.LineEnds.TheVariants.{Ignored};
 ghost use Rattle.lsp_text.specs.SameText.{SameText, compared};
 ghost use Rattle.lsp_facts.specs.DocumentFacts.{AreApart, AreOfDifference};
-ghost use Rattle.lsp_facts.specs.Comparing.{line_fact};
-ghost use Rattle.lsp_facts.specs.Fact.{fact_view};
-ghost use Rattle.lsp_facts.specs.Part.{part_view};
 
-use crate::fact::Fact;
-use crate::fact_list::FactList;
-use crate::part::{Excerpt, part_at};
+use crate::facts::Facts;
+use crate::part::part_at;
 use lsp_text::{compared_lines, first_difference};
 use lsp_types::{Encoding, LineEnds, Memory};
 use std::alloc::Global;
-
-/// What a held text is compared with.
-#[derive(Clone, Copy, Debug, PartialEq, Eq)]
-pub(crate) enum Against {
-    /// The text of a snapshot.
-    Recorded,
-    /// A text that was saved.
-    Saved,
-}
 
 /// Where a held text and another one first differ, as they are compared, the line of each there,
 /// and whether they differ in line ends alone.
@@ -33,14 +20,14 @@ pub(crate) fn difference(
     encoding: Encoding,
     held: &str,
     other: &str,
-    against: Against,
-) -> Result<FactList, Memory>
+    key: &str,
+) -> Result<Facts, Memory>
     ensures { IfOk result (λ facts. (SameText line_ends (chars held.now) (chars other.now) → ⊥)
         → AreApart line_ends encoding (chars held.now) (chars other.now)
-        (line_fact against) facts) }
+        key.now facts) }
 {
-    let mut facts = place(alloc, line_ends, encoding, held, other, against)?;
-    facts.push_line_ends(held, other)?;
+    let mut facts = place(alloc, line_ends, encoding, held, other, key)?;
+    facts.line_ends(held, other)?;
     Ok(facts)
 }
 
@@ -51,15 +38,15 @@ fn place(
     encoding: Encoding,
     held: &str,
     other: &str,
-    against: Against,
-) -> Result<FactList, Memory>
+    key: &str,
+) -> Result<Facts, Memory>
     ensures { IfOk result (λ facts. (SameText line_ends (chars held.now) (chars other.now) → ⊥)
         → AreOfDifference encoding (compared line_ends (chars held.now))
-        (compared line_ends (chars other.now)) (line_fact against) facts) }
+        (compared line_ends (chars other.now)) key.now facts) }
 {
     match line_ends {
-        LineEnds::Exact => at_difference(alloc, encoding, held, other, against),
-        LineEnds::Ignored => by_lines(alloc, encoding, held, other, against),
+        LineEnds::Exact => at_difference(alloc, encoding, held, other, key),
+        LineEnds::Ignored => by_lines(alloc, encoding, held, other, key),
     }
 }
 
@@ -69,16 +56,16 @@ fn by_lines(
     encoding: Encoding,
     held: &str,
     other: &str,
-    against: Against,
-) -> Result<FactList, Memory>
+    key: &str,
+) -> Result<Facts, Memory>
     ensures { IfOk result (λ facts.
         (SameText Ignored (chars held.now) (chars other.now) → ⊥)
         → AreOfDifference encoding (compared Ignored (chars held.now))
-        (compared Ignored (chars other.now)) (line_fact against) facts) }
+        (compared Ignored (chars other.now)) key.now facts) }
 {
     let held = compared_lines(alloc, held)?;
     let other = compared_lines(alloc, other)?;
-    let facts = at_difference(alloc, encoding, held.as_str(), other.as_str(), against)?;
+    let facts = at_difference(alloc, encoding, held.as_str(), other.as_str(), key)?;
     Ok(facts)
 }
 
@@ -89,31 +76,21 @@ fn at_difference(
     encoding: Encoding,
     held: &str,
     other: &str,
-    against: Against,
-) -> Result<FactList, Memory>
+    key: &str,
+) -> Result<Facts, Memory>
     ensures { IfOk result (λ facts. chars held.now ≢ chars other.now
         → AreOfDifference encoding (chars held.now) (chars other.now)
-        (line_fact against) facts) }
+        key.now facts) }
 {
-    let mut facts = FactList::new(alloc);
+    let mut facts = Facts::new(alloc);
     let Some(found) = first_difference(held, other, encoding) else {
         return Ok(facts);
     };
-    facts.push(Fact::Encoding(encoding))?;
-    facts.push(Fact::At(found.at))?;
+    facts.encoding(encoding)?;
+    facts.place(found.at)?;
     let held = part_at(alloc, found.held, found.held_front)?;
-    facts.push(Fact::ByMessages(held))?;
+    facts.part("by-messages", &held)?;
     let other = part_at(alloc, found.other, found.other_front)?;
-    facts.push(line_fact(against, other))?;
+    facts.part(key, &other)?;
     Ok(facts)
-}
-
-/// A line of the other text.
-fn line_fact(against: Against, line: Excerpt) -> Fact
-    ensures { fact_view result ≡ line_fact against (part_view line) }
-{
-    match against {
-        Against::Recorded => Fact::InEditor(line),
-        Against::Saved => Fact::SavedLine(line),
-    }
 }

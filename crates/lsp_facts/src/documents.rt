@@ -1,8 +1,9 @@
 //! Facts on calls that break a rule on documents.
 
-ghost use Rattle.std.specs.Prelude.{◌≡◌, ◌∷◌, ℕ, List, true, Some, IfOk};
+ghost use Rattle.std.specs.Prelude.{◌≡◌, [], ◌∷◌, ℕ, List, true, Some, IfOk, codes};
 ghost use Rattle.std.specs.List.{list_any};
 ghost use Rattle.std.specs.Str.{chars};
+ghost use Rattle.json.specs.Print.{quoted};
 ghost use Rattle.lsp_rpc.specs.View.{act_view};
 ghost use Rattle.lsp_text.specs.Changes.{edits_of};
 ghost use Rattle.lsp_docs.specs.Calls.{Call, opens, changes as changes_by, closes, saves, shows};
@@ -12,43 +13,54 @@ ghost use Rattle.lsp_docs.specs.Snapshots.{waiting, versions_of};
 ghost use Rattle.lsp_docs.specs.Rules.{differs, call_rule};
 ghost use Rattle.lsp_docs.specs.State.{Stands};
 ghost use Rattle.lsp_verdict.specs.Calls.{call_of};
-ghost use Rattle.lsp_facts.specs.Fact.{of_uri, facts_view};
+ghost use Rattle.lsp_verdict.specs.Report.{line};
 ghost use Rattle.lsp_facts.specs.DocumentFacts.{held_fact, kept_fact, IsRefuted, AreOfOpening};
 ghost use Rattle.lsp_facts.specs.DocumentFacts.{AreOfChange, AreOfSave, AreOfSnapshot};
 ghost use Rattle.lsp_facts.specs.DocumentFacts.{AreDocumentFacts};
 
-use crate::difference::{Against, difference};
-use crate::fact::Fact;
-use crate::fact_list::FactList;
+use crate::difference::difference;
+use crate::facts::Facts;
 use crate::making::make;
 use crate::refused_change::{misfit, refused};
 use crate::waiting::first_other;
 use lsp_docs::Docs;
+use lsp_replay::EventPlace;
 use lsp_rpc::Act;
 use lsp_text::TextStore;
 use lsp_types::{Change, Encoding, Memory, SyncKind, rules};
 use std::alloc::Global;
 
 /// What is said about an act of the editor's that breaks this rule on documents, under what was
-/// agreed. The documents are those before the act, which was refused.
-pub fn act_facts<S: TextStore>(
+/// agreed. The documents are those before the act, which was refused; an event set the version that
+/// is held.
+pub(crate) fn act_facts<S: TextStore>(
     alloc: Global,
     docs: &Docs<S>,
     encoding: Encoding,
     kind: SyncKind,
     act: &Act,
     rule: u16,
-) -> Result<Vec<Fact>, Memory>
+    set_by: Option<EventPlace>,
+) -> Result<Facts, Memory>
     ensures { IfOk result (λ facts. (calls : List Call) (call : Call) → Stands docs.now calls
         → call_of encoding kind (act_view act.now) ≡ Some call
         → call_rule docs.now.terms calls call ≡ Some rule
-        → AreDocumentFacts docs.now.terms encoding calls call rule (facts_view facts.items)) }
+        → AreDocumentFacts docs.now.terms encoding calls call rule set_by facts) }
 {
     match act {
         Act::DidOpen { uri, version, text } => {
             let version = *version;
             let text = text.as_str();
-            opening(alloc, docs, encoding, uri.as_str(), version, text, rule)
+            opening(
+                alloc,
+                docs,
+                encoding,
+                uri.as_str(),
+                version,
+                text,
+                rule,
+                set_by,
+            )
         }
         Act::DidChange {
             uri,
@@ -66,24 +78,26 @@ pub fn act_facts<S: TextStore>(
                 version,
                 changes,
                 rule,
+                set_by,
             )?;
             Ok(facts)
         }
-        Act::DidClose { uri } => closing(alloc, docs, encoding, uri.as_str()),
+        Act::DidClose { uri } => closing(alloc, docs, encoding, uri.as_str(), set_by),
         Act::DidSave { uri, text } => {
             let Some(text) = text else {
-                return Ok(Vec::new(alloc));
+                return Ok(Facts::new(alloc));
             };
-            let facts = saving(alloc, docs, encoding, uri.as_str(), text.as_str())?;
+            let facts = saving(alloc, docs, encoding, uri.as_str(), text.as_str(), set_by)?;
             Ok(facts)
         }
-        _ => Ok(Vec::new(alloc)),
+        _ => Ok(Facts::new(alloc)),
     }
 }
 
 /// What is said about a snapshot that breaks this rule, under the encoding that was agreed. The
-/// documents are those before the snapshot, which was refused.
-pub fn snapshot_facts<S: TextStore>(
+/// documents are those before the snapshot, which was refused; an event set the version that is
+/// held.
+pub(crate) fn snapshot_facts<S: TextStore>(
     alloc: Global,
     docs: &Docs<S>,
     encoding: Encoding,
@@ -91,27 +105,34 @@ pub fn snapshot_facts<S: TextStore>(
     version: i32,
     text: &str,
     rule: u16,
-) -> Result<Vec<Fact>, Memory>
+    set_by: Option<EventPlace>,
+) -> Result<Facts, Memory>
     ensures { IfOk result (λ facts. (calls : List Call) → Stands docs.now calls
         → call_rule docs.now.terms calls (shows uri.now version (chars text.now)) ≡ Some rule
         → AreDocumentFacts docs.now.terms encoding calls
-        (shows uri.now version (chars text.now)) rule (facts_view facts.items)) }
+        (shows uri.now version (chars text.now)) rule set_by facts) }
 {
-    let mut facts = head(alloc, docs, uri)?;
-    facts.push(Fact::Version(version))?;
+    let mut facts = head(alloc, docs, uri, set_by)?;
+    facts.version("version", version)?;
     facts.append(of_snapshot(alloc, docs, encoding, uri, version, text, rule)?)?;
-    Ok(facts.into_facts())
+    Ok(facts)
 }
 
-/// The URI, and the version that is held of it.
-fn head<S: TextStore>(alloc: Global, docs: &Docs<S>, uri: &str) -> Result<FactList, Memory>
+/// The URI, the version that is held of it, and the event that set that.
+fn head<S: TextStore>(
+    alloc: Global,
+    docs: &Docs<S>,
+    uri: &str,
+    set_by: Option<EventPlace>,
+) -> Result<Facts, Memory>
     ensures { IfOk result (λ facts. (calls : List Call) → Stands docs.now calls
-        → facts ≡ of_uri uri.now ∷ held_fact (held docs.now.terms uri.now calls)) }
+        → facts ≡ line (codes "uri" ∷ quoted uri.now ∷ [])
+        ∷ held_fact set_by (held docs.now.terms uri.now calls)) }
 {
-    let mut facts = FactList::new(alloc);
-    facts.push_uri(uri)?;
+    let mut facts = Facts::new(alloc);
+    facts.text("uri", uri)?;
     if let Some(version) = docs.version_of(uri) {
-        facts.push(Fact::Held(version))?;
+        facts.held(version, set_by)?;
     }
     Ok(facts)
 }
@@ -125,16 +146,17 @@ fn opening<S: TextStore>(
     version: i32,
     text: &str,
     rule: u16,
-) -> Result<Vec<Fact>, Memory>
+    set_by: Option<EventPlace>,
+) -> Result<Facts, Memory>
     ensures { IfOk result (λ facts. (calls : List Call) → Stands docs.now calls
         → call_rule docs.now.terms calls (opens uri.now version (chars text.now)) ≡ Some rule
         → AreDocumentFacts docs.now.terms encoding calls
-        (opens uri.now version (chars text.now)) rule (facts_view facts.items)) }
+        (opens uri.now version (chars text.now)) rule set_by facts) }
 {
-    let mut facts = head(alloc, docs, uri)?;
-    facts.push(Fact::Sent(version))?;
+    let mut facts = head(alloc, docs, uri, set_by)?;
+    facts.version("sent", version)?;
     facts.append(of_opening(alloc, docs, encoding, uri, version, text, rule)?)?;
-    Ok(facts.into_facts())
+    Ok(facts)
 }
 
 /// What is said about an opening under its rule.
@@ -146,17 +168,17 @@ fn of_opening<S: TextStore>(
     version: i32,
     text: &str,
     rule: u16,
-) -> Result<FactList, Memory>
+) -> Result<Facts, Memory>
     ensures { IfOk result (λ facts. (calls : List Call) → Stands docs.now calls
         → call_rule docs.now.terms calls (opens uri.now version (chars text.now)) ≡ Some rule
         → AreOfOpening docs.now.terms encoding
         (versions_of uri.now (waiting docs.now.terms calls))
         (versioned version (chars text.now)) rule facts) }
 {
-    let mut facts = FactList::new(alloc);
+    let mut facts = Facts::new(alloc);
     if rule == rules::DOCUMENT_OVER_LIMIT {
-        facts.push(Fact::Bytes(text.len() as u64))?;
-        facts.push(Fact::Limit(docs.limit()))?;
+        facts.number("bytes", text.len() as u64)?;
+        facts.number("limit", docs.limit())?;
         return Ok(facts);
     }
     if rule == rules::SNAPSHOT_DIFFERS {
@@ -173,7 +195,7 @@ fn refuted<S: TextStore>(
     uri: &str,
     version: i32,
     text: &str,
-) -> Result<FactList, Memory>
+) -> Result<Facts, Memory>
     ensures { IfOk result (λ facts. (calls : List Call) → Stands docs.now calls
         → list_any (differs docs.now.terms.line_ends (versioned version (chars text.now)))
         (versions_of uri.now (waiting docs.now.terms calls)) ≡ true
@@ -183,9 +205,9 @@ fn refuted<S: TextStore>(
 {
     let line_ends = docs.line_ends();
     let Some(other) = first_other(line_ends, docs.waiting_texts(uri, version), text) else {
-        return Ok(FactList::new(alloc));
+        return Ok(Facts::new(alloc));
     };
-    let facts = difference(alloc, line_ends, encoding, text, other, Against::Recorded)?;
+    let facts = difference(alloc, line_ends, encoding, text, other, "in-editor")?;
     Ok(facts)
 }
 
@@ -199,19 +221,20 @@ fn changing<S: TextStore>(
     version: i32,
     changes: &[Change],
     rule: u16,
-) -> Result<Vec<Fact>, Memory>
+    set_by: Option<EventPlace>,
+) -> Result<Facts, Memory>
     ensures { IfOk result (λ facts. (calls : List Call) → Stands docs.now calls
         → call_rule docs.now.terms calls
         (changes_by encoding kind uri.now version (edits_of changes.now)) ≡ Some rule
         → AreDocumentFacts docs.now.terms encoding calls
         (changes_by encoding kind uri.now version (edits_of changes.now)) rule
-        (facts_view facts.items)) }
+        set_by facts) }
 {
-    let mut facts = head(alloc, docs, uri)?;
-    facts.push(Fact::Sent(version))?;
-    facts.push(Fact::Changes(changes.len() as u64))?;
+    let mut facts = head(alloc, docs, uri, set_by)?;
+    facts.version("sent", version)?;
+    facts.number("changes", changes.len() as u64)?;
     facts.append(of_change(alloc, docs, encoding, kind, uri, version, changes, rule)?)?;
-    Ok(facts.into_facts())
+    Ok(facts)
 }
 
 /// What is said about a change under its rule.
@@ -224,7 +247,7 @@ fn of_change<S: TextStore>(
     version: i32,
     changes: &[Change],
     rule: u16,
-) -> Result<FactList, Memory>
+) -> Result<Facts, Memory>
     ensures { IfOk result (λ facts. (calls : List Call) → Stands docs.now calls
         → call_rule docs.now.terms calls
         (changes_by encoding kind uri.now version (edits_of changes.now)) ≡ Some rule
@@ -233,10 +256,10 @@ fn of_change<S: TextStore>(
         (held docs.now.terms uri.now calls) rule facts) }
 {
     let Some(store) = docs.store_of(uri) else {
-        return Ok(FactList::new(alloc));
+        return Ok(Facts::new(alloc));
     };
     if rule == rules::VERSION_DOES_NOT_RISE {
-        return Ok(FactList::new(alloc));
+        return Ok(Facts::new(alloc));
     }
     if rule == rules::CHANGE_NOT_OF_KIND {
         return misfit(alloc, store, encoding, kind, changes, docs.limit());
@@ -266,14 +289,15 @@ fn closing<S: TextStore>(
     docs: &Docs<S>,
     encoding: Encoding,
     uri: &str,
-) -> Result<Vec<Fact>, Memory>
+    set_by: Option<EventPlace>,
+) -> Result<Facts, Memory>
     ensures { IfOk result (λ facts. (calls : List Call) (rule : ℕ) → Stands docs.now calls
         → call_rule docs.now.terms calls (closes uri.now) ≡ Some rule
         → AreDocumentFacts docs.now.terms encoding calls (closes uri.now) rule
-        (facts_view facts.items)) }
+        set_by facts) }
 {
-    let facts = head(alloc, docs, uri)?;
-    Ok(facts.into_facts())
+    let facts = head(alloc, docs, uri, set_by)?;
+    Ok(facts)
 }
 
 /// What is said about a save with a text.
@@ -283,15 +307,16 @@ fn saving<S: TextStore>(
     encoding: Encoding,
     uri: &str,
     text: &str,
-) -> Result<Vec<Fact>, Memory>
+    set_by: Option<EventPlace>,
+) -> Result<Facts, Memory>
     ensures { IfOk result (λ facts. (calls : List Call) (rule : ℕ) → Stands docs.now calls
         → call_rule docs.now.terms calls (saves uri.now (Some (chars text.now))) ≡ Some rule
         → AreDocumentFacts docs.now.terms encoding calls
-        (saves uri.now (Some (chars text.now))) rule (facts_view facts.items)) }
+        (saves uri.now (Some (chars text.now))) rule set_by facts) }
 {
-    let mut facts = head(alloc, docs, uri)?;
+    let mut facts = head(alloc, docs, uri, set_by)?;
     facts.append(of_save(alloc, docs, encoding, uri, text)?)?;
-    Ok(facts.into_facts())
+    Ok(facts)
 }
 
 /// What is said about a saved text that is not the held one.
@@ -301,18 +326,18 @@ fn of_save<S: TextStore>(
     encoding: Encoding,
     uri: &str,
     text: &str,
-) -> Result<FactList, Memory>
+) -> Result<Facts, Memory>
     ensures { IfOk result (λ facts. (calls : List Call) (rule : ℕ) → Stands docs.now calls
         → call_rule docs.now.terms calls (saves uri.now (Some (chars text.now))) ≡ Some rule
         → AreOfSave docs.now.terms.line_ends encoding (Some (chars text.now))
         (held docs.now.terms uri.now calls) facts) }
 {
     let Some(store) = docs.store_of(uri) else {
-        return Ok(FactList::new(alloc));
+        return Ok(Facts::new(alloc));
     };
     let held = store.to_text(alloc)?;
     let ends = docs.line_ends();
-    difference(alloc, ends, encoding, held.as_str(), text, Against::Saved)
+    difference(alloc, ends, encoding, held.as_str(), text, "saved")
 }
 
 /// What is said about a snapshot under its rule.
@@ -324,7 +349,7 @@ fn of_snapshot<S: TextStore>(
     version: i32,
     text: &str,
     rule: u16,
-) -> Result<FactList, Memory>
+) -> Result<Facts, Memory>
     ensures { IfOk result (λ facts. (calls : List Call) → Stands docs.now calls
         → call_rule docs.now.terms calls (shows uri.now version (chars text.now)) ≡ Some rule
         → AreOfSnapshot docs.now.terms.line_ends encoding (kept docs.now.terms uri.now calls)
@@ -334,7 +359,7 @@ fn of_snapshot<S: TextStore>(
         return kept_facts(alloc, docs, uri);
     }
     let Some(store) = docs.other_of(uri, version, text) else {
-        return Ok(FactList::new(alloc));
+        return Ok(Facts::new(alloc));
     };
     let held = store.to_text(alloc)?;
     let facts = difference(
@@ -343,20 +368,20 @@ fn of_snapshot<S: TextStore>(
         encoding,
         held.as_str(),
         text,
-        Against::Recorded,
+        "in-editor",
     )?;
     Ok(facts)
 }
 
 /// The versions that are kept of a URI, where there are any.
-fn kept_facts<S: TextStore>(alloc: Global, docs: &Docs<S>, uri: &str) -> Result<FactList, Memory>
+fn kept_facts<S: TextStore>(alloc: Global, docs: &Docs<S>, uri: &str) -> Result<Facts, Memory>
     ensures { IfOk result (λ facts. (calls : List Call) → Stands docs.now calls
         → facts ≡ kept_fact (kept docs.now.terms uri.now calls)) }
 {
-    let mut facts = FactList::new(alloc);
+    let mut facts = Facts::new(alloc);
     let numbers = docs.kept_versions(uri)?;
     if numbers.len() > 0 {
-        facts.push(Fact::Kept(numbers))?;
+        facts.kept(numbers.as_slice())?;
     }
     Ok(facts)
 }

@@ -1,9 +1,8 @@
 //! Facts on streams of frames and on logs that have a fault.
 ghost use Rattle.std.specs.Prelude.{◌≡◌, IfOk};
-ghost use Rattle.lsp_facts.specs.Fact.{facts_view};
 ghost use Rattle.lsp_facts.specs.FlawFacts as spec;
 
-use crate::fact::Fact;
+use crate::facts::Facts;
 use crate::messages::{front_facts, text_front};
 use lsp_frame::header_front;
 use lsp_rpc::Memory;
@@ -14,21 +13,10 @@ use std::alloc::Global;
 ///
 /// # Errors
 /// `Memory` where memory was refused.
-pub fn frame_facts(alloc: Global, rest: &[u8]) -> Result<Vec<Fact>, Memory>
-    ensures { IfOk result (λ facts. facts_view facts.items ≡ spec.frame_facts rest.now) }
+pub fn frame_facts(alloc: Global, rest: &[u8]) -> Result<Facts, Memory>
+    ensures { IfOk result (λ facts. facts ≡ spec.frame_facts rest.now) }
 {
     front_facts(alloc, header_front(rest))
-}
-
-/// What is said about a stream that ends inside a frame, 107: how that begins, of the bytes after
-/// the last whole one.
-///
-/// # Errors
-/// `Memory` where memory was refused.
-pub fn unfinished_facts(alloc: Global, rest: &[u8]) -> Result<Vec<Fact>, Memory>
-    ensures { IfOk result (λ facts. facts_view facts.items ≡ spec.unfinished_facts rest.now) }
-{
-    front_facts(alloc, rest)
 }
 
 /// What is said about a log that has a fault: the number of its record, from 1, and 0 for the first
@@ -36,14 +24,13 @@ pub fn unfinished_facts(alloc: Global, rest: &[u8]) -> Result<Vec<Fact>, Memory>
 ///
 /// # Errors
 /// `Memory` where memory was refused.
-pub fn flaw_facts(alloc: Global, number: u64, place: u64, line: &[u8]) -> Result<Vec<Fact>, Memory>
-    ensures { IfOk result (λ facts. facts_view facts.items
+pub fn flaw_facts(alloc: Global, number: u64, place: u64, line: &[u8]) -> Result<Facts, Memory>
+    ensures { IfOk result (λ facts. facts
         ≡ spec.flaw_facts number place line.now) }
 {
-    let found = String::from_str(alloc, text_front(line))?;
-    let mut facts = Vec::new(alloc);
-    facts.push(Fact::Record(number))?;
-    facts.push(Fact::Byte(place))?;
-    facts.push(Fact::Found(found))?;
+    let mut facts = Facts::new(alloc);
+    facts.number("record", number)?;
+    facts.number("byte", place)?;
+    facts.text("found", text_front(line))?;
     Ok(facts)
 }

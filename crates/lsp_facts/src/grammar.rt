@@ -14,25 +14,36 @@ pub(crate) enum Gap {
     AfterValue,
 }
 
-/// Inside an escape (section 7).
+/// Where an escape may continue in more than one way (section 7).
 #[derive(Clone, Copy)]
 pub(crate) enum Escape {
     AfterBackslash,
-    /// The four digits of a code unit.
+    /// Before the four digits of a code unit.
     Unit,
     /// The second digit after a `d`: d800 to dbff are the first half of a pair.
     AfterD,
-    ThreeDigits,
-    TwoDigits,
-    OneDigit,
-    /// The last digits of the first half of a pair.
-    TwoOfHigh,
-    OneOfHigh,
-    /// The second half of a pair, dc00 to dfff.
-    LowBackslash,
-    LowU,
-    LowUnit,
-    LowAfterD,
+}
+
+/// Bytes of which each has its class: the rest of a word (section 3) or of an escape.
+#[derive(Clone, Copy)]
+pub(crate) enum Row {
+    True,
+    False,
+    Null,
+    /// The last three digits of a code unit.
+    Digits,
+    /// The last two digits of the first half of a pair, and the second half, dc00 to dfff, up to its
+    /// last two digits.
+    Pair,
+}
+
+/// What a byte of a row may be.
+#[derive(Clone, Copy)]
+pub(crate) enum Class {
+    Byte(u8),
+    Digit,
+    D,
+    CToF,
 }
 
 /// Inside a number (section 6).
@@ -48,29 +59,15 @@ pub(crate) enum Number {
     Exponent,
 }
 
-/// The rest of `true`, `false` or `null` (section 3).
-#[derive(Clone, Copy)]
-pub(crate) enum Word {
-    Rue,
-    Ue,
-    E,
-    Alse,
-    Lse,
-    Se,
-    Ull,
-    Ll,
-    L,
-}
-
-/// A place in a JSON text.
+/// A place in a JSON text; those inside a string or a row name the gap after the string or word.
 #[derive(Clone, Copy)]
 pub(crate) enum Place {
     Gap(Gap),
-    /// Inside a string.
-    Text,
-    Escape(Escape),
+    Text(Gap),
+    Escape(Escape, Gap),
+    /// Behind so many bytes of a row.
+    Row(Row, usize, Gap),
     Number(Number),
-    Word(Word),
 }
 
 /// What is open around a place.
@@ -78,16 +75,14 @@ pub(crate) enum Place {
 pub(crate) enum Around {
     Array,
     Object,
-    /// A string that is a key.
-    Key,
 }
 
 /// What a byte leads to.
 #[derive(Clone, Copy)]
 pub(crate) enum Move {
     To(Place),
-    /// Something opens.
-    Open(Around, Place),
+    /// An array or an object opens.
+    Open(Around),
     /// What was opened last ends.
-    Close(Place),
+    Close,
 }

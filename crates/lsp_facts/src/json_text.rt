@@ -1,221 +1,112 @@
 //! Where a text is no longer JSON (RFC 8259).
-ghost use Rattle.std.specs.Prelude.{◌≡◌, ◌≤◌, ◌<◌, IfOk, IfSome, OnOk, length, option_map};
-ghost use Rattle.json.specs.Word.{is_space};
+ghost use Rattle.std.specs.Prelude.{◌≡◌, ◌≤◌, ◌<◌, IfOk, IfSome, OnOk, length};
 ghost use Rattle.lsp_facts.specs.Grammar as spec;
 
-use crate::grammar::{Around, Escape, Gap, Move, Number, Place, Word};
+use crate::grammar::Class::{self, Byte, CToF, D, Digit};
+use crate::grammar::{Around, Escape, Gap, Move, Number, Place, Row};
 use lsp_rpc::Memory;
 use std::alloc::Global;
 
 /// How deep arrays and objects nest at most.
 const MOST_OPEN: usize = 127;
 
-fn is_space(byte: u8) -> bool
-    ensures { result ≡ is_space byte }
-{
-    matches!(byte, b' ' | b'\t' | b'\n' | b'\r')
-}
+// ---- words and strings
 
-fn is_digit(byte: u8) -> bool
-    ensures { result ≡ spec.is_digit byte }
+fn classes(row: Row) -> &'static [Class]
+    ensures { result.now ≡ spec.classes row }
 {
-    matches!(byte, b'0'..=b'9')
-}
-
-fn is_hex(byte: u8) -> bool
-    ensures { result ≡ spec.is_hex byte }
-{
-    matches!(byte, b'0'..=b'9' | b'A'..=b'F' | b'a'..=b'f')
-}
-
-fn is_d(byte: u8) -> bool
-    ensures { result ≡ spec.is_d byte }
-{
-    matches!(byte, b'd' | b'D')
-}
-
-fn is_8_to_b(byte: u8) -> bool
-    ensures { result ≡ spec.is_8_to_b byte }
-{
-    matches!(byte, b'8'..=b'9' | b'A'..=b'B' | b'a'..=b'b')
-}
-
-fn is_c_to_f(byte: u8) -> bool
-    ensures { result ≡ spec.is_c_to_f byte }
-{
-    matches!(byte, b'C'..=b'F' | b'c'..=b'f')
-}
-
-fn is_e(byte: u8) -> bool
-    ensures { result ≡ spec.is_e byte }
-{
-    matches!(byte, b'e' | b'E')
-}
-
-fn is_escape(byte: u8) -> bool
-    ensures { result ≡ spec.is_escape byte }
-{
-    matches!(byte, b'"' | b'\\' | b'/' | b'b' | b'f' | b'n' | b'r' | b't')
-}
-
-// ---- strings
-
-fn after_backslash(byte: u8) -> Option<Place>
-    ensures { result ≡ spec.after_backslash byte }
-{
-    if byte == b'u' {
-        return Some(Place::Escape(Escape::Unit));
-    }
-    is_escape(byte).then_some(Place::Text)
-}
-
-fn in_unit(byte: u8) -> Option<Place>
-    ensures { result ≡ spec.in_unit byte }
-{
-    if is_d(byte) {
-        return Some(Place::Escape(Escape::AfterD));
-    }
-    is_hex(byte).then_some(Place::Escape(Escape::ThreeDigits))
-}
-
-fn after_d(byte: u8) -> Option<Place>
-    ensures { result ≡ spec.after_d byte }
-{
-    if matches!(byte, b'0'..=b'7') {
-        return Some(Place::Escape(Escape::TwoDigits));
-    }
-    is_8_to_b(byte).then_some(Place::Escape(Escape::TwoOfHigh))
-}
-
-fn in_escape(spot: Escape, byte: u8) -> Option<Place>
-    ensures { result ≡ spec.in_escape spot byte }
-{
-    match spot {
-        Escape::AfterBackslash => after_backslash(byte),
-        Escape::Unit => in_unit(byte),
-        Escape::AfterD => after_d(byte),
-        Escape::ThreeDigits => is_hex(byte).then_some(Place::Escape(Escape::TwoDigits)),
-        Escape::TwoDigits => is_hex(byte).then_some(Place::Escape(Escape::OneDigit)),
-        Escape::OneDigit => is_hex(byte).then_some(Place::Text),
-        Escape::TwoOfHigh => is_hex(byte).then_some(Place::Escape(Escape::OneOfHigh)),
-        Escape::OneOfHigh => is_hex(byte).then_some(Place::Escape(Escape::LowBackslash)),
-        Escape::LowBackslash => (byte == b'\\').then_some(Place::Escape(Escape::LowU)),
-        Escape::LowU => (byte == b'u').then_some(Place::Escape(Escape::LowUnit)),
-        Escape::LowUnit => is_d(byte).then_some(Place::Escape(Escape::LowAfterD)),
-        Escape::LowAfterD => is_c_to_f(byte).then_some(Place::Escape(Escape::TwoDigits)),
+    match row {
+        Row::True => &[Byte(b'r'), Byte(b'u'), Byte(b'e')],
+        Row::False => &[Byte(b'a'), Byte(b'l'), Byte(b's'), Byte(b'e')],
+        Row::Null => &[Byte(b'u'), Byte(b'l'), Byte(b'l')],
+        Row::Digits => &[Digit, Digit, Digit],
+        Row::Pair => &[Digit, Digit, Byte(b'\\'), Byte(b'u'), D, CToF],
     }
 }
 
-/// A string ends: that of a key before its colon.
-fn end_text(around: Option<Around>) -> Move
-    ensures { result ≡ spec.end_text around }
+fn has(class: Class, byte: u8) -> bool
+    ensures { result ≡ spec.has class byte }
 {
-    match around {
-        Some(Around::Key) => Move::Close(Place::Gap(Gap::Colon)),
-        _ => Move::To(Place::Gap(Gap::AfterValue)),
+    match class {
+        Byte(one) => byte == one,
+        Digit => byte.is_ascii_hexdigit(),
+        D => matches!(byte, b'd' | b'D'),
+        CToF => matches!(byte, b'C'..=b'F' | b'c'..=b'f'),
     }
 }
 
-fn in_text(around: Option<Around>, byte: u8) -> Option<Move>
-    ensures { result ≡ spec.in_text around byte }
+fn after_row(row: Row, after: Gap) -> Place
+    ensures { result ≡ spec.after_row row after }
 {
-    match byte {
-        b'"' => Some(end_text(around)),
-        b'\\' => Some(Move::To(Place::Escape(Escape::AfterBackslash))),
-        0..=31 => None,
-        _ => Some(Move::To(Place::Text)),
+    match row {
+        Row::True | Row::False | Row::Null => Place::Gap(after),
+        Row::Digits => Place::Text(after),
+        Row::Pair => Place::Row(Row::Digits, 1, after),
     }
 }
 
-// ---- words
-
-fn in_word(word: Word, byte: u8) -> Option<Place>
-    ensures { result ≡ spec.in_word word byte }
+fn in_row(row: Row, at: usize, after: Gap, byte: u8) -> Option<Place>
+    ensures { result ≡ spec.in_row row at after byte }
 {
-    match word {
-        Word::Rue => (byte == b'r').then_some(Place::Word(Word::Ue)),
-        Word::Ue => (byte == b'u').then_some(Place::Word(Word::E)),
-        Word::E => (byte == b'e').then_some(Place::Gap(Gap::AfterValue)),
-        Word::Alse => (byte == b'a').then_some(Place::Word(Word::Lse)),
-        Word::Lse => (byte == b'l').then_some(Place::Word(Word::Se)),
-        Word::Se => (byte == b's').then_some(Place::Word(Word::E)),
-        Word::Ull => (byte == b'u').then_some(Place::Word(Word::Ll)),
-        Word::Ll => (byte == b'l').then_some(Place::Word(Word::L)),
-        Word::L => (byte == b'l').then_some(Place::Gap(Gap::AfterValue)),
+    let classes = classes(row);
+    if !has(*classes.get(at)?, byte) {
+        return None;
+    }
+    if at + 1 < classes.len() {
+        Some(Place::Row(row, at + 1, after))
+    } else {
+        Some(after_row(row, after))
     }
 }
 
-fn begin_word(byte: u8) -> Option<Place>
-    ensures { result ≡ spec.begin_word byte }
+fn in_escape(escape: Escape, after: Gap, byte: u8) -> Option<Place>
+    ensures { result ≡ spec.in_escape escape after byte }
 {
-    match byte {
-        b't' => Some(Place::Word(Word::Rue)),
-        b'f' => Some(Place::Word(Word::Alse)),
-        b'n' => Some(Place::Word(Word::Ull)),
+    match (escape, byte) {
+        (Escape::AfterBackslash, b'u') => Some(Place::Escape(Escape::Unit, after)),
+        (Escape::AfterBackslash, b'"' | b'\\' | b'/' | b'b' | b'f' | b'n' | b'r' | b't') => {
+            Some(Place::Text(after))
+        }
+        (Escape::Unit, b'd' | b'D') => Some(Place::Escape(Escape::AfterD, after)),
+        (Escape::Unit, b'0'..=b'9' | b'A'..=b'F' | b'a'..=b'f') => {
+            Some(Place::Row(Row::Digits, 0, after))
+        }
+        (Escape::AfterD, b'0'..=b'7') => Some(Place::Row(Row::Digits, 1, after)),
+        (Escape::AfterD, b'8'..=b'9' | b'A'..=b'B' | b'a'..=b'b') => {
+            Some(Place::Row(Row::Pair, 0, after))
+        }
         _ => None,
+    }
+}
+
+fn in_text(after: Gap, byte: u8) -> Option<Place>
+    ensures { result ≡ spec.in_text after byte }
+{
+    match byte {
+        b'"' => Some(Place::Gap(after)),
+        b'\\' => Some(Place::Escape(Escape::AfterBackslash, after)),
+        0..=31 => None,
+        _ => Some(Place::Text(after)),
     }
 }
 
 // ---- numbers
 
-fn whole_part(byte: u8) -> Option<Number>
-    ensures { result ≡ spec.whole_part byte }
-{
-    if byte == b'0' {
-        return Some(Number::AfterZero);
-    }
-    is_digit(byte).then_some(Number::Whole)
-}
-
-fn after_whole(byte: u8) -> Option<Number>
-    ensures { result ≡ spec.after_whole byte }
-{
-    if byte == b'.' {
-        return Some(Number::AfterPoint);
-    }
-    is_e(byte).then_some(Number::AfterE)
-}
-
-fn in_whole(byte: u8) -> Option<Number>
-    ensures { result ≡ spec.in_whole byte }
-{
-    if is_digit(byte) {
-        return Some(Number::Whole);
-    }
-    after_whole(byte)
-}
-
-fn in_fraction(byte: u8) -> Option<Number>
-    ensures { result ≡ spec.in_fraction byte }
-{
-    if is_digit(byte) {
-        return Some(Number::Fraction);
-    }
-    is_e(byte).then_some(Number::AfterE)
-}
-
-fn after_e(byte: u8) -> Option<Number>
-    ensures { result ≡ spec.after_e byte }
-{
-    if byte == b'+' || byte == b'-' {
-        return Some(Number::AfterSign);
-    }
-    is_digit(byte).then_some(Number::Exponent)
-}
-
 /// Where the number continues.
 fn in_number(number: Number, byte: u8) -> Option<Number>
     ensures { result ≡ spec.in_number number byte }
 {
-    match number {
-        Number::AfterMinus => whole_part(byte),
-        Number::AfterZero => after_whole(byte),
-        Number::Whole => in_whole(byte),
-        Number::AfterPoint => is_digit(byte).then_some(Number::Fraction),
-        Number::Fraction => in_fraction(byte),
-        Number::AfterE => after_e(byte),
-        Number::AfterSign => is_digit(byte).then_some(Number::Exponent),
-        Number::Exponent => is_digit(byte).then_some(Number::Exponent),
+    match (byte, number) {
+        (b'0', Number::AfterMinus) => Some(Number::AfterZero),
+        (b'0'..=b'9', Number::AfterMinus | Number::Whole) => Some(Number::Whole),
+        (b'0'..=b'9', Number::AfterPoint | Number::Fraction) => Some(Number::Fraction),
+        (b'0'..=b'9', Number::AfterE | Number::AfterSign | Number::Exponent) => {
+            Some(Number::Exponent)
+        }
+        (b'.', Number::AfterZero | Number::Whole) => Some(Number::AfterPoint),
+        (b'e' | b'E', Number::AfterZero | Number::Whole | Number::Fraction) => Some(Number::AfterE),
+        (b'+' | b'-', Number::AfterE) => Some(Number::AfterSign),
+        _ => None,
     }
 }
 
@@ -223,177 +114,85 @@ fn in_number(number: Number, byte: u8) -> Option<Number>
 fn may_end(number: Number) -> bool
     ensures { result ≡ spec.may_end number }
 {
-    match number {
-        Number::AfterZero | Number::Whole | Number::Fraction | Number::Exponent => true,
-        Number::AfterMinus | Number::AfterPoint | Number::AfterE | Number::AfterSign => false,
-    }
-}
-
-fn begin_number(byte: u8) -> Option<Place>
-    ensures { result ≡ spec.begin_number byte }
-{
-    if byte == b'-' {
-        return Some(Place::Number(Number::AfterMinus));
-    }
-    match whole_part(byte) {
-        Some(number) => Some(Place::Number(number)),
-        None => None,
-    }
+    matches!(
+        number,
+        Number::AfterZero | Number::Whole | Number::Fraction | Number::Exponent
+    )
 }
 
 // ---- between values
-
-/// A value begins that is neither an array nor an object.
-fn begin_plain(byte: u8) -> Option<Place>
-    ensures { result ≡ spec.begin_plain byte }
-{
-    if byte == b'"' {
-        return Some(Place::Text);
-    }
-    match begin_number(byte) {
-        Some(place) => Some(place),
-        None => begin_word(byte),
-    }
-}
-
-fn opens(room: bool, around: Around, gap: Gap) -> Option<Move>
-    ensures { result ≡ spec.opens room around gap }
-{
-    room.then_some(Move::Open(around, Place::Gap(gap)))
-}
-
-fn to(place: Option<Place>) -> Option<Move>
-    ensures { result ≡ option_map Move.To place }
-{
-    match place {
-        Some(place) => Some(Move::To(place)),
-        None => None,
-    }
-}
 
 /// A value begins, where there is room for one more array or object, or not.
 fn begin_value(room: bool, byte: u8) -> Option<Move>
     ensures { result ≡ spec.begin_value room byte }
 {
+    let after = Gap::AfterValue;
     match byte {
-        b'[' => opens(room, Around::Array, Gap::FirstItem),
-        b'{' => opens(room, Around::Object, Gap::FirstKey),
-        _ => to(begin_plain(byte)),
+        b'[' => room.then_some(Move::Open(Around::Array)),
+        b'{' => room.then_some(Move::Open(Around::Object)),
+        b'"' => Some(Move::To(Place::Text(after))),
+        b't' => Some(Move::To(Place::Row(Row::True, 0, after))),
+        b'f' => Some(Move::To(Place::Row(Row::False, 0, after))),
+        b'n' => Some(Move::To(Place::Row(Row::Null, 0, after))),
+        b'-' => Some(Move::To(Place::Number(Number::AfterMinus))),
+        b'0' => Some(Move::To(Place::Number(Number::AfterZero))),
+        b'1'..=b'9' => Some(Move::To(Place::Number(Number::Whole))),
+        _ => None,
     }
 }
 
-fn begin_key(byte: u8) -> Option<Move>
-    ensures { result ≡ spec.begin_key byte }
-{
-    (byte == b'"').then_some(Move::Open(Around::Key, Place::Text))
-}
-
-fn after_comma(around: Option<Around>) -> Option<Move>
-    ensures { result ≡ spec.after_comma around }
-{
-    match around? {
-        Around::Array => Some(Move::To(Place::Gap(Gap::Value))),
-        Around::Object => Some(Move::To(Place::Gap(Gap::Key))),
-        Around::Key => None,
-    }
-}
-
-/// What is open ends.
-fn closes(around: Option<Around>, byte: u8) -> Option<Move>
-    ensures { result ≡ spec.closes around byte }
-{
-    match around? {
-        Around::Array => (byte == b']').then_some(Move::Close(Place::Gap(Gap::AfterValue))),
-        Around::Object => (byte == b'}').then_some(Move::Close(Place::Gap(Gap::AfterValue))),
-        Around::Key => None,
-    }
-}
-
-fn or_closes(around: Option<Around>, byte: u8, begun: Option<Move>) -> Option<Move>
-    ensures { result ≡ spec.or_closes around byte begun }
-{
-    match begun {
-        Some(begun) => Some(begun),
-        None => closes(around, byte),
-    }
-}
-
-fn after_value(around: Option<Around>, byte: u8) -> Option<Move>
+fn after_value(around: Around, byte: u8) -> Option<Move>
     ensures { result ≡ spec.after_value around byte }
 {
-    if byte == b',' {
-        after_comma(around)
-    } else {
-        closes(around, byte)
+    match (around, byte) {
+        (Around::Array, b',') => Some(Move::To(Place::Gap(Gap::Value))),
+        (Around::Object, b',') => Some(Move::To(Place::Gap(Gap::Key))),
+        (Around::Array, b']') | (Around::Object, b'}') => Some(Move::Close),
+        _ => None,
     }
 }
 
-fn colon(byte: u8) -> Option<Move>
-    ensures { result ≡ spec.colon byte }
+/// Where these are open, the last one innermost.
+fn in_gap(gap: Gap, opened: &[Around], byte: u8) -> Option<Move>
+    ensures { result ≡ spec.in_gap gap opened.now byte }
 {
-    (byte == b':').then_some(Move::To(Place::Gap(Gap::Value)))
-}
-
-fn after_space(gap: Gap, around: Option<Around>, room: bool, byte: u8) -> Option<Move>
-    ensures { result ≡ spec.after_space gap around room byte }
-{
-    match gap {
-        Gap::Value => begin_value(room, byte),
-        Gap::FirstItem => or_closes(around, byte, begin_value(room, byte)),
-        Gap::FirstKey => or_closes(around, byte, begin_key(byte)),
-        Gap::Key => begin_key(byte),
-        Gap::Colon => colon(byte),
-        Gap::AfterValue => after_value(around, byte),
+    match (gap, byte) {
+        (_, b' ' | b'\t' | b'\n' | b'\r') => Some(Move::To(Place::Gap(gap))),
+        (Gap::FirstItem, b']') | (Gap::FirstKey, b'}') => Some(Move::Close),
+        (Gap::Value | Gap::FirstItem, _) => begin_value(opened.len() < MOST_OPEN, byte),
+        (Gap::FirstKey | Gap::Key, b'"') => Some(Move::To(Place::Text(Gap::Colon))),
+        (Gap::Colon, b':') => Some(Move::To(Place::Gap(Gap::Value))),
+        (Gap::AfterValue, _) => after_value(*opened.last()?, byte),
+        _ => None,
     }
-}
-
-fn in_gap(gap: Gap, around: Option<Around>, room: bool, byte: u8) -> Option<Move>
-    ensures { result ≡ spec.in_gap gap around room byte }
-{
-    if is_space(byte) {
-        return Some(Move::To(Place::Gap(gap)));
-    }
-    after_space(gap, around, room, byte)
 }
 
 // ---- a text
 
-fn number_move(number: Number, around: Option<Around>, room: bool, byte: u8) -> Option<Move>
-    ensures { result ≡ spec.or_after number around room byte (spec.in_number number byte) }
+fn number_move(number: Number, opened: &[Around], byte: u8) -> Option<Move>
+    ensures { result ≡ spec.number_move number opened.now byte }
 {
     if let Some(later) = in_number(number, byte) {
         return Some(Move::To(Place::Number(later)));
     }
     if may_end(number) {
-        in_gap(Gap::AfterValue, around, room, byte)
+        in_gap(Gap::AfterValue, opened, byte)
     } else {
         None
     }
 }
 
 /// What a byte leads to; `None` where it cannot stand.
-fn move_at(place: Place, around: Option<Around>, room: bool, byte: u8) -> Option<Move>
-    ensures { result ≡ spec.move place around room byte }
-{
-    match place {
-        Place::Gap(gap) => in_gap(gap, around, room, byte),
-        Place::Text => in_text(around, byte),
-        Place::Escape(spot) => to(in_escape(spot, byte)),
-        Place::Number(number) => number_move(number, around, room, byte),
-        Place::Word(word) => to(in_word(word, byte)),
-    }
-}
-
-/// The same, where these are open, the last one innermost.
 fn move_in(place: Place, opened: &[Around], byte: u8) -> Option<Move>
     ensures { result ≡ spec.move_in place opened.now byte }
 {
-    move_at(
-        place,
-        opened.last().copied(),
-        opened.len() < MOST_OPEN,
-        byte,
-    )
+    match place {
+        Place::Gap(gap) => in_gap(gap, opened, byte),
+        Place::Text(after) => in_text(after, byte).map(Move::To),
+        Place::Escape(escape, after) => in_escape(escape, after, byte).map(Move::To),
+        Place::Row(row, at, after) => in_row(row, at, after, byte).map(Move::To),
+        Place::Number(number) => number_move(number, opened, byte),
+    }
 }
 
 /// What is open after a move, and the place that it leads to.
@@ -403,25 +202,17 @@ fn make_move(opened: &mut Vec<Around>, by: Move) -> Result<Place, Memory>
 {
     match by {
         Move::To(place) => Ok(place),
-        Move::Open(around, place) => {
+        Move::Open(around) => {
             opened.push(around)?;
-            Ok(place)
+            Ok(Place::Gap(match around {
+                Around::Array => Gap::FirstItem,
+                Around::Object => Gap::FirstKey,
+            }))
         }
-        Move::Close(place) => {
+        Move::Close => {
             opened.truncate(opened.len().saturating_sub(1));
-            Ok(place)
+            Ok(Place::Gap(Gap::AfterValue))
         }
-    }
-}
-
-/// Whether a value may end here.
-fn is_end(place: Place) -> bool
-    ensures { result ≡ spec.is_end place }
-{
-    match place {
-        Place::Gap(Gap::AfterValue) => true,
-        Place::Number(number) => may_end(number),
-        _ => false,
     }
 }
 
@@ -429,7 +220,11 @@ fn is_end(place: Place) -> bool
 fn is_whole(place: Place, opened: &[Around]) -> bool
     ensures { result ≡ spec.is_whole place opened.now }
 {
-    opened.is_empty() && is_end(place)
+    match place {
+        Place::Gap(Gap::AfterValue) => opened.is_empty(),
+        Place::Number(number) => may_end(number) && opened.is_empty(),
+        _ => false,
+    }
 }
 
 /// How many bytes of a text come before the first one that a JSON text does not allow there, all if

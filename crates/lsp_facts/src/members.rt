@@ -1,29 +1,193 @@
-//! Which member of params or of a result does not have the shape that it must have: the first one,
-//! in the order in which they are read, as a JSON pointer (RFC 6901) from there.
-ghost use Rattle.std.specs.Prelude.{◌≡◌, [], Some, decimal, option_and_then, option_map};
-ghost use Rattle.serde_json.specs.Find.{as_array};
+//! Which member of the params of a message, or of the result of `initialize`, does not have the
+//! shape that it must have: the first one of the tables, as a JSON pointer (RFC 6901) from there.
+ghost use Rattle.std.specs.Prelude.{◌≡◌, ◌++◌, map, option_map};
 ghost use Rattle.serde_json.specs.View.{items_view, view};
 ghost use Rattle.lsp_rpc.specs.Params.{given};
 ghost use Rattle.lsp_rpc.specs.Shape.{as_integer};
+ghost use Rattle.lsp_rpc.specs.View.{message_view};
 ghost use Rattle.lsp_facts.specs.Members as spec;
-ghost use Rattle.lsp_facts.specs.Members.{Finds, pointer_view};
+ghost use Rattle.lsp_facts.specs.Members.{Finds, part_view, row_view};
 
-use crate::plain::Plain;
-use lsp_rpc::Memory;
+use crate::shapes::{Kind, Need, PARAMS, Part, RESULT, Row};
+use lsp_rpc::{Memory, Message};
 use serde_json::Value;
 use std::alloc::Global;
 
-impl Plain {
-    /// Whether a JSON value is such a plain value.
-    pub(crate) fn fits(self, value: &Value) -> bool
+/// The member of the params of a message that does not have its shape.
+pub(crate) fn wrong_member(alloc: Global, message: &Message) -> Result<Option<String>, Memory>
+    ensures { Finds result (spec.wrong_member (message_view message.now)) }
+{
+    match message {
+        Message::Request { method, params, .. } => {
+            wrong_params(alloc, method.as_str(), params.as_ref())
+        }
+        Message::Notification { method, params } => {
+            wrong_params(alloc, method.as_str(), params.as_ref())
+        }
+        Message::Response { .. } => Ok(None),
+    }
+}
+
+/// The member of the result of `initialize` that does not have its shape.
+pub(crate) fn wrong_result(alloc: Global, answer: &Value) -> Result<Option<String>, Memory>
+    ensures { Finds result (spec.wrong_result (view answer.now)) }
+{
+    wrong_in(alloc, Kind::Object, &RESULT, answer)
+}
+
+/// The same of the params of a method of this name.
+fn wrong_params(
+    alloc: Global,
+    method: &str,
+    params: Option<&Value>,
+) -> Result<Option<String>, Memory>
+    ensures { Finds result
+        (spec.wrong_by spec.parts method.now (option_map (λ v. view v.now) params.entry)) }
+{
+    wrong_by(alloc, &PARAMS, method, params)
+}
+
+/// What is wrong by the first part of the method by which something is.
+fn wrong_by(
+    alloc: Global,
+    parts: &[Part],
+    method: &str,
+    params: Option<&Value>,
+) -> Result<Option<String>, Memory>
+    ensures { Finds result (spec.wrong_by (map part_view parts.now) method.now
+        (option_map (λ v. view v.now) params.entry)) }
+{
+    for part in parts {
+        let found = wrong_part(alloc, part, method, params)?;
+        if found.is_some() {
+            return Ok(found);
+        }
+    }
+    Ok(None)
+}
+
+/// What is wrong by a part, if it is one of the method.
+fn wrong_part(
+    alloc: Global,
+    part: &Part,
+    method: &str,
+    params: Option<&Value>,
+) -> Result<Option<String>, Memory>
+    ensures { Finds result (spec.wrong_part method.now
+        (option_map (λ v. view v.now) params.entry) (part_view part.now)) }
+{
+    let (name, array, kind, rows) = part;
+    if *name != method {
+        return Ok(None);
+    }
+    let Some(params) = params else {
+        return Ok(Some(String::new(alloc)));
+    };
+    match array {
+        Some(array) => wrong_item(alloc, array, *kind, rows, items_at(params, array)),
+        None => wrong_in(alloc, *kind, rows, params),
+    }
+}
+
+/// The first item of the array at a JSON pointer that is not of this kind with these members.
+fn wrong_item(
+    alloc: Global,
+    array: &str,
+    kind: Kind,
+    rows: &[Row],
+    items: &[Value],
+) -> Result<Option<String>, Memory>
+    ensures { Finds result (option_map (λ rest. array.now ++ rest)
+        (spec.wrong_item kind (map row_view rows.now) 0 (items_view items.now))) }
+{
+    for (number, item) in items.iter().enumerate() {
+        if let Some(rest) = wrong_in(alloc, kind, rows, item)? {
+            return Ok(Some(format!(in alloc; "{array}/{number}{rest}")?));
+        }
+    }
+    Ok(None)
+}
+
+/// The value itself, unless it is of this kind, or the first of its members that is wrong.
+fn wrong_in(
+    alloc: Global,
+    kind: Kind,
+    rows: &[Row],
+    value: &Value,
+) -> Result<Option<String>, Memory>
+    ensures { Finds result (spec.wrong_in kind (map row_view rows.now) (view value.now)) }
+{
+    if !kind.fits(value) {
+        return Ok(Some(String::new(alloc)));
+    }
+    for row in rows {
+        if !row_fits(row, value) {
+            let (object, name, ..) = row;
+            return Ok(Some(format!(in alloc; "{object}/{name}")?));
+        }
+    }
+    Ok(None)
+}
+
+/// Whether a value has a member as it must be.
+fn row_fits(row: &Row, value: &Value) -> bool
+    ensures { result ≡ spec.row_fits (row_view row.now) (view value.now) }
+{
+    let (object, name, need, kind) = row;
+    let Some(object) = object_at(value, object) else {
+        return true;
+    };
+    match given(object, name) {
+        Some(member) => kind.fits(member),
+        None => matches!(need, Need::May),
+    }
+}
+
+/// The object at a JSON pointer.
+fn object_at<'a>(value: &'a Value, pointer: &str) -> Option<&'a Value>
+    ensures { option_map (λ v. view v.now) result ≡ spec.object_at pointer.now (view value.now) }
+{
+    let found = value.pointer(pointer)?;
+    if found.is_object() { Some(found) } else { None }
+}
+
+/// The items of the array at a JSON pointer; none if there is no array.
+fn items_at<'a>(value: &'a Value, pointer: &str) -> &'a [Value]
+    ensures { items_view result.now ≡ spec.items_at pointer.now (view value.now) }
+{
+    let Some(found) = value.pointer(pointer) else {
+        return &[];
+    };
+    match found.as_array() {
+        Some(items) => items.as_slice(),
+        None => &[],
+    }
+}
+
+/// The member, where it is neither missing nor null.
+fn given<'a>(value: &'a Value, name: &str) -> Option<&'a Value>
+    ensures { option_map (λ v. view v.now) result ≡ given name.now (view value.now) }
+{
+    let member = value.get(name)?;
+    if member.is_null() { None } else { Some(member) }
+}
+
+// ---- kinds
+
+impl Kind {
+    /// Whether a JSON value is of this kind.
+    fn fits(self, value: &Value) -> bool
         ensures { result ≡ spec.fits self (view value.now) }
     {
         match self {
-            Plain::Text => value.is_string(),
-            Plain::Integer => is_integer(value),
-            Plain::Uinteger => is_uinteger(value),
-            Plain::Id => is_id(value),
-            Plain::Kind => is_kind(value),
+            Kind::Text => value.is_string(),
+            Kind::Integer => integer_of(value).is_some(),
+            Kind::Uinteger => integer_of(value).is_some_and(|n| n >= 0),
+            Kind::Id => value.is_string() || integer_of(value).is_some(),
+            Kind::SyncKind => is_sync_kind(value),
+            Kind::Sync => value.is_object() || is_sync_kind(value),
+            Kind::Array => value.is_array(),
+            Kind::Object => value.is_object(),
         }
     }
 }
@@ -31,145 +195,11 @@ impl Plain {
 fn integer_of(value: &Value) -> Option<i32>
     ensures { result ≡ as_integer (view value.now) }
 {
-    let n = value.as_i64()?;
-    if i64::from(i32::MIN) <= n && n <= i64::from(i32::MAX) {
-        Some(n as i32)
-    } else {
-        None
-    }
+    i32::try_from(value.as_i64()?).ok()
 }
 
-fn is_integer(value: &Value) -> bool
-    ensures { result ≡ spec.fits Plain.Integer (view value.now) }
+fn is_sync_kind(value: &Value) -> bool
+    ensures { result ≡ spec.fits Kind.SyncKind (view value.now) }
 {
-    integer_of(value).is_some()
-}
-
-fn is_uinteger(value: &Value) -> bool
-    ensures { result ≡ spec.fits Plain.Uinteger (view value.now) }
-{
-    match integer_of(value) {
-        Some(n) => n >= 0,
-        None => false,
-    }
-}
-
-fn is_id(value: &Value) -> bool
-    ensures { result ≡ spec.fits Plain.Id (view value.now) }
-{
-    match value {
-        Value::String(_) => true,
-        value => is_integer(value),
-    }
-}
-
-fn is_kind(value: &Value) -> bool
-    ensures { result ≡ spec.fits Plain.Kind (view value.now) }
-{
-    match integer_of(value) {
-        Some(n) => 0 <= n && n <= 2,
-        None => false,
-    }
-}
-
-/// A pointer to the value itself.
-pub(crate) fn itself(alloc: Global) -> Option<String>
-    ensures { pointer_view result ≡ Some [] }
-{
-    Some(String::new(alloc))
-}
-
-/// A pointer to the value itself, unless it is good.
-pub(crate) fn unless(alloc: Global, good: bool) -> Option<String>
-    ensures { pointer_view result ≡ spec.unless good }
-{
-    if good { None } else { itself(alloc) }
-}
-
-/// The pointer from the value of which this is a member of this name.
-pub(crate) fn below(
-    alloc: Global,
-    name: &str,
-    found: Option<String>,
-) -> Result<Option<String>, Memory>
-    ensures { Finds result (spec.below name.now (pointer_view found)) }
-{
-    let Some(rest) = found else {
-        return Ok(None);
-    };
-    Ok(Some(format!(in alloc; "/{name}{rest}")?))
-}
-
-/// The pointer from the array of which this is the item of this number, from 0.
-pub(crate) fn below_item(
-    alloc: Global,
-    number: usize,
-    found: Option<String>,
-) -> Result<Option<String>, Memory>
-    ensures { Finds result (spec.below (decimal number) (pointer_view found)) }
-{
-    let Some(rest) = found else {
-        return Ok(None);
-    };
-    Ok(Some(format!(in alloc; "/{number}{rest}")?))
-}
-
-/// The member, where it is neither missing nor null.
-pub(crate) fn given<'a>(value: &'a Value, name: &str) -> Option<&'a Value>
-    ensures { option_map (λ v. view v.now) result ≡ given name.now (view value.now) }
-{
-    let member = value.get(name)?;
-    if member.is_null() { None } else { Some(member) }
-}
-
-/// The member of this name, if it is not there or does not fit.
-pub(crate) fn needs(
-    alloc: Global,
-    value: &Value,
-    name: &str,
-    plain: Plain,
-) -> Result<Option<String>, Memory>
-    ensures { Finds result (spec.needs name.now plain (view value.now)) }
-{
-    let good = match value.get(name) {
-        Some(member) => plain.fits(member),
-        None => false,
-    };
-    below(alloc, name, unless(alloc, good))
-}
-
-/// The member of this name, if it is there, is not null and does not fit.
-pub(crate) fn allows(
-    alloc: Global,
-    value: &Value,
-    name: &str,
-    plain: Plain,
-) -> Result<Option<String>, Memory>
-    ensures { Finds result (spec.allows name.now plain (view value.now)) }
-{
-    let good = match given(value, name) {
-        Some(member) => plain.fits(member),
-        None => true,
-    };
-    below(alloc, name, unless(alloc, good))
-}
-
-/// The value, if it is there and is an object.
-pub(crate) fn object(value: Option<&Value>) -> Option<&Value>
-    ensures { option_map (λ v. view v.now) result
-        ≡ spec.object (option_map (λ v. view v.now) value.entry) }
-{
-    let value = value?;
-    if value.is_object() { Some(value) } else { None }
-}
-
-/// The items of the value, if it is there and is an array.
-pub(crate) fn items(value: Option<&Value>) -> Option<&[Value]>
-    ensures { option_map (λ v. items_view v.now) result
-        ≡ option_and_then as_array (option_map (λ v. view v.now) value.entry) }
-{
-    match value?.as_array() {
-        Some(items) => Some(items.as_slice()),
-        None => None,
-    }
+    integer_of(value).is_some_and(|n| 0 <= n && n <= 2)
 }

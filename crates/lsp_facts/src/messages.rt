@@ -1,7 +1,9 @@
 //! Facts on messages, and how some bytes begin.
 ghost use Rattle.std.specs.Prelude.{◌≡◌, ◌≤◌, List, [], ◌∷◌, ◌++◌, IfOk, OnOk, length, take};
-ghost use Rattle.std.specs.Prelude.{map, option_map, unwrap_or};
+ghost use Rattle.std.specs.Prelude.{codes, map, option_map, string_bytes, unwrap_or};
+ghost use Rattle.std.specs.List.{flat_map};
 ghost use Rattle.std.specs.Str.{IsUtf8};
+ghost use Rattle.json.specs.Print.{quoted};
 ghost use Rattle.serde_json.specs.View.{view};
 ghost use Rattle.lsp_rpc.specs.Ident.{id_view};
 ghost use Rattle.lsp_rpc.specs.Results.{picked_at};
@@ -10,17 +12,18 @@ ghost use Rattle.lsp_session.specs.Handshake.{open_initializes, phase, settled_a
 ghost use Rattle.lsp_session.specs.Sent.{Sent};
 ghost use Rattle.lsp_session.specs.State.{Stands};
 ghost use Rattle.lsp_session.specs.View.{sent};
-ghost use Rattle.lsp_facts.specs.Fact.{fact_view, facts_view, has_id, in_phase};
+ghost use Rattle.lsp_facts.specs.Fact.{in_phase, more_words, spaced};
 ghost use Rattle.lsp_facts.specs.Members.{pointer_view};
 ghost use Rattle.lsp_facts.specs.MessageFacts as spec;
 
-use crate::fact::Fact;
-use crate::params::wrong_result;
-use lsp_rpc::{Act, Id, Memory, Message, Offer, RpcFault, Side, copy_id, picked_of};
+use crate::facts::Facts;
+use crate::members::wrong_result;
+use lsp_rpc::{Act, Id, Memory, Message, Offer, RpcFault, Side, picked_of, push_quoted};
 use lsp_session::{Session, is_synchronisation};
 use lsp_types::rules;
 use serde_json::Value;
 use std::alloc::Global;
+use std::fmt::Write;
 use std::str::from_utf8;
 
 /// How many bytes of a content, of a header part or of an unfinished frame are shown.
@@ -28,15 +31,6 @@ const SHOWN_BYTES: usize = 64;
 
 /// How many bytes are shown of the names that an `initialize` offers, a byte more counted for each.
 const OFFERED_BYTES: usize = 256;
-
-/// One fact alone.
-fn only(alloc: Global, fact: Fact) -> Result<Vec<Fact>, Memory>
-    ensures { IfOk result (λ facts. facts_view facts.items ≡ fact_view fact ∷ []) }
-{
-    let mut facts = Vec::new(alloc);
-    facts.push(fact)?;
-    Ok(facts)
-}
 
 /// The first bytes, of which the length is given, as a text.
 fn front_of(bytes: &[u8], len: usize) -> &str
@@ -65,23 +59,25 @@ pub(crate) fn shown(bytes: &[u8], most: usize) -> &str
     text_front(&bytes[..len])
 }
 
-/// How some bytes begin, as far as that is UTF-8.
-pub(crate) fn front_facts(alloc: Global, bytes: &[u8]) -> Result<Vec<Fact>, Memory>
-    ensures { IfOk result (λ facts. facts_view facts.items ≡ spec.front_facts bytes.now) }
+/// How some bytes begin, as far as that is UTF-8: those of a content, of a header part, or of a
+/// stream that ends inside a frame (107).
+///
+/// # Errors
+/// `Memory` where memory was refused.
+pub fn front_facts(alloc: Global, bytes: &[u8]) -> Result<Facts, Memory>
+    ensures { IfOk result (λ facts. facts ≡ spec.front_facts bytes.now) }
 {
-    only(
-        alloc,
-        Fact::Begins(String::from_str(alloc, shown(bytes, SHOWN_BYTES))?),
-    )
+    let mut facts = Facts::new(alloc);
+    facts.text("begins", shown(bytes, SHOWN_BYTES))?;
+    Ok(facts)
 }
 
 /// Adds a member that does not have its shape, where there is one.
-pub(crate) fn push_member(facts: &mut Vec<Fact>, found: Option<String>) -> Result<(), Memory>
-    ensures { OnOk result (facts_view facts.new.items
-        ≡ facts_view facts.old.items ++ spec.member_facts (pointer_view found)) }
+pub(crate) fn push_member(facts: &mut Facts, found: Option<String>) -> Result<(), Memory>
+    ensures { OnOk result (facts.new ≡ facts.old ++ spec.member_facts (pointer_view found)) }
 {
     match found {
-        Some(pointer) => Ok(facts.push(Fact::Member(pointer))?),
+        Some(pointer) => facts.text("member", pointer.as_str()),
         None => Ok(()),
     }
 }
@@ -97,25 +93,14 @@ pub fn id_in(message: &Message) -> Option<&Id>
     }
 }
 
-fn id_facts(alloc: Global, message: &Message) -> Result<Vec<Fact>, Memory>
-    ensures { IfOk result (λ facts. facts_view facts.items
-        ≡ has_id (spec.id_in (message_view message.now)) ∷ []) }
+fn push_id(facts: &mut Facts, message: &Message) -> Result<(), Memory>
+    ensures { OnOk result (facts.new
+        ≡ facts.old ++ spec.id_fact (message_view message.now) ∷ []) }
 {
-    let id = match id_in(message) {
-        Some(id) => Some(copy_id(id)?),
-        None => None,
-    };
-    only(alloc, Fact::Id(id))
-}
-
-fn copy_names(alloc: Global, names: &[String]) -> Result<Vec<String>, Memory>
-    ensures { IfOk result (λ copy. texts_view copy.items ≡ texts_view names.now) }
-{
-    let mut copy = Vec::new(alloc);
-    for name in names {
-        copy.push(String::from_str(alloc, name.as_str())?)?;
+    match id_in(message) {
+        Some(id) => facts.id("id", id),
+        None => facts.word("id", "null"),
     }
-    Ok(copy)
 }
 
 /// How many of the first names fit into the bytes that are shown of them.
@@ -136,58 +121,89 @@ fn count_fitting(names: &[String]) -> usize
     count
 }
 
-/// As many of the first names as fit, and how many more there are.
-fn offer_of(alloc: Global, names: &[String]) -> Result<Fact, Memory>
-    ensures { IfOk result (λ fact. fact_view fact ≡ spec.offer_fact (texts_view names.now)) }
+/// Adds as many of the first names as fit, and how many more there are.
+fn push_names(facts: &mut Facts, names: &[String]) -> Result<(), Memory>
+    ensures { OnOk result (facts.new
+        ≡ facts.old ++ spec.offer_fact (texts_view names.now) ∷ []) }
 {
     let count = count_fitting(names);
-    let more = (names.len() - count) as u64;
-    let names = copy_names(alloc, &names[..count])?;
-    Ok(Fact::Offered { names, more })
+    let more = names.len() - count;
+    let mut words = shown_names(facts.alloc(), &names[..count])?;
+    push_more(&mut words, more)?;
+    facts.push_end(words)
 }
 
-/// The encodings that are offered; none where none is named.
-fn offered(alloc: Global, offer: &Offer) -> Result<Fact, Memory>
-    ensures { IfOk result (λ fact. fact_view fact
-        ≡ spec.offer_fact (unwrap_or (offer_view offer.now).encodings [])) }
+/// Adds how many names are left out, where any are.
+fn push_more(words: &mut String, more: usize) -> Result<(), Memory>
+    ensures { OnOk result (string_bytes words.new ≡ string_bytes words.old ++ more_words more) }
+{
+    if more == 0 {
+        return Ok(());
+    }
+    write!(words, " and {more}")?;
+    Ok(())
+}
+
+/// Names that are offered.
+fn shown_names(alloc: Global, names: &[String]) -> Result<String, Memory>
+    ensures { IfOk result (λ words. string_bytes words ≡ codes "offered"
+        ++ flat_map (λ name. spaced (quoted name)) (texts_view names.now)) }
+{
+    let mut words = String::from_str(alloc, "offered")?;
+    for name in names {
+        push_name(alloc, &mut words, name.as_str())?;
+    }
+    Ok(words)
+}
+
+fn push_name(alloc: Global, words: &mut String, name: &str) -> Result<(), Memory>
+    ensures { OnOk result (string_bytes words.new
+        ≡ string_bytes words.old ++ spaced (quoted name.now)) }
+{
+    words.push_str(" ")?;
+    push_quoted(alloc, words, name)
+}
+
+/// Adds the encodings that are offered; none where none is named.
+fn push_offered(facts: &mut Facts, offer: &Offer) -> Result<(), Memory>
+    ensures { OnOk result (facts.new ≡ facts.old
+        ++ spec.offer_fact (unwrap_or (offer_view offer.now).encodings []) ∷ []) }
 {
     match &offer.encodings {
-        Some(encodings) => offer_of(alloc, encodings.as_slice()),
-        None => offer_of(alloc, &[]),
+        Some(encodings) => push_names(facts, encodings.as_slice()),
+        None => push_names(facts, &[]),
     }
 }
 
 /// Adds what the result of `initialize` picks, where it has the shape.
-fn push_picked(alloc: Global, facts: &mut Vec<Fact>, value: &Value) -> Result<(), Memory>
-    ensures { OnOk result (facts_view facts.new.items ≡ facts_view facts.old.items
-        ++ spec.pick_facts (picked_at (view value.now))) }
+fn push_picked(facts: &mut Facts, value: &Value) -> Result<(), Memory>
+    ensures { OnOk result (facts.new ≡ facts.old ++ spec.pick_facts (picked_at (view value.now))) }
 {
-    match picked_of(alloc, value) {
-        Ok(picked) => Ok(facts.push(Fact::Picked(picked.encoding))?),
+    match picked_of(facts.alloc(), value) {
+        Ok(picked) => facts.text("picked", picked.encoding.as_str()),
         Err(RpcFault::Rule(_)) => Ok(()),
         Err(RpcFault::Memory) => Err(Memory),
     }
 }
 
-/// What a result of `initialize` agrees on, or would.
-fn settled_facts(
-    alloc: Global,
+/// Adds what a result of `initialize` agrees on, or would.
+fn push_settled(
+    facts: &mut Facts,
     session: &Session,
     side: Side,
     message: &Message,
-) -> Result<Vec<Fact>, Memory>
-    ensures { IfOk result (λ facts. (before : List Sent) → Stands session.now before
-        → facts_view facts.items
-        ≡ spec.settled_facts (settled_among (open_initializes before) side
+) -> Result<(), Memory>
+    ensures { OnOk result ((before : List Sent) → Stands session.now before
+        → facts.new ≡ facts.old ++ spec.settled_facts (settled_among (open_initializes before) side
         (message_view message.now))) }
 {
     let Some((offer, value)) = session.settled(side, message) else {
-        return Ok(Vec::new(alloc));
+        return Ok(());
     };
-    let mut facts = only(alloc, offered(alloc, offer)?)?;
-    push_picked(alloc, &mut facts, value)?;
-    push_member(&mut facts, wrong_result(alloc, value)?)?;
-    Ok(facts)
+    push_offered(facts, offer)?;
+    push_picked(facts, value)?;
+    let found = wrong_result(facts.alloc(), value)?;
+    push_member(facts, found)
 }
 
 /// The first of the methods that is one of text synchronisation.
@@ -211,13 +227,12 @@ fn registered(act: &Act) -> Option<&str>
     }
 }
 
-fn register_facts(alloc: Global, act: &Act) -> Result<Vec<Fact>, Memory>
-    ensures { IfOk result (λ facts. facts_view facts.items
-        ≡ spec.register_facts (act_view act.now)) }
+fn push_registered(facts: &mut Facts, act: &Act) -> Result<(), Memory>
+    ensures { OnOk result (facts.new ≡ facts.old ++ spec.register_facts (act_view act.now)) }
 {
     match registered(act) {
-        Some(method) => only(alloc, Fact::Registers(String::from_str(alloc, method)?)),
-        None => Ok(Vec::new(alloc)),
+        Some(method) => facts.text("registers", method),
+        None => Ok(()),
     }
 }
 
@@ -230,42 +245,31 @@ fn expected(session: &Session) -> Option<&Id>
     session.offered()?.token.as_ref()
 }
 
-/// The token of a progress, and the one that it may have.
-fn token_facts(alloc: Global, session: &Session, act: &Act) -> Result<Vec<Fact>, Memory>
-    ensures { IfOk result (λ facts. (before : List Sent) → Stands session.now before
-        → facts_view facts.items ≡ spec.token_facts before (act_view act.now)) }
+/// Adds the token of a progress, and the one that it may have.
+fn push_tokens(facts: &mut Facts, session: &Session, act: &Act) -> Result<(), Memory>
+    ensures { OnOk result ((before : List Sent) → Stands session.now before
+        → facts.new ≡ facts.old ++ spec.token_facts before (act_view act.now)) }
 {
-    let mut facts = Vec::new(alloc);
     let Act::Progress { token } = act else {
-        return Ok(facts);
+        return Ok(());
     };
-    facts.push(Fact::Token(copy_id(token)?))?;
-    if let Some(own) = expected(session) {
-        facts.push(Fact::Expected(copy_id(own)?))?;
+    facts.id("token", token)?;
+    match expected(session) {
+        Some(own) => facts.id("expected", own),
+        None => Ok(()),
     }
-    Ok(facts)
 }
 
-/// The same under 412, and nothing under any other rule.
-fn early_facts(alloc: Global, session: &Session, act: &Act, rule: u16) -> Result<Vec<Fact>, Memory>
-    ensures { IfOk result (λ facts. (before : List Sent) → Stands session.now before
-        → facts_view facts.items ≡ spec.early_facts rule before (act_view act.now)) }
+/// Adds how far the session has come, and under 412 the tokens of a progress before that.
+fn push_phase(facts: &mut Facts, session: &Session, act: &Act, rule: u16) -> Result<(), Memory>
+    ensures { OnOk result ((before : List Sent) → Stands session.now before
+        → facts.new ≡ facts.old ++ spec.early_facts rule before (act_view act.now)
+        ++ in_phase (phase before) ∷ []) }
 {
-    if rule != rules::SERVER_WHILE_INITIALIZE_OPEN {
-        return Ok(Vec::new(alloc));
+    if rule == rules::SERVER_WHILE_INITIALIZE_OPEN {
+        push_tokens(facts, session, act)?;
     }
-    token_facts(alloc, session, act)
-}
-
-/// How far the session has come, and under 412 the tokens of a progress before that.
-fn phase_facts(alloc: Global, session: &Session, act: &Act, rule: u16) -> Result<Vec<Fact>, Memory>
-    ensures { IfOk result (λ facts. (before : List Sent) → Stands session.now before
-        → facts_view facts.items
-        ≡ spec.early_facts rule before (act_view act.now) ++ in_phase (phase before) ∷ []) }
-{
-    let mut facts = early_facts(alloc, session, act, rule)?;
-    facts.push(Fact::Phase(session.phase()))?;
-    Ok(facts)
+    facts.phase(session.phase())
 }
 
 /// What is said about a message that breaks this rule, 301 to 504, after the messages of the
@@ -277,25 +281,29 @@ fn phase_facts(alloc: Global, session: &Session, act: &Act, rule: u16) -> Result
 ///
 /// # Errors
 /// `Memory` where memory was refused.
-pub fn session_facts(
+pub(crate) fn session_facts(
     alloc: Global,
     session: &Session,
     side: Side,
     message: &Message,
     act: &Act,
     rule: u16,
-) -> Result<Vec<Fact>, Memory>
+) -> Result<Facts, Memory>
     ensures { IfOk result (λ facts. (before : List Sent) → Stands session.now before
-        → facts_view facts.items ≡ spec.session_facts rule before (sent side message.now act.now)) }
+        → facts ≡ spec.session_facts rule before (sent side message.now act.now)) }
 {
+    let mut facts = Facts::new(alloc);
     match rule {
-        rules::RESPONSE_TO_NO_OPEN_REQUEST..=rules::ID_ALREADY_OPEN => id_facts(alloc, message),
-        rules::EDITOR_BEFORE_INITIALIZE..=rules::SERVER_WHILE_INITIALIZE_OPEN => phase_facts(
-            alloc, session, act, rule,
-        ),
-        rules::BAD_INITIALIZE_RESULT..=rules::ENCODING_OUTSIDE_PROFILE => settled_facts(
-            alloc, session, side, message,
-        ),
-        _ => register_facts(alloc, act),
+        rules::RESPONSE_TO_NO_OPEN_REQUEST..=rules::ID_ALREADY_OPEN => {
+            push_id(&mut facts, message)?;
+        }
+        rules::EDITOR_BEFORE_INITIALIZE..=rules::SERVER_WHILE_INITIALIZE_OPEN => {
+            push_phase(&mut facts, session, act, rule)?;
+        }
+        rules::BAD_INITIALIZE_RESULT..=rules::ENCODING_OUTSIDE_PROFILE => {
+            push_settled(&mut facts, session, side, message)?;
+        }
+        _ => push_registered(&mut facts, act)?,
     }
+    Ok(facts)
 }

@@ -6,12 +6,12 @@ ghost use Rattle.lsp_rpc.specs.View.{act_view, message_view};
 ghost use Rattle.lsp_verdict.specs.Event.{Event, snapshot};
 ghost use Rattle.lsp_verdict.specs.Verdict.{offence};
 ghost use Rattle.lsp_facts.specs.EventFacts.{AreCallFacts, AreMessageFacts};
-ghost use Rattle.lsp_facts.specs.Fact.{facts_view};
 
 use crate::documents::{act_facts, snapshot_facts};
-use crate::fact::Fact;
+use crate::facts::Facts;
 use crate::messages::session_facts;
 use lsp_docs::Docs;
+use lsp_replay::EventPlace;
 use lsp_rpc::{Encoding, Memory, Side, Spoken, SyncKind};
 use lsp_session::Session;
 use lsp_text::TextStore;
@@ -19,7 +19,8 @@ use lsp_types::rules;
 use std::alloc::Global;
 
 /// What is said about a message of a side that offends by this rule, 301 to 702. Session and
-/// documents hold the kept events before it.
+/// documents hold the kept events before it, and an event set the version that is held of its
+/// document.
 ///
 /// # Errors
 /// `Memory` where memory was refused.
@@ -30,23 +31,24 @@ pub fn message_facts<S: TextStore>(
     side: Side,
     spoken: &Spoken,
     rule: u16,
-) -> Result<Vec<Fact>, Memory>
+    set_by: Option<EventPlace>,
+) -> Result<Facts, Memory>
     ensures { IfOk result (λ facts. (content : List ℕ) (kept : List Event)
         → Holds session.now docs.now kept
         → (refused : RefusesMessage side content (message_view spoken.now.message)
         (act_view spoken.now.act) docs.now.terms kept rule)
-        → AreMessageFacts docs.now.terms kept refused.sent rule (facts_view facts.items)) }
+        → AreMessageFacts docs.now.terms kept refused.sent rule set_by facts) }
 {
     if rule < rules::FIRST_ON_DOCUMENTS {
         return session_facts(alloc, session, side, &spoken.message, &spoken.act, rule);
     }
     let encoding = session.encoding().unwrap_or(Encoding::Utf16);
     let kind = session.sync_kind().unwrap_or(SyncKind::Nothing);
-    act_facts(alloc, docs, encoding, kind, &spoken.act, rule)
+    act_facts(alloc, docs, encoding, kind, &spoken.act, rule, set_by)
 }
 
 /// What is said about a snapshot that offends by this rule. Session and documents hold the kept
-/// events before it.
+/// events before it, and an event set the version that is held of its document.
 ///
 /// # Errors
 /// `Memory` where memory was refused.
@@ -58,12 +60,13 @@ pub fn shown_facts<S: TextStore>(
     uri: &str,
     text: &str,
     rule: u16,
-) -> Result<Vec<Fact>, Memory>
+    set_by: Option<EventPlace>,
+) -> Result<Facts, Memory>
     ensures { IfOk result (λ facts. (kept : List Event) → Holds session.now docs.now kept
         → offence docs.now.terms kept (snapshot uri.now version (chars text.now)) ≡ Some rule
         → AreCallFacts docs.now.terms kept rule (Some (shows uri.now version (chars text.now)))
-        (facts_view facts.items)) }
+        set_by facts) }
 {
     let encoding = session.encoding().unwrap_or(Encoding::Utf16);
-    snapshot_facts(alloc, docs, encoding, uri, version, text, rule)
+    snapshot_facts(alloc, docs, encoding, uri, version, text, rule, set_by)
 }

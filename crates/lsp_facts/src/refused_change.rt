@@ -11,11 +11,11 @@ ghost use Rattle.lsp_facts.specs.DocumentFacts.{IsTooLong, IsReason, IsRefused};
 ghost use Rattle.lsp_facts.specs.Making.{HasStray};
 ghost use Rattle.lsp_types.specs.declared.rules.TheConstants as rules;
 
-use crate::fact::Fact;
-use crate::fact_list::FactList;
+use crate::facts::Facts;
 use crate::making::make;
 use lsp_text::{TextStore, char_inside, size_with};
 use lsp_types::{Change, Encoding, Memory, Position, Span, SyncKind, rules};
+use lsp_verdict::kind_name;
 use std::alloc::Global;
 
 /// The facts on changes of another kind than agreed: the kind, and the first change that is not of
@@ -27,12 +27,12 @@ pub(crate) fn misfit<S: TextStore>(
     kind: SyncKind,
     changes: &[Change],
     limit: u64,
-) -> Result<FactList, Memory>
+) -> Result<Facts, Memory>
     ensures { IfOk result (λ facts. facts
         ≡ kind_facts limit encoding kind (S.content store.now) (edits_of changes.now)) }
 {
-    let mut facts = FactList::new(alloc);
-    facts.push(Fact::Sync(kind))?;
+    let mut facts = Facts::new(alloc);
+    facts.word("sync", kind_name(Some(kind)))?;
     let count = count_fitting(kind, changes);
     if changes.len() <= count {
         return Ok(facts);
@@ -50,20 +50,20 @@ fn misfit_at<S: TextStore>(
     changes: &[Change],
     count: usize,
     limit: u64,
-) -> Result<FactList, Memory>
+) -> Result<Facts, Memory>
     requires { count < length changes.now }
     ensures { IfOk result (λ facts. facts
         ≡ misfit_facts limit encoding (S.content store.now) (edits_of changes.now) count
         (slice_get (edits_of changes.now) count)) }
 {
-    let mut facts = FactList::new(alloc);
+    let mut facts = Facts::new(alloc);
     let span = changes[count].span;
-    facts.push_change(encoding, count, span)?;
+    facts.change(encoding, count, span)?;
     let made = make(alloc, store, encoding, &changes[..count], limit)?;
     if made.count < count {
         return Ok(facts);
     }
-    facts.push_first_length(made.text.as_str(), encoding, span)?;
+    facts.first_length(made.text.as_str(), encoding, span)?;
     Ok(facts)
 }
 
@@ -98,14 +98,14 @@ pub(crate) fn refused(
     change: &Change,
     rule: u16,
     limit: u64,
-) -> Result<FactList, Memory>
+) -> Result<Facts, Memory>
     requires { count + 1 < 2 ^ 64 }
     ensures { IfOk result (λ facts. changed encoding (chars text.now) change.now.span
         (chars (string_bytes change.now.text)) limit ≡ Err rule
         → IsRefused limit encoding (chars text.now) count (edit_of change.now) rule facts) }
 {
-    let mut facts = FactList::new(alloc);
-    facts.push_change(encoding, count, change.span)?;
+    let mut facts = Facts::new(alloc);
+    facts.change(encoding, count, change.span)?;
     facts.append(reason(alloc, encoding, text, change, rule, limit)?)?;
     Ok(facts)
 }
@@ -118,7 +118,7 @@ fn reason(
     change: &Change,
     rule: u16,
     limit: u64,
-) -> Result<FactList, Memory>
+) -> Result<Facts, Memory>
     ensures { IfOk result (λ facts. changed encoding (chars text.now) change.now.span
         (chars (string_bytes change.now.text)) limit ≡ Err rule
         → IsReason limit encoding (chars text.now) (edit_of change.now) rule facts) }
@@ -126,8 +126,8 @@ fn reason(
     if rule == rules::POSITION_INSIDE_CHARACTER {
         return stray_facts(alloc, encoding, text, change.span);
     }
-    let mut facts = FactList::new(alloc);
-    facts.push_first_length(text, encoding, change.span)?;
+    let mut facts = Facts::new(alloc);
+    facts.first_length(text, encoding, change.span)?;
     if rule == rules::DOCUMENT_OVER_LIMIT {
         facts.append(size_facts(alloc, encoding, text, change, limit)?)?;
     }
@@ -141,21 +141,21 @@ fn stray_facts(
     encoding: Encoding,
     text: &str,
     span: Option<Span>,
-) -> Result<FactList, Memory>
+) -> Result<Facts, Memory>
     ensures { IfOk result (λ facts. HasStray encoding (chars text.now) span
         → IsStray encoding (chars text.now) span facts) }
 {
-    let mut facts = FactList::new(alloc);
+    let mut facts = Facts::new(alloc);
     let Some(span) = span else {
         return Ok(facts);
     };
     let position = stray_of(text, encoding, span);
-    facts.push_length(text, encoding, position)?;
+    facts.length(text, encoding, position)?;
     let Some(c) = char_inside(text, encoding, position) else {
         return Ok(facts);
     };
-    facts.push_inside(c)?;
-    facts.push_fits(text, position)?;
+    facts.inside(c)?;
+    facts.fits(text, position)?;
     Ok(facts)
 }
 
@@ -176,16 +176,16 @@ fn size_facts(
     text: &str,
     change: &Change,
     limit: u64,
-) -> Result<FactList, Memory>
+) -> Result<Facts, Memory>
     ensures { IfOk result (λ facts. changed encoding (chars text.now) change.now.span
         (chars (string_bytes change.now.text)) limit ≡ Err rules.DOCUMENT_OVER_LIMIT
         → IsTooLong limit encoding (chars text.now) (edit_of change.now) facts) }
 {
-    let mut facts = FactList::new(alloc);
+    let mut facts = Facts::new(alloc);
     let Some(size) = size_with(text, encoding, change.span, change.text.as_str()) else {
         return Ok(facts);
     };
-    facts.push(Fact::Bytes(size))?;
-    facts.push(Fact::Limit(limit))?;
+    facts.number("bytes", size)?;
+    facts.number("limit", limit)?;
     Ok(facts)
 }

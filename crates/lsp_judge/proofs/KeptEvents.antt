@@ -9,12 +9,20 @@ use Rattle.lsp_docs.specs.Terms.{Terms}
 use Rattle.lsp_log.specs.declared.fault.LogCode.{LogCode}
 use Rattle.lsp_verdict.specs.Event.{Event}
 use Rattle.lsp_verdict.specs.LookBack.{first_from}
-use Rattle.lsp_verdict.specs.Shown.{kept, kept_by, kept_within}
+use Rattle.lsp_verdict.specs.Shown.{kept}
 use Rattle.lsp_verdict.specs.Verdict.{Verdict, yes, Ending, offence, no_by, no_at, first_no}
 use Rattle.lsp_verdict.specs.Verdict.{bad_log_of, rest_of, summary, verdict}
 use Rattle.lsp_verdict.proofs.Finding.{found, map_some}
 use Rattle.lsp_verdict.proofs.LookBackLemmas.{first_of-append}
 use Rattle.lsp_verdict.proofs.Verdicts.{no_found}
+
+abbrev kept_by : Option Verdict → List Event → List Event
+kept_by None events = events
+kept_by (Some v) events = kept v events
+
+-- the events before the first that offends
+abbrev pub kept_within : Terms → List Event → List Event
+kept_within terms events = kept_by (first_no terms events) events
 
 -- none does
 pub kept_clean : (terms : Terms) (events : List Event) → first_no terms events ≡ None

@@ -31,7 +31,7 @@ use Rattle.lsp_verdict.specs.Given.{verdict_view, as_given}
 use Rattle.lsp_verdict.specs.Outcome.{IsFinal, IsVerdict, format_or_one, log_terms}
 use Rattle.lsp_verdict.specs.Placed.{Raw, Placed, IsSession, Reads as ReadsRaw}
 use Rattle.lsp_verdict.specs.RunIo.{OfRead, BreaksOff}
-use Rattle.lsp_verdict.specs.Shown.{kept, kept_within}
+use Rattle.lsp_verdict.specs.Shown.{kept}
 use Rattle.lsp_verdict.specs.Verdict.{Verdict, Summary, yes, no, bad_log, first_no}
 use Rattle.lsp_verdict.specs.declared.completeness.Completeness.{Completeness}
 use Rattle.lsp_verdict.specs.declared.completeness.Completeness.TheVariants.{Ignored, Required}
@@ -58,7 +58,7 @@ use Rattle.lsp_judge.specs.declared.ruling.Ruling.{Ruling}
 use Rattle.lsp_judge.specs.declared.ruling.Ruling.TheVariants as rulings
 use Rattle.lsp_judge.proofs.Finals.{bad_final, end_final}
 use Rattle.lsp_judge.proofs.Hearing.{OffendsAfter, offends_in, stops}
-use Rattle.lsp_judge.proofs.KeptEvents.{kept_clean, kept_no, kept_more, kept_final}
+use Rattle.lsp_judge.proofs.KeptEvents.{kept_within, kept_clean, kept_no, kept_more, kept_final}
 
 -- the events before the place of the verdict on a log of this format begin with these
 pub record BeginsBy (limits : Bounds) (format : Option Format) (heard : List Event)

@@ -17,7 +17,7 @@ use Rattle.lsp_verdict.specs.RunIo.{BreaksOff, OfRead}
 use Rattle.lsp_verdict.specs.declared.completeness.Completeness.{Completeness}
 use Rattle.lsp_verdict.specs.declared.completeness.Completeness.TheVariants.{Ignored}
 use Rattle.lsp_verdict.specs.declared.outcome.RunFault.{RunFault}
-use Rattle.lsp_verdict.specs.Shown.{TextAnswer, kept_count, kept_within, up_to_editor}
+use Rattle.lsp_verdict.specs.Shown.{TextAnswer, kept_count, up_to_editor}
 use Rattle.lsp_verdict.specs.Shown.{held_answer, missing_answer, text_answer}
 use Rattle.lsp_verdict.specs.TextAfter.{AnswersText}
 use Rattle.lsp_verdict.specs.Verdict.{Verdict, first_no, no_at, is_of, count_of}
@@ -31,7 +31,7 @@ use Rattle.lsp_replay.proofs.Reached.{count_within, reached_last, still_few}
 use Rattle.lsp_judge.specs.LogEvents.{BeginsWith, BrokeOff, EndsAt, EndsBy, Found, SoFar}
 use Rattle.lsp_replay.specs.Standing.{Follows}
 use Rattle.lsp_judge.specs.declared.event_reader.EventReader.{EventReader}
-use Rattle.lsp_judge.proofs.KeptEvents.{kept_clean, kept_no, kept_final}
+use Rattle.lsp_judge.proofs.KeptEvents.{kept_within, kept_clean, kept_no, kept_final}
 use Rattle.lsp_judge.proofs.LogEvents.{BeginsBy, so_far_by, so_far_clean, so_far_failures}
 use Rattle.lsp_judge.proofs.LogEvents.{so_far_few, so_far_range}
 

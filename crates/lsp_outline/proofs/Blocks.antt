@@ -13,7 +13,7 @@ use Rattle.std.specs.Int.Bits.{bit_or}
 use Rattle.std.specs.Int.Count.{count_trailing_zeros}
 use Rattle.std.specs.List.{prefix_len}
 use Rattle.std.specs.Simd.Lanes.{zip2, top, mask_l, chunk}
-use Rattle.json.specs.Run.{is_stop, is_plain}
+use Rattle.json.specs.Run.{is_stop}
 
 -- ---- the mask
 
@@ -54,82 +54,75 @@ marked v n long few =
     ap (λ l. mask_l l % 2 ^ 64) (ap (map (top 7)) tests ∙ lane_by_lane v)
     ∙ mask_l-mod (map is_stop v) 64 (omega (arith, length-map v is_stop))
 
--- ---- the run
-
-pub none_marked : (v : List ℕ) (n : ℕ) → length v ≡ n → n ≤ 64 → mask_l (map is_stop v) ≡ 0
-    → n ≡ prefix_len is_plain v
-none_marked v n long few none =
-    ap (λ b. cond b n (count_trailing_zeros 64 (mask_l (map is_stop v))))
-    (sym (eq-eqb (mask_l (map is_stop v)) 0 none))
-    ∙ first_set_mask_l is_stop v n long few
-
-pub some_marked : (v : List ℕ) (n : ℕ) → length v ≡ n → n ≤ 64
-    → (mask_l (map is_stop v) ≡ 0 → ⊥)
-    → count_trailing_zeros 64 (mask_l (map is_stop v)) ≡ prefix_len is_plain v
-some_marked v n long few some =
-    ap (λ b. cond b n (count_trailing_zeros 64 (mask_l (map is_stop v))))
-    (sym (ne_eqb (mask_l (map is_stop v)) 0 some))
-    ∙ first_set_mask_l is_stop v n long few
+-- ---- the run up to a byte that is marked
 
 mark_step : (stop : Bool) (p m l : ℕ) → (p ≡ l → m ≡ 0) → cond (not stop) (1 + p) 0 ≡ suc l
     → cond stop 1 0 + 2 * m ≡ 0
 mark_step true p m l more all = let no : ⊥ = omega arith in absurd no
 mark_step false p m l more all = let none = more (omega arith) in omega (arith, none)
 
-all_plain : (v : List ℕ) → prefix_len is_plain v ≡ length v → mask_l (map is_stop v) ≡ 0
-all_plain [] all = refl
-all_plain (x ∷ xs) all =
-    mark_step (is_stop x) (prefix_len is_plain xs) (mask_l (map is_stop xs)) (length xs)
-    (all_plain xs) all
+module _ (stop : ℕ → Bool) where
+  pub none_marked : (v : List ℕ) (n : ℕ) → length v ≡ n → n ≤ 64 → mask_l (map stop v) ≡ 0
+      → n ≡ prefix_len (λ x. not (stop x)) v
+  none_marked v n long few none =
+      ap (λ b. cond b n (count_trailing_zeros 64 (mask_l (map stop v))))
+      (sym (eq-eqb (mask_l (map stop v)) 0 none))
+      ∙ first_set_mask_l stop v n long few
 
--- a mark is among the bytes
-pub some_stop : (v : List ℕ) (n : ℕ) → length v ≡ n → (mask_l (map is_stop v) ≡ 0 → ⊥)
-    → prefix_len is_plain v < n
-some_stop v n long some =
-    lt_of_not-le (λ (most : n ≤ prefix_len is_plain v). some
-    (all_plain v (omega (arith, most, long, prefix_len-le-length is_plain v))))
+  pub some_marked : (v : List ℕ) (n : ℕ) → length v ≡ n → n ≤ 64 → (mask_l (map stop v) ≡ 0 → ⊥)
+      → count_trailing_zeros 64 (mask_l (map stop v)) ≡ prefix_len (λ x. not (stop x)) v
+  some_marked v n long few some =
+      ap (λ b. cond b n (count_trailing_zeros 64 (mask_l (map stop v))))
+      (sym (ne_eqb (mask_l (map stop v)) 0 some))
+      ∙ first_set_mask_l stop v n long few
 
--- of thirty-two bytes, by their marks: all are plain, or the first mark ends the run
-pub none_found : (d : List ℕ) (at stops : ℕ) → at + 32 ≤ length d
-    → stops ≡ mask_l (map is_stop (chunk at 32 d)) → stops ≡ 0
-    → 32 ≡ prefix_len is_plain (chunk at 32 d)
-none_found d at stops room are none =
-    none_marked (chunk at 32 d) 32 (length-chunk at 32 d room) (omega arith) (sym are ∙ none)
+  all_inside : (v : List ℕ) → prefix_len (λ x. not (stop x)) v ≡ length v → mask_l (map stop v) ≡ 0
+  all_inside [] all = refl
+  all_inside (x ∷ xs) all =
+      mark_step (stop x) (prefix_len (λ x. not (stop x)) xs) (mask_l (map stop xs)) (length xs)
+      (all_inside xs) all
 
-pub some_found : (d : List ℕ) (at stops : ℕ) → at + 32 ≤ length d
-    → stops ≡ mask_l (map is_stop (chunk at 32 d)) → (stops ≡ 0 → ⊥)
-    → (count_trailing_zeros 64 stops ≡ prefix_len is_plain (chunk at 32 d))
-    × (count_trailing_zeros 64 stops < 32)
-some_found d at stops room are some =
-    let v = chunk at 32 d in
-    let long = length-chunk at 32 d room in
-    let marked : mask_l (map is_stop v) ≡ 0 → ⊥ = λ none. some (are ∙ none) in
-    let is = ap (count_trailing_zeros 64) are ∙ some_marked v 32 long (omega arith) marked in
-    (is, omega (arith, is, some_stop v 32 long marked))
+  -- a mark is among the bytes
+  pub some_stop : (v : List ℕ) (n : ℕ) → length v ≡ n → (mask_l (map stop v) ≡ 0 → ⊥)
+      → prefix_len (λ x. not (stop x)) v < n
+  some_stop v n long some =
+      lt_of_not-le (λ (most : n ≤ prefix_len (λ x. not (stop x)) v). some
+      (all_inside v (omega (arith, most, long, prefix_len-le-length (λ x. not (stop x)) v))))
 
-parted : (d : List ℕ) (i : ℕ) → prefix_len is_plain (drop i d)
-    ≡ cond (eqb (prefix_len is_plain (chunk i 16 d)) (length (chunk i 16 d)))
-    (length (chunk i 16 d) + prefix_len is_plain (drop (i + 16) d))
-    (prefix_len is_plain (chunk i 16 d))
-parted d i = ap (prefix_len is_plain) (chunk-drop i 16 d)
-    ∙ prefix_len-append is_plain (chunk i 16 d) (drop (i + 16) d)
+  parted : (d : List ℕ) (i : ℕ) → prefix_len (λ x. not (stop x)) (drop i d)
+      ≡ cond (eqb (prefix_len (λ x. not (stop x)) (chunk i 16 d)) (length (chunk i 16 d)))
+      (length (chunk i 16 d) + prefix_len (λ x. not (stop x)) (drop (i + 16) d))
+      (prefix_len (λ x. not (stop x)) (chunk i 16 d))
+  parted d i = ap (prefix_len (λ x. not (stop x))) (chunk-drop i 16 d)
+      ∙ prefix_len-append (λ x. not (stop x)) (chunk i 16 d) (drop (i + 16) d)
 
--- all sixteen are plain
-pub run_through : (d : List ℕ) (i : ℕ) → i + 16 ≤ length d → prefix_len is_plain (chunk i 16 d) ≡ 16
-    → prefix_len is_plain (drop i d) ≡ 16 + prefix_len is_plain (drop (i + 16) d)
-run_through d i room all =
-    let c = chunk i 16 d in
-    let long = length-chunk i 16 d room in
-    parted d i ∙ ap (λ b. cond b (length c + prefix_len is_plain (drop (i + 16) d))
-    (prefix_len is_plain c)) (eq-eqb _ _ (all ∙ sym long))
-    ∙ ap (λ k. k + prefix_len is_plain (drop (i + 16) d)) long
+  -- none of sixteen is marked
+  pub run_through : (d : List ℕ) (i : ℕ) → i + 16 ≤ length d → mask_l (map stop (chunk i 16 d)) ≡ 0
+      → prefix_len (λ x. not (stop x)) (drop i d)
+      ≡ 16 + prefix_len (λ x. not (stop x)) (drop (i + 16) d)
+  run_through d i room none =
+      let c = chunk i 16 d in
+      let long = length-chunk i 16 d room in
+      let all = none_marked c 16 long (omega arith) none in
+      parted d i ∙ ap (λ b. cond b (length c + prefix_len (λ x. not (stop x)) (drop (i + 16) d))
+      (prefix_len (λ x. not (stop x)) c)) (eq-eqb _ _ (sym all ∙ sym long))
+      ∙ ap (λ k. k + prefix_len (λ x. not (stop x)) (drop (i + 16) d)) long
 
--- the run ends among them
-pub run_ends : (d : List ℕ) (i : ℕ) → i + 16 ≤ length d → prefix_len is_plain (chunk i 16 d) < 16
-    → prefix_len is_plain (drop i d) ≡ prefix_len is_plain (chunk i 16 d)
-run_ends d i room less =
-    let c = chunk i 16 d in
-    let long = length-chunk i 16 d room in
-    parted d i ∙ ap (λ b. cond b (length c + prefix_len is_plain (drop (i + 16) d))
-    (prefix_len is_plain c))
-    (ne_eqb _ _ (λ (e : prefix_len is_plain c ≡ length c). omega (arith, less, e, long)))
+  -- the run ends among them
+  pub run_ends : (d : List ℕ) (i : ℕ) → i + 16 ≤ length d
+      → (mask_l (map stop (chunk i 16 d)) ≡ 0 → ⊥)
+      → (prefix_len (λ x. not (stop x)) (drop i d)
+      ≡ count_trailing_zeros 64 (mask_l (map stop (chunk i 16 d))))
+      × (count_trailing_zeros 64 (mask_l (map stop (chunk i 16 d))) < 16)
+  run_ends d i room some =
+      let c = chunk i 16 d in
+      let long = length-chunk i 16 d room in
+      let is = some_marked c 16 long (omega arith) some in
+      let less = some_stop c 16 long some in (
+        parted d i ∙ ap (λ b. cond b (length c + prefix_len (λ x. not (stop x)) (drop (i + 16) d))
+            (prefix_len (λ x. not (stop x)) c))
+            (ne_eqb _ _ (λ (e : prefix_len (λ x. not (stop x)) c ≡ length c).
+            omega (arith, less, e, long)))
+            ∙ sym is,
+        omega (arith, is, less),
+      )

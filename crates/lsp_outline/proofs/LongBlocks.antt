@@ -174,8 +174,8 @@ first_stop {d = d} {from = from} {at = at} {stops = stops} so inside some =
     let long = length-chunk at k d (omega (arith, so.near)) in
     let marked : mask_l (map is_stop v) ≡ 0 → ⊥ = λ none. some (so.marks ∙ none) in
     let is = ap (count_trailing_zeros 64) so.marks
-    ∙ some_marked v k long (omega (arith, so.part.part.run.forward)) marked in
-    (is, omega (arith, is, some_stop v k long marked))
+    ∙ some_marked is_stop v k long (omega (arith, so.part.part.run.forward)) marked in
+    (is, omega (arith, is, some_stop is_stop v k long marked))
 
 run_written : {d : List ℕ} {from at : ℕ} {before : List ℕ} {len : ℕ} {after : List ℕ}
     {count stops : ℕ} (plain : ℕ) → BlockSoFar d from at before len after count stops
@@ -212,7 +212,7 @@ to_end {d = d} {from = from} {at = at} {before = before} {len = len} {after = af
     let k = from + 64 - at in
     let there : at + k ≡ from + 64 = omega arith in
     let forward = so.part.part.run.forward in
-    let all = none_marked (chunk at k d) k (length-chunk at k d (omega arith)) (omega arith)
+    let all = none_marked is_stop (chunk at k d) k (length-chunk at k d (omega arith)) (omega arith)
     (sym so.marks ∙ none) in
     subst (λ i. WritesPart d from i before len after (count + k)) there
     (run_written k so inside fits all)

@@ -298,9 +298,8 @@ module _ (depth : ℕ) (d : List ℕ) (begin at : ℕ) (free : IsFree d at) (roo
         let after : at + k + 1 + 1 ≡ at + k + 2 = omega arith in
         let number = number_before d old.start (at + k) old.begins some
         (omega (arith, less, old.least)) old.digits comma in (
-          tiny_turn depth d begin old.start (at + k) (at + k + 1) number comma
-              (old.digits old.start (omega arith) some) refl (omega arith) (omega (arith, room, less))
-              old.items,
+          tiny_turn depth d begin old.start (at + k) (at + k + 1) number comma refl (omega arith)
+              (omega (arith, room, less)) old.items,
           record {
             some = told.0;
             zero = λ first. ap (λ i. get_or d i 0 == 44) after ∙ told.1 first;

@@ -1,43 +1,48 @@
 -- Positions and ranges as most programs write them.
-use Rattle.std.proofs.Common.{◌≡◌, ◌||◌, ℕ, zero, suc, ◌+◌, ◌-◌, ◌<◌, ◌≤◌, List, [], ◌∷◌, ◌++◌}
-use Rattle.std.proofs.Common.{length, take, drop, get_or, refl, sym, ap, ap₂, ◌∙◌, arith, codes, Some, None}
-use Rattle.std.proofs.Common.{option_and_then, pos}
+use Rattle.std.proofs.Common.{◌≡◌, ℕ, zero, suc, ◌+◌, ◌-◌, ◌<◌, ◌≤◌, List, [], ◌∷◌, ◌++◌}
+use Rattle.std.proofs.Common.{nat_lt, true, length, take, drop, get_or, refl, sym, ap, ap₂}
+use Rattle.std.proofs.Common.{◌∙◌, arith, codes, Some, option_map, pos}
+use Rattle.std.proofs.lemmas.Bool.{and_parts}
+use Rattle.std.proofs.lemmas.Bool.Decides.{nat_tests}
 use Rattle.std.proofs.lemmas.List.{get_or-drop, drop-drop, take-append-drop, take-take}
 use Rattle.std.proofs.lemmas.Nat.{le_bytes_8}
 use Rattle.std.specs.Int.{w64, to_le_bytes, from_le_bytes}
-use Rattle.std.specs.Simd.Lanes.{Each1}
+use Rattle.std.specs.List.{list_all}
 use Rattle.json.specs.Token as token_of
 use Rattle.json.specs.Text.{content}
 use Rattle.json.specs.Lex.{lex, between, token, colon}
 use Rattle.json.specs.Lex.{punctuate}
 use Rattle.json.specs.Json.{read_key}
-use Rattle.json.specs.Word.{is_operator, is_space}
 use Rattle.lsp_outline.proofs.Lexing.{key_first}
-use Rattle.serde_json.specs.Data.{Data, object, no_members, put}
-use Rattle.lsp_rpc.specs.Params.{as_uinteger, natural, position_at, span_at}
-use Rattle.lsp_rpc.specs.Shape.{as_integer}
-use Rattle.lsp_types.specs.declared.position.Position.{Position}
-use Rattle.lsp_outline.proofs.Editing.{first_came, second_came}
-use Rattle.lsp_outline.proofs.DigitBlocks.{plain_numeral}
+use Rattle.serde_json.specs.Data.{Data, null, boolean, number, string, array, object}
+use Rattle.serde_json.specs.Data.{no_members, put}
+use Rattle.serde_json.proofs.Views.{get_member-put, get_member-put_other}
+use Rattle.lsp_rpc.specs.Params.{if_given, position_at, span_at}
+use Rattle.lsp_rpc.specs.Shape.{as_integer, unless_null}
+use Rattle.lsp_types.specs.declared.position.Span.{Span}
 use Rattle.lsp_outline.proofs.Walking.{object_value, no_members_yet, member_turn, last_member}
-use Rattle.lsp_outline.proofs.Walking.{number_value, numeral_kind, byte}
-use Rattle.lsp_outline.specs.Walk.{IsKey, IsPlainNumber, IsValue, Stand, line_key, character_key}
+use Rattle.lsp_outline.proofs.Walking.{byte}
+use Rattle.lsp_outline.specs.Places.{KeepsBoth, KeepsPosition, KeepsRange}
+use Rattle.lsp_outline.specs.Walk.{IsKey, IsValue, Stand, line_key, character_key}
 use Rattle.lsp_outline.specs.Walk.{start_key, end_key}
 
 -- ---- words
 
-each_below : (xs : List ℕ) → Each1 (λ x. x < 256) xs → (i : ℕ) → get_or xs i 0 < 256
-each_below [] all i = omega arith
-each_below (x ∷ xs) all zero = all.0
-each_below (x ∷ xs) all (suc i) = each_below xs all.1 i
+each_below : (x : ℕ) (xs : List ℕ) → x < 256 → list_all (λ y. nat_lt y 256) xs ≡ true → (i : ℕ)
+    → get_or (x ∷ xs) i 0 < 256
+each_below x xs fits all zero = fits
+each_below x [] fits all (suc i) = omega arith
+each_below x (y ∷ ys) fits all (suc i) =
+    let both = and_parts (nat_lt y 256) (list_all (λ z. nat_lt z 256) ys) all in
+    each_below y ys (grind (arith, nat_tests, both.0)) both.1 i
 
 -- the bytes of a word that equals this one
-word_is : (bs s : List ℕ) (word key : ℕ) → length bs ≡ 8 → Each1 (λ x. x < 256) bs
-    → key ≡ from_le_bytes w64 bs → to_le_bytes w64 word ≡ take 8 s → word ≡ key
-    → take 8 s ≡ bs
-word_is bs s word key long all is reads same =
+word_is : (x : ℕ) (xs s : List ℕ) (word key : ℕ) → length (x ∷ xs) ≡ 8 → x < 256
+    → list_all (λ y. nat_lt y 256) xs ≡ true → key ≡ from_le_bytes w64 (x ∷ xs)
+    → to_le_bytes w64 word ≡ take 8 s → word ≡ key → take 8 s ≡ x ∷ xs
+word_is x xs s word key long fits all is reads same =
     sym reads ∙ ap (to_le_bytes w64) same
-    ∙ le_bytes_8 bs key long (each_below bs all) is
+    ∙ le_bytes_8 (x ∷ xs) key long (each_below x xs fits all) is
 
 stand : (d : List ℕ) (from n : ℕ) (bs : List ℕ) → take n (drop from d) ≡ bs
     → drop from d ≡ bs ++ drop (from + n) d
@@ -49,7 +54,7 @@ pub line_stands : (d : List ℕ) (from before word key : ℕ) → from + 8 ≤ l
     → word ≡ key → Stand d from (before ∷ line_key) (from + 8)
 line_stands d from before word key room fits is reads same = record {
   are = stand d from 8 (before ∷ line_key)
-      (word_is (before ∷ line_key) (drop from d) word key refl (fits, (omega arith, (omega arith, (omega arith, (omega arith, (omega arith, (omega arith, (omega arith, tt)))))))) is reads same);
+      (word_is before line_key (drop from d) word key refl fits refl is reads same);
   is = refl;
   within = room;
 }
@@ -68,9 +73,10 @@ pub character_stands : (d : List ℕ) (from before word key after end : ℕ) →
 character_stands d from before word key after end room fits is reads same is_back reads_back same_back =
     let s = drop from d in
     let first : take 8 s ≡ front before =
-    word_is (front before) s word key refl (fits, (omega arith, (omega arith, (omega arith, (omega arith, (omega arith, (omega arith, (omega arith, tt)))))))) is reads same in
+    word_is before _ s word key refl fits refl is reads same in
     let second : take 8 (drop (from + 5) d) ≡ back =
-    word_is back (drop (from + 5) d) after end refl (omega arith, (omega arith, (omega arith, (omega arith, (omega arith, (omega arith, (omega arith, (omega arith, tt)))))))) is_back reads_back same_back in
+    word_is 114 _ (drop (from + 5) d) after end refl (omega arith) refl is_back reads_back same_back
+    in
     let five : take 5 s ≡ take 5 (front before) = sym (take-take 5 8 s (omega arith)) ∙ ap (take 5) first in
     let there : from + 5 + 8 ≡ from + 13 = omega arith in
     record {
@@ -89,28 +95,7 @@ pub start_stands : (d : List ℕ) (from before word key : ℕ) → from + 9 ≤ 
     → word ≡ key → get_or d (from + 8) 0 ≡ 58 → Stand d from (before ∷ start_key) (from + 9)
 start_stands d from before word key room fits is reads same mark =
     let first : take 8 (drop from d) ≡ start_front before =
-    word_is (start_front before) (drop from d) word key refl (
-      fits,
-      (
-        omega arith,
-        (
-          omega arith,
-          (
-            omega arith,
-            (
-              omega arith,
-              (
-                omega arith,
-                (
-                  omega arith,
-                  (omega arith, tt),
-                ),
-              ),
-            ),
-          ),
-        ),
-      ),
-    ) is reads same in
+    word_is before _ (drop from d) word key refl fits refl is reads same in
     let last = byte d (from + 8) 58 mark (omega arith) in
     let there : from + 8 + 1 ≡ from + 9 = omega arith in
     record {
@@ -128,28 +113,7 @@ pub end_stands : (d : List ℕ) (from before word key : ℕ) → from + 8 ≤ le
     → word ≡ key → Stand d from (before ∷ end_key) (from + 7)
 end_stands d from before word key room fits is reads same =
     let first : take 8 (drop from d) ≡ end_front before =
-    word_is (end_front before) (drop from d) word key refl (
-      fits,
-      (
-        omega arith,
-        (
-          omega arith,
-          (
-            omega arith,
-            (
-              omega arith,
-              (
-                omega arith,
-                (
-                  omega arith,
-                  (omega arith, tt),
-                ),
-              ),
-            ),
-          ),
-        ),
-      ),
-    ) is reads same in
+    word_is before _ (drop from d) word key refl fits refl is reads same in
     let seven : take 7 (drop from d) ≡ take 7 (end_front before) =
     sym (take-take 7 8 (drop from d) (omega arith)) ∙ ap (take 7) first in
     record {
@@ -240,76 +204,56 @@ module _ (depth : ℕ) (d : List ℕ) (from : ℕ) where
       (last_member (depth - 1) d (from + 1) (s + 1) b e e second y (put first x no_members) one
       key_y value_y refl brace (omega arith))
 
-  -- of two plain numbers
-  pub two_numbers : (a s b e : ℕ) (first second : List ℕ) → 0 < depth
-      → (get_or d from 0 ≡ 123) × IsKey d (from + 1) a first → IsPlainNumber d a s
-      → (get_or d s 0 ≡ 44) × IsKey d (s + 1) b second → IsPlainNumber d b e
-      → get_or d e 0 ≡ 125 → (x : Data) × IsValue depth d from (e + 1) x
-  two_numbers a s b e first second some key_x number_x key_y number_y brace =
-      let one = plain_numeral d a s number_x (ap (λ x. is_operator x || is_space x) key_y.0) in
-      let two = plain_numeral d b e number_y (ap (λ x. is_operator x || is_space x) brace) in
-      let x = number_value (depth - 1) d a s one (numeral_kind d a s one) in
-      let y = number_value (depth - 1) d b e two (numeral_kind d b e two) in (
-        object (put second y.0 (put first x.0 no_members)),
-        two_members a s b e first second x.0 y.0 some key_x.0 key_x.1 x.1 key_y.0 key_y.1 y.1 brace,
-      )
+-- ---- what is kept of two members, in either order
 
--- ---- positions
+module _ {A : Type 0} (keeps : Data → A → Type 0) (a b : List ℕ) (x y : Data) (kept : A × A) where
+  pub in_order : (a ≡ b → ⊥) → keeps x kept.0 → keeps y kept.1
+      → KeepsBoth keeps a b (object (put b y (put a x no_members))) kept
+  in_order apart keeps_x keeps_y = record {
+    one = x;
+    two = y;
+    has_one = get_member-put_other a b y (put a x no_members) apart ∙ get_member-put a x no_members;
+    has_two = get_member-put b y (put a x no_members);
+    keeps_one = keeps_x;
+    keeps_two = keeps_y;
+  }
 
--- what the members of a position read as, in either order
-pub line_then_character : (x y : Data) (line column : ℕ) → as_integer x ≡ Some (pos line)
-    → as_integer y ≡ Some (pos column)
-    → position_at (object (put (codes "character") y (put (codes "line") x no_members)))
-    ≡ Some (record { line = line; column = column })
-line_then_character x y line column is_line is_column =
-    let none = no_members in
-    let first = first_came (option_and_then as_uinteger) (option_and_then as_uinteger)
-    (codes "line") (codes "character") (codes "line") x None None refl refl (Some line)
-    (ap (option_and_then natural) is_line) none (refl, refl) in
-    let both = second_came (option_and_then as_uinteger) (option_and_then as_uinteger)
-    (codes "line") (codes "character") (codes "character") y (Some line) None refl refl
-    (Some column) (ap (option_and_then natural) is_column) (put (codes "line") x none) first in
-    rw (both.0, both.1) refl
+  pub turned : (b ≡ a → ⊥) → keeps x kept.0 → keeps y kept.1
+      → KeepsBoth keeps a b (object (put a x (put b y no_members))) kept
+  turned apart keeps_x keeps_y = record {
+    one = x;
+    two = y;
+    has_one = get_member-put a x (put b y no_members);
+    has_two = get_member-put_other b a x (put b y no_members) apart ∙ get_member-put b y no_members;
+    keeps_one = keeps_x;
+    keeps_two = keeps_y;
+  }
 
-pub character_then_line : (x y : Data) (line column : ℕ) → as_integer x ≡ Some (pos column)
-    → as_integer y ≡ Some (pos line)
-    → position_at (object (put (codes "line") y (put (codes "character") x no_members)))
-    ≡ Some (record { line = line; column = column })
-character_then_line x y line column is_column is_line =
-    let none = no_members in
-    let first = second_came (option_and_then as_uinteger) (option_and_then as_uinteger)
-    (codes "line") (codes "character") (codes "character") x None None refl refl (Some column)
-    (ap (option_and_then natural) is_column) none (refl, refl) in
-    let both = first_came (option_and_then as_uinteger) (option_and_then as_uinteger)
-    (codes "line") (codes "character") (codes "line") y None (Some column) refl refl
-    (Some line) (ap (option_and_then natural) is_line) (put (codes "character") x none) first in
-    rw (both.0, both.1) refl
+-- ---- positions and ranges
 
--- what the members of a range read as, in either order
-pub start_then_end : (x y : Data) (first second : Position) → position_at x ≡ Some first
-    → position_at y ≡ Some second
-    → span_at (object (put (codes "end") y (put (codes "start") x no_members)))
-    ≡ Some (record { first = first; second = second })
-start_then_end x y first second is_first is_second =
-    let none = no_members in
-    let one = first_came (option_and_then position_at) (option_and_then position_at)
-    (codes "start") (codes "end") (codes "start") x None None refl refl (Some first) is_first none
-    (refl, refl) in
-    let both = second_came (option_and_then position_at) (option_and_then position_at)
-    (codes "start") (codes "end") (codes "end") y (Some first) None refl refl (Some second)
-    is_second (put (codes "start") x none) one in
-    rw (both.0, both.1) refl
+abbrev IsKept : Data → ℕ → Type 0
+IsKept d n = as_integer d ≡ Some (pos n)
 
-pub end_then_start : (x y : Data) (first second : Position) → position_at x ≡ Some second
-    → position_at y ≡ Some first
-    → span_at (object (put (codes "start") y (put (codes "end") x no_members)))
-    ≡ Some (record { first = first; second = second })
-end_then_start x y first second is_second is_first =
-    let none = no_members in
-    let one = second_came (option_and_then position_at) (option_and_then position_at)
-    (codes "start") (codes "end") (codes "end") x None None refl refl (Some second) is_second none
-    (refl, refl) in
-    let both = first_came (option_and_then position_at) (option_and_then position_at)
-    (codes "start") (codes "end") (codes "start") y None (Some second) refl refl (Some first)
-    is_first (put (codes "end") x none) one in
-    rw (both.0, both.1) refl
+position_read : (x : Data) (kept : ℕ × ℕ) → KeepsPosition IsKept x kept
+    → position_at x ≡ Some (record { line = kept.0; column = kept.1 })
+position_read x kept is = rw (is.has_one, is.has_two, is.keeps_one, is.keeps_two) refl
+
+pub span_read : (x : Data) (kept : (ℕ × ℕ) × (ℕ × ℕ)) → KeepsRange IsKept x kept
+    → span_at x ≡ Some (record {
+      first = record { line = kept.0.0; column = kept.0.1 };
+      second = record { line = kept.1.0; column = kept.1.1 };
+    })
+span_read x kept is =
+    let first = position_read is.one kept.0 is.keeps_one in
+    let second = position_read is.two kept.1 is.keeps_two in
+    rw (is.has_one, is.has_two, first, second) refl
+
+-- null is no range
+pub given_span : (x : Data) (span : Span) → span_at x ≡ Some span
+    → if_given span_at (unless_null x) ≡ Some (Some span)
+given_span null span is = absurd (cc)
+given_span (boolean b) span is = ap (option_map Some) is
+given_span (number n) span is = ap (option_map Some) is
+given_span (string t) span is = ap (option_map Some) is
+given_span (array ds) span is = ap (option_map Some) is
+given_span (object ms) span is = ap (option_map Some) is

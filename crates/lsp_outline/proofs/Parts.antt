@@ -1,12 +1,11 @@
 -- Parts of the text of a string: plain bytes, an escape, one part behind another.
 use Rattle.std.proofs.Common.{◌≡◌, ℕ, zero, suc, ◌+◌, ◌-◌, ◌<◌, ◌≤◌, Bool, true, false, cond}
-use Rattle.std.proofs.Common.{List, [], ◌∷◌, ◌++◌, length, take, drop, get_or, set, Some, refl}
+use Rattle.std.proofs.Common.{List, [], ◌∷◌, ◌++◌, length, take, drop, get_or, Some, refl}
 use Rattle.std.proofs.Common.{sym, ap, ◌∙◌, subst, lt_of_not-le, arith, length-append, length-drop}
 use Rattle.std.proofs.lemmas.List.{append_assoc, take-append-drop, drop-drop, get_or-drop}
 use Rattle.std.proofs.lemmas.List.{get_or-append-add, get_or_past, take_at, length-take-le}
-use Rattle.std.proofs.lemmas.List.{take-take, take_more_set}
+use Rattle.std.proofs.lemmas.List.{take-take}
 use Rattle.std.proofs.lemmas.List.Sums.{prefix_len-le-length}
-use Rattle.std.proofs.lemmas.Simd.{length-chunk}
 use Rattle.std.proofs.lemmas.Str.{IsUtf8-append, IsUtf8-take, IsUtf8-drop, IsUtf8-encode}
 use Rattle.std.proofs.lemmas.Str.{IsCharBoundary-before_ascii, IsCharBoundary-after_ascii}
 use Rattle.std.proofs.lemmas.Str.{encode_ascii}
@@ -178,20 +177,6 @@ front_of_block room after d len at n count within written few =
     ∙ take-append-add xs (chunk at n d) count
     ∙ ap (λ l. xs ++ l) (take-take count n (drop at d) few)
 
-pub block_part : (d : List ℕ) (from at : ℕ) (room after : List ℕ) (len n count : ℕ)
-    → IsPart d from at (take len room) → len ≤ length room → at + n ≤ length d
-    → take (len + n) after ≡ take len room ++ chunk at n d
-    → count ≡ prefix_len is_plain (chunk at n d)
-    → IsPart d from (at + count) (take (len + count) after)
-block_part d from at room after len n count part within inside written is =
-    let most = prefix_len-le-length is_plain (chunk at n d) in
-    let long = length-chunk at n d inside in
-    let front = front_of_block room after d len at n count within written
-    (omega (arith, is, most, long)) in
-    subst (IsPart d from (at + count)) (sym front)
-    (part_on d from at (at + count) (take len room) (take count (drop at d)) part
-    (plain_part d at count (omega arith) (omega (arith, is, chunk_plain n (drop at d)))))
-
 -- an escape that writes one byte
 pub short_escape_part : (d : List ℕ) (at c : ℕ) → at < length d → get_or d at 0 ≡ 92
     → c ≡ one_byte (short_escape (get_or d (at + 1) 0)) → (c ≡ 0 → ⊥)
@@ -215,15 +200,6 @@ short_escape_part d at c inside mark is some =
   where
     ascii_scalar : (k : ℕ) → k < 128 → IsScalar k
     ascii_scalar k few = grind arith
-
-pub short_part : (d : List ℕ) (from at c : ℕ) (room : List ℕ) (len : ℕ)
-    → IsPart d from at (take len room) → len < length room → at < length d → get_or d at 0 ≡ 92
-    → c ≡ one_byte (short_escape (get_or d (at + 1) 0)) → (c ≡ 0 → ⊥)
-    → IsPart d from (at + 2) (take (len + 1) (set room len c))
-short_part d from at c room len part within inside mark is some =
-    subst (IsPart d from (at + 2)) (sym (take_more_set room len c within))
-    (part_on d from at (at + 2) (take len room) (c ∷ []) part
-    (short_escape_part d at c inside mark is some))
 
 pub written_part : (d : List ℕ) (from at end : ℕ) (room : List ℕ) (len : ℕ) (after : List ℕ)
     (count : ℕ) → IsPart d from at (take len room) → WritesPart d at end room len after count

@@ -7,11 +7,11 @@ use Rattle.json.specs.Lex.{tokens}
 use Rattle.json.specs.Json as json
 use Rattle.json.specs.Json.{Parse, parse_map, after_end_array, read_key, items, members, value}
 use Rattle.json.specs.Json.{if_last}
-use Rattle.json.proofs.Grammar.{value_is, value-begin_array, value-begin_object, items_end}
+use Rattle.json.proofs.Grammar.{value-begin_array, value-begin_object, items_end}
 use Rattle.json.proofs.Grammar.{items_more, members_end, members_more}
-use Rattle.serde_json.specs.Data.{Num, Data, array, object, number, Items, no_items, item, Members}
+use Rattle.serde_json.specs.Data.{Data, array, object, Items, no_items, item, Members}
 use Rattle.serde_json.specs.Data.{no_members, put}
-use Rattle.serde_json.specs.Read.{of_json, of_items, of_members, converted, number_of, max_depth}
+use Rattle.serde_json.specs.Read.{of_json, of_items, of_members, converted, max_depth}
 use Rattle.serde_json.specs.Read.{read}
 
 pub some_of : {A : Type 0} (o : Option A) → is_some o ≡ true → (a : A) × (o ≡ Some a)
@@ -60,17 +60,6 @@ with_member k j d old e None = refl
 with_member k j d old e (Some p) = rw e
 
 -- ---- values
-
-pub number_passed : (depth : ℕ) (digits : List ℕ) (ts : List Token)
-    → is_some (number_of digits) ≡ true
-    → (n : Num) × (converted of_json (value depth (Token.number digits ∷ ts)) ≡ Some (number n, ts))
-number_passed depth digits ts h =
-    let read = some_of (number_of digits) h in (
-      read.0,
-      ap (converted of_json) (value_is depth (Token.number digits ∷ ts))
-          ∙ ap (λ n. option_map {U = Data × List Token} (λ d. (d, ts)) (option_map number n))
-          read.1,
-    )
 
 pub array_passed : (depth : ℕ) (ts rest : List Token) (ds : Items) → 0 < depth
     → converted of_items (items (value (depth - 1)) (length ts) ts) ≡ Some (ds, rest)

@@ -7,7 +7,7 @@ use Rattle.std.proofs.Common.{arith}
 use Rattle.std.specs.Prelude.{nat_eq}
 use Rattle.std.specs.Char.{is_ascii_digit}
 use Rattle.std.specs.List.{starts_with}
-use Rattle.std.proofs.lemmas.Bool.{ne_eqb, true≢false}
+use Rattle.std.proofs.lemmas.Bool.{ne_eqb}
 use Rattle.std.proofs.lemmas.List.{drop_all, drop_more, drop-drop, get_or-drop, get_or_past}
 use Rattle.std.proofs.lemmas.List.{take-append-drop}
 use Rattle.std.proofs.lemmas.Slice.Eq.{bytes_eq-Decides}
@@ -34,7 +34,7 @@ use Rattle.lsp_outline.specs.Walk.{IsKey}
 use Rattle.lsp_outline.proofs.Lexing.{lex_operator, lex_quote, key_first, string_first}
 use Rattle.lsp_outline.proofs.Lexing.{object_first, array_first, object_last, array_last}
 use Rattle.lsp_outline.proofs.Lexing.{comma_next, word_first}
-use Rattle.lsp_outline.proofs.Skipping.{converted_some, number_passed, array_passed, object_passed}
+use Rattle.lsp_outline.proofs.Skipping.{converted_some, some_of, array_passed, object_passed}
 use Rattle.lsp_outline.proofs.Skipping.{item_passed, items_passed, member_passed, members_passed}
 use Rattle.lsp_outline.proofs.Skipping.{nothing_before, parse_map-twice, whole_passed}
 
@@ -127,26 +127,6 @@ slice d from end le =
     sym (take-append-drop (end - from) (drop from d))
     ∙ ap (λ l. part d from end ++ l) (drop-drop (end - from) from d ∙ ap (λ k. drop k d) there)
 
-pub number_value : (depth : ℕ) (d : List ℕ) (from end : ℕ) → IsNumeral d from end
-    → kind_at (get_or d from 0) ≡ kinds.Plain → (x : Data) × IsValue depth d from end x
-number_value depth d from end is kind =
-    let s = part d from end in
-    let ls = lex between (drop end d) in
-    let lexed : lex between (drop from d) ≡ token (token_of.number s) ∷ ls =
-    ap (lex between) (slice d from end (omega (arith, is.forward)))
-    ∙ lex-number s (drop end d) is.number is.ended in
-    let passed = number_passed depth s (punctuate after_value ls) is.fits in (
-      tree.number passed.0,
-      record {
-        read = λ p may. ap (λ l. converted of_json (value depth (punctuate p l))) lexed
-            ∙ ap (λ ts. converted of_json (value depth ts))
-            (word_first p (token_of.number s) ls refl may) ∙ passed.1;
-        kind = kind;
-        forward = is.forward;
-        within = is.within;
-      },
-    )
-
 pub natural_value : (depth : ℕ) (d : List ℕ) (from end : ℕ) (n : tree.Num) → IsNumeral d from end
     → number_of (part d from end) ≡ Some n → kind_at (get_or d from 0) ≡ kinds.Plain
     → IsValue depth d from end (tree.number n)
@@ -169,15 +149,9 @@ natural_value depth d from end n is reads kind =
       within = is.within;
     }
 
-pub plain_kind : (x : ℕ) → (x ≡ 123 → ⊥) → (x ≡ 91 → ⊥) → (x ≡ 110 → ⊥) → kind_at x ≡ kinds.Plain
+plain_kind : (x : ℕ) → (x ≡ 123 → ⊥) → (x ≡ 91 → ⊥) → (x ≡ 110 → ⊥) → kind_at x ≡ kinds.Plain
 plain_kind x a b c = λ i. cond (ne_eqb x 123 a i || ne_eqb x 91 b i) kinds.Structure
     (cond (ne_eqb x 110 c i) kinds.Null kinds.Plain)
-
-pub digit_kind : (x : ℕ) → is_ascii_digit x ≡ true → kind_at x ≡ kinds.Plain
-digit_kind x digit =
-    plain_kind x (λ e. true≢false (sym digit ∙ ap is_ascii_digit e))
-    (λ e. true≢false (sym digit ∙ ap is_ascii_digit e))
-    (λ e. true≢false (sym digit ∙ ap is_ascii_digit e))
 
 -- a number begins with none of these
 not_first : (x : ℕ) (rest : List ℕ) → is_ascii_digit x ≡ false → (x == 45) ≡ false
@@ -204,6 +178,14 @@ numeral_kind d from end is =
     ap (λ k. take k (drop from d)) n
     ∙ ap (take (suc (end - from - 1))) (drop_more d from 0 some) in
     number_kind (get_or d from 0) _ (subst IsNumber front is.number)
+
+pub number_value : (d : List ℕ) (from end : ℕ) → IsNumeral d from end
+    → (x : Data) × ((depth : ℕ) → IsValue depth d from end x)
+number_value d from end is =
+    let n = some_of (number_of (part d from end)) is.fits in (
+      tree.number n.0,
+      λ depth. natural_value depth d from end n.0 is n.1 (numeral_kind d from end is),
+    )
 
 pub numeral_value : (d : List ℕ) (from end n : ℕ) → IsNatural d from end n → (depth : ℕ)
     → IsValue depth d from end (tree.number (tree.unsigned n))
@@ -449,12 +431,12 @@ module _ (depth : ℕ) (d : List ℕ) (from : ℕ) where
 
   -- an item that ends where its comma stands
   pub tiny_turn : (at stop then : ℕ) → IsNumeral d at stop → get_or d stop 0 ≡ 44
-      → is_ascii_digit (get_or d at 0) ≡ true
       → lex between (drop then d) ≡ lex between (drop (stop + 1) d)
       → stop + 1 ≤ then → then ≤ length d → SomeItems depth d from at → SomeItems depth d from then
-  tiny_turn at stop then is mark digit after more within old =
-      let found = number_value depth d at stop is (digit_kind (get_or d at 0) digit) in
-      item_turn at stop stop then found.0 old found.1 refl mark after (omega arith) more within
+  tiny_turn at stop then is mark after more within old =
+      let found = number_value d at stop is in
+      item_turn at stop stop then found.0 old (found.1 depth) refl mark after (omega arith) more
+      within
 
   unfoldable pub last_item : (at end next : ℕ) (x : Data) → SomeItems depth d from at
       → IsValue depth d at end x → lex between (drop next d) ≡ lex between (drop end d)

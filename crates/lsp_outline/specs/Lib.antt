@@ -1,4 +1,5 @@
 pub mod Outlined
+pub mod Places
 pub mod Spoken
 pub mod Texts
 pub mod Told

@@ -1,13 +1,13 @@
 -- What lies between two places of a JSON text.
 use Rattle.std.specs.Prelude.{◌≡◌, ℕ, ℤ, ◌+◌, ◌-◌, ◌<◌, ◌≤◌, ◌==◌, ◌||◌, List, length, take, drop}
 use Rattle.std.specs.Prelude.{get_or, Bool, true, false, not, ◌&&◌, cond, nat_lt, Some, is_some, nat_eq}
-use Rattle.std.specs.Prelude.{[], ◌∷◌, ◌++◌, ◌⊎◌}
+use Rattle.std.specs.Prelude.{[], ◌∷◌, ◌++◌}
 use Rattle.std.specs.Char.{is_ascii_digit}
-use Rattle.std.specs.List.{list_all, prefix_len, starts_with}
+use Rattle.std.specs.List.{list_all, starts_with}
 use Rattle.std.specs.Str.Parse.{digits_value}
 use Rattle.json.specs.Token.{Token}
 use Rattle.json.specs.Text.{content, plain, prepend}
-use Rattle.json.specs.Word.{ends_word}
+use Rattle.json.specs.Word.{ends_word, is_operator, is_space}
 use Rattle.json.specs.Print.{IsNumber}
 use Rattle.json.specs.Lex.{lex, between, in_string, Place, fresh, after_value, may_begin, punctuate}
 use Rattle.json.specs.Json.{value, items, members, parse_map, read_key}
@@ -81,13 +81,9 @@ pub record AreFewDigits (d : List ℕ) (from end n : ℕ) : Type 0 where
   pub few : end - from ≤ 9
   pub within : end ≤ length d
 
--- fewer than sixteen digits, one or more, without a zero before others
-pub record IsPlainNumber (d : List ℕ) (from end : ℕ) : Type 0 where
-  pub run : end ≡ from + prefix_len is_ascii_digit (drop from d)
-  pub some : from < end
-  pub short : end < from + 16
-  pub first : (end ≡ from + 1) ⊎ ((get_or d from 0 == 48) ≡ false)
-  pub within : end < length d
+-- a number may end before the byte there
+abbrev pub MayEndNumber : List ℕ → ℕ → Type 0
+MayEndNumber d at = (is_operator (get_or d at 0) || is_space (get_or d at 0)) ≡ true
 
 -- these bytes, from one place to another
 pub record Stand (d : List ℕ) (from : ℕ) (text : List ℕ) (end : ℕ) : Type 0 where

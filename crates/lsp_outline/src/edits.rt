@@ -9,8 +9,8 @@ ghost use Rattle.lsp_rpc.specs.View.{change_view, changes_view};
 ghost use Rattle.lsp_outline.specs.Walk.{IsValue, AreItems};
 
 use crate::bytes::{byte_at, spaces_end};
-use crate::members::{Gathered, object_at, object_into, short_uinteger_at, skipped, uinteger_at};
-use crate::positions::{first_letter, names_character, names_end, names_line, names_start};
+use crate::members::{Gathered, object_at, object_into, skipped, uinteger_at};
+use crate::positions::range_at;
 use crate::walk::{literal_end, string_copy};
 use lsp_types::{Change, Position, Span};
 use std::alloc::Global;
@@ -118,126 +118,25 @@ impl Gathered for SpanParts {
     }
 }
 
-/// The position that begins there with its line, and where it ends.
-#[inline(always)]
-fn line_first_at(text: &str, from: usize) -> Option<(Position, usize)>
-    requires { from ≤ length text.now }
-    ensures { IfSome result (λ r. (depth : ℕ) → 0 < depth
-        → (ms : Members) × IsValue depth text.now from r.1 (object ms)
-        × (spec.position_at (object ms) ≡ Some r.0)) }
-{
-    let bytes = text.as_bytes();
-    if !names_line(bytes, from, b'{') {
-        return None;
-    }
-    let (line, stop) = short_uinteger_at(text, from + 8)?;
-    if !names_character(bytes, stop, b',') {
-        return None;
-    }
-    let (column, close) = short_uinteger_at(text, stop + 13)?;
-    if byte_at(bytes, close) != b'}' {
-        return None;
-    }
-    Some((Position { line, column }, close + 1))
-}
-
-/// The position that begins there with its character, and where it ends.
-#[inline(always)]
-fn character_first_at(text: &str, from: usize) -> Option<(Position, usize)>
-    requires { from ≤ length text.now }
-    ensures { IfSome result (λ r. (depth : ℕ) → 0 < depth
-        → (ms : Members) × IsValue depth text.now from r.1 (object ms)
-        × (spec.position_at (object ms) ≡ Some r.0)) }
-{
-    let bytes = text.as_bytes();
-    if !names_character(bytes, from, b'{') {
-        return None;
-    }
-    let (column, stop) = short_uinteger_at(text, from + 13)?;
-    if !names_line(bytes, stop, b',') {
-        return None;
-    }
-    let (line, close) = short_uinteger_at(text, stop + 8)?;
-    if byte_at(bytes, close) != b'}' {
-        return None;
-    }
-    Some((Position { line, column }, close + 1))
-}
-
-/// The position that begins there as most programs write it, and where it ends.
-#[inline(always)]
-fn plain_position_at(text: &str, from: usize) -> Option<(Position, usize)>
-    requires { from ≤ length text.now }
-    ensures { IfSome result (λ r. (depth : ℕ) → 0 < depth
-        → (ms : Members) × IsValue depth text.now from r.1 (object ms)
-        × (spec.position_at (object ms) ≡ Some r.0)) }
-{
-    if first_letter(text.as_bytes(), from) == b'l' {
-        line_first_at(text, from)
-    } else {
-        character_first_at(text, from)
-    }
-}
-
-/// The span that begins there with its start, and where it ends.
-#[inline(always)]
-fn start_first_at(text: &str, from: usize) -> Option<(Span, usize)>
-    requires { from ≤ length text.now }
-    ensures { IfSome result (λ r. (depth : ℕ) → 1 < depth
-        → (ms : Members) × IsValue depth text.now from r.1 (object ms)
-        × (spec.span_at (object ms) ≡ Some r.0)) }
-{
-    let bytes = text.as_bytes();
-    if !names_start(bytes, from, b'{') {
-        return None;
-    }
-    let (first, stop) = plain_position_at(text, from + 9)?;
-    if !names_end(bytes, stop, b',') {
-        return None;
-    }
-    let (second, close) = plain_position_at(text, stop + 7)?;
-    if byte_at(bytes, close) != b'}' {
-        return None;
-    }
-    Some((Span { first, second }, close + 1))
-}
-
-/// The span that begins there with its end, and where it ends.
-#[inline(always)]
-fn end_first_at(text: &str, from: usize) -> Option<(Span, usize)>
-    requires { from ≤ length text.now }
-    ensures { IfSome result (λ r. (depth : ℕ) → 1 < depth
-        → (ms : Members) × IsValue depth text.now from r.1 (object ms)
-        × (spec.span_at (object ms) ≡ Some r.0)) }
-{
-    let bytes = text.as_bytes();
-    if !names_end(bytes, from, b'{') {
-        return None;
-    }
-    let (second, stop) = plain_position_at(text, from + 7)?;
-    if !names_start(bytes, stop, b',') {
-        return None;
-    }
-    let (first, close) = plain_position_at(text, stop + 9)?;
-    if byte_at(bytes, close) != b'}' {
-        return None;
-    }
-    Some((Span { first, second }, close + 1))
-}
-
 /// The span that begins there as most programs write it, and where it ends.
 #[inline(never)]
 fn plain_span_at(text: &str, from: usize) -> Option<(Span, usize)>
     requires { from ≤ length text.now }
     ensures { IfSome result (λ r. (depth : ℕ) → 1 < depth
-        → (ms : Members) × IsValue depth text.now from r.1 (object ms)
-        × (spec.span_at (object ms) ≡ Some r.0)) }
+        → (x : Data) × IsValue depth text.now from r.1 x × (spec.span_at x ≡ Some r.0)) }
 {
-    if first_letter(text.as_bytes(), from) == b's' {
-        start_first_at(text, from)
-    } else {
-        end_first_at(text, from)
-    }
+    let ((start, stop), end) = range_at(text.as_bytes(), from)?;
+    let span = Span {
+        first: Position {
+            line: start.0,
+            column: start.1,
+        },
+        second: Position {
+            line: stop.0,
+            column: stop.1,
+        },
+    };
+    Some((span, end))
 }
 
 /// The span that begins there, and where it ends. It is tried as most programs write it, until one
@@ -251,8 +150,8 @@ fn span_at(
     tries: &mut bool,
 ) -> Option<(Span, usize)>
     requires { from ≤ length text.now }
-    ensures { IfSome result (λ r. (ms : Members) × IsValue depth text.now from r.1 (object ms)
-        × (spec.span_at (object ms) ≡ Some r.0)) }
+    ensures { IfSome result (λ r. (x : Data) × IsValue depth text.now from r.1 x
+        × (spec.span_at x ≡ Some r.0)) }
 {
     if depth < 2 || !*tries {
         return any_span_at(alloc, text, from, depth);
@@ -268,8 +167,8 @@ fn span_at(
 #[inline(never)]
 fn any_span_at(alloc: Global, text: &str, from: usize, depth: usize) -> Option<(Span, usize)>
     requires { from ≤ length text.now }
-    ensures { IfSome result (λ r. (ms : Members) × IsValue depth text.now from r.1 (object ms)
-        × (spec.span_at (object ms) ≡ Some r.0)) }
+    ensures { IfSome result (λ r. (x : Data) × IsValue depth text.now from r.1 x
+        × (spec.span_at x ≡ Some r.0)) }
 {
     let (parts, end): (SpanParts, usize) = object_at(alloc, text, from, depth)?;
     let span = Span {

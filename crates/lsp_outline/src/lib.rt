@@ -15,6 +15,7 @@ mod numbers;
 mod outline;
 mod params;
 mod positions;
+mod runs;
 mod texts;
 mod tries;
 mod walk;

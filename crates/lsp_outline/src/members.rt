@@ -10,7 +10,7 @@ ghost use Rattle.lsp_rpc.specs.Shape.{as_id, as_integer, unless_null};
 ghost use Rattle.lsp_outline.specs.Walk.{IsValue, AreMembers};
 
 use crate::bytes::{byte_at, spaces_end};
-use crate::numbers::{natural_at, negative_at, short_natural_at};
+use crate::numbers::{natural_at, negative_at};
 use crate::tries::Tries;
 use crate::walk::{key, literal_end, plain_string, string_copy, value_end};
 use lsp_rpc::Id;
@@ -147,17 +147,6 @@ pub(crate) fn uinteger_at(text: &str, from: usize) -> Option<(u32, usize)>
     } else {
         None
     }
-}
-
-/// The same, where it has at most nine digits.
-#[inline(always)]
-pub(crate) fn short_uinteger_at(text: &str, from: usize) -> Option<(u32, usize)>
-    requires { from ≤ length text.now }
-    ensures read { IfSome result (λ r. (d : Data)
-        × ((depth : ℕ) → IsValue depth text.now from r.1 d) × (as_integer d ≡ Some (pos r.0))) }
-{
-    let (n, end) = short_natural_at(text.as_bytes(), from)?;
-    Some((n, end))
 }
 
 /// The string that begins there, where it is not null, copied, and where it ends.

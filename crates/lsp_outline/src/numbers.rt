@@ -1,23 +1,19 @@
 //! The numbers that numerals of JSON write, as `serde_json` reads them.
-ghost use Rattle.std.specs.Prelude.{◌≡◌, ◌⊎◌, ◌+◌, ◌<◌, ◌≤◌, ◌==◌, ◌||◌, drop, get_or, length};
+ghost use Rattle.std.specs.Prelude.{◌≡◌, ◌⊎◌, ◌+◌, ◌<◌, ◌≤◌, ◌==◌, drop, get_or, length, not};
 ghost use Rattle.std.specs.Prelude.{◌^◌, slice_index, Some, true, false, IsTrue, IfSome, is_some};
 ghost use Rattle.std.specs.Char.{is_ascii_digit};
 ghost use Rattle.std.specs.List.{prefix_len};
-ghost use Rattle.json.specs.Word.{is_operator, is_space};
+ghost use Rattle.json.specs.Run.{is_no_digit};
 ghost use Rattle.serde_json.specs.Data.{Num, number, unsigned};
 ghost use Rattle.serde_json.specs.Read.{number_of, number_from};
 ghost use Rattle.lsp_rpc.specs.Shape.{as_integer};
 ghost use Rattle.lsp_outline.specs.Walk.{IsNumeral, IsNatural, IsInteger, AreFewDigits};
-ghost use Rattle.lsp_outline.specs.Walk.{IsPlainNumber};
-ghost use Rattle.std.specs.Prelude.{map, not};
-ghost use Rattle.std.specs.Simd.Lanes.{mask_l};
+ghost use Rattle.lsp_outline.specs.Walk.{MayEndNumber};
 
 use crate::bytes::{byte_at, is_delimiter};
+use crate::runs::{Run, near_run_end, run_end};
 use fast_float::Numeral;
 use std::simd::prelude::*;
-
-/// How many bytes are looked at together.
-const LANES: usize = 16;
 
 /// Integers of this many digits fit 64 bits.
 const SHORT: usize = 18;
@@ -54,18 +50,21 @@ fn is_in_range(digits: &str) -> bool
     }
 }
 
-/// Where the digits end that begin there.
-#[inline(always)]
-fn digits_end(bytes: &[u8], from: usize) -> usize
-    requires { from ≤ length bytes.now }
-    ensures value { result ≡ from + prefix_len is_ascii_digit (drop from bytes.now) }
-    ensures within { result ≤ length bytes.now }
-{
-    let mut at = from;
-    'digits: while at < bytes.len() && bytes[at].is_ascii_digit() {
-        at += 1;
+/// What is no digit ends a run of digits.
+struct Digits;
+
+impl Run for Digits {
+    ghost is_stop = { is_no_digit };
+
+    #[inline(always)]
+    fn is_stop(byte: u8) -> bool {
+        !byte.is_ascii_digit()
     }
-    at
+
+    #[inline(always)]
+    fn stops(block: u8x16) -> u64 {
+        (block.simd_lt(u8x16::splat(b'0')) | block.simd_gt(u8x16::splat(b'9'))).to_bitmask()
+    }
 }
 
 /// Whether these digits write an integer that fits, without a zero before others.
@@ -76,7 +75,8 @@ fn is_integer(digits: &[u8]) -> bool
     ensures first { IsTrue result
         → (length digits.now ≡ 1) ⊎ ((slice_index digits.now 0 == 48) ≡ false) }
 {
-    !digits.is_empty() && digits.len() <= SHORT && (digits.len() == 1 || digits[0] != b'0')
+    // Most have one digit.
+    digits.len() == 1 || (digits.len() > 1 && digits.len() <= SHORT && digits[0] != b'0')
 }
 
 /// The first place from there on where a number ends.
@@ -84,8 +84,7 @@ fn word_end(bytes: &[u8], from: usize) -> Option<usize>
     requires { from ≤ length bytes.now }
     ensures forward { IfSome result (λ end. from ≤ end) }
     ensures within { IfSome result (λ end. end < length bytes.now) }
-    ensures ended { IfSome result (λ end.
-        (is_operator (get_or bytes.now end 0) || is_space (get_or bytes.now end 0)) ≡ true) }
+    ensures ended { IfSome result (MayEndNumber bytes.now) }
 {
     for end in from..bytes.len() {
         if is_delimiter(bytes[end]) {
@@ -110,49 +109,35 @@ fn any_number_end(bytes: &[u8], from: usize) -> Option<usize>
     }
 }
 
-/// A bit for each of these bytes that is no digit.
+/// Where the integer without a sign ends that begins there, where one block of bytes shows it and
+/// if a number may end there.
 #[inline(always)]
-fn others(block: u8x16) -> u64
-    requires { length block ≡ LANES }
-    ensures { result ≡ mask_l (map (λ x. not (is_ascii_digit x)) block) }
-{
-    (block.simd_lt(u8x16::splat(b'0')) | block.simd_gt(u8x16::splat(b'9'))).to_bitmask()
-}
-
-/// How many of these bytes are digits, up to the first that is none.
-#[inline(always)]
-fn digit_front(block: u8x16) -> usize
-    requires { length block ≡ LANES }
-    ensures { result ≡ prefix_len is_ascii_digit block }
-{
-    let others = others(block);
-    if others == 0 {
-        LANES
-    } else {
-        others.trailing_zeros() as usize
-    }
-}
-
-/// Where the integer without a sign ends that begins there, where one block of bytes shows it.
-#[inline(always)]
-pub(crate) fn plain_number_end(bytes: &[u8], from: usize) -> Option<usize>
+pub(crate) fn short_integer_end(bytes: &[u8], from: usize) -> Option<usize>
     requires { from ≤ length bytes.now }
-    ensures { IfSome result (IsPlainNumber bytes.now from) }
+    ensures number { IfSome result (λ end.
+        MayEndNumber bytes.now end → IsNumeral bytes.now from end) }
+    ensures within { IfSome result (λ end. end ≤ length bytes.now) }
 {
-    if bytes.len() - from < LANES {
-        return None;
+    let end = near_run_end::<Digits>(bytes, from)?;
+    if is_integer(&bytes[from..end]) {
+        Some(end)
+    } else {
+        None
     }
-    let count = digit_front(u8x16::from_slice(&bytes[from..]));
-    if count == 0 || count == LANES {
-        return None;
+}
+
+/// Where the number ends that begins there, whose first digits end at `end`. `None` where
+/// `serde_json` reads none.
+#[inline(always)]
+fn end_past_digits(bytes: &[u8], from: usize, end: usize) -> Option<usize>
+    requires digits { end ≡ from + prefix_len (λ x. not (is_no_digit x)) (drop from bytes.now) }
+    requires within { (from ≤ end) × (end ≤ length bytes.now) }
+    ensures { IfSome result (IsNumeral bytes.now from) }
+{
+    if is_integer(&bytes[from..end]) && is_delimiter(byte_at(bytes, end)) {
+        return Some(end);
     }
-    if count == 1 {
-        return Some(from + 1);
-    }
-    if bytes[from] == b'0' {
-        return None;
-    }
-    Some(from + count)
+    any_number_end(bytes, from)
 }
 
 /// Where the number ends that begins there. `None` where `serde_json` reads none.
@@ -161,13 +146,10 @@ pub(crate) fn number_end(bytes: &[u8], from: usize) -> Option<usize>
     requires { from ≤ length bytes.now }
     ensures { IfSome result (IsNumeral bytes.now from) }
 {
-    let Some(end) = plain_number_end(bytes, from) else {
-        return long_number_end(bytes, from);
-    };
-    if is_delimiter(byte_at(bytes, end)) {
-        return Some(end);
+    match near_run_end::<Digits>(bytes, from) {
+        Some(end) => end_past_digits(bytes, from, end),
+        None => long_number_end(bytes, from),
     }
-    any_number_end(bytes, from)
 }
 
 /// Where the number of whatever length ends that begins there. `None` where `serde_json` reads
@@ -177,11 +159,8 @@ fn long_number_end(bytes: &[u8], from: usize) -> Option<usize>
     requires { from ≤ length bytes.now }
     ensures { IfSome result (IsNumeral bytes.now from) }
 {
-    let end = digits_end(bytes, from);
-    if is_integer(&bytes[from..end]) && is_delimiter(byte_at(bytes, end)) {
-        return Some(end);
-    }
-    any_number_end(bytes, from)
+    let end = run_end::<Digits>(bytes, from);
+    end_past_digits(bytes, from, end)
 }
 
 /// Where the number of one or two digits ends that begins there, where a comma comes next.
@@ -255,15 +234,17 @@ fn few_digits(bytes: &[u8], from: usize) -> (u32, usize)
     (n, end)
 }
 
-/// The integer of at most nine digits that begins there, and where it ends.
+/// The integer of at most nine digits that begins there, and where it ends, if a number may.
 #[inline(always)]
 pub(crate) fn short_natural_at(bytes: &[u8], from: usize) -> Option<(u32, usize)>
     requires { from ≤ length bytes.now }
-    ensures read { IfSome result (λ r. IsNatural bytes.now from r.1 r.0) }
+    ensures read { IfSome result (λ r.
+        MayEndNumber bytes.now r.1 → IsNatural bytes.now from r.1 r.0) }
     ensures fits { IfSome result (λ r. r.0 < 2 ^ 31) }
+    ensures within { IfSome result (λ r. r.1 ≤ length bytes.now) }
 {
     let (n, end) = few_digits(bytes, from);
-    if is_delimiter(byte_at(bytes, end)) && is_integer(&bytes[from..end]) {
+    if is_integer(&bytes[from..end]) {
         Some((n, end))
     } else {
         None
@@ -277,8 +258,8 @@ pub(crate) fn natural_at(bytes: &[u8], from: usize) -> Option<(u64, usize)>
     ensures { IfSome result (λ r. IsNatural bytes.now from r.1 r.0) }
 {
     match short_natural_at(bytes, from) {
-        Some((n, end)) => Some((u64::from(n), end)),
-        None => long_natural_at(bytes, from),
+        Some((n, end)) if is_delimiter(byte_at(bytes, end)) => Some((u64::from(n), end)),
+        _ => long_natural_at(bytes, from),
     }
 }
 

@@ -2,12 +2,15 @@
 ghost use Rattle.std.specs.Prelude.{◌≡◌, ◌∷◌, ◌+◌, ◌<◌, ◌≤◌, ℕ, length, take, drop, IsTrue, IfSome};
 ghost use Rattle.std.specs.Int.{to_le_bytes};
 ghost use Rattle.std.specs.Int.{w64};
+ghost use Rattle.std.specs.Prelude.{pos, Some};
 ghost use Rattle.serde_json.specs.Data.{Data};
-ghost use Rattle.lsp_outline.specs.Walk.{IsValue, Stand, line_key, character_key};
+ghost use Rattle.lsp_rpc.specs.Shape.{as_integer};
+ghost use Rattle.lsp_outline.specs.Places.{KeepsPosition, KeepsRange, StandsKept};
+ghost use Rattle.lsp_outline.specs.Walk.{IsValue, MayEndNumber, Stand, line_key, character_key};
 ghost use Rattle.lsp_outline.specs.Walk.{start_key, end_key};
 
 use crate::bytes::byte_at;
-use crate::numbers::plain_number_end;
+use crate::numbers::{short_integer_end, short_natural_at};
 use crate::tries::Tries;
 
 /// The eight bytes that stand there, as one number.
@@ -30,7 +33,7 @@ fn word_at(bytes: &[u8], at: usize) -> u64
 
 /// Whether this byte stands there and then the key of a line.
 #[inline(always)]
-pub(crate) fn names_line(bytes: &[u8], from: usize, before: u8) -> bool
+fn names_line(bytes: &[u8], from: usize, before: u8) -> bool
     requires { from ≤ length bytes.now }
     ensures { IsTrue result → Stand bytes.now from (before ∷ line_key) (from + 8) }
 {
@@ -43,7 +46,7 @@ pub(crate) fn names_line(bytes: &[u8], from: usize, before: u8) -> bool
 
 /// Whether this byte stands there and then the key of a character.
 #[inline(always)]
-pub(crate) fn names_character(bytes: &[u8], from: usize, before: u8) -> bool
+fn names_character(bytes: &[u8], from: usize, before: u8) -> bool
     requires { from ≤ length bytes.now }
     ensures { IsTrue result → Stand bytes.now from (before ∷ character_key) (from + 13) }
 {
@@ -60,7 +63,7 @@ pub(crate) fn names_character(bytes: &[u8], from: usize, before: u8) -> bool
 
 /// Whether this byte stands there and then the key of a range's start.
 #[inline(always)]
-pub(crate) fn names_start(bytes: &[u8], from: usize, before: u8) -> bool
+fn names_start(bytes: &[u8], from: usize, before: u8) -> bool
     requires { from ≤ length bytes.now }
     ensures { IsTrue result → Stand bytes.now from (before ∷ start_key) (from + 9) }
 {
@@ -76,7 +79,7 @@ pub(crate) fn names_start(bytes: &[u8], from: usize, before: u8) -> bool
 
 /// Whether this byte stands there, then the key of a range's end, and then a brace.
 #[inline(always)]
-pub(crate) fn names_end(bytes: &[u8], from: usize, before: u8) -> bool
+fn names_end(bytes: &[u8], from: usize, before: u8) -> bool
     requires { from ≤ length bytes.now }
     ensures { IsTrue result → Stand bytes.now from (before ∷ end_key) (from + 7) }
 {
@@ -89,7 +92,7 @@ pub(crate) fn names_end(bytes: &[u8], from: usize, before: u8) -> bool
 
 /// The first letter of the first key of the object that begins there, where no space is before it.
 #[inline(always)]
-pub(crate) fn first_letter(bytes: &[u8], from: usize) -> u8
+fn first_letter(bytes: &[u8], from: usize) -> u8
     requires { from ≤ length bytes.now }
 {
     if bytes.len() - from > 2 {
@@ -99,115 +102,144 @@ pub(crate) fn first_letter(bytes: &[u8], from: usize) -> u8
     }
 }
 
-/// Where the position ends that begins there with its line.
+/// What is kept of a number.
+pub(crate) trait Kept: Copy {
+    /// This is kept of the value.
+    ghost keeps: { Data → Self → Type 0 };
+
+    /// The integer of a few digits that begins there, and where it ends, if a number may.
+    fn number_at(bytes: &[u8], from: usize) -> Option<(Self, usize)>
+        requires { from ≤ length bytes.now }
+        ensures read { IfSome result (λ r. MayEndNumber bytes.now r.1 → (d : Data)
+            × ((depth : ℕ) → IsValue depth bytes.now from r.1 d) × keeps d r.0) }
+        ensures within { IfSome result (λ r. r.1 ≤ length bytes.now) };
+}
+
+/// Nothing, where it is skipped.
+impl Kept for () {
+    ghost keeps = { λ d kept. Unit {0} };
+
+    #[inline(always)]
+    fn number_at(bytes: &[u8], from: usize) -> Option<((), usize)> {
+        let end = short_integer_end(bytes, from)?;
+        Some(((), end))
+    }
+}
+
+/// Its value.
+impl Kept for u32 {
+    ghost keeps = { λ d n. as_integer d ≡ Some (pos n) };
+
+    #[inline(always)]
+    fn number_at(bytes: &[u8], from: usize) -> Option<(u32, usize)> {
+        let (n, end) = short_natural_at(bytes, from)?;
+        Some((n, end))
+    }
+}
+
+/// The position that begins there with its line, and where it ends.
 #[inline(always)]
-fn line_first_end(bytes: &[u8], from: usize) -> Option<usize>
+fn line_first_at<K: Kept>(bytes: &[u8], from: usize) -> Option<((K, K), usize)>
     requires { from ≤ length bytes.now }
-    ensures { IfSome result (λ end. (depth : ℕ) → 0 < depth
-        → (d : Data) × IsValue depth bytes.now from end d) }
+    ensures { IfSome result (StandsKept 0 (KeepsPosition K.keeps) bytes.now from) }
 {
     if !names_line(bytes, from, b'{') {
         return None;
     }
-    let stop = plain_number_end(bytes, from + 8)?;
+    let (line, stop) = K::number_at(bytes, from + 8)?;
     if !names_character(bytes, stop, b',') {
         return None;
     }
-    let close = plain_number_end(bytes, stop + 13)?;
+    let (column, close) = K::number_at(bytes, stop + 13)?;
     if byte_at(bytes, close) != b'}' {
         return None;
     }
-    Some(close + 1)
+    Some(((line, column), close + 1))
 }
 
-/// Where the position ends that begins there with its character.
+/// The position that begins there with its character, and where it ends.
 #[inline(always)]
-fn character_first_end(bytes: &[u8], from: usize) -> Option<usize>
+fn character_first_at<K: Kept>(bytes: &[u8], from: usize) -> Option<((K, K), usize)>
     requires { from ≤ length bytes.now }
-    ensures { IfSome result (λ end. (depth : ℕ) → 0 < depth
-        → (d : Data) × IsValue depth bytes.now from end d) }
+    ensures { IfSome result (StandsKept 0 (KeepsPosition K.keeps) bytes.now from) }
 {
     if !names_character(bytes, from, b'{') {
         return None;
     }
-    let stop = plain_number_end(bytes, from + 13)?;
+    let (column, stop) = K::number_at(bytes, from + 13)?;
     if !names_line(bytes, stop, b',') {
         return None;
     }
-    let close = plain_number_end(bytes, stop + 8)?;
+    let (line, close) = K::number_at(bytes, stop + 8)?;
     if byte_at(bytes, close) != b'}' {
         return None;
     }
-    Some(close + 1)
+    Some(((line, column), close + 1))
 }
 
-/// Where the position ends that begins there.
+/// The position that begins there, and where it ends.
 #[inline(always)]
-fn plain_position_end(bytes: &[u8], from: usize) -> Option<usize>
+fn position_at<K: Kept>(bytes: &[u8], from: usize) -> Option<((K, K), usize)>
     requires { from ≤ length bytes.now }
-    ensures { IfSome result (λ end. (depth : ℕ) → 0 < depth
-        → (d : Data) × IsValue depth bytes.now from end d) }
+    ensures { IfSome result (StandsKept 0 (KeepsPosition K.keeps) bytes.now from) }
 {
     if first_letter(bytes, from) == b'l' {
-        line_first_end(bytes, from)
+        line_first_at(bytes, from)
     } else {
-        character_first_end(bytes, from)
+        character_first_at(bytes, from)
     }
 }
 
-/// Where the range ends that begins there with its start.
+/// The range that begins there with its start, and where it ends.
 #[inline(always)]
-fn start_first_end(bytes: &[u8], from: usize) -> Option<usize>
+fn start_first_at<K: Kept>(bytes: &[u8], from: usize) -> Option<(((K, K), (K, K)), usize)>
     requires { from ≤ length bytes.now }
-    ensures { IfSome result (λ end. (depth : ℕ) → 1 < depth
-        → (d : Data) × IsValue depth bytes.now from end d) }
+    ensures { IfSome result (StandsKept 1 (KeepsRange K.keeps) bytes.now from) }
 {
     if !names_start(bytes, from, b'{') {
         return None;
     }
-    let stop = plain_position_end(bytes, from + 9)?;
+    let (start, stop) = position_at(bytes, from + 9)?;
     if !names_end(bytes, stop, b',') {
         return None;
     }
-    let close = plain_position_end(bytes, stop + 7)?;
+    let (end, close) = position_at(bytes, stop + 7)?;
     if byte_at(bytes, close) != b'}' {
         return None;
     }
-    Some(close + 1)
+    Some(((start, end), close + 1))
 }
 
-/// Where the range ends that begins there with its end.
+/// The range that begins there with its end, and where it ends.
 #[inline(always)]
-fn end_first_end(bytes: &[u8], from: usize) -> Option<usize>
+fn end_first_at<K: Kept>(bytes: &[u8], from: usize) -> Option<(((K, K), (K, K)), usize)>
     requires { from ≤ length bytes.now }
-    ensures { IfSome result (λ end. (depth : ℕ) → 1 < depth
-        → (d : Data) × IsValue depth bytes.now from end d) }
+    ensures { IfSome result (StandsKept 1 (KeepsRange K.keeps) bytes.now from) }
 {
     if !names_end(bytes, from, b'{') {
         return None;
     }
-    let stop = plain_position_end(bytes, from + 7)?;
+    let (end, stop) = position_at(bytes, from + 7)?;
     if !names_start(bytes, stop, b',') {
         return None;
     }
-    let close = plain_position_end(bytes, stop + 9)?;
+    let (start, close) = position_at(bytes, stop + 9)?;
     if byte_at(bytes, close) != b'}' {
         return None;
     }
-    Some(close + 1)
+    Some(((start, end), close + 1))
 }
 
-/// Where the range ends that begins there.
+/// The range that begins there as most programs write it, and where it ends.
 #[inline(always)]
-fn plain_range_end(bytes: &[u8], from: usize) -> Option<usize>
+pub(crate) fn range_at<K: Kept>(bytes: &[u8], from: usize) -> Option<(((K, K), (K, K)), usize)>
     requires { from ≤ length bytes.now }
-    ensures { IfSome result (λ end. (depth : ℕ) → 1 < depth
-        → (d : Data) × IsValue depth bytes.now from end d) }
+    ensures { IfSome result (StandsKept 1 (KeepsRange K.keeps) bytes.now from) }
 {
     if first_letter(bytes, from) == b's' {
-        start_first_end(bytes, from)
+        start_first_at(bytes, from)
     } else {
-        end_first_end(bytes, from)
+        end_first_at(bytes, from)
     }
 }
 
@@ -233,12 +265,16 @@ fn place_end(bytes: &[u8], from: usize, depth: usize) -> Option<usize>
     ensures { IfSome result (λ end. (d : Data) × IsValue depth bytes.now from end d) }
 {
     match first_letter(bytes, from) {
-        b'l' | b'c' => plain_position_end(bytes, from),
+        b'l' | b'c' => {
+            let (_, end): ((_, ()), usize) = position_at(bytes, from)?;
+            Some(end)
+        }
         _ => {
             if depth < 2 {
                 return None;
             }
-            plain_range_end(bytes, from)
+            let (_, end): (((_, _), (_, ())), usize) = range_at(bytes, from)?;
+            Some(end)
         }
     }
 }

@@ -12,16 +12,11 @@ ghost use Rattle.lsp_outline.specs.Texts.{IsPart, WritesPart, one_byte};
 ghost use Rattle.lsp_outline.specs.Walk.{IsText};
 
 use crate::bytes::byte_at;
+use crate::runs::{Run, run_end};
 use std::alloc::Global;
 use std::simd::prelude::*;
 
-/// How many bytes are looked at together.
-const LANES: usize = 16;
-
-/// How many bytes are copied together where two long blocks no longer fit.
-const WIDE_LANES: usize = 32;
-
-/// How many bytes are tested together, as long as two such blocks fit.
+/// How many bytes are tested and copied together, as long as two such blocks fit.
 const BLOCK: usize = 64;
 
 /// How many bytes of a text are written before they are put behind the copy.
@@ -30,41 +25,30 @@ const ROOM: usize = 1024;
 /// A bit for each of these bytes: whether it ends a run of those that stand for themselves in a
 /// string.
 #[inline(always)]
-fn stops(block: u8x16) -> u64
-    requires { length block ≡ LANES }
-    ensures { result ≡ mask_l (map is_stop block) }
+fn stops<const N: usize>(block: Simd<u8, N>) -> u64
+    requires { (length block ≡ N) × (N ≤ 64) }
+    ensures { result ≡ mask_l (map is_stop block.entry) }
 {
-    (block.simd_eq(u8x16::splat(b'"'))
-        | block.simd_eq(u8x16::splat(b'\\'))
-        | block.simd_lt(u8x16::splat(0x20))).to_bitmask()
+    (block.simd_eq(Simd::splat(b'"'))
+        | block.simd_eq(Simd::splat(b'\\'))
+        | block.simd_lt(Simd::splat(0x20))).to_bitmask()
 }
 
-/// How many of these bytes stand for themselves in a string, up to the first that does not.
-#[inline(always)]
-fn plain_front(block: u8x16) -> usize
-    requires { length block ≡ LANES }
-    ensures { result ≡ prefix_len is_plain block }
-{
-    let stops = stops(block);
-    if stops == 0 {
-        LANES
-    } else {
-        stops.trailing_zeros() as usize
-    }
-}
+/// What does not stand for itself in a string ends a run of what does.
+struct Plain;
 
-/// Where the bytes end that stand for themselves in a string, one after another.
-#[inline(never)]
-fn last_plain_end(bytes: &[u8], from: usize) -> usize
-    requires { from ≤ length bytes.now }
-    ensures value { result ≡ from + prefix_len is_plain (drop from bytes.now) }
-    ensures within { result ≤ length bytes.now }
-{
-    let mut at = from;
-    'plain: while at < bytes.len() && bytes[at] != b'"' && bytes[at] != b'\\' && bytes[at] >= 0x20 {
-        at += 1;
+impl Run for Plain {
+    ghost is_stop = { is_stop };
+
+    #[inline(always)]
+    fn is_stop(byte: u8) -> bool {
+        byte == b'"' || byte == b'\\' || byte < 0x20
     }
-    at
+
+    #[inline(always)]
+    fn stops(block: u8x16) -> u64 {
+        stops(block)
+    }
 }
 
 /// Where the bytes end that stand for themselves in a string.
@@ -74,15 +58,7 @@ fn plain_end(bytes: &[u8], from: usize) -> usize
     ensures value { result ≡ from + prefix_len is_plain (drop from bytes.now) }
     ensures within { result ≤ length bytes.now }
 {
-    let mut at = from;
-    'lanes: while bytes.len() - at >= LANES {
-        let plain = plain_front(u8x16::from_slice(&bytes[at..]));
-        if plain < LANES {
-            return at + plain;
-        }
-        at += LANES;
-    }
-    last_plain_end(bytes, at)
+    run_end::<Plain>(bytes, from)
 }
 
 /// The value of a hex digit, or 36.
@@ -242,33 +218,6 @@ pub(crate) fn plain_text(text: &str, from: usize) -> Option<(&str, usize)>
     Some((&text[from..stop], stop + 1))
 }
 
-/// A bit for each of these bytes: whether it ends a run of those that stand for themselves in a
-/// string.
-#[inline(always)]
-fn wide_stops(block: u8x32) -> u64
-    requires { length block ≡ WIDE_LANES }
-    ensures { result ≡ mask_l (map is_stop block) }
-{
-    (block.simd_eq(u8x32::splat(b'"'))
-        | block.simd_eq(u8x32::splat(b'\\'))
-        | block.simd_lt(u8x32::splat(0x20))).to_bitmask()
-}
-
-/// Copies the bytes there behind the first ones of the room, plain or not. A bit for each says
-/// whether it ends a run of those that stand for themselves in a string.
-#[inline(always)]
-fn copy_block(room: &mut [u8], len: usize, bytes: &[u8], at: usize) -> u64
-    requires { (len + WIDE_LANES ≤ length room.old) × (at + WIDE_LANES ≤ length bytes.now) }
-    ensures value { result ≡ mask_l (map is_stop (chunk at WIDE_LANES bytes.now)) }
-    ensures written { take (len + WIDE_LANES) room.new
-        ≡ take len room.old ++ chunk at WIDE_LANES bytes.now }
-    ensures len { length room.new ≡ length room.old }
-{
-    let block = u8x32::from_slice(&bytes[at..]);
-    block.copy_to_slice(&mut room[len..]);
-    wide_stops(block)
-}
-
 /// Writes a character behind the first bytes of the room, and gives how many there are then.
 #[inline(always)]
 fn write_char(room: &mut [u8], len: usize, c: char) -> usize
@@ -300,62 +249,9 @@ fn write_escape(room: &mut [u8], len: usize, bytes: &[u8], at: usize) -> Option<
     Some((next, end))
 }
 
-/// Writes the text that is there into the room, as far as blocks fit on both sides: where it
-/// continues, and how many bytes were written. A block is copied whole, before it is known how many
-/// of its bytes are plain; what is written next overwrites the others.
-#[inline(never)]
-fn write_text(room: &mut [u8], bytes: &[u8], from: usize) -> Option<(usize, usize)>
-    requires { from ≤ length bytes.now }
-    ensures part { IfSome result (λ r. IsPart bytes.now from r.0 (take r.1 room.new)) }
-    ensures within { IfSome result (λ r. r.1 ≤ length room.new) }
-    ensures len { length room.new ≡ length room.old }
-{
-    let mut at = from;
-    let mut len = 0;
-    'blocks: while bytes.len() - at > WIDE_LANES && room.len() - len >= WIDE_LANES {
-        let stops = copy_block(room, len, bytes, at);
-        if stops == 0 {
-            at += WIDE_LANES;
-            len += WIDE_LANES;
-            continue;
-        }
-        let plain = stops.trailing_zeros() as usize;
-        at += plain;
-        len += plain;
-        if bytes[at] != b'\\' {
-            return Some((at, len));
-        }
-        let short = short_escape(bytes[at + 1]);
-        if short != 0 {
-            room[len] = short;
-            at += 2;
-            len += 1;
-            continue;
-        }
-        if room.len() - len < 4 {
-            return Some((at, len));
-        }
-        (at, len) = write_escape(room, len, bytes, at)?;
-    }
-    Some((at, len))
-}
-
-/// A bit for each of the 64 bytes there: whether it ends a run of those that stand for themselves
-/// in a string.
-#[inline(always)]
-fn block_stops(bytes: &[u8], at: usize) -> u64
-    requires { at + BLOCK ≤ length bytes.now }
-    ensures { result ≡ mask_l (map is_stop (chunk at BLOCK bytes.now)) }
-{
-    let block = u8x64::from_slice(&bytes[at..]);
-    (block.simd_eq(u8x64::splat(b'"'))
-        | block.simd_eq(u8x64::splat(b'\\'))
-        | block.simd_lt(u8x64::splat(0x20))).to_bitmask()
-}
-
 /// Copies the 64 bytes there behind the first ones of the room, plain or not.
 #[inline(always)]
-fn copy_long_block(room: &mut [u8], len: usize, bytes: &[u8], at: usize)
+fn copy_block(room: &mut [u8], len: usize, bytes: &[u8], at: usize)
     requires { (len + BLOCK ≤ length room.old) × (at + BLOCK ≤ length bytes.now) }
     ensures written { take (len + BLOCK) room.new
         ≡ take len room.old ++ chunk at BLOCK bytes.now }
@@ -380,8 +276,8 @@ fn write_block(room: &mut [u8], len: usize, bytes: &[u8], at: usize) -> Option<(
     ensures len { length room.new ≡ length room.old }
 {
     let end = at + BLOCK;
-    let mut stops = block_stops(bytes, at);
-    copy_long_block(room, len, bytes, at);
+    let mut stops = stops(u8x64::from_slice(&bytes[at..]));
+    copy_block(room, len, bytes, at);
     let mut at = at;
     let mut len = len;
     while stops != 0 {
@@ -400,7 +296,7 @@ fn write_block(room: &mut [u8], len: usize, bytes: &[u8], at: usize) -> Option<(
         len += 1;
         // Two shifts, since `plain + 2` may exceed 63.
         stops = (stops >> plain) >> 2;
-        copy_long_block(room, len, bytes, at);
+        copy_block(room, len, bytes, at);
     }
     if at < end {
         len += end - at;
@@ -431,30 +327,23 @@ fn write_blocks(room: &mut [u8], bytes: &[u8], from: usize) -> Option<(usize, us
     Some((at, len))
 }
 
-/// Puts the text that is there behind the copy, as far as long blocks fit, and gives where it
-/// continues.
+/// Puts these bytes behind the copy, whose size is doubled until they fit.
 #[inline(always)]
-fn copy_long(room: &mut [u8; ROOM], bytes: &[u8], from: usize, copy: &mut Vec<u8>) -> Option<usize>
-    requires { from ≤ length bytes.now }
-    ensures part { IfSome result (λ next. (start : ℕ)
-        → IsPart bytes.now start from copy.old.items
-        → IsPart bytes.now start next copy.new.items) }
-    ensures bounds { IfSome result (λ next. (from ≤ next) × (next ≤ length bytes.now)) }
+fn extend(copy: &mut Vec<u8>, more: &[u8]) -> Option<()>
+    ensures { IfSome result (λ _. copy.new.items ≡ copy.old.items ++ more.now) }
 {
-    let mut at = from;
-    'rooms: loop {
-        let (next, end) = write_blocks(room, bytes, at)?;
-        copy.extend_from_slice(&room[..end]).ok()?;
-        // The room was not filled: the text ends there, or no block fits behind it.
-        if next - at < ROOM / 2 {
-            return Some(next);
-        }
-        at = next;
+    // A size of just what is needed would be about that of the content, whatever the text, and the
+    // C library gives back memory of two such sizes at once, only to ask for it again.
+    let len = copy.len() + more.len();
+    let mut size = copy.capacity().max(1);
+    'doubled: while size < len {
+        size = size.saturating_mul(2);
     }
+    copy.reserve(size - copy.len()).ok()?;
+    copy.extend_from_slice(more).ok()
 }
 
-/// Puts the text that is there behind the copy, first by long blocks, then by short ones, as far as
-/// these fit, and gives where it continues.
+/// Puts the text that is there behind the copy, as far as blocks fit, and gives where it continues.
 #[inline(never)]
 fn copy_rooms(bytes: &[u8], from: usize, copy: &mut Vec<u8>) -> Option<usize>
     requires { from ≤ length bytes.now }
@@ -464,10 +353,10 @@ fn copy_rooms(bytes: &[u8], from: usize, copy: &mut Vec<u8>) -> Option<usize>
     ensures bounds { IfSome result (λ next. (from ≤ next) × (next ≤ length bytes.now)) }
 {
     let mut room = [0; ROOM];
-    let mut at = copy_long(&mut room, bytes, from, copy)?;
+    let mut at = from;
     'rooms: loop {
-        let (next, len) = write_text(&mut room, bytes, at)?;
-        copy.extend_from_slice(&room[..len]).ok()?;
+        let (next, end) = write_blocks(&mut room, bytes, at)?;
+        extend(copy, &room[..end])?;
         // The room was not filled: the text ends there, or no block fits behind it.
         if next - at < ROOM / 2 {
             return Some(next);
@@ -486,7 +375,7 @@ fn copy_blocks(bytes: &[u8], from: usize, copy: &mut Vec<u8>) -> Option<usize>
         → IsPart bytes.now start next copy.new.items) }
     ensures bounds { IfSome result (λ next. (from ≤ next) × (next ≤ length bytes.now)) }
 {
-    if copy.len() < WIDE_LANES || bytes.len() - from <= WIDE_LANES {
+    if copy.len() < BLOCK / 2 || bytes.len() - from <= 2 * BLOCK {
         return Some(from);
     }
     copy_rooms(bytes, from, copy)

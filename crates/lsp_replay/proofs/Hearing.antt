@@ -1,5 +1,6 @@
 -- How a content is heard: read, admitted, and taken over.
 use Rattle.std.proofs.Common.{◌≡◌, ℕ, List, [], ◌∷◌, ◌++◌, Option, Some, None, inl, inr, refl, sym, ap, subst, ◌∙◌}
+use Rattle.std.proofs.Common.{append-nil}
 use Rattle.std.specs.Prelude.{◌⊎◌, ℤ, chars, option_and_then, unwrap_or}
 use Rattle.std.specs.Option.{option_or}
 use Rattle.std.specs.List.{cons_option}
@@ -37,7 +38,7 @@ use Rattle.lsp_verdict.specs.Event.{Event, message, fault as broken, snapshot, s
 use Rattle.lsp_replay.specs.Faults.{of_content, of_message, of_call, of_snapshot, refused_by}
 use Rattle.lsp_replay.specs.Faults.{of_reading, rule_of}
 use Rattle.lsp_replay.specs.Standing.{HasValue, Hears, Refuses, RefusesBy, RefusesContent}
-use Rattle.lsp_replay.specs.Standing.{RefusesFor, RefusesSnapshot}
+use Rattle.lsp_replay.specs.Standing.{RefusesCall, RefusesFor, RefusesSnapshot, TakesCall}
 use Rattle.lsp_replay.specs.declared.fault.Fault.{Fault}
 use Rattle.lsp_replay.specs.declared.fault.Fault.TheVariants as own
 use Rattle.lsp_replay.specs.declared.fault.Refused.{Refused}
@@ -65,6 +66,29 @@ rule_is terms events m enc kind e k =
 
 offence_is : (terms : Terms) (events : List Event) (m : Sent) (rule : Option ℕ) → rule_after (sent_in events) m ≡ None → document_rule terms events (message m) ≡ rule → offence terms events (message m) ≡ rule
 offence_is terms events m rule none is = ap (λ o. option_or o (document_rule terms events (message m))) none ∙ is
+
+-- what a call that was taken, or refused, says of the calls before it
+module _ (old : docs.State) (made : List Call) (h : docs.Stands old made) where
+  pub call_taken : (new : docs.State) (said : Option Call) → TakesCall old new said
+      → (option_and_then (call_rule old.terms made) said ≡ None)
+      × docs.Stands new (made ++ cons_option said [])
+  call_taken new None same = (
+    refl,
+    subst (λ (d : docs.State). docs.Stands d (made ++ [])) (sym same)
+        (subst (docs.Stands old) (sym (append-nil made)) h),
+  )
+  call_taken new (Some call) accepts = (accepts.accepted made h, accepts.stands made h)
+
+  pub call_named : (said : Option Call) (f : DocFault) → RefusesCall old said f
+      → docs_fault.Names (option_and_then (call_rule old.terms made) said) f
+  call_named None f refuses = absurd refuses
+  call_named (Some call) f refuses = refuses made h
+
+-- only an act that says something of a document is refused
+pub call_said : (old : docs.State) (said : Option Call) (f : DocFault) → RefusesCall old said f
+    → (call : Call) × (said ≡ Some call)
+call_said old None f refuses = absurd refuses
+call_said old (Some call) f refuses = (call, refl)
 
 -- a message, and what is left of it
 module _ (side : Side) (bytes : List ℕ) (terms : Terms) (events : List Event) (m : Sent) (is : IsSent side bytes m) (said : Message) (says : outline m.message ≡ outline said) where

@@ -18,12 +18,12 @@ use Rattle.lsp_replay.specs.declared.log_events.Step.{Step}
 use Rattle.lsp_replay.specs.declared.log_events.Step.TheVariants as found
 use Rattle.lsp_replay.specs.declared.streams.Due.{Due}
 use Rattle.lsp_verdict.specs.Entries as entries
-use Rattle.lsp_verdict.specs.Entries.{IsAt, HasFirst, HasRecords, ShowsFault}
+use Rattle.lsp_verdict.specs.Entries.{IsAt, HasFirst, ShowsFault}
 use Rattle.lsp_verdict.specs.Placed.{Raw, Placed}
 use Rattle.lsp_verdict.specs.RunIo.{OfRead}
 use Rattle.lsp_verdict.specs.declared.outcome.RunFault.{RunFault}
 use Rattle.lsp_verdict.specs.declared.outcome.RunFault.TheVariants as faults
-use Rattle.lsp_verdict.proofs.Entries.{is_first}
+use Rattle.lsp_verdict.proofs.Entries.{HasRecords, is_first}
 use Rattle.lsp_verdict.proofs.Lists.{not_nil}
 use Rattle.lsp_verdict.proofs.Outcomes.{placed_front}
 use Rattle.lsp_verdict.proofs.RunReading.{read_map}

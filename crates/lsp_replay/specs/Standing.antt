@@ -1,5 +1,5 @@
 -- For which events the parts that hear them stand, and what the next event is heard as.
-use Rattle.std.specs.Prelude.{◌≡◌, ◌⊎◌, ℕ, List, [], ◌∷◌, ◌++◌, Some, None, chars}
+use Rattle.std.specs.Prelude.{◌≡◌, ◌⊎◌, ℕ, List, [], ◌∷◌, ◌++◌, Option, Some, None, chars}
 use Rattle.lsp_rpc.specs.Act.{Act}
 use Rattle.lsp_rpc.specs.Message as rpc
 use Rattle.lsp_rpc.specs.Outline.{outline, without_params}
@@ -10,10 +10,12 @@ use Rattle.lsp_session.specs.Handshake.{open_initializes}
 use Rattle.lsp_session.specs.Sent.{Sent}
 use Rattle.lsp_session.specs.State as session
 use Rattle.lsp_docs.specs.Answer.{answer_of}
+use Rattle.lsp_docs.specs.Calls.{Call}
 use Rattle.lsp_docs.specs.Documents.{held}
 use Rattle.lsp_docs.specs.Kept.{kept}
 use Rattle.lsp_docs.specs.State as docs
 use Rattle.lsp_docs.specs.Terms.{Terms}
+use Rattle.lsp_docs.specs.declared.fault.DocFault.{DocFault}
 use Rattle.lsp_verdict.specs.declared.counts.Counts.{Counts}
 use Rattle.lsp_verdict.specs.Calls.{calls}
 use Rattle.lsp_verdict.specs.Contents.{IsSent, ReadsAs}
@@ -43,6 +45,18 @@ pub record Follows (messages : session.State) (documents : docs.State) (counts :
   pub clean : first_no documents.terms events ≡ None
   pub holds : Holds messages documents events
   pub counted : AreCounts counts events
+
+-- ---- a call
+
+-- what an act says about a document is accepted; where it says nothing, what is held stays
+abbrev pub TakesCall : docs.State → docs.State → Option Call → Type 0
+TakesCall old new None = new ≡ old
+TakesCall old new (Some call) = docs.Accepts old new call
+
+-- the act says something about a document, which is refused
+abbrev pub RefusesCall : docs.State → Option Call → DocFault → Type 0
+RefusesCall old None why = ⊥
+RefusesCall old (Some call) why = docs.Refuses old call why
 
 -- ---- a content
 

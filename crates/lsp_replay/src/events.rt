@@ -1,23 +1,18 @@
 //! The events of a session, heard one after another.
-ghost use Rattle.std.specs.Prelude.{◌≡◌, ◌++◌, ◌∷◌, [], ℕ, List, None, Some, option_and_then, IfOk};
-ghost use Rattle.std.specs.Prelude.{IfErr, OnOk, OnErr, map};
-ghost use Rattle.std.specs.List.{cons_option};
-ghost use Rattle.lsp_rpc.specs.View.{act_view, changes_view, message_view};
-ghost use Rattle.lsp_docs.specs.Calls.{Call, changes};
-ghost use Rattle.lsp_docs.specs.Fault as doc_fault;
-ghost use Rattle.lsp_docs.specs.Rules.{call_rule};
-ghost use Rattle.lsp_docs.specs.State as docs_state;
+ghost use Rattle.std.specs.Prelude.{◌≡◌, [], ℕ, List, IfOk, IfErr, OnOk, OnErr};
+ghost use Rattle.lsp_rpc.specs.View.{act_view, message_view};
 ghost use Rattle.lsp_docs.specs.Terms.{Terms, terms_of};
 ghost use Rattle.lsp_outline.specs.declared.outline.Results.TheVariants.{LeftOut};
 ghost use Rattle.lsp_session.specs.Handshake.{open_initializes};
 ghost use Rattle.lsp_session.specs.Sent.{Sent};
 ghost use Rattle.lsp_session.specs.State.{Stands};
-ghost use Rattle.lsp_verdict.specs.Calls.{call_of, edit_of};
+ghost use Rattle.lsp_verdict.specs.Calls.{call_of};
 ghost use Rattle.lsp_verdict.specs.Event.{Event};
 ghost use Rattle.lsp_replay.specs.Apart.{Says};
 ghost use Rattle.lsp_verdict.specs.Lent.{raw_view};
 ghost use Rattle.lsp_replay.specs.Standing.{Follows, Holds, Hears, Keeps, Refuses, RefusesBy};
-ghost use Rattle.lsp_replay.specs.Standing.{RefusesContent, RefusesFor, Takes, TakesContent};
+ghost use Rattle.lsp_replay.specs.Standing.{RefusesCall, RefusesContent, RefusesFor, Takes};
+ghost use Rattle.lsp_replay.specs.Standing.{TakesCall, TakesContent};
 ghost use Rattle.lsp_verdict.specs.Placed as placed;
 
 use crate::fault::{Fault, Refused};
@@ -25,7 +20,7 @@ use crate::heard::Heard;
 use lsp_docs::{DocFault, Docs};
 use lsp_frame::{Format, Limits};
 use lsp_outline::{MessageReader, Results};
-use lsp_rpc::{Act, Change, Encoding, Side, Spoken, SyncKind};
+use lsp_rpc::{Act, Encoding, Side, Spoken, SyncKind};
 use lsp_session::Session;
 use lsp_text::TextStore;
 use lsp_verdict::{Counts, Raw, Who, who_of};
@@ -292,30 +287,6 @@ fn read_into(
     Ok(())
 }
 
-/// Changes a document.
-fn change<S: TextStore>(
-    docs: &mut Docs<S>,
-    encoding: Encoding,
-    kind: SyncKind,
-    uri: &str,
-    version: i32,
-    edits: &[Change],
-) -> Result<(), DocFault>
-    ensures terms { docs.new.terms ≡ docs.old.terms }
-    ensures ok { OnOk result ((made : List Call) → docs_state.Stands docs.old made
-        → docs_state.Stands docs.new (made
-        ++ changes encoding kind uri.now version (map edit_of (changes_view edits.now)) ∷ [])) }
-    ensures accepted { OnOk result ((made : List Call) → docs_state.Stands docs.old made
-        → call_rule docs.old.terms made
-        (changes encoding kind uri.now version (map edit_of (changes_view edits.now))) ≡ None) }
-    ensures rule { IfErr result (λ fault. (made : List Call) → docs_state.Stands docs.old made
-        → doc_fault.Names (call_rule docs.old.terms made
-        (changes encoding kind uri.now version (map edit_of (changes_view edits.now)))) fault) }
-    ensures err { OnErr result (docs.new ≡ docs.old) }
-{
-    docs.did_change(encoding, kind, uri, version, edits)
-}
-
 /// Takes over what an act says about a document.
 fn apply<S: TextStore>(
     docs: &mut Docs<S>,
@@ -323,19 +294,9 @@ fn apply<S: TextStore>(
     kind: SyncKind,
     act: &Act,
 ) -> Result<(), DocFault>
-    ensures terms { docs.new.terms ≡ docs.old.terms }
-    ensures ok { OnOk result ((made : List Call) → docs_state.Stands docs.old made
-        → docs_state.Stands docs.new (made
-        ++ cons_option (call_of encoding kind (act_view act.now)) [])) }
-    ensures accepted { OnOk result ((made : List Call) → docs_state.Stands docs.old made
-        → option_and_then (call_rule docs.old.terms made)
-        (call_of encoding kind (act_view act.now)) ≡ None) }
-    ensures rule { IfErr result (λ fault. (made : List Call) → docs_state.Stands docs.old made
-        → doc_fault.Names (option_and_then (call_rule docs.old.terms made)
-        (call_of encoding kind (act_view act.now))) fault) }
-    // Only an act that says something of a document is refused, and then nothing changes.
-    ensures says { OnErr result ((call : Call)
-        × (call_of encoding kind (act_view act.now) ≡ Some call)) }
+    ensures accepts { OnOk result
+        (TakesCall docs.old docs.new (call_of encoding kind (act_view act.now))) }
+    ensures refuses { IfErr result (RefusesCall docs.old (call_of encoding kind (act_view act.now))) }
     ensures err { OnErr result (docs.new ≡ docs.old) }
 {
     match act {
@@ -348,14 +309,7 @@ fn apply<S: TextStore>(
             changes,
         } => {
             let version = *version;
-            change(
-                docs,
-                encoding,
-                kind,
-                uri.as_str(),
-                version,
-                changes.as_slice(),
-            )?
+            docs.did_change(encoding, kind, uri.as_str(), version, changes.as_slice())?
         }
         Act::DidClose { uri } => docs.did_close(uri.as_str())?,
         Act::DidSave { uri, text } => {

@@ -17,7 +17,7 @@ use Rattle.lsp_session.specs.Requests.{open_requests, request_rule}
 use Rattle.lsp_session.specs.Rules.{early_rule, rule_after}
 use Rattle.lsp_session.specs.Sent.{Sent, is_exit, is_initialize, is_initialized, is_response}
 use Rattle.lsp_session.specs.Sent.{is_shutdown, other_side}
-use Rattle.lsp_session.specs.State.{agreed_in, state_of}
+use Rattle.lsp_session.specs.State.{State, agreed_in, state_of}
 
 pub open_of-state_of : (side : Side) (before : List Sent)
     → by_state.open_of side (state_of before) ≡ open_requests side before
@@ -127,9 +127,16 @@ lifecycle_rule-state_of before Server message act =
     (server_rows (is_response message) (is_done before) (is_empty (open_initializes before))
     (is_early act) (reports_on (open_initializes before) act))
 
+-- the least rule that the message breaks
+abbrev pub rule_by : State → Sent → Option ℕ
+rule_by s m =
+    option_or (by_state.request_rule s m.side m.message)
+    (option_or (by_state.lifecycle_rule s m.side m.message m.act)
+    (option_or (by_state.result_rule s m.side m.message) (register_rule m.side m.act)))
+
 -- the rules by the state are the rules by the list
 pub rule_by-state_of : (before : List Sent) (m : Sent)
-    → by_state.rule_by (state_of before) m ≡ rule_after before m
+    → rule_by (state_of before) m ≡ rule_after before m
 rule_by-state_of before m =
     rw (request_rule-state_of before m, lifecycle_rule-state_of before m.side m.message m.act) refl
 

@@ -1,7 +1,6 @@
 -- The rules and readings as a session finds them by what it keeps.
 use Rattle.std.specs.Prelude.{ℕ, List, [], ◌∷◌, Bool, true, not, ◌&&◌, ◌||◌, Option, Some, None}
 use Rattle.std.specs.Prelude.{is_some}
-use Rattle.std.specs.Option.{option_or}
 use Rattle.lsp_rpc.specs.Act.{Act}
 use Rattle.lsp_rpc.specs.Message.{Message}
 use Rattle.lsp_types.specs.declared.side.Side.{Side}
@@ -9,10 +8,10 @@ use Rattle.lsp_types.specs.declared.side.Side.TheVariants.{Editor, Server}
 use Rattle.lsp_session.specs.Entry.{Entry}
 use Rattle.lsp_session.specs.Handshake.{is_empty, settled_among}
 use Rattle.lsp_session.specs.Lifecycle.{is_early, reports_on}
-use Rattle.lsp_session.specs.Negotiation.{first_row, register_rule, settled_rule}
+use Rattle.lsp_session.specs.Negotiation.{first_row, settled_rule}
 use Rattle.lsp_session.specs.OpenInitialize.{Initialize}
 use Rattle.lsp_session.specs.Requests.{id_rule}
-use Rattle.lsp_session.specs.Sent.{Sent, is_exit, is_initialize, is_initialized, is_response}
+use Rattle.lsp_session.specs.Sent.{is_exit, is_initialize, is_initialized, is_response}
 use Rattle.lsp_session.specs.Sent.{other_side}
 use Rattle.lsp_session.specs.State.{State, agreed_in}
 use Rattle.lsp_session.specs.declared.negotiation.Agreed.{Agreed}
@@ -82,10 +81,3 @@ lifecycle_rule s Server message act = server_rule s message act
 
 abbrev pub result_rule : State → Side → Message → Option ℕ
 result_rule s side message = settled_rule (settled_among s.initializes side message)
-
--- the least rule that the message breaks
-abbrev pub rule_by : State → Sent → Option ℕ
-rule_by s m =
-    option_or (request_rule s m.side m.message)
-    (option_or (lifecycle_rule s m.side m.message m.act)
-    (option_or (result_rule s m.side m.message) (register_rule m.side m.act)))

@@ -1,43 +1,43 @@
 -- Which calls LSP 3.17 has in another way than they were sent.
-use Rattle.std.specs.Prelude.{ℕ, List, [], ◌∷◌, ◌++◌, map, Bool, ◌||◌, if◌then◌else◌, Option, Some}
-use Rattle.std.specs.Prelude.{None, option_map, string_bytes}
+use Rattle.std.specs.Prelude.{ℕ, List, [], ◌∷◌, ◌++◌, map, Bool, if◌then◌else◌, Option, Some}
+use Rattle.std.specs.Prelude.{None, option_and_then, option_map, string_bytes}
 use Rattle.std.specs.List.{filter_map, list_any}
 use Rattle.std.specs.Str.{bytes_eq}
 use Rattle.lsp_rpc.specs.Message.{Message, request, notification, response}
-use Rattle.lsp_session.specs.Sent.{other_side}
 use Rattle.lsp_types.specs.declared.side.Side.{Side}
 use Rattle.lsp_types.specs.declared.side.Side.TheVariants.{Editor, Server}
 use Rattle.lsp_survey.specs.Asking.{Numbered}
-use Rattle.lsp_survey.specs.StandardMethods.{is_request, is_notification}
+use Rattle.lsp_survey.specs.StandardMethods.{use_of}
 use Rattle.lsp_replay.specs.declared.heard.EventPlace.{EventPlace}
 use Rattle.lsp_survey.specs.declared.notes.misuses.Misuse.{Misuse}
 use Rattle.lsp_survey.specs.declared.notes.misuses.Misuse.TheVariants.{AsRequest, AsNotification}
 use Rattle.lsp_survey.specs.declared.notes.misuses.Misuse.TheVariants.{ByEditor, ByServer}
 use Rattle.lsp_survey.specs.declared.notes.misuses.Misused as code
+use Rattle.lsp_survey.specs.declared.notes.standard_methods.MethodUse.{MethodUse}
+use Rattle.lsp_survey.specs.declared.notes.standard_methods.MethodUse.TheVariants as uses
 
 -- ---- a call
 
-abbrev pub by_side : Side → Misuse
-by_side Editor = ByEditor
-by_side Server = ByServer
+-- a call that this side sends in LSP 3.17, and that side did
+abbrev pub sent_by : Side → Side → Option Misuse
+sent_by Server Editor = Some ByEditor
+sent_by Editor Server = Some ByServer
+sent_by sender side = None
 
--- a call whose method the side sends so, or only the other one, or that is of the other kind
-abbrev pub misuse_by : Side → Misuse → Bool → Bool → Bool → Option Misuse
-misuse_by side kind of_the_side of_the_other of_the_kind =
-    if of_the_side then None
-    else (if of_the_other then Some (by_side side)
-    else (if of_the_kind then Some kind else None))
+abbrev pub as_request : Side → MethodUse → Option Misuse
+as_request side (uses.Request sender) = sent_by sender side
+as_request side other = Some AsRequest
+
+abbrev pub as_notification : Side → MethodUse → Option Misuse
+as_notification side (uses.Notification sender) = sent_by sender side
+as_notification side uses.Shared = None
+as_notification side (uses.Request sender) = Some AsNotification
 
 abbrev pub request_misuse : Side → List ℕ → Option Misuse
-request_misuse side name =
-    misuse_by side AsRequest (is_request side name) (is_request (other_side side) name)
-    (is_notification Editor name || is_notification Server name)
+request_misuse side name = option_and_then (as_request side) (use_of name)
 
 abbrev pub notification_misuse : Side → List ℕ → Option Misuse
-notification_misuse side name =
-    misuse_by side AsNotification (is_notification side name)
-    (is_notification (other_side side) name)
-    (is_request Editor name || is_request Server name)
+notification_misuse side name = option_and_then (as_notification side) (use_of name)
 
 -- a call of this method, the event of this place, that was sent in another way than LSP 3.17 has
 -- it

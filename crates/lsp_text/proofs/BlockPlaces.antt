@@ -16,7 +16,7 @@ use Rattle.lsp_text.specs.Offsets.{IsOffset}
 use Rattle.lsp_text.proofs.Counting.{units-utf8_text}
 use Rattle.lsp_text.proofs.Widths.{units-utf32}
 use Rattle.lsp_text.proofs.Splices.{IsUtf8-replace_range}
-use Rattle.lsp_text.specs.Ends.{ends_in, places_behind, moved_place, ends_with_return, joins, CanMove, IsAfterEnd, IsEndAt, IsNear, IsLineEnd}
+use Rattle.lsp_text.specs.Ends.{ends_in, places_behind, moved_place, ends_with_return, joins, CanMove, IsEndAt, IsNear, IsLineEnd}
 use Rattle.lsp_text.specs.Sums.{sums_of, amount_in}
 use Rattle.lsp_text.specs.Blocks.{IsBlock}
 use Rattle.lsp_text.specs.declared.block.Block.TheInside.{Inside}
@@ -27,7 +27,7 @@ use Rattle.lsp_text.specs.declared.sums.Measure.TheVariants.{Units}
 use Rattle.lsp_text.specs.declared.part.LineEnd.{LineEnd}
 use Rattle.lsp_text.proofs.EndCounts.{ends_in-append, length-places_behind}
 use Rattle.lsp_text.proofs.EndsBefore.{both_hold}
-use Rattle.lsp_text.proofs.EndPlaces.{place_is_end, places_moved, places_can_move}
+use Rattle.lsp_text.proofs.EndPlaces.{IsAfterEnd, place_is_end, places_moved, places_can_move}
 use Rattle.lsp_text.proofs.Parts.{joins-front}
 use Rattle.lsp_text.proofs.PlainTexts.{units_le_bytes, offset_at_end, offset_in_plain, plain_part, plain_front, plain_units}
 use Rattle.lsp_text.proofs.Exchanges.{cut_out, replaced_len}

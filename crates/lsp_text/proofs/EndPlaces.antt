@@ -4,11 +4,18 @@ use Rattle.std.specs.Prelude.{EachIndex, slice_index}
 use Rattle.std.proofs.lemmas.Bool.{cases_Bool, cases_lt, cond-true, cond-false, lt-ltb, le-ltb, and_left}
 use Rattle.std.proofs.lemmas.List.{map-append, get_or-map, get_or_append_left, get_or-append_right, nil_from_length}
 use Rattle.lsp_text.specs.Lines.{is_feed, is_return, starts_with_feed}
-use Rattle.lsp_text.specs.Ends.{is_end, is_end_at, ends_in, places_behind, moved_place, CanMove, ends_with_return, joins, IsAfterEnd}
+use Rattle.lsp_text.specs.Ends.{is_end, is_end_at, ends_in, places_behind, moved_place, CanMove, ends_with_return, joins}
 use Rattle.lsp_text.proofs.EndCounts.{one_if, length-places_behind, places_behind-add, places_behind-append}
 use Rattle.lsp_text.proofs.PlaceSteps.{apart_from_none}
 
 -- ---- a place of the table is after a line end
+
+-- the place after line end `n`
+pub record IsAfterEnd (bs : List ℕ) (n after : ℕ) : Type 0 where
+  pub some : 0 < after
+  pub within : after ≤ length bs
+  pub ended : is_end_at bs (after - 1) ≡ true
+  pub number : ends_in (take after bs) ≡ n + 1
 
 -- an end stays one where fewer bytes follow
 end_alone : (f r s : Bool) → (f || (r && not s)) ≡ true → (f || (r && true)) ≡ true

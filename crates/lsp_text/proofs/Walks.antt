@@ -1,6 +1,6 @@
 -- What visitors of a text have seen, and the parts that they go over.
-use Rattle.std.proofs.Common.{◌≡◌, ◌<◌, ◌≤◌, ◌+◌, ◌-◌, ◌^◌, ℕ, false, List, [], ◌++◌, length, map}
-use Rattle.std.proofs.Common.{take}
+use Rattle.std.proofs.Common.{◌≡◌, ◌<◌, ◌≤◌, ◌+◌, ◌-◌, ◌^◌, ℕ, Bool, true, false, not, List, []}
+use Rattle.std.proofs.Common.{◌∷◌, ◌++◌, length, map, take, Bor, IfSome}
 use Rattle.std.proofs.Common.{drop, get_or, min, refl, OnOk, OnErr, sym, ap, ap₂, subst, ⊎_elim}
 use Rattle.std.proofs.Common.{◌∙◌, arith}
 use Rattle.std.proofs.Common.{length-append, length-drop, append_assoc}
@@ -11,6 +11,7 @@ use Rattle.std.proofs.lemmas.List.{take_all}
 use Rattle.std.proofs.Math.Seq.{take-append-add}
 use Rattle.std.specs.declared.result.Result.{Result}
 use Rattle.std.specs.declared.result.Result.TheVariants.{Ok, Err}
+use Rattle.std.specs.Bool.{then_some}
 use Rattle.std.specs.Str.{IsUtf8, IsCharBoundary}
 use Rattle.std.proofs.lemmas.Str.{IsCharBoundary-at_seam, IsCharBoundary-end}
 use Rattle.std.proofs.lemmas.Str.{IsCharBoundary-start}
@@ -19,7 +20,9 @@ use Rattle.lsp_text.specs.Ends.{joins}
 use Rattle.lsp_text.specs.Parts.{joined, part_at, AreParts, IsFound, IsSeam, IsSpan}
 use Rattle.lsp_text.specs.Parts.{bytes_between}
 use Rattle.lsp_text.specs.Patches.{PartsIn}
-use Rattle.lsp_text.specs.SameText.{with_feeds, BeginsOtherwise}
+use Rattle.lsp_text.specs.SameText.{with_feeds, due, BeginsOtherwise}
+use Rattle.lsp_text.specs.declared.same.LinesLeft.{LinesLeft}
+use Rattle.lsp_text.specs.declared.same.LinesLeft.TheVariants.{Rest}
 use Rattle.lsp_text.specs.Walks.{IsInOrder}
 use Rattle.lsp_text.specs.Sums.{sums_of}
 use Rattle.lsp_text.specs.declared.part.Found.{Found}
@@ -106,6 +109,17 @@ otherwise_later a b p q apart one h rest all =
     (append_cancel_left (with_feeds p) b (with_feeds q ++ rest)
     (sym one ∙ all ∙ ap (λ (x : List ℕ). x ++ rest) (feeds-joins p q apart)
     ∙ append_assoc (with_feeds p) (with_feeds q) rest))
+
+-- bytes that come first, and are joined to no others
+pub bytes_taken : (joined : Bool) (left : LinesLeft) (text rest : Bor (List ℕ)) (bytes : List ℕ)
+    → left ≡ Rest text → text.now ≡ bytes ++ rest.now → joined ≡ joins bytes rest.now
+    → IfSome (then_some (not joined) (Rest rest)) (λ next. due left ≡ with_feeds bytes ++ due next)
+bytes_taken true left text rest bytes is begins apart = tt
+bytes_taken false left text rest bytes is begins apart =
+    let with_end : List ℕ → List ℕ = λ x. x ++ 10 ∷ [] in
+    ap due is ∙ ap (λ x. with_end (with_feeds x)) begins
+    ∙ ap with_end (feeds-joins bytes rest.now (sym apart))
+    ∙ append_assoc (with_feeds bytes) (with_feeds rest.now) (10 ∷ [])
 
 -- ---- the orders of those that there are
 

@@ -60,13 +60,6 @@ ends_with_return b (x ∷ xs) = ends_with_return (is_return x) xs
 abbrev pub joins : List ℕ → List ℕ → Bool
 joins a b = ends_with_return false a && starts_with_feed b
 
--- the place after line end `n`
-pub record IsAfterEnd (bs : List ℕ) (n after : ℕ) : Type 0 where
-  pub some : 0 < after
-  pub within : after ≤ length bs
-  pub ended : is_end_at bs (after - 1) ≡ true
-  pub number : ends_in (take after bs) ≡ n + 1
-
 -- the first `len` bytes from a place on are a line end, of which no part comes before the place
 pub record IsEndAt (bs : List ℕ) (at len : ℕ) : Type 0 where
   pub boundary : IsCharBoundary bs at

@@ -1,21 +1,26 @@
 //! Blocks of a text, each a part that texts share.
+//!
+//! A block ends anywhere but inside a character or between CR and LF: so the line ends of a text are
+//! those of its blocks, and sums add up. It keeps the places after its line ends, two bytes each:
+//! searching 2 KB for the n-th line end takes 1,660 instructions. Its table is made with it, since
+//! an edit that made it would search bytes that its steps do not count.
 
 ghost use Rattle.std.specs.Prelude.{◌≡◌, ◌+◌, ◌-◌, ◌<◌, ◌≤◌, ◌^◌, ◌++◌, length, map, take, drop};
-ghost use Rattle.std.specs.Prelude.{None, false, MatchOption, IfSome, IfOk, OnOk, OnErr, EachIndex};
+ghost use Rattle.std.specs.Prelude.{None, MatchOption, IfSome, IfOk, OnOk, OnErr, EachIndex};
 ghost use Rattle.std.specs.Prelude.{slice_index};
 ghost use Rattle.std.specs.List.{replace_range};
 ghost use Rattle.std.specs.Str.{chars, IsUtf8, IsCharBoundary};
 ghost use Rattle.std.specs.String.{string_bytes};
 ghost use Rattle.lsp_text.specs.Places.{units, place_in_line};
 ghost use Rattle.lsp_text.specs.Offsets.{IsOffset};
-ghost use Rattle.lsp_text.specs.Ends.{ends_in, ends_with_return, moved_place, CanMove, IsLineEnd};
+ghost use Rattle.lsp_text.specs.Ends.{ends_in, moved_place, CanMove, IsLineEnd};
 ghost use Rattle.lsp_text.specs.Sums.{sums_of};
 ghost use Rattle.lsp_text.specs.SameText.{BeginsOtherwise, due, with_feeds};
 ghost use Rattle.lsp_text.specs.Parts.{CanReplace, IsReplacedOr, KeepsEnds};
 ghost use Rattle.lsp_text.specs.Parts.{IsCutPlace};
 
 use crate::columns::offset_in_counted;
-use crate::ends::{end_len_before, is_whole, move_places, places_of, places_up_to};
+use crate::ends::{end_len_before, is_return_last, is_whole, move_places, places_of, places_up_to};
 use crate::part::{LineEnd, Part, SharedPart};
 use crate::reading::width_of;
 use crate::stretches::same_back;
@@ -36,6 +41,8 @@ const MOST: usize = 4096;
 const STEP: usize = 64;
 
 /// The bytes of room that an edited text keeps unused, at most.
+// Room of 4 KB from the first edit on saved 0.4 percent of the instructions of a workload, and took
+// 1.7 times the memory where open documents were edited in each of their blocks.
 const SPARE: usize = 192;
 
 /// A text, the places after its line ends, and its sums.
@@ -247,14 +254,6 @@ fn kept_sums(block: &Block, from: usize, to: usize, text: &str) -> Option<Sums>
     }
     let sums = block.sums();
     Some(sums.exchanged(Sums::of(removed, 0), Sums::of(text, 0)))
-}
-
-/// Whether the last byte of a text is a CR.
-fn is_return_last(text: &str) -> bool
-    ensures { result ≡ ends_with_return false text.now }
-{
-    let bytes = text.as_bytes();
-    bytes.len() > 0 && bytes[bytes.len() - 1] == b'\r'
 }
 
 /// Replaces some bytes of a text that others may hold too, in a text of its own,

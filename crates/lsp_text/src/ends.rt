@@ -1,10 +1,10 @@
 //! The places after the line ends of a block.
 
-ghost use Rattle.std.specs.Prelude.{◌≡◌, ◌+◌, ◌-◌, ◌≤◌, ◌<◌, ◌↔◌, true, length, map, take, drop};
-ghost use Rattle.std.specs.Prelude.{IfOk, OnOk, IsTrue, EachIndex, slice_index};
+ghost use Rattle.std.specs.Prelude.{◌≡◌, ◌+◌, ◌-◌, ◌≤◌, ◌<◌, ◌↔◌, true, false, length, map, take};
+ghost use Rattle.std.specs.Prelude.{drop, IfOk, OnOk, IsTrue, EachIndex, slice_index};
 ghost use Rattle.lsp_text.specs.Lines.{starts_with_feed};
 ghost use Rattle.lsp_text.specs.Ends.{ends_in, is_end_at, places_behind, moved_place, CanMove};
-ghost use Rattle.lsp_text.specs.Ends.{IsEndAt, IsMarked, ArePlacesTo, IsCountUpTo};
+ghost use Rattle.lsp_text.specs.Ends.{IsEndAt, IsMarked, ArePlacesTo, IsCountUpTo, ends_with_return, joins};
 
 use crate::cut::FirstLine;
 use crate::marks::{lowest, marks_in, without};
@@ -77,6 +77,21 @@ fn is_feed_at(bytes: &[u8], i: usize) -> bool
     ensures { result ≡ starts_with_feed (drop i bytes.now) }
 {
     i < bytes.len() && bytes[i] == b'\n'
+}
+
+/// Whether the last byte of a text is a CR.
+pub(crate) fn is_return_last(text: &str) -> bool
+    ensures { result ≡ ends_with_return false text.now }
+{
+    let bytes = text.as_bytes();
+    bytes.len() > 0 && bytes[bytes.len() - 1] == b'\r'
+}
+
+/// Whether a CR LF begins in one text and ends in the next.
+pub(crate) fn is_joined(front: &str, rest: &str) -> bool
+    ensures { result ≡ joins front.now rest.now }
+{
+    is_return_last(front) && is_feed_at(rest.as_bytes(), 0)
 }
 
 /// How many of the first places are at most `offset`.

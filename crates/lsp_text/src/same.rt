@@ -145,7 +145,7 @@ fn after_end(text: &str) -> Option<&str>
 }
 
 /// What comes before the line end that a text ends with.
-fn before_last_end(text: &str) -> Option<&str>
+pub(crate) fn before_last_end(text: &str) -> Option<&str>
     ensures { MatchOption result (EndsOtherwise (with_feeds text.now))
         (λ front. with_feeds text.now ≡ with_feeds front.now ++ 10 ∷ []) }
 {

@@ -1,12 +1,16 @@
 //! What is done with the blocks of a text one after another.
+//!
+//! Looking up each block from the top would take a time that grows with the square of the text. An
+//! iterator over blocks would need a stack of its own for each level.
 
-ghost use Rattle.std.specs.Prelude.{◌≡◌, ◌++◌, ℕ, List, OnOk, OnErr};
+ghost use Rattle.std.specs.Prelude.{◌≡◌, ◌++◌, ℕ, List, IfSome, OnOk, OnErr};
 ghost use Rattle.std.specs.String.{string_bytes};
 ghost use Rattle.lsp_text.specs.Patches.{BeginsAs, PartsIn};
 ghost use Rattle.lsp_text.specs.SameText.{BeginsOtherwise, due, with_feeds};
 
 use crate::difference::parting;
-use crate::same::{LinesLeft, take_lines};
+use crate::ends::is_joined;
+use crate::same::{LinesLeft, before_last_end, take_lines};
 use crate::stretches::after_front;
 use std::alloc::AllocError;
 
@@ -70,21 +74,51 @@ impl Visitor for Front<'_> {
     }
 }
 
-/// What is left after lines that were seen, as long as these come first.
-impl Visitor for LinesLeft<'_> {
+/// What is left of a text after lines that were seen, as long as these come first. Mostly they come
+/// byte by byte, which is told sooner. Once a piece does not, lines are compared.
+#[derive(Clone, Copy)]
+pub(crate) struct LinesAhead<'a> {
+    pub(crate) left: LinesLeft<'a>,
+    pub(crate) is_same: bool,
+}
+
+impl Visitor for LinesAhead<'_> {
     type Stop = Differs;
 
-    ghost sees = { λ a p b. due a ≡ with_feeds p ++ due b };
+    ghost sees = { λ a p b. due a.left ≡ with_feeds p ++ due b.left };
 
-    ghost stops = { λ a p b. BeginsOtherwise (with_feeds p) (due a) };
+    ghost stops = { λ a p b. BeginsOtherwise (with_feeds p) (due a.left) };
 
     fn visit(&mut self, piece: &str) -> Result<(), Differs> {
-        let Some(left) = take_lines(*self, piece) else {
+        if self.is_same {
+            if let Some(left) = take_bytes(self.left, piece) {
+                self.left = left;
+                return Ok(());
+            }
+            self.is_same = false;
+        }
+        let Some(left) = take_lines(self.left, piece) else {
             return Err(Differs);
         };
-        *self = left;
+        self.left = left;
         Ok(())
     }
+}
+
+/// What is left after bytes, if these come first. The line end at their end may be the one that was
+/// cut off the text.
+fn take_bytes<'a>(left: LinesLeft<'a>, bytes: &str) -> Option<LinesLeft<'a>>
+    ensures { IfSome result (λ next. due left.entry ≡ with_feeds bytes.now ++ due next) }
+{
+    let LinesLeft::Rest(text) = left else {
+        return None;
+    };
+    if text.len() < bytes.len() {
+        let rest = after_front(text, before_last_end(bytes)?)?;
+        return rest.is_empty().then_some(LinesLeft::Nothing);
+    }
+    let rest = after_front(text, bytes)?;
+    (!is_joined(bytes, rest)).then_some(LinesLeft::Rest(rest))
 }
 
 /// What comes in a text after the characters with which it begins as another does.

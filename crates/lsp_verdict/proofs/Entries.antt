@@ -27,9 +27,15 @@ use Rattle.lsp_verdict.specs.RunIo.{OfRead, failures_after}
 use Rattle.lsp_verdict.specs.declared.outcome.RunFault.{RunFault}
 use Rattle.lsp_verdict.specs.declared.outcome.RunFault.TheVariants as faults
 use Rattle.lsp_verdict.proofs.Below.{some_log, records_come_first}
-use Rattle.lsp_verdict.specs.Entries.{IsAt, HasRecords, HasFirst, BrokeOff, ShowsFault}
+use Rattle.lsp_verdict.specs.Entries.{IsAt, HasFirst, BrokeOff, ShowsFault}
 
 -- ---- the log read
+
+-- the log read has this format, these records, and this fault or none
+pub record HasRecords (limits : Bounds) (start now : Told) (format : Option Format)
+    (records : List Record) (fault : Option (ℕ × LogCode)) : Type 0 where
+  pub of_read : OfRead limits start now (λ log. IsLog limits log format records fault)
+  pub failures : now.failures ≡ start.failures
 
 abbrev at_end : Option (List ℕ) → Bool
 at_end None = true

@@ -21,11 +21,6 @@ pub record IsAt (r : reader.State) (start now : Told) (records : List Record) : 
   pub early : r.format ≡ None → records ≡ []
   pub stands : StandsFor r bytes records
 
--- the log read has this format, these records, and this fault or none
-pub record HasRecords (limits : Bounds) (start now : Told) (format : Option Format) (records : List Record) (fault : Option (ℕ × LogCode)) : Type 0 where
-  pub of_read : OfRead limits start now (λ log. IsLog limits log format records fault)
-  pub failures : now.failures ≡ start.failures
-
 -- a format is the one known, where one is
 abbrev pub IsKnown : Option Format → Option Format → Type 0
 IsKnown None format = Unit {0}

@@ -67,14 +67,6 @@ kept v events = take (kept_count v events) events
 abbrev pub show_of : Lines → Verdict → List Event → List ℕ
 show_of lines v events = lines_of lines (kept v events) ++ report v
 
-abbrev pub kept_by : Option Verdict → List Event → List Event
-kept_by None events = events
-kept_by (Some v) events = kept v events
-
--- the events before the first that offends
-abbrev pub kept_within : Terms → List Event → List Event
-kept_within terms events = kept_by (first_no terms events) events
-
 -- ---- the text after a message
 
 -- the events up to the n-th message of the editor, if there is one

@@ -18,44 +18,48 @@ use Rattle.lsp_survey.specs.Asking.{numbered}
 use Rattle.lsp_verdict.specs.Event.{Event}
 use Rattle.lsp_verdict.proofs.Worked.Templates.{terms, I1, N1, START, OPEN, CHG, FULL, CLOSE, REQ}
 use Rattle.lsp_verdict.proofs.Worked.Templates.{RES, ERR, T}
-use Rattle.lsp_facts.specs.Fact.{Fact, of_uri, holds, shows_version}
-use Rattle.lsp_facts.specs.Lines.{fact_lines}
-use Rattle.lsp_explain.specs.Traced.{traced, lack_traced}
+use Rattle.lsp_facts.specs.Fact.{fact_lines, holds}
+use Rattle.lsp_explain.specs.Traced.{lack_traced, setter_at, traced}
 use Rattle.lsp_explain.specs.Twins.{twin}
 use Rattle.lsp_explain.specs.Unopened.{is_similar}
 
--- what is said of an event that breaks this rule behind these, where this is said of it by itself
-abbrev with_events : ℕ → List Event → Event → List Fact → List ℕ
-with_events rule before event plain = fact_lines (traced terms before event rule plain)
+-- the events that brought one that breaks this rule behind these
+abbrev with_events : ℕ → List Event → Event → List ℕ
+with_events rule before event = fact_lines (traced terms before event rule)
+
+-- the same of a snapshot of another text, behind the version that is held
+abbrev with_held : Terms → List Event → Event → ℕ → List ℕ
+with_held agreed before event number = fact_lines
+    (holds (pos number) (setter_at agreed before event) ∷ traced agreed before event 702)
 
 -- ---- ids
 
-answered_before : with_events 301 (START ++ REQ ∷ RES (codes "7") ∷ []) (RES (codes "7")) []
+answered_before : with_events 301 (START ++ REQ ∷ RES (codes "7") ∷ []) (RES (codes "7"))
     ≡ codes "answered event 5 server 2\n"
 unfolding value punctuate lex content word after_number number_of scan_numeral chars digits
     escape_byte
 answered_before = refl
 
-never_answered : with_events 301 START (RES (codes "7")) [] ≡ []
+never_answered : with_events 301 START (RES (codes "7")) ≡ []
 unfolding value punctuate lex content word after_number number_of scan_numeral chars digits
     escape_byte
 never_answered = refl
 
-taken_again : with_events 302 (START ++ REQ ∷ RES (codes "7") ∷ REQ ∷ []) REQ []
+taken_again : with_events 302 (START ++ REQ ∷ RES (codes "7") ∷ REQ ∷ []) REQ
     ≡ codes "asked event 6 editor 4\nanswered event 5 server 2\n"
 unfolding value punctuate lex content word after_number number_of scan_numeral chars digits
     escape_byte
 taken_again = refl
 
 -- an event that offends has a number, and brings nothing
-passed_over : with_events 301 (START ++ REQ ∷ REQ ∷ RES (codes "7") ∷ []) (RES (codes "7")) []
+passed_over : with_events 301 (START ++ REQ ∷ REQ ∷ RES (codes "7") ∷ []) (RES (codes "7"))
     ≡ codes "answered event 6 server 2\n"
 unfolding value punctuate lex content word after_number number_of scan_numeral chars digits
     escape_byte
 passed_over = refl
 
 -- an open request whose id is of another type
-other_type : with_events 301 (START ++ REQ ∷ []) (RES (codes "\"7\"")) []
+other_type : with_events 301 (START ++ REQ ∷ []) (RES (codes "\"7\""))
     ≡ codes "open 7 event 4 editor 3\n"
 unfolding value punctuate lex content word after_number number_of scan_numeral chars digits
     escape_byte
@@ -83,17 +87,17 @@ a_sign_before_nothing = refl
 
 -- ---- the phase
 
-initialized_again : with_events 404 START N1 [] ≡ codes "since event 3 editor 2\n"
+initialized_again : with_events 404 START N1 ≡ codes "since event 3 editor 2\n"
 unfolding value punctuate lex content word after_number number_of scan_numeral chars digits
     escape_byte
 initialized_again = refl
 
-nothing_yet : with_events 401 [] REQ [] ≡ []
+nothing_yet : with_events 401 [] REQ ≡ []
 unfolding value punctuate lex content word after_number number_of scan_numeral chars digits
     escape_byte
 nothing_yet = refl
 
-refused_handshake : with_events 401 (I1 ∷ ERR (codes "1") (codes "-1") ∷ []) REQ []
+refused_handshake : with_events 401 (I1 ∷ ERR (codes "1") (codes "-1") ∷ []) REQ
     ≡ codes "since event 2 server 1\n"
 unfolding value punctuate lex content word after_number number_of scan_numeral chars digits
     escape_byte
@@ -108,20 +112,20 @@ unanswered = refl
 
 -- ---- documents
 
-snapshot_differs : with_events 702
+snapshot_differs : with_held terms
     (START ++ OPEN (codes "1") (codes "ab") ∷ T 1 (codes "ab") ∷ CHG (codes "2")
-    (FULL (codes "abc")) ∷ []) (T 2 (codes "abd")) (of_uri [] ∷ holds (pos 2) ∷ shows_version (pos 2) ∷ [])
-    ≡ codes "uri \"\"\nheld 2 event 6 editor 4\nversion 2\nsnapshot event 7 snapshot 2\n"
+    (FULL (codes "abc")) ∷ []) (T 2 (codes "abd")) 2
+    ≡ codes "held 2 event 6 editor 4\nsnapshot event 7 snapshot 2\n"
     ++ codes "equal 1 event 5 snapshot 1\nsuspects 1\nsuspect 2 event 6 editor 4\n"
 unfolding value punctuate lex content word after_number number_of scan_numeral chars digits
     escape_byte
 snapshot_differs = refl
 
 -- what agreed before the document was closed does not count
-opened_again : with_events 702
+opened_again : with_held terms
     (START ++ OPEN (codes "1") (codes "ab") ∷ T 1 (codes "ab") ∷ CLOSE ∷ OPEN (codes "1")
-    (codes "ab") ∷ []) (T 1 (codes "ac")) (of_uri [] ∷ holds (pos 1) ∷ shows_version (pos 1) ∷ [])
-    ≡ codes "uri \"\"\nheld 1 event 7 editor 5\nversion 1\nsnapshot event 8 snapshot 2\n"
+    (codes "ab") ∷ []) (T 1 (codes "ac")) 1
+    ≡ codes "held 1 event 7 editor 5\nsnapshot event 8 snapshot 2\n"
     ++ codes "suspects 1\nsuspect 1 event 7 editor 5\n"
 unfolding value punctuate lex content word after_number number_of scan_numeral chars digits
     escape_byte
@@ -131,11 +135,10 @@ opened_again = refl
 abbrev keeping : Terms
 keeping = record { limit = 16777216; kept = 16; line_ends = Exact }
 
-late_suspect : fact_lines (traced keeping
+late_suspect : with_held keeping
     (START ++ OPEN (codes "1") (codes "ab") ∷ CHG (codes "2") (FULL (codes "ax")) ∷ CHG (codes "3")
-    (FULL (codes "axy")) ∷ T 1 (codes "ab") ∷ []) (T 2 (codes "ay")) 702
-    (of_uri [] ∷ holds (pos 3) ∷ shows_version (pos 2) ∷ []))
-    ≡ codes "uri \"\"\nheld 3 event 6 editor 5\nversion 2\nsnapshot event 8 snapshot 2\n"
+    (FULL (codes "axy")) ∷ T 1 (codes "ab") ∷ []) (T 2 (codes "ay")) 3
+    ≡ codes "held 3 event 6 editor 5\nsnapshot event 8 snapshot 2\n"
     ++ codes "equal 1 event 7 snapshot 1\nsuspects 1\nsuspect 2 event 5 editor 4\n"
 unfolding value punctuate lex content word after_number number_of scan_numeral chars digits
     escape_byte
@@ -143,13 +146,13 @@ late_suspect = refl
 
 -- ---- a document that is not open
 
-closed_before : with_events 602 (START ++ OPEN (codes "1") (codes "ab") ∷ CLOSE ∷ []) CLOSE []
+closed_before : with_events 602 (START ++ OPEN (codes "1") (codes "ab") ∷ CLOSE ∷ []) CLOSE
     ≡ codes "closed event 5 editor 4\n"
 unfolding value punctuate lex content word after_number number_of scan_numeral chars digits
     escape_byte percent_decode
 closed_before = refl
 
-not_opened : with_events 602 START (CHG (codes "2") (FULL (codes "x"))) [] ≡ codes "opened never\n"
+not_opened : with_events 602 START (CHG (codes "2") (FULL (codes "x"))) ≡ codes "opened never\n"
 unfolding value punctuate lex content word after_number number_of scan_numeral chars digits
     escape_byte percent_decode
 not_opened = refl

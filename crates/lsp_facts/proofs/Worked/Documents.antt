@@ -1,6 +1,9 @@
 -- What is said of calls that break a rule on documents, one of each.
 use Rattle.std.proofs.Common.{◌<◌, ℕ, Bool, false, List, [], ◌∷◌, ◌++◌, Option, Some, None, refl, ap, inl, inr, arith, true≢false}
-use Rattle.std.specs.Prelude.{◌==◌, codes, pos}
+use Rattle.std.specs.Prelude.{◌==◌, if◌then◌else◌, codes, pos}
+use Rattle.std.specs.Fmt.{digits}
+use lib.Utf8.{encode}
+use Rattle.json.specs.Print.{escape_byte}
 use Rattle.lsp_types.specs.declared.position.Encoding.TheVariants.{Utf8, Utf16, Utf32}
 use Rattle.lsp_types.specs.declared.position.Position.{Position}
 use Rattle.lsp_types.specs.declared.position.Span.{Span}
@@ -10,13 +13,8 @@ use Rattle.lsp_text.specs.Edits.{Edit}
 use Rattle.lsp_docs.specs.Texts.{Text}
 use Rattle.lsp_docs.specs.Terms.{Terms}
 use Rattle.lsp_docs.specs.Calls.{Call, opens, changes, closes, saves, shows}
-use Rattle.lsp_facts.specs.Fact.{of_uri, holds, sends, shows_version, has_changes, has_kind, counts_in, fails, line_has, falls_inside, fits_in, would_have, may_have, differs_at, by_messages, in_editor, in_line_ends, saved_line, keeps}
-use Rattle.lsp_facts.specs.Part.{Part}
 use Rattle.lsp_facts.specs.DocumentFacts.{AreDocumentFacts}
-
--- a line that is shown whole
-abbrev whole : List ℕ → Part
-whole line = record { before = 0; text = line; after = 0 }
+use Rattle.lsp_facts.specs.Fact.{Fact}
 
 abbrev A : List ℕ
 A = codes "a"
@@ -50,36 +48,60 @@ abbrev is_char : ℕ → Option ℕ → Bool
 is_char c None = false
 is_char c (Some d) = d == c
 
+-- the lines of a text
+abbrev put : ℕ → List Fact → List Fact
+put b [] = (b ∷ []) ∷ []
+put b (line ∷ lines) = (b ∷ line) ∷ lines
+
+abbrev said : List ℕ → List Fact
+said [] = []
+said (b ∷ bs) = if b == 10 then (10 ∷ []) ∷ said bs else put b (said bs)
+
 -- 601: the URI is open
-opened_again : AreDocumentFacts terms Utf16 opened (opens A (pos 4) []) 601 (of_uri A ∷ holds (pos 1) ∷ sends (pos 4) ∷ [])
+opened_again : AreDocumentFacts terms Utf16 opened (opens A (pos 4) []) 601 None
+    (said (codes "uri \"a\"\nheld 1\nsent 4\n"))
+unfolding digits escape_byte encode
 opened_again = record { details = []; says = inl (refl, refl); are = refl }
 
 -- 602: it is not
-not_open : AreDocumentFacts terms Utf16 [] (changes Utf16 Full A (pos 2) (edit None [] ∷ [])) 602 (of_uri A ∷ sends (pos 2) ∷ has_changes 1 ∷ [])
+not_open : AreDocumentFacts terms Utf16 [] (changes Utf16 Full A (pos 2) (edit None [] ∷ [])) 602 None
+    (said (codes "uri \"a\"\nsent 2\nchanges 1\n"))
+unfolding digits escape_byte encode
 not_open = record { details = []; says = (refl, refl); are = refl }
 
-closed_twice : AreDocumentFacts terms Utf16 [] (closes A) 602 (of_uri A ∷ [])
+closed_twice : AreDocumentFacts terms Utf16 [] (closes A) 602 None
+    (said (codes "uri \"a\"\n"))
+unfolding digits escape_byte encode
 closed_twice = record { details = []; says = (refl, refl); are = refl }
 
 -- 603: the version stays
-same_version : AreDocumentFacts terms Utf16 opened (changes Utf16 Full A (pos 1) (edit None [] ∷ [])) 603 (of_uri A ∷ holds (pos 1) ∷ sends (pos 1) ∷ has_changes 1 ∷ [])
+same_version : AreDocumentFacts terms Utf16 opened (changes Utf16 Full A (pos 1) (edit None [] ∷ [])) 603 None
+    (said (codes "uri \"a\"\nheld 1\nsent 1\nchanges 1\n"))
+unfolding digits escape_byte encode
 same_version = record { details = []; says = inl (refl, refl); are = refl }
 
 -- 604: under Full the second change has a span; its line is one of the text that the first makes
 span_under_full :
-    AreDocumentFacts terms Utf16 opened (changes Utf16 Full A (pos 2) (edit None (codes "xyz") ∷ edit (between (at 0 1) (at 0 2)) [] ∷ [])) 604
-    (of_uri A ∷ holds (pos 1) ∷ sends (pos 2) ∷ has_changes 2 ∷ has_kind Full ∷ counts_in Utf16 ∷ fails 2 (between (at 0 1) (at 0 2)) ∷ line_has 3 ∷ [])
+    AreDocumentFacts terms Utf16 opened (changes Utf16 Full A (pos 2) (edit None (codes "xyz") ∷ edit (between (at 0 1) (at 0 2)) [] ∷ [])) 604 None
+    (said (codes "uri \"a\"\nheld 1\nsent 2\nchanges 2\nsync full\nencoding utf-16\n"
+    ++ codes "change 2 0 1 0 2\nlength 3\n"))
+unfolding digits escape_byte encode
 span_under_full = record { details = _; says = inr (inl (refl, refl)); are = refl }
 
 -- where nothing is to be sent, a notification without changes breaks it too
 none_under_none :
-    AreDocumentFacts terms Utf16 opened (changes Utf16 Nothing A (pos 2) []) 604 (of_uri A ∷ holds (pos 1) ∷ sends (pos 2) ∷ has_changes 0 ∷ has_kind Nothing ∷ [])
+    AreDocumentFacts terms Utf16 opened (changes Utf16 Nothing A (pos 2) []) 604 None
+    (said (codes "uri \"a\"\nheld 1\nsent 2\nchanges 0\nsync none\n"))
+unfolding digits escape_byte encode
 none_under_none = record { details = _; says = inr (inl (refl, refl)); are = refl }
 
 -- 605: the second position lies inside the smile; the line has four units of UTF-16
 inside_a_smile :
-    AreDocumentFacts terms Utf16 opened (changes Utf16 Incremental A (pos 2) (edit (between (at 0 0) (at 0 1)) [] ∷ edit (between (at 0 9) (at 1 2)) (codes "z") ∷ [])) 605
-    (of_uri A ∷ holds (pos 1) ∷ sends (pos 2) ∷ has_changes 2 ∷ counts_in Utf16 ∷ fails 2 (between (at 0 9) (at 1 2)) ∷ line_has 4 ∷ falls_inside (128512 ∷ []) ∷ fits_in (Utf32 ∷ []) ∷ [])
+    AreDocumentFacts terms Utf16 opened (changes Utf16 Incremental A (pos 2) (edit (between (at 0 0) (at 0 1)) [] ∷ edit (between (at 0 9) (at 1 2)) (codes "z") ∷ [])) 605 None
+    (said (codes "uri \"a\"\nheld 1\nsent 2\nchanges 2\nencoding utf-16\nchange 2 0 9 1 2\n"
+    ++ codes "length 4\ninside \""
+    ++ 240 ∷ 159 ∷ 152 ∷ 128 ∷ codes "\"\nfits utf-32\n"))
+unfolding digits escape_byte encode
 inside_a_smile =
     record {
       details = _;
@@ -110,8 +132,10 @@ inside_a_smile =
 
 -- 606: the second position stands before the first
 reversed :
-    AreDocumentFacts terms Utf8 opened (changes Utf8 Incremental A (pos 2) (edit (between (at 1 6) (at 0 1)) [] ∷ [])) 606
-    (of_uri A ∷ holds (pos 1) ∷ sends (pos 2) ∷ has_changes 1 ∷ counts_in Utf8 ∷ fails 1 (between (at 1 6) (at 0 1)) ∷ line_has 6 ∷ [])
+    AreDocumentFacts terms Utf8 opened (changes Utf8 Incremental A (pos 2) (edit (between (at 1 6) (at 0 1)) [] ∷ [])) 606 None
+    (said (codes "uri \"a\"\nheld 1\nsent 2\nchanges 1\nencoding utf-8\nchange 1 1 6 0 1\n"
+    ++ codes "length 6\n"))
+unfolding digits escape_byte encode
 reversed =
     record {
       details = _;
@@ -129,12 +153,16 @@ reversed =
 
 -- 607: a text of 21 bytes, of an opening and of a change
 
-too_long_to_open : AreDocumentFacts terms Utf16 [] (opens A (pos 1) (codes "0123456789abcdefghijk")) 607 (of_uri A ∷ sends (pos 1) ∷ would_have 21 ∷ may_have 20 ∷ [])
+too_long_to_open : AreDocumentFacts terms Utf16 [] (opens A (pos 1) (codes "0123456789abcdefghijk")) 607 None
+    (said (codes "uri \"a\"\nsent 1\nbytes 21\nlimit 20\n"))
+unfolding digits escape_byte encode
 too_long_to_open = record { details = _; says = inr (inl (refl, refl)); are = refl }
 
 too_long_to_change :
-    AreDocumentFacts terms Utf16 opened (changes Utf16 Incremental A (pos 2) (edit (between (at 1 0) (at 9 0)) (codes "0123456789abcdefgh") ∷ [])) 607
-    (of_uri A ∷ holds (pos 1) ∷ sends (pos 2) ∷ has_changes 1 ∷ counts_in Utf16 ∷ fails 1 (between (at 1 0) (at 9 0)) ∷ line_has 4 ∷ would_have 21 ∷ may_have 20 ∷ [])
+    AreDocumentFacts terms Utf16 opened (changes Utf16 Incremental A (pos 2) (edit (between (at 1 0) (at 9 0)) (codes "0123456789abcdefgh") ∷ [])) 607 None
+    (said (codes "uri \"a\"\nheld 1\nsent 2\nchanges 1\nencoding utf-16\nchange 1 1 0 9 0\n"
+    ++ codes "length 4\nbytes 21\nlimit 20\n"))
+unfolding digits escape_byte encode
 too_long_to_change =
     record {
       details = _;
@@ -163,8 +191,10 @@ too_long_to_change =
 
 -- 608: the saved text lacks a character of the second line
 saved_other :
-    AreDocumentFacts terms Utf16 opened (saves A (Some (codes "ab\nxy\n"))) 608
-    (of_uri A ∷ holds (pos 1) ∷ counts_in Utf16 ∷ differs_at (at 1 1) ∷ by_messages (whole (120 ∷ 128512 ∷ codes "y\n")) ∷ saved_line (whole (codes "xy\n")) ∷ [])
+    AreDocumentFacts terms Utf16 opened (saves A (Some (codes "ab\nxy\n"))) 608 None
+    (said (codes "uri \"a\"\nheld 1\nencoding utf-16\nat 1 1\nby-messages \"x"
+    ++ 240 ∷ 159 ∷ 152 ∷ 128 ∷ codes "y\\n\"\nsaved \"xy\\n\"\n"))
+unfolding digits escape_byte encode
 saved_other =
     record {
       details = _;
@@ -181,9 +211,10 @@ saved_other =
 
 -- a saved text differs in its line ends alone
 saved_ends : AreDocumentFacts terms Utf16 opened
-    (saves A (Some (codes "ab\r\nx" ++ 128512 ∷ codes "y"))) 608
-    (of_uri A ∷ holds (pos 1) ∷ counts_in Utf16 ∷ differs_at (at 0 2)
-    ∷ by_messages (whole (codes "ab\n")) ∷ saved_line (whole (codes "ab\r\n")) ∷ in_line_ends ∷ [])
+    (saves A (Some (codes "ab\r\nx" ++ 128512 ∷ codes "y"))) 608 None
+    (said (codes "uri \"a\"\nheld 1\nencoding utf-16\nat 0 2\nby-messages \"ab\\n\"\n"
+    ++ codes "saved \"ab\\r\\n\"\nline-ends option --ignore-line-ends\n"))
+unfolding digits escape_byte encode
 saved_ends =
     record {
       details = _;
@@ -200,9 +231,10 @@ saved_ends =
 
 -- where line ends do not count, the texts first differ in the second line
 saved_line_differs : AreDocumentFacts by_lines Utf16 opened
-    (saves A (Some (codes "ab\r\nxy\r\n"))) 608
-    (of_uri A ∷ holds (pos 1) ∷ counts_in Utf16 ∷ differs_at (at 1 1)
-    ∷ by_messages (whole (120 ∷ 128512 ∷ codes "y")) ∷ saved_line (whole (codes "xy")) ∷ [])
+    (saves A (Some (codes "ab\r\nxy\r\n"))) 608 None
+    (said (codes "uri \"a\"\nheld 1\nencoding utf-16\nat 1 1\nby-messages \"x"
+    ++ 240 ∷ 159 ∷ 152 ∷ 128 ∷ codes "y\"\nsaved \"xy\"\n"))
+unfolding digits escape_byte encode
 saved_line_differs =
     record {
       details = _;
@@ -223,13 +255,17 @@ edited =
     ∷ changes Utf16 Full A (pos 6) (edit None (codes "r") ∷ []) ∷ []
 
 -- 701: two versions are kept besides the held one
-late : AreDocumentFacts terms Utf16 edited (shows A (pos 2) []) 701 (of_uri A ∷ holds (pos 6) ∷ shows_version (pos 2) ∷ keeps (pos 3 ∷ pos 5 ∷ []) ∷ [])
+late : AreDocumentFacts terms Utf16 edited (shows A (pos 2) []) 701 None
+    (said (codes "uri \"a\"\nheld 6\nversion 2\nkept 3 5\n"))
+unfolding digits escape_byte encode
 late = record { details = _; says = inl (refl, refl); are = refl }
 
 -- 702: the text of a kept version is another
 kept_differs :
-    AreDocumentFacts terms Utf16 edited (shows A (pos 5) (codes "p")) 702
-    (of_uri A ∷ holds (pos 6) ∷ shows_version (pos 5) ∷ counts_in Utf16 ∷ differs_at (at 0 0) ∷ by_messages (whole (codes "q")) ∷ in_editor (whole (codes "p")) ∷ [])
+    AreDocumentFacts terms Utf16 edited (shows A (pos 5) (codes "p")) 702 None
+    (said (codes "uri \"a\"\nheld 6\nversion 5\nencoding utf-16\nat 0 0\nby-messages \"q\"\n"
+    ++ codes "in-editor \"p\"\n"))
+unfolding digits escape_byte encode
 kept_differs =
     record {
       details = _;
@@ -250,8 +286,10 @@ kept_differs =
 
 -- a snapshot that waits refutes the text of an opening
 refuted :
-    AreDocumentFacts terms Utf16 (shows A (pos 4) (codes "new") ∷ []) (opens A (pos 4) (codes "now")) 702
-    (of_uri A ∷ sends (pos 4) ∷ counts_in Utf16 ∷ differs_at (at 0 1) ∷ by_messages (whole (codes "now")) ∷ in_editor (whole (codes "new")) ∷ [])
+    AreDocumentFacts terms Utf16 (shows A (pos 4) (codes "new") ∷ []) (opens A (pos 4) (codes "now")) 702 None
+    (said (codes "uri \"a\"\nsent 4\nencoding utf-16\nat 0 1\nby-messages \"now\"\n"
+    ++ codes "in-editor \"new\"\n"))
+unfolding digits escape_byte encode
 refuted =
     record {
       details = _;

@@ -27,7 +27,8 @@ type MarkMap = IndexMap<String, Mark>;
 #[derive(Drop)]
 pub struct Marks {
     map: MarkMap,
-    /// Where in the map the document is that was marked last.
+    /// Where in the map the document is that was marked last: most messages are about that one, and
+    /// comparing its URI takes a third of the time of looking it up.
     last: usize,
 }
 

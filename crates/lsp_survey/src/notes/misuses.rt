@@ -1,6 +1,5 @@
 //! Calls that were not sent as LSP 3.17 defines them.
 ghost use Rattle.std.specs.Prelude.{◌≡◌, OnOk, Some, option_map, string_bytes};
-ghost use Rattle.lsp_session.specs.Sent as sent;
 ghost use Rattle.std.specs.List.{list_any};
 ghost use Rattle.std.specs.Str.{bytes_eq};
 ghost use Rattle.lsp_rpc.specs.View.{message_view};
@@ -8,7 +7,7 @@ ghost use Rattle.lsp_survey.specs.Misuses as spec;
 ghost use Rattle.lsp_survey.specs.Misuses.{has_method, misuse_in, misused, misused_views};
 ghost use Rattle.lsp_survey.specs.Misuses.{with_misuse};
 
-use crate::notes::standard_methods::{is_notification, is_request};
+use crate::notes::standard_methods::{MethodUse, use_of};
 use lsp_replay::EventPlace;
 use lsp_rpc::{Memory, Message, Side};
 
@@ -38,49 +37,31 @@ pub struct Misused {
 fn request_misuse(side: Side, name: &str) -> Option<Misuse>
     ensures { result ≡ spec.request_misuse side name.now }
 {
-    if is_request(side, name) {
-        return None;
+    match use_of(name)? {
+        MethodUse::Request(sender) => sent_by(sender, side),
+        MethodUse::Notification(_) | MethodUse::Shared => Some(Misuse::AsRequest),
     }
-    if is_request(other_side(side), name) {
-        return Some(by_side(side));
-    }
-    if is_notification(Side::Editor, name) || is_notification(Side::Server, name) {
-        return Some(Misuse::AsRequest);
-    }
-    None
 }
 
 /// How a notification of this method is misused where the side sends it.
 fn notification_misuse(side: Side, name: &str) -> Option<Misuse>
     ensures { result ≡ spec.notification_misuse side name.now }
 {
-    if is_notification(side, name) {
-        return None;
-    }
-    if is_notification(other_side(side), name) {
-        return Some(by_side(side));
-    }
-    if is_request(Side::Editor, name) || is_request(Side::Server, name) {
-        return Some(Misuse::AsNotification);
-    }
-    None
-}
-
-fn other_side(side: Side) -> Side
-    ensures { result ≡ sent.other_side side }
-{
-    match side {
-        Side::Editor => Side::Server,
-        Side::Server => Side::Editor,
+    match use_of(name)? {
+        MethodUse::Notification(sender) => sent_by(sender, side),
+        MethodUse::Shared => None,
+        MethodUse::Request(_) => Some(Misuse::AsNotification),
     }
 }
 
-fn by_side(side: Side) -> Misuse
-    ensures { result ≡ spec.by_side side }
+/// How a call is misused that this side is to send, and that side does.
+fn sent_by(sender: Side, side: Side) -> Option<Misuse>
+    ensures { result ≡ spec.sent_by sender side }
 {
-    match side {
-        Side::Editor => Misuse::ByEditor,
-        Side::Server => Misuse::ByServer,
+    match (sender, side) {
+        (Side::Server, Side::Editor) => Some(Misuse::ByEditor),
+        (Side::Editor, Side::Server) => Some(Misuse::ByServer),
+        _ => None,
     }
 }
 

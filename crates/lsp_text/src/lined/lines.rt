@@ -21,7 +21,7 @@ use crate::columns::offset_in_line;
 use crate::lined::window::Windowed;
 use crate::same::{LinesLeft, is_taken, without_last_end};
 use crate::sums::Measure;
-use crate::walk::{Differs, Front};
+use crate::walk::{Differs, Front, LinesAhead};
 use lsp_types::{Encoding, Position};
 use std::alloc::{AllocError, Global};
 use std::marker::Model;
@@ -164,19 +164,18 @@ impl Lines {
         }
     }
 
-    /// Whether the lines are those of a text, whatever their ends. Mostly it is the same text, which
-    /// is told sooner.
+    /// Whether the lines are those of a text, whatever their ends.
     pub(super) fn have(&self, text: &str) -> bool
         ensures value { IsTrue result ↔ SameText Ignored self.now text.now }
         ensures utf8 { IsUtf8 self.now }
     {
-        if self.spell(text) {
-            return true;
-        }
         let whole = without_last_end(text);
-        let mut left = LinesLeft::Rest(whole);
-        match self.held.walk(&mut left) {
-            Ok(()) => is_taken(Some(left), whole),
+        let mut ahead = LinesAhead {
+            left: LinesLeft::Rest(whole),
+            is_same: true,
+        };
+        match self.held.walk(&mut ahead) {
+            Ok(()) => is_taken(Some(ahead.left), whole),
             Err(Differs) => false,
         }
     }

@@ -14,6 +14,7 @@ use std::alloc::{AllocError, Global};
 use std::marker::Model;
 
 /// The bytes of a text that is kept in one block, at most.
+// Three levels would take nine allocations when a document is opened, and 336 bytes while it is.
 pub(super) const SHORT: usize = 2048;
 
 /// How a text is kept.

@@ -9,7 +9,6 @@ use Rattle.lsp_explain.specs.Traced.{AreTraced}
 use Rattle.std.proofs.lemmas.Result.{IfOk-weaker}
 use Rattle.lsp_survey.specs.Walking.{IsOffending}
 use Rattle.lsp_verdict.specs.Offences.{kept_of, rule_at}
-use Rattle.lsp_facts.specs.Fact.{facts_view}
 use Rattle.lsp_facts.specs.ContentFacts.{content_facts}
 use Rattle.lsp_explain.specs.RunSteps.{ShowsFault}
 use Rattle.lsp_explain.specs.Standing.{terms_in}
@@ -21,7 +20,7 @@ pub returns-in-Frames : goal.returns-in-Frames
 returns-in-Frames c = IfOk-weaker c.frame_facts.result _ _
     (λ facts are raw event before stands number reads is offends rests shows.
     let terms = terms_in c.args.events.now in
-    facts_said terms before c.args.rule c.args.rest.now rests raw event _ (facts_view facts.items)
+    facts_said terms before c.args.rule c.args.rest.now rests raw event _ facts
     reads (subst (IsOffending raw terms (kept_of terms before) c.args.rule) c.in-Frames.is is)
     offends (subst (λ o. ShowsFault rests o c.args.rest.now) c.in-Frames.is shows) are)
     c.frame_facts.ensures
@@ -30,7 +29,7 @@ pub returns-in-Content : goal.returns-in-Content
 returns-in-Content c = IfOk-weaker c.content_facts.result _ _
     (λ facts are raw event before stands number reads is offends rests shows.
     let terms = terms_in c.args.events.now in
-    facts_said terms before c.args.rule c.args.rest.now rests raw event _ (facts_view facts.items)
+    facts_said terms before c.args.rule c.args.rest.now rests raw event _ facts
     reads (subst (IsOffending raw terms (kept_of terms before) c.args.rule) c.in-Content.is is)
     offends (subst (λ o. ShowsFault rests o c.args.rest.now) c.in-Content.is shows)
     (are ∙ ap (content_facts c.args.rule) c.as_slice.ensures.value)) c.content_facts.ensures
@@ -39,7 +38,7 @@ pub returns-in-Message : goal.returns-in-Message
 returns-in-Message c = IfOk-weaker c.message_traced.result _ _
     (λ facts says raw event before stands number reads is offends rests shows.
     let terms = terms_in c.args.events.now in
-    facts_said terms before c.args.rule c.args.rest.now rests raw event _ (facts_view facts.items)
+    facts_said terms before c.args.rule c.args.rest.now rests raw event _ facts
     reads (subst (IsOffending raw terms (kept_of terms before) c.args.rule) c.in-Message.is is)
     offends (subst (λ o. ShowsFault rests o c.args.rest.now) c.in-Message.is shows)
     (λ bytes refused. says bytes before stands
@@ -60,8 +59,8 @@ returns-in-Snapshot c =
     λ u t. rule_at terms before (snapshot u version (chars t)) ≡ Some c.args.rule
     → AreTraced (AreCallFacts terms (kept_of terms before) c.args.rule
     (Some (shows u version (chars t)))) terms before (snapshot u version (chars t)) c.args.rule
-    (facts_view facts.items) in
-    facts_said terms before c.args.rule c.args.rest.now rests raw event _ (facts_view facts.items)
+    facts in
+    facts_said terms before c.args.rule c.args.rest.now rests raw event _ facts
     reads (subst (IsOffending raw terms (kept_of terms before) c.args.rule) c.in-Snapshot.is is)
     offends (subst (λ o. ShowsFault rests o c.args.rest.now) c.in-Snapshot.is shown)
     (subst (λ u. Said u (string_bytes c.in-Snapshot.text)) c.as_str.ensures.value

@@ -3,8 +3,8 @@ use Rattle.std.proofs.lemmas.Result.{IfOk-weaker}
 use Rattle.lsp_survey.specs.Asking.{numbered}
 use Rattle.lsp_verdict.specs.Verdict.{no}
 use Rattle.lsp_explain.specs.Explained.{end_facts}
-use Rattle.lsp_facts.specs.Fact.{facts_view}
-use Rattle.lsp_facts.specs.Lines.{detail_lines, end_event, fact_lines, usual_line}
+use Rattle.lsp_facts.specs.Fact.{fact_lines}
+use Rattle.lsp_facts.specs.Lines.{detail_lines, end_event, usual_line}
 use Rattle.lsp_explain.specs.Standing.{terms_in}
 use Rattle.lsp_explain.proofs.offence_facts.push_end.Goals as goal
 
@@ -16,8 +16,6 @@ returns c = IfOk-weaker c.push_details.result _ _ (λ u says rests before stands
     let facts = end_facts rests said v in
     let before_it = string_bytes c.push_end_event.new.lines in
     says
-    ∙ ap (λ xs. before_it ++ (fact_lines (facts_view xs) ++ usual_line c.usual-usual.result.now))
-    c.as_slice.ensures.value
     ∙ ap (λ fs. before_it ++ (fact_lines fs ++ usual_line c.usual-usual.result.now))
     (c.in_ok-facts.ensures rests before end.who end.number end.event stands held)
     ∙ ap (λ (w : List ℕ). before_it ++ (fact_lines facts ++ usual_line w)) c.usual-usual.ensures

@@ -2,8 +2,8 @@ use Rattle.std.proofs.Common.{◌∙◌, ◌++◌, List, ℕ, ap, string_bytes, 
 use Rattle.std.proofs.lemmas.Result.{IfOk-weaker}
 use Rattle.lsp_verdict.specs.Given.{offence_view}
 use Rattle.lsp_verdict.specs.Offences.{kept_of}
-use Rattle.lsp_facts.specs.Fact.{facts_view}
-use Rattle.lsp_facts.specs.Lines.{detail_lines, event_line, fact_lines, usual_line}
+use Rattle.lsp_facts.specs.Fact.{fact_lines}
+use Rattle.lsp_facts.specs.Lines.{detail_lines, event_line, usual_line}
 use Rattle.lsp_explain.specs.Standing.{terms_in}
 use Rattle.lsp_explain.proofs.offence_facts.push_said.Goals as goal
 
@@ -13,15 +13,13 @@ returns c = IfOk-weaker c.push_details.result _ _
     let offence = c.args.found.now.offence in
     let v = (offence_view offence).no in
     let terms = terms_in c.args.events.now in
-    let facts = facts_view c.in_ok-facts.facts.items in
+    let facts = c.in_ok-facts.facts in
     let named = string_bytes c.push_event.new.lines in (
       facts,
       λ rests shows. c.in_ok-facts.ensures raw event before stands
           (c.place_in-place.ensures ∙ number) reads is offends rests
           shows,
       says
-          ∙ ap (λ xs. named ++ (fact_lines (facts_view xs)
-          ++ usual_line c.usual-usual.result.now)) c.as_slice.ensures.value
           ∙ ap (λ (w : List ℕ). named ++ (fact_lines facts ++ usual_line w)) c.usual-usual.ensures
           ∙ ap (λ w. w ++ detail_lines facts v)
           (c.in_ok-push_event.ensures raw event terms (kept_of terms before) offence.rule reads is)

@@ -1,4 +1,4 @@
-use Rattle.std.specs.Prelude.{option_map, string_bytes}
+use Rattle.std.specs.Prelude.{map, option_map, string_bytes}
 use Rattle.std.proofs.Common.{List, ◌++◌, sym, ap, ◌∙◌, subst}
 use Rattle.std.proofs.lemmas.Result.{on_ok_weaker}
 use Rattle.lsp_session.specs.Negotiation.{encoding}
@@ -7,24 +7,22 @@ use Rattle.lsp_session.specs.State as session
 use Rattle.lsp_survey.specs.Openings.{AreOpenings}
 use Rattle.lsp_survey.specs.Touched.{names_view}
 use Rattle.lsp_survey.specs.declared.notes.openings.Openings.{Openings}
-use Rattle.lsp_survey.specs.Misuses.{misused_views}
-use Rattle.lsp_survey.specs.Renames.{renamed_view}
 use Rattle.lsp_survey.specs.SessionNoting.{AreNotes}
 use Rattle.lsp_survey.specs.declared.notes.session_notes.SessionNotes.{SessionNotes}
 use Rattle.lsp_survey.proofs.SessionSteps.{sents-numbered}
 use Rattle.lsp_verdict.specs.Event.{sent_in}
 use Rattle.lsp_verdict.specs.Given.{verdict_view}
 use Rattle.lsp_verdict.specs.Offences.{kept_of}
-use Rattle.lsp_explain.specs.Remarks.{noticed, remark_lines}
+use Rattle.lsp_explain.specs.Remarks.{exit_remarks, misuse_line, name_remarks, old_name_remarks}
+use Rattle.lsp_explain.specs.Remarks.{other_name, remark_lines, uncompared}
 use Rattle.lsp_explain.specs.Standing.{terms_in}
-use Rattle.lsp_explain.proofs.NoteLines.{remarks_are}
 use Rattle.lsp_explain.proofs.remarks.push_remarks.Goals as goal
 
 pub returns : goal.returns
 returns c =
     let e = c.args.events.now in
     let terms = terms_in e in
-    on_ok_weaker c.push_all.result
+    on_ok_weaker c.push_counted.result
     (λ written before stands.
     let noted = subst (λ (s : SessionNotes). AreNotes terms s before)
     (sym c.session_notes-notes.ensures) stands.noted in
@@ -32,16 +30,19 @@ returns c =
     (sym c.openings.ensures) stands.opened in
     let held = subst (λ (s : session.State). session.Stands s (sent_in (kept_of terms before)))
     (sym c.session.ensures) stands.holds.sent in
-    written ∙ ap (λ rs. string_bytes c.args.lines.now ++ remark_lines rs)
-    (remarks_are (verdict_view c.args.verdict.now) (noticed terms before)
-    (misused_views c.misuses.result.now) c.abrupt_exit.result
-    (option_map (λ s. s.now) c.other_name-name.result)
-    (option_map (λ s. s.now) c.older_encoding.result) c.encoding.result
-    (option_map (λ r. renamed_view r.now) c.renamed.result) (names_view c.as_slice.result.now)
-    (c.misuses.ensures terms before noted) (c.abrupt_exit.ensures terms before noted)
-    c.other_name-name.ensures (c.older_encoding.ensures terms before noted)
-    (c.encoding.ensures (sent_in (kept_of terms before)) held
-    ∙ ap (λ (l : List Sent). encoding l) (sym (sents-numbered terms before)))
-    (c.renamed.ensures terms before noted)
-    (ap names_view c.as_slice.ensures.value ∙ c.in_ok-unshown.ensures terms before opened)))
-    c.push_all.ensures
+    let older = c.older_encoding.ensures terms before noted in
+    let agreed = c.encoding.ensures (sent_in (kept_of terms before)) held
+    ∙ ap (λ (l : List Sent). encoding l) (sym (sents-numbered terms before)) in
+    let name = c.other_name-name.ensures ∙ (λ i. other_name (older i) (agreed i)) in
+    let calls = c.misuses.ensures terms before noted in
+    let exit = c.abrupt_exit.ensures terms before noted in
+    let renamed = c.renamed.ensures terms before noted in
+    let unshown = ap names_view c.as_slice.ensures.value
+    ∙ c.in_ok-unshown.ensures terms before opened in
+    written
+    ∙ ap (λ rs. string_bytes c.args.lines.now ++ remark_lines rs)
+    (c.in_ok-remarks.ensures
+    ∙ (λ i. map misuse_line (calls i) ++ exit_remarks (exit i) ++ name_remarks (name i)
+    ++ old_name_remarks (renamed i)
+    ++ uncompared (verdict_view c.args.verdict.now) (unshown i))))
+    c.push_counted.ensures

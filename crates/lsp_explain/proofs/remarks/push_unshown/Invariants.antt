@@ -1,8 +1,8 @@
-use Rattle.std.proofs.Common.{◌≡◌, ◌++◌, string_bytes, map, take}
-use Rattle.std.specs.List.{flat_map}
+use Rattle.std.proofs.Common.{◌≡◌, ◌++◌, map, take}
+use Rattle.lsp_survey.specs.Touched.{names_view}
 use Rattle.lsp_explain.specs.Remarks.{unshown_line}
 use Rattle.lsp_explain.proofs.remarks.push_unshown.Given as goal
 
 abbrev pub invariant-loop-uri : goal.invariant-loop-uri
-invariant-loop-uri l = string_bytes l.lines
-    ≡ string_bytes l.fn.lines ++ flat_map unshown_line (map string_bytes (take l.uri-index l.unshown))
+invariant-loop-uri l =
+    l.remarks ≡ l.fn.remarks ++ map unshown_line (names_view (take l.uri-index l.unshown))

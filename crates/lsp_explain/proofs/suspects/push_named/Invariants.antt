@@ -1,9 +1,6 @@
 use Rattle.std.proofs.Common.{◌≡◌, ◌++◌, take}
-use Rattle.lsp_facts.specs.Fact.{facts_view}
 use Rattle.lsp_explain.specs.Suspects.{named_facts}
 use Rattle.lsp_explain.proofs.suspects.push_named.Given as goal
 
 abbrev pub invariant-loop-setter : goal.invariant-loop-setter
-invariant-loop-setter l =
-    facts_view l.facts.items
-    ≡ facts_view l.fn.facts.items ++ named_facts (take l.setter-index l.named)
+invariant-loop-setter l = l.facts ≡ l.fn.facts ++ named_facts (take l.setter-index l.named)

@@ -1,6 +1,5 @@
-use Rattle.std.specs.Prelude.{map}
+use Rattle.std.specs.Prelude.{codes, map}
 use Rattle.std.proofs.Common.{◌∷◌, [], ◌++◌, Option, List, sym, ap, ◌∙◌, subst, append_assoc}
-use Rattle.std.proofs.lemmas.List.{map-append}
 use Rattle.lsp_session.specs.Sent.{Sent}
 use Rattle.lsp_session.specs.State.{Stands}
 use Rattle.lsp_verdict.specs.Event.{sent_in}
@@ -10,7 +9,7 @@ use Rattle.lsp_survey.specs.SessionNoting.{AreNotes}
 use Rattle.lsp_replay.specs.declared.heard.EventPlace.{EventPlace}
 use Rattle.lsp_survey.specs.declared.notes.session_notes.SessionNotes.{SessionNotes}
 use Rattle.lsp_survey.proofs.SessionSteps.{sents-numbered}
-use Rattle.lsp_facts.specs.Fact.{Fact, facts_view, fact_view, in_phase, led_by}
+use Rattle.lsp_facts.specs.Fact.{Fact, in_phase}
 use Rattle.lsp_explain.specs.Standing.{terms_in}
 use Rattle.lsp_explain.specs.Traced.{place_facts, waiting_by}
 use Rattle.lsp_explain.proofs.trace.lack_traced.Goals as goal
@@ -29,10 +28,9 @@ returns c = λ before stands.
     let asked = c.in_ok-facts.ensures terms before noted
     ∙ ap (map (waiting_by said)) (c.pending.ensures (sents said) sent) in
     let phase = c.phase.ensures (sents said) sent in
-    c.in_ok-push_since.ensures
-    ∙ ap (λ (o : Option EventPlace). facts_view c.push.new.self.items ++ place_facts led_by o)
+    c.in_ok-push_earlier.ensures
+    ∙ ap (λ (o : Option EventPlace). c.phase-2.new.self ++ place_facts (codes "since") o)
     (c.since.ensures terms before noted)
-    ∙ ap (λ (l : List Fact). l ++ place_facts led_by (since said))
-    (ap facts_view c.in_ok-push.ensures.items ∙ map-append fact_view c.in_ok-facts.facts.items _
-    ∙ (λ i. asked i ++ in_phase (phase i) ∷ []))
-    ∙ append_assoc _ _ (place_facts led_by (since said))
+    ∙ ap (λ (l : List Fact). l ++ place_facts (codes "since") (since said))
+    (c.in_ok-phase.ensures.ok ∙ (λ i. asked i ++ in_phase (phase i) ∷ []))
+    ∙ append_assoc _ _ (place_facts (codes "since") (since said))

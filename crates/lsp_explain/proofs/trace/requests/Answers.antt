@@ -2,7 +2,6 @@ use Rattle.std.proofs.Common.{◌≡◌, List, [], ◌∷◌, ◌++◌, map, Non
 use Rattle.std.specs.Prelude.{slice_get}
 use Rattle.std.proofs.lemmas.Option.{none-some}
 use Rattle.lsp_survey.specs.Asking.{numbered}
-use Rattle.lsp_facts.specs.Fact.{facts_view}
 use Rattle.lsp_explain.specs.Traced.{waiting_by}
 use Rattle.lsp_explain.proofs.trace.requests.Goals as goal
 
@@ -12,7 +11,7 @@ none_left (x ∷ xs) none = absurd (none-some x none)
 
 pub returns : goal.returns
 returns c = λ terms before are.
-    let facts = facts_view c.loop-request.facts.items in
+    let facts = c.loop-request.facts in
     sym (append-nil facts)
     ∙ ap (λ left. facts ++ map (waiting_by (numbered terms before)) left)
     (sym (none_left c.loop-request.requests c.in_default.ensures.next))

@@ -3,7 +3,6 @@ use Rattle.lsp_docs.specs.Terms.{Terms}
 use Rattle.lsp_verdict.specs.Event.{Event}
 use Rattle.lsp_survey.specs.Asking.{numbered}
 use Rattle.lsp_survey.specs.SessionNoting.{AreNotes}
-use Rattle.lsp_facts.specs.Fact.{facts_view}
 use Rattle.lsp_explain.specs.Traced.{waiting_by}
 use Rattle.lsp_explain.proofs.trace.requests.Given as goal
 
@@ -13,5 +12,5 @@ decreases-loop-request l = length l.requests
 abbrev pub invariant-loop-request : goal.invariant-loop-request
 invariant-loop-request l =
     (terms : Terms) (before : List Event) → AreNotes terms l.said before
-    → facts_view l.facts.items ++ map (waiting_by (numbered terms before)) l.requests
+    → l.facts ++ map (waiting_by (numbered terms before)) l.requests
     ≡ map (waiting_by (numbered terms before)) l.pending

@@ -1,5 +1,5 @@
 use Rattle.std.specs.Prelude.{map, unwrap_or, string_bytes}
-use Rattle.std.proofs.Common.{◌≡◌, List, ℕ, Some, sym, ap, ◌∙◌, w32, rules}
+use Rattle.std.proofs.Common.{◌≡◌, ◌++◌, List, ℕ, Some, sym, ap, ◌∙◌, w32, rules}
 use Rattle.std.proofs.lemmas.Int.{to_z-of_z}
 use Rattle.std.proofs.lemmas.Result.{on_ok_weaker}
 use Rattle.std.specs.Str.{chars}
@@ -13,7 +13,6 @@ use Rattle.lsp_verdict.specs.Calls.{calls, edit_of}
 use Rattle.lsp_verdict.specs.Event.{sent_in}
 use Rattle.lsp_verdict.specs.Offences.{kept_of}
 use Rattle.lsp_survey.specs.Marking.{steps, waiting_for}
-use Rattle.lsp_facts.specs.Fact.{facts_view}
 use Rattle.lsp_facts.specs.Refuting.{refuting}
 use Rattle.lsp_explain.specs.Standing.{terms_in}
 use Rattle.lsp_explain.specs.Traced.{act_call, call_traced, document_traced}
@@ -24,7 +23,7 @@ pub returns-in-DidOpen : goal.returns-in-DidOpen
 returns-in-DidOpen c =
     let fits : SFits w32 c.in-DidOpen.version = search rules in
     let terms = terms_in c.args.events.now in
-    let plain = facts_view c.args.facts.now.items in
+    let old = c.args.facts.now in
     let number = c.in-DidOpen.version in
     let call : Call = opens (string_bytes c.in-DidOpen.uri) number
     (chars (string_bytes c.in-DidOpen.text)) in
@@ -34,17 +33,17 @@ returns-in-DidOpen c =
     let is : act_call terms before (act_view c.args.act.now) ≡ Some call =
     ap (λ a. act_call terms before (act_view a)) c.in-DidOpen.is in
     says before call stands is
-    ∙ ap (λ (u : List ℕ). document_traced (steps terms u before)
+    ∙ ap (λ (u : List ℕ). old ++ document_traced (steps terms u before)
     (refuting terms (calls (kept_of terms before)) call (waiting_for number (steps terms u before)))
-    (until.Message c.args.place number) c.args.rule plain) c.as_str.ensures.value
-    ∙ ap (λ o. call_traced terms before c.args.place c.args.rule o plain) (sym is))
+    (until.Message c.args.place number) c.args.rule) c.as_str.ensures.value
+    ∙ ap (λ o. old ++ call_traced terms before c.args.place c.args.rule o) (sym is))
     told
 
 pub returns-in-DidChange : goal.returns-in-DidChange
 returns-in-DidChange c =
     let fits : SFits w32 c.in-DidChange.version = search rules in
     let terms = terms_in c.args.events.now in
-    let plain = facts_view c.args.facts.now.items in
+    let old = c.args.facts.now in
     let number = c.in-DidChange.version in
     let told = simp to_z-of_z at c.trace_text-in-DidChange.ensures in
     on_ok_weaker c.trace_text-in-DidChange.result
@@ -56,8 +55,8 @@ returns-in-DidChange c =
     let is : act_call terms before (act_view c.args.act.now) ≡ Some call =
     ap (λ a. act_call terms before (act_view a)) c.in-DidChange.is in
     says before call stands is
-    ∙ ap (λ (u : List ℕ). document_traced (steps terms u before)
+    ∙ ap (λ (u : List ℕ). old ++ document_traced (steps terms u before)
     (refuting terms (calls (kept_of terms before)) call (waiting_for number (steps terms u before)))
-    (until.Message c.args.place number) c.args.rule plain) c.as_str-in-DidChange.ensures.value
-    ∙ ap (λ o. call_traced terms before c.args.place c.args.rule o plain) (sym is))
+    (until.Message c.args.place number) c.args.rule) c.as_str-in-DidChange.ensures.value
+    ∙ ap (λ o. old ++ call_traced terms before c.args.place c.args.rule o) (sym is))
     told

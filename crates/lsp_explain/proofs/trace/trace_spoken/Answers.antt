@@ -1,9 +1,8 @@
-use Rattle.std.proofs.Common.{sym, subst, ◌∙◌}
+use Rattle.std.proofs.Common.{◌++◌, ap, sym, subst, ◌∙◌}
 use Rattle.std.proofs.lemmas.Result.{on_ok_weaker}
 use Rattle.lsp_survey.specs.SessionNoting.{AreNotes}
 use Rattle.lsp_survey.specs.declared.notes.session_notes.SessionNotes.{SessionNotes}
 use Rattle.lsp_rpc.specs.View.{act_view, message_view}
-use Rattle.lsp_facts.specs.Fact.{facts_view}
 use Rattle.lsp_explain.specs.Standing.{terms_in}
 use Rattle.lsp_explain.proofs.Tracing.{added_to_messages}
 use Rattle.lsp_explain.proofs.trace.trace_spoken.Goals as goal
@@ -16,8 +15,7 @@ returns-then-rule-lt-FIRST_ON_DOCUMENTS c =
     (λ says before stands.
     says terms before (subst (λ (s : SessionNotes). AreNotes terms s before)
     (sym c.session_notes-said.ensures) stands.noted)
-    ∙ sym (added_to_messages terms before c.args.place c.args.rule
-    (facts_view c.args.facts.now.items)
+    ∙ ap (λ l. c.args.facts.now ++ l) (sym (added_to_messages terms before c.args.place c.args.rule
     c.args.side (message_view spoken.message) (act_view spoken.act)
-    c.if-rule-lt-FIRST_ON_DOCUMENTS.true))
+    c.if-rule-lt-FIRST_ON_DOCUMENTS.true)))
     c.trace_message.ensures

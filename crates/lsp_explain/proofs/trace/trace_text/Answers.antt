@@ -1,5 +1,5 @@
 use Rattle.std.specs.Prelude.{unwrap_or}
-use Rattle.std.proofs.Common.{[], List, sym, ap, ◌∙◌, subst, w32}
+use Rattle.std.proofs.Common.{[], ◌++◌, List, sym, ap, ◌∙◌, subst, w32}
 use Rattle.std.proofs.lemmas.Int.{to_z-of_z}
 use Rattle.std.proofs.lemmas.Result.{on_ok_weaker}
 use mir.Val.{SFits}
@@ -16,7 +16,6 @@ use Rattle.lsp_survey.specs.Marking.{steps, waiting_for}
 use Rattle.lsp_survey.specs.Marks.{AreMarks}
 use Rattle.lsp_survey.specs.declared.notes.marks.Marks.{Marks}
 use Rattle.lsp_replay.specs.declared.heard.EventPlace.{EventPlace}
-use Rattle.lsp_facts.specs.Fact.{facts_view}
 use Rattle.lsp_facts.specs.Refuting.{refuting}
 use Rattle.lsp_explain.specs.Standing.{terms_in}
 use Rattle.lsp_explain.specs.Traced.{document_traced}
@@ -35,10 +34,10 @@ returns-then-rule-ne-SNAPSHOT_DIFFERS c =
     (λ says before call stands is.
     says terms before (subst (λ (m : Marks). AreMarks terms m.map.entries before)
     (sym c.marks-marks.ensures) stands.marked)
-    ∙ names_no_texts (steps terms uri before) []
+    ∙ ap (λ l. c.args.facts.now ++ l) (names_no_texts (steps terms uri before) []
     (refuting terms (calls (kept_of terms before)) call
     (waiting_for c.args.version (steps terms uri before))) until c.args.rule
-    (facts_view c.args.facts.now.items) c.if-rule-ne-SNAPSHOT_DIFFERS.true)
+    c.if-rule-ne-SNAPSHOT_DIFFERS.true))
     (simp to_z-of_z at c.trace_document.ensures)
 
 pub returns : goal.returns
@@ -62,8 +61,8 @@ returns c =
     let found = c.in_ok-snapshots.ensures kind (calls kept) call called
     (ap (λ e. call_of e kind (act_view c.args.act.now)) agreed ∙ is) in
     says terms before marked
-    ∙ ap (λ (ns : List EventPlace). document_traced (steps terms uri before) ns until c.args.rule
-    (facts_view c.args.facts.now.items))
+    ∙ ap (λ (ns : List EventPlace). c.args.facts.now
+    ++ document_traced (steps terms uri before) ns until c.args.rule)
     (c.as_slice.ensures.value ∙ found
     ∙ ap (λ d. refuting d.terms (calls kept) call c.waiting-waiting.result.now) c.docs.ensures
     ∙ ap (refuting terms (calls kept) call) (waits terms before marked)))

@@ -1,8 +1,8 @@
 use Rattle.std.proofs.Common.{◌≡◌, [], ◌∷◌, ◌++◌, List, length, ap, sym, ◌∙◌, subst}
+use Rattle.std.specs.Prelude.{codes}
 use Rattle.std.specs.Str.{chars}
-use Rattle.lsp_facts.specs.Comparing.{line_fact}
-use Rattle.lsp_facts.specs.DocumentFacts.{AreOfDifference}
-use Rattle.lsp_facts.specs.Fact.{Fact, counts_in, differs_at, by_messages}
+use Rattle.lsp_facts.specs.DocumentFacts.{AreOfDifference, differs_at}
+use Rattle.lsp_facts.specs.Fact.{Fact, counts_in, part_line}
 use Rattle.lsp_facts.specs.Part.{part_at}
 use Rattle.lsp_facts.proofs.Differing.{are_apart, part_there}
 use Rattle.lsp_facts.proofs.difference.at_difference.Goals as goal
@@ -12,22 +12,23 @@ returns c = λ apart.
     let a = chars c.args.held.now in
     let b = chars c.args.other.now in
     let found = c.in-Some.found in
-    let line = line_fact c.args.against in
+    let key = c.args.key.now in
     let held = part_at (length (chars found.held_front.now)) (chars found.held.now) in
     let other = part_at (length (chars found.other_front.now)) (chars found.other.now) in
-    let last = c.line_fact.ensures ∙ ap line c.in_ok-other.ensures in
-    let all : c.push-4.new.self ≡ counts_in c.args.encoding ∷ differs_at found.at
-    ∷ by_messages held ∷ line other ∷ [] =
-    c.in_ok-push-4.ensures
-    ∙ ap (λ (f : Fact). c.push-3.new.self ++ f ∷ []) last
-    ∙ ap (λ (l : List Fact). l ++ line other ∷ [])
-    (c.in_ok-push-3.ensures ∙ ap (λ p. c.push-2.new.self ++ by_messages p ∷ []) c.in_ok-held.ensures
-    ∙ ap (λ (l : List Fact). l ++ by_messages held ∷ [])
-    (c.in_ok-push-2.ensures ∙ ap (λ (l : List Fact). l ++ differs_at found.at ∷ [])
-    (c.in_ok-push.ensures ∙ ap (λ (l : List Fact). l ++ counts_in c.args.encoding ∷ [])
+    let first : Fact = part_line (codes "by-messages") held in
+    let second : Fact = part_line key other in
+    let all : c.part-2.new.self ≡ counts_in c.args.encoding ∷ differs_at found.at ∷ first ∷ second ∷ [] =
+    c.in_ok-part-2.ensures.ok
+    ∙ ap (λ p. c.part.new.self ++ part_line key p ∷ []) c.in_ok-other.ensures
+    ∙ ap (λ (l : List Fact). l ++ second ∷ [])
+    (c.in_ok-part.ensures.ok
+    ∙ ap (λ p. c.place.new.self ++ part_line (codes "by-messages") p ∷ []) c.in_ok-held.ensures
+    ∙ ap (λ (l : List Fact). l ++ first ∷ [])
+    (c.in_ok-place.ensures ∙ ap (λ (l : List Fact). l ++ differs_at found.at ∷ [])
+    (c.in_ok-encoding.ensures ∙ ap (λ (l : List Fact). l ++ counts_in c.args.encoding ∷ [])
     c.new-facts.ensures)))
     in
     let is = c.in-Some.ensures in
-    subst (AreOfDifference c.args.encoding a b line) (sym all)
-    (are_apart c.args.encoding a b line found.at held other is.at
+    subst (AreOfDifference c.args.encoding a b key) (sym all)
+    (are_apart c.args.encoding a b key found.at held other is.at
     (part_there a b a _ _ is.held is.held_front) (part_there a b b _ _ is.other is.other_front))

@@ -4,5 +4,5 @@ pub returns : goal.returns
 returns c = λ apart. record {
   place = c.in_ok-facts.facts;
   at = c.in_ok-facts.ensures apart;
-  are = c.in_ok-push_line_ends.ensures;
+  are = c.in_ok-line_ends.ensures;
 }

@@ -7,7 +7,6 @@ use Rattle.lsp_text.specs.Edits.{Edit}
 use Rattle.lsp_text.specs.Changes.{edits_of}
 use Rattle.lsp_docs.specs.Calls.{changes}
 use Rattle.lsp_verdict.specs.Calls.{call_of}
-use Rattle.lsp_facts.specs.Fact.{facts_view}
 use Rattle.lsp_facts.proofs.DocumentRules.{explains}
 use Rattle.lsp_facts.proofs.documents.act_facts.Goals as goal
 use Rattle.lsp_replay.proofs.Edits.{edits_seen}
@@ -23,5 +22,5 @@ returns-in_ok-facts-in-DidChange g c = λ calls call h e k.
     let slice = c.as_slice-changes.result.now in
     let same = ap (λ (u : List ℕ). Some (changes enc kind u number (edits_of slice))) c.as_str-in-DidChange.ensures.value
     ∙ ap (λ (es : List Edit). Some (changes enc kind (string_bytes c.in-DidChange.uri) number es)) (ap edits_of c.as_slice-changes.ensures.value ∙ edits_seen c.in-DidChange.changes.items) in
-    explains c.args.docs.now.terms enc calls (changes enc kind uri number (edits_of slice)) c.args.rule (facts_view c.in_ok-facts-in-DidChange.facts.items) (told calls h) call
+    explains c.args.docs.now.terms enc calls (changes enc kind uri number (edits_of slice)) c.args.rule c.args.set_by c.in_ok-facts-in-DidChange.facts (told calls h) call
     (same ∙ (sym (ap (λ a. call_of enc kind (act_view a)) c.in-DidChange.is) ∙ e)) k

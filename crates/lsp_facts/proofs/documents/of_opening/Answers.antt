@@ -13,7 +13,7 @@ returns-then-rule-eq-DOCUMENT_OVER_LIMIT g c = λ calls h e.
     let bound = c.limit.result in
     inr (inl (
       c.if-rule-eq-DOCUMENT_OVER_LIMIT.true,
-      c.in_ok-push-2.ensures
-          ∙ (ap (λ l. l ++ may_have bound ∷ []) (c.in_ok-push.ensures ∙ ap (λ l. l ++ would_have (length bs) ∷ []) c.new-facts.ensures)
+      c.in_ok-number-2.ensures.ok
+          ∙ (ap (λ l. l ++ may_have bound ∷ []) (c.in_ok-number.ensures.ok ∙ ap (λ l. l ++ would_have (length bs) ∷ []) c.new-facts.ensures)
           ∙ (ap (λ n. would_have n ∷ may_have bound ∷ []) (sym (units-utf8_text bs c.utf8.text)) ∙ ap (λ n. would_have (units Utf8 (chars bs)) ∷ may_have n ∷ []) c.limit.ensures)),
     ))

@@ -1,10 +1,10 @@
 use Rattle.std.proofs.Common.{◌≡◌, Some, ap, subst, sym, ◌∙◌, w32}
 use Rattle.std.proofs.lemmas.Int.{to_z-of_z}
+use Rattle.std.specs.Prelude.{codes}
 use Rattle.std.specs.Str.{chars}
 use mir.Val.{SFits}
 use Rattle.lsp_types.specs.declared.line_ends.LineEnds.{LineEnds}
 use Rattle.lsp_facts.specs.DocumentFacts.{AreApart}
-use Rattle.lsp_facts.specs.Fact.{in_editor}
 use Rattle.lsp_facts.proofs.DocumentRules.{IsOther, show_explained, show_absurd}
 use Rattle.lsp_facts.proofs.documents.of_snapshot.Goals as goal
 
@@ -23,7 +23,7 @@ returns g c =
     let same : held ≡ g.S.TextStore.content c.in-Some.store.now = ap chars c.as_str.ensures.value ∙ c.in_ok-held.ensures in
     let apart =
     subst (λ (x : LineEnds). IsOther x held text
-    → AreApart x c.args.encoding held text in_editor c.in_ok-facts.facts)
+    → AreApart x c.args.encoding held text (codes "in-editor") c.in_ok-facts.facts)
     c.line_ends.ensures c.in_ok-facts.ensures in
     λ calls h e.
     show_explained c.args.docs.now.terms.line_ends c.args.encoding c.args.version (chars c.args.text.now) _ _ c.args.rule held c.in_ok-facts.facts c.if-rule-eq-LATE_SNAPSHOT.false e (sym (found calls h) ∙ ap Some (sym same)) apart

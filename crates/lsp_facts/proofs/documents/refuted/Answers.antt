@@ -2,13 +2,13 @@ use Rattle.std.proofs.Common.{List, ℕ, ap, ◌∙◌, subst, sym, w32}
 use Rattle.std.specs.Borrow.{Bor}
 use Rattle.std.specs.Option.{option_map}
 use Rattle.std.proofs.lemmas.Int.{to_z-of_z}
+use Rattle.std.specs.Prelude.{codes}
 use Rattle.std.specs.Str.{chars}
 use mir.Val.{SFits}
 use Rattle.lsp_types.specs.declared.line_ends.LineEnds.{LineEnds}
 use Rattle.lsp_docs.specs.Documents.{versioned}
 use Rattle.lsp_docs.specs.Snapshots.{waiting, versions_of, texts_at}
 use Rattle.lsp_facts.specs.DocumentFacts.{AreApart}
-use Rattle.lsp_facts.specs.Fact.{in_editor}
 use Rattle.lsp_facts.specs.Refuting.{first_other}
 use Rattle.lsp_facts.proofs.DocumentRules.{IsOther, waiting_apart, waiting_found}
 use Rattle.lsp_facts.proofs.documents.refuted.Goals as goal
@@ -28,7 +28,7 @@ returns g c = λ calls h any.
     ∙ ap (λ (x : LineEnds). first_other x text texts) same) in
     let apart =
     subst (λ (x : LineEnds). IsOther x text other
-    → AreApart x c.args.encoding text other in_editor c.in_ok-facts.facts)
+    → AreApart x c.args.encoding text other (codes "in-editor") c.in_ok-facts.facts)
     same c.in_ok-facts.ensures in
     record {
       other = other;

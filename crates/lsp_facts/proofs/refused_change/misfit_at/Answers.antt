@@ -14,7 +14,7 @@ returns-then-made-count g c =
     let edit = get_or cs n c.index-changes-count.result in
     let is : edit ≡ get_or cs n edit = ap (get_or cs n) c.index-changes-count.is in
     let made = c.in_ok-made.made in
-    c.in_ok-push_change.ensures
+    c.in_ok-change.ensures
     ∙ (ap (λ l. l ++ counts_in c.args.encoding ∷ fails (n + 1) edit.span ∷ []) c.new-facts.ensures
     ∙ misfit_here c.args.limit c.args.encoding t cs n edit [] c.requires is
     (unmade_length c.args.limit c.args.encoding t cs n made.count (chars (string_bytes made.text)) c.in_ok-made.ensures c.requires edit.span c.if-made-count.true))
@@ -28,8 +28,8 @@ returns g c =
     let is : edit ≡ get_or cs n edit = ap (get_or cs n) c.index-changes-count.is in
     let made = c.in_ok-made.made in
     let text = chars (string_bytes made.text) in
-    c.in_ok-push_first_length.ensures
-    ∙ (ap (λ l. l ++ first_length c.args.encoding (chars c.as_str.result.now) edit.span) (c.in_ok-push_change.ensures ∙ ap (λ l. l ++ counts_in c.args.encoding ∷ fails (n + 1) edit.span ∷ []) c.new-facts.ensures)
+    c.in_ok-first_length.ensures
+    ∙ (ap (λ l. l ++ first_length c.args.encoding (chars c.as_str.result.now) edit.span) (c.in_ok-change.ensures ∙ ap (λ l. l ++ counts_in c.args.encoding ∷ fails (n + 1) edit.span ∷ []) c.new-facts.ensures)
     ∙ (ap (λ bs. counts_in c.args.encoding ∷ fails (n + 1) edit.span ∷ first_length c.args.encoding (chars bs) edit.span) c.as_str.ensures.value
     ∙ misfit_here c.args.limit c.args.encoding t cs n edit (first_length c.args.encoding text edit.span) c.requires is
     (whole_length c.args.limit c.args.encoding t cs n made.count text c.in_ok-made.ensures c.requires edit.span c.if-made-count.false)))

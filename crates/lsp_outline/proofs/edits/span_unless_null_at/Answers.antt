@@ -1,5 +1,6 @@
-use Rattle.std.proofs.Common.{◌≡◌, Some, get_or, option_map, refl, ap, arith}
-use Rattle.serde_json.specs.Data.{null, object}
+use Rattle.std.proofs.Common.{◌≡◌, get_or, refl, arith}
+use Rattle.serde_json.specs.Data.{null}
+use Rattle.lsp_outline.proofs.Pairs.{given_span}
 use Rattle.lsp_outline.proofs.Walking.{null_value}
 use Rattle.lsp_outline.proofs.edits.span_unless_null_at.Goals as goal
 
@@ -16,4 +17,4 @@ returns-then-byte_at-eq110 c =
 
 pub returns : goal.returns
 returns c =
-    let read = c.in_ok-span.ensures in (object read.0, read.1, ap (option_map Some) read.2)
+    let read = c.in_ok-span.ensures in (read.0, read.1, given_span read.0 _ read.2)

@@ -3,11 +3,8 @@ use Rattle.std.proofs.lemmas.Simd.{length-chunk, take_more_put_chunk}
 use Rattle.std.specs.Simd.Lanes.{chunk}
 use Rattle.lsp_outline.proofs.texts.copy_block.Goals as goal
 
-pub wide_stops-requires : goal.wide_stops-requires
-wide_stops-requires c = length-chunk c.args.at 32 c.args.bytes.now (omega arith)
-
 pub returns-clause-written : goal.returns-clause-written
 returns-clause-written c =
-    let long = length-chunk c.args.at 32 c.args.bytes.now (omega arith) in
-    take_more_put_chunk c.args.len c.args.room.now (chunk c.args.at 32 c.args.bytes.now)
-    (c.args.len + 32) (omega (arith, long)) (omega arith)
+    let long = length-chunk c.args.at 64 c.args.bytes.now (omega arith) in
+    take_more_put_chunk c.args.len c.args.room.now (chunk c.args.at 64 c.args.bytes.now)
+    (c.args.len + 64) (omega (arith, long)) (omega arith)

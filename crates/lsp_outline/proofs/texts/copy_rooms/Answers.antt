@@ -8,8 +8,8 @@ returns-then-next-at-clause-part c = λ start part.
     let d = c.args.bytes.now in
     let l = c.rooms in
     let read = c.in_ok-next in
-    let text = take read.len c.write_text.new.room in
-    let behind : c.extend_from_slice.new.self.items ≡ l.copy.items ++ text = grind arith in
+    let text = take read.end c.write_blocks.new.room in
+    let behind : c.extend.new.copy.items ≡ l.copy.items ++ text = grind arith in
     subst (IsPart d start read.next) (sym behind)
     (part_on d start l.at read.next l.copy.items text (l.invariant.0 start part) read.ensures.part)
 
@@ -18,8 +18,8 @@ rooms-preserved c =
     let d = c.args.bytes.now in
     let l = c.rooms in
     let read = c.in_ok-next in
-    let text = take read.len c.write_text.new.room in
-    let behind : c.extend_from_slice.new.self.items ≡ l.copy.items ++ text = grind arith in (
+    let text = take read.end c.write_blocks.new.room in
+    let behind : c.extend.new.copy.items ≡ l.copy.items ++ text = grind arith in (
       λ start part. subst (IsPart d start read.next) (sym behind)
           (part_on d start l.at read.next l.copy.items text (l.invariant.0 start part)
           read.ensures.part),

@@ -1,6 +1,5 @@
-use Rattle.std.proofs.Common.{arith}
 use Rattle.lsp_outline.proofs.Blocks.{marked}
 use Rattle.lsp_outline.proofs.texts.stops.Goals as goal
 
 pub returns : goal.returns
-returns c = marked c.args.block 16 c.requires (omega arith)
+returns g c = marked c.args.block g.row.N c.requires.0 c.requires.1

@@ -1,7 +1,7 @@
-use Rattle.std.proofs.Common.{get_or, true, false, arith}
+use Rattle.std.proofs.Common.{true, false, arith}
 use Rattle.std.proofs.lemmas.Option.{IfSome_then}
 use Rattle.serde_json.specs.Data.{string, boolean, null, array, object, no_items, no_members, put}
-use Rattle.lsp_outline.proofs.Walking.{plain_kind, number_value, true_value, false_value}
+use Rattle.lsp_outline.proofs.Walking.{number_value, true_value, false_value}
 use Rattle.lsp_outline.proofs.Walking.{null_value, array_value, object_value, no_items_yet}
 use Rattle.lsp_outline.proofs.Walking.{item_turn, last_item, without_items, no_members_yet}
 use Rattle.lsp_outline.proofs.Walking.{member_turn, last_member, without_members}
@@ -55,9 +55,8 @@ value_end-returns-in-110 t c =
 pub value_end-returns-in_default : goal.value_end-returns-in_default
 value_end-returns-in_default t c =
     IfSome_then c.number_end.result c.number_end.ensures
-    (λ end h. number_value c.args.depth c.args.bytes.now c.args.from end h
-    (plain_kind (get_or c.args.bytes.now c.args.from 0) (λ e. grind arith) (λ e. grind arith)
-    (λ e. grind arith)))
+    (λ end h. let found = number_value c.args.bytes.now c.args.from end h in
+    (found.0, found.1 c.args.depth))
 
 pub items_end-returns-then-byte_at-eq93 : goal.items_end-returns-then-byte_at-eq93
 items_end-returns-then-byte_at-eq93 t c = (

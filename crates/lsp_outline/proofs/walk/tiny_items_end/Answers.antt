@@ -12,8 +12,8 @@ items-preserved c =
     let found = c.in-Some in
     let again = c.spaces_end-at in (
       (λ depth begin old. tiny_turn depth d begin l.at found.comma again.result found.ensures.number
-          found.ensures.comma found.ensures.digit again.ensures.same again.ensures.forward
-          again.ensures.within (l.invariant.0 depth begin old)),
+          found.ensures.comma again.ensures.same again.ensures.forward again.ensures.within
+          (l.invariant.0 depth begin old)),
       omega (arith, l.invariant.1, again.ensures.forward, found.ensures.number.forward),
       again.ensures.within,
     )

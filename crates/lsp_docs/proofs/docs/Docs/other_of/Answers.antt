@@ -4,7 +4,7 @@ use Rattle.std.specs.Str.{chars}
 use mir.Val.{SFits}
 use Rattle.lsp_docs.specs.Documents.{versioned}
 use Rattle.lsp_docs.specs.Kept.{kept}
-use Rattle.lsp_docs.specs.Opened.{or_nothing}
+use Rattle.std.specs.Prelude.{[], unwrap_or}
 use Rattle.lsp_docs.specs.State.{State}
 use Rattle.lsp_docs.specs.Others.{other_than}
 use Rattle.lsp_docs.proofs.Stepping.{held-stands}
@@ -20,7 +20,7 @@ returns-in-Some g c = λ calls h.
     let holds = sym (ap (option_map (λ d. versioned d.now.held.version
     (g.S.TextStore.content d.now.held.store))) c.in-Some.is)
     ∙ (c.get.ensures.held ∙ held-stands c.args.self.now calls c.args.uri.now h) in
-    let keeps = sym (ap (λ o. or_nothing (option_map (λ d. d.now.kept) o)) c.in-Some.is)
+    let keeps = sym (ap (λ o. unwrap_or (option_map (λ d. d.now.kept) o) []) c.in-Some.is)
     ∙ (c.get.ensures.kept ∙ h.kept c.args.uri.now) in
     let v = versioned c.in-Some.document.now.held.version
     (g.S.TextStore.content c.in-Some.document.now.held.store) in
@@ -35,7 +35,7 @@ returns-in-None g c = λ calls h.
     let holds = sym (ap (option_map (λ d. versioned d.now.held.version
     (g.S.TextStore.content d.now.held.store))) c.in-None.is)
     ∙ (c.get.ensures.held ∙ held-stands c.args.self.now calls c.args.uri.now h) in
-    let keeps = sym (ap (λ o. or_nothing (option_map (λ d. d.now.kept) o)) c.in-None.is)
+    let keeps = sym (ap (λ o. unwrap_or (option_map (λ d. d.now.kept) o) []) c.in-None.is)
     ∙ (c.get.ensures.kept ∙ h.kept c.args.uri.now) in
     let ends = c.args.self.now.terms.line_ends in
     ap (λ ks. other_than ends s ks None) keeps

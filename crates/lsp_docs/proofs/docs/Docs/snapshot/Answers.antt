@@ -1,132 +1,88 @@
-use Rattle.std.proofs.Common.{◌≡◌, sym, ◌∙◌, subst, List, ◌++◌, ◌∷◌, [], w32, rules}
+use Rattle.std.proofs.Common.{◌≡◌, sym, ◌∙◌, subst, w32, rules}
 use Rattle.std.specs.Str.{chars}
 use Rattle.std.proofs.lemmas.Int.{to_z-of_z}
 use mir.Val.{SFits}
-use Rattle.lsp_docs.specs.Calls.{Call, shows}
+use Rattle.lsp_docs.specs.Calls.{shows}
 use Rattle.lsp_docs.specs.Documents.{versioned}
-use Rattle.lsp_docs.specs.Rules.{call_rule}
-use Rattle.lsp_docs.specs.State.{Stands, held_in, kept_in, missed_one, IsAdded}
-use Rattle.lsp_docs.specs.Fault.{Names}
-use Rattle.lsp_docs.proofs.Stepping.{Stands-equal, Stands-shown, Stands-missed, names-stands}
-use Rattle.lsp_docs.proofs.Stepping.{rule-stands, answer-stands, stated, equal-holds, waits-ahead}
-use Rattle.lsp_docs.proofs.Stepping.{missed-passed, terms_in}
+use Rattle.lsp_docs.specs.State.{Accepts, IsAdded, Refuses, missed_one}
+use Rattle.lsp_docs.proofs.Stepping.{accepts-equal, accepts-missed, accepts-waiting, allows, answers}
+use Rattle.lsp_docs.proofs.Stepping.{refuses, stated, terms_in}
 use Rattle.lsp_docs.proofs.docs.Docs.snapshot.Goals as goal
 
-pub returns-in_err-judge-clause-rule : goal.returns-in_err-judge-clause-rule
-returns-in_err-judge-clause-rule g c =
+pub returns-in_err-judge-clause-refuses : goal.returns-in_err-judge-clause-refuses
+returns-in_err-judge-clause-refuses g c =
     let fits : SFits w32 c.args.version = c.ranges.version in
-    let s = c.args.self.now in
-    let call = shows c.args.uri.now c.args.version (chars c.args.text.now) in
     let rule = simp to_z-of_z at c.in_err-judge.ensures.rule in
-    let named : (calls : List Call) → Stands s calls
-    → Names (call_rule s.terms calls call) c.in_err-judge.field-0.0 =
-    λ calls h. names-stands s calls call _ h rule in
+    let call = shows c.args.uri.now c.args.version (chars c.args.text.now) in
+    let named : Refuses c.args.self.now call c.in_err-judge.field-0.0 =
+    refuses c.args.self.now call c.in_err-judge.field-0.0 rule in
     search rules
 
-pub returns-in-Equal-clause-stands : goal.returns-in-Equal-clause-stands
-returns-in-Equal-clause-stands g c = λ calls h.
+pub returns-in-Equal-clause-accepts : goal.returns-in-Equal-clause-accepts
+returns-in-Equal-clause-accepts g c =
     let fits : SFits w32 c.args.version = c.ranges.version in
-    let s = c.args.self.now in
-    let uri = c.args.uri.now in
-    let n = c.args.version in
     let answer = simp to_z-of_z at c.in_ok-judge.ensures.answer in
-    let allowed = simp to_z-of_z at c.in_ok-judge.ensures.allowed in
-    Stands-equal s calls uri n (chars c.args.text.now) allowed h
-    (equal-holds n (kept_in uri s.kept) (held_in uri s.documents) (sym answer ∙ c.in-Equal.is))
-
-pub returns-in-Equal-clause-accepted : goal.returns-in-Equal-clause-accepted
-returns-in-Equal-clause-accepted g c = λ calls h.
-    let fits : SFits w32 c.args.version = c.ranges.version in
-    let allowed = simp to_z-of_z at c.in_ok-judge.ensures.allowed in
-    sym (rule-stands c.args.self.now calls
-    (shows c.args.uri.now c.args.version (chars c.args.text.now)) h) ∙ allowed
+    let accepted = simp to_z-of_z at c.in_ok-judge.ensures.accepted in
+    accepts-equal c.args.self.now c.args.uri.now c.args.version (chars c.args.text.now) accepted
+    (sym answer ∙ c.in-Equal.is)
 
 pub returns-in-Equal-clause-answer : goal.returns-in-Equal-clause-answer
-returns-in-Equal-clause-answer g c = λ calls h.
+returns-in-Equal-clause-answer g c =
     let fits : SFits w32 c.args.version = c.ranges.version in
     let answer = simp to_z-of_z at c.in_ok-judge.ensures.answer in
-    sym c.in-Equal.is ∙ (answer ∙ answer-stands c.args.self.now calls c.args.uri.now c.args.version
-    h)
+    answers c.args.self.now c.args.uri.now c.args.version _ (sym c.in-Equal.is ∙ answer)
 
-pub returns-in_ok-add-in-Waits-clause-stands : goal.returns-in_ok-add-in-Waits-clause-stands
-returns-in_ok-add-in-Waits-clause-stands g c = λ calls h.
+pub returns-in_ok-add-in-Waits-clause-accepts : goal.returns-in_ok-add-in-Waits-clause-accepts
+returns-in_ok-add-in-Waits-clause-accepts g c =
     let fits : SFits w32 c.args.version = c.ranges.version in
+    let answer = simp to_z-of_z at c.in_ok-judge.ensures.answer in
+    let accepted = simp to_z-of_z at c.in_ok-judge.ensures.accepted in
     let s = c.args.self.now in
     let uri = c.args.uri.now in
     let n = c.args.version in
     let t = chars c.args.text.now in
-    let call = shows uri n t in
-    let answer = simp to_z-of_z at c.in_ok-judge.ensures.answer in
-    let allowed = simp to_z-of_z at c.in_ok-judge.ensures.allowed in
     let new = c.add.new.self in
-    let said = waits-ahead n (kept_in uri s.kept) (held_in uri s.documents)
-    (sym answer ∙ c.in-Waits.is) in
     let added = subst (λ x. IsAdded uri (versioned n t) x.waits.queues new.queues) c.self.view_is
     (simp to_z-of_z at c.in_ok-add-in-Waits.ensures.ok) in
     let counted = subst (λ x. new.missed ≡ x.waits.missed) c.self.view_is
     c.in_ok-add-in-Waits.ensures.missed in
-    subst (λ x. Stands (stated x.terms x.documents x.kept new) (calls ++ call ∷ []))
+    subst (λ x. Accepts s (stated x.terms x.documents x.kept new) (shows uri n t))
     (sym c.self.view_is)
-    (Stands-shown s calls uri n t allowed h new added counted said.0 said.1)
-
-pub returns-in_ok-add-in-Waits-clause-accepted : goal.returns-in_ok-add-in-Waits-clause-accepted
-returns-in_ok-add-in-Waits-clause-accepted g c = λ calls h.
-    let fits : SFits w32 c.args.version = c.ranges.version in
-    let allowed = simp to_z-of_z at c.in_ok-judge.ensures.allowed in
-    sym (rule-stands c.args.self.now calls
-    (shows c.args.uri.now c.args.version (chars c.args.text.now)) h) ∙ allowed
+    (accepts-waiting s uri n t new accepted (sym answer ∙ c.in-Waits.is) added counted)
 
 pub returns-in_ok-add-in-Waits-clause-answer : goal.returns-in_ok-add-in-Waits-clause-answer
-returns-in_ok-add-in-Waits-clause-answer g c = λ calls h.
+returns-in_ok-add-in-Waits-clause-answer g c =
     let fits : SFits w32 c.args.version = c.ranges.version in
     let answer = simp to_z-of_z at c.in_ok-judge.ensures.answer in
-    sym c.in-Waits.is ∙ (answer ∙ answer-stands c.args.self.now calls c.args.uri.now c.args.version
-    h)
+    answers c.args.self.now c.args.uri.now c.args.version _ (sym c.in-Waits.is ∙ answer)
 
-pub returns-in-Missed-clause-stands : goal.returns-in-Missed-clause-stands
-returns-in-Missed-clause-stands g c = λ calls h.
+pub returns-in-Missed-clause-accepts : goal.returns-in-Missed-clause-accepts
+returns-in-Missed-clause-accepts g c =
     let fits : SFits w32 c.args.version = c.ranges.version in
+    let answer = simp to_z-of_z at c.in_ok-judge.ensures.answer in
+    let accepted = simp to_z-of_z at c.in_ok-judge.ensures.accepted in
     let s = c.args.self.now in
-    let uri = c.args.uri.now in
-    let n = c.args.version in
-    let t = chars c.args.text.now in
-    let call = shows uri n t in
-    let answer = simp to_z-of_z at c.in_ok-judge.ensures.answer in
-    let allowed = simp to_z-of_z at c.in_ok-judge.ensures.allowed in
-    let said = missed-passed n (kept_in uri s.kept) (held_in uri s.documents)
-    (sym answer ∙ c.in-Missed.is) in
-    subst (λ w. Stands (stated (terms_in c.self.inside.terms.limit c.self.inside.terms.kept
-    c.self.inside.terms.line_ends) c.self.inside.documents.held c.self.inside.documents.kept w)
-    (calls ++ call ∷ [])) (sym c.miss.ensures)
-    (subst (λ x. Stands (stated x.terms x.documents x.kept (missed_one x.waits))
-    (calls ++ call ∷ [])) (sym c.self.view_is)
-    (Stands-missed s calls uri n t allowed h said.0 said.1))
-
-pub returns-in-Missed-clause-accepted : goal.returns-in-Missed-clause-accepted
-returns-in-Missed-clause-accepted g c = λ calls h.
-    let fits : SFits w32 c.args.version = c.ranges.version in
-    let allowed = simp to_z-of_z at c.in_ok-judge.ensures.allowed in
-    sym (rule-stands c.args.self.now calls
-    (shows c.args.uri.now c.args.version (chars c.args.text.now)) h) ∙ allowed
+    let missing = subst (λ x. c.miss.new.self ≡ missed_one x.waits) c.self.view_is c.miss.ensures in
+    subst (λ x. Accepts s (stated x.terms x.documents x.kept c.miss.new.self)
+    (shows c.args.uri.now c.args.version (chars c.args.text.now))) (sym c.self.view_is)
+    (accepts-missed s c.args.uri.now c.args.version (chars c.args.text.now) c.miss.new.self accepted
+    (sym answer ∙ c.in-Missed.is) missing)
 
 pub returns-in-Missed-clause-answer : goal.returns-in-Missed-clause-answer
-returns-in-Missed-clause-answer g c = λ calls h.
+returns-in-Missed-clause-answer g c =
     let fits : SFits w32 c.args.version = c.ranges.version in
     let answer = simp to_z-of_z at c.in_ok-judge.ensures.answer in
-    sym c.in-Missed.is ∙ (answer ∙ answer-stands c.args.self.now calls c.args.uri.now c.args.version
-    h)
+    answers c.args.self.now c.args.uri.now c.args.version _ (sym c.in-Missed.is ∙ answer)
 
 pub returns-in_err-add-in-Waits-clause-memory : goal.returns-in_err-add-in-Waits-clause-memory
-returns-in_err-add-in-Waits-clause-memory g c = λ refused calls h.
+returns-in_err-add-in-Waits-clause-memory g c = λ refused.
     let fits : SFits w32 c.args.version = c.ranges.version in
-    let allowed = simp to_z-of_z at c.in_ok-judge.ensures.allowed in
-    sym (rule-stands c.args.self.now calls
-    (shows c.args.uri.now c.args.version (chars c.args.text.now)) h) ∙ allowed
+    let accepted = simp to_z-of_z at c.in_ok-judge.ensures.accepted in
+    allows c.args.self.now (shows c.args.uri.now c.args.version (chars c.args.text.now)) accepted
 
 pub returns-in_err-add-in-Waits-clause-memory_waits :
     goal.returns-in_err-add-in-Waits-clause-memory_waits
-returns-in_err-add-in-Waits-clause-memory_waits g c = λ refused calls h.
+returns-in_err-add-in-Waits-clause-memory_waits g c = λ refused.
     let fits : SFits w32 c.args.version = c.ranges.version in
     let answer = simp to_z-of_z at c.in_ok-judge.ensures.answer in
-    sym (answer-stands c.args.self.now calls c.args.uri.now c.args.version h)
-    ∙ (sym answer ∙ c.in-Waits.is)
+    answers c.args.self.now c.args.uri.now c.args.version _ (sym c.in-Waits.is ∙ answer)

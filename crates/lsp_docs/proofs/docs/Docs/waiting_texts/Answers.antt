@@ -16,7 +16,7 @@ returns-in-Some g c = λ calls h.
     ∙ told
     ∙ (ap (λ x. texts_at c.args.version (queue_of uri x.waits.queues)) c.self.view_is
     ∙ order-texts c.args.version (queue_of uri s.waits.queues)
-    (versions_of uri (waiting s.terms calls)) (h.waits.order uri))
+    (versions_of uri (waiting s.terms calls)) (h.waits.queues uri))
 
 pub returns-in-None : goal.returns-in-None
 returns-in-None g c = λ calls h.
@@ -27,4 +27,4 @@ returns-in-None g c = λ calls h.
     told
     ∙ (ap (λ x. texts_at c.args.version (queue_of uri x.waits.queues)) c.self.view_is
     ∙ order-texts c.args.version (queue_of uri s.waits.queues)
-    (versions_of uri (waiting s.terms calls)) (h.waits.order uri))
+    (versions_of uri (waiting s.terms calls)) (h.waits.queues uri))

@@ -6,7 +6,7 @@ use Rattle.std.specs.Prelude.{unwrap_or}
 use Rattle.lsp_types.specs.Texts.{is_text}
 use Rattle.std.proofs.lemmas.Int.{to_z-of_z}
 use mir.Val.{SFits}
-use Rattle.std.proofs.lemmas.Result.{on_ok_weaker, IfErr-weaker}
+use Rattle.std.proofs.lemmas.Result.{on_err_weaker, IfErr-weaker}
 use Rattle.lsp_text.specs.Changes.{edits_of}
 use Rattle.lsp_text.specs.Edits.{applied}
 use Rattle.lsp_docs.specs.declared.document.Document.{Document}
@@ -14,8 +14,9 @@ use Rattle.lsp_docs.specs.Documents.{Version, versioned}
 use Rattle.lsp_docs.specs.Fault.{Names}
 use Rattle.lsp_docs.specs.Opened.{kept_of}
 use Rattle.lsp_docs.specs.State.{KeepsOn, early_rule, held_in, rule_with, set_in, text_in}
-use Rattle.lsp_docs.proofs.Entries.{held_in-of, held-set, keeps-on, written-same}
-use Rattle.lsp_docs.proofs.Faults.{on_ok_two, on_err_two}
+use Rattle.lsp_docs.proofs.Entries.{held_in-of, held-set, keeps-on}
+use Rattle.lsp_docs.proofs.Queues.{written-same}
+use Rattle.lsp_docs.proofs.Faults.{on_ok_four}
 use Rattle.lsp_docs.proofs.opened.OpenDocuments.change.Given.{Over}
 use Rattle.lsp_docs.proofs.opened.OpenDocuments.change.Goals as goal
 
@@ -32,58 +33,36 @@ returns-in_default-clause-rule g c =
     ap (rule_with c.args.terms.limit c.args.terms.line_ends (unwrap_or (option_copied c.args.due) [])
     c.args.encoding c.args.kind c.args.version (edits_of c.args.changes.now)) none
 
-pub returns-clause-held : goal.returns-clause-held
-returns-clause-held g c =
+pub returns-clause-accepts : goal.returns-clause-accepts
+returns-clause-accepts g c =
     let fits : SFits w32 c.args.version = c.ranges.version in
     let uri = c.args.uri.now in
     let cs = edits_of c.args.changes.now in
-    let documents = c.self.inside.documents in
-    let d = c.in-Some.document.now in
-    let made = c.change.new.self in
-    let is_now : held_in uri c.args.self.now.held ≡ Some (seen g d) =
-    ap (λ s. held_in uri s.held) (sym c.self.view_is)
-    ∙ (held_in-of (seen g) uri documents ∙ ap (option_map (seen g)) (sym c.in-Some.ensures.value)) in
-    let version = simp to_z-of_z at c.change.ensures.version in
-    on_ok_two c.change.result (λ a b. record {
-      text = g.S.TextStore.content made.held.store;
-      is_made = ap (λ o. applied c.args.terms.limit c.args.encoding (text_in o) cs) is_now ∙ a;
-      is = held-set (seen g) uri made documents
-          ∙ (ap (λ s. set_in uri (seen g made) s.held) c.self.view_is
-          ∙ ap (λ n. set_in uri (versioned n (g.S.TextStore.content made.held.store))
-          c.args.self.now.held) b);
-    }) c.change.ensures.store version
-
-pub returns-clause-kept : goal.returns-clause-kept
-returns-clause-kept g c =
-    let uri = c.args.uri.now in
     let most = c.args.terms.kept in
     let documents = c.self.inside.documents in
     let d = c.in-Some.document.now in
-    let h = held_in uri c.args.self.now.held in
+    let made = c.change.new.self in
     let found = sym c.in-Some.ensures.value in
+    let h = held_in uri c.args.self.now.held in
     let is_now : h ≡ Some (seen g d) =
     ap (λ s. held_in uri s.held) (sym c.self.view_is)
     ∙ (held_in-of (seen g) uri documents ∙ ap (option_map (seen g)) found) in
-    on_ok_weaker c.change.result (λ k.
-    subst (λ l. KeepsOn most uri h l (kept_of (λ d. d.kept)
-    (set_value (is_text uri) documents c.change.new.self))) (ap (λ s. s.kept) c.self.view_is)
-    (keeps-on (λ d. d.kept) most h (seen g d) uri c.change.new.self d documents found is_now k))
-    c.change.ensures.kept
-
-pub returns-clause-allowed : goal.returns-clause-allowed
-returns-clause-allowed g c =
-    let fits : SFits w32 c.args.version = c.ranges.version in
-    let uri = c.args.uri.now in
-    let d = c.in-Some.document.now in
-    let is_now : held_in uri c.args.self.now.held ≡ Some (seen g d) =
-    ap (λ s. held_in uri s.held) (sym c.self.view_is)
-    ∙ (held_in-of (seen g) uri c.self.inside.documents
-    ∙ ap (option_map (seen g)) (sym c.in-Some.ensures.value)) in
-    let allowed = simp to_z-of_z at c.change.ensures.allowed in
-    on_ok_weaker c.change.result (λ a.
-    ap (rule_with c.args.terms.limit c.args.terms.line_ends
-    (unwrap_or (option_copied c.args.due) []) c.args.encoding c.args.kind c.args.version
-    (edits_of c.args.changes.now)) is_now ∙ a) allowed
+    let version = simp to_z-of_z at c.change.ensures.version in
+    let accepted = simp to_z-of_z at c.change.ensures.accepted in
+    on_ok_four c.change.result (λ b r a k. record {
+      accepted = ap (rule_with c.args.terms.limit c.args.terms.line_ends
+          (unwrap_or (option_copied c.args.due) []) c.args.encoding c.args.kind c.args.version cs)
+          is_now ∙ r;
+      text = g.S.TextStore.content made.held.store;
+      is_made = ap (λ o. applied c.args.terms.limit c.args.encoding (text_in o) cs) is_now ∙ a;
+      held = held-set (seen g) uri made documents
+          ∙ (ap (λ s. set_in uri (seen g made) s.held) c.self.view_is
+          ∙ ap (λ n. set_in uri (versioned n (g.S.TextStore.content made.held.store))
+          c.args.self.now.held) b);
+      kept = subst (λ l. KeepsOn most uri h l (kept_of (λ d. d.kept)
+          (set_value (is_text uri) documents made))) (ap (λ s. s.kept) c.self.view_is)
+          (keeps-on (λ d. d.kept) most h (seen g d) uri made d documents found is_now k);
+    }) version accepted c.change.ensures.store c.change.ensures.kept
 
 pub returns-clause-rule : goal.returns-clause-rule
 returns-clause-rule g c =
@@ -120,16 +99,16 @@ returns-clause-err g c =
     let made = c.change.new.self in
     let d = c.in-Some.document.now in
     let found = sym c.in-Some.ensures.value in
-    on_err_two c.change.result (λ p q.
+    on_err_weaker c.change.result (λ same.
     let same_held = written-same (λ x. record { uri = string_bytes x.0; version = seen g x.1 }) uri
     made d (λ k. ap (λ v. record {
       uri = string_bytes k;
       version = v;
-    }) p) documents found in
+    }) same.1) documents found in
     let same_kept = written-same (λ x. record { uri = string_bytes x.0; versions = x.1.kept }) uri
     made d (λ k. ap (λ vs. record {
       uri = string_bytes k;
       versions = vs;
-    }) q) documents found in
+    }) same.0) documents found in
     (λ i. record { held = same_held i; kept = same_kept i }) ∙ c.self.view_is)
-    c.change.ensures.err_held c.change.ensures.err_kept
+    c.change.ensures.err

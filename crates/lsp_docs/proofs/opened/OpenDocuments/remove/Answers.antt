@@ -5,7 +5,7 @@ use Rattle.std.specs.Str.{bytes_eq}
 use Rattle.lsp_types.specs.Texts.{is_text}
 use Rattle.lsp_docs.specs.Documents.{versioned}
 use Rattle.lsp_docs.specs.Opened.{held_of, kept_of}
-use Rattle.lsp_docs.specs.State.{held_in, kept_in, without}
+use Rattle.lsp_docs.specs.State.{held_in, queue_of, without}
 use Rattle.lsp_docs.proofs.Entries.{absent-removed, held_in-of, held-without, is_some-mapped}
 use Rattle.lsp_docs.proofs.Entries.{keeps-none}
 use Rattle.lsp_docs.proofs.opened.OpenDocuments.remove.Goals as goal
@@ -40,6 +40,6 @@ returns-clause-held g c =
 
 pub returns-clause-kept : goal.returns-clause-kept
 returns-clause-kept g c = λ u.
-    ap (λ l. kept_in u (kept_of (λ d. d.kept) l)) c.remove_str.ensures.left
+    ap (λ l. queue_of u (kept_of (λ d. d.kept) l)) c.remove_str.ensures.left
     ∙ (keeps-none (λ d. d.kept) c.args.uri.now c.self.inside.documents c.remove_str.ensures.differ u
-    ∙ ap (λ s. if bytes_eq c.args.uri.now u then [] else kept_in u s.kept) c.self.view_is)
+    ∙ ap (λ s. if bytes_eq c.args.uri.now u then [] else queue_of u s.kept) c.self.view_is)

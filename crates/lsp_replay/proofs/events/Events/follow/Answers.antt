@@ -11,7 +11,7 @@ use Rattle.lsp_verdict.specs.Calls.{calls}
 use Rattle.lsp_verdict.specs.Event.{sent_in}
 use Rattle.lsp_verdict.proofs.Offences.Quiet.{leaves_session}
 use Rattle.lsp_replay.proofs.Apart.{same_act, same_outline, whole_left, carried, rule_named}
-use Rattle.lsp_replay.proofs.Hearing.{message_refused, call_refused, heard}
+use Rattle.lsp_replay.proofs.Hearing.{message_refused, call_refused, heard, call_named, call_said, call_taken}
 use Rattle.lsp_replay.proofs.events.Events.follow.Goals as goal
 
 pub returns-in_err-admit-clause-rule : goal.returns-in_err-admit-clause-rule
@@ -47,7 +47,7 @@ returns-in_err-apply-clause-rule g c =
     c.unwrap_or-encoding.result c.unwrap_or-kind.result (sym carries.0 ∙ c.in_ok-admit.ensures.accepted (sent_in events) holds.sent)
     (c.unwrap_or-encoding.ensures ∙ ap (λ o. unwrap_or o Utf16) (c.encoding.ensures (sent_in events) holds.sent))
     (c.unwrap_or-kind.ensures ∙ ap (λ o. unwrap_or o Nothing) (c.sync_kind.ensures (sent_in events) holds.sent))
-    _ (c.in_err-apply.ensures.rule (calls events) holds.called)
+    _ (call_named c.args.self.now.docs (calls events) holds.called _ _ c.in_err-apply.ensures.refuses)
     (whole_left h.said h.whole left h.rest (sent_in events) (h.apart.read (sent_in events) holds.sent))))
 
 pub returns-in_err-apply-clause-err : goal.returns-in_err-apply-clause-err
@@ -55,12 +55,12 @@ returns-in_err-apply-clause-err g c =
     let p = err_from_is_err_and c.from_residual-in_err-apply.result c.from_residual-in_err-apply.ensures.1 in
     let left = message_view c.args.spoken.now.message in
     let act = act_view c.args.spoken.now.act in
-    let says = c.in_err-apply.ensures.says in
+    let said = call_said c.args.self.now.docs _ _ c.in_err-apply.ensures.refuses in
     rw p.1 (λ content events h holds.
     let means = same_act c.args.side h.said h.whole h.apart.same ∙ h.means in
     let carries = carried h.said h.whole left h.rest c.args.self.now.session (sent_in events) c.args.side act h.apart holds.sent in
     record {
-      sent = c.in_ok-admit.ensures.admitted (sent_in events) holds.sent ∙ carries.1 ∙ leaves_session (sent_in events) c.args.side h.whole act _ _ says.0 means says.1;
+      sent = c.in_ok-admit.ensures.admitted (sent_in events) holds.sent ∙ carries.1 ∙ leaves_session (sent_in events) c.args.side h.whole act _ _ said.0 means said.1;
       called = subst (λ (d : docs.State). docs.Stands d (calls events)) (sym c.in_err-apply.ensures.err) holds.called;
     })
 
@@ -70,11 +70,12 @@ returns-clause-ok g c = λ content events h holds.
     let act = act_view c.args.spoken.now.act in
     let means = same_act c.args.side h.said h.whole h.apart.same ∙ h.means in
     let carries = carried h.said h.whole left h.rest c.args.self.now.session (sent_in events) c.args.side act h.apart holds.sent in
+    let took = call_taken c.args.self.now.docs (calls events) holds.called _ _ c.in_ok-apply.ensures.accepts in
     heard c.args.side content _ events (sent_by c.args.side act h.whole) (record { by = refl; reads = h.reads; means = means }) left (same_outline h.said h.whole left h.rest h.apart.same)
     c.unwrap_or-encoding.result c.unwrap_or-kind.result (sym carries.0 ∙ c.in_ok-admit.ensures.accepted (sent_in events) holds.sent)
     (c.unwrap_or-encoding.ensures ∙ ap (λ o. unwrap_or o Utf16) (c.encoding.ensures (sent_in events) holds.sent))
     (c.unwrap_or-kind.ensures ∙ ap (λ o. unwrap_or o Nothing) (c.sync_kind.ensures (sent_in events) holds.sent))
-    _ _ (c.in_ok-apply.ensures.accepted (calls events) holds.called)
+    _ _ took.0
     (c.in_ok-admit.ensures.admitted (sent_in events) holds.sent ∙ carries.1)
-    (c.in_ok-apply.ensures.ok (calls events) holds.called)
+    took.1
     (whole_left h.said h.whole left h.rest (sent_in events) (h.apart.read (sent_in events) holds.sent))

@@ -38,8 +38,7 @@ returns-in_ok-_answer-in-Snapshot-clause-ok g c =
     let at = c.in-Snapshot in
     let shown = c.in_ok-_answer-in-Snapshot in
     let fits : SFits w32 at.version = search rules in
-    let stands = simp to_z-of_z at shown.ensures.stands in
-    let accepted = simp to_z-of_z at shown.ensures.accepted in
+    let accepts = simp to_z-of_z at shown.ensures.accepts in
     let answer = simp to_z-of_z at shown.ensures.answer in
     let uri = at.uri.now in
     let text = chars at.text.now in
@@ -52,9 +51,9 @@ returns-in_ok-_answer-in-Snapshot-clause-ok g c =
             is_heard = (refl, refl, refl);
             answers = answer (calls events) holds.called;
             whole = tt;
-            accepted = accepted (calls events) holds.called;
+            accepted = accepts.accepted (calls events) holds.called;
             holds = shown_holds c.args.self.now.session c.snapshot.new.self events uri at.version text
-                holds.sent (stands (calls events) holds.called);
+                holds.sent (accepts.stands (calls events) holds.called);
             counted = λ all counts.
                 c.add-in-Snapshot.ensures all (snapshot uri at.version text) counts refl;
           },
@@ -65,7 +64,7 @@ pub returns-in_err-_answer-in-Snapshot-clause-rule :
 returns-in_err-_answer-in-Snapshot-clause-rule g c =
     let at = c.in-Snapshot in
     let fits : SFits w32 at.version = search rules in
-    let told = simp to_z-of_z at c.in_err-_answer-in-Snapshot.ensures.rule in
+    let told = simp to_z-of_z at c.in_err-_answer-in-Snapshot.ensures.refuses in
     let from = c.from_residual-in_err-_answer-in-Snapshot in
     let p = err_from_is_err_and from.result from.ensures.1 in
     rw (p.1, at.is) (λ events holds.

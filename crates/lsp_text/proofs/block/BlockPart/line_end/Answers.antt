@@ -1,7 +1,8 @@
 use Rattle.std.proofs.Common.{◌-◌, ◌<◌, List, ℕ, refl, sym, subst, arith}
 use lib.Dec.{eqb}
 use Rattle.lsp_text.specs.declared.part.LineEnd.{LineEnd}
-use Rattle.lsp_text.specs.Ends.{ends_in, IsAfterEnd, IsLineEnd}
+use Rattle.lsp_text.specs.Ends.{ends_in, IsLineEnd}
+use Rattle.lsp_text.proofs.EndPlaces.{IsAfterEnd}
 use Rattle.lsp_text.proofs.BlockPlaces.{HasPlaces, block_places, in_table, place_read, boundary_behind, block_end}
 use Rattle.lsp_text.proofs.block.BlockPart.line_end.Goals as goal
 use Rattle.lsp_text.proofs.block.BlockPart.line_end.Goals.{After-as_str-text, After-row_known-1}

@@ -1,20 +1,21 @@
 use Rattle.std.proofs.Common.{◌++◌, [], ◌∷◌, None, List, ℕ, ap, refl, subst, sym, ◌∙◌}
 use Rattle.std.proofs.lemmas.Bool.{false≢true}
 use Rattle.lsp_text.specs.SameText.{BeginsOtherwise, due, with_feeds}
+use Rattle.lsp_text.specs.declared.walk.LinesAhead.{LinesAhead}
 use Rattle.lsp_text.proofs.HeldText.{holds}
 use Rattle.lsp_text.proofs.SameTexts.{from_none}
 use Rattle.lsp_text.proofs.Walks.{lines_in_order}
 use Rattle.lsp_text.proofs.lined.lines.Lines.have.Goals as goal
 
 pub walk-requires-clause-order : goal.walk-requires-clause-order
-walk-requires-clause-order c = lines_in_order due
+walk-requires-clause-order c = lines_in_order (λ (a : LinesAhead). due a.left)
 
 pub returns-in-Ok-clause-value : goal.returns-in-Ok-clause-value
 returns-in-Ok-clause-value c =
     let taken =
     c.is_taken.ensures c.args.self.now
     (c.in-Ok.ensures.ok
-    ∙ ap (λ (x : List ℕ). with_feeds x ++ due c.walk.new.visitor) c.self.view_is)
+    ∙ ap (λ (x : List ℕ). with_feeds x ++ due c.walk.new.visitor.left) c.self.view_is)
     in (
       λ t. taken.0 t ∙ sym c.without_last_end-whole.ensures,
       λ e. taken.1 (e ∙ c.without_last_end-whole.ensures),

@@ -1,0 +1,201 @@
+//! What is said about texts of documents and changes of them.
+
+ghost use Rattle.std.specs.Prelude.{◌≡◌, ◌<◌, ◌^◌, ◌+◌, [], ◌∷◌, ◌++◌, Some, IfOk, OnOk};
+ghost use Rattle.std.specs.Prelude.{codes, string_bytes};
+ghost use Rattle.std.specs.List.{flat_map};
+ghost use Rattle.std.specs.Str.{chars};
+ghost use Rattle.std.specs.Fmt.{signed_decimal};
+ghost use Rattle.lsp_types.specs.declared.line_ends.LineEnds.TheVariants.{Ignored};
+ghost use Rattle.lsp_text.specs.SameText.{same_text};
+ghost use Rattle.lsp_verdict.specs.Report.{encoding_name};
+ghost use Rattle.lsp_facts.specs.Fact.{counts_in, fails, position_words, spaced};
+ghost use Rattle.lsp_facts.specs.DocumentFacts as spec;
+ghost use Rattle.lsp_facts.specs.Edges.{edges};
+
+use crate::edges::edges;
+use crate::facts::Facts;
+use lsp_text::{line_at, same_lines, width_of};
+use lsp_types::{Encoding, Memory, Position, Span};
+use std::alloc::Global;
+use std::fmt::Write;
+
+impl Facts {
+    /// The encoding in which columns and lengths are counted.
+    pub(crate) fn encoding(&mut self, encoding: Encoding) -> Result<(), Memory>
+        ensures { OnOk result (self.new ≡ self.old ++ counts_in encoding ∷ []) }
+    {
+        self.word("encoding", encoding_name(encoding))
+    }
+
+    /// The change after this many others, and the encoding in which its columns are counted.
+    pub(crate) fn change(
+        &mut self,
+        encoding: Encoding,
+        count: usize,
+        span: Option<Span>,
+    ) -> Result<(), Memory>
+        requires { count + 1 < 2 ^ 64 }
+        ensures { OnOk result (self.new
+            ≡ self.old ++ counts_in encoding ∷ fails (count + 1) span ∷ []) }
+    {
+        self.encoding(encoding)?;
+        let line = change_line(self.alloc(), count as u64 + 1, span)?;
+        self.push(line)
+    }
+
+    /// Where two texts first differ.
+    pub(crate) fn place(&mut self, place: Position) -> Result<(), Memory>
+        ensures { OnOk result (self.new ≡ self.old ++ spec.differs_at place ∷ []) }
+    {
+        let mut words = String::from_str(self.alloc(), "at")?;
+        push_position(&mut words, place)?;
+        self.push_end(words)
+    }
+
+    /// The versions that are kept in addition to the held one.
+    pub(crate) fn kept(&mut self, versions: &[i32]) -> Result<(), Memory>
+        ensures { OnOk result (self.new ≡ self.old ++ spec.keeps versions.now ∷ []) }
+    {
+        let mut words = String::from_str(self.alloc(), "kept")?;
+        for version in versions {
+            push_version(&mut words, *version)?;
+        }
+        self.push_end(words)
+    }
+
+    /// The character into which a column falls.
+    pub(crate) fn inside(&mut self, c: char) -> Result<(), Memory>
+        ensures { OnOk result (self.new ≡ self.old ++ spec.falls_inside c ∷ []) }
+    {
+        let mut text = String::new(self.alloc());
+        text.push(c)?;
+        self.text("inside", text.as_str())
+    }
+
+    /// The encodings in which a position lies at the edge of a character, where there are any.
+    pub(crate) fn fits(&mut self, text: &str, position: Position) -> Result<(), Memory>
+        ensures { OnOk result (self.new ≡ self.old
+            ++ spec.fits_fact (edges (chars text.now) position)) }
+    {
+        let names = edges(self.alloc(), text, position)?;
+        if names.len() == 0 {
+            return Ok(());
+        }
+        let words = fits_words(self.alloc(), names.as_slice())?;
+        self.push_end(words)
+    }
+
+    /// That two texts differ in line ends alone, and the option that ignores these, where they do.
+    pub(crate) fn line_ends(&mut self, held: &str, other: &str) -> Result<(), Memory>
+        ensures { OnOk result (self.new ≡ self.old
+            ++ spec.ends_facts (chars held.now) (chars other.now)) }
+    {
+        if are_same_lines(held, other) {
+            self.word("line-ends", "option --ignore-line-ends")?;
+        }
+        Ok(())
+    }
+
+    /// The length of the line of a position, where the text has that line.
+    pub(crate) fn length(
+        &mut self,
+        text: &str,
+        encoding: Encoding,
+        position: Position,
+    ) -> Result<(), Memory>
+        ensures { OnOk result (self.new ≡ self.old
+            ++ spec.line_length encoding (chars text.now) position) }
+    {
+        let Some(line) = line_at(text, position.line) else {
+            return Ok(());
+        };
+        self.number("length", width_of(line, encoding))
+    }
+
+    /// The length of the line in which a span begins, where there is one and the text has that
+    /// line.
+    pub(crate) fn first_length(
+        &mut self,
+        text: &str,
+        encoding: Encoding,
+        span: Option<Span>,
+    ) -> Result<(), Memory>
+        ensures { OnOk result (self.new ≡ self.old
+            ++ spec.first_length encoding (chars text.now) span) }
+    {
+        match span {
+            Some(span) => self.length(text, encoding, span.first),
+            None => Ok(()),
+        }
+    }
+}
+
+/// The name of an encoding (LSP 3.17, PositionEncodingKind).
+pub fn encoding_name(encoding: Encoding) -> &'static str
+    ensures { result.now ≡ encoding_name (Some encoding) }
+{
+    match encoding {
+        Encoding::Utf8 => "utf-8",
+        Encoding::Utf16 => "utf-16",
+        Encoding::Utf32 => "utf-32",
+    }
+}
+
+/// The encodings in which a position lies at an edge, after their key.
+fn fits_words(alloc: Global, names: &[Encoding]) -> Result<String, Memory>
+    ensures { IfOk result (λ words. string_bytes words ≡ codes "fits"
+        ++ flat_map (λ e. spaced (encoding_name (Some e))) names.now) }
+{
+    let mut words = String::from_str(alloc, "fits")?;
+    for encoding in names {
+        push_encoding(&mut words, *encoding)?;
+    }
+    Ok(words)
+}
+
+fn push_encoding(words: &mut String, encoding: Encoding) -> Result<(), Memory>
+    ensures { OnOk result (string_bytes words.new
+        ≡ string_bytes words.old ++ spaced (encoding_name (Some encoding))) }
+{
+    let name = encoding_name(encoding);
+    write!(words, " {name}")?;
+    Ok(())
+}
+
+fn push_version(words: &mut String, version: i32) -> Result<(), Memory>
+    ensures { OnOk result (string_bytes words.new
+        ≡ string_bytes words.old ++ spaced (signed_decimal version)) }
+{
+    write!(words, " {version}")?;
+    Ok(())
+}
+
+/// The line of the change of this number, from 1.
+fn change_line(alloc: Global, which: u64, span: Option<Span>) -> Result<String, Memory>
+    ensures { IfOk result (λ line. string_bytes line ≡ fails which span) }
+{
+    let Some(span) = span else {
+        return Ok(format!(in alloc; "change {which} whole\n")?);
+    };
+    let mut line = format!(in alloc; "change {which}")?;
+    push_position(&mut line, span.first)?;
+    push_position(&mut line, span.second)?;
+    line.push_str("\n")?;
+    Ok(line)
+}
+
+fn push_position(words: &mut String, position: Position) -> Result<(), Memory>
+    ensures { OnOk result (string_bytes words.new
+        ≡ string_bytes words.old ++ position_words position) }
+{
+    let Position { line, column } = position;
+    write!(words, " {line} {column}")?;
+    Ok(())
+}
+
+/// Whether two texts are the same up to their line ends.
+fn are_same_lines(held: &str, other: &str) -> bool
+    ensures { result ≡ same_text Ignored (chars held.now) (chars other.now) }
+{
+    same_lines(held, other)
+}
