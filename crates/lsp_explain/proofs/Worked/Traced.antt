@@ -29,8 +29,8 @@ with_events rule before event = fact_lines (traced terms before event rule)
 
 -- the same of a snapshot of another text, behind the version that is held
 abbrev with_held : Terms → List Event → Event → ℕ → List ℕ
-with_held agreed before event number = fact_lines
-    (holds (pos number) (setter_at agreed before event) ∷ traced agreed before event 702)
+with_held agreed before event held = fact_lines
+    (holds (pos held) (setter_at agreed before event) ∷ traced agreed before event 702)
 
 -- ---- ids
 
