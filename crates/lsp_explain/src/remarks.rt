@@ -2,7 +2,7 @@
 ghost use Rattle.std.specs.Prelude.{◌≡◌, ◌++◌, ◌∷◌, [], List, OnOk, IfOk, map, option_map, codes};
 ghost use Rattle.std.specs.Prelude.{option_to_list, string_bytes};
 ghost use Rattle.json.specs.Print.{quoted};
-ghost use Rattle.lsp_survey.specs.Misuses.{misused_view, misused_views};
+ghost use Rattle.lsp_survey.specs.Misuses.{misused_views};
 ghost use Rattle.lsp_survey.specs.Renames.{renamed_view};
 ghost use Rattle.lsp_survey.specs.Touched.{names_view};
 ghost use Rattle.lsp_verdict.specs.Event.{Event};
@@ -95,17 +95,10 @@ fn push_misuses(remarks: &mut Facts, misuses: &[Misused]) -> Result<(), Memory>
         ≡ remarks.old ++ map misuse_line (misused_views misuses.now)) }
 {
     for misused in misuses {
-        push_misuse(remarks, misused)?;
+        let key = misuse_key(misused.misuse);
+        remarks.text_by(key, misused.method.as_str(), misused.place)?;
     }
     Ok(())
-}
-
-fn push_misuse(remarks: &mut Facts, misused: &Misused) -> Result<(), Memory>
-    ensures { OnOk result (remarks.new
-        ≡ remarks.old ++ misuse_line (misused_view misused.now) ∷ []) }
-{
-    let key = misuse_key(misused.misuse);
-    remarks.text_by(key, misused.method.as_str(), misused.place)
 }
 
 fn misuse_key(misuse: Misuse) -> &'static str
