@@ -103,6 +103,12 @@ RefusesContent side bytes terms events (Message by rule spoken) =
     terms events rule
 RefusesContent side bytes terms events Memory = Unit {0}
 
+-- the content is no message that means something: it breaks the rule of this fault, unless memory
+-- ran out
+abbrev pub IsUnread : Side → List ℕ → Fault → Type 0
+IsUnread side bytes (faults.Rule rule) = ReadsAs side bytes (fault side rule)
+IsUnread side bytes faults.Memory = Unit {0}
+
 -- ---- an event
 
 -- a snapshot was compared with what its document holds and keeps

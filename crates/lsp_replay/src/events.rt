@@ -10,7 +10,8 @@ ghost use Rattle.lsp_verdict.specs.Calls.{call_of};
 ghost use Rattle.lsp_verdict.specs.Event.{Event};
 ghost use Rattle.lsp_replay.specs.Apart.{Says};
 ghost use Rattle.lsp_verdict.specs.Lent.{raw_view};
-ghost use Rattle.lsp_replay.specs.Standing.{Follows, Holds, Hears, Keeps, Refuses, RefusesBy};
+ghost use Rattle.lsp_replay.specs.Standing.{Follows, Holds, Hears, IsUnread, Keeps, Refuses};
+ghost use Rattle.lsp_replay.specs.Standing.{RefusesBy};
 ghost use Rattle.lsp_replay.specs.Standing.{RefusesCall, RefusesContent, RefusesFor, Takes};
 ghost use Rattle.lsp_replay.specs.Standing.{TakesCall, TakesContent};
 ghost use Rattle.lsp_verdict.specs.Placed as placed;
@@ -165,6 +166,34 @@ impl<S: TextStore> Events<S> {
         self.follow(side, spoken)
     }
 
+    /// A message that says nothing, in the place of which a content can be read. It takes no memory.
+    pub(crate) fn blank(&self) -> Spoken
+    {
+        self.messages.blank()
+    }
+
+    /// Reads a content of a side with what it means, in the place of another message. It is heard
+    /// once it is followed.
+    ///
+    /// # Errors
+    /// `Rule` by the least of 201 to 209 that the content breaks, and `Memory` where memory was
+    /// refused.
+    pub(crate) fn read_into(
+        &mut self,
+        side: Side,
+        content: &[u8],
+        spoken: &mut Spoken,
+    ) -> Result<(), Fault>
+        ensures session { self.new.session ≡ self.old.session }
+        ensures docs { self.new.docs ≡ self.old.docs }
+        ensures counts { self.new.counts ≡ self.old.counts }
+        ensures ok { OnOk result (Says self.old.session side content.now
+            (message_view spoken.new.message) (act_view spoken.new.act)) }
+        ensures rule { IfErr result (IsUnread side content.now) }
+    {
+        read_into(&self.session, &mut self.messages, side, content, spoken)
+    }
+
     /// Reads a content of a side with what it means. It is heard once it is followed.
     ///
     /// # Errors
@@ -280,8 +309,7 @@ fn read_into(
 ) -> Result<(), Fault>
     ensures ok { OnOk result (Says session.now side content.now
         (message_view spoken.new.message) (act_view spoken.new.act)) }
-    ensures rule { IfErr result (λ fault. (terms : Terms) (events : List Event)
-        → RefusesFor (placed.content side content.now) terms events fault) }
+    ensures rule { IfErr result (IsUnread side content.now) }
 {
     messages.hear_into(side, content, wanted_results(session), spoken)?;
     Ok(())

@@ -1,9 +1,9 @@
 //! Why an event is refused.
-ghost use Rattle.std.specs.Prelude.{◌≡◌};
+ghost use Rattle.std.specs.Prelude.{◌≡◌, IfOk};
 ghost use Rattle.lsp_replay.specs.Faults.{rule_of, refused_by};
 
 use lsp_docs::DocFault;
-use lsp_rpc::{RpcFault, Side, Spoken};
+use lsp_rpc::{Memory, RpcFault, Side, Spoken};
 use lsp_session::Refusal;
 use thiserror::Error;
 
@@ -74,6 +74,19 @@ pub enum Fault {
 }
 
 impl Fault {
+    /// The rule that is broken.
+    ///
+    /// # Errors
+    /// `Memory` where memory was refused.
+    pub(crate) fn rule(self) -> Result<u16, Memory>
+        ensures { IfOk result (λ rule. self ≡ Fault.Rule rule) }
+    {
+        match self {
+            Fault::Rule(rule) => Ok(rule),
+            Fault::Memory => Err(Memory),
+        }
+    }
+
     /// The refusal of this message of a side.
     pub fn refuse(self, side: Side, spoken: Spoken) -> Refused
         ensures { result ≡ refused_by self side spoken }

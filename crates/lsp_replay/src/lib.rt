@@ -6,20 +6,26 @@
 //! as it was, so that the next event can be heard after those before it.
 #![tactic(auto)]
 
+mod account;
 mod events;
 mod fault;
 mod heard;
 mod lines;
 mod log_events;
+mod one_pass;
+mod seen;
 mod streams;
 mod summary;
 mod text_answer;
 
+pub use account::Account;
 pub use events::Events;
 pub use fault::{Fault, Refused};
 pub use heard::{EventPlace, Heard};
 pub use lines::{fill_event_line, write_event_line};
 pub use log_events::{End, Entry, LogEvents, Next};
+pub use one_pass::pass;
+pub use seen::{Flow, Seen};
 pub use streams::Streams;
 pub use summary::summary_of;
 pub use text_answer::TextAnswer;
