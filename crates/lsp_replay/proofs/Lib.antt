@@ -13,3 +13,7 @@ pub mod Streaming
 pub mod Pulling
 pub mod Owning
 pub mod Resting
+pub mod FrameRules
+pub mod Fronts
+pub mod SideEnds
+pub mod Passing

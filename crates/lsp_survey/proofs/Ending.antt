@@ -28,48 +28,6 @@ use Rattle.lsp_verdict.specs.declared.completeness.Completeness.TheVariants.{Ign
 use Rattle.lsp_verdict.specs.declared.verdict.Who.TheVariants as who
 use Rattle.lsp_verdict.proofs.Below.{one_stream}
 
--- ---- whether a stream ends inside a frame
-
-module _ (limits : Bounds) (s : State) (records : List Record) (past : List Raw)
-    (notes : List Noted) (side : Side) (rest : List ℕ) (h : Stands limits s records past [])
-    (all : AllZip IsNoted past notes) (has : HasRest limits (joined side records) rest) where
-  -- of a stream whose frames have no fault the decoder holds the rest
-  held : (decoder_of side s).fault ≡ None → rest ≡ (decoder_of side s).rest
-  held whole =
-      let own = whole_rest limits s records past h side whole in
-      (one_stream limits (joined side records) has.0 own.0 rest (decoder_of side s).rest has.1 own.1
-      has.2 own.2).rest
-
-  pub rest_held : list_any (is_frame_fault side) (events_of notes) ≡ false
-      → rest ≡ (decoder_of side s).rest
-  rest_held none = held (no_fault (decoder_of side s).fault
-      (sym (faults_are limits s records past [] notes side h all) ∙ none))
-    where
-      no_fault : (f : Option ℕ) → is_some f ≡ false → f ≡ None
-      no_fault None e = refl
-      no_fault (Some rule) e = absurd cc
-
-  pub inside_is : streams.ends_inside (decoder_of side s)
-      ≡ ends_inside side (events_of notes) (is_rest rest)
-  inside_is = by_fault (decoder_of side s).fault refl
-    where
-      faults : (f : Option ℕ) → (decoder_of side s).fault ≡ f
-          → list_any (is_frame_fault side) (events_of notes) ≡ is_some f
-      faults f is = faults_are limits s records past [] notes side h all ∙ ap is_some is
-
-      by_fault : (f : Option ℕ) → (decoder_of side s).fault ≡ f
-          → streams.ends_inside (decoder_of side s)
-          ≡ ends_inside side (events_of notes) (is_rest rest)
-      by_fault None is =
-          ap (λ (f : Option ℕ). ends_at f (decoder_of side s).rest) is
-          ∙ ap is_rest (sym (held is))
-          ∙ sym (and-true (is_rest rest))
-          ∙ ap (λ b. is_rest rest && not b) (sym (faults None is))
-      by_fault (Some rule) is =
-          ap (λ (f : Option ℕ). ends_at f (decoder_of side s).rest) is
-          ∙ sym (and-false (is_rest rest))
-          ∙ ap (λ b. is_rest rest && not b) (sym (faults (Some rule) is))
-
 -- ---- both rests
 
 pub rests_are : (events : List Event) (editor server : Bool) (none first both : List Offence)

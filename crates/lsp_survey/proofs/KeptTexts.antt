@@ -19,7 +19,8 @@ use Rattle.lsp_survey.specs.KeptText.{AnswersKept, OneKeptText, end_answer, kept
 use Rattle.lsp_survey.specs.Reads.{BeginsSurvey, BrokeOff, Ended, IsSurveyOf, SoFar}
 use Rattle.lsp_survey.specs.declared.survey_reader.SurveyEnd.{SurveyEnd}
 use Rattle.lsp_survey.specs.declared.survey_reader.SurveyReader.{SurveyReader}
-use Rattle.lsp_survey.proofs.Reading.{editor_rest, join_notes, server_rest, so_far_failures}
+use Rattle.lsp_replay.proofs.Passing.{join_notes}
+use Rattle.lsp_survey.proofs.Reading.{editor_rest, server_rest, so_far_failures}
 use Rattle.lsp_survey.proofs.Reading.{so_far_few, so_far_given, survey_of}
 use Rattle.lsp_verdict.specs.Calls.{calls}
 use Rattle.lsp_verdict.specs.Event.{Event}

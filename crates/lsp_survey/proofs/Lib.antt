@@ -16,8 +16,6 @@ pub mod SidesSteps
 pub mod PassedSteps
 pub mod Passing
 pub mod Hearing
-pub mod FrameRules
-pub mod Rests
 pub mod Ending
 pub mod Reading
 pub mod LogEnds

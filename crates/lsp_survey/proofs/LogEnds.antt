@@ -48,7 +48,7 @@ use Rattle.lsp_verdict.proofs.ExactCounts.{no_exact, yes_exact}
 use Rattle.lsp_verdict.proofs.Offences.Offending.{all_are_kept, nothing_listed}
 use Rattle.lsp_verdict.proofs.RunReading.{read_map}
 use Rattle.lsp_verdict.proofs.PlacedLemmas.{placed_whole}
-use Rattle.lsp_survey.proofs.Ending.{inside_is, rest_held}
+use Rattle.lsp_replay.proofs.SideEnds.{inside_is, rest_held}
 use Rattle.lsp_survey.proofs.Reading.{notes_few, small_events, survey_of}
 
 -- ---- exact numbers

@@ -19,6 +19,7 @@ use Rattle.lsp_replay.specs.declared.log_events.LogEvents.{LogEvents}
 use Rattle.lsp_replay.specs.declared.log_events.Next.TheVariants as next
 use Rattle.lsp_verdict.specs.declared.raw.Raw as lent
 use Rattle.lsp_replay.proofs.Owning.{given_fault}
+use Rattle.lsp_replay.proofs.Passing.{join_notes, noted_push}
 use Rattle.lsp_replay.proofs.Pulling.{reads_failures, reads_given}
 use Rattle.lsp_types.specs.declared.side.Side.TheVariants.{Editor, Server}
 use Rattle.lsp_survey.specs.Reads.{BeginsSurvey, SoFar, IsHeardAs, found_in, HasEnded, GaveBehind}
@@ -51,24 +52,12 @@ use Rattle.lsp_verdict.proofs.Sessions.{some_placed}
 
 -- ---- lists
 
-pub join_notes : (raws more : List Raw) (notes extra : List Noted) → AllZip IsNoted raws notes
-    → AllZip IsNoted more extra → AllZip IsNoted (raws ++ more) (notes ++ extra)
-join_notes [] more [] extra p q = q
-join_notes [] more (n ∷ notes) extra p q = absurd p
-join_notes (r ∷ raws) more [] extra p q = absurd p
-join_notes (r ∷ raws) more (n ∷ notes) extra p q = (p.0, join_notes raws more notes extra p.1 q)
-
 same_length : (raws : List Raw) (notes : List Noted) → AllZip IsNoted raws notes
     → length notes ≡ length raws
 same_length [] [] all = refl
 same_length [] (n ∷ notes) all = absurd all
 same_length (r ∷ raws) [] all = absurd all
 same_length (r ∷ raws) (n ∷ notes) all = omega (arith, same_length raws notes all.1)
-
-pub noted_push : (raws : List Raw) (notes : List Noted) (raw : Raw) (n : Noted)
-    → AllZip IsNoted raws notes → IsNoted raw n
-    → AllZip IsNoted (raws ++ raw ∷ []) (notes ++ n ∷ [])
-noted_push raws notes raw n all is = join_notes raws (raw ∷ []) notes (n ∷ []) all (is, tt)
 
 -- ---- a survey of a log whose records begin with these
 

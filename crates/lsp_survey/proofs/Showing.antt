@@ -66,7 +66,8 @@ use Rattle.lsp_verdict.proofs.OneEvent.{one_read}
 use Rattle.lsp_verdict.proofs.Outcomes.{one_rest}
 use Rattle.lsp_verdict.proofs.RunReading.{read_map}
 use Rattle.lsp_survey.proofs.KeptTexts.{same_notes}
-use Rattle.lsp_survey.proofs.Reading.{editor_rest, event_given, join_notes, none_given}
+use Rattle.lsp_replay.proofs.Passing.{join_notes}
+use Rattle.lsp_survey.proofs.Reading.{editor_rest, event_given, none_given}
 use Rattle.lsp_survey.proofs.Reading.{server_rest, small_events, so_far_failures, so_far_few}
 use Rattle.lsp_survey.proofs.Reading.{so_far_given, survey_of}
 use Rattle.lsp_survey.proofs.Reporting.{broke_part, failed_part, report_is, reported_verdict}

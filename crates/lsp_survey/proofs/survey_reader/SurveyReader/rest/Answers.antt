@@ -1,7 +1,7 @@
 use Rattle.std.proofs.Common.{sym, subst}
 use Rattle.std.proofs.Common.{List, ℕ}
 use Rattle.lsp_survey.specs.Reads.{ShowsFront}
-use Rattle.lsp_survey.proofs.Rests.{front_shown}
+use Rattle.lsp_replay.proofs.Fronts.{front_shown}
 use Rattle.lsp_survey.proofs.survey_reader.SurveyReader.rest.Goals as goal
 
 pub returns-clause-broken : goal.returns-clause-broken

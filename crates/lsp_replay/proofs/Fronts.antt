@@ -11,7 +11,6 @@ use Rattle.lsp_session.specs.Sent.{same_side}
 use Rattle.lsp_replay.specs.Streams.{State, Stands, decoder_of}
 use Rattle.lsp_replay.proofs.Owning.{AreBroken, side_broken}
 use Rattle.lsp_types.specs.declared.side.Side.{Side}
-use Rattle.lsp_survey.specs.Reads.{ShowsFront}
 use Rattle.lsp_verdict.specs.Outcome.{HasRest}
 use Rattle.lsp_verdict.specs.Placed.{Raw, joined}
 use Rattle.lsp_verdict.proofs.Below.{faulty_more, one_stream, shown_stays}
@@ -45,7 +44,8 @@ joined-append side (shown n uri t ∷ rs) more = joined-append side rs more
 -- whatever records follow**
 pub front_shown : (limits : Bounds) (s : State) (rs : List Record) (past due : List Raw)
     (side : Side) → Stands limits s rs past due → IsSome (decoder_of side s).fault
-    → ShowsFront limits side rs (decoder_of side s).rest
+    → (more : List Record) (rest : List ℕ) → HasRest limits (joined side (rs ++ more)) rest
+    → header_front (decoder_of side s).rest ≡ header_front rest
 front_shown limits s rs past due side h broken more rest has =
     by_fault (decoder_of side s).fault refl broken
   where

@@ -1,0 +1,753 @@
+-- A pass over the events of a log, one after another.
+use Rattle.std.specs.Prelude.{map}
+use Rattle.std.specs.List.{AllZip}
+use Rattle.std.proofs.Common.{◌≡◌, ◌⊎◌, ◌<◌, ◌≤◌, ◌+◌, ◌-◌, ◌^◌, ℕ, Bool, true, false, List, [], ◌∷◌, ◌++◌}
+use Rattle.std.proofs.Common.{Option, Some, None, IsSome, Result, Ok, Err, inl, inr, refl, sym, ap, subst}
+use Rattle.std.proofs.Common.{◌∙◌, append_assoc, append-nil, length, length-append, arith}
+use Rattle.std.proofs.lemmas.List.{length-map, map-append}
+use Rattle.lsp_frame.specs.Bounds.{Bounds}
+use Rattle.lsp_frame.specs.Front.{header_front}
+use Rattle.lsp_frame.specs.Sink.{Stopped, Wrote}
+use Rattle.lsp_frame.specs.Told.{Told, after_failure}
+use Rattle.lsp_frame.specs.declared.format.Format.{Format}
+use Rattle.lsp_frame.proofs.Telling.{took_then}
+use Rattle.lsp_frame.proofs.Writing.{wrote_nothing, wrote_then}
+use Rattle.lsp_session.specs.State as session
+use Rattle.lsp_docs.specs.State as docs
+use Rattle.lsp_docs.specs.Terms.{Terms}
+use Rattle.lsp_log.specs.Log.{Record, IsLog}
+use Rattle.lsp_log.specs.Place.{place_of, found_behind}
+use Rattle.lsp_log.specs.Reader.{shown_by}
+use Rattle.lsp_log.specs.declared.fault.LogCode.{LogCode}
+use Rattle.lsp_types.specs.declared.side.Side.{Side}
+use Rattle.lsp_types.specs.declared.side.Side.TheVariants.{Editor, Server}
+use Rattle.lsp_replay.specs.LogEvents.{Ended, GoesBehind, HasGiven, IsLogOf, NextIs, Opens, Reads}
+use Rattle.lsp_replay.specs.LogEvents.{flaw_of}
+use Rattle.lsp_replay.specs.Passes.{AllPassed, DueAt, IsCut, PartPassed, Passes, Steps}
+use Rattle.lsp_replay.specs.Run.{HasSaid, IsPassed, IsTold, Run, SaysAll, Tail}
+use Rattle.lsp_replay.specs.Streams.{LendsRest, Stands, decoder_of}
+use Rattle.lsp_replay.specs.Telling.{Comes, DueAtEnd, DueOf, IsEnd, ShowsFault, Stood}
+use Rattle.lsp_replay.specs.declared.log_events.End.{End}
+use Rattle.lsp_replay.specs.declared.log_events.LogEvents.{LogEvents}
+use Rattle.lsp_replay.specs.declared.log_events.Next.TheVariants as next
+use Rattle.lsp_replay.specs.declared.seen.Flow.{Flow}
+use Rattle.lsp_replay.specs.declared.seen.Flow.TheVariants.{GoOn, Stop}
+use Rattle.lsp_replay.proofs.Fronts.{front_shown}
+use Rattle.lsp_replay.proofs.Owning.{given_fault}
+use Rattle.lsp_replay.proofs.Pulling.{log_of, reads_failures, reads_given}
+use Rattle.lsp_replay.proofs.SideEnds.{inside_is, rest_held}
+use Rattle.lsp_verdict.specs.Heard.{AreRests, Heard, IsHeardSession, Rests, RestsBehind, heard_events}
+use Rattle.lsp_verdict.specs.Heard.{notes_of, raws_of, rest_of}
+use Rattle.lsp_verdict.specs.Lent.{raw_view}
+use Rattle.lsp_verdict.specs.Offences.{IsNoted, Noted, events_of}
+use Rattle.lsp_verdict.specs.Outcome.{HasRest, log_terms}
+use Rattle.lsp_verdict.specs.Placed.{Raw, Placed, broken, joined}
+use Rattle.lsp_verdict.specs.RunIo.{BreaksOff, OfRead, failures_after, sink_failures_after}
+use Rattle.lsp_verdict.specs.declared.counts.Counts.{Counts}
+use Rattle.lsp_verdict.specs.declared.outcome.Outcome.{Outcome}
+use Rattle.lsp_verdict.specs.declared.outcome.RunFault.{RunFault}
+use Rattle.lsp_verdict.specs.declared.outcome.RunFault.TheVariants as faults
+use Rattle.lsp_verdict.specs.declared.raw.Raw as code
+use Rattle.lsp_verdict.specs.declared.raw.Raw.TheVariants as lent
+use Rattle.lsp_verdict.proofs.Below.{some_stream}
+use Rattle.lsp_verdict.proofs.ExactCounts.{raws_within}
+use Rattle.lsp_verdict.proofs.Logs.{some_verdict}
+use Rattle.lsp_verdict.proofs.Offences.Surveying.{some_note}
+use Rattle.lsp_verdict.proofs.PlacedLemmas.{placed_whole}
+use Rattle.lsp_verdict.proofs.RunReading.{read_map}
+
+-- ---- lists of events
+
+pub join_notes : (raws more : List Raw) (notes extra : List Noted) → AllZip IsNoted raws notes
+    → AllZip IsNoted more extra → AllZip IsNoted (raws ++ more) (notes ++ extra)
+join_notes [] more [] extra p q = q
+join_notes [] more (n ∷ notes) extra p q = absurd p
+join_notes (r ∷ raws) more [] extra p q = absurd p
+join_notes (r ∷ raws) more (n ∷ notes) extra p q = (p.0, join_notes raws more notes extra p.1 q)
+
+pub noted_push : (raws : List Raw) (notes : List Noted) (raw : Raw) (n : Noted)
+    → AllZip IsNoted raws notes → IsNoted raw n
+    → AllZip IsNoted (raws ++ raw ∷ []) (notes ++ n ∷ [])
+noted_push raws notes raw n all is = join_notes raws (raw ∷ []) notes (n ∷ []) all (is, tt)
+
+-- each was noted as its raw form allows
+abbrev pub AreNoted : List Heard → Type 0
+AreNoted heard = AllZip IsNoted (raws_of heard) (notes_of heard)
+
+pub join_heard : (hs more : List Heard) → AreNoted hs → AreNoted more → AreNoted (hs ++ more)
+join_heard [] more p q = q
+join_heard (h ∷ hs) more p q = (p.0, join_heard hs more p.1 q)
+
+pub raws-push : (hs more : List Heard) → raws_of (hs ++ more) ≡ raws_of hs ++ raws_of more
+raws-push hs more = map-append (λ (h : Heard). h.raw) hs more
+
+-- every list of raw events was heard so
+pub some_heard : (raws : List Raw) → (hs : List Heard) × (raws_of hs ≡ raws) × AreNoted hs
+some_heard [] = ([], refl, tt)
+some_heard (raw ∷ raws) =
+    let note = some_note raw in
+    let rest = some_heard raws in (
+      record { raw = raw; note = note.0 } ∷ rest.0,
+      ap (λ w. raw ∷ w) rest.1,
+      (note.1, rest.2),
+    )
+
+-- ---- what is said
+
+-- of one event more
+pub says_more : (run : Run) (terms : Terms) (rests : Rests) (before hs : List Heard) (out : List ℕ)
+    (h : Heard) (said : List ℕ) → SaysAll run terms rests before hs out
+    → run.says terms rests (before ++ hs) h said → run.stops terms (before ++ hs) h ≡ false
+    → SaysAll run terms rests before (hs ++ h ∷ []) (out ++ said)
+says_more run terms rests before [] out h said is says goes = (
+  said,
+  [],
+  ap (λ w. w ++ said) is ∙ sym (append-nil said),
+  subst (λ (w : List Heard). run.says terms rests w h said) (append-nil before) says,
+  ap (λ w. run.stops terms w h) (sym (append-nil before)) ∙ goes,
+  refl,
+)
+says_more run terms rests before (x ∷ hs) out h said (first, left, is, own, on, later) says goes =
+    let whole : (before ++ x ∷ []) ++ hs ≡ before ++ x ∷ hs =
+    append_assoc before (x ∷ []) hs in (
+      first,
+      left ++ said,
+      ap (λ w. w ++ said) is ∙ append_assoc first left said,
+      own,
+      on,
+      says_more run terms rests (before ++ x ∷ []) hs left h said later
+          (subst (λ (w : List Heard). run.says terms rests w h said) (sym whole) says)
+          (ap (λ w. run.stops terms w h) whole ∙ goes),
+    )
+
+-- ---- a log that has these events first
+
+-- there are rests of its records
+pub some_rests : (limits : Bounds) (records : List Record)
+    → (rests : Rests) × AreRests limits records rests
+some_rests limits records =
+    let editor = some_stream limits (joined Editor records) in
+    let server = some_stream limits (joined Server records) in (
+      record { editor = editor.1; server = server.1 },
+      record {
+        editor = (editor.0, editor.2, editor.3);
+        server = (server.0, server.2, server.3);
+      },
+    )
+
+-- records that go on have these first
+pub rests_behind : (limits : Bounds) (front records : List Record) (rests : Rests)
+    → GoesBehind front records → AreRests limits records rests → RestsBehind limits front rests
+rests_behind limits front records rests (more, goes) are =
+    (more, subst (λ (w : List Record). AreRests limits w rests) goes are)
+
+-- and so do their first ones
+pub rests_before : (limits : Bounds) (front more : List Record) (rests : Rests)
+    → RestsBehind limits (front ++ more) rests → RestsBehind limits front rests
+rests_before limits front more rests (last, are) =
+    (more ++ last, subst (λ (w : List Record). AreRests limits w rests)
+    (append_assoc front more last) are)
+
+module _ (limits : Bounds) (format : Option Format) (front : List Record) (heard : List Heard)
+    (noted : AreNoted heard) (log : List ℕ)
+    (has : HasGiven limits format front (raws_of heard) log) where
+  abbrev extra : (hs : List Heard) × (raws_of hs ≡ has.later) × AreNoted hs
+  extra = some_heard has.later
+
+  abbrev own_rests : (rests : Rests) × AreRests limits has.records rests
+  own_rests = some_rests limits has.records
+
+  abbrev pub tail_given : Tail
+  tail_given = record {
+    fault = has.log_fault;
+    place = place_of format has.records;
+    line = found_behind limits format has.records log;
+    rests = own_rests.0;
+  }
+
+  all_placed : Placed limits has.records (raws_of (heard ++ extra.0))
+  all_placed = subst (Placed limits has.records)
+      (ap (λ w. raws_of heard ++ w) (sym extra.1) ∙ sym (raws-push heard extra.0)) has.placed
+
+  pub told_given : IsTold limits log format has.records (heard ++ extra.0) tail_given
+  told_given = record {
+    is_log = has.is_log;
+    session = record {
+      placed = all_placed;
+      noted = join_heard heard extra.0 noted extra.2;
+    };
+    rests = own_rests.1;
+    place = refl;
+    line = refl;
+  }
+
+  pub behind_given : RestsBehind limits front own_rests.0
+  behind_given = rests_behind limits front has.records own_rests.0 has.goes own_rests.1
+
+  -- what the run says of them is said of the log
+  pub said_given : (run : Run) (out : List ℕ)
+      → ((rests : Rests) → RestsBehind limits front rests
+      → SaysAll run (log_terms limits format) rests [] heard out)
+      → HasSaid run limits log out
+  said_given run out says = record {
+    format = format;
+    records = has.records;
+    first = heard;
+    later = extra.0;
+    tail = tail_given;
+    told = told_given;
+    says = says own_rests.0 behind_given;
+  }
+
+  pub few_given : length heard ≤ limits.log
+  few_given = omega (
+    arith,
+    raws_within limits log format has.records has.log_fault (raws_of heard ++ has.later) has.is_log
+        has.placed,
+    length-append (raws_of heard) has.later,
+    length-map heard (λ (h : Heard). h.raw),
+  )
+
+-- where it stops at the last of them, so does it on the log
+pub stops_given : (run : Run) (limits : Bounds) (format : Option Format) (front : List Record)
+    (heard : List Heard) (h : Heard) (noted : AreNoted (heard ++ h ∷ [])) (log : List ℕ)
+    (has : HasGiven limits format front (raws_of (heard ++ h ∷ [])) log) (out said : List ℕ)
+    (outcome : Outcome)
+    → ((rests : Rests) → RestsBehind limits front rests
+    → SaysAll run (log_terms limits format) rests [] heard out
+    × run.says (log_terms limits format) rests heard h said)
+    → run.stops (log_terms limits format) heard h ≡ true
+    → run.ends (log_terms limits format) heard h outcome
+    → IsPassed run limits log (out ++ said) outcome
+stops_given run limits format front heard h noted log has out said outcome says stops ends =
+    let both = says (tail_given limits format front (heard ++ h ∷ []) noted log has).rests
+    (behind_given limits format front (heard ++ h ∷ []) noted log has) in
+    record {
+      format = format;
+      records = has.records;
+      heard = (heard ++ h ∷ []) ++ (some_heard has.later).0;
+      tail = tail_given limits format front (heard ++ h ∷ []) noted log has;
+      told = told_given limits format front (heard ++ h ∷ []) noted log has;
+      is = inl (record {
+        first = heard;
+        here = h;
+        later = (some_heard has.later).0;
+        are = append_assoc heard (h ∷ []) (some_heard has.later).0;
+        front = out;
+        last = said;
+        is = refl;
+        said = both.0;
+        stop = record { says = both.1; stops = stops; ends = ends };
+      });
+    }
+
+-- ---- a fault
+
+pub nothing_both : (xs ys : List ℕ) → xs ++ ys ≡ [] → (xs ≡ []) × (ys ≡ [])
+nothing_both [] ys e = (refl, e)
+nothing_both (x ∷ xs) ys e = absurd cc
+
+-- a fault that is not one of the sink leaves its count
+pub by_sink : (old new : Told) (fault : RunFault) → new.failures ≡ old.failures
+    → (fault ≡ faults.Write → ⊥) → new.failures ≡ sink_failures_after fault old.failures
+by_sink old new faults.Read same other = same
+by_sink old new faults.Write same other = absurd (other refl)
+by_sink old new faults.Memory same other = same
+
+-- nothing new was written
+pub broke_at : (run : Run) (limits : Bounds) (start now old new : Told) (out : List ℕ)
+    → Wrote old new out → (out ≡ [] → new ≡ old) → (fault : RunFault)
+    → OfRead limits start now (λ log. HasSaid run limits log out)
+    → now.failures ≡ failures_after fault start.failures → (fault ≡ faults.Write → ⊥)
+    → PartPassed run limits start now old new fault
+broke_at run limits start now old new out wrote quiet fault said failures unwritten = record {
+  out = out;
+  took = wrote.took;
+  due = by_fault fault unwritten;
+  source = failures;
+  sink = by_sink old new fault wrote.failures unwritten;
+  quiet = λ never. quiet;
+} where
+  by_fault : (f : RunFault) → (f ≡ faults.Write → ⊥) → DueAt f run limits start now out
+  by_fault faults.Read never = said
+  by_fault faults.Write never = absurd (never refl)
+  by_fault faults.Memory never = said
+
+-- a write failed
+pub cut_at : (run : Run) (limits : Bounds) (start now old mid new : Told) (out said : List ℕ)
+    → Wrote old mid out → (stopped : Stopped mid new said) → (said ≡ [] → ⊥)
+    → OfRead limits start now (λ log. HasSaid run limits log (out ++ said))
+    ⊎ ((outcome : Outcome)
+    × OfRead limits start now (λ log. IsPassed run limits log (out ++ said) outcome))
+    → now.failures ≡ start.failures → PartPassed run limits start now old new faults.Write
+cut_at run limits start now old mid new out said wrote stopped some due failures =
+    let whole : out ++ said ≡ (out ++ stopped.front) ++ stopped.back =
+    ap (λ l. out ++ l) stopped.whole ∙ sym (append_assoc out stopped.front stopped.back) in
+    record {
+      out = out ++ stopped.front;
+      took = took_then old mid new out stopped.front wrote.took stopped.took;
+      due = record {
+        left = stopped.back;
+        some = λ e. some (nothing_both out said (whole ∙ e)).1;
+        due = subst (λ (w : List ℕ). OfRead limits start now (λ log. HasSaid run limits log w)
+            ⊎ ((outcome : Outcome) × OfRead limits start now
+            (λ log. IsPassed run limits log w outcome))) whole due;
+      };
+      source = failures;
+      sink = stopped.failures ∙ ap after_failure wrote.failures;
+      quiet = λ never. absurd (never refl);
+    }
+
+-- ---- the rest of a side
+
+-- with a fault of the frames the header part that has it is lent
+pub fault_shown : (limits : Bounds) (format : Option Format) (e : LogEvents) (start now : Told)
+    (records : List Record) (given due : List Raw) (raw : code.Raw)
+    → Reads limits format e start now records (given ++ raw_view raw ∷ []) due
+    → LendsRest e.streams raw → (rests : Rests) → RestsBehind limits records rests
+    → ShowsFault raw rests
+fault_shown limits format e start now records given due (lent.Content side bytes) h lends rests
+    behind = tt
+fault_shown limits format e start now records given due (lent.Snapshot version uri text) h lends
+    rests behind = tt
+fault_shown limits format e start now records given due (lent.Broken side rule rest) h lends rests
+    (more, are) =
+    let some = given_fault limits e.streams records (given ++ broken side rule ∷ []) due h.stands
+    side rule given refl in
+    let shows = front_shown limits e.streams records (given ++ broken side rule ∷ []) due side
+    h.stands some more (rest_of rests side) (by_side side) in
+    ap header_front lends ∙ shows
+  where
+    by_side : (s : Side) → HasRest limits (joined s (records ++ more)) (rest_of rests s)
+    by_side Editor = are.editor
+    by_side Server = are.server
+
+-- ---- the loop
+
+-- **these events of the log were told to the account, and what it says of them was written**
+pub record IsPassing (run : Run) (Stands : Terms → List Heard → Type 0) (limits : Bounds)
+    (e : LogEvents) (m : session.State) (d : docs.State) (c : Counts) (start now old new : Told)
+    : Type 0 where
+  pub format : Option Format
+  pub records : List Record
+  pub due : List Raw
+  pub heard : List Heard
+  pub out : List ℕ
+  pub reads : Reads limits format e start now records (raws_of heard) due
+  pub noted : AreNoted heard
+  pub stood : Stood (log_terms limits format) m d c heard
+  pub stands : Stands (log_terms limits format) heard
+  pub wrote : Wrote old new out
+  pub quiet : out ≡ [] → new ≡ old
+  pub says : (rests : Rests) → RestsBehind limits records rests
+      → SaysAll run (log_terms limits format) rests [] heard out
+
+-- nothing was told
+pub passing_first : (run : Run) (Stands : Terms → List Heard → Type 0) (limits : Bounds)
+    (e : LogEvents) (m : session.State) (d : docs.State) (c : Counts) (start now sink : Told)
+    → Opens limits start now e → Stood (log_terms limits e.log.format) m d c []
+    → ((terms : Terms) → Stands terms [])
+    → IsPassing run Stands limits e m d c start now sink sink
+passing_first run Stands limits e m d c start now sink (records, due, reads) stood begins = record {
+  format = e.log.format;
+  records = records;
+  due = due;
+  heard = [];
+  out = [];
+  reads = reads;
+  noted = tt;
+  stood = stood;
+  stands = begins _;
+  wrote = wrote_nothing sink;
+  quiet = λ e. refl;
+  says = λ rests behind. refl;
+}
+
+module _ (run : Run) (Stands : Terms → List Heard → Type 0) (limits : Bounds)
+    (e : LogEvents) (m : session.State) (d : docs.State) (c : Counts) (start now old new : Told)
+    (p : IsPassing run Stands limits e m d c start now old new) where
+  first : OfRead limits start now (HasGiven limits p.format p.records (raws_of p.heard))
+  first = reads_given limits p.format e start now p.records (raws_of p.heard) p.due p.reads
+
+  pub passing_few : length p.heard ≤ limits.log
+  passing_few = few_given limits p.format p.records p.heard p.noted first.bytes
+      (first.holds first.bytes ([], sym (append-nil first.bytes), λ end. refl))
+
+  pub passing_counts : c.all ≡ length p.heard
+  passing_counts = omega (arith, p.stood.counted.all, passing_few, p.reads.stands.range.log_high,
+      length-map p.heard (λ (h : Heard). h.note), length-map (notes_of p.heard)
+      (λ (n : Noted). n.event))
+
+  -- reading breaks off
+  pub broke_next : (log : LogEvents) (last : Told) (fault : RunFault)
+      → NextIs e log now last (Err fault)
+      → Passes run limits start last old new (Err fault)
+  broke_next log last fault told =
+      let off = told limits p.format start p.records (raws_of p.heard) p.due p.reads in
+      broke_at run limits start last old new p.out p.wrote p.quiet fault
+      (read_map limits start last (HasGiven limits p.format (p.records ++ off.0) (raws_of p.heard))
+      (λ log. HasSaid run limits log p.out)
+      (λ log has. said_given limits p.format (p.records ++ off.0) p.heard p.noted log has run p.out
+      (λ rests behind. p.says rests (rests_before limits p.records off.0 rests behind)))
+      off.1.of_read) off.1.failures off.1.unwritten
+
+  -- ---- one more event
+
+  module _ (log : LogEvents) (last : Told) (raw : code.Raw)
+      (told : NextIs e log now last (Ok (next.Event raw))) where
+    abbrev gave : (more : List Record) × (later : List Raw)
+        × Reads limits p.format log start last (p.records ++ more)
+        (raws_of p.heard ++ raw_view raw ∷ []) later
+        × LendsRest log.streams raw
+    gave = told limits p.format start p.records (raws_of p.heard) p.due p.reads
+
+    abbrev pub here : Heard
+    here = record { raw = raw_view raw; note = (some_note (raw_view raw)).0 }
+
+    here_noted : IsNoted (raw_view raw) here.note
+    here_noted = (some_note (raw_view raw)).1
+
+    abbrev on : List Heard
+    on = p.heard ++ here ∷ []
+
+    on_noted : AreNoted on
+    on_noted = join_heard p.heard (here ∷ []) p.noted (here_noted, tt)
+
+    on_reads : Reads limits p.format log start last (p.records ++ gave.0) (raws_of on) gave.1
+    on_reads = subst (λ (w : List Raw). Reads limits p.format log start last (p.records ++ gave.0) w
+        gave.1) (sym (raws-push p.heard (here ∷ []))) gave.2
+
+    on_first : OfRead limits start last (HasGiven limits p.format (p.records ++ gave.0) (raws_of on))
+    on_first = reads_given limits p.format log start last (p.records ++ gave.0) (raws_of on) gave.1
+        on_reads
+
+    on_failures : last.failures ≡ start.failures
+    on_failures = reads_failures limits p.format log start last (p.records ++ gave.0) (raws_of on)
+        gave.1 on_reads
+
+    on_few : length on ≤ limits.log
+    on_few = few_given limits p.format (p.records ++ gave.0) on on_noted on_first.bytes
+        (on_first.holds on_first.bytes ([], sym (append-nil on_first.bytes), λ end. refl))
+
+    next_few : length p.heard + 1 < 2 ^ 64
+    next_few = omega (arith, on_few, gave.2.stands.range.log_high,
+        length-append p.heard (here ∷ []))
+
+    -- so it comes after those told
+    comes : Comes (raw_view raw) (log_terms limits p.format) m d c p.heard here
+        (Stands (log_terms limits p.format) p.heard)
+    comes = record {
+      stood = p.stood;
+      stands = p.stands;
+      few = next_few;
+      raw_is = refl;
+      noted = here_noted;
+    }
+
+    -- what was said before holds of the records read since
+    said_before : (rests : Rests) → RestsBehind limits (p.records ++ gave.0) rests
+        → SaysAll run (log_terms limits p.format) rests [] p.heard p.out
+    said_before rests behind = p.says rests (rests_before limits p.records gave.0 rests behind)
+
+    shown : (rests : Rests) → RestsBehind limits (p.records ++ gave.0) rests → ShowsFault raw rests
+    shown = fault_shown limits p.format log start last (p.records ++ gave.0) (raws_of p.heard) gave.1
+        raw gave.2 gave.3
+
+    module _ (Later : Terms → List Heard → Type 0) (new_m : session.State) (new_d : docs.State)
+        (new_c : Counts) (end : Told) where
+      -- what is due for it
+      abbrev Due : Flow → List ℕ → Type 0
+      Due flow said = DueOf run (log_terms limits p.format) p.heard here (ShowsFault raw)
+          (Later (log_terms limits p.format) on) new_m new_d new_c flow said
+
+      said_on : (flow : Flow) (said : List ℕ) → Due flow said
+          → run.stops (log_terms limits p.format) p.heard here ≡ false
+          → (rests : Rests) → RestsBehind limits (p.records ++ gave.0) rests
+          → SaysAll run (log_terms limits p.format) rests [] on (p.out ++ said)
+      said_on flow said due goes rests behind =
+          says_more run (log_terms limits p.format) rests [] p.heard p.out here said
+          (said_before rests behind) (due.is rests (shown rests behind)) goes
+
+      said_with : (flow : Flow) (said : List ℕ) → Due flow said
+          → (rests : Rests) → RestsBehind limits (p.records ++ gave.0) rests
+          → SaysAll run (log_terms limits p.format) rests [] p.heard p.out
+          × run.says (log_terms limits p.format) rests p.heard here said
+      said_with flow said due rests behind =
+          (said_before rests behind, due.is rests (shown rests behind))
+
+      stopped_at : (outcome : Outcome) (said : List ℕ) → Due (Stop outcome) said
+          → OfRead limits start last (λ log. IsPassed run limits log (p.out ++ said) outcome)
+      stopped_at outcome said due = read_map limits start last
+          (HasGiven limits p.format (p.records ++ gave.0) (raws_of on))
+          (λ log. IsPassed run limits log (p.out ++ said) outcome)
+          (λ log has. stops_given run limits p.format (p.records ++ gave.0) p.heard here on_noted
+          log has p.out said outcome (said_with (Stop outcome) said due) due.goes.0 due.goes.1)
+          on_first
+
+      -- the run goes on
+      passing_next : Steps {X = Flow} new end Due (Ok GoOn)
+          → IsPassing run Later limits log new_m new_d new_c start last old end
+      passing_next (said, due, wrote, still) = record {
+        format = p.format;
+        records = p.records ++ gave.0;
+        due = gave.1;
+        heard = on;
+        out = p.out ++ said;
+        reads = on_reads;
+        noted = on_noted;
+        stood = due.stood;
+        stands = due.goes.1;
+        wrote = wrote_then old new end p.out said p.wrote wrote;
+        quiet = λ e. let both = nothing_both p.out said e in still both.1 ∙ p.quiet both.0;
+        says = said_on GoOn said due due.goes.0;
+      }
+
+      -- it stops
+      passing_stop : (outcome : Outcome) → Steps {X = Flow} new end Due (Ok (Stop outcome))
+          → Passes run limits start last old end (Ok outcome)
+      passing_stop outcome (said, due, wrote, still) = record {
+        out = p.out ++ said;
+        wrote = wrote_then old new end p.out said p.wrote wrote;
+        due = stopped_at outcome said due;
+        failures = on_failures;
+      }
+
+      -- not all of it was written
+      cut_by : (flow : Flow) (said : List ℕ) → Due flow said
+          → OfRead limits start last (λ log. HasSaid run limits log (p.out ++ said))
+          ⊎ ((outcome : Outcome)
+          × OfRead limits start last (λ log. IsPassed run limits log (p.out ++ said) outcome))
+      cut_by GoOn said due = inl (read_map limits start last
+          (HasGiven limits p.format (p.records ++ gave.0) (raws_of on))
+          (λ log. HasSaid run limits log (p.out ++ said))
+          (λ log has. said_given limits p.format (p.records ++ gave.0) on on_noted log has run
+          (p.out ++ said) (said_on GoOn said due due.goes.0)) on_first)
+      cut_by (Stop outcome) said due = inr (outcome, stopped_at outcome said due)
+
+      passing_fault : (fault : RunFault) → Steps {X = Flow} new end Due (Err fault)
+          → Passes run limits start last old end (Err fault)
+      passing_fault faults.Write (flow, said, due, stopped, some) =
+          cut_at run limits start last old new end p.out said p.wrote stopped some
+          (cut_by flow said due) on_failures
+      passing_fault faults.Memory steps =
+          subst (λ (t : Told). PartPassed run limits start last old t faults.Memory) (sym steps)
+          (broke_at run limits start last old new p.out p.wrote p.quiet faults.Memory
+          (read_map limits start last
+          (HasGiven limits p.format (p.records ++ gave.0) (raws_of on))
+          (λ log. HasSaid run limits log p.out)
+          (λ log has. said_given limits p.format (p.records ++ gave.0) p.heard p.noted log
+          (fewer log has) run p.out said_before) on_first) on_failures (λ same. absurd cc))
+        where
+          fewer : (log : List ℕ) → HasGiven limits p.format (p.records ++ gave.0) (raws_of on) log
+              → HasGiven limits p.format (p.records ++ gave.0) (raws_of p.heard) log
+          fewer log h = record {
+            records = h.records;
+            log_fault = h.log_fault;
+            later = raw_view raw ∷ h.later;
+            is_log = h.is_log;
+            goes = h.goes;
+            placed = subst (Placed limits h.records)
+                (ap (λ w. w ++ h.later) (raws-push p.heard (here ∷ []))
+                ∙ append_assoc (raws_of p.heard) (raw_view raw ∷ []) h.later) h.placed;
+          }
+      passing_fault faults.Read steps = absurd steps
+
+      -- what the account says of it was written, by what it stands for
+      abbrev TellsNext : Result Flow RunFault → Type 0
+      TellsNext result =
+          (terms : Terms) (before : List Heard) (h : Heard)
+          → Comes (raw_view raw) terms m d c before h (Stands terms before)
+          → Steps new end (DueOf run terms before h (ShowsFault raw)
+          (Later terms (before ++ h ∷ [])) new_m new_d new_c) result
+
+      steps_of : (result : Result Flow RunFault) → TellsNext result → Steps new end Due result
+      steps_of result tells = tells (log_terms limits p.format) p.heard here comes
+
+      pub goes_on : TellsNext (Ok GoOn)
+          → IsPassing run Later limits log new_m new_d new_c start last old end
+      goes_on tells = passing_next (steps_of (Ok GoOn) tells)
+
+      pub goes_fewer : TellsNext (Ok GoOn) → limits.log + 1 - new_c.all < limits.log + 1 - c.all
+      goes_fewer tells =
+          let steps : Steps {X = Flow} new end Due (Ok GoOn) = steps_of (Ok GoOn) tells in
+          omega (
+            arith,
+            passing_counts,
+            steps.1.stood.counted.all,
+            length-map on (λ (h : Heard). h.note),
+            length-map (notes_of on) (λ (n : Noted). n.event),
+            on_few,
+            gave.2.stands.range.log_high,
+            length-append p.heard (here ∷ []),
+          )
+
+      pub goes_stop : (outcome : Outcome) → TellsNext (Ok (Stop outcome))
+          → Passes run limits start last old end (Ok outcome)
+      goes_stop outcome tells = passing_stop outcome (steps_of (Ok (Stop outcome)) tells)
+
+      pub goes_wrong : (fault : RunFault) → TellsNext (Err fault)
+          → Passes run limits start last old end (Err fault)
+      goes_wrong fault tells = passing_fault fault (steps_of (Err fault) tells)
+
+-- ---- the log ends
+
+module _ (run : Run) (Stands : Terms → List Heard → Type 0) (limits : Bounds)
+    (e : LogEvents) (m : session.State) (d : docs.State) (c : Counts) (start now old new : Told)
+    (p : IsPassing run Stands limits e m d c start now old new) (log : LogEvents) (last : Told)
+    (end : End) (told : NextIs e log now last (Ok (next.End end))) where
+  abbrev terms : Terms
+  terms = log_terms limits p.format
+
+  abbrev gone : (more : List Record)
+      × Ended limits p.format log start last (p.records ++ more) (raws_of p.heard) end
+  gone = told limits p.format start p.records (raws_of p.heard) p.due p.reads
+
+  abbrev all : List Record
+  all = p.records ++ gone.0
+
+  abbrev own_rests : (rests : Rests) × AreRests limits all rests
+  own_rests = some_rests limits all
+
+  abbrev tail_of : List ℕ → Tail
+  tail_of bytes = record {
+    fault = flaw_of end;
+    place = place_of p.format all;
+    line = found_behind limits p.format all bytes;
+    rests = own_rests.0;
+  }
+
+  has_rest : (side : Side) → HasRest limits (joined side all) (rest_of own_rests.0 side)
+  has_rest Editor = own_rests.1.editor
+  has_rest Server = own_rests.1.server
+
+  -- its reader knows where the fault lies
+  lies : (bytes : List ℕ) (flaw : Option (ℕ × LogCode)) → IsLogOf log.log limits all flaw bytes
+      → IsSome flaw → (log.log.place ≡ place_of p.format all)
+      × (shown_by log.log ≡ found_behind limits p.format all bytes)
+  lies bytes None is some = absurd cc
+  lies bytes (Some flaw) is some =
+      let same = gone.1.reads.format_is in (
+        is.place_is ∙ ap (λ f. place_of f all) same,
+        is.line_is ∙ ap (λ f. found_behind limits f all bytes) same,
+      )
+
+  pub end_is : (bytes : List ℕ) → IsLogOf log.log limits all (flaw_of end) bytes
+      → IsEnd log end p.heard (tail_of bytes)
+  end_is bytes is = record {
+    fault = refl;
+    lies = lies bytes (flaw_of end) is;
+    rests = λ side none. sym (rest_held limits log.streams all (raws_of p.heard) (notes_of p.heard)
+        side (rest_of own_rests.0 side) gone.1.reads.stands p.noted (has_rest side) none);
+    inside = λ side. inside_is limits log.streams all (raws_of p.heard) (notes_of p.heard) side
+        (rest_of own_rests.0 side) gone.1.reads.stands p.noted (has_rest side);
+  }
+
+  pub end_few : length p.heard + 1 < 2 ^ 64
+  end_few = omega (arith, passing_few run Stands limits e m d c start now old new p,
+      p.reads.stands.range.log_high)
+
+  told_whole : (bytes : List ℕ) → IsLogOf log.log limits all (flaw_of end) bytes
+      → IsTold limits bytes p.format all p.heard (tail_of bytes)
+  told_whole bytes is = record {
+    is_log = subst (λ (o : Option Format). IsLog limits bytes o all (flaw_of end))
+        gone.1.reads.format_is (log_of limits log.log all (flaw_of end) bytes is);
+    session = record {
+      placed = placed_whole limits all (raws_of p.heard) [] refl gone.1.reads.stands.placed;
+      noted = p.noted;
+    };
+    rests = own_rests.1;
+    place = refl;
+    line = refl;
+  }
+
+  said_whole : SaysAll run terms own_rests.0 [] p.heard p.out
+  said_whole = p.says own_rests.0 (rests_behind limits p.records all own_rests.0 (gone.0, refl)
+      own_rests.1)
+
+  abbrev Due : Outcome → List ℕ → Type 0
+  Due = DueAtEnd run terms p.heard log end
+
+  end_passed : (outcome : Outcome) (said : List ℕ) → Due outcome said
+      → OfRead limits start last (λ bytes. IsPassed run limits bytes (p.out ++ said) outcome)
+  end_passed outcome said due = read_map limits start last (IsLogOf log.log limits all (flaw_of end))
+      (λ bytes. IsPassed run limits bytes (p.out ++ said) outcome)
+      (λ bytes is. record {
+        format = p.format;
+        records = all;
+        heard = p.heard;
+        tail = tail_of bytes;
+        told = told_whole bytes is;
+        is = inr (record {
+          front = p.out;
+          last = said;
+          is = refl;
+          said = said_whole;
+          closes = due (tail_of bytes) (end_is bytes is);
+        });
+      }) gone.1.ends.of_read
+
+  end_fault : (fault : RunFault) (sink : Told) → Steps {X = Outcome} new sink Due (Err fault)
+      → Passes run limits start last old sink (Err fault)
+  end_fault faults.Write sink (outcome, said, due, stopped, some) =
+      cut_at run limits start last old new sink p.out said p.wrote stopped some
+      (inr (outcome, end_passed outcome said due)) gone.1.ends.failures
+  end_fault faults.Memory sink steps =
+      subst (λ (t : Told). PartPassed run limits start last old t faults.Memory) (sym steps)
+      (broke_at run limits start last old new p.out p.wrote p.quiet faults.Memory
+      (read_map limits start last (IsLogOf log.log limits all (flaw_of end))
+      (λ bytes. HasSaid run limits bytes p.out) said_in gone.1.ends.of_read)
+      gone.1.ends.failures (λ same. absurd cc))
+    where
+      said_in : (bytes : List ℕ) → IsLogOf log.log limits all (flaw_of end) bytes
+          → HasSaid run limits bytes p.out
+      said_in bytes is = record {
+        format = p.format;
+        records = all;
+        first = p.heard;
+        later = [];
+        tail = tail_of bytes;
+        told = subst (λ (w : List Heard). IsTold limits bytes p.format all w (tail_of bytes))
+            (sym (append-nil p.heard)) (told_whole bytes is);
+        says = said_whole;
+      }
+  end_fault faults.Read sink steps = absurd steps
+
+  end_told : (result : Result Outcome RunFault) (sink : Told) → Steps new sink Due result
+      → Passes run limits start last old sink result
+  end_told (Ok outcome) sink (said, due, wrote, still) = record {
+    out = p.out ++ said;
+    wrote = wrote_then old new sink p.out said p.wrote wrote;
+    due = end_passed outcome said due;
+    failures = gone.1.ends.failures;
+  }
+  end_told (Err fault) sink steps = end_fault fault sink steps
+
+  -- by what the account says
+  pub end_all : (result : Result Outcome RunFault) (sink : Told)
+      → ((t : Terms) (heard : List Heard) → Stands t heard → Stood t m d c heard
+      → length heard + 1 < 2 ^ 64 → Steps new sink (DueAtEnd run t heard log end) result)
+      → Passes run limits start last old sink result
+  end_all result sink tells =
+      end_told result sink (tells terms p.heard p.stands p.stood end_few)
+
+-- ---- nothing was read
+
+pub unopened : (run : Run) (limits : Bounds) (start now sink : Told) (fault : RunFault)
+    → BreaksOff limits start now fault → Passes run limits start now sink sink (Err fault)
+unopened run limits start now sink fault off =
+    broke_at run limits start now sink sink [] (wrote_nothing sink) (λ e. refl) fault
+    (read_map limits start now (λ log. Unit {0}) (λ log. HasSaid run limits log [])
+    (λ log u. nothing log) off.of_read) off.failures off.unwritten
+  where
+    nothing : (log : List ℕ) → HasSaid run limits log []
+    nothing log =
+        let v = some_verdict limits log in
+        let raws = v.1.final.session.0 in
+        said_given limits v.1.format v.1.records [] tt log (record {
+          records = v.1.records;
+          log_fault = v.1.fault;
+          later = raws;
+          is_log = v.1.is_log;
+          goes = ([], sym (append-nil v.1.records));
+          placed = v.1.final.session.1;
+        }) run [] (λ rests behind. refl)
