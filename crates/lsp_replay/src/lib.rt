@@ -22,7 +22,7 @@ pub use account::Account;
 pub use events::Events;
 pub use fault::{Fault, Refused};
 pub use heard::{EventPlace, Heard};
-pub use lines::{fill_event_line, write_event_line};
+pub use lines::{push_message_line, push_snapshot_line, write_event_line};
 pub use log_events::{End, Entry, LogEvents, Next};
 pub use one_pass::pass;
 pub use seen::{Flow, Seen};

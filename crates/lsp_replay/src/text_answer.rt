@@ -1,11 +1,12 @@
 //! What is answered for the text held after a message, and what is written for it.
-ghost use Rattle.std.specs.Prelude.{◌≡◌, List, IfOk};
+ghost use Rattle.std.specs.Prelude.{◌≡◌, ◌++◌, List, IfOk, string_bytes};
 ghost use Rattle.lsp_docs.specs.Calls.{Call};
 ghost use Rattle.lsp_docs.specs.Documents.{held};
 ghost use Rattle.lsp_docs.specs.State.{Stands};
 ghost use Rattle.lsp_replay.specs.TextAnswers.{WritesAnswer, answer_view};
 ghost use Rattle.lsp_verdict.specs.Given.{verdict_view};
 ghost use Rattle.lsp_verdict.specs.Shown.{held_answer, missing_answer};
+ghost use Rattle.lsp_verdict.specs.TextAfter.{EndsAs, written_of};
 
 use lsp_docs::Docs;
 use lsp_frame::{Sink, put_all};
@@ -59,6 +60,27 @@ impl TextAnswer {
                 ..
             } => TextAnswer::TooFew,
             refusal => TextAnswer::Refused(refusal),
+        }
+    }
+
+    /// Adds the text, or nothing where there is none, and says how a run ends by that.
+    ///
+    /// # Errors
+    /// `Memory` where memory was refused.
+    pub fn add(self, text: &mut String) -> Result<Outcome, Memory>
+        ensures { IfOk result (λ outcome.
+            (string_bytes text.new ≡ string_bytes text.old ++ written_of (answer_view self))
+            × EndsAs (answer_view self) outcome) }
+    {
+        match self {
+            TextAnswer::Text(held) => {
+                text.push_str(held.as_str())?;
+                Ok(Outcome::Done)
+            }
+            TextAnswer::NoDocument => Ok(Outcome::NoDocument),
+            TextAnswer::TooFew => Ok(Outcome::TooFew),
+            TextAnswer::NoDifference => Ok(Outcome::NoDifference),
+            TextAnswer::Refused(verdict) => Ok(Outcome::Judged(verdict)),
         }
     }
 

@@ -19,3 +19,5 @@ pub mod Reads
 pub mod Reported
 pub mod KeptText
 pub mod AllShown
+pub mod Lost
+pub mod SurveyRun

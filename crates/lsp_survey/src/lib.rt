@@ -12,6 +12,7 @@
 #![tactic(auto)]
 
 mod laws;
+mod losses;
 mod notes;
 mod offence_count;
 mod offending;
@@ -19,6 +20,7 @@ mod replay;
 mod run;
 mod session_end;
 mod show;
+mod survey;
 mod survey_reader;
 mod text;
 

@@ -3,23 +3,20 @@
 mod refusing;
 
 ghost use Rattle.std.specs.Prelude.{◌≡◌, [], List, IfOk, OnOk};
-ghost use Rattle.std.specs.Prelude.{◌++◌, ◌∷◌, ◌<◌, ◌^◌, length, string_bytes};
+ghost use Rattle.std.specs.Prelude.{◌++◌, ◌∷◌};
 ghost use Rattle.lsp_docs.specs.Terms.{terms_of};
 ghost use Rattle.lsp_replay.specs.Apart.{Says};
 ghost use Rattle.lsp_replay.specs.Lines.{IsHeard};
 ghost use Rattle.lsp_replay.specs.Places.{place_of};
-ghost use Rattle.lsp_replay.specs.Standing.{Holds};
 ghost use Rattle.lsp_rpc.specs.View.{act_view, message_view};
 ghost use Rattle.lsp_verdict.specs.Counting.{AreCounts};
 ghost use Rattle.lsp_verdict.specs.Event.{Event};
 ghost use Rattle.lsp_verdict.specs.Lent.{raw_view};
-ghost use Rattle.lsp_verdict.specs.Offences.{Noted, events_of};
-ghost use Rattle.lsp_verdict.specs.Placed.{Reads};
+ghost use Rattle.lsp_verdict.specs.Offences.{Noted};
 ghost use Rattle.lsp_verdict.specs.Placed as placed;
 ghost use Rattle.lsp_verdict.specs.Verdict as spec;
 ghost use Rattle.lsp_verdict.specs.Verdict.{whose};
-ghost use Rattle.lsp_survey.specs.Ending.{lack_by};
-ghost use Rattle.lsp_survey.specs.Walking.{Hears, IsLine, NotesKept, NotesMessage, NotesSnapshot};
+ghost use Rattle.lsp_survey.specs.Walking.{Hears, NotesKept, NotesMessage, NotesSnapshot};
 ghost use Rattle.lsp_survey.specs.Walking.{Walks, content_in};
 
 use crate::notes::{Marks, Notes, Openings, Passed, SessionNotes, Sides, note_kept_act};
@@ -27,10 +24,10 @@ use crate::offending::Judged;
 use lsp_docs::Match;
 use lsp_frame::{Format, Limits};
 use lsp_replay as replay;
-use lsp_replay::{EventPlace, Events, fill_event_line};
+use lsp_replay::{EventPlace, Events};
 use lsp_rpc::{Memory, Side, Spoken};
 use lsp_text::Lined;
-use lsp_verdict::{Completeness, Lines, Raw, who_of};
+use lsp_verdict::{Raw, who_of};
 use std::alloc::Global;
 
 /// The result of the events of a session, where each that offends is skipped.
@@ -163,40 +160,6 @@ impl Replay {
         Ok(Judged::Kept)
     }
 
-    /// Hears the next event as [`hear`](Replay::hear) does, and makes the text the line of one that
-    /// is kept.
-    pub(crate) fn show(
-        &mut self,
-        alloc: Global,
-        raw: Raw<'_>,
-        line: &mut String,
-        lines: Lines,
-    ) -> Result<Judged, Memory>
-        ensures terms { self.new.events.docs.terms ≡ self.old.events.docs.terms }
-        ensures heard { IfOk result (λ heard. (before : List Noted) → Walks self.old before
-            → Hears (raw_view raw.entry) self.old.events.docs.terms self.new before heard) }
-        ensures line { IfOk result (λ heard. (before : List Noted) (event : Event)
-            → Walks self.old before → Reads (raw_view raw.entry) event
-            → length (events_of before ++ event ∷ []) < 2 ^ 64
-            → IsLine lines (events_of before) event heard (string_bytes line.new)) }
-    {
-        match self.events.hear(raw) {
-            Ok(kept) => self.keep_shown(alloc, raw, kept, line, lines),
-            Err(refused) => self.pass_over(alloc, raw, refused),
-        }
-    }
-
-    /// What is missing from the session, by its rule, where it must be complete.
-    pub(crate) fn lack(&self, completeness: Completeness) -> Option<u16>
-        ensures { (kept : List Event) → Holds self.now.events.session self.now.events.docs kept
-            → result ≡ lack_by completeness kept }
-    {
-        match completeness {
-            Completeness::Ignored => None,
-            Completeness::Required => self.events.session.incomplete(),
-        }
-    }
-
     /// Takes over the event that was heard last and is kept.
     fn keep(&mut self, raw: Raw<'_>, kept: replay::Heard<'_>) -> Result<Judged, Memory>
         ensures same { (self.new.events ≡ self.old.events) × (self.new.broken ≡ self.old.broken)
@@ -209,36 +172,6 @@ impl Replay {
     {
         let place = EventPlace::of(&self.events.counts, &kept);
         self.note(place, content_in(raw), &kept)?;
-        Ok(Judged::Kept)
-    }
-
-    /// Takes over the event that was heard last and is kept, and makes the text its line.
-    fn keep_shown(
-        &mut self,
-        alloc: Global,
-        raw: Raw<'_>,
-        kept: replay::Heard<'_>,
-        line: &mut String,
-        lines: Lines,
-    ) -> Result<Judged, Memory>
-        ensures same { (self.new.events ≡ self.old.events) × (self.new.broken ≡ self.old.broken)
-            × (self.new.passed ≡ self.old.passed) × (self.new.unheard ≡ self.old.unheard) }
-        ensures keeps { IfOk result (λ heard. (heard ≡ Judged.Kept)
-            × ((before : List Event) (event : Event)
-            → AreCounts self.old.events.counts (before ++ event ∷ []) → IsHeard event kept.entry
-            → NotesKept (place_of before event) (content_in (raw_view raw.entry)) kept.entry
-            self.old self.new)) }
-        ensures line { IfOk result (λ heard. (before : List Event) (event : Event)
-            → AreCounts self.old.events.counts (before ++ event ∷ [])
-            → IsHeard event kept.entry → length (before ++ event ∷ []) < 2 ^ 64
-            → IsLine lines before event heard (string_bytes line.new)) }
-    {
-        let place = EventPlace::of(&self.events.counts, &kept);
-        let filled = fill_event_line(alloc, line, lines, place, &kept);
-        let noted = self.note(place, content_in(raw), &kept);
-        drop(kept);
-        filled?;
-        noted?;
         Ok(Judged::Kept)
     }
 

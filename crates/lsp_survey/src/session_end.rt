@@ -1,16 +1,16 @@
 //! What is listed of the end of a log without a fault.
 ghost use Rattle.std.specs.Prelude.{◌≡◌, ◌++◌, ◌∷◌, [], List, map, if◌then◌else◌, IfOk, OnOk};
-ghost use Rattle.lsp_survey.specs.Ending.{ends_by, given_by};
-ghost use Rattle.lsp_survey.specs.Walking.{Walks};
+ghost use Rattle.lsp_replay.specs.Standing.{Holds};
+ghost use Rattle.lsp_survey.specs.Ending.{ends_by, given_by, lack_by};
 ghost use Rattle.lsp_verdict.specs.Counting.{AreCounts};
 ghost use Rattle.lsp_verdict.specs.Event.{Event};
 ghost use Rattle.lsp_verdict.specs.Given.{offence_view};
-ghost use Rattle.lsp_verdict.specs.Offences.{Noted, events_of, kept_of};
 ghost use Rattle.lsp_verdict.specs.Verdict.{no_next};
 ghost use Rattle.lsp_types.specs.declared.rules.TheConstants as rules;
 
-use crate::replay::Replay;
+use lsp_replay::Events;
 use lsp_rpc::Memory;
+use lsp_text::Lined;
 use lsp_types::rules;
 use lsp_verdict::{Completeness, Counts, Offence, Who};
 use std::alloc::Global;
@@ -20,23 +20,24 @@ use std::alloc::Global;
 /// from the session.
 pub(crate) fn ends(
     alloc: Global,
-    walk: &Replay,
+    held: &Events<Lined>,
     editor: bool,
     server: bool,
     completeness: Completeness,
 ) -> Result<Vec<Offence>, Memory>
-    ensures { IfOk result (λ listed. (notes : List Noted) → Walks walk.now notes
-        → map offence_view listed.items ≡ map given_by (ends_by completeness (events_of notes)
-        (kept_of walk.now.events.docs.terms (events_of notes)) editor server)) }
+    ensures { IfOk result (λ listed. (events kept : List Event)
+        → AreCounts held.now.counts events → Holds held.now.session held.now.docs kept
+        → map offence_view listed.items
+        ≡ map given_by (ends_by completeness events kept editor server)) }
 {
-    let counts = &walk.events.counts;
+    let counts = &held.counts;
     let mut listed = Vec::new(alloc);
     list_rest(&mut listed, counts, Who::Editor, editor)?;
     list_rest(&mut listed, counts, Who::Server, server)?;
     if !listed.is_empty() {
         return Ok(listed);
     }
-    let Some(rule) = walk.lack(completeness) else {
+    let Some(rule) = lack(held, completeness) else {
         return Ok(listed);
     };
     listed.push(Offence::next(counts, rule, Who::Editor, false))?;
@@ -59,4 +60,15 @@ fn list_rest(
         listed.push(Offence::next(counts, rules::STREAM_ENDS_INSIDE_FRAME, by, false))?;
     }
     Ok(())
+}
+
+/// What is missing from the session, by its rule, where it must be complete.
+fn lack(held: &Events<Lined>, completeness: Completeness) -> Option<u16>
+    ensures { (kept : List Event) → Holds held.now.session held.now.docs kept
+        → result ≡ lack_by completeness kept }
+{
+    match completeness {
+        Completeness::Ignored => None,
+        Completeness::Required => held.session.incomplete(),
+    }
 }

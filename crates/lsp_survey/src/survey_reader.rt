@@ -1,5 +1,5 @@
 //! The events of a log, heard one by one up to its end; each that offends is skipped.
-ghost use Rattle.std.specs.Prelude.{◌≡◌, [], List, IfOk, IfErr, OnErr, option_map, string_bytes};
+ghost use Rattle.std.specs.Prelude.{◌≡◌, [], List, IfOk, IfErr, OnErr, option_map};
 ghost use Rattle.lsp_replay.specs.Standing.{Follows};
 ghost use Rattle.lsp_frame.specs.Bounds.{Bounds};
 ghost use Rattle.lsp_frame.specs.Told.{Told};
@@ -14,7 +14,6 @@ ghost use Rattle.lsp_verdict.specs.Survey.{first_verdict};
 ghost use Rattle.lsp_verdict.specs.Verdict.{summary, yes};
 ghost use Rattle.lsp_survey.specs.Reads.{EndIs, EndsAre, GivesBehind, IsBroken, Pulls, ShowsFront};
 ghost use Rattle.lsp_survey.specs.Reads.{SoFar};
-ghost use Rattle.lsp_survey.specs.AllShown.{PullsLine};
 
 use crate::notes::{Marks, Openings, SessionNotes};
 use crate::offending::Judged;
@@ -27,7 +26,7 @@ use lsp_replay::{LogEvents, summary_of};
 use lsp_rpc::{Memory, Side};
 use lsp_session::Session;
 use lsp_text::Lined;
-use lsp_verdict::{Completeness, Lines, Offence, RunFault, Verdict};
+use lsp_verdict::{Completeness, Offence, RunFault, Verdict};
 use std::alloc::Global;
 
 /// Reads the events of a log one by one, up to its end, and skips each that offends.
@@ -126,35 +125,6 @@ impl SurveyReader {
         match self.log.next(reader) {
             Err(fault) => Err(fault),
             Ok(replay::Next::Event(raw)) => Ok(NextJudged::Event(self.walk.hear(self.alloc, raw)?)),
-            Ok(replay::Next::End(end)) => Ok(NextJudged::End(self.end(end)?)),
-        }
-    }
-
-    /// Hears the next event as [`next`](SurveyReader::next) does, and makes the text the line of
-    /// one that is kept.
-    ///
-    /// # Errors
-    /// Those of `next`.
-    pub(crate) fn show_next<R: Source>(
-        &mut self,
-        reader: &mut R,
-        line: &mut String,
-        lines: Lines,
-    ) -> Result<NextJudged, RunFault>
-        ensures completeness { self.new.completeness ≡ self.old.completeness }
-        ensures terms { self.new.walk.events.docs.terms ≡ self.old.walk.events.docs.terms }
-        ensures answer { (limits : Bounds) (start : Told) (past : List Raw) (before : List Noted)
-            (found : List SpecOffence)
-            → (so : SoFar limits self.old start (R.told reader.old) past before found)
-            → PullsLine lines self.old.log.log.format so.records self.old.completeness limits
-            self.new start (R.told reader.new) past before found (string_bytes line.new) result }
-    {
-        match self.log.next(reader) {
-            Err(fault) => Err(fault),
-            Ok(replay::Next::Event(raw)) => {
-                let judged = self.walk.show(self.alloc, raw, line, lines)?;
-                Ok(NextJudged::Event(judged))
-            }
             Ok(replay::Next::End(end)) => Ok(NextJudged::End(self.end(end)?)),
         }
     }
@@ -272,6 +242,6 @@ impl SurveyReader {
     {
         let editor = self.log.ends_inside(Side::Editor);
         let server = self.log.ends_inside(Side::Server);
-        ends(self.alloc, &self.walk, editor, server, self.completeness)
+        ends(self.alloc, &self.walk.events, editor, server, self.completeness)
     }
 }

@@ -1,0 +1,182 @@
+-- What is held once one more event was heard, and how the event was seen.
+use Rattle.std.specs.Prelude.{ℤ, chars}
+use Rattle.std.proofs.Common.{◌≡◌, ℕ, List, [], ◌∷◌, ◌++◌, Option, Some, None, refl, sym, ap, subst}
+use Rattle.std.proofs.Common.{◌∙◌}
+use Rattle.std.proofs.lemmas.List.{map-append}
+use Rattle.lsp_session.specs.Sent.{Sent}
+use Rattle.lsp_session.specs.State as session
+use Rattle.lsp_rpc.specs.View.{act_view, message_view}
+use Rattle.lsp_rpc.specs.declared.act.Spoken.{Spoken}
+use Rattle.lsp_types.specs.declared.side.Side.{Side}
+use Rattle.lsp_docs.specs.State as docs
+use Rattle.lsp_docs.specs.Terms.{Terms}
+use Rattle.lsp_replay.specs.Standing.{Hears, Holds, IsUnread, RefusesMessage}
+use Rattle.lsp_replay.specs.Telling.{Comes, IsSpoken, Stood, kept_before, rule_of}
+use Rattle.lsp_replay.specs.declared.fault.Fault.TheVariants as faults
+use Rattle.lsp_replay.proofs.Following.{whose_read}
+use Rattle.lsp_verdict.specs.Contents.{ReadsAs}
+use Rattle.lsp_verdict.specs.Counting.{AreCounts}
+use Rattle.lsp_verdict.specs.Event.{Event, message, fault as broken_rule, snapshot}
+use Rattle.lsp_verdict.specs.Heard.{Heard, heard_events, notes_of}
+use Rattle.lsp_verdict.specs.Lent.{whose_raw}
+use Rattle.lsp_verdict.specs.Offences.{IsNoted, events_of, kept_of, rule_at}
+use Rattle.lsp_verdict.specs.Placed.{Raw, content, broken, show, Reads}
+use Rattle.lsp_verdict.specs.Verdict.{offence, whose}
+use Rattle.lsp_verdict.specs.declared.counts.Counts.{Counts}
+use Rattle.lsp_verdict.proofs.Offences.Steps.{events_of-push, kept-push, kept-refused}
+use Rattle.lsp_verdict.proofs.OneEvent.{one_read}
+
+pub events-push : (before : List Heard) (h : Heard)
+    → heard_events (before ++ h ∷ []) ≡ heard_events before ++ h.note.event ∷ []
+events-push before h = ap events_of (map-append (λ (x : Heard). x.note) before (h ∷ []))
+    ∙ events_of-push (notes_of before) h.note
+
+module _ (raw : Raw) (terms : Terms) (m : session.State) (d : docs.State) (c : Counts)
+    (before : List Heard) (h : Heard) (Stands : Type 0)
+    (comes : Comes raw terms m d c before h Stands) where
+  abbrev pub kept : List Event
+  kept = kept_before terms before
+
+  pub noted_here : IsNoted h.raw h.note
+  noted_here = subst (λ (w : Raw). IsNoted w h.note) (sym comes.raw_is) comes.noted
+
+  -- the event is the one that is read so
+  pub event_is : (event : Event) → Reads raw event → event ≡ h.note.event
+  event_is event reads = one_read raw event h.note.event reads comes.noted.0
+
+  pub counted_on : (after : Counts)
+      → ((events : List Event) (event : Event) → AreCounts c events → whose event ≡ whose_raw raw
+      → AreCounts after (events ++ event ∷ []))
+      → AreCounts after (heard_events (before ++ h ∷ []))
+  counted_on after add = subst (AreCounts after) (sym (events-push before h))
+      (add (heard_events before) h.note.event comes.stood.counted
+      (whose_read raw h.note.event comes.noted.0))
+
+  -- it breaks this rule, or none
+  pub rule_here : (event : Event) (rule : Option ℕ) → Reads raw event
+      → offence d.terms kept event ≡ rule → rule_of terms before h ≡ rule
+  rule_here event rule reads is =
+      ap (λ (e : Event). rule_at terms (heard_events before) e) (sym (event_is event reads))
+      ∙ ap (λ (t : Terms). offence t kept event) (sym comes.stood.by) ∙ is
+
+  -- it is kept
+  pub stood_on : (event : Event) (new_m : session.State) (new_d : docs.State) (after : Counts)
+      → Reads raw event → rule_of terms before h ≡ None → new_d.terms ≡ d.terms
+      → Holds new_m new_d (kept ++ event ∷ []) → AreCounts after (heard_events (before ++ h ∷ []))
+      → Stood terms new_m new_d after (before ++ h ∷ [])
+  stood_on event new_m new_d after reads none same holds counted = record {
+    by = same ∙ comes.stood.by;
+    holds = subst (Holds new_m new_d) (ap (λ (e : Event). kept ++ e ∷ []) (event_is event reads)
+        ∙ sym (kept-push terms (heard_events before) h.note.event none)
+        ∙ ap (kept_of terms) (sym (events-push before h))) holds;
+    counted = counted;
+  }
+
+  -- it is skipped
+  pub stood_past : (rule : ℕ) (after : Counts) → rule_of terms before h ≡ Some rule
+      → AreCounts after (heard_events (before ++ h ∷ []))
+      → Stood terms m d after (before ++ h ∷ [])
+  stood_past rule after offends counted = record {
+    by = comes.stood.by;
+    holds = subst (Holds m d)
+        (sym (kept-refused terms (heard_events before) h.note.event rule offends)
+        ∙ ap (kept_of terms) (sym (events-push before h))) comes.stood.holds;
+    counted = counted;
+  }
+
+  -- what is held changed, and is still the result of the same events
+  pub comes_still : (new_m : session.State) (new_d : docs.State) (after : Counts)
+      → new_d.terms ≡ d.terms → Holds new_m new_d kept → after ≡ c
+      → Comes raw terms new_m new_d after before h Stands
+  comes_still new_m new_d after same holds counts = record {
+    stood = record {
+      by = same ∙ comes.stood.by;
+      holds = holds;
+      counted = subst (λ (w : Counts). AreCounts w (heard_events before)) (sym counts)
+          comes.stood.counted;
+    };
+    stands = comes.stands;
+    few = comes.few;
+    raw_is = comes.raw_is;
+    noted = comes.noted;
+  }
+
+-- ---- a content
+
+module _ (side : Side) (bytes : List ℕ) (terms : Terms) (m : session.State) (d : docs.State)
+    (c : Counts) (before : List Heard) (h : Heard) (Stands : Type 0)
+    (comes : Comes (content side bytes) terms m d c before h Stands) where
+  -- it is no message
+  pub unread_rule : (rule : ℕ) → ReadsAs side bytes (broken_rule side rule)
+      → rule_of terms before h ≡ Some rule
+  unread_rule rule reads =
+      rule_here (content side bytes) terms m d c before h Stands comes (broken_rule side rule)
+      (Some rule) reads refl
+
+  pub unread_silent : (rule : ℕ) → ReadsAs side bytes (broken_rule side rule) → (sent : Sent)
+      → h.note.event ≡ message sent → ⊥
+  unread_silent rule reads sent is =
+      let same = event_is (content side bytes) terms m d c before h Stands comes
+      (broken_rule side rule) reads ∙ is in
+      absurd (cc same)
+
+  module _ (s : Spoken) where
+    -- it is this message, which is kept
+    module _ (new_m : session.State) (new_d : docs.State)
+        (hears : Hears side bytes (message_view s.message) (act_view s.act) d.terms new_m new_d
+        (kept_before terms before)) where
+      pub heard_rule : rule_of terms before h ≡ None
+      heard_rule = rule_here (content side bytes) terms m d c before h Stands comes
+          (message hears.sent) None hears.reads hears.accepted
+
+      pub heard_spoken : IsSpoken (kept_before terms before) h.note.event side s
+      heard_spoken = record {
+        sent = hears.sent;
+        is = sym (event_is (content side bytes) terms m d c before h Stands comes
+            (message hears.sent) hears.reads);
+        by = hears.reads.by;
+        says = hears.says;
+        means = hears.means;
+        has_value = hears.has_value;
+      }
+
+      pub heard_stood : (after : Counts) → new_d.terms ≡ d.terms
+          → AreCounts after (heard_events (before ++ h ∷ []))
+          → Stood terms new_m new_d after (before ++ h ∷ [])
+      heard_stood after same counted =
+          stood_on (content side bytes) terms m d c before h Stands comes (message hears.sent)
+          new_m new_d after hears.reads heard_rule same hears.holds counted
+
+    -- it is this message, which offends
+    module _ (rule : ℕ) (refuses : RefusesMessage side bytes (message_view s.message)
+        (act_view s.act) d.terms (kept_before terms before) rule) where
+      pub refused_rule : rule_of terms before h ≡ Some rule
+      refused_rule = rule_here (content side bytes) terms m d c before h Stands comes
+          (message refuses.sent) (Some rule) refuses.reads refuses.offends
+
+      pub refused_spoken : IsSpoken (kept_before terms before) h.note.event side s
+      refused_spoken = record {
+        sent = refuses.sent;
+        is = sym (event_is (content side bytes) terms m d c before h Stands comes
+            (message refuses.sent) refuses.reads);
+        by = refuses.reads.by;
+        says = refuses.says;
+        means = refuses.means;
+        has_value = refuses.whole;
+      }
+
+-- ---- another event
+
+-- a fault of the frames breaks its rule
+pub broken_here : (side : Side) (rule : ℕ) (terms : Terms) (before : List Heard) (h : Heard)
+    → IsNoted (broken side rule) h.note → rule_of terms before h ≡ Some rule
+broken_here side rule terms before h noted =
+    ap (λ (e : Event). rule_at terms (heard_events before) e) noted.0
+
+pub broken_silent : (side : Side) (rule : ℕ) (h : Heard) → IsNoted (broken side rule) h.note
+    → (sent : Sent) → h.note.event ≡ message sent → ⊥
+broken_silent side rule h noted sent is = let same = sym noted.0 ∙ is in absurd (cc same)
+
+pub shown_silent : (number : ℤ) (uri text : List ℕ) (h : Heard)
+    → IsNoted (show number uri text) h.note → (sent : Sent) → h.note.event ≡ message sent → ⊥
+shown_silent number uri text h noted sent is = let same = sym noted.0 ∙ is in absurd (cc same)

@@ -1,0 +1,77 @@
+-- What is said where all that is wrong with a log is listed.
+use Rattle.std.specs.Prelude.{◌≡◌, ℕ, List, [], ◌∷◌, ◌++◌, map, Bool, false, Option, Some, None, unwrap_or}
+use Rattle.lsp_docs.specs.Terms.{Terms}
+use Rattle.lsp_replay.specs.Run.{Run, Tail}
+use Rattle.lsp_survey.specs.Reported.{end_lines, lines_of}
+use Rattle.lsp_verdict.specs.Event.{Event}
+use Rattle.lsp_verdict.specs.Given.{verdict_view}
+use Rattle.lsp_verdict.specs.Heard.{Heard, heard_events, notes_of}
+use Rattle.lsp_verdict.specs.Offences.{Offence, offence_at, offences}
+use Rattle.lsp_verdict.specs.Outcome.{ending}
+use Rattle.lsp_verdict.specs.Shown.{line_at}
+use Rattle.lsp_verdict.specs.Survey.{by_itself, ends_listed, first_verdict}
+use Rattle.lsp_verdict.specs.Verdict.{Verdict, bad_log_of, summary}
+use Rattle.lsp_verdict.specs.declared.completeness.Completeness.{Completeness}
+use Rattle.lsp_verdict.specs.declared.lines.Lines.{Lines}
+use Rattle.lsp_verdict.specs.declared.listing.Listing.{Listing}
+use Rattle.lsp_verdict.specs.declared.outcome.Outcome.{Outcome}
+use Rattle.lsp_verdict.specs.declared.outcome.Outcome.TheVariants.{Judged}
+use Rattle.lsp_verdict.specs.declared.verdict.Verdict as code
+
+-- what is asked: whether the session must be complete, which offences are listed, and by which lines
+-- the kept events are shown, or by none
+pub record SurveyAsked : Type 0 where
+  pub completeness : Completeness
+  pub listing : Listing
+  pub lines : Option Lines
+
+-- ---- an event
+
+-- the line of an event after these that is kept, where those are shown
+abbrev pub kept_line : Option Lines → List Event → Event → List ℕ
+kept_line None before event = []
+kept_line (Some lines) before event = unwrap_or (line_at lines before event) []
+
+-- the lines of its offence, as far as that is listed, else its own
+abbrev pub said_by : SurveyAsked → List Event → Event → Option Offence → List ℕ
+said_by asked before event None = kept_line asked.lines before event
+said_by asked before event (Some o) = lines_of asked.listing (o ∷ [])
+
+abbrev pub event_said : SurveyAsked → Terms → List Heard → Heard → List ℕ
+event_said asked terms before h =
+    said_by asked (heard_events before) h.note.event
+    (offence_at terms (notes_of before) h.note)
+
+-- ---- the end
+
+-- how the session ends
+abbrev pub ends_of : SurveyAsked → Terms → List Heard → Tail → List Offence
+ends_of asked terms heard tail =
+    map by_itself (ends_listed asked.completeness terms (heard_events heard)
+    (ending tail.fault tail.rests.editor tail.rests.server))
+
+abbrev pub found_by : SurveyAsked → Terms → List Heard → Tail → List Offence
+found_by asked terms heard tail =
+    offences terms (notes_of heard) ++ ends_of asked terms heard tail
+
+abbrev pub end_said : SurveyAsked → Terms → List Heard → Tail → List ℕ
+end_said asked terms heard tail =
+    end_lines asked.listing (offences terms (notes_of heard)) (ends_of asked terms heard tail)
+    (bad_log_of tail.fault) (summary terms (heard_events heard))
+
+-- the first that is listed, else a fault of the log, else Yes
+abbrev pub verdict_by : SurveyAsked → Terms → List Heard → Tail → Verdict
+verdict_by asked terms heard tail =
+    first_verdict (found_by asked terms heard tail) (bad_log_of tail.fault)
+    (summary terms (heard_events heard))
+
+-- **the runs `check --all` and `show --all`**, which stop at no event
+abbrev pub survey_run : SurveyAsked → Run
+survey_run asked = record {
+  says = λ terms rests before h out. out ≡ event_said asked terms before h;
+  stops = λ terms before h. false;
+  ends = λ terms before h outcome. ⊥;
+  closes = λ terms heard tail out outcome. (out ≡ end_said asked terms heard tail)
+      × ((given : code.Verdict) × (outcome ≡ Judged given)
+      × (verdict_view given ≡ verdict_by asked terms heard tail));
+}
