@@ -37,7 +37,8 @@ use Rattle.lsp_verdict.specs.Contents.{IsSent, ReadsAs}
 use Rattle.lsp_verdict.specs.Event.{Event, message, fault as broken, snapshot, sent_in}
 use Rattle.lsp_replay.specs.Faults.{of_content, of_message, of_call, of_snapshot, refused_by}
 use Rattle.lsp_replay.specs.Faults.{of_reading, rule_of}
-use Rattle.lsp_replay.specs.Standing.{HasValue, Hears, Refuses, RefusesBy, RefusesContent}
+use Rattle.lsp_replay.specs.Standing.{HasValue, Hears, IsUnread, Refuses, RefusesBy}
+use Rattle.lsp_replay.specs.Standing.{RefusesContent}
 use Rattle.lsp_replay.specs.Standing.{RefusesCall, RefusesFor, RefusesSnapshot, TakesCall}
 use Rattle.lsp_replay.specs.declared.fault.Fault.{Fault}
 use Rattle.lsp_replay.specs.declared.fault.Fault.TheVariants as own
@@ -183,13 +184,17 @@ refused_event (placed.show number uri text) terms events refused.Memory rule is 
 -- ---- the rule of a fault
 
 -- a content that says nothing
-pub unspoken_for : (side : Side) (bytes : List ℕ) (terms : Terms) (events : List Event)
-    (f : RpcFault) → IsUnspoken side bytes f
-    → RefusesFor (placed.content side bytes) terms events (of_reading f)
-unspoken_for side bytes terms events (contents.Rule rule) is =
-    content_event side bytes terms events (refused.Rule rule) rule refl
-    (unspoken side bytes terms events (contents.Rule rule) is)
-unspoken_for side bytes terms events contents.Memory is = tt
+pub unread : (side : Side) (bytes : List ℕ) (f : RpcFault) → IsUnspoken side bytes f
+    → IsUnread side bytes (of_reading f)
+unread side bytes (contents.Rule rule) (inl breaks) = (refl, inl breaks)
+unread side bytes (contents.Rule rule) (inr (is, params)) =
+    (refl, inr (is, record { of = params.0; reads = params.1; unread = params.2 }))
+unread side bytes contents.Memory e = tt
+
+pub unread_for : (side : Side) (bytes : List ℕ) (terms : Terms) (events : List Event) (f : Fault)
+    → IsUnread side bytes f → RefusesFor (placed.content side bytes) terms events f
+unread_for side bytes terms events (own.Rule rule) is = (broken side rule, is, refl)
+unread_for side bytes terms events own.Memory is = tt
 
 -- a message that offends
 pub refused_for : (side : Side) (bytes : List ℕ) (said : Message) (act : Act) (terms : Terms)

@@ -17,3 +17,4 @@ pub mod FrameRules
 pub mod Fronts
 pub mod SideEnds
 pub mod Passing
+pub mod Seeing

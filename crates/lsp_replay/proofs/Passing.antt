@@ -363,9 +363,13 @@ passing_first run Stands limits e m d c start now sink (records, due, reads) sto
   says = λ rests behind. refl;
 }
 
-module _ (run : Run) (Stands : Terms → List Heard → Type 0) (limits : Bounds)
-    (e : LogEvents) (m : session.State) (d : docs.State) (c : Counts) (start now old new : Told)
-    (p : IsPassing run Stands limits e m d c start now old new) where
+module _ (Asked : Type 0) (run_of : Asked → Run) (asked : Asked)
+    (Stands : Terms → List Heard → Type 0) (limits : Bounds) (e : LogEvents) (m : session.State)
+    (d : docs.State) (c : Counts) (start now old new : Told)
+    (p : IsPassing (run_of asked) Stands limits e m d c start now old new) where
+  abbrev run : Run
+  run = run_of asked
+
   first : OfRead limits start now (HasGiven limits p.format p.records (raws_of p.heard))
   first = reads_given limits p.format e start now p.records (raws_of p.heard) p.due p.reads
 
@@ -553,23 +557,29 @@ module _ (run : Run) (Stands : Terms → List Heard → Type 0) (limits : Bounds
       passing_fault faults.Read steps = absurd steps
 
       -- what the account says of it was written, by what it stands for
-      abbrev TellsNext : Result Flow RunFault → Type 0
-      TellsNext result =
+      abbrev TellsNext : Asked → Result Flow RunFault → Type 0
+      TellsNext own result =
           (terms : Terms) (before : List Heard) (h : Heard)
           → Comes (raw_view raw) terms m d c before h (Stands terms before)
-          → Steps new end (DueOf run terms before h (ShowsFault raw)
+          → Steps new end (DueOf (run_of own) terms before h (ShowsFault raw)
           (Later terms (before ++ h ∷ [])) new_m new_d new_c) result
 
-      steps_of : (result : Result Flow RunFault) → TellsNext result → Steps new end Due result
-      steps_of result tells = tells (log_terms limits p.format) p.heard here comes
+      steps_of : (own : Asked) (result : Result Flow RunFault) → own ≡ asked
+          → TellsNext own result → Steps new end Due result
+      steps_of own result same tells =
+          subst (λ (a : Asked). Steps new end (DueOf (run_of a) (log_terms limits p.format) p.heard
+          here (ShowsFault raw) (Later (log_terms limits p.format) on) new_m new_d new_c) result)
+          same (tells (log_terms limits p.format) p.heard here comes)
 
-      pub goes_on : TellsNext (Ok GoOn)
+      pub goes_on : (own : Asked) → own ≡ asked → TellsNext own (Ok GoOn)
           → IsPassing run Later limits log new_m new_d new_c start last old end
-      goes_on tells = passing_next (steps_of (Ok GoOn) tells)
+      goes_on own same tells = passing_next (steps_of own (Ok GoOn) same tells)
 
-      pub goes_fewer : TellsNext (Ok GoOn) → limits.log + 1 - new_c.all < limits.log + 1 - c.all
-      goes_fewer tells =
-          let steps : Steps {X = Flow} new end Due (Ok GoOn) = steps_of (Ok GoOn) tells in
+      pub goes_fewer : (own : Asked) → own ≡ asked → TellsNext own (Ok GoOn)
+          → limits.log + 1 - new_c.all < limits.log + 1 - c.all
+      goes_fewer own same tells =
+          let steps : Steps {X = Flow} new end Due (Ok GoOn) =
+          steps_of own (Ok GoOn) same tells in
           omega (
             arith,
             passing_counts,
@@ -581,20 +591,26 @@ module _ (run : Run) (Stands : Terms → List Heard → Type 0) (limits : Bounds
             length-append p.heard (here ∷ []),
           )
 
-      pub goes_stop : (outcome : Outcome) → TellsNext (Ok (Stop outcome))
-          → Passes run limits start last old end (Ok outcome)
-      goes_stop outcome tells = passing_stop outcome (steps_of (Ok (Stop outcome)) tells)
+      pub goes_stop : (own : Asked) → own ≡ asked → (outcome : Outcome)
+          → TellsNext own (Ok (Stop outcome)) → Passes run limits start last old end (Ok outcome)
+      goes_stop own same outcome tells =
+          passing_stop outcome (steps_of own (Ok (Stop outcome)) same tells)
 
-      pub goes_wrong : (fault : RunFault) → TellsNext (Err fault)
+      pub goes_wrong : (own : Asked) → own ≡ asked → (fault : RunFault) → TellsNext own (Err fault)
           → Passes run limits start last old end (Err fault)
-      goes_wrong fault tells = passing_fault fault (steps_of (Err fault) tells)
+      goes_wrong own same fault tells =
+          passing_fault fault (steps_of own (Err fault) same tells)
 
 -- ---- the log ends
 
-module _ (run : Run) (Stands : Terms → List Heard → Type 0) (limits : Bounds)
-    (e : LogEvents) (m : session.State) (d : docs.State) (c : Counts) (start now old new : Told)
-    (p : IsPassing run Stands limits e m d c start now old new) (log : LogEvents) (last : Told)
-    (end : End) (told : NextIs e log now last (Ok (next.End end))) where
+module _ (Asked : Type 0) (run_of : Asked → Run) (asked : Asked)
+    (Stands : Terms → List Heard → Type 0) (limits : Bounds) (e : LogEvents) (m : session.State)
+    (d : docs.State) (c : Counts) (start now old new : Told)
+    (p : IsPassing (run_of asked) Stands limits e m d c start now old new) (log : LogEvents)
+    (last : Told) (end : End) (told : NextIs e log now last (Ok (next.End end))) where
+  abbrev run : Run
+  run = run_of asked
+
   abbrev terms : Terms
   terms = log_terms limits p.format
 
@@ -643,7 +659,8 @@ module _ (run : Run) (Stands : Terms → List Heard → Type 0) (limits : Bounds
   }
 
   pub end_few : length p.heard + 1 < 2 ^ 64
-  end_few = omega (arith, passing_few run Stands limits e m d c start now old new p,
+  end_few = omega (arith, passing_few Asked run_of asked Stands limits e m d c start now old new
+      p,
       p.reads.stands.range.log_high)
 
   told_whole : (bytes : List ℕ) → IsLogOf log.log limits all (flaw_of end) bytes
@@ -723,12 +740,15 @@ module _ (run : Run) (Stands : Terms → List Heard → Type 0) (limits : Bounds
   end_told (Err fault) sink steps = end_fault fault sink steps
 
   -- by what the account says
-  pub end_all : (result : Result Outcome RunFault) (sink : Told)
+  pub end_all : (own : Asked) → own ≡ asked → (result : Result Outcome RunFault) (sink : Told)
       → ((t : Terms) (heard : List Heard) → Stands t heard → Stood t m d c heard
-      → length heard + 1 < 2 ^ 64 → Steps new sink (DueAtEnd run t heard log end) result)
+      → length heard + 1 < 2 ^ 64
+      → Steps new sink (DueAtEnd (run_of own) t heard log end) result)
       → Passes run limits start last old sink result
-  end_all result sink tells =
-      end_told result sink (tells terms p.heard p.stands p.stood end_few)
+  end_all own same result sink tells =
+      end_told result sink (subst (λ (a : Asked). Steps new sink
+      (DueAtEnd (run_of a) terms p.heard log end) result) same
+      (tells terms p.heard p.stands p.stood end_few))
 
 -- ---- nothing was read
 

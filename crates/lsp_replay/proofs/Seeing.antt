@@ -8,12 +8,23 @@ use Rattle.lsp_session.specs.State as session
 use Rattle.lsp_rpc.specs.View.{act_view, message_view}
 use Rattle.lsp_rpc.specs.declared.act.Spoken.{Spoken}
 use Rattle.lsp_types.specs.declared.side.Side.{Side}
+use Rattle.lsp_docs.specs.Answer.{IsAnswer, answer_of}
+use Rattle.lsp_docs.specs.Calls.{Call, shows}
+use Rattle.lsp_docs.specs.Documents.{held}
+use Rattle.lsp_docs.specs.Fault as docs_fault
+use Rattle.lsp_docs.specs.Kept.{kept as kept_texts}
+use Rattle.lsp_docs.specs.Rules.{call_rule}
 use Rattle.lsp_docs.specs.State as docs
 use Rattle.lsp_docs.specs.Terms.{Terms}
-use Rattle.lsp_replay.specs.Standing.{Hears, Holds, IsUnread, RefusesMessage}
+use Rattle.lsp_docs.specs.declared.fault.DocFault.{DocFault}
+use Rattle.lsp_docs.specs.declared.fault.DocFault.TheVariants as calls_fault
+use Rattle.lsp_docs.specs.declared.snapshot.Match.{Match}
+use Rattle.lsp_replay.specs.Faults.{of_call}
+use Rattle.lsp_replay.specs.declared.fault.Fault.TheVariants as own
+use Rattle.lsp_replay.specs.Standing.{Hears, Holds, RefusesMessage}
 use Rattle.lsp_replay.specs.Telling.{Comes, IsSpoken, Stood, kept_before, rule_of}
-use Rattle.lsp_replay.specs.declared.fault.Fault.TheVariants as faults
-use Rattle.lsp_replay.proofs.Following.{whose_read}
+use Rattle.lsp_replay.proofs.Following.{shown_holds, whose_read}
+use Rattle.lsp_verdict.specs.Calls.{calls}
 use Rattle.lsp_verdict.specs.Contents.{ReadsAs}
 use Rattle.lsp_verdict.specs.Counting.{AreCounts}
 use Rattle.lsp_verdict.specs.Event.{Event, message, fault as broken_rule, snapshot}
@@ -83,6 +94,14 @@ module _ (raw : Raw) (terms : Terms) (m : session.State) (d : docs.State) (c : C
         ∙ ap (kept_of terms) (sym (events-push before h))) comes.stood.holds;
     counted = counted;
   }
+
+  -- what is held is as it was
+  pub comes_same : (new_m : session.State) (new_d : docs.State) (after : Counts) → new_m ≡ m
+      → new_d ≡ d → after ≡ c → Comes raw terms new_m new_d after before h Stands
+  comes_same new_m new_d after session documents counts =
+      subst (λ (x : session.State). Comes raw terms x new_d after before h Stands) (sym session)
+      (subst (λ (x : docs.State). Comes raw terms m x after before h Stands) (sym documents)
+      (subst (λ (x : Counts). Comes raw terms m d x before h Stands) (sym counts) comes))
 
   -- what is held changed, and is still the result of the same events
   pub comes_still : (new_m : session.State) (new_d : docs.State) (after : Counts)
@@ -177,6 +196,49 @@ pub broken_silent : (side : Side) (rule : ℕ) (h : Heard) → IsNoted (broken s
     → (sent : Sent) → h.note.event ≡ message sent → ⊥
 broken_silent side rule h noted sent is = let same = sym noted.0 ∙ is in absurd (cc same)
 
-pub shown_silent : (number : ℤ) (uri text : List ℕ) (h : Heard)
-    → IsNoted (show number uri text) h.note → (sent : Sent) → h.note.event ≡ message sent → ⊥
-shown_silent number uri text h noted sent is = let same = sym noted.0 ∙ is in absurd (cc same)
+module _ (number : ℤ) (uri text : List ℕ) (terms : Terms) (m : session.State) (d : docs.State)
+    (c : Counts) (before : List Heard) (h : Heard) (Stands : Type 0)
+    (comes : Comes (show number uri text) terms m d c before h Stands) where
+  abbrev event : Event
+  event = snapshot uri number (chars text)
+
+  abbrev made : List Call
+  made = calls (kept_before terms before)
+
+  pub shown_silent : (sent : Sent) → h.note.event ≡ message sent → ⊥
+  shown_silent sent is = let same = sym comes.noted.0 ∙ is in absurd (cc same)
+
+  -- it is refused by this rule
+  pub shown_refused : (rule : ℕ) (f : DocFault)
+      → docs.Refuses d (shows uri number (chars text)) f → of_call f ≡ own.Rule rule
+      → rule_of terms before h ≡ Some rule
+  shown_refused rule f refuses is =
+      rule_here (show number uri text) terms m d c before h Stands comes event (Some rule) refl
+      (by_fault f (refuses made comes.stood.holds.called) is)
+    where
+      by_fault : (g : DocFault)
+          → docs_fault.Names (call_rule d.terms made (shows uri number (chars text))) g
+          → of_call g ≡ own.Rule rule → offence d.terms (kept_before terms before) event ≡ Some rule
+      by_fault (calls_fault.Rule broken_by) named same = let one : broken_by ≡ rule = cc same in
+          named ∙ ap (λ r. Some r) one
+      by_fault calls_fault.Memory named same = absurd (cc same)
+
+  -- it is accepted
+  module _ (new_d : docs.State) (accepts : docs.Accepts d new_d (shows uri number (chars text))) where
+    pub shown_rule : rule_of terms before h ≡ None
+    shown_rule = rule_here (show number uri text) terms m d c before h Stands comes event None refl
+        (accepts.accepted made comes.stood.holds.called)
+
+    pub shown_stood : (after : Counts) → AreCounts after (heard_events (before ++ h ∷ []))
+        → Stood terms m new_d after (before ++ h ∷ [])
+    shown_stood after counted =
+        stood_on (show number uri text) terms m d c before h Stands comes event m new_d after refl
+        shown_rule accepts.terms
+        (shown_holds m new_d (kept_before terms before) uri number (chars text)
+        comes.stood.holds.sent (accepts.stands made comes.stood.holds.called)) counted
+
+  pub shown_answer : (answer : Match) → IsAnswer d uri number answer
+      → answer ≡ answer_of number (kept_texts terms uri made) (held terms uri made)
+  shown_answer answer is =
+      subst (λ (t : Terms). answer ≡ answer_of number (kept_texts t uri made) (held t uri made))
+      comes.stood.by (is made comes.stood.holds.called)

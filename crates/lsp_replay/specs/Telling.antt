@@ -1,6 +1,6 @@
 -- What an account is told, and what it owes.
 use Rattle.std.specs.Prelude.{◌≡◌, ℕ, ◌+◌, ◌<◌, ◌^◌, List, [], ◌∷◌, ◌++◌, length, Bool, true, false}
-use Rattle.std.specs.Prelude.{Option, Some, None, IsSome}
+use Rattle.std.specs.Prelude.{Option, Some, None, IsSome, option_map}
 use Rattle.lsp_docs.specs.Answer.{answer_of}
 use Rattle.lsp_docs.specs.Documents.{held}
 use Rattle.lsp_docs.specs.Kept.{kept}
@@ -82,12 +82,9 @@ SeenAs (seen.Snapshot version uri text answer) terms before h =
     (h.raw ≡ show version uri.now text.now) × (rule_of terms before h ≡ None)
     × (answer ≡ answer_of version (kept terms uri.now (calls (kept_before terms before)))
     (held terms uri.now (calls (kept_before terms before))))
-SeenAs (seen.Offence raw rule None) terms before h =
+SeenAs (seen.Offence raw rule spoken) terms before h =
     (h.raw ≡ raw_view raw) × (rule_of terms before h ≡ Some rule)
-    × MaySpeak (kept_before terms before) h.note.event None
-SeenAs (seen.Offence raw rule (Some spoken)) terms before h =
-    (h.raw ≡ raw_view raw) × (rule_of terms before h ≡ Some rule)
-    × MaySpeak (kept_before terms before) h.note.event (Some spoken.now)
+    × MaySpeak (kept_before terms before) h.note.event (option_map (λ s. s.now) spoken)
 
 -- **this was seen of an event after these**
 pub record IsSeen (messages : session.State) (documents : docs.State) (counts : Counts) (s : Seen)

@@ -318,7 +318,8 @@ fn skip<A: Account>(
         → Comes (raw_view raw.entry) terms held.old.session held.old.docs held.old.counts before h
         (A.stands account.old terms before)
         → rule_of terms before h ≡ Some rule
-        → MaySpeak (kept_before terms before) h.note.event spoken.entry
+        → MaySpeak (kept_before terms before) h.note.event
+        (option_map (λ s. s.now) spoken.entry)
         → Saw (A.run (A.asked account.old)) terms before h (ShowsFault raw.entry)
         (string_bytes text.old) (string_bytes text.new)
         (A.stands account.new terms (before ++ h ∷ [])) held.new.session held.new.docs

@@ -1,0 +1,44 @@
+use Rattle.std.proofs.Common.{◌∙◌, refl, sym, w32, rules}
+use Rattle.std.proofs.lemmas.Int.{to_z-of_z}
+use Rattle.std.proofs.lemmas.Result.{IfOk-weaker}
+use Rattle.lsp_replay.proofs.Seeing.{comes_same, counted_on, noted_here, shown_answer, shown_refused}
+use Rattle.lsp_replay.proofs.Seeing.{shown_rule, shown_silent, shown_stood}
+use Rattle.lsp_replay.proofs.one_pass.see_shown.Goals as goal
+
+pub returns-in_ok-flow-in-Ok-clause-saw : goal.returns-in_ok-flow-in-Ok-clause-saw
+returns-in_ok-flow-in-Ok-clause-saw g c = λ terms before h comes.
+    let number = c.args.version in
+    let uri = c.args.uri.now in
+    let text = c.args.shown.now in
+    let accepts = simp to_z-of_z at c.in-Ok.ensures.accepts in
+    let answer = simp to_z-of_z at c.in-Ok.ensures.answer in
+    let counted = counted_on _ terms _ _ _ before h _ comes _ (λ events event counts whose.
+    c.add.ensures events event counts whose) in
+    let stood = shown_stood number uri text terms _ _ _ before h _ comes _ accepts _ counted in
+    record {
+      stood = stood;
+      says = c.in_ok-flow-in-Ok.ensures.says terms before h comes.stands (record {
+        stood = stood;
+        few = comes.few;
+        noted = noted_here _ terms _ _ _ before h _ comes;
+        as_is = (
+          comes.raw_is,
+          shown_rule number uri text terms _ _ _ before h _ comes _ accepts,
+          shown_answer number uri text terms _ _ _ before h _ comes _ answer,
+        );
+      });
+    }
+
+pub returns-in_ok-rule-in-Err-clause-saw : goal.returns-in_ok-rule-in-Err-clause-saw
+returns-in_ok-rule-in-Err-clause-saw g c =
+    let number = c.args.version in
+    let uri = c.args.uri.now in
+    let text = c.args.shown.now in
+    let rule = c.in_ok-rule-in-Err.rule in
+    let refuses = simp to_z-of_z at c.in-Err.ensures.refuses in
+    let fault = sym c.from.ensures ∙ c.in_ok-rule-in-Err.ensures in
+    IfOk-weaker c.skip.result _ _ (λ flow saw terms before h comes.
+    saw terms before h (comes_same _ terms _ _ _ before h _ comes _ _ _ refl c.in-Err.ensures.err
+    refl)
+    (shown_refused number uri text terms _ _ _ before h _ comes rule _ refuses fault)
+    (shown_silent number uri text terms _ _ _ before h _ comes)) c.skip.ensures.saw
