@@ -18,3 +18,4 @@ pub mod Fronts
 pub mod SideEnds
 pub mod Passing
 pub mod Seeing
+pub mod PassEnds

@@ -20,5 +20,6 @@ pub mod Ending
 pub mod Reading
 pub mod LogEnds
 pub mod Reporting
+pub mod Told
 pub mod KeptTexts
 pub mod Showing
