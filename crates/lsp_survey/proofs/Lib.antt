@@ -22,4 +22,5 @@ pub mod LogEnds
 pub mod Reporting
 pub mod Told
 pub mod KeptTexts
+pub mod SurveyRuns
 pub mod Showing

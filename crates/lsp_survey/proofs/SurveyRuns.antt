@@ -1,0 +1,217 @@
+-- What `check --all` answers and writes follows from what a pass does.
+use Rattle.std.specs.Prelude.{map}
+use Rattle.std.specs.List.{cons_option}
+use Rattle.std.proofs.Common.{◌≡◌, ◌⊎◌, ℕ, true, false, List, [], ◌∷◌, ◌++◌, Option, Some, None, Result}
+use Rattle.std.proofs.Common.{Ok, Err, inl, inr, refl, sym, ap, subst, ◌∙◌, append_assoc, append-nil}
+use Rattle.std.proofs.lemmas.List.{map-append}
+use Rattle.lsp_docs.specs.Terms.{Terms}
+use Rattle.lsp_frame.specs.Bounds.{Bounds, IsInRange}
+use Rattle.lsp_frame.specs.Told.{Told}
+use Rattle.lsp_replay.specs.Passes.{AllPassed, PartPassed, Passes}
+use Rattle.lsp_replay.specs.Run.{EndsAfter, HasSaid, IsPassed, IsTold, SaysAll, StopsIn, Tail}
+use Rattle.lsp_replay.proofs.PassEnds.{part_begins}
+use Rattle.lsp_survey.specs.Reported.{BeginsReported, IsReported, SurveysLog, closing, end_lines, is_every}
+use Rattle.lsp_survey.specs.Reported.{lines_of}
+use Rattle.lsp_survey.specs.SurveyRun.{SurveyAsked, end_said, ends_of, event_said, found_by, said_by}
+use Rattle.lsp_survey.specs.SurveyRun.{survey_run, verdict_by}
+use Rattle.lsp_survey.proofs.Reporting.{lines_append, report_is, reported_verdict}
+use Rattle.lsp_survey.proofs.Told.{survey_told}
+use Rattle.lsp_verdict.specs.Complete.{IsVerdictBy}
+use Rattle.lsp_verdict.specs.Given.{verdict_view}
+use Rattle.lsp_verdict.specs.Heard.{Heard, Rests, heard_events, notes_of}
+use Rattle.lsp_verdict.specs.LookBack.{each_from}
+use Rattle.lsp_verdict.specs.Offences.{Noted, Offence, offence_at, offences}
+use Rattle.lsp_verdict.specs.Outcome.{ending, log_terms}
+use Rattle.lsp_verdict.specs.Ports.{Ports}
+use Rattle.lsp_verdict.specs.RunIo.{OfRead}
+use Rattle.lsp_verdict.specs.Survey.{all_report, by_itself, ends_listed, first_verdict}
+use Rattle.lsp_verdict.specs.Verdict.{Verdict, Summary, bad_log_of, summary}
+use Rattle.lsp_verdict.specs.declared.completeness.Completeness.{Completeness}
+use Rattle.lsp_verdict.specs.declared.listing.Listing.{Listing}
+use Rattle.lsp_verdict.specs.declared.listing.Listing.TheVariants.{Causes, Every}
+use Rattle.lsp_verdict.specs.declared.outcome.Outcome.{Outcome}
+use Rattle.lsp_verdict.specs.declared.outcome.Outcome.TheVariants.{Judged}
+use Rattle.lsp_verdict.specs.declared.outcome.RunFault.{RunFault}
+use Rattle.lsp_verdict.specs.declared.verdict.Verdict as code
+use Rattle.lsp_verdict.proofs.LookBackLemmas.{each_from-append}
+use Rattle.lsp_verdict.proofs.RunReading.{read_map}
+use Rattle.lsp_verdict.proofs.RunsJudged.{judged_not, judges, plain_by}
+
+lines_none : (listing : Listing) → [] ≡ lines_of listing []
+lines_none Every = refl
+lines_none Causes = refl
+
+-- the lines of all that is listed, and the closing ones, are the report
+pub whole_report : (listing : Listing) (found ends : List Offence) (bad : Option Verdict)
+    (s : Summary) → lines_of listing found ++ end_lines listing found ends bad s
+    ≡ all_report (is_every listing) (found ++ ends) bad s
+whole_report listing found ends bad s =
+    sym (report_is listing (found ++ ends) bad s
+    ∙ ap (λ l. l ++ closing (found ++ ends) bad s) (lines_append listing found ends)
+    ∙ append_assoc (lines_of listing found) (lines_of listing ends) (closing (found ++ ends) bad s))
+
+module _ (completeness : Completeness) (listing : Listing) where
+  abbrev asked : SurveyAsked
+  asked = record { completeness = completeness; listing = listing; lines = None }
+
+  -- ---- what is said of events
+
+  one_listed : (terms : Terms) (before : List Heard) (h : Heard) (rest : List Offence)
+      → event_said asked terms before h ++ lines_of listing rest
+      ≡ lines_of listing (cons_option (offence_at terms (notes_of before) h.note) rest)
+  one_listed terms before h rest = by_offence (offence_at terms (notes_of before) h.note)
+    where
+      by_offence : (o : Option Offence)
+          → said_by asked (heard_events before) h.note.event o ++ lines_of listing rest
+          ≡ lines_of listing (cons_option o rest)
+      by_offence None = refl
+      by_offence (Some o) = sym (lines_append listing (o ∷ []) rest)
+
+  -- it is the lines of their offences
+  said_listed : (terms : Terms) (rests : Rests) (before hs : List Heard) (out : List ℕ)
+      → SaysAll (survey_run asked) terms rests before hs out
+      → out ≡ lines_of listing (each_from (offence_at terms) (notes_of before) (notes_of hs))
+  said_listed terms rests before [] out is = is ∙ lines_none listing
+  said_listed terms rests before (h ∷ hs) out (said, left, is, own, goes, later) =
+      is ∙ ap (λ w. w ++ left) own
+      ∙ ap (λ w. event_said asked terms before h ++ w)
+      (said_listed terms rests (before ++ h ∷ []) hs left later
+      ∙ ap (λ ns. lines_of listing (each_from (offence_at terms) ns (notes_of hs)))
+      (map-append (λ (x : Heard). x.note) before (h ∷ [])))
+      ∙ one_listed terms before h
+      (each_from (offence_at terms) (notes_of before ++ h.note ∷ []) (notes_of hs))
+
+  module _ (limits : Bounds) (log : List ℕ) where
+    -- ---- all of a log
+
+    -- what is said of its events and of its end is the report
+    reported_told : (p_format : _) (records : _) (heard : List Heard) (tail : Tail)
+        (out front last : List ℕ) → out ≡ front ++ last
+        → IsTold limits log p_format records heard tail
+        → SaysAll (survey_run asked) (log_terms limits p_format) tail.rests [] heard front
+        → last ≡ end_said asked (log_terms limits p_format) heard tail
+        → IsReported completeness limits listing log
+        (verdict_by asked (log_terms limits p_format) heard tail) out
+    reported_told format records heard tail out front last is told said closes =
+        let terms = log_terms limits format in
+        let found = offences terms (notes_of heard) in
+        let ends = ends_of asked terms heard tail in
+        let bad = bad_log_of tail.fault in
+        let s = summary terms (heard_events heard) in
+        record {
+          found = found ++ ends;
+          bad = bad;
+          s = s;
+          survey = survey_told completeness limits log format records heard tail told;
+          written = is
+              ∙ ap (λ w. w ++ last) (said_listed terms tail.rests [] heard front said)
+              ∙ ap (λ w. lines_of listing found ++ w) closes
+              ∙ whole_report listing found ends bad s;
+          comes_to = refl;
+        }
+
+    -- **what a pass writes is the report of the log, with its verdict**
+    pub passed_reported : (out : List ℕ) (outcome : Outcome)
+        → IsPassed (survey_run asked) limits log out outcome
+        → (given : code.Verdict) × (outcome ≡ Judged given)
+        × IsReported completeness limits listing log (verdict_view given) out
+    passed_reported out outcome p = by_end p.is
+      where
+        by_end : StopsIn (survey_run asked) (log_terms limits p.format) p.tail.rests p.heard out
+            outcome
+            ⊎ EndsAfter (survey_run asked) (log_terms limits p.format) p.tail p.heard out outcome
+            → (given : code.Verdict) × (outcome ≡ Judged given)
+            × IsReported completeness limits listing log (verdict_view given) out
+        by_end (inl s) = absurd (cc s.stop.stops)
+        by_end (inr e) =
+            let given = e.closes.1 in (
+              given.0,
+              given.1,
+              subst (λ (v : Verdict). IsReported completeness limits listing log v out)
+                  (sym given.2)
+                  (reported_told p.format p.records p.heard p.tail out e.front e.last e.is p.told
+                  e.said e.closes.0),
+            )
+
+    -- ---- a part of it
+
+    pub said_reported : (front left : List ℕ)
+        → HasSaid (survey_run asked) limits log (front ++ left)
+        → BeginsReported completeness limits listing log front
+    said_reported front left h =
+        let terms = log_terms limits h.format in
+        let heard = h.first ++ h.later in
+        let found = offences terms (notes_of heard) in
+        let ends = ends_of asked terms heard h.tail in
+        let bad = bad_log_of h.tail.fault in
+        let s = summary terms (heard_events heard) in
+        let early = each_from (offence_at terms) [] (notes_of h.first) in
+        let late = each_from (offence_at terms) (notes_of h.first) (notes_of h.later) in
+        let last = end_lines listing found ends bad s in
+        let all : lines_of listing found ≡ (front ++ left) ++ lines_of listing late =
+        ap (λ ns. lines_of listing (offences terms ns))
+        (map-append (λ (x : Heard). x.note) h.first h.later)
+        ∙ ap (lines_of listing) (each_from-append (offence_at terms) [] (notes_of h.first)
+        (notes_of h.later))
+        ∙ lines_append listing early late
+        ∙ ap (λ w. w ++ lines_of listing late)
+        (sym (said_listed terms h.tail.rests [] h.first (front ++ left) h.says)) in (
+          verdict_by asked terms heard h.tail,
+          left ++ (lines_of listing late ++ last),
+          record {
+            found = found ++ ends;
+            bad = bad;
+            s = s;
+            survey = survey_told completeness limits log h.format h.records heard h.tail h.told;
+            written = sym (append_assoc front left (lines_of listing late ++ last))
+                ∙ sym (append_assoc (front ++ left) (lines_of listing late) last)
+                ∙ ap (λ w. w ++ last) (sym all)
+                ∙ whole_report listing found ends bad s;
+            comes_to = refl;
+          },
+        )
+
+    pub passed_begins : (front left : List ℕ) (outcome : Outcome)
+        → IsPassed (survey_run asked) limits log (front ++ left) outcome
+        → BeginsReported completeness limits listing log front
+    passed_begins front left outcome p =
+        let r = passed_reported (front ++ left) outcome p in (verdict_view r.0, left, r.2)
+
+  -- ---- **the run**
+
+  module _ (limits : Bounds) (sizes : IsInRange limits) (io : Ports) where
+    all_surveyed : (outcome : Outcome) → AllPassed (survey_run asked) limits io.source_before
+        io.source_after io.sink_before io.sink_after outcome
+        → SurveysLog completeness listing limits io (Ok outcome)
+    all_surveyed outcome a =
+        let own = passed_reported limits a.due.bytes a.out outcome
+        (a.due.holds a.due.bytes ([], sym (append-nil a.due.bytes), λ end. refl)) in
+        let due : OfRead limits io.source_before io.source_after
+        (λ log. IsReported completeness limits listing log (verdict_view own.0) a.out) =
+        read_map limits io.source_before io.source_after
+        (λ log. IsPassed (survey_run asked) limits log a.out outcome)
+        (λ log. IsReported completeness limits listing log (verdict_view own.0) a.out)
+        (λ log p. let r = passed_reported limits log a.out outcome p in
+        let same : r.0 ≡ own.0 = cc (sym r.1 ∙ own.1) in
+        subst (λ (v : code.Verdict).
+        IsReported completeness limits listing log (verdict_view v) a.out) same r.2) a.due in
+        subst (λ (o : Outcome). SurveysLog completeness listing limits io (Ok o)) (sym own.1)
+        (judges limits sizes io (IsVerdictBy completeness limits)
+        (IsReported completeness limits listing) (BeginsReported completeness limits listing) own.0
+        (read_map limits io.source_before io.source_after
+        (λ log. IsReported completeness limits listing log (verdict_view own.0) a.out)
+        (λ log. IsVerdictBy completeness limits log (verdict_view own.0))
+        (λ log r. reported_verdict completeness limits sizes listing log (verdict_view own.0) a.out
+        r) due)
+        (a.out, a.wrote.took, due) (plain_by completeness limits) a.failures a.wrote.failures)
+
+    pub surveyed : (result : Result Outcome RunFault) → Passes (survey_run asked) limits
+        io.source_before io.source_after io.sink_before io.sink_after result
+        → SurveysLog completeness listing limits io result
+    surveyed (Ok outcome) a = all_surveyed outcome a
+    surveyed (Err fault) p =
+        judged_not limits io (IsVerdictBy completeness limits)
+        (IsReported completeness limits listing) (BeginsReported completeness limits listing) fault
+        (p.out, p.took, part_begins (survey_run asked) limits io.source_before io.source_after
+        io.sink_before io.sink_after fault p (BeginsReported completeness limits listing)
+        (said_reported limits) (passed_begins limits)) p.source p.sink
