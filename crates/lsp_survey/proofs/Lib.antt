@@ -22,5 +22,6 @@ pub mod LogEnds
 pub mod Reporting
 pub mod Told
 pub mod KeptTexts
+pub mod TextSteps
 pub mod SurveyRuns
 pub mod Showing

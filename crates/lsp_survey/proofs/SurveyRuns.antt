@@ -7,6 +7,8 @@ use Rattle.std.proofs.lemmas.List.{map-append}
 use Rattle.lsp_docs.specs.Terms.{Terms}
 use Rattle.lsp_frame.specs.Bounds.{Bounds, IsInRange}
 use Rattle.lsp_frame.specs.Told.{Told}
+use Rattle.lsp_frame.specs.declared.format.Format.{Format}
+use Rattle.lsp_log.specs.Log.{Record}
 use Rattle.lsp_replay.specs.Passes.{AllPassed, PartPassed, Passes}
 use Rattle.lsp_replay.specs.Run.{EndsAfter, HasSaid, IsPassed, IsTold, SaysAll, StopsIn, Tail}
 use Rattle.lsp_replay.proofs.PassEnds.{part_begins}
@@ -85,13 +87,13 @@ module _ (completeness : Completeness) (listing : Listing) where
     -- ---- all of a log
 
     -- what is said of its events and of its end is the report
-    reported_told : (p_format : _) (records : _) (heard : List Heard) (tail : Tail)
-        (out front last : List ℕ) → out ≡ front ++ last
-        → IsTold limits log p_format records heard tail
-        → SaysAll (survey_run asked) (log_terms limits p_format) tail.rests [] heard front
-        → last ≡ end_said asked (log_terms limits p_format) heard tail
+    reported_told : (format : Option Format) (records : List Record) (heard : List Heard)
+        (tail : Tail) (out front last : List ℕ) → out ≡ front ++ last
+        → IsTold limits log format records heard tail
+        → SaysAll (survey_run asked) (log_terms limits format) tail.rests [] heard front
+        → last ≡ end_said asked (log_terms limits format) heard tail
         → IsReported completeness limits listing log
-        (verdict_by asked (log_terms limits p_format) heard tail) out
+        (verdict_by asked (log_terms limits format) heard tail) out
     reported_told format records heard tail out front last is told said closes =
         let terms = log_terms limits format in
         let found = offences terms (notes_of heard) in

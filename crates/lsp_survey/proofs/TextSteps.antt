@@ -1,0 +1,82 @@
+-- The steps of the account that says the text just after a message.
+use Rattle.std.specs.Prelude.{◌==◌, if◌then◌else◌}
+use Rattle.std.proofs.Common.{◌≡◌, ℕ, ◌+◌, ◌<◌, ◌^◌, Bool, true, false, List, [], ◌∷◌, ◌++◌, length, refl}
+use Rattle.std.proofs.Common.{sym, ap, subst, ◌∙◌, arith, append-nil, length-append}
+use Rattle.std.proofs.lemmas.Bool.{eq-eqb}
+use Rattle.std.proofs.lemmas.Bool.Decides.{nat_tests}
+use Rattle.std.proofs.lemmas.List.{length-map}
+use Rattle.lsp_docs.specs.Terms.{Terms}
+use Rattle.lsp_replay.specs.Telling.{Says}
+use Rattle.lsp_replay.specs.declared.seen.Flow.TheVariants.{GoOn, Stop}
+use Rattle.lsp_replay.proofs.Reached.{count_within, still_few}
+use Rattle.lsp_replay.proofs.Seeing.{events-push}
+use Rattle.lsp_types.specs.declared.side.Side.TheVariants.{Editor}
+use Rattle.lsp_survey.specs.KeptText.{TextAsked, answer_after, is_reached, text_all_run}
+use Rattle.lsp_verdict.specs.Counting.{AreCounts}
+use Rattle.lsp_verdict.specs.Heard.{Heard, Rests, heard_events, notes_of}
+use Rattle.lsp_verdict.specs.Offences.{Noted}
+use Rattle.lsp_verdict.specs.Shown.{TextAnswer}
+use Rattle.lsp_verdict.specs.TextAfter.{EndsAs, written_of}
+use Rattle.lsp_verdict.specs.Verdict.{count_of, is_of}
+use Rattle.lsp_verdict.specs.declared.counts.Counts.{Counts}
+use Rattle.lsp_verdict.specs.declared.outcome.Outcome.{Outcome}
+
+-- the editor's messages are counted exactly
+pub count_exact : (c : Counts) (before : List Heard) (h : Heard)
+    → AreCounts c (heard_events (before ++ h ∷ [])) → length before + 1 < 2 ^ 64
+    → c.editor ≡ count_of (is_of Editor) (heard_events (before ++ h ∷ []))
+count_exact c before h counted few = omega (
+  arith,
+  counted.editor,
+  few,
+  count_within (heard_events (before ++ h ∷ [])),
+  length-map (before ++ h ∷ []) (λ (x : Heard). x.note),
+  length-map (notes_of (before ++ h ∷ [])) (λ (n : Noted). n.event),
+  length-append before (h ∷ []),
+)
+
+unequal : (m n : ℕ) → (m ≡ n → ⊥) → (m == n) ≡ false
+unequal m n other = grind (arith, nat_tests, other)
+
+module _ (asked : TextAsked) (terms : Terms) (before : List Heard) (h : Heard)
+    (Fits : Rests → Type 0) (old : List ℕ) where
+  abbrev on : List Heard
+  on = before ++ h ∷ []
+
+  -- the message is this one
+  pub says_held : (new : List ℕ) (answer : TextAnswer) (outcome : Outcome) (Stands : Type 0)
+      → count_of (is_of Editor) (heard_events on) ≡ asked.number
+      → answer ≡ answer_after terms asked.uri on → new ≡ old ++ written_of answer
+      → EndsAs answer outcome
+      → Says (text_all_run asked) terms before h Fits old new Stands (Stop outcome)
+  says_held new answer outcome Stands reached is added ends =
+      let at : is_reached asked.number before h ≡ true = eq-eqb _ _ reached in
+      record {
+        said = written_of answer;
+        added = added;
+        is = λ rests fits. ap written_of is
+            ∙ sym (ap (λ b. if b then written_of (answer_after terms asked.uri on) else []) at);
+        goes = (at, subst (λ (a : TextAnswer). EndsAs a outcome) is ends);
+      }
+
+  -- it is still to come
+  pub says_nothing : (Stands : Type 0)
+      → (count_of (is_of Editor) (heard_events on) ≡ asked.number → ⊥)
+      → (count_of (is_of Editor) (heard_events on) < asked.number → Stands)
+      → count_of (is_of Editor) (heard_events before) < asked.number
+      → Says (text_all_run asked) terms before h Fits old old Stands GoOn
+  says_nothing Stands other stands few =
+      let at : is_reached asked.number before h ≡ false = unequal _ _ other in
+      record {
+        said = [];
+        added = sym (append-nil old);
+        is = λ rests fits.
+            sym (ap (λ b. if b then written_of (answer_after terms asked.uri on) else []) at);
+        goes = (
+          at,
+          stands (subst (λ es. count_of (is_of Editor) es < asked.number)
+              (sym (events-push before h)) (still_few asked.number (heard_events before)
+              h.note.event few (λ is. other (ap (count_of (is_of Editor)) (events-push before h)
+              ∙ is)))),
+        );
+      }

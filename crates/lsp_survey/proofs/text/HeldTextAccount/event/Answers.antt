@@ -1,0 +1,25 @@
+use Rattle.std.proofs.Common.{◌∙◌, ap, sym, arith}
+use Rattle.lsp_docs.specs.Documents.{held}
+use Rattle.lsp_docs.specs.Terms.{Terms}
+use Rattle.lsp_verdict.specs.Calls.{calls}
+use Rattle.lsp_verdict.specs.Heard.{heard_events}
+use Rattle.lsp_verdict.specs.Offences.{kept_of}
+use Rattle.lsp_verdict.specs.Shown.{held_answer}
+use Rattle.lsp_survey.proofs.TextSteps.{count_exact, says_held, says_nothing}
+use Rattle.std.proofs.Common.{◌++◌, ◌∷◌, []}
+use Rattle.lsp_survey.proofs.text.HeldTextAccount.event.Goals as goal
+
+pub returns-then-held-clause-says : goal.returns-then-held-clause-says
+returns-then-held-clause-says c = λ terms before h few seen.
+    let count = count_exact _ before h seen.stood.counted seen.few in
+    says_nothing _ terms before h _ _ _ (λ is. omega (arith, c.if-held-self.true, count, is))
+    (λ later. later) few
+
+pub returns-clause-says : goal.returns-clause-says
+returns-clause-says c = λ terms before h few seen.
+    let made = calls (kept_of terms (heard_events (before ++ h ∷ []))) in
+    says_held _ terms before h _ _ _ _ _ _
+    (sym (count_exact _ before h seen.stood.counted seen.few) ∙ omega (arith, c.if-held-self.false))
+    (c.in_ok-answer.ensures made seen.stood.holds.called
+    ∙ ap (λ (t : Terms). held_answer (held t c.args.self.now.uri.now made)) seen.stood.by)
+    c.in_ok-outcome.ensures.0 c.in_ok-outcome.ensures.1
