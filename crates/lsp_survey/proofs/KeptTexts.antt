@@ -104,6 +104,7 @@ module _ (asked : TextAsked) where
     -- the message came
     stopped : StopsIn (text_all_run asked) terms p.tail.rests p.heard out outcome
         → IsText (λ l. AnswersKept limits l asked.number asked.uri) log out outcome
+    unfolding survey_told
     stopped s =
         let few = few_after terms p.tail.rests [] s.first s.front s.said positive in
         let on = s.first ++ s.here ∷ [] in
@@ -142,6 +143,7 @@ module _ (asked : TextAsked) where
     -- it did not
     ended : EndsAfter (text_all_run asked) terms p.tail p.heard out outcome
         → IsText (λ l. AnswersKept limits l asked.number asked.uri) log out outcome
+    unfolding survey_told
     ended e =
         let few = few_after terms p.tail.rests [] p.heard e.front e.said positive in
         record {

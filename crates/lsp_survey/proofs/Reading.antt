@@ -451,3 +451,14 @@ fewer limits e f start now last past more notes n found others p q =
       so_far_few Ignored limits f start last more (notes ++ n ∷ []) others q,
       length-append notes (n ∷ []),
     )
+
+-- reading broke off, and nothing was written
+pub broke_off : (completeness : Completeness) (limits : Bounds) (start now : Told)
+    (found : List Offence) (fault : RunFault)
+    → BrokeOff completeness limits start now found fault → BreaksOff limits start now fault
+broke_off completeness limits start now found fault broke = record {
+  of_read = read_map limits start now (BeginsSurvey completeness limits found)
+      (λ log. Unit {0}) (λ log begins. tt) broke.of_read;
+  failures = broke.failures;
+  unwritten = broke.unwritten;
+}

@@ -10,7 +10,7 @@ use Rattle.lsp_verdict.specs.Survey.{IsSurvey, found_in}
 use Rattle.lsp_verdict.specs.Verdict.{bad_log_of, summary}
 use Rattle.lsp_verdict.specs.declared.completeness.Completeness.{Completeness}
 
-pub survey_told : (completeness : Completeness) (limits : Bounds) (log : List ℕ)
+unfoldable pub survey_told : (completeness : Completeness) (limits : Bounds) (log : List ℕ)
     (format : Option Format) (records : List Record) (heard : List Heard) (tail : Tail)
     → IsTold limits log format records heard tail
     → IsSurvey completeness limits log (found_in completeness (log_terms limits format)

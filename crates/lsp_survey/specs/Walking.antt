@@ -1,6 +1,6 @@
 -- What a walk over the events of a session holds, and how one more event is heard.
 use Rattle.std.specs.Prelude.{◌≡◌, ℕ, ℤ, List, [], ◌∷◌, ◌++◌, Bool, ◌&&◌, ◌||◌, Option, Some}
-use Rattle.std.specs.Prelude.{Box, None, is_some, option_and_then, string_bytes, unwrap_or}
+use Rattle.std.specs.Prelude.{Box, None, is_some, option_and_then, string_bytes}
 use Rattle.std.specs.Global.{Global}
 use Rattle.lsp_docs.specs.Calls.{Call}
 use Rattle.lsp_docs.specs.Terms.{Terms}
@@ -45,9 +45,7 @@ use Rattle.lsp_verdict.specs.Offences.{brought_by, events_of, follows_bytes, is_
 use Rattle.lsp_verdict.specs.Offences.{follows_passed, is_passed, may_answer, offence_by, rule_at}
 use Rattle.lsp_verdict.specs.Offences.{wants_handshake, wants_text}
 use Rattle.lsp_verdict.specs.Placed.{Raw, content, broken, show}
-use Rattle.lsp_verdict.specs.Shown.{line_at}
 use Rattle.lsp_verdict.specs.Verdict.{no_next, who_of, whose}
-use Rattle.lsp_verdict.specs.declared.lines.Lines.{Lines}
 use Rattle.lsp_verdict.specs.declared.offence.Offence as code
 use Rattle.lsp_verdict.specs.declared.verdict.Who.{Who}
 
@@ -227,11 +225,6 @@ pub record Hears (raw : Raw) (terms : Terms) (w : Replay) (before : List Noted)
   pub is_noted : IsNoted raw n
   pub is_heard : IsHeard raw terms before n given
   pub walks : Walks w (before ++ n ∷ [])
-
--- the text is the line of the event after these, where it is kept
-abbrev pub IsLine : Lines → List Event → Event → Judged → List ℕ → Type 0
-IsLine lines before event heard.Kept text = text ≡ unwrap_or (line_at lines before event) []
-IsLine lines before event (heard.Offence found) text = Unit {0}
 
 -- the event offends
 abbrev pub IsOffence : Judged → Type 0

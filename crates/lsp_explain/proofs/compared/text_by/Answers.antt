@@ -4,8 +4,7 @@ use Rattle.std.proofs.lemmas.Result.{err_from_is_err_and}
 use Rattle.lsp_docs.specs.Terms.{Terms}
 use Rattle.lsp_frame.specs.Bounds.{Bounds}
 use Rattle.lsp_survey.specs.Reads.{GaveEvent, found_in}
-use Rattle.lsp_survey.proofs.KeptTexts.{broke_off}
-use Rattle.lsp_survey.proofs.Reading.{fewer, so_far_refused}
+use Rattle.lsp_survey.proofs.Reading.{broke_off, fewer, so_far_refused}
 use Rattle.lsp_verdict.specs.Offences.{offences}
 use Rattle.lsp_verdict.specs.declared.completeness.Completeness.TheVariants.{Ignored}
 use Rattle.lsp_explain.proofs.Comparing.{reads_on, text_found, text_none}
