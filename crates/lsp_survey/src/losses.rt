@@ -1,22 +1,32 @@
 //! What the offences so far have left lost, so that later ones follow from them.
-ghost use Rattle.std.specs.Prelude.{◌≡◌, ◌&&◌, ◌||◌, ◌==◌, ◌++◌, ◌∷◌, ℕ, [], List, Option, None, Some};
-ghost use Rattle.std.specs.Prelude.{IfOk, OnOk, false};
+ghost use Rattle.std.specs.Prelude.{◌≡◌, ◌&&◌, ◌||◌, ◌==◌, ◌++◌, ◌∷◌, ℕ, ℤ, [], List, Option, None};
+ghost use Rattle.std.specs.Prelude.{IfOk, OnOk, Some, false, option_map};
+ghost use Rattle.lsp_docs.specs.Calls.{shows};
 ghost use Rattle.lsp_docs.specs.Terms.{Terms};
 ghost use Rattle.lsp_replay.specs.Standing.{Holds};
-ghost use Rattle.lsp_replay.specs.Telling.{IsSeen};
+ghost use Rattle.lsp_replay.specs.Telling.{IsSeen, MaySpeak, Stood, kept_before, rule_of};
 ghost use Rattle.lsp_replay.specs.declared.seen.Seen.TheVariants as seen;
+ghost use Rattle.lsp_rpc.specs.Message.{Message as AMessage};
 ghost use Rattle.lsp_rpc.specs.View.{act_view, message_view};
 ghost use Rattle.lsp_session.specs.Sent.{other_side, response_id, same_side};
+ghost use Rattle.lsp_session.specs.State.{Stands};
+ghost use Rattle.lsp_types.specs.declared.change.SyncKind.{SyncKind};
+ghost use Rattle.lsp_types.specs.declared.position.Encoding.{Encoding};
 ghost use Rattle.lsp_types.specs.declared.rules.TheConstants as rules;
 ghost use Rattle.lsp_types.specs.declared.side.Side.TheVariants.{Editor};
-ghost use Rattle.lsp_verdict.specs.Event.{Event, fault};
+ghost use Rattle.lsp_verdict.specs.Calls.{call_of};
+ghost use Rattle.lsp_verdict.specs.Event.{Event, fault, sent_in, snapshot};
 ghost use Rattle.lsp_verdict.specs.Heard.{Heard, notes_of};
-ghost use Rattle.lsp_verdict.specs.Offences.{Noted, breaks_handshake, events_of, follows};
-ghost use Rattle.lsp_verdict.specs.Offences.{follows_bytes, follows_passed, is_handshake_lost};
-ghost use Rattle.lsp_verdict.specs.Offences.{kept_of, may_answer, tells_initialized};
-ghost use Rattle.lsp_verdict.specs.Offences.{wants_handshake, wants_text};
-ghost use Rattle.lsp_survey.specs.Lost.{AreLosses, IsMessageOf};
+ghost use Rattle.lsp_verdict.specs.Offences.{IsNoted, IsReading, Noted, breaks_handshake, events_of};
+ghost use Rattle.lsp_verdict.specs.Offences.{follows, follows_bytes, follows_passed};
+ghost use Rattle.lsp_verdict.specs.Offences.{is_handshake_lost, kept_of, may_answer};
+ghost use Rattle.lsp_verdict.specs.Offences.{tells_initialized};
+ghost use Rattle.lsp_verdict.specs.Placed.{content};
+ghost use Rattle.lsp_survey.specs.Lost.{AreLosses, HoldsSent, Loses, follows_of};
+ghost use Rattle.lsp_survey.specs.Notes.{AreAfter, is_noted, is_noted_lost};
 ghost use Rattle.lsp_survey.specs.Passed.{has_any};
+ghost use Rattle.lsp_survey.specs.Sides.{sides_failed, sides_read};
+ghost use Rattle.lsp_survey.specs.Walking.{IsMessageOf};
 
 use crate::notes::{
     Malformed, Notes, Passed, Sides, breaks_handshake, is_on_lost, meant_again, note_kept_act,
@@ -63,7 +73,12 @@ impl Losses {
     ///
     /// # Errors
     /// `Memory` where memory was refused.
-    pub(crate) fn keep(&mut self, side: Side, act: &Act) -> Result<(), Memory> {
+    pub(crate) fn keep(&mut self, side: Side, act: &Act) -> Result<(), Memory>
+        ensures sides { self.new.sides ≡ sides_read side self.old.sides }
+        ensures noted { OnOk result ((enc : Encoding) (kind : SyncKind)
+            → AreAfter (call_of enc kind (act_view act.now)) self.old.documents.map.entries
+            self.new.documents.map.entries) }
+    {
         self.sides = self.sides.after_message(side);
         note_kept_act(&mut self.documents, act)
     }
@@ -106,7 +121,16 @@ impl Losses {
         rule: u16,
         content: &[u8],
         spoken: Option<&Spoken>,
-    ) -> Result<bool, Memory> {
+    ) -> Result<bool, Memory>
+        ensures { IfOk result (λ late. (terms : Terms) (before : List Heard) (h : Heard)
+            → AreLosses terms self.old (notes_of before)
+            → Stood terms held.now.session held.now.docs held.now.counts (before ++ h ∷ [])
+            → IsNoted (content side content.now) h.note → rule_of terms before h ≡ Some rule
+            → MaySpeak (kept_before terms before) h.note.event
+            (option_map (λ s. s.now) spoken.entry)
+            → (late ≡ follows terms (notes_of before) h.note rule)
+            × AreLosses terms self.new (notes_of (before ++ h ∷ []))) }
+    {
         match spoken {
             Some(spoken) => self.offend_message(held, side, rule, spoken),
             None => self.offend_unread(alloc, &held.session, side, rule, content),
@@ -120,7 +144,18 @@ impl Losses {
         side: Side,
         rule: u16,
         spoken: &Spoken,
-    ) -> Result<bool, Memory> {
+    ) -> Result<bool, Memory>
+        ensures { IfOk result (λ late. (terms : Terms) (before : List Noted) (event : Event)
+            (enc : Encoding) (kind : SyncKind) → AreLosses terms self.old before
+            → held.now.docs.terms ≡ terms
+            → Holds held.now.session held.now.docs (kept_of terms (events_of before))
+            → IsMessageOf side (message_view spoken.now.message) event
+            → (late ≡ follows_of terms before rule (is_noted_lost self.old.documents.map.entries
+            (call_of enc kind (act_view spoken.now.act))) (follows_passed terms rule before event
+            || follows_bytes rule (events_of before) event))
+            × Loses terms before event None (call_of enc kind (act_view spoken.now.act)) rule
+            self.old self.new) }
+    {
         let breaks = breaks_handshake(false, rule);
         let unheard = self.unheard_after(side, &spoken.message);
         let other = reopens(&held.docs, &spoken.act);
@@ -143,7 +178,14 @@ impl Losses {
         side: Side,
         rule: u16,
         content: &[u8],
-    ) -> Result<bool, Memory> {
+    ) -> Result<bool, Memory>
+        ensures { IfOk result (λ late. (malformed : Option AMessage)
+            × IsReading content.now malformed × ((terms : Terms) (before : List Noted)
+            → AreLosses terms self.old before → HoldsSent session.now terms before
+            → (late ≡ follows_of terms before rule false
+            (follows_bytes rule (events_of before) (fault side rule)))
+            × Loses terms before (fault side rule) malformed None rule self.old self.new)) }
+    {
         let Malformed {
             asks,
             brings,
@@ -156,7 +198,14 @@ impl Losses {
     }
 
     /// A snapshot of the document of this URI offends.
-    fn offend_shown(&mut self, session: &Session, rule: u16, uri: &str) -> Result<bool, Memory> {
+    fn offend_shown(&mut self, session: &Session, rule: u16, uri: &str) -> Result<bool, Memory>
+        ensures { IfOk result (λ late. (terms : Terms) (before : List Noted) (number : ℤ)
+            (text : List ℕ) → AreLosses terms self.old before → HoldsSent session.now terms before
+            → (late ≡ follows_of terms before rule
+            (is_noted self.old.documents.map.entries uri.now) false)
+            × Loses terms before (snapshot uri.now number text) None
+            (Some (shows uri.now number text)) rule self.old self.new) }
+    {
         let on_lost = self.documents.is_lost(uri)?;
         let follows = self.follows(session, rule, on_lost, false);
         let breaks = breaks_handshake(false, rule);
@@ -166,7 +215,15 @@ impl Losses {
     }
 
     /// A frame or a content of a side offends; the content may ask for the handshake.
-    fn offend_fault(&mut self, session: &Session, side: Side, rule: u16, asks: bool) -> bool {
+    fn offend_fault(&mut self, session: &Session, side: Side, rule: u16, asks: bool) -> bool
+        ensures sides { self.new.sides ≡ sides_failed side rule self.old.sides }
+        ensures broken { (kept : List Event) → Stands session.now (sent_in kept)
+            → self.new.handshake ≡ (self.old.handshake || (breaks_handshake asks rule
+            || may_answer kept (fault side rule))) }
+        ensures follows { (terms : Terms) (before : List Noted) → AreLosses terms self.old before
+            → HoldsSent session.now terms before → result ≡ follows_of terms before rule false
+            (follows_bytes rule (events_of before) (fault side rule)) }
+    {
         let breaks = breaks_handshake(asks, rule) || may_answer(session, side);
         let late = self.sides.fault_follows(side, rule);
         let follows = self.follows(session, rule, false, late);
@@ -177,7 +234,12 @@ impl Losses {
 
     /// Whether an offence of this message by this rule follows from a message that was passed over,
     /// or from the broken frames of the other side.
-    fn message_follows(&self, side: Side, rule: u16, message: &Message) -> bool {
+    fn message_follows(&self, side: Side, rule: u16, message: &Message) -> bool
+        ensures { (terms : Terms) (before : List Noted) (event : Event)
+            → AreLosses terms self.now before → IsMessageOf side (message_view message.now) event
+            → result ≡ (follows_passed terms rule before event
+            || follows_bytes rule (events_of before) event) }
+    {
         let passed = self.follows_passed(side, rule, message);
         let late = self.sides.message_follows(side, rule);
         passed || late
@@ -185,7 +247,11 @@ impl Losses {
 
     /// Whether it follows from a message that was passed over: it answers a request, or wants
     /// `initialized` before it.
-    fn follows_passed(&self, side: Side, rule: u16, message: &Message) -> bool {
+    fn follows_passed(&self, side: Side, rule: u16, message: &Message) -> bool
+        ensures { (terms : Terms) (before : List Noted) (event : Event)
+            → AreLosses terms self.now before → IsMessageOf side (message_view message.now) event
+            → result ≡ follows_passed terms rule before event }
+    {
         let answers = self.answers_passed(side, rule, message);
         let wants = self.wants_initialized(rule);
         answers || wants
@@ -217,7 +283,11 @@ impl Losses {
     /// Whether an offence by this rule follows from an earlier one, where its event speaks of a
     /// lost document or doesn't, and is late or isn't: follows from bytes that failed or from a
     /// request that was passed over.
-    fn follows(&self, session: &Session, rule: u16, on_lost: bool, late: bool) -> bool {
+    fn follows(&self, session: &Session, rule: u16, on_lost: bool, late: bool) -> bool
+        ensures { (terms : Terms) (before : List Noted) → AreLosses terms self.now before
+            → HoldsSent session.now terms before
+            → result ≡ follows_of terms before rule on_lost late }
+    {
         if wants_handshake(rule) && self.is_handshake_lost(session) {
             return true;
         }
@@ -228,13 +298,19 @@ impl Losses {
     }
 
     /// Whether an event of the handshake was refused, and no answer has settled it.
-    fn is_handshake_lost(&self, session: &Session) -> bool {
+    fn is_handshake_lost(&self, session: &Session) -> bool
+        ensures { (terms : Terms) (before : List Noted) → AreLosses terms self.now before
+            → HoldsSent session.now terms before → result ≡ is_handshake_lost terms before }
+    {
         self.handshake && !session.is_done()
     }
 }
 
 /// Whether what cannot be read of this side may be the answer to an `initialize`.
-fn may_answer(session: &Session, side: Side) -> bool {
+fn may_answer(session: &Session, side: Side) -> bool
+    ensures { (kept : List Event) (rule : ℕ) → Stands session.now (sent_in kept)
+        → result ≡ may_answer kept (fault side rule) }
+{
     match side {
         Side::Editor => false,
         Side::Server => session.awaits_initialize(),
