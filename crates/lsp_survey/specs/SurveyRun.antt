@@ -1,8 +1,14 @@
 -- What is said where all that is wrong with a log is listed.
-use Rattle.std.specs.Prelude.{◌≡◌, ℕ, List, [], ◌∷◌, ◌++◌, map, Bool, false, Option, Some, None, unwrap_or}
+use Rattle.std.specs.Prelude.{◌≡◌, ◌+◌, ◌<◌, ◌^◌, ℕ, List, [], ◌∷◌, ◌++◌, map, length, Bool, false}
+use Rattle.std.specs.Prelude.{Option, Some, None, unwrap_or}
 use Rattle.lsp_docs.specs.Terms.{Terms}
 use Rattle.lsp_replay.specs.Run.{Run, Tail}
-use Rattle.lsp_survey.specs.Reported.{end_lines, lines_of}
+use Rattle.lsp_replay.specs.Telling.{rule_of}
+use Rattle.lsp_survey.specs.Lost.{AreLosses}
+use Rattle.lsp_survey.specs.Reported.{IsTally, end_lines, lines_of}
+use Rattle.lsp_survey.specs.declared.losses.Losses.{Losses}
+use Rattle.lsp_survey.specs.declared.offence_count.OffenceCount.{OffenceCount}
+use Rattle.lsp_verdict.specs.Counting.{AreCounts}
 use Rattle.lsp_verdict.specs.Event.{Event}
 use Rattle.lsp_verdict.specs.Given.{verdict_view}
 use Rattle.lsp_verdict.specs.Heard.{Heard, heard_events, notes_of}
@@ -12,6 +18,7 @@ use Rattle.lsp_verdict.specs.Shown.{line_at}
 use Rattle.lsp_verdict.specs.Survey.{by_itself, ends_listed, first_verdict}
 use Rattle.lsp_verdict.specs.Verdict.{Verdict, bad_log_of, summary}
 use Rattle.lsp_verdict.specs.declared.completeness.Completeness.{Completeness}
+use Rattle.lsp_verdict.specs.declared.counts.Counts.{Counts}
 use Rattle.lsp_verdict.specs.declared.lines.Lines.{Lines}
 use Rattle.lsp_verdict.specs.declared.listing.Listing.{Listing}
 use Rattle.lsp_verdict.specs.declared.outcome.Outcome.{Outcome}
@@ -75,3 +82,18 @@ survey_run asked = record {
       × ((given : code.Verdict) × (outcome ≡ Judged given)
       × (verdict_view given ≡ verdict_by asked terms heard tail));
 }
+
+-- ---- the account
+
+-- **it stands for these events**
+abbrev pub SurveyStands : Losses → OffenceCount → Terms → List Heard → Type 0
+SurveyStands losses tally terms heard =
+    AreLosses terms losses (notes_of heard) × IsTally tally (offences terms (notes_of heard))
+
+-- the event is kept after these, and counted
+pub record IsKeptOn (terms : Terms) (counts : Counts) (before : List Heard) (h : Heard) : Type 0
+  where
+    pub rule : rule_of terms before h ≡ None
+    pub whole : h.note.malformed ≡ None
+    pub counted : AreCounts counts (heard_events (before ++ h ∷ []))
+    pub few : length before + 1 < 2 ^ 64

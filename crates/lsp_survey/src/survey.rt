@@ -1,19 +1,25 @@
 //! What is said where all that is wrong with a log is listed, and its kept events are shown or
 //! aren't.
-ghost use Rattle.std.specs.Prelude.{◌≡◌, ◌++◌, ◌∷◌, ◌<◌, ◌^◌, ◌||◌, ◌×◌, not, [], List, Option};
-ghost use Rattle.std.specs.Prelude.{string_bytes, map, length, codes, decimal, option_map, IfOk, OnOk};
+ghost use Rattle.std.specs.Prelude.{◌≡◌, ◌++◌, ◌∷◌, ◌+◌, ◌<◌, ◌^◌, ◌||◌, not, [], List, None, Some};
+ghost use Rattle.std.specs.Prelude.{IfOk, OnOk, chars, length, option_map, string_bytes};
 ghost use Rattle.lsp_docs.specs.Terms.{Terms};
-ghost use Rattle.lsp_replay.specs.Telling.{IsSeen, Stood};
+ghost use Rattle.lsp_replay.specs.LogEvents.{flaw_of};
+ghost use Rattle.lsp_replay.specs.Run.{Tail};
+ghost use Rattle.lsp_replay.specs.Standing.{Follows};
+ghost use Rattle.lsp_replay.specs.Telling.{IsEnd, IsSeen, IsSpoken, Stood, kept_before};
 ghost use Rattle.lsp_replay.specs.declared.seen.Seen.TheVariants as seen;
+ghost use Rattle.lsp_survey.specs.Asked.{asked_of};
 ghost use Rattle.lsp_survey.specs.Lost.{AreLosses};
 ghost use Rattle.lsp_survey.specs.Reported.{IsTally, closing, is_every, lines_of};
-ghost use Rattle.lsp_survey.specs.SurveyRun.{SurveyAsked, survey_run};
-ghost use Rattle.lsp_verdict.specs.Given.{offence_view, verdict_view};
+ghost use Rattle.lsp_survey.specs.SurveyRun.{IsKeptOn, SurveyAsked, SurveyStands, ends_of};
+ghost use Rattle.lsp_survey.specs.SurveyRun.{kept_line, survey_run};
+ghost use Rattle.lsp_verdict.specs.Event.{Event, snapshot};
+ghost use Rattle.lsp_verdict.specs.Given.{as_given, offence_view, verdict_view};
 ghost use Rattle.lsp_verdict.specs.Heard.{Heard, heard_events, notes_of};
-ghost use Rattle.lsp_verdict.specs.Offences.{Offence as SpecOffence, offences};
-ghost use Rattle.lsp_verdict.specs.Report.{line};
-ghost use Rattle.lsp_verdict.specs.Survey.{bad_lines, first_verdict};
-ghost use Rattle.lsp_verdict.specs.Verdict.{summary};
+ghost use Rattle.lsp_verdict.specs.Offences as offences;
+ghost use Rattle.lsp_verdict.specs.Offences.{Offence as SpecOffence};
+ghost use Rattle.lsp_verdict.specs.Survey.{first_verdict};
+ghost use Rattle.lsp_verdict.specs.Verdict.{bad_log_of, first_no, no, summary, yes};
 
 use crate::losses::Losses;
 use crate::offence_count::OffenceCount;
@@ -48,7 +54,13 @@ impl Survey {
         completeness: Completeness,
         listing: Listing,
         lines: Option<Lines>,
-    ) -> Survey {
+    ) -> Survey
+        ensures completeness { result.completeness ≡ completeness }
+        ensures listing { result.listing ≡ listing }
+        ensures lines { result.lines ≡ lines }
+        ensures losses { (terms : Terms) → AreLosses terms result.losses [] }
+        ensures tally { IsTally result.tally [] }
+    {
         Survey {
             completeness,
             listing,
@@ -66,7 +78,18 @@ impl Survey {
         side: Side,
         spoken: &Spoken,
         text: &mut String,
-    ) -> Result<(), Memory> {
+    ) -> Result<(), Memory>
+        ensures stands { OnOk result ((terms : Terms) (before : List Heard) (h : Heard)
+            → SurveyStands self.old.losses self.old.tally terms before
+            → IsKeptOn terms held.now.counts before h
+            → IsSpoken (kept_before terms before) h.note.event side spoken.now
+            → SurveyStands self.new.losses self.new.tally terms (before ++ h ∷ [])) }
+        ensures said { OnOk result ((terms : Terms) (before : List Heard) (h : Heard)
+            → IsKeptOn terms held.now.counts before h
+            → IsSpoken (kept_before terms before) h.note.event side spoken.now
+            → string_bytes text.new ≡ string_bytes text.old
+            ++ kept_line self.old.lines (heard_events before) h.note.event) }
+    {
         self.losses.keep(side, &spoken.act)?;
         let Some(lines) = self.lines else {
             return Ok(());
@@ -84,7 +107,13 @@ impl Survey {
         uri: &str,
         shown: &str,
         text: &mut String,
-    ) -> Result<(), Memory> {
+    ) -> Result<(), Memory>
+        ensures { OnOk result ((terms : Terms) (before : List Heard) (h : Heard)
+            → IsKeptOn terms held.now.counts before h
+            → h.note.event ≡ snapshot uri.now version (chars shown.now)
+            → string_bytes text.new ≡ string_bytes text.old
+            ++ kept_line self.now.lines (heard_events before) h.note.event) }
+    {
         let Some(lines) = self.lines else {
             return Ok(());
         };
@@ -101,14 +130,28 @@ impl Survey {
         rule: u16,
         spoken: Option<&Spoken>,
         text: &mut String,
-    ) -> Result<(), Memory> {
+    ) -> Result<(), Memory>
+        ensures { OnOk result ((terms : Terms) (before : List Heard) (h : Heard)
+            → SurveyStands self.old.losses self.old.tally terms before
+            → IsSeen held.now.session held.now.docs held.now.counts
+            (seen.Offence raw.entry rule spoken.entry) terms before h
+            → SurveyStands self.new.losses self.new.tally terms (before ++ h ∷ [])
+            × ((o : SpecOffence) → offences.offence_at terms (notes_of before) h.note ≡ Some o
+            → string_bytes text.new ≡ string_bytes text.old
+            ++ lines_of self.old.listing (o ∷ []))) }
+    {
         let follows = self.losses.offend(alloc, held, raw, rule, spoken)?;
         let place = EventPlace::last(&held.counts, raw.who());
         self.list(alloc, &offence_at(place, rule, follows), text)
     }
 
     /// Counts an offence, and adds its lines where it is listed.
-    fn list(&mut self, alloc: Global, offence: &Offence, text: &mut String) -> Result<(), Memory> {
+    fn list(&mut self, alloc: Global, offence: &Offence, text: &mut String) -> Result<(), Memory>
+        ensures tally { (found : List SpecOffence) → IsTally self.old.tally found
+            → IsTally self.new.tally (found ++ offence_view offence.now ∷ []) }
+        ensures said { OnOk result (string_bytes text.new ≡ string_bytes text.old
+            ++ lines_of self.old.listing (offence_view offence.now ∷ [])) }
+    {
         self.tally.add(offence);
         if !is_listed(self.listing, offence.follows) {
             return Ok(());
@@ -124,7 +167,16 @@ impl Survey {
         held: &Events<Lined>,
         log: &LogEvents,
         text: &mut String,
-    ) -> Result<(), Memory> {
+    ) -> Result<(), Memory>
+        ensures { OnOk result ((terms : Terms) (heard : List Heard) (tail : Tail)
+            (found : List SpecOffence)
+            → Stood terms held.now.session held.now.docs held.now.counts heard
+            → length heard + 1 < 2 ^ 64 → IsEnd log.now End.Sound heard tail
+            → IsTally self.old.tally found
+            → IsTally self.new.tally (found ++ ends_of (asked_of self.old) terms heard tail)
+            × (string_bytes text.new ≡ string_bytes text.old
+            ++ lines_of self.old.listing (ends_of (asked_of self.old) terms heard tail))) }
+    {
         let editor = log.ends_inside(Side::Editor);
         let server = log.ends_inside(Side::Server);
         let listed = ends(alloc, held, editor, server, self.completeness)?;
@@ -141,7 +193,18 @@ impl Survey {
         held: &Events<Lined>,
         bad: Option<Verdict>,
         text: &mut String,
-    ) -> Result<Verdict, Memory> {
+    ) -> Result<Verdict, Memory>
+        ensures { IfOk result (λ verdict. (terms : Terms) (heard : List Heard)
+            (found : List SpecOffence)
+            → Stood terms held.now.session held.now.docs held.now.counts heard
+            → length heard + 1 < 2 ^ 64 → IsTally self.now.tally found
+            → (found ≡ [] → first_no terms (heard_events heard) ≡ None)
+            → length found < 2 ^ 64
+            → (string_bytes text.new ≡ string_bytes text.old ++ closing found
+            (option_map verdict_view bad) (summary terms (heard_events heard)))
+            × (verdict_view verdict ≡ first_verdict found (option_map verdict_view bad)
+            (summary terms (heard_events heard)))) }
+    {
         let Some(first) = self.tally.first else {
             let verdict = sound(alloc, held, bad)?;
             text.push_str(verdict_report(alloc, &verdict)?.as_str())?;
@@ -159,16 +222,11 @@ impl Survey {
 impl Account for Survey {
     ghost Asked = { SurveyAsked };
 
-    ghost asked = { λ s. record {
-      completeness = s.completeness;
-      listing = s.listing;
-      lines = s.lines;
-    } };
+    ghost asked = { asked_of };
 
     ghost run = { survey_run };
 
-    ghost stands = { λ s terms heard. AreLosses terms s.losses (notes_of heard)
-        × IsTally s.tally (offences terms (notes_of heard)) };
+    ghost stands = { λ s terms heard. SurveyStands s.losses s.tally terms heard };
 
     fn event(
         &mut self,
@@ -210,7 +268,12 @@ impl Account for Survey {
 }
 
 /// The offence against this rule at the event of this place.
-fn offence_at(place: EventPlace, rule: u16, follows: bool) -> Offence {
+fn offence_at(place: EventPlace, rule: u16, follows: bool) -> Offence
+    ensures { offence_view result ≡ record {
+      no = no rule place.who place.number place.event;
+      follows = follows;
+    } }
+{
     Offence {
         rule,
         who: place.who,
@@ -231,7 +294,9 @@ fn is_listed(listing: Listing, follows: bool) -> bool
 }
 
 /// The verdict on a log that has a fault.
-pub(crate) fn bad_log(end: End) -> Option<Verdict> {
+fn bad_log(end: End) -> Option<Verdict>
+    ensures { option_map verdict_view result ≡ bad_log_of (flaw_of end) }
+{
     match end {
         End::Sound => None,
         End::Bad { number, fault } => Some(Verdict::BadLog { number, fault }),
@@ -239,7 +304,14 @@ pub(crate) fn bad_log(end: End) -> Option<Verdict> {
 }
 
 /// The verdict where nothing is listed: the fault of the log, else Yes.
-fn sound(alloc: Global, held: &Events<Lined>, bad: Option<Verdict>) -> Result<Verdict, Memory> {
+fn sound(alloc: Global, held: &Events<Lined>, bad: Option<Verdict>) -> Result<Verdict, Memory>
+    ensures { IfOk result (λ verdict. (events : List Event)
+        → Follows held.now.session held.now.docs held.now.counts events
+        → as_given (yes (summary held.now.docs.terms events))
+        ≡ yes (summary held.now.docs.terms events)
+        → verdict_view verdict ≡ first_verdict [] (option_map verdict_view bad)
+        (summary held.now.docs.terms events)) }
+{
     match bad {
         Some(verdict) => Ok(verdict),
         None => Ok(Verdict::Yes(summary_of(alloc, held)?)),
