@@ -1,9 +1,9 @@
 //! What is said where all that is wrong with a log is listed, and its kept events are shown or
 //! aren't.
 ghost use Rattle.std.specs.Prelude.{◌≡◌, ◌++◌, ◌∷◌, ◌+◌, ◌<◌, ◌^◌, ◌||◌, not, [], List, None, Some};
-ghost use Rattle.std.specs.Prelude.{IfOk, OnOk, chars, length, option_map, string_bytes};
+ghost use Rattle.std.specs.Prelude.{IfOk, OnOk, chars, codes, decimal, length, option_map};
+ghost use Rattle.std.specs.Prelude.{string_bytes};
 ghost use Rattle.lsp_docs.specs.Terms.{Terms};
-ghost use Rattle.lsp_replay.specs.LogEvents.{flaw_of};
 ghost use Rattle.lsp_replay.specs.Run.{Tail};
 ghost use Rattle.lsp_replay.specs.Standing.{Follows};
 ghost use Rattle.lsp_replay.specs.Telling.{IsEnd, IsSeen, IsSpoken, Stood, kept_before};
@@ -11,15 +11,17 @@ ghost use Rattle.lsp_replay.specs.declared.seen.Seen.TheVariants as seen;
 ghost use Rattle.lsp_survey.specs.Asked.{asked_of};
 ghost use Rattle.lsp_survey.specs.Lost.{AreLosses};
 ghost use Rattle.lsp_survey.specs.Reported.{IsTally, closing, is_every, lines_of};
-ghost use Rattle.lsp_survey.specs.SurveyRun.{IsKeptOn, SurveyAsked, SurveyStands, ends_of};
-ghost use Rattle.lsp_survey.specs.SurveyRun.{kept_line, survey_run};
+ghost use Rattle.lsp_survey.specs.SurveyRun.{IsKeptOn, SurveyAsked, SurveyStands, end_said};
+ghost use Rattle.lsp_survey.specs.SurveyRun.{ends_of, event_said, kept_line, survey_run};
+ghost use Rattle.lsp_survey.specs.SurveyRun.{verdict_by};
 ghost use Rattle.lsp_verdict.specs.Event.{Event, snapshot};
 ghost use Rattle.lsp_verdict.specs.Given.{as_given, offence_view, verdict_view};
 ghost use Rattle.lsp_verdict.specs.Heard.{Heard, heard_events, notes_of};
 ghost use Rattle.lsp_verdict.specs.Offences as offences;
 ghost use Rattle.lsp_verdict.specs.Offences.{Offence as SpecOffence};
-ghost use Rattle.lsp_verdict.specs.Survey.{first_verdict};
-ghost use Rattle.lsp_verdict.specs.Verdict.{bad_log_of, first_no, no, summary, yes};
+ghost use Rattle.lsp_verdict.specs.Report.{line, report};
+ghost use Rattle.lsp_verdict.specs.Survey.{bad_lines, first_verdict};
+ghost use Rattle.lsp_verdict.specs.Verdict.{first_no, no, summary, yes};
 
 use crate::losses::Losses;
 use crate::offence_count::OffenceCount;
@@ -67,6 +69,35 @@ impl Survey {
             lines,
             losses: Losses::new(alloc),
             tally: OffenceCount::new(),
+        }
+    }
+
+    /// Says what there is to say of an event.
+    fn tell(
+        &mut self,
+        alloc: Global,
+        held: &Events<Lined>,
+        seen: Seen<'_>,
+        text: &mut String,
+    ) -> Result<(), Memory>
+        ensures { OnOk result ((terms : Terms) (before : List Heard) (h : Heard)
+            → SurveyStands self.old.losses self.old.tally terms before
+            → IsSeen held.now.session held.now.docs held.now.counts seen.entry terms before h
+            → SurveyStands self.new.losses self.new.tally terms (before ++ h ∷ [])
+            × (string_bytes text.new ≡ string_bytes text.old
+            ++ event_said (asked_of self.old) terms before h)) }
+    {
+        match seen {
+            Seen::Message { side, spoken, .. } => self.keep(alloc, held, side, spoken, text),
+            Seen::Snapshot {
+                version,
+                uri,
+                text: shown,
+                ..
+            } => self.show(alloc, held, version, uri, shown, text),
+            Seen::Offence { raw, rule, spoken } => {
+                self.offend(alloc, held, raw, rule, spoken, text)
+            }
         }
     }
 
@@ -160,6 +191,35 @@ impl Survey {
         Ok(text.push_str(lines.as_str())?)
     }
 
+    /// Says how a log ends, and gives its verdict.
+    fn finish(
+        &mut self,
+        alloc: Global,
+        held: &Events<Lined>,
+        log: &LogEvents,
+        end: End,
+        text: &mut String,
+    ) -> Result<Verdict, Memory>
+        ensures { IfOk result (λ verdict. (terms : Terms) (heard : List Heard) (tail : Tail)
+            → SurveyStands self.old.losses self.old.tally terms heard
+            → Stood terms held.now.session held.now.docs held.now.counts heard
+            → length heard + 1 < 2 ^ 64 → IsEnd log.now end heard tail
+            → (string_bytes text.new ≡ string_bytes text.old
+            ++ end_said (asked_of self.old) terms heard tail)
+            × (verdict_view verdict ≡ verdict_by (asked_of self.old) terms heard tail)) }
+    {
+        match end {
+            End::Sound => {
+                self.list_ends(alloc, held, log, text)?;
+                self.close(alloc, held, None, text)
+            }
+            End::Bad { number, fault } => {
+                let bad = Verdict::BadLog { number, fault };
+                self.close(alloc, held, Some(bad), text)
+            }
+        }
+    }
+
     /// Lists how a log ends without a fault.
     fn list_ends(
         &mut self,
@@ -205,17 +265,17 @@ impl Survey {
             × (verdict_view verdict ≡ first_verdict found (option_map verdict_view bad)
             (summary terms (heard_events heard)))) }
     {
-        let Some(first) = self.tally.first else {
-            let verdict = sound(alloc, held, bad)?;
-            text.push_str(verdict_report(alloc, &verdict)?.as_str())?;
-            return Ok(verdict);
-        };
-        if let Some(verdict) = &bad {
-            text.push_str(verdict_report(alloc, verdict)?.as_str())?;
+        match self.tally.first {
+            Some(first) => {
+                push_last(alloc, &self.tally, &bad, text)?;
+                Ok(first.verdict())
+            }
+            None => {
+                let verdict = sound(alloc, held, bad)?;
+                push_report(alloc, &verdict, text)?;
+                Ok(verdict)
+            }
         }
-        let count = found_report(alloc, self.tally.found, self.tally.following)?;
-        text.push_str(count.as_str())?;
-        Ok(first.verdict())
     }
 }
 
@@ -235,18 +295,7 @@ impl Account for Survey {
         seen: Seen<'_>,
         text: &mut String,
     ) -> Result<Flow, Memory> {
-        match seen {
-            Seen::Message { side, spoken, .. } => self.keep(alloc, held, side, spoken, text)?,
-            Seen::Snapshot {
-                version,
-                uri,
-                text: shown,
-                ..
-            } => self.show(alloc, held, version, uri, shown, text)?,
-            Seen::Offence { raw, rule, spoken } => {
-                self.offend(alloc, held, raw, rule, spoken, text)?
-            }
-        }
+        self.tell(alloc, held, seen, text)?;
         Ok(Flow::GoOn)
     }
 
@@ -258,11 +307,7 @@ impl Account for Survey {
         end: End,
         text: &mut String,
     ) -> Result<Outcome, Memory> {
-        let bad = bad_log(end);
-        if bad.is_none() {
-            self.list_ends(alloc, held, log, text)?;
-        }
-        let verdict = self.close(alloc, held, bad, text)?;
+        let verdict = self.finish(alloc, held, log, end, text)?;
         Ok(Outcome::Judged(verdict))
     }
 }
@@ -293,14 +338,41 @@ fn is_listed(listing: Listing, follows: bool) -> bool
     }
 }
 
-/// The verdict on a log that has a fault.
-fn bad_log(end: End) -> Option<Verdict>
-    ensures { option_map verdict_view result ≡ bad_log_of (flaw_of end) }
+/// Adds the report of a verdict to a text.
+fn push_report(alloc: Global, verdict: &Verdict, text: &mut String) -> Result<(), Memory>
+    ensures { OnOk result
+        (string_bytes text.new ≡ string_bytes text.old ++ report (verdict_view verdict.now)) }
 {
-    match end {
-        End::Sound => None,
-        End::Bad { number, fault } => Some(Verdict::BadLog { number, fault }),
-    }
+    let report = verdict_report(alloc, verdict)?;
+    Ok(text.push_str(report.as_str())?)
+}
+
+/// Adds the lines of a fault of the log, if it has one.
+fn push_bad(alloc: Global, bad: &Option<Verdict>, text: &mut String) -> Result<(), Memory>
+    ensures { OnOk result (string_bytes text.new
+        ≡ string_bytes text.old ++ bad_lines (option_map verdict_view bad.now)) }
+{
+    let Some(verdict) = bad else {
+        return Ok(());
+    };
+    push_report(alloc, verdict, text)
+}
+
+/// Adds the lines of a fault of the log, and the one that says how many offences were found.
+fn push_last(
+    alloc: Global,
+    tally: &OffenceCount,
+    bad: &Option<Verdict>,
+    text: &mut String,
+) -> Result<(), Memory>
+    ensures { OnOk result (string_bytes text.new ≡ string_bytes text.old
+        ++ (bad_lines (option_map verdict_view bad.now)
+        ++ line (codes "offences" ∷ decimal tally.now.found ∷ codes "following" ∷ decimal
+        tally.now.following ∷ []))) }
+{
+    push_bad(alloc, bad, text)?;
+    let count = found_report(alloc, tally.found, tally.following)?;
+    Ok(text.push_str(count.as_str())?)
 }
 
 /// The verdict where nothing is listed: the fault of the log, else Yes.
