@@ -14,6 +14,7 @@ pub mod SessionSteps
 pub mod Waiting
 pub mod SidesSteps
 pub mod PassedSteps
+pub mod Losing
 pub mod Passing
 pub mod Hearing
 pub mod Ending

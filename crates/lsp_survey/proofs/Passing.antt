@@ -42,6 +42,7 @@ use Rattle.lsp_verdict.specs.Placed.{Raw}
 use Rattle.lsp_verdict.specs.Verdict.{whose}
 use Rattle.lsp_verdict.specs.declared.offence.Offence as code
 use Rattle.lsp_verdict.specs.declared.verdict.Who.{Who}
+use Rattle.lsp_survey.proofs.Losing.{breaks_by, broken_pushed, unheard_pushed, unheard_with}
 use Rattle.lsp_survey.proofs.MarkSteps.{refused_leaves}
 use Rattle.lsp_survey.proofs.OpeningSteps.{refused_opens}
 use Rattle.lsp_survey.proofs.SessionSteps.{refused_unsaid}
@@ -52,62 +53,6 @@ use Rattle.lsp_verdict.proofs.Offences.Steps.{is_passed-push, kept-push, kept-re
 use Rattle.lsp_verdict.proofs.Offences.Steps.{unheard-push}
 
 -- ---- what is noted
-
--- an event that offends by this rule, or is kept, breaks the handshake
-abbrev breaks_by : Option ℕ → Option Message → Bool → Bool
-breaks_by None malformed answers = false
-breaks_by (Some rule) malformed answers = breaks_handshake (asks malformed) rule || answers
-
-breaks_at : (o : Option ℕ) (malformed : Option Message) (answers : Bool)
-    → is_some (option_and_then (λ rule.
-    if breaks_handshake (asks malformed) rule || answers then Some rule else None) o)
-    ≡ breaks_by o malformed answers
-breaks_at None malformed answers = refl
-breaks_at (Some rule) malformed answers =
-    by_test (breaks_handshake (asks malformed) rule || answers)
-  where
-    by_test : (b : Bool) → is_some (if b then Some rule else None) ≡ b
-    by_test true = refl
-    by_test false = refl
-
-broken_pushed : (terms : Terms) (notes : List Noted) (n : Noted)
-    → is_some (first_of (broken_by terms) (notes ++ n ∷ []))
-    ≡ (is_some (first_of (broken_by terms) notes) || breaks_by
-    (rule_at terms (events_of notes) n.event) n.malformed
-    (may_answer (kept_of terms (events_of notes)) n.event))
-broken_pushed terms notes n =
-    broken-push terms notes n
-    ∙ ap (λ (b : Bool). is_some (first_of (broken_by terms) notes) || b)
-    (breaks_at (rule_at terms (events_of notes) n.event) n.malformed
-    (may_answer (kept_of terms (events_of notes)) n.event))
-
--- an event that offends by this rule, or is kept, is an `initialized` that is passed over
-abbrev unheard_with : Option ℕ → Event → Bool
-unheard_with None e = false
-unheard_with (Some rule) e = is_initialized_by e
-
-unheard_at : (o : Option ℕ) (e : Event)
-    → is_some (if is_initialized_by e then o else None) ≡ unheard_with o e
-unheard_at None e = by_test (is_initialized_by e)
-  where
-    no_rule : Option ℕ
-    no_rule = None
-
-    by_test : (b : Bool) → is_some (if b then no_rule else no_rule) ≡ false
-    by_test true = refl
-    by_test false = refl
-unheard_at (Some rule) e = by_test (is_initialized_by e)
-  where
-    by_test : (b : Bool) → is_some (if b then Some rule else None) ≡ b
-    by_test true = refl
-    by_test false = refl
-
-unheard_pushed : (terms : Terms) (notes : List Noted) (n : Noted)
-    → is_unheard terms (notes ++ n ∷ [])
-    ≡ (is_unheard terms notes || unheard_with (rule_at terms (events_of notes) n.event) n.event)
-unheard_pushed terms notes n = unheard-push terms notes n
-    ∙ ap (λ (b : Bool). is_unheard terms notes || b)
-    (unheard_at (rule_at terms (events_of notes) n.event) n.event)
 
 -- what is noted lost is lost
 pub noted_lost : (terms : Terms) (w : Replay) (notes : List Noted) (said : Option Call)

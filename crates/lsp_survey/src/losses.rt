@@ -162,7 +162,7 @@ impl Losses {
         let on_lost = is_on_lost(&self.documents, &spoken.act)?;
         let late = self.message_follows(side, rule, &spoken.message);
         let follows = self.follows(&held.session, rule, on_lost, late);
-        self.handshake = self.handshake || breaks;
+        self.break_handshake(breaks);
         self.sides = self.sides.after_message(side);
         note_refused_act(&mut self.documents, rule, other, &spoken.act)?;
         self.passed.note(side, rule, &spoken.message)?;
@@ -209,7 +209,7 @@ impl Losses {
         let on_lost = self.documents.is_lost(uri)?;
         let follows = self.follows(session, rule, on_lost, false);
         let breaks = breaks_handshake(false, rule);
-        self.handshake = self.handshake || breaks;
+        self.break_handshake(breaks);
         note_refused(&mut self.documents, rule, uri, false, false)?;
         Ok(follows)
     }
@@ -224,12 +224,19 @@ impl Losses {
             → HoldsSent session.now terms before → result ≡ follows_of terms before rule false
             (follows_bytes rule (events_of before) (fault side rule)) }
     {
-        let breaks = breaks_handshake(asks, rule) || may_answer(session, side);
+        let breaks = breaks(session, side, rule, asks);
         let late = self.sides.fault_follows(side, rule);
         let follows = self.follows(session, rule, false, late);
-        self.handshake = self.handshake || breaks;
+        self.break_handshake(breaks);
         self.sides = self.sides.after_fault(side, rule);
         follows
+    }
+
+    /// The handshake is lost where the event breaks it.
+    fn break_handshake(&mut self, breaks: bool)
+        ensures { self.new.handshake ≡ (self.old.handshake || breaks) }
+    {
+        self.handshake = self.handshake || breaks;
     }
 
     /// Whether an offence of this message by this rule follows from a message that was passed over,
@@ -304,6 +311,15 @@ impl Losses {
     {
         self.handshake && !session.is_done()
     }
+}
+
+/// Whether a frame or a content of this side that breaks this rule breaks the handshake; the content
+/// may ask for it.
+fn breaks(session: &Session, side: Side, rule: u16, asks: bool) -> bool
+    ensures { (kept : List Event) → Stands session.now (sent_in kept)
+        → result ≡ (breaks_handshake asks rule || may_answer kept (fault side rule)) }
+{
+    breaks_handshake(asks, rule) || may_answer(session, side)
 }
 
 /// Whether what cannot be read of this side may be the answer to an `initialize`.

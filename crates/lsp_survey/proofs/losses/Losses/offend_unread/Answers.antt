@@ -1,0 +1,39 @@
+use Rattle.std.specs.Prelude.{List, Option, ℕ, option_map, string_bytes, ◌||◌}
+use Rattle.std.proofs.Common.{◌∙◌, false, None, Some, refl, sym, ap, subst}
+use Rattle.std.proofs.Math.Bool.{or-false}
+use Rattle.lsp_rpc.specs.Ident.{Ident}
+use Rattle.lsp_survey.specs.Notes.{Leaves}
+use Rattle.lsp_survey.specs.Passed.{SetsAny}
+use Rattle.lsp_verdict.specs.Event.{fault}
+use Rattle.lsp_verdict.specs.Offences.{breaks_handshake, events_of, kept_of, may_answer}
+use Rattle.lsp_survey.proofs.PassedSteps.{content_passes}
+use Rattle.lsp_survey.proofs.losses.Losses.offend_unread.Goals as goal
+
+pub returns : goal.returns
+returns c =
+    let noted = c.offend_fault-follows.ensures in
+    let old = c.args.self.now in
+    let side = c.args.side in
+    let rule = c.args.rule in
+    let read = c.in_ok-asks.ensures in
+    let malformed = read.0 in
+    let meant = read.2 in (
+      malformed,
+      read.1,
+      λ terms before losses stands. (
+          noted.follows terms before losses stands,
+          record {
+            is_broken = noted.broken (kept_of terms (events_of before)) stands
+                ∙ ap (λ b. old.handshake || (breaks_handshake b rule
+                || may_answer (kept_of terms (events_of before)) (fault side rule))) meant.asks;
+            sides = noted.sides;
+            passed = content_passes side rule rule malformed old.passed c.note_asked.new.self
+                (subst (λ (o : Option Ident). SetsAny side o old.passed c.note_asked.new.self)
+                meant.asked c.in_ok-note_asked.ensures);
+            unheard = sym (or-false old.unheard);
+            noted = subst (λ (brought : Option (List ℕ)). Leaves (Some rule) brought false None
+                old.documents.map.entries c.note_malformed.new.notes.map.entries) meant.brings
+                c.in_ok-note_malformed.ensures;
+          },
+        ),
+    )
