@@ -24,5 +24,6 @@ pub mod Reporting
 pub mod Told
 pub mod KeptTexts
 pub mod TextSteps
+pub mod SurveySteps
 pub mod SurveyRuns
 pub mod Showing

@@ -1,0 +1,177 @@
+-- The steps of the account that lists all that is wrong with a log.
+use Rattle.std.specs.Prelude.{ℤ, decimal, map, option_and_then, option_map, unwrap_or}
+use Rattle.std.specs.List.{cons_option}
+use Rattle.std.proofs.Common.{◌≡◌, ℕ, ◌+◌, ◌<◌, ◌^◌, Bool, false, List, [], ◌∷◌, ◌++◌, length, Option, Some, None}
+use Rattle.std.proofs.Common.{refl, sym, ap, subst, ◌∙◌, append-nil, arith, length-append}
+use Rattle.std.proofs.lemmas.List.{length-map, map-append}
+use Rattle.lsp_docs.specs.Calls.{Call, shows}
+use Rattle.lsp_rpc.specs.Message.{Message}
+use Rattle.lsp_docs.specs.Terms.{Terms}
+use Rattle.lsp_rpc.specs.Outline.{outline}
+use Rattle.lsp_rpc.specs.View.{act_view, message_view}
+use Rattle.lsp_rpc.specs.Words.{words_of}
+use Rattle.lsp_rpc.specs.declared.act.Spoken.{Spoken}
+use Rattle.lsp_rpc.proofs.OutlineWords.{words_by_outline}
+use Rattle.lsp_session.specs.Negotiation.{encoding, sync_kind}
+use Rattle.lsp_session.specs.Sent.{Sent}
+use Rattle.lsp_session.specs.View as lent
+use Rattle.lsp_types.specs.declared.change.SyncKind.{SyncKind}
+use Rattle.lsp_types.specs.declared.change.SyncKind.TheVariants.{Nothing}
+use Rattle.lsp_types.specs.declared.position.Encoding.{Encoding}
+use Rattle.lsp_types.specs.declared.position.Encoding.TheVariants.{Utf16}
+use Rattle.lsp_types.specs.declared.side.Side.{Side}
+use Rattle.lsp_replay.specs.Places.{place_of}
+use Rattle.lsp_replay.specs.Telling.{IsSpoken, kept_before, rule_of}
+use Rattle.lsp_replay.specs.declared.heard.EventPlace.{EventPlace}
+use Rattle.lsp_replay.proofs.EventPlaces.{line_placed, placed}
+use Rattle.lsp_replay.proofs.Seeing.{events-push}
+use Rattle.lsp_survey.specs.Lost.{AreLosses}
+use Rattle.lsp_survey.specs.Notes.{AreAfter, Leaves}
+use Rattle.lsp_survey.specs.Reported.{IsTally}
+use Rattle.lsp_survey.specs.Sides.{sides_after, sides_read}
+use Rattle.lsp_survey.specs.SurveyRun.{IsKeptOn, SurveyStands}
+use Rattle.lsp_survey.specs.declared.losses.Losses.{Losses}
+use Rattle.lsp_survey.specs.declared.offence_count.OffenceCount.{OffenceCount}
+use Rattle.lsp_survey.proofs.Losing.{kept_on}
+use Rattle.lsp_survey.proofs.Noting.{notes_stay}
+use Rattle.lsp_verdict.specs.Calls.{call_of}
+use Rattle.lsp_verdict.specs.Counting.{AreCounts}
+use Rattle.lsp_verdict.specs.Event.{Event, message, sent_in, snapshot}
+use Rattle.lsp_verdict.specs.Heard.{Heard, heard_events, notes_of}
+use Rattle.lsp_verdict.specs.Offences.{Noted, Offence, brought_by, follows, offence_by, offences, said_at}
+use Rattle.lsp_verdict.specs.Report.{line, side_name}
+use Rattle.lsp_verdict.specs.Shown.{document_words, line_at, message_words, words_behind}
+use Rattle.lsp_verdict.specs.Verdict.{no, whose}
+use Rattle.lsp_verdict.specs.declared.counts.Counts.{Counts}
+use Rattle.lsp_verdict.specs.declared.lines.Lines.{Lines}
+use Rattle.lsp_verdict.specs.declared.verdict.Who.{Who}
+use Rattle.lsp_verdict.proofs.Offences.Steps.{offences-push}
+
+notes-push : (before : List Heard) (h : Heard)
+    → notes_of (before ++ h ∷ []) ≡ notes_of before ++ h.note ∷ []
+notes-push before h = map-append (λ (x : Heard). x.note) before (h ∷ [])
+
+-- ---- the offences so far
+
+-- an event that is kept is none
+pub no_offence : (terms : Terms) (before : List Heard) (h : Heard)
+    → rule_of terms before h ≡ None
+    → offences terms (notes_of (before ++ h ∷ [])) ≡ offences terms (notes_of before)
+no_offence terms before h is =
+    let notes = notes_of before in
+    ap (offences terms) (notes-push before h)
+    ∙ offences-push terms notes h.note
+    ∙ ap (λ (o : Option ℕ). offences terms notes
+    ++ cons_option (option_map (offence_by terms notes h.note) o) []) is
+    ∙ append-nil (offences terms notes)
+
+pub one_offence : (terms : Terms) (before : List Heard) (h : Heard) (rule : ℕ)
+    → rule_of terms before h ≡ Some rule
+    → offences terms (notes_of (before ++ h ∷ []))
+    ≡ offences terms (notes_of before) ++ offence_by terms (notes_of before) h.note rule ∷ []
+one_offence terms before h rule is =
+    let notes = notes_of before in
+    ap (offences terms) (notes-push before h)
+    ∙ offences-push terms notes h.note
+    ∙ ap (λ (o : Option ℕ). offences terms notes
+    ++ cons_option (option_map (offence_by terms notes h.note) o) []) is
+
+-- ---- places
+
+module _ (before : List Heard) (h : Heard) (counts : Counts) (few : length before + 1 < 2 ^ 64)
+    (counted : AreCounts counts (heard_events (before ++ h ∷ []))) where
+  pub counted_on : AreCounts counts (heard_events before ++ h.note.event ∷ [])
+  counted_on = subst (AreCounts counts) (events-push before h) counted
+
+  pub few_on : length (heard_events before ++ h.note.event ∷ []) < 2 ^ 64
+  few_on = omega (
+    arith,
+    few,
+    length-append (heard_events before) (h.note.event ∷ []),
+    length-map (notes_of before) (λ (n : Noted). n.event),
+    length-map before (λ (x : Heard). x.note),
+  )
+
+  -- the offence by this rule at the place of the event is the one that is defined
+  pub offence_is : (terms : Terms) (rule : ℕ) (late : Bool) (place : EventPlace)
+      → place ≡ place_of (heard_events before) h.note.event
+      → late ≡ follows terms (notes_of before) h.note rule
+      → ◌≡◌ {A = Offence}
+      (record { no = no rule place.who place.number place.event; follows = late })
+      (offence_by terms (notes_of before) h.note rule)
+  offence_is terms rule late place is late_is =
+      let own = placed (heard_events before) h.note.event place few_on is in
+      λ i. record {
+        no = no rule (is i).who (own.1 i) (own.0 i);
+        follows = late_is i;
+      }
+
+-- the line of a message is that of what is left of it
+pub message_line : (lines : Lines) (event number : ℕ) (side : Side) (s : Spoken) (sent : Sent)
+    → sent.side ≡ side → outline sent.message ≡ outline (message_view s.message)
+    → sent.act ≡ act_view s.act
+    → line (message_words event (lent.sent side s.message s.act)
+    ++ words_behind lines number (document_words (act_view s.act)))
+    ≡ line (message_words event sent ++ words_behind lines number (document_words sent.act))
+message_line lines event number side s sent by says means =
+    let words : words_of sent.message ≡ words_of (message_view s.message) =
+    words_by_outline sent.message ∙ ap words_of says ∙ sym (words_by_outline (message_view s.message))
+    in
+    sym (λ i. line (message_words event (record {
+      side = by i;
+      message = sent.message;
+      act = means i;
+    }) ++ words_behind lines number (document_words (means i)))
+    ∙ ap (λ w. line ((decimal event ∷ side_name side ∷ w ∷ [])
+    ++ words_behind lines number (document_words (act_view s.act)))) words)
+
+-- ---- an event that is kept
+
+module _ (terms : Terms) (before : List Heard) (h : Heard) (old new : Losses)
+    (tally : OffenceCount) (stands : SurveyStands old tally terms before) (counts : Counts)
+    (on : IsKeptOn terms counts before h) where
+  abbrev kept : List Event
+  kept = kept_before terms before
+
+  -- what was found stays
+  tally_stays : IsTally tally (offences terms (notes_of (before ++ h ∷ [])))
+  tally_stays = subst (IsTally tally) (sym (no_offence terms before h on.rule)) stands.1
+
+  -- a message
+  pub message_stands : (side : Side) (s : Spoken) → IsSpoken kept h.note.event side s
+      → ((enc : Encoding) (kind : SyncKind) → AreAfter (call_of enc kind (act_view s.act))
+      old.documents.map.entries new.documents.map.entries)
+      → new.sides ≡ sides_read side old.sides → new.handshake ≡ old.handshake
+      → new.passed ≡ old.passed → new.unheard ≡ old.unheard
+      → SurveyStands new tally terms (before ++ h ∷ [])
+  message_stands side s spoken after sides handshake passed unheard =
+      let enc = unwrap_or (encoding (sent_in kept)) Utf16 in
+      let kind = unwrap_or (sync_kind (sent_in kept)) Nothing in
+      let call = call_of enc kind (act_view s.act) in (
+        subst (AreLosses terms new) (sym (notes-push before h))
+            (kept_on terms (notes_of before) h.note call old new stands.0 on.rule
+            (ap (λ (e : Event). said_at terms (heard_events before) e) spoken.is
+            ∙ ap (call_of enc kind) spoken.means) handshake
+            (sides ∙ ap (λ (x : Side). sides_read x old.sides) (sym spoken.by)
+            ∙ ap (λ (e : Event). sides_after e old.sides) (sym spoken.is)) passed unheard
+            (subst (λ (m : Option Message). Leaves None (option_and_then brought_by m) false call
+            old.documents.map.entries new.documents.map.entries) (sym on.whole) (after enc kind))),
+        tally_stays,
+      )
+
+  -- a snapshot
+  pub shown_stands : (uri text : List ℕ) (number : ℤ)
+      → h.note.event ≡ snapshot uri number text → new ≡ old
+      → SurveyStands new tally terms (before ++ h ∷ [])
+  shown_stands uri text number is same = (
+    subst (AreLosses terms new) (sym (notes-push before h))
+        (subst (λ (l : Losses). AreLosses terms l (notes_of before ++ h.note ∷ [])) (sym same)
+        (kept_on terms (notes_of before) h.note (Some (shows uri number text)) old old stands.0
+        on.rule (ap (λ (e : Event). said_at terms (heard_events before) e) is) refl
+        (ap (λ (e : Event). sides_after e old.sides) (sym is)) refl refl
+        (subst (λ (m : Option Message). Leaves None (option_and_then brought_by m) false
+        (Some (shows uri number text)) old.documents.map.entries old.documents.map.entries)
+        (sym on.whole)
+        (notes_stay (shows uri number text) old.documents.map.entries refl)))),
+    tally_stays,
+  )
