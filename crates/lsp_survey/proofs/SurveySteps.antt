@@ -1,5 +1,5 @@
 -- The steps of the account that lists all that is wrong with a log.
-use Rattle.std.specs.Prelude.{ℤ, decimal, map, option_and_then, option_map, unwrap_or}
+use Rattle.std.specs.Prelude.{ℤ, chars, decimal, map, option_and_then, option_map, unwrap_or}
 use Rattle.std.specs.List.{cons_option}
 use Rattle.std.proofs.Common.{◌≡◌, ℕ, ◌+◌, ◌<◌, ◌^◌, Bool, false, List, [], ◌∷◌, ◌++◌, length, Option, Some, None}
 use Rattle.std.proofs.Common.{refl, sym, ap, subst, ◌∙◌, append-nil, arith, length-append}
@@ -14,22 +14,25 @@ use Rattle.lsp_rpc.specs.declared.act.Spoken.{Spoken}
 use Rattle.lsp_rpc.proofs.OutlineWords.{words_by_outline}
 use Rattle.lsp_session.specs.Negotiation.{encoding, sync_kind}
 use Rattle.lsp_session.specs.Sent.{Sent}
+use Rattle.lsp_session.specs.State as session
 use Rattle.lsp_session.specs.View as lent
+use Rattle.lsp_docs.specs.State as docs
 use Rattle.lsp_types.specs.declared.change.SyncKind.{SyncKind}
 use Rattle.lsp_types.specs.declared.change.SyncKind.TheVariants.{Nothing}
 use Rattle.lsp_types.specs.declared.position.Encoding.{Encoding}
 use Rattle.lsp_types.specs.declared.position.Encoding.TheVariants.{Utf16}
 use Rattle.lsp_types.specs.declared.side.Side.{Side}
 use Rattle.lsp_replay.specs.Places.{place_of}
-use Rattle.lsp_replay.specs.Telling.{IsSpoken, kept_before, rule_of}
+use Rattle.lsp_replay.specs.Telling.{IsSpoken, Stood, kept_before, rule_of}
 use Rattle.lsp_replay.specs.declared.heard.EventPlace.{EventPlace}
 use Rattle.lsp_replay.proofs.EventPlaces.{line_placed, placed}
 use Rattle.lsp_replay.proofs.Seeing.{events-push}
 use Rattle.lsp_survey.specs.Lost.{AreLosses}
 use Rattle.lsp_survey.specs.Notes.{AreAfter, Leaves}
-use Rattle.lsp_survey.specs.Reported.{IsTally}
+use Rattle.lsp_survey.specs.Reported.{IsTally, lines_of}
 use Rattle.lsp_survey.specs.Sides.{sides_after, sides_read}
-use Rattle.lsp_survey.specs.SurveyRun.{IsKeptOn, SurveyStands}
+use Rattle.lsp_survey.specs.SurveyRun.{IsKeptOn, SurveyAsked, SurveyStands, event_said, kept_line}
+use Rattle.lsp_survey.specs.SurveyRun.{said_by}
 use Rattle.lsp_survey.specs.declared.losses.Losses.{Losses}
 use Rattle.lsp_survey.specs.declared.offence_count.OffenceCount.{OffenceCount}
 use Rattle.lsp_survey.proofs.Losing.{kept_on}
@@ -38,7 +41,8 @@ use Rattle.lsp_verdict.specs.Calls.{call_of}
 use Rattle.lsp_verdict.specs.Counting.{AreCounts}
 use Rattle.lsp_verdict.specs.Event.{Event, message, sent_in, snapshot}
 use Rattle.lsp_verdict.specs.Heard.{Heard, heard_events, notes_of}
-use Rattle.lsp_verdict.specs.Offences.{Noted, Offence, brought_by, follows, offence_by, offences, said_at}
+use Rattle.lsp_verdict.specs.Offences.{IsMalformed, IsNoted, Noted, Offence, brought_by, follows, offence_by, offences, said_at}
+use Rattle.lsp_verdict.specs.Placed.{Raw, content, show}
 use Rattle.lsp_verdict.specs.Report.{line, side_name}
 use Rattle.lsp_verdict.specs.Shown.{document_words, line_at, message_words, words_behind}
 use Rattle.lsp_verdict.specs.Verdict.{no, whose}
@@ -175,3 +179,48 @@ module _ (terms : Terms) (before : List Heard) (h : Heard) (old new : Losses)
         (notes_stay (shows uri number text) old.documents.map.entries refl)))),
     tally_stays,
   )
+
+-- ---- what was seen of it
+
+-- a message that is kept
+pub message_on : (side : Side) (bytes : List ℕ) (terms : Terms) (before : List Heard) (h : Heard)
+    (m : session.State) (d : docs.State) (c : Counts) (s : Spoken)
+    → Stood terms m d c (before ++ h ∷ []) → length before + 1 < 2 ^ 64 → IsNoted h.raw h.note
+    → h.raw ≡ content side bytes → rule_of terms before h ≡ None
+    → IsSpoken (kept_before terms before) h.note.event side s → IsKeptOn terms c before h
+message_on side bytes terms before h m d c s stood few noted raw rule spoken = record {
+  rule = rule;
+  whole = subst (λ (e : Event). IsMalformed (content side bytes) e h.note.malformed) spoken.is
+      (subst (λ (w : Raw). IsNoted w h.note) raw noted).1;
+  counted = stood.counted;
+  few = few;
+}
+
+-- a snapshot that is kept
+pub shown_on : (number : ℤ) (uri text : List ℕ) (terms : Terms) (before : List Heard) (h : Heard)
+    (m : session.State) (d : docs.State) (c : Counts) → Stood terms m d c (before ++ h ∷ [])
+    → length before + 1 < 2 ^ 64 → IsNoted h.raw h.note → h.raw ≡ show number uri text
+    → rule_of terms before h ≡ None
+    → IsKeptOn terms c before h × (h.note.event ≡ snapshot uri number (chars text))
+shown_on number uri text terms before h m d c stood few noted raw rule =
+    let own = subst (λ (w : Raw). IsNoted w h.note) raw noted in (
+      record { rule = rule; whole = own.1; counted = stood.counted; few = few },
+      own.0,
+    )
+
+-- what is said of an event that is kept is its line
+pub kept_said : (asked : SurveyAsked) (terms : Terms) (before : List Heard) (h : Heard)
+    → rule_of terms before h ≡ None
+    → kept_line asked.lines (heard_events before) h.note.event ≡ event_said asked terms before h
+kept_said asked terms before h is =
+    ap (λ (o : Option ℕ). said_by asked (heard_events before) h.note.event
+    (option_map (offence_by terms (notes_of before) h.note) o)) (sym is)
+
+-- and of one that offends its offence
+pub offence_said : (asked : SurveyAsked) (terms : Terms) (before : List Heard) (h : Heard)
+    (rule : ℕ) → rule_of terms before h ≡ Some rule
+    → lines_of asked.listing (offence_by terms (notes_of before) h.note rule ∷ [])
+    ≡ event_said asked terms before h
+offence_said asked terms before h rule is =
+    ap (λ (o : Option ℕ). said_by asked (heard_events before) h.note.event
+    (option_map (offence_by terms (notes_of before) h.note) o)) (sym is)

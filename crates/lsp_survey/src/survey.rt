@@ -17,8 +17,7 @@ ghost use Rattle.lsp_survey.specs.SurveyRun.{verdict_by};
 ghost use Rattle.lsp_verdict.specs.Event.{Event, snapshot};
 ghost use Rattle.lsp_verdict.specs.Given.{as_given, offence_view, verdict_view};
 ghost use Rattle.lsp_verdict.specs.Heard.{Heard, heard_events, notes_of};
-ghost use Rattle.lsp_verdict.specs.Offences as offences;
-ghost use Rattle.lsp_verdict.specs.Offences.{Offence as SpecOffence};
+ghost use Rattle.lsp_verdict.specs.Offences.{Offence as SpecOffence, offence_by};
 ghost use Rattle.lsp_verdict.specs.Report.{line, report};
 ghost use Rattle.lsp_verdict.specs.Survey.{bad_lines, first_verdict};
 ghost use Rattle.lsp_verdict.specs.Verdict.{first_no, no, summary, yes};
@@ -110,16 +109,13 @@ impl Survey {
         spoken: &Spoken,
         text: &mut String,
     ) -> Result<(), Memory>
-        ensures stands { OnOk result ((terms : Terms) (before : List Heard) (h : Heard)
+        ensures { OnOk result ((terms : Terms) (before : List Heard) (h : Heard)
             → SurveyStands self.old.losses self.old.tally terms before
             → IsKeptOn terms held.now.counts before h
             → IsSpoken (kept_before terms before) h.note.event side spoken.now
-            → SurveyStands self.new.losses self.new.tally terms (before ++ h ∷ [])) }
-        ensures said { OnOk result ((terms : Terms) (before : List Heard) (h : Heard)
-            → IsKeptOn terms held.now.counts before h
-            → IsSpoken (kept_before terms before) h.note.event side spoken.now
-            → string_bytes text.new ≡ string_bytes text.old
-            ++ kept_line self.old.lines (heard_events before) h.note.event) }
+            → SurveyStands self.new.losses self.new.tally terms (before ++ h ∷ [])
+            × (string_bytes text.new ≡ string_bytes text.old
+            ++ kept_line self.old.lines (heard_events before) h.note.event)) }
     {
         self.losses.keep(side, &spoken.act)?;
         let Some(lines) = self.lines else {
@@ -167,9 +163,8 @@ impl Survey {
             → IsSeen held.now.session held.now.docs held.now.counts
             (seen.Offence raw.entry rule spoken.entry) terms before h
             → SurveyStands self.new.losses self.new.tally terms (before ++ h ∷ [])
-            × ((o : SpecOffence) → offences.offence_at terms (notes_of before) h.note ≡ Some o
-            → string_bytes text.new ≡ string_bytes text.old
-            ++ lines_of self.old.listing (o ∷ []))) }
+            × (string_bytes text.new ≡ string_bytes text.old ++ lines_of self.old.listing
+            (offence_by terms (notes_of before) h.note rule ∷ []))) }
     {
         let follows = self.losses.offend(alloc, held, raw, rule, spoken)?;
         let place = EventPlace::last(&held.counts, raw.who());
