@@ -23,16 +23,30 @@ use Rattle.lsp_types.specs.declared.position.Encoding.{Encoding}
 use Rattle.lsp_types.specs.declared.position.Encoding.TheVariants.{Utf16}
 use Rattle.lsp_types.specs.declared.side.Side.{Side}
 use Rattle.lsp_replay.specs.Places.{place_of}
-use Rattle.lsp_replay.specs.Telling.{IsSpoken, Stood, kept_before, rule_of}
+use Rattle.lsp_log.specs.declared.fault.LogCode.{LogCode}
+use Rattle.lsp_replay.specs.LogEvents.{flaw_of}
+use Rattle.lsp_replay.specs.Run.{Tail}
+use Rattle.lsp_replay.specs.Streams as streams
+use Rattle.lsp_replay.specs.Streams.{decoder_of}
+use Rattle.lsp_replay.specs.Telling.{IsEnd, IsSpoken, Stood, kept_before, rule_of}
+use Rattle.lsp_replay.specs.declared.log_events.End.{End}
+use Rattle.lsp_replay.specs.declared.log_events.LogEvents.{LogEvents}
+use Rattle.lsp_types.specs.declared.side.Side.TheVariants.{Editor, Server}
+use Rattle.lsp_verdict.specs.Given.{verdict_view}
+use Rattle.lsp_verdict.specs.Outcome.{is_rest}
+use Rattle.lsp_verdict.specs.Survey.{by_itself, ends_inside, first_ends, first_verdict, lacks_listed}
+use Rattle.lsp_verdict.specs.Survey.{rests_listed}
+use Rattle.lsp_verdict.specs.declared.outcome.Outcome.TheVariants.{Judged}
+use Rattle.lsp_verdict.specs.declared.verdict.Verdict as code
 use Rattle.lsp_replay.specs.declared.heard.EventPlace.{EventPlace}
 use Rattle.lsp_replay.proofs.EventPlaces.{line_placed, placed}
 use Rattle.lsp_replay.proofs.Seeing.{events-push}
 use Rattle.lsp_survey.specs.Lost.{AreLosses}
 use Rattle.lsp_survey.specs.Notes.{AreAfter, Leaves}
-use Rattle.lsp_survey.specs.Reported.{IsTally, lines_of}
+use Rattle.lsp_survey.specs.Reported.{IsTally, end_lines, lines_of}
 use Rattle.lsp_survey.specs.Sides.{sides_after, sides_read}
-use Rattle.lsp_survey.specs.SurveyRun.{IsKeptOn, SurveyAsked, SurveyStands, event_said, kept_line}
-use Rattle.lsp_survey.specs.SurveyRun.{said_by}
+use Rattle.lsp_survey.specs.SurveyRun.{IsKeptOn, SurveyAsked, SurveyStands, ends_held, ends_of}
+use Rattle.lsp_survey.specs.SurveyRun.{event_said, kept_line, said_by, survey_run}
 use Rattle.lsp_survey.specs.declared.losses.Losses.{Losses}
 use Rattle.lsp_survey.specs.declared.offence_count.OffenceCount.{OffenceCount}
 use Rattle.lsp_survey.proofs.Losing.{kept_on}
@@ -41,11 +55,12 @@ use Rattle.lsp_verdict.specs.Calls.{call_of}
 use Rattle.lsp_verdict.specs.Counting.{AreCounts}
 use Rattle.lsp_verdict.specs.Event.{Event, message, sent_in, snapshot}
 use Rattle.lsp_verdict.specs.Heard.{Heard, heard_events, notes_of}
-use Rattle.lsp_verdict.specs.Offences.{IsMalformed, IsNoted, Noted, Offence, brought_by, follows, offence_by, offences, said_at}
+use Rattle.lsp_verdict.specs.Offences.{IsMalformed, IsNoted, Noted, Offence, brought_by, follows, kept_of, offence_by, offences}
+use Rattle.lsp_verdict.specs.Offences.{said_at}
 use Rattle.lsp_verdict.specs.Placed.{Raw, content, show}
 use Rattle.lsp_verdict.specs.Report.{line, side_name}
 use Rattle.lsp_verdict.specs.Shown.{document_words, line_at, message_words, words_behind}
-use Rattle.lsp_verdict.specs.Verdict.{no, whose}
+use Rattle.lsp_verdict.specs.Verdict.{bad_log_of, no, summary, whose}
 use Rattle.lsp_verdict.specs.declared.counts.Counts.{Counts}
 use Rattle.lsp_verdict.specs.declared.lines.Lines.{Lines}
 use Rattle.lsp_verdict.specs.declared.verdict.Who.{Who}
@@ -224,3 +239,43 @@ pub offence_said : (asked : SurveyAsked) (terms : Terms) (before : List Heard) (
 offence_said asked terms before h rule is =
     ap (λ (o : Option ℕ). said_by asked (heard_events before) h.note.event
     (option_map (offence_by terms (notes_of before) h.note) o)) (sym is)
+
+-- ---- the end
+
+-- what the reader of the log tells of its end is how the session ends
+pub ends_are : (asked : SurveyAsked) (terms : Terms) (heard : List Heard) (e : LogEvents) (end : End)
+    (tail : Tail) → IsEnd e end heard tail
+    → ends_held asked terms heard e end ≡ ends_of asked terms heard tail
+ends_are asked terms heard e end tail fits =
+    let events = heard_events heard in
+    let lacks = lacks_listed asked.completeness events (kept_of terms events) in
+    ap (λ (f : Option (ℕ × LogCode)). map by_itself (first_ends f (rests_listed events
+    (streams.ends_inside (decoder_of Editor e.streams))
+    (streams.ends_inside (decoder_of Server e.streams))) lacks)) (sym fits.fault)
+    ∙ ap (λ b. map by_itself (first_ends tail.fault (rests_listed events b
+    (streams.ends_inside (decoder_of Server e.streams))) lacks)) (fits.inside Editor)
+    ∙ ap (λ b. map by_itself (first_ends tail.fault (rests_listed events
+    (ends_inside Editor events (is_rest tail.rests.editor)) b) lacks)) (fits.inside Server)
+
+-- **what is said at the end is what the run says, whatever end the log has that fits**
+pub end_fits : (asked : SurveyAsked) (terms : Terms) (heard : List Heard) (e : LogEvents) (end : End)
+    (given : code.Verdict) → verdict_view given ≡ first_verdict (offences terms (notes_of heard)
+    ++ ends_held asked terms heard e end) (bad_log_of (flaw_of end))
+    (summary terms (heard_events heard))
+    → (tail : Tail) → IsEnd e end heard tail
+    → (survey_run asked).closes terms heard tail (end_lines asked.listing
+    (offences terms (notes_of heard)) (ends_held asked terms heard e end) (bad_log_of (flaw_of end))
+    (summary terms (heard_events heard))) (Judged given)
+end_fits asked terms heard e end given is tail fits =
+    let found = offences terms (notes_of heard) in
+    let s = summary terms (heard_events heard) in
+    let ends = ends_are asked terms heard e end tail fits in (
+      ap (λ l. end_lines asked.listing found l (bad_log_of (flaw_of end)) s) ends
+          ∙ ap (λ f. end_lines asked.listing found (ends_of asked terms heard tail) (bad_log_of f) s)
+          (sym fits.fault),
+      given,
+      refl,
+      is ∙ ap (λ l. first_verdict (found ++ l) (bad_log_of (flaw_of end)) s) ends
+          ∙ ap (λ f. first_verdict (found ++ ends_of asked terms heard tail) (bad_log_of f) s)
+          (sym fits.fault),
+    )

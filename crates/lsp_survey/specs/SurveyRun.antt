@@ -2,7 +2,12 @@
 use Rattle.std.specs.Prelude.{◌≡◌, ◌+◌, ◌<◌, ◌^◌, ℕ, List, [], ◌∷◌, ◌++◌, map, length, Bool, false}
 use Rattle.std.specs.Prelude.{Option, Some, None, unwrap_or}
 use Rattle.lsp_docs.specs.Terms.{Terms}
+use Rattle.lsp_replay.specs.LogEvents.{flaw_of}
 use Rattle.lsp_replay.specs.Run.{Run, Tail}
+use Rattle.lsp_replay.specs.Streams.{decoder_of, ends_inside}
+use Rattle.lsp_replay.specs.declared.log_events.End.{End}
+use Rattle.lsp_replay.specs.declared.log_events.LogEvents.{LogEvents}
+use Rattle.lsp_types.specs.declared.side.Side.TheVariants.{Editor, Server}
 use Rattle.lsp_replay.specs.Telling.{rule_of}
 use Rattle.lsp_survey.specs.Lost.{AreLosses}
 use Rattle.lsp_survey.specs.Reported.{IsTally, end_lines, lines_of}
@@ -12,10 +17,11 @@ use Rattle.lsp_verdict.specs.Counting.{AreCounts}
 use Rattle.lsp_verdict.specs.Event.{Event}
 use Rattle.lsp_verdict.specs.Given.{verdict_view}
 use Rattle.lsp_verdict.specs.Heard.{Heard, heard_events, notes_of}
-use Rattle.lsp_verdict.specs.Offences.{Offence, offence_at, offences}
+use Rattle.lsp_verdict.specs.Offences.{Offence, kept_of, offence_at, offences}
 use Rattle.lsp_verdict.specs.Outcome.{ending}
 use Rattle.lsp_verdict.specs.Shown.{line_at}
-use Rattle.lsp_verdict.specs.Survey.{by_itself, ends_listed, first_verdict}
+use Rattle.lsp_verdict.specs.Survey.{by_itself, ends_listed, first_ends, first_verdict, lacks_listed}
+use Rattle.lsp_verdict.specs.Survey.{rests_listed}
 use Rattle.lsp_verdict.specs.Verdict.{Verdict, bad_log_of, summary}
 use Rattle.lsp_verdict.specs.declared.completeness.Completeness.{Completeness}
 use Rattle.lsp_verdict.specs.declared.counts.Counts.{Counts}
@@ -60,6 +66,13 @@ ends_of asked terms heard tail =
 abbrev pub found_by : SurveyAsked → Terms → List Heard → Tail → List Offence
 found_by asked terms heard tail =
     offences terms (notes_of heard) ++ ends_of asked terms heard tail
+
+-- as far as the reader of the log tells
+abbrev pub ends_held : SurveyAsked → Terms → List Heard → LogEvents → End → List Offence
+ends_held asked terms heard e end =
+    map by_itself (first_ends (flaw_of end) (rests_listed (heard_events heard)
+    (ends_inside (decoder_of Editor e.streams)) (ends_inside (decoder_of Server e.streams)))
+    (lacks_listed asked.completeness (heard_events heard) (kept_of terms (heard_events heard))))
 
 abbrev pub end_said : SurveyAsked → Terms → List Heard → Tail → List ℕ
 end_said asked terms heard tail =

@@ -4,23 +4,22 @@ ghost use Rattle.std.specs.Prelude.{◌≡◌, ◌++◌, ◌∷◌, ◌+◌, ◌
 ghost use Rattle.std.specs.Prelude.{IfOk, OnOk, chars, codes, decimal, length, option_map};
 ghost use Rattle.std.specs.Prelude.{string_bytes};
 ghost use Rattle.lsp_docs.specs.Terms.{Terms};
-ghost use Rattle.lsp_replay.specs.Run.{Tail};
+ghost use Rattle.lsp_replay.specs.LogEvents.{flaw_of};
 ghost use Rattle.lsp_replay.specs.Standing.{Follows};
-ghost use Rattle.lsp_replay.specs.Telling.{IsEnd, IsSeen, IsSpoken, Stood, kept_before};
+ghost use Rattle.lsp_replay.specs.Telling.{IsSeen, IsSpoken, Stood, kept_before};
 ghost use Rattle.lsp_replay.specs.declared.seen.Seen.TheVariants as seen;
 ghost use Rattle.lsp_survey.specs.Asked.{asked_of};
 ghost use Rattle.lsp_survey.specs.Lost.{AreLosses};
-ghost use Rattle.lsp_survey.specs.Reported.{IsTally, closing, is_every, lines_of};
-ghost use Rattle.lsp_survey.specs.SurveyRun.{IsKeptOn, SurveyAsked, SurveyStands, end_said};
-ghost use Rattle.lsp_survey.specs.SurveyRun.{ends_of, event_said, kept_line, survey_run};
-ghost use Rattle.lsp_survey.specs.SurveyRun.{verdict_by};
+ghost use Rattle.lsp_survey.specs.Reported.{IsTally, closing, end_lines, is_every, lines_of};
+ghost use Rattle.lsp_survey.specs.SurveyRun.{IsKeptOn, SurveyAsked, SurveyStands, ends_held};
+ghost use Rattle.lsp_survey.specs.SurveyRun.{event_said, kept_line, survey_run};
 ghost use Rattle.lsp_verdict.specs.Event.{Event, snapshot};
 ghost use Rattle.lsp_verdict.specs.Given.{as_given, offence_view, verdict_view};
 ghost use Rattle.lsp_verdict.specs.Heard.{Heard, heard_events, notes_of};
-ghost use Rattle.lsp_verdict.specs.Offences.{Offence as SpecOffence, offence_by};
+ghost use Rattle.lsp_verdict.specs.Offences.{Offence as SpecOffence, offence_by, offences};
 ghost use Rattle.lsp_verdict.specs.Report.{line, report};
 ghost use Rattle.lsp_verdict.specs.Survey.{bad_lines, first_verdict};
-ghost use Rattle.lsp_verdict.specs.Verdict.{first_no, no, summary, yes};
+ghost use Rattle.lsp_verdict.specs.Verdict.{bad_log_of, first_no, no, summary, yes};
 
 use crate::losses::Losses;
 use crate::offence_count::OffenceCount;
@@ -195,13 +194,17 @@ impl Survey {
         end: End,
         text: &mut String,
     ) -> Result<Verdict, Memory>
-        ensures { IfOk result (λ verdict. (terms : Terms) (heard : List Heard) (tail : Tail)
+        ensures { IfOk result (λ verdict. (terms : Terms) (heard : List Heard)
             → SurveyStands self.old.losses self.old.tally terms heard
             → Stood terms held.now.session held.now.docs held.now.counts heard
-            → length heard + 1 < 2 ^ 64 → IsEnd log.now end heard tail
-            → (string_bytes text.new ≡ string_bytes text.old
-            ++ end_said (asked_of self.old) terms heard tail)
-            × (verdict_view verdict ≡ verdict_by (asked_of self.old) terms heard tail)) }
+            → length heard + 1 < 2 ^ 64
+            → (string_bytes text.new ≡ string_bytes text.old ++ end_lines self.old.listing
+            (offences terms (notes_of heard))
+            (ends_held (asked_of self.old) terms heard log.now end) (bad_log_of (flaw_of end))
+            (summary terms (heard_events heard)))
+            × (verdict_view verdict ≡ first_verdict (offences terms (notes_of heard)
+            ++ ends_held (asked_of self.old) terms heard log.now end) (bad_log_of (flaw_of end))
+            (summary terms (heard_events heard)))) }
     {
         match end {
             End::Sound => {
@@ -223,14 +226,13 @@ impl Survey {
         log: &LogEvents,
         text: &mut String,
     ) -> Result<(), Memory>
-        ensures { OnOk result ((terms : Terms) (heard : List Heard) (tail : Tail)
-            (found : List SpecOffence)
+        ensures { OnOk result ((terms : Terms) (heard : List Heard) (found : List SpecOffence)
             → Stood terms held.now.session held.now.docs held.now.counts heard
-            → length heard + 1 < 2 ^ 64 → IsEnd log.now End.Sound heard tail
-            → IsTally self.old.tally found
-            → IsTally self.new.tally (found ++ ends_of (asked_of self.old) terms heard tail)
-            × (string_bytes text.new ≡ string_bytes text.old
-            ++ lines_of self.old.listing (ends_of (asked_of self.old) terms heard tail))) }
+            → length heard + 1 < 2 ^ 64 → IsTally self.old.tally found
+            → IsTally self.new.tally
+            (found ++ ends_held (asked_of self.old) terms heard log.now End.Sound)
+            × (string_bytes text.new ≡ string_bytes text.old ++ lines_of self.old.listing
+            (ends_held (asked_of self.old) terms heard log.now End.Sound))) }
     {
         let editor = log.ends_inside(Side::Editor);
         let server = log.ends_inside(Side::Server);
