@@ -273,9 +273,11 @@ end_fits asked terms heard e end given is tail fits =
       ap (λ l. end_lines asked.listing found l (bad_log_of (flaw_of end)) s) ends
           ∙ ap (λ f. end_lines asked.listing found (ends_of asked terms heard tail) (bad_log_of f) s)
           (sym fits.fault),
-      given,
-      refl,
-      is ∙ ap (λ l. first_verdict (found ++ l) (bad_log_of (flaw_of end)) s) ends
-          ∙ ap (λ f. first_verdict (found ++ ends_of asked terms heard tail) (bad_log_of f) s)
-          (sym fits.fault),
+      (
+        given,
+        refl,
+        is ∙ ap (λ l. first_verdict (found ++ l) (bad_log_of (flaw_of end)) s) ends
+            ∙ ap (λ f. first_verdict (found ++ ends_of asked terms heard tail) (bad_log_of f) s)
+            (sym fits.fault),
+      ),
     )
