@@ -27,7 +27,8 @@ use Rattle.lsp_verdict.specs.declared.outcome.RunFault.{RunFault}
 use Rattle.lsp_verdict.specs.declared.outcome.RunFault.TheVariants as faults
 use Rattle.lsp_facts.specs.EventFacts.{AreFacts}
 use Rattle.lsp_facts.specs.Fact.{Fact}
-use Rattle.lsp_facts.specs.FlawFacts.{Rests, rest_of, side_by, unfinished_facts, log_facts}
+use Rattle.lsp_facts.specs.FlawFacts.{Rests, rest_of, side_by, log_facts}
+use Rattle.lsp_facts.specs.MessageFacts.{front_facts}
 use Rattle.lsp_facts.specs.Lines.{detail_lines, event_line, end_event}
 use Rattle.lsp_explain.specs.Remarks.{Noticed, noticed, remark_lines, remarks_of}
 use Rattle.lsp_explain.specs.Traced.{AreTraced, lack_traced}
@@ -103,7 +104,7 @@ end_line (bad_log at code) = []
 abbrev pub end_facts : Rests → List Numbered → Verdict → List Fact
 end_facts rests said (no rule by count event) =
     if rule == rules.STREAM_ENDS_INSIDE_FRAME
-    then unfinished_facts (rest_of rests (side_by by)) else lack_traced said
+    then front_facts (rest_of rests (side_by by)) else lack_traced said
 end_facts rests said (yes s) = []
 end_facts rests said (bad_log at code) = []
 
@@ -199,11 +200,6 @@ pub record IsWritten (pick : Terms → List Heard → List Breach)
 -- the first event that offends
 abbrev pub first_breach : Terms → List Heard → List Breach
 first_breach terms heard = take 1 (breaches terms heard)
-
--- **what is explained of it**: the first that its survey lists
-abbrev pub IsExplained : Completeness → Bounds → List ℕ → List Offence → List Explained
-    → Option Verdict → List Fact → Summary → Type 0
-IsExplained = AreExplained first_breach (take 1)
 
 -- **the verdict on a log, and what explains it**, with the notes: the first that its survey lists,
 -- else its fault, else Yes

@@ -21,8 +21,8 @@ ghost use Rattle.lsp_explain.specs.Traced.{AreTraced};
 
 use crate::trace::{lack_traced, message_traced, shown_traced};
 use lsp_facts::{
-    Facts, content_facts, frame_facts, push_bare_event, push_content_event, push_details,
-    push_end_event, push_message_event, unfinished_facts, usual,
+    Facts, content_facts, frame_facts, front_facts, push_bare_event, push_content_event,
+    push_details, push_end_event, push_message_event, usual,
 };
 use lsp_replay::EventPlace;
 use lsp_rpc::Memory;
@@ -153,7 +153,7 @@ fn end_facts(alloc: Global, events: &SurveyReader, rest: &[u8], rule: u16) -> Re
         ≡ end_facts rests (numbered (terms_in events.now) before) (no rule who number event)) }
 {
     if rule == rules::STREAM_ENDS_INSIDE_FRAME {
-        return unfinished_facts(alloc, rest);
+        return front_facts(alloc, rest);
     }
     lack_traced(alloc, events)
 }

@@ -1,6 +1,6 @@
 -- What a call breaks, as the facts on it are gathered.
 use Rattle.std.proofs.Common.{◌≡◌, ◌≢◌, ◌⊎◌, ◌≤◌, ℕ, Bool, true, false, cond, ◌&&◌, ◌||◌, List, [], ◌∷◌, ◌++◌, length, Option, Some, None, Result, Ok, Err, refl, sym, ap, subst, ◌∙◌, inl, inr, true≢false}
-use Rattle.std.specs.Prelude.{ℤ, int_lt, not, if◌then◌else◌, slice_get, option_to_list}
+use Rattle.std.specs.Prelude.{ℤ, codes, int_lt, not, if◌then◌else◌, slice_get, option_to_list}
 use Rattle.std.specs.List.{find, list_any, list_all}
 use Rattle.std.specs.Option.{option_map}
 use Rattle.std.specs.Ordering.{int_eq}

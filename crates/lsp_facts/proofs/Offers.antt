@@ -18,10 +18,13 @@ offers names more =
 abbrev bytes_of : String Global → List ℕ
 bytes_of s = string_bytes s
 
-pub offer_is : (names : List (String Global)) (n : ℕ)
+pub offer_is : (names : List (String Global)) (n : ℕ) (words : List ℕ)
     → n ≡ names_fitting offered_bytes (texts_view names)
-    → offers (texts_view (take n names)) (length names - n) ≡ offer_fact (texts_view names)
-offer_is names n count =
-    ap (λ l. offers l (length names - n)) (sym (take-map bytes_of n names))
-    ∙ ap (λ k. offers (take n (texts_view names)) (k - n)) (sym (length-map names bytes_of))
-    ∙ ap (λ k. offers (take k (texts_view names)) (length (texts_view names) - k)) count
+    → words ≡ codes "offered" ++ flat_map (λ name. spaced (quoted name)) (texts_view (take n names))
+    ++ more_words (length names - n)
+    → words ++ 10 ∷ [] ≡ offer_fact (texts_view names)
+offer_is names n words count is =
+    ap (λ (w : List ℕ). w ++ 10 ∷ []) is
+    ∙ ap (λ (l : List Text). offers l (length names - n)) (sym (take-map bytes_of n names))
+    ∙ ap (λ (k : ℕ). offers (take n (texts_view names)) (k - n)) (sym (length-map names bytes_of))
+    ∙ ap (λ (k : ℕ). offers (take k (texts_view names)) (length (texts_view names) - k)) count

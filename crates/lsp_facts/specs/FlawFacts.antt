@@ -33,13 +33,9 @@ side_by who.Server = Server
 side_by who.Snapshot = Editor
 
 -- 101 to 106 lie in a header part, found in these bytes; the bytes after it are not looked
--- at, since more of them may follow
+-- at, since more of them may follow. 107 describes all that there is of the last frame
 abbrev pub frame_facts : List ℕ → List Fact
 frame_facts rest = front_facts (header_front rest)
-
--- 107 describes all that there is of the last frame
-abbrev pub unfinished_facts : List ℕ → List Fact
-unfinished_facts rest = front_facts rest
 
 -- ---- logs
 

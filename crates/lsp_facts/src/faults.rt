@@ -19,17 +19,6 @@ pub fn frame_facts(alloc: Global, rest: &[u8]) -> Result<Facts, Memory>
     front_facts(alloc, header_front(rest))
 }
 
-/// What is said about a stream that ends inside a frame, 107: how that begins, of the bytes after
-/// the last whole one.
-///
-/// # Errors
-/// `Memory` where memory was refused.
-pub fn unfinished_facts(alloc: Global, rest: &[u8]) -> Result<Facts, Memory>
-    ensures { IfOk result (λ facts. facts ≡ spec.unfinished_facts rest.now) }
-{
-    front_facts(alloc, rest)
-}
-
 /// What is said about a log that has a fault: the number of its record, from 1, and 0 for the first
 /// line, how many bytes come before it, and the line that is there, as far as it is UTF-8.
 ///

@@ -3,8 +3,9 @@
 //!
 //! [`Facts`] are the lines that an explanation says about an event. [`message_facts`] are on a
 //! message, and [`shown_facts`] on a snapshot. [`content_facts`] are on a content that is not a
-//! message or has params of another shape, [`frame_facts`] and [`unfinished_facts`] on a stream
-//! whose frames have a fault or an end inside one, [`flaw_facts`] on a log that has a fault.
+//! message or has params of another shape, [`frame_facts`] on a stream whose frames have
+//! a fault, [`front_facts`] on one that ends inside a frame, [`flaw_facts`] on a log that has a
+//! fault.
 //! [`refuting`] finds the snapshots whose texts refute a call, and [`message_texts`] and
 //! [`shown_texts`] give two whole texts that differ. [`push_details`] adds facts to a text, and
 //! [`push_message_event`] and those next to it the line of an event.
@@ -35,12 +36,12 @@ mod waiting;
 pub use blame::usual;
 pub use contents::content_facts;
 pub use facts::{Facts, push_facts};
-pub use faults::{flaw_facts, frame_facts, unfinished_facts};
+pub use faults::{flaw_facts, frame_facts};
 pub use laws::{bad_params_have_a_member, bad_result_has_a_member, compared_texts_differ};
 pub use lines::{
     push_bare_event, push_content_event, push_details, push_end_event, push_message_event,
 };
-pub use messages::id_in;
+pub use messages::{front_facts, id_in};
 pub use offending::{message_facts, shown_facts};
 pub use text_facts::encoding_name;
 pub use two_texts::{TwoTexts, message_texts, shown_texts};

@@ -4,7 +4,7 @@ use Rattle.std.specs.Prelude.{None, Result, Ok, Err}
 use Rattle.std.specs.List.{flat_map}
 use Rattle.lsp_frame.specs.Bounds.{Bounds}
 use Rattle.lsp_frame.specs.Sink.{Wrote}
-use Rattle.lsp_frame.specs.Told.{Told, Took}
+use Rattle.lsp_frame.specs.Told.{Told}
 use Rattle.lsp_frame.specs.declared.format.Format.{Format}
 use Rattle.lsp_types.specs.declared.side.Side.TheVariants.{Editor, Server}
 use Rattle.lsp_log.specs.Log.{Record, spelling, first_line}
@@ -19,13 +19,12 @@ use Rattle.lsp_verdict.specs.Event.{Event}
 use Rattle.lsp_verdict.specs.Given.{as_given}
 use Rattle.lsp_verdict.specs.Outcome.{HasRest, ending, format_or_one}
 use Rattle.lsp_verdict.specs.Placed.{Raw, content, broken, show, joined}
-use Rattle.lsp_verdict.specs.RunIo.{sink_failures_after}
+use Rattle.lsp_verdict.specs.RunIo.{Tells}
 use Rattle.lsp_verdict.specs.Verdict.{Verdict}
 use Rattle.lsp_verdict.specs.declared.counts.Counts.{Counts}
 use Rattle.lsp_verdict.specs.declared.outcome.Outcome.{Outcome}
 use Rattle.lsp_verdict.specs.declared.outcome.Outcome.TheVariants.{Judged}
 use Rattle.lsp_verdict.specs.declared.outcome.RunFault.{RunFault}
-use Rattle.lsp_verdict.specs.declared.outcome.RunFault.TheVariants as faults
 use Rattle.lsp_verdict.specs.declared.verdict.Verdict.TheVariants as verdicts
 
 -- an event that replaces one that is not read, by which it is counted
@@ -45,20 +44,6 @@ CarriesCapped outcome fault = Carries outcome (option_map as_given fault)
 abbrev pub spelled : ℕ → List Raw → List ℕ
 spelled size raws = flat_map spelling (records_of size raws)
 
--- a prefix of these bytes is written, and this was the fault
-pub record WroteFront (old new : Told) (due : List ℕ) (fault : RunFault) : Type 0 where
-  pub front : List ℕ
-  pub back : List ℕ
-  pub whole : due ≡ front ++ back
-  pub took : Took old new front
-  pub failures : new.failures ≡ sink_failures_after fault old.failures
-
--- a fault of the writer or of memory, not of the reader
-abbrev pub IsLate : RunFault → Type 0
-IsLate faults.Read = ⊥
-IsLate faults.Write = Unit {0}
-IsLate faults.Memory = Unit {0}
-
 -- ---- one event
 
 -- its records are written and it is counted; or it is a fault of the frames, and the outcome
@@ -72,7 +57,7 @@ WritesEvent size counts old new before raw (Ok (Some outcome)) =
     (new ≡ old) × ((verdict : Verdict) × (no_at before raw ≡ Some verdict)
     × CarriesCapped outcome (Some verdict))
 WritesEvent size counts old new before raw (Err fault) =
-    (no_at before raw ≡ None) × IsLate fault × WroteFront old new (spelled size (raw ∷ [])) fault
+    (no_at before raw ≡ None) × Tells old new (spelled size (raw ∷ [])) (Err fault)
 
 -- ---- the events of a log
 

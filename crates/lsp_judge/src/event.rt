@@ -1,9 +1,10 @@
 //! The content of one event of a log.
-ghost use Rattle.std.specs.Prelude.{◌≡◌, ◌<◌, [], ℕ, Err, IfOk};
+ghost use Rattle.std.specs.Prelude.{◌≡◌, ◌<◌, ℕ};
 ghost use Rattle.lsp_frame.specs.Bounds.{Bounds};
 ghost use Rattle.lsp_frame.specs.Told.{Told};
-ghost use Rattle.lsp_judge.specs.Event.{GivesEvent};
-ghost use Rattle.lsp_judge.specs.EventSteps.{Answers, Finds, HasPassed, IsOfEnd};
+ghost use Rattle.lsp_judge.specs.Event.{GivesEvent, content_of, outcome_of, without};
+ghost use Rattle.lsp_judge.specs.EventSteps.{HasPassed};
+ghost use Rattle.lsp_replay.specs.LogEvents.{flaw_of};
 ghost use Rattle.lsp_verdict.specs.Ports.{ports};
 ghost use Rattle.lsp_verdict.specs.Lent.{raw_view};
 
@@ -27,84 +28,61 @@ pub enum EventOutcome {
     BadLog { number: u64, fault: LogCode },
 }
 
-/// What is due for an event that was asked for.
-#[derive(Drop)]
-pub(crate) struct EventAnswer {
-    /// What the event holds; nothing where there is no such event, or no content.
-    content: Vec<u8>,
-    outcome: EventOutcome,
-}
-
-impl EventAnswer {
-    /// What is due for this event.
-    fn of_event(alloc: Global, raw: &Raw<'_>) -> Result<EventAnswer, RunFault>
-        ensures ok { IfOk result (λ answer. Answers answer (raw_view raw.now)) }
-        ensures err { (fault : RunFault) → result ≡ Err fault → fault ≡ RunFault.Memory }
-    {
-        match raw {
-            Raw::Content { content, .. } => EventAnswer::of_content(alloc, content),
-            Raw::Broken { .. } => Ok(EventAnswer::without_content(alloc, EventOutcome::NoContent)),
-            Raw::Snapshot { text, .. } => EventAnswer::of_content(alloc, text.as_bytes()),
-        }
-    }
-
-    /// What is due where the log ends so, before the event.
-    fn of_end(alloc: Global, end: End) -> EventAnswer
-        ensures { IsOfEnd result end }
-    {
-        match end {
-            End::Sound => EventAnswer::without_content(alloc, EventOutcome::FewerEvents),
-            End::Bad { number, fault } => {
-                EventAnswer::without_content(alloc, EventOutcome::BadLog { number, fault })
-            }
-        }
-    }
-
-    /// The event holds these bytes.
-    fn of_content(alloc: Global, content: &[u8]) -> Result<EventAnswer, RunFault>
-        ensures ok { IfOk result
-            (λ answer. (answer.content.items ≡ content.now)
-            × (answer.outcome ≡ EventOutcome.Done)) }
-        ensures err { (fault : RunFault) → result ≡ Err fault → fault ≡ RunFault.Memory }
-    {
-        Ok(EventAnswer {
-            content: Vec::from_slice(alloc, content)?,
-            outcome: EventOutcome::Done,
-        })
-    }
-
-    /// Nothing is held, and the run ends so.
-    fn without_content(alloc: Global, outcome: EventOutcome) -> EventAnswer
-        ensures { (result.content.items ≡ []) × (result.outcome ≡ outcome) }
-    {
-        EventAnswer {
-            content: Vec::new(alloc),
-            outcome,
-        }
+/// What this event holds: nothing where it has no content.
+fn held_by<'a>(raw: &'a Raw<'_>) -> &'a [u8]
+    ensures { result.now ≡ content_of (raw_view raw.now) }
+{
+    match raw {
+        Raw::Content { content, .. } => content,
+        Raw::Broken { .. } => &[],
+        Raw::Snapshot { text, .. } => text.as_bytes(),
     }
 }
 
-/// Skips the events that come next, up to the one of this number, from 1.
-fn find_next<R: Source>(
-    alloc: Global,
+/// How the run ends for this event.
+fn outcome_of(raw: &Raw<'_>) -> EventOutcome
+    ensures { result ≡ outcome_of (raw_view raw.now) }
+{
+    match raw {
+        Raw::Broken { .. } => EventOutcome::NoContent,
+        Raw::Content { .. } | Raw::Snapshot { .. } => EventOutcome::Done,
+    }
+}
+
+/// How the run ends where the log ends so, before the event.
+fn outcome_at(end: End) -> EventOutcome
+    ensures { result ≡ without (flaw_of end) }
+{
+    match end {
+        End::Sound => EventOutcome::FewerEvents,
+        End::Bad { number, fault } => EventOutcome::BadLog { number, fault },
+    }
+}
+
+/// Skips the events that come next, up to the one of this number, from 1, and writes what that
+/// holds.
+fn write_nth<R: Source, W: Sink>(
     events: &mut LogEvents,
     reader: &mut R,
+    writer: &mut W,
     number: u64,
-) -> Result<EventAnswer, RunFault>
+) -> Result<EventOutcome, RunFault>
     requires { 0 < number }
     ensures { (limits : Bounds) (start : Told) (n : ℕ)
         → HasPassed limits events.old start (R.told reader.old) n number
-        → Finds limits n start (R.told reader.new) result }
+        → GivesEvent limits (ports start (R.told reader.new) (W.told writer.old)
+        (W.told writer.new)) n result }
 {
     let mut left = number;
     loop {
         match events.next(reader) {
             Err(fault) => return Err(fault),
-            Ok(Next::End(end)) => return Ok(EventAnswer::of_end(alloc, end)),
+            Ok(Next::End(end)) => return Ok(outcome_at(end)),
             Ok(Next::Event(raw)) => {
                 left -= 1;
                 if left == 0 {
-                    return EventAnswer::of_event(alloc, &raw);
+                    put_all(writer, held_by(&raw))?;
+                    return Ok(outcome_of(&raw));
                 }
             }
         }
@@ -133,7 +111,5 @@ pub fn run_event<R: Source, W: Sink>(
         (W.told writer.old) (W.told writer.new)) number result }
 {
     let mut events = LogEvents::open(alloc, reader, limits)?;
-    let answer = find_next(alloc, &mut events, reader, number)?;
-    put_all(writer, answer.content.as_slice())?;
-    Ok(answer.outcome)
+    write_nth(&mut events, reader, writer, number)
 }

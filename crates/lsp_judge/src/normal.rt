@@ -1,19 +1,19 @@
 //! The normal form of a log: each message as its canonical frame, in full records.
-ghost use Rattle.std.specs.Prelude.{◌≡◌, [], List, Some, None};
+ghost use Rattle.std.specs.Prelude.{◌≡◌, ◌<◌, [], List, Some, None};
 ghost use Rattle.lsp_frame.specs.Bounds.{Bounds};
 ghost use Rattle.lsp_frame.specs.Told.{Told};
 ghost use Rattle.lsp_log.specs.Log as log;
 ghost use Rattle.lsp_replay.specs.LogEvents.{Opens};
 ghost use Rattle.lsp_judge.specs.Normal as normal;
 ghost use Rattle.lsp_judge.specs.Normal.{Normalizes, first_broken};
-ghost use Rattle.lsp_judge.specs.NormalSteps.{Counted, CarriesCapped, EndsLog, EndsWhole};
+ghost use Rattle.lsp_judge.specs.NormalSteps.{Counted, CarriesCapped, EndsLog};
 ghost use Rattle.lsp_judge.specs.NormalSteps.{WritesEvent, WroteHead};
 ghost use Rattle.lsp_verdict.specs.Ports.{ports};
 ghost use Rattle.lsp_replay.specs.Streams.{Stands};
 ghost use Rattle.lsp_verdict.specs.Lent.{raw_view};
 ghost use Rattle.lsp_verdict.specs.Placed.{Raw as PlacedRaw};
 
-use crate::pieces::Pieces;
+use crate::pieces::write_content;
 use lsp_frame::{Format, Limits, Sink, Source};
 use lsp_log::{write_head_of, write_snapshot};
 use lsp_replay::{End, LogEvents, Next};
@@ -40,18 +40,19 @@ fn no_next(counts: &Counts, rule: u16, side: Side) -> Outcome
 /// Writes the records of an event and counts it, or gives the No at a fault of the frames.
 fn write_event<W: Sink>(
     writer: &mut W,
-    pieces: &mut Pieces,
+    head: &mut String,
+    size: usize,
     counts: &mut Counts,
     raw: &Raw<'_>,
 ) -> Result<Option<Outcome>, RunFault>
-    ensures size { pieces.new ≡ pieces.old }
-    ensures answer { (before : List PlacedRaw) → Counted counts.old before
-        → WritesEvent pieces.old counts.new (W.told writer.old) (W.told writer.new) before
+    requires { 0 < size }
+    ensures { (before : List PlacedRaw) → Counted counts.old before
+        → WritesEvent size counts.new (W.told writer.old) (W.told writer.new) before
         (raw_view raw.now) result }
 {
     match raw {
         Raw::Content { side, content } => {
-            pieces.write(writer, *side, content)?;
+            write_content(writer, head, size, *side, content)?;
             counts.add(who_of(*side));
             Ok(None)
         }
@@ -64,12 +65,15 @@ fn write_event<W: Sink>(
     }
 }
 
-/// The outcome where the log ends without a fault, after events that were counted.
-fn sound_outcome(events: &LogEvents, counts: &Counts) -> Outcome
+/// The outcome where the log ends so, after events that were counted.
+fn outcome_at(events: &LogEvents, counts: &Counts, end: End) -> Outcome
     ensures { (limits : Bounds) (records : List log.Record) (given : List PlacedRaw)
         → Stands limits events.now.streams records given [] → Counted counts.now given
-        → first_broken given ≡ None → EndsWhole limits records given result }
+        → first_broken given ≡ None → EndsLog limits records given end result }
 {
+    if let End::Bad { number, fault } = end {
+        return Outcome::Judged(Verdict::BadLog { number, fault });
+    }
     if events.ends_inside(Side::Editor) {
         return no_next(counts, rules::STREAM_ENDS_INSIDE_FRAME, Side::Editor);
     }
@@ -77,18 +81,6 @@ fn sound_outcome(events: &LogEvents, counts: &Counts) -> Outcome
         return no_next(counts, rules::STREAM_ENDS_INSIDE_FRAME, Side::Server);
     }
     Outcome::Done
-}
-
-/// The outcome where the log ends so, after events that were counted.
-fn outcome_at(events: &LogEvents, counts: &Counts, end: End) -> Outcome
-    ensures { (limits : Bounds) (records : List log.Record) (given : List PlacedRaw)
-        → Stands limits events.now.streams records given [] → Counted counts.now given
-        → first_broken given ≡ None → EndsLog limits records given end result }
-{
-    match end {
-        End::Sound => sound_outcome(events, counts),
-        End::Bad { number, fault } => Outcome::Judged(Verdict::BadLog { number, fault }),
-    }
 }
 
 /// Writes the records of the events of a log.
@@ -105,14 +97,14 @@ fn write_events<R: Source, W: Sink>(
         → Normalizes limits (ports start (R.told reader.new) sink (W.told writer.new)) result }
 {
     let size = limits.chunk() as usize;
-    let mut pieces = Pieces::new(alloc, size);
+    let mut head = String::new(alloc);
     let mut counts = Counts::new();
     loop {
         match events.next(reader) {
             Err(fault) => return Err(fault),
             Ok(Next::End(end)) => return Ok(outcome_at(events, &counts, end)),
             Ok(Next::Event(raw)) => {
-                if let Some(outcome) = write_event(writer, &mut pieces, &mut counts, &raw)? {
+                if let Some(outcome) = write_event(writer, &mut head, size, &mut counts, &raw)? {
                     return Ok(outcome);
                 }
             }

@@ -1,6 +1,5 @@
 //! Contents as the records of a log.
-ghost use Rattle.std.specs.Prelude.{◌≡◌, ◌+◌, ◌<◌, ◌++◌, codes, decimal, string_bytes};
-ghost use Rattle.std.specs.Prelude.{OnOk};
+ghost use Rattle.std.specs.Prelude.{◌≡◌, ◌<◌, ◌++◌, OnOk, codes, decimal, string_bytes};
 ghost use Rattle.std.specs.List.{flat_map};
 ghost use Rattle.lsp_frame.specs.Header.{blank_line};
 ghost use Rattle.lsp_frame.specs.Sink.{canonical, Writes};
@@ -13,57 +12,24 @@ use lsp_frame::{Sink, WriteFault};
 use lsp_log::write_chunk;
 use lsp_rpc::{Memory, Side};
 use lsp_verdict::RunFault;
-use std::alloc::Global;
-use std::marker::Model;
 
-/// Writes contents as canonical frames (LSP 3.17, "Base Protocol") in records of a log, each of
-/// which is full but for a frame's last.
-///
-/// A frame's header part is made in one text, and its content is written from where it stands.
-#[derive(Drop)]
-pub(crate) struct Pieces {
-    /// How many bytes a full record has.
+/// Writes the canonical frame of a content (LSP 3.17, "Base Protocol") as records of its side, each
+/// of which is full at this many bytes but for the last. Its header part is made in `head`, and the
+/// content is written from where it stands.
+pub(crate) fn write_content<W: Sink>(
+    writer: &mut W,
+    head: &mut String,
     size: usize,
-    head: String,
-}
-
-impl Model for Pieces {
-    ghost use Rattle.std.specs.Prelude.{ℕ, ◌<◌};
-
-    ghost Value = { ℕ };
-
-    ghost view = { λ a. a.size };
-
-    ghost invariant = { λ a. 0 < a.size };
-}
-
-impl Pieces {
-    /// Records are full at this many bytes.
-    pub(crate) fn new(alloc: Global, size: usize) -> Pieces
-        requires { 0 < size }
-        ensures { result ≡ size }
-    {
-        Pieces {
-            size,
-            head: String::new(alloc),
-        }
-    }
-
-    /// Writes the canonical frame of a content as records of its side.
-    pub(crate) fn write<W: Sink>(
-        &mut self,
-        writer: &mut W,
-        side: Side,
-        content: &[u8],
-    ) -> Result<(), RunFault>
-        ensures size { self.new ≡ self.old }
-        ensures tells { Tells (W.told writer.old) (W.told writer.new)
-            (flat_map spelling (chunks self.old side (canonical content.now))) result }
-    {
-        fill_head(&mut self.head, content.len())?;
-        write_cut(writer, side, self.size, self.head.as_bytes(), content)?;
-        Ok(())
-    }
+    side: Side,
+    content: &[u8],
+) -> Result<(), RunFault>
+    requires { 0 < size }
+    ensures { Tells (W.told writer.old) (W.told writer.new)
+        (flat_map spelling (chunks size side (canonical content.now))) result }
+{
+    fill_head(head, content.len())?;
+    write_cut(writer, side, size, head.as_bytes(), content)?;
+    Ok(())
 }
 
 /// Makes the text the header part of the canonical frame of a content of this length.

@@ -22,16 +22,16 @@ use Rattle.lsp_survey.specs.declared.notes.standard_methods.MethodUse.TheVariant
 abbrev pub sent_by : Side → Side → Option Misuse
 sent_by Server Editor = Some ByEditor
 sent_by Editor Server = Some ByServer
-sent_by sender side = None
+sent_by by side = None
 
 abbrev pub as_request : Side → MethodUse → Option Misuse
-as_request side (uses.Request sender) = sent_by sender side
+as_request side (uses.Request by) = sent_by by side
 as_request side other = Some AsRequest
 
 abbrev pub as_notification : Side → MethodUse → Option Misuse
-as_notification side (uses.Notification sender) = sent_by sender side
+as_notification side (uses.Notification by) = sent_by by side
 as_notification side uses.Shared = None
-as_notification side (uses.Request sender) = Some AsNotification
+as_notification side (uses.Request by) = Some AsNotification
 
 abbrev pub request_misuse : Side → List ℕ → Option Misuse
 request_misuse side name = option_and_then (as_request side) (use_of name)

@@ -11,10 +11,12 @@ use Rattle.json.specs.Lex.{punctuate, lex}
 use Rattle.json.specs.Print.{escape_byte}
 use Rattle.json.specs.Text.{content}
 use Rattle.json.specs.Word.{word, after_number}
+use Rattle.serde_json.specs.Find.{walk, unescape}
 use Rattle.serde_json.specs.Read.{number_of}
 use Rattle.lsp_facts.specs.ContentFacts.{content_facts, wrong_in}
 use Rattle.lsp_facts.specs.Grammar.{json_break}
 use Rattle.lsp_facts.specs.Fact.{fact_lines}
+use Rattle.lsp_facts.specs.Members.{parts}
 
 -- ---- where a text is no longer the front of a JSON text
 
@@ -76,10 +78,12 @@ a_batch = refl
 no_token : wrong_in (codes "{\"jsonrpc\":\"2.0\",\"method\":\"$/progress\",\"params\":{}}")
     ≡ Some (codes "/token")
 unfolding value punctuate lex content word after_number number_of scan_numeral is_utf8 chars encode
+    parts walk unescape
 no_token = refl
 
 no_params : wrong_in (codes "{\"jsonrpc\":\"2.0\",\"method\":\"textDocument/didOpen\"}") ≡ Some []
 unfolding value punctuate lex content word after_number number_of scan_numeral is_utf8 chars encode
+    parts walk unescape
 no_params = refl
 
 -- a message of this method with these params
@@ -92,6 +96,7 @@ version_is_null : wrong_in (calls (codes "textDocument/didOpen")
     (codes "{\"textDocument\":{\"uri\":\"a\",\"version\":null,\"text\":\"\"}}"))
     ≡ Some (codes "/textDocument/version")
 unfolding value punctuate lex content word after_number number_of scan_numeral is_utf8 chars encode
+    parts walk unescape
 version_is_null = refl
 
 second_change : wrong_in (calls (codes "textDocument/didChange")
@@ -99,5 +104,5 @@ second_change : wrong_in (calls (codes "textDocument/didChange")
     ++ codes "{\"range\":{\"start\":{\"line\":0,\"character\":-1}},\"text\":\"\"}]}"))
     ≡ Some (codes "/contentChanges/1/range/start/character")
 unfolding value punctuate lex content word after_number number_of scan_numeral is_utf8 chars encode
-    digits
+    digits parts walk unescape
 second_change = refl

@@ -11,7 +11,8 @@ use Rattle.lsp_frame.specs.declared.format.Format.TheVariants.{One}
 use Rattle.lsp_types.specs.declared.side.Side.TheVariants.{Editor}
 use Rattle.lsp_log.specs.Log.{chunk}
 use Rattle.lsp_log.specs.declared.fault.LogCode.TheVariants.{L2}
-use Rattle.lsp_facts.specs.FlawFacts.{frame_facts, unfinished_facts, log_facts}
+use Rattle.lsp_facts.specs.FlawFacts.{frame_facts, log_facts}
+use Rattle.lsp_facts.specs.MessageFacts.{front_facts}
 use Rattle.lsp_facts.specs.Fact.{fact_lines}
 
 -- the header part alone, whatever follows
@@ -24,7 +25,7 @@ unfolding utf8_valid_len is_utf8 chars encode escape_byte
 at_most_64_bytes = refl
 
 -- and the content too, where the stream ends inside it
-an_unfinished_frame : fact_lines (unfinished_facts (codes "Content-Length: 9\r\n\r\n{\"id\"")) ≡ codes "begins \"Content-Length: 9\\r\\n\\r\\n{\\\"id\\\"\"\n"
+an_unfinished_frame : fact_lines (front_facts (codes "Content-Length: 9\r\n\r\n{\"id\"")) ≡ codes "begins \"Content-Length: 9\\r\\n\\r\\n{\\\"id\\\"\"\n"
 unfolding utf8_valid_len is_utf8 chars encode escape_byte
 an_unfinished_frame = refl
 

@@ -11,11 +11,13 @@ use Rattle.json.specs.Lex.{punctuate, lex}
 use Rattle.json.specs.Text.{content}
 use Rattle.json.specs.Word.{word, after_number}
 use Rattle.json.specs.Print.{escape_byte}
+use Rattle.serde_json.specs.Find.{walk, unescape}
 use Rattle.serde_json.specs.Read.{number_of}
 use Rattle.lsp_verdict.specs.Event.{Event, message, sent_in}
 use Rattle.lsp_verdict.proofs.Worked.Templates.{I1, IE, IT, A, A1, START, REQ, SH, EX, RES, ERR}
 use Rattle.lsp_verdict.proofs.Worked.Templates.{LOG, PROG, REG, CANCEL}
 use Rattle.lsp_facts.specs.Fact.{fact_lines}
+use Rattle.lsp_facts.specs.Members.{result_rows}
 use Rattle.lsp_facts.specs.MessageFacts.{front_facts, session_facts}
 
 -- what is said of a message that breaks this rule behind these events
@@ -93,14 +95,17 @@ no_progress = refl
 bad_result : said 501 (I1 ∷ []) (A (codes "1") (codes "{\"textDocumentSync\":3}"))
     ≡ codes "offered\nmember \"/capabilities/textDocumentSync\"\n"
 unfolding value punctuate lex content word after_number number_of scan_numeral chars digits escape_byte
+    result_rows walk unescape
 bad_result = refl
 
 not_offered : said 502 (IE (codes "utf-32") ∷ []) (A (codes "1") (codes "{\"positionEncoding\":\"utf-8\"}")) ≡ codes "offered \"utf-32\"\npicked \"utf-8\"\n"
 unfolding value punctuate lex content word after_number number_of scan_numeral chars digits escape_byte
+    result_rows walk unescape
 not_offered = refl
 
 outside_the_profile : said 503 (IE (codes "utf-7") ∷ []) (A (codes "1") (codes "{\"positionEncoding\":\"utf-7\"}")) ≡ codes "offered \"utf-7\"\npicked \"utf-7\"\n"
 unfolding value punctuate lex content word after_number number_of scan_numeral chars digits escape_byte
+    result_rows walk unescape
 outside_the_profile = refl
 
 registers_opening : said 504 START (REG (codes "textDocument/didOpen")) ≡ codes "registers \"textDocument/didOpen\"\n"

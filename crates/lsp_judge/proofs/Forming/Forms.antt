@@ -2,7 +2,7 @@
 use Rattle.std.specs.Prelude.{map, filter}
 use Rattle.std.specs.List.{flat_map}
 use Rattle.std.proofs.Common.{◌≡◌, ℕ, suc, ◌+◌, List, [], ◌∷◌, ◌++◌, length, Option, Some, None}
-use Rattle.std.proofs.Common.{refl, sym, ap, ◌∙◌, append_assoc, append-nil}
+use Rattle.std.proofs.Common.{refl, sym, ap, subst, ◌∙◌, append_assoc, append-nil}
 use Rattle.std.proofs.lemmas.Grind.{flat_map-append}
 use Rattle.std.specs.Option.{option_or}
 use Rattle.lsp_frame.specs.Sink.{canonical}
@@ -20,9 +20,9 @@ use Rattle.lsp_verdict.specs.Counting.{AreCounts}
 use Rattle.lsp_verdict.specs.Event.{Event}
 use Rattle.lsp_verdict.specs.declared.counts.Counts.{Counts}
 use Rattle.lsp_verdict.specs.declared.verdict.Who.{Who}
-use Rattle.std.proofs.lemmas.List.{length-map}
+use Rattle.std.proofs.lemmas.List.{length-map, map-append}
 use Rattle.lsp_verdict.specs.Verdict as verdict
-use Rattle.lsp_verdict.specs.Verdict.{Verdict, no, who_of, belongs_to, count_of}
+use Rattle.lsp_verdict.specs.Verdict.{Verdict, no, who_of, belongs_to, count_of, whose}
 use Rattle.lsp_verdict.proofs.LookBackLemmas.{first_of-snoc}
 
 -- ---- events without a fault, and with one
@@ -105,6 +105,16 @@ spelled_broken size before (broken side rule) v is = refl
 spelled_broken size before (show number uri text) v is = absurd cc
 
 -- ---- counts
+
+-- one event more is counted
+pub one_counted : (old new : Counts) (before : List Raw) (raw : Raw) (by : Who)
+    → whose (mark raw) ≡ by
+    → ((events : List Event) (event : Event) → AreCounts old events → whose event ≡ by
+    → AreCounts new (events ++ event ∷ []))
+    → Counted old before → Counted new (before ++ raw ∷ [])
+one_counted old new before raw by is adds counted =
+    subst (AreCounts new) (sym (map-append mark before (raw ∷ [])))
+    (adds (map mark before) (mark raw) counted is)
 
 editor_marks : (raws : List Raw)
     → count_of (belongs_to (who_of Editor)) (map mark raws) ≡ length (filter (is_of Editor) raws)

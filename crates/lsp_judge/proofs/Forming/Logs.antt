@@ -6,17 +6,17 @@ use Rattle.std.proofs.Common.{arith}
 use Rattle.std.proofs.lemmas.List.{length_push, length-map, length-append}
 use Rattle.lsp_frame.specs.Bounds.{Bounds}
 use Rattle.lsp_frame.specs.Sink.{Wrote, Stopped}
-use Rattle.lsp_frame.specs.Told.{Told}
+use Rattle.lsp_frame.specs.Told.{Told, Took}
 use Rattle.lsp_frame.specs.declared.format.Format.{Format}
-use Rattle.lsp_frame.proofs.Telling.{took_nothing, took_then}
-use Rattle.lsp_frame.proofs.Writing.{wrote_nothing, wrote_then}
+use Rattle.lsp_frame.proofs.Telling.{took_nothing}
+use Rattle.lsp_frame.proofs.Writing.{stopped_then, wrote_nothing, wrote_then}
 use Rattle.lsp_log.specs.Log.{Record, first_line}
 use Rattle.lsp_log.specs.declared.fault.LogCode.{LogCode}
 use Rattle.lsp_replay.specs.LogEvents as log_events
 use Rattle.lsp_replay.specs.LogEvents.{Gives, HasGiven, IsLogOf, Opens, flaw_of}
 use Rattle.lsp_judge.specs.Normal.{form_of, fault_of, EndsNormal, BeginsNormal, IsNormal}
 use Rattle.lsp_judge.specs.Normal.{Carries, Normalizes}
-use Rattle.lsp_judge.specs.NormalSteps.{mark, CarriesCapped, spelled, IsLate, EndsLog, EndsWhole}
+use Rattle.lsp_judge.specs.NormalSteps.{mark, CarriesCapped, spelled, EndsLog, EndsWhole}
 use Rattle.lsp_judge.specs.NormalSteps.{WritesEvent, SoFar}
 use Rattle.lsp_verdict.specs.Ports.{ports}
 use Rattle.lsp_verdict.specs.Given.{as_given}
@@ -30,7 +30,7 @@ use Rattle.lsp_verdict.specs.Counting.{AreCounts}
 use Rattle.lsp_types.specs.declared.side.Side.TheVariants.{Editor, Server}
 use Rattle.lsp_verdict.specs.Outcome.{HasRest, ending, format_or_one}
 use Rattle.lsp_verdict.specs.Placed.{Raw, joined}
-use Rattle.lsp_verdict.specs.RunIo.{BreaksOff, failures_after, sink_failures_after}
+use Rattle.lsp_verdict.specs.RunIo.{BreaksOff, Tells, failures_after, sink_failures_after}
 use Rattle.lsp_verdict.specs.Verdict.{Verdict, bad_log}
 use Rattle.lsp_verdict.specs.declared.counts.Counts.{Counts}
 use Rattle.lsp_verdict.specs.declared.outcome.Outcome.{Outcome}
@@ -56,10 +56,19 @@ carried : (outcome : Outcome) (v : Verdict) → CarriesCapped outcome (Some v) �
 carried outcome v carries e =
     absurd (cc (subst (λ (o : Outcome). Carries o (Some (as_given v))) e carries))
 
-late_source : (fault : RunFault) (n : ℕ) → IsLate fault → n ≡ failures_after fault n
-late_source faults.Read n late = absurd late
-late_source faults.Write n late = refl
-late_source faults.Memory n late = refl
+-- what a fault leaves, after what was written before
+cut_at : (old mid new : Told) (before due : List ℕ) (fault : RunFault) → Wrote old mid before
+    → Tells mid new due (Err fault)
+    → (front : List ℕ) × (back : List ℕ) × (before ++ due ≡ front ++ back) × Took old new front
+    × (new.failures ≡ sink_failures_after fault old.failures)
+    × ((n : ℕ) → n ≡ failures_after fault n)
+cut_at old mid new before due faults.Write wrote told =
+    let all = stopped_then old mid new before due wrote told in
+    (all.front, all.back, all.whole, all.took, all.failures, λ n. refl)
+cut_at old mid new before due faults.Memory wrote same =
+    let all = subst (λ (t : Told). Wrote old t before) (sym same) wrote in
+    (before, due, refl, all.took, all.failures, λ n. refl)
+cut_at old mid new before due faults.Read wrote told = absurd told
 
 -- ---- nothing was written
 
@@ -209,32 +218,30 @@ module _ (limits : Bounds) (format : Option Format) (old new : LogEvents) (count
         → WritesEvent size counted_now sink_now sink_new so.given (raw_view raw) (Err fault)
         → Normalizes limits (ports start now sink sink_new) (Err fault)
     unfolding line
-    part_written raw counted_now size fault sink_new is (more, due, reads) (none, late, part) =
+    part_written raw counted_now size fault sink_new is (more, due, reads) (none, told) =
         let given : List Raw = so.given ++ raw_view raw ∷ [] in
         let before_it : List ℕ = line ++ spelled limits.chunk so.given in
         let wrote : Wrote sink sink_now before_it =
         wrote_then sink sink_before sink_now line (spelled limits.chunk so.given) head
         so.wrote in
-        let due_now : spelled limits.chunk (raw_view raw ∷ []) ≡ part.front ++ part.back =
-        ap (λ (n : ℕ). spelled n (raw_view raw ∷ [])) (sym is) ∙ part.whole in
-        let whole : form_of (format_or_one format) limits.chunk given
-        ≡ (before_it ++ part.front) ++ part.back =
+        let cut = cut_at sink sink_now sink_new before_it (spelled size (raw_view raw ∷ [])) fault
+        wrote told in
+        let whole : form_of (format_or_one format) limits.chunk given ≡ cut.0 ++ cut.1 =
         ap (λ (w : List ℕ). line ++ w)
         (spelled_behind limits.chunk so.given (raw_view raw ∷ []) so.sound)
-        ∙ ap (λ (w : List ℕ). line ++ (spelled limits.chunk so.given ++ w)) due_now
-        ∙ sym (append_assoc line (spelled limits.chunk so.given) (part.front ++ part.back))
-        ∙ sym (append_assoc before_it part.front part.back) in
+        ∙ sym (append_assoc line (spelled limits.chunk so.given)
+        (spelled limits.chunk (raw_view raw ∷ [])))
+        ∙ ap (λ (n : ℕ). before_it ++ spelled n (raw_view raw ∷ [])) (sym is) ∙ cut.2 in
         due_begun limits _ Done _ _ fault (
-          before_it ++ part.front,
-          took_then sink sink_now sink_new before_it part.front wrote.took part.took,
+          cut.0,
+          cut.3,
           read_map limits start now (HasGiven limits format (so.records ++ more) given)
-              (λ log. BeginsNormal limits log (before_it ++ part.front))
+              (λ log. BeginsNormal limits log cut.0)
               (λ log has. due_first limits reads.stands.range log format (so.records ++ more)
-              given has (before_it ++ part.front) part.back whole)
+              given has cut.0 cut.1 whole)
               (reads_given limits format new start now (so.records ++ more) given due reads),
         ) (reads_failures limits format new start now (so.records ++ more) given due reads
-        ∙ late_source fault start.failures late)
-        (part.failures ∙ ap (sink_failures_after fault) wrote.failures)
+        ∙ cut.5 start.failures) cut.4
 
     wrote_given : Wrote sink sink_now (form_of (format_or_one format) limits.chunk so.given)
     unfolding line

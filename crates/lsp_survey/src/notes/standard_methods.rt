@@ -1,6 +1,6 @@
 //! The methods of LSP 3.17: which of them requests have, which notifications have, and which side
 //! sends them.
-ghost use Rattle.std.specs.Prelude.{◌≡◌};
+ghost use Rattle.std.specs.Prelude.{◌≡◌, map};
 ghost use Rattle.lsp_survey.specs.StandardMethods as spec;
 
 use MethodUse::{Notification, Request, Shared};
@@ -116,6 +116,18 @@ pub(crate) const METHODS: [(&str, MethodUse); 90] = [
 pub(crate) fn use_of(name: &str) -> Option<MethodUse>
     ensures { result ≡ spec.use_of name.now }
 {
-    let row = METHODS.iter().find(|row| row.0 == name)?;
-    Some(row.1)
+    use_among(&METHODS, name)
+}
+
+#[tactic(auto, unfolding(crate::specs::StandardMethods::use_among))]
+fn use_among(mut rows: &[(&str, MethodUse)], name: &str) -> Option<MethodUse>
+    ensures { result ≡ spec.use_among (map (λ row. (row.0.now, row.1)) rows.entry.now) name.now }
+{
+    while let [row, rest @ ..] = rows {
+        if row.0 == name {
+            return Some(row.1);
+        }
+        rows = rest;
+    }
+    None
 }

@@ -28,7 +28,7 @@ returns c = λ before stands.
     let asked = c.in_ok-facts.ensures terms before noted
     ∙ ap (map (waiting_by said)) (c.pending.ensures (sents said) sent) in
     let phase = c.phase.ensures (sents said) sent in
-    c.in_ok-push_event.ensures
+    c.in_ok-push_earlier.ensures
     ∙ ap (λ (o : Option EventPlace). c.phase-2.new.self ++ place_facts (codes "since") o)
     (c.since.ensures terms before noted)
     ∙ ap (λ (l : List Fact). l ++ place_facts (codes "since") (since said))

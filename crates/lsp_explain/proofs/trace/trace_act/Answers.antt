@@ -35,7 +35,7 @@ returns-in-DidOpen c =
     says before call stands is
     ∙ ap (λ (u : List ℕ). old ++ document_traced (steps terms u before)
     (refuting terms (calls (kept_of terms before)) call (waiting_for number (steps terms u before)))
-    (until.Message c.args.place number) c.args.rule) c.as_str.ensures.value
+    (until.Message c.args.place number) c.args.rule) c.as_str-uri.ensures.value
     ∙ ap (λ o. old ++ call_traced terms before c.args.place c.args.rule o) (sym is))
     told
 
@@ -57,6 +57,6 @@ returns-in-DidChange c =
     says before call stands is
     ∙ ap (λ (u : List ℕ). old ++ document_traced (steps terms u before)
     (refuting terms (calls (kept_of terms before)) call (waiting_for number (steps terms u before)))
-    (until.Message c.args.place number) c.args.rule) c.as_str-in-DidChange.ensures.value
+    (until.Message c.args.place number) c.args.rule) c.as_str-uri-in-DidChange.ensures.value
     ∙ ap (λ o. old ++ call_traced terms before c.args.place c.args.rule o) (sym is))
     told

@@ -1,4 +1,4 @@
-use Rattle.std.proofs.Common.{List, ◌++◌, sym, ap, ◌∙◌, subst, append_assoc}
+use Rattle.std.proofs.Common.{ℕ, List, ◌++◌, length, sym, ap, ◌∙◌, subst, append_assoc}
 use Rattle.std.proofs.lemmas.List.{map-append}
 use Rattle.std.specs.List.{flat_map}
 use Rattle.std.proofs.lemmas.Grind.{flat_map-append}
@@ -20,7 +20,7 @@ returns c =
     (λ says before stands.
     let opened = subst (λ (o : Openings). AreOpenings terms o before) (sym c.openings.ensures)
     stands.opened in
-    let each = similar_fact terms before c.len-size.result c.as_slice-spelling.result.now in
+    let each = similar_fact terms before (length c.args.uri.now) c.as_slice-spelling.result.now in
     says before stands
     ∙ ap (λ (l : List Fact). l ++ flat_map each (ons_view second))
     (c.in_ok-push_spelled.ensures before stands)
@@ -29,6 +29,6 @@ returns c =
     (ons_view second))
     ∙ ap (flat_map each) (sym (map-append on_view first second)
     ∙ c.last_opened.ensures terms before opened))
-    ∙ (λ i. old ++ flat_map (similar_fact terms before (c.len-size.ensures i)
-    ((c.as_slice-spelling.ensures.value ∙ c.in_ok-spelling.ensures) i)) (last_openings terms before)))
+    ∙ ap (λ (b : List ℕ). old ++ flat_map (similar_fact terms before (length c.args.uri.now) b)
+    (last_openings terms before)) (c.as_slice-spelling.ensures.value ∙ c.in_ok-spelling.ensures))
     c.push_spelled-2.ensures

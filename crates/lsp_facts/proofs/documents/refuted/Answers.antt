@@ -2,6 +2,7 @@ use Rattle.std.proofs.Common.{List, ℕ, ap, ◌∙◌, subst, sym, w32}
 use Rattle.std.specs.Borrow.{Bor}
 use Rattle.std.specs.Option.{option_map}
 use Rattle.std.proofs.lemmas.Int.{to_z-of_z}
+use Rattle.std.specs.Prelude.{codes}
 use Rattle.std.specs.Str.{chars}
 use mir.Val.{SFits}
 use Rattle.lsp_types.specs.declared.line_ends.LineEnds.{LineEnds}

@@ -1,19 +1,16 @@
-use Rattle.std.proofs.Common.{◌++◌, ◌∙◌}
+use Rattle.std.proofs.Common.{◌++◌}
 use Rattle.std.proofs.lemmas.Result.{err_from_is_err_and}
 use Rattle.lsp_judge.proofs.Forming.Logs.{broke_off, end_formed, fault_ends, fewer, none_formed}
 use Rattle.lsp_judge.proofs.Forming.Logs.{one_formed, part_written}
 use Rattle.lsp_judge.proofs.normal.write_events.Goals as goal
 
 pub loop-fault-init : goal.loop-fault-init
-loop-fault-init g c = record {
-  size = c.new-pieces.ensures ∙ c.chunk-size.ensures.value;
-  so_far = λ start opens. none_formed c.args.limits c.args.events.now _ start _ _ opens
-      c.new-counts.ensures;
-}
+loop-fault-init g c = λ start opens.
+    none_formed c.args.limits c.args.events.now _ start _ _ opens c.new-counts.ensures
 
 pub returns-in-Err : goal.returns-in-Err
 returns-in-Err g c = λ start sink opens head.
-    let so = c.loop-fault.invariant.so_far start opens in
+    let so = c.loop-fault.invariant start opens in
     let next = rw c.in-Err.is at c.next.follows.holds-at-none in
     let gives = next c.args.limits c.args.events.now.log.format start so.records so.given so.due
     so.reads in
@@ -23,7 +20,7 @@ returns-in-Err g c = λ start sink opens head.
 
 pub returns-in-Ok-End : goal.returns-in-Ok-End
 returns-in-Ok-End g c = λ start sink opens head.
-    let so = c.loop-fault.invariant.so_far start opens in
+    let so = c.loop-fault.invariant start opens in
     let next = rw (c.in-Ok-End.is, c.in-Ok-End.field-0-is) at c.next.follows.holds-at-none in
     let gives = next c.args.limits c.args.events.now.log.format start so.records so.given so.due
     so.reads in
@@ -39,53 +36,49 @@ returns-in_err-outcome-in-Ok-Event g c =
     let inv = c.loop-fault.invariant in
     let next = rw (c.in-Ok-Event.is, c.in-Ok-Event.field-0-is) at c.next.follows.holds-at-none in
     rw (p.1, p.2) (λ start sink opens head.
-    let so = inv.so_far start opens in
+    let so = inv start opens in
     let gives = next c.args.limits c.args.events.now.log.format start so.records so.given so.due
     so.reads in
     part_written c.args.limits c.args.events.now.log.format c.loop-fault.events
     c.next.follows.lender-at-none c.loop-fault.counts start _ _ _ _ so sink head
     c.in-Ok-Event.raw c.write_event.new.counts _ c.in_err-outcome-in-Ok-Event.field-0.0 _
-    inv.size gives
-    (c.in_err-outcome-in-Ok-Event.ensures.answer so.given so.counted))
+    c.chunk-size.ensures.value gives
+    (c.in_err-outcome-in-Ok-Event.ensures so.given so.counted))
 
 pub returns-in-Some : goal.returns-in-Some
 returns-in-Some g c = λ start sink opens head.
     let inv = c.loop-fault.invariant in
-    let so = inv.so_far start opens in
+    let so = inv start opens in
     let next = rw (c.in-Ok-Event.is, c.in-Ok-Event.field-0-is) at c.next.follows.holds-at-none in
     let gives = next c.args.limits c.args.events.now.log.format start so.records so.given so.due
     so.reads in
-    let writes = rw c.in-Some.is at (c.in_ok-outcome-in-Ok-Event.ensures.answer so.given
+    let writes = rw c.in-Some.is at (c.in_ok-outcome-in-Ok-Event.ensures so.given
     so.counted) in
     fault_ends c.args.limits c.args.events.now.log.format c.loop-fault.events
     c.next.follows.lender-at-none c.loop-fault.counts start _ _ _ _ so sink head
-    c.in-Ok-Event.raw c.write_event.new.counts c.loop-fault.pieces c.in-Some.outcome _ gives
+    c.in-Ok-Event.raw c.write_event.new.counts c.args.limits.chunk c.in-Some.outcome _ gives
     writes
 
 pub loop-fault-preserved : goal.loop-fault-preserved
 loop-fault-preserved g c =
-    let inv = c.loop-fault.invariant in
     let next = rw (c.in-Ok-Event.is, c.in-Ok-Event.field-0-is) at c.next.follows.holds-at-none in
-    record {
-      size = c.in_ok-outcome-in-Ok-Event.ensures.size ∙ inv.size;
-      so_far = λ start opens.
-          let so = inv.so_far start opens in
-          let gives = next c.args.limits c.args.events.now.log.format start so.records so.given
-          so.due so.reads in
-          one_formed c.args.limits c.args.events.now.log.format c.loop-fault.events
-          c.next.follows.lender-at-none c.loop-fault.counts start _ _ _ _ so c.in-Ok-Event.raw _
-          _ _ inv.size gives
-          (rw c.in_default.is at (c.in_ok-outcome-in-Ok-Event.ensures.answer so.given so.counted));
-    }
+    λ start opens.
+    let so = c.loop-fault.invariant start opens in
+    let gives = next c.args.limits c.args.events.now.log.format start so.records so.given so.due
+    so.reads in
+    one_formed c.args.limits c.args.events.now.log.format c.loop-fault.events
+    c.next.follows.lender-at-none c.loop-fault.counts start _ _ _ _ so c.in-Ok-Event.raw _ _ _
+    c.chunk-size.ensures.value gives
+    (rw c.in_default.is at (c.in_ok-outcome-in-Ok-Event.ensures so.given so.counted))
 
 pub loop-fault-smaller : goal.loop-fault-smaller
 loop-fault-smaller g c =
     let inv = c.loop-fault.invariant in
-    let so = inv.so_far c.requires.0 c.requires.1 in
+    let so = inv c.requires.0 c.requires.1 in
     let next = rw (c.in-Ok-Event.is, c.in-Ok-Event.field-0-is) at c.next.follows.holds-at-none in
     let gives = next c.args.limits c.args.events.now.log.format c.requires.0 so.records so.given
     so.due so.reads in
     fewer c.args.limits c.args.events.now.log.format c.loop-fault.events
     c.next.follows.lender-at-none c.loop-fault.counts c.requires.0 _ _ _ _ so c.in-Ok-Event.raw
     _ _ _ gives
-    (rw c.in_default.is at (c.in_ok-outcome-in-Ok-Event.ensures.answer so.given so.counted))
+    (rw c.in_default.is at (c.in_ok-outcome-in-Ok-Event.ensures so.given so.counted))

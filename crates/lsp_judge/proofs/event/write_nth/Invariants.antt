@@ -1,12 +1,13 @@
-use Rattle.std.proofs.Common.{◌<◌, ℕ}
+use Rattle.std.proofs.Common.{◌≡◌, ◌<◌, ℕ}
 use Rattle.lsp_frame.specs.Bounds.{Bounds}
 use Rattle.lsp_frame.specs.Told.{Told}
 use Rattle.lsp_judge.specs.EventSteps.{HasPassed}
-use Rattle.lsp_judge.proofs.event.find_next.Given as goal
+use Rattle.lsp_judge.proofs.event.write_nth.Given as goal
 
 abbrev pub invariant-loop-fault : goal.invariant-loop-fault
 invariant-loop-fault g l = record {
   ahead : 0 < l.left;
+  sink : g.W.Sink.told l.writer ≡ g.W.Sink.told l.fn.writer;
   passed : (limits : Bounds) (start : Told) (n : ℕ)
       → HasPassed limits l.fn.events start (g.R.Source.told l.fn.reader) n l.fn.number
       → HasPassed limits l.events start (g.R.Source.told l.reader) n l.left;

@@ -1,0 +1,23 @@
+use Rattle.std.specs.Prelude.{codes, option_map}
+use Rattle.std.proofs.Common.{◌++◌, ◌∷◌, [], List, ℕ, Option, Bor, sym, ap, ◌∙◌}
+use Rattle.std.proofs.lemmas.Result.{on_ok_weaker}
+use Rattle.json.specs.Print.{quoted}
+use Rattle.lsp_survey.specs.Renames.{renamed_view}
+use Rattle.lsp_survey.specs.declared.notes.renames.Renamed.{Renamed}
+use Rattle.lsp_verdict.specs.Report.{line}
+use Rattle.lsp_facts.specs.Fact.{place_words}
+use Rattle.lsp_explain.specs.Remarks.{old_name_remarks}
+use Rattle.lsp_explain.proofs.remarks.push_renamed.Goals as goal
+
+pub returns-in-Some : goal.returns-in-Some
+returns-in-Some c =
+    let old = c.args.remarks.now in
+    let renamed = c.in-Some.renamed.now in
+    on_ok_weaker c.text_by.result
+    (λ says. says
+    ∙ ap (λ (u : List ℕ). old
+    ++ line (codes "note renamed" ∷ quoted u ∷ place_words renamed.place) ∷ [])
+    c.as_str.ensures.value
+    ∙ ap (λ (o : Option (Bor Renamed)). old
+    ++ old_name_remarks (option_map (λ r. renamed_view r.now) o)) (sym c.in-Some.is))
+    c.text_by.ensures.ok
