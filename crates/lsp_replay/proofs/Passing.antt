@@ -658,7 +658,7 @@ module _ (Asked : Type 0) (run_of : Asked → Run) (asked : Asked)
         (rest_of own_rests.0 side) gone.1.reads.stands p.noted (has_rest side);
   }
 
-  pub end_few : length p.heard + 1 < 2 ^ 64
+  pub end_few : length p.heard < 2 ^ 63
   end_few = omega (arith, passing_few Asked run_of asked Stands limits e m d c start now old new
       p,
       p.reads.stands.range.log_high)
@@ -742,7 +742,7 @@ module _ (Asked : Type 0) (run_of : Asked → Run) (asked : Asked)
   -- by what the account says
   pub end_all : (own : Asked) → own ≡ asked → (result : Result Outcome RunFault) (sink : Told)
       → ((t : Terms) (heard : List Heard) → Stands t heard → Stood t m d c heard
-      → length heard + 1 < 2 ^ 64
+      → length heard < 2 ^ 63
       → Steps new sink (DueAtEnd (run_of own) t heard log end) result)
       → Passes run limits start last old sink result
   end_all own same result sink tells =

@@ -59,7 +59,7 @@ pub trait Account {
         ensures closes { IfOk result (λ outcome. (terms : Terms) (heard : List Heard)
             → stands self.old terms heard
             → Stood terms held.now.session held.now.docs held.now.counts heard
-            → length heard + 1 < 2 ^ 64
+            → length heard < 2 ^ 63
             → Closes (run (asked self.old)) terms heard (IsEnd log.now end heard)
             (string_bytes text.old) (string_bytes text.new) outcome) };
 }

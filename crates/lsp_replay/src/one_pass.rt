@@ -125,7 +125,7 @@ fn close<W: Sink, A: Account>(
 ) -> Result<Outcome, RunFault>
     ensures { (terms : Terms) (heard : List Heard) → A.stands account.old terms heard
         → Stood terms reading.old.held.session reading.old.held.docs reading.old.held.counts heard
-        → length heard + 1 < 2 ^ 64
+        → length heard < 2 ^ 63
         → Steps (W.told writer.old) (W.told writer.new)
         (DueAtEnd (A.run (A.asked account.old)) terms heard reading.old.log end) result }
 {

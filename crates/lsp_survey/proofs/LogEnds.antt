@@ -58,7 +58,7 @@ module _ (events : List Event) (small : length events + 1 < 2 ^ 64) where
       → given_by (no_next rule by events) ≡ by_itself (no_next rule by events)
   one_exact rule by = ap (λ (v : Verdict). by_itself v) (no_exact events rule by small)
 
-  rests_exact : (editor server : Bool) (lacks : List Verdict)
+  pub rests_exact : (editor server : Bool) (lacks : List Verdict)
       → map given_by lacks ≡ map by_itself lacks
       → map given_by (first_ends None (rests_listed events editor server) lacks)
       ≡ map by_itself (first_ends None (rests_listed events editor server) lacks)
@@ -77,7 +77,7 @@ module _ (events : List Event) (small : length events + 1 < 2 ^ 64) where
   lack_exact None = refl
   lack_exact (Some rule) = ap (λ (o : Offence). o ∷ []) (one_exact rule who.Editor)
 
-  lacks_exact : (completeness : Completeness) (kept : List Event)
+  pub lacks_exact : (completeness : Completeness) (kept : List Event)
       → map given_by (lacks_listed completeness events kept)
       ≡ map by_itself (lacks_listed completeness events kept)
   lacks_exact Ignored kept = refl
@@ -101,7 +101,7 @@ module _ (events : List Event) (small : length events + 1 < 2 ^ 64) where
 
 -- ---- few
 
-given_few : {A X : Type 0} (f : List A → A → Option X) (before xs : List A)
+pub given_few : {A X : Type 0} (f : List A → A → Option X) (before xs : List A)
     → length (each_from f before xs) ≤ length xs
 given_few f before [] = omega arith
 given_few {X = X} f before (x ∷ xs) = by_option (f before x) (given_few f (before ++ x ∷ []) xs)
@@ -111,7 +111,7 @@ given_few {X = X} f before (x ∷ xs) = by_option (f before x) (given_few f (bef
     by_option None h = omega (arith, h)
     by_option (Some y) h = omega (arith, h)
 
-ends_few : (flaw : Option (ℕ × LogCode)) (events kept : List Event) (editor server : Bool)
+pub ends_few : (flaw : Option (ℕ × LogCode)) (events kept : List Event) (editor server : Bool)
     (completeness : Completeness)
     → length (first_ends flaw (rests_listed events editor server)
     (lacks_listed completeness events kept)) ≤ 2

@@ -2,7 +2,7 @@
 use Rattle.std.specs.Prelude.{ℤ, chars, decimal, map, option_and_then, option_map, unwrap_or}
 use Rattle.std.specs.List.{cons_option}
 use Rattle.std.proofs.Common.{◌≡◌, ℕ, ◌+◌, ◌<◌, ◌^◌, Bool, false, List, [], ◌∷◌, ◌++◌, length, Option, Some, None}
-use Rattle.std.proofs.Common.{refl, sym, ap, subst, ◌∙◌, append-nil, arith, length-append}
+use Rattle.std.proofs.Common.{OnOk, Result, Ok, Err, refl, sym, ap, subst, ◌∙◌, append-nil, arith, length-append}
 use Rattle.std.proofs.lemmas.List.{length-map, map-append}
 use Rattle.lsp_docs.specs.Calls.{Call, shows}
 use Rattle.lsp_rpc.specs.Message.{Message}
@@ -29,10 +29,17 @@ use Rattle.lsp_replay.specs.Run.{Tail}
 use Rattle.lsp_replay.specs.Streams as streams
 use Rattle.lsp_replay.specs.Streams.{decoder_of}
 use Rattle.lsp_replay.specs.Telling.{IsEnd, IsSpoken, Stood, kept_before, rule_of}
+use Rattle.lsp_replay.specs.Standing.{Follows, Holds}
 use Rattle.lsp_replay.specs.declared.log_events.End.{End}
+use Rattle.lsp_replay.specs.declared.log_events.End.TheVariants.{Sound}
+use Rattle.lsp_survey.specs.Ending.{ends_by, given_by}
+use Rattle.lsp_survey.proofs.LogEnds.{ends_few, given_few, lacks_exact, rests_exact}
+use Rattle.lsp_survey.proofs.Reporting.{first_none}
+use Rattle.lsp_verdict.proofs.ExactCounts.{yes_exact}
+use Rattle.lsp_verdict.proofs.Offences.Offending.{all_are_kept, nothing_listed}
 use Rattle.lsp_replay.specs.declared.log_events.LogEvents.{LogEvents}
 use Rattle.lsp_types.specs.declared.side.Side.TheVariants.{Editor, Server}
-use Rattle.lsp_verdict.specs.Given.{verdict_view}
+use Rattle.lsp_verdict.specs.Given.{as_given, offence_view, verdict_view}
 use Rattle.lsp_verdict.specs.Outcome.{is_rest}
 use Rattle.lsp_verdict.specs.Survey.{by_itself, ends_inside, first_ends, first_verdict, lacks_listed}
 use Rattle.lsp_verdict.specs.Survey.{rests_listed}
@@ -43,7 +50,7 @@ use Rattle.lsp_replay.proofs.EventPlaces.{line_placed, placed}
 use Rattle.lsp_replay.proofs.Seeing.{events-push}
 use Rattle.lsp_survey.specs.Lost.{AreLosses}
 use Rattle.lsp_survey.specs.Notes.{AreAfter, Leaves}
-use Rattle.lsp_survey.specs.Reported.{IsTally, end_lines, lines_of}
+use Rattle.lsp_survey.specs.Reported.{IsTally, closing, end_lines, lines_of}
 use Rattle.lsp_survey.specs.Sides.{sides_after, sides_read}
 use Rattle.lsp_survey.specs.SurveyRun.{IsKeptOn, SurveyAsked, SurveyStands, ends_held, ends_of}
 use Rattle.lsp_survey.specs.SurveyRun.{event_said, kept_line, said_by, survey_run}
@@ -55,12 +62,12 @@ use Rattle.lsp_verdict.specs.Calls.{call_of}
 use Rattle.lsp_verdict.specs.Counting.{AreCounts}
 use Rattle.lsp_verdict.specs.Event.{Event, message, sent_in, snapshot}
 use Rattle.lsp_verdict.specs.Heard.{Heard, heard_events, notes_of}
-use Rattle.lsp_verdict.specs.Offences.{IsMalformed, IsNoted, Noted, Offence, brought_by, follows, kept_of, offence_by, offences}
+use Rattle.lsp_verdict.specs.Offences.{IsMalformed, IsNoted, Noted, Offence, brought_by, follows, kept_of, offence_at, offence_by, offences}
 use Rattle.lsp_verdict.specs.Offences.{said_at}
 use Rattle.lsp_verdict.specs.Placed.{Raw, content, show}
-use Rattle.lsp_verdict.specs.Report.{line, side_name}
+use Rattle.lsp_verdict.specs.Report.{line, report, side_name}
 use Rattle.lsp_verdict.specs.Shown.{document_words, line_at, message_words, words_behind}
-use Rattle.lsp_verdict.specs.Verdict.{bad_log_of, no, summary, whose}
+use Rattle.lsp_verdict.specs.Verdict.{Verdict, bad_log_of, first_no, no, summary, whose, yes}
 use Rattle.lsp_verdict.specs.declared.counts.Counts.{Counts}
 use Rattle.lsp_verdict.specs.declared.lines.Lines.{Lines}
 use Rattle.lsp_verdict.specs.declared.verdict.Who.{Who}
@@ -280,4 +287,106 @@ end_fits asked terms heard e end given is tail fits =
             ∙ ap (λ f. first_verdict (found ++ ends_of asked terms heard tail) (bad_log_of f) s)
             (sym fits.fault),
       ),
+    )
+
+few_events : (heard : List Heard) → length heard < 2 ^ 63
+    → length (heard_events heard) + 1 < 2 ^ 64
+few_events heard few = omega (
+  arith,
+  few,
+  length-map (notes_of heard) (λ (n : Noted). n.event),
+  length-map heard (λ (x : Heard). x.note),
+)
+
+-- what is listed of the end of a log without a fault
+pub ends_given : (asked : SurveyAsked) (terms : Terms) (heard : List Heard) (e : LogEvents)
+    (m : session.State) (d : docs.State) (c : Counts) (editor server : Bool) (listed : List Offence)
+    → Stood terms m d c heard → length heard < 2 ^ 63
+    → editor ≡ streams.ends_inside (decoder_of Editor e.streams)
+    → server ≡ streams.ends_inside (decoder_of Server e.streams)
+    → ((events kept : List Event) → AreCounts c events → Holds m d kept
+    → listed ≡ map given_by (ends_by asked.completeness events kept editor server))
+    → listed ≡ ends_held asked terms heard e Sound
+ends_given asked terms heard e m d c editor server listed stood few is_editor is_server told =
+    let events = heard_events heard in
+    let kept = kept_of terms events in
+    let lacks = lacks_listed asked.completeness events kept in
+    told events kept stood.counted stood.holds
+    ∙ rests_exact events (few_events heard few) editor server lacks
+    (lacks_exact events (few_events heard few) asked.completeness kept)
+    ∙ ap (λ b. map by_itself (first_ends None (rests_listed events b server) lacks)) is_editor
+    ∙ ap (λ b. map by_itself (first_ends None (rests_listed events
+    (streams.ends_inside (decoder_of Editor e.streams)) b) lacks)) is_server
+
+pub both_ok : {U E : Type 0} {P Q T : Type 0} (r : Result U E) → (P → Q → T) → OnOk r P → OnOk r Q
+    → OnOk r T
+both_ok (Ok u) f p q = f p q
+both_ok (Err e) f p q = tt
+
+-- where nothing is listed, no event offends
+pub clean_by : (terms : Terms) (heard : List Heard) (ends : List Offence)
+    → offences terms (notes_of heard) ++ ends ≡ [] → first_no terms (heard_events heard) ≡ None
+clean_by terms heard ends none = (nothing_listed terms (notes_of heard)).0
+    (first_none (offences terms (notes_of heard)) ends none)
+
+-- all that is listed can be counted
+pub few_listed : (asked : SurveyAsked) (terms : Terms) (heard : List Heard) (e : LogEvents)
+    (end : End) → length heard < 2 ^ 63
+    → length (offences terms (notes_of heard) ++ ends_held asked terms heard e end) < 2 ^ 64
+few_listed asked terms heard e end few =
+    let events = heard_events heard in
+    let kept = kept_of terms events in
+    let editor = streams.ends_inside (decoder_of Editor e.streams) in
+    let server = streams.ends_inside (decoder_of Server e.streams) in
+    let ends = first_ends (flaw_of end) (rests_listed events editor server)
+    (lacks_listed asked.completeness events kept) in
+    omega (
+      arith,
+      few,
+      length-append (offences terms (notes_of heard)) (map by_itself ends),
+      given_few (offence_at terms) [] (notes_of heard),
+      length-map heard (λ (x : Heard). x.note),
+      length-map ends by_itself,
+      ends_few (flaw_of end) events kept editor server asked.completeness,
+    )
+
+-- ---- where nothing was found
+
+none_found : (t : OffenceCount) (found : List Offence) → None ≡ t.first → IsTally t found
+    → found ≡ []
+none_found t [] none tally = refl
+none_found t (o ∷ found) none tally =
+    let first : option_map offence_view None ≡ Some o = ap (option_map offence_view) none
+    ∙ tally.first in absurd (cc first)
+
+-- what is held is the result of all events
+follows_all : (terms : Terms) (heard : List Heard) (m : session.State) (d : docs.State) (c : Counts)
+    → Stood terms m d c heard → first_no terms (heard_events heard) ≡ None
+    → Follows m d c (heard_events heard)
+follows_all terms heard m d c stood clean = record {
+  clean = ap (λ (t : Terms). first_no t (heard_events heard)) stood.by ∙ clean;
+  holds = subst (Holds m d) (all_are_kept terms (heard_events heard) clean) stood.holds;
+  counted = stood.counted;
+}
+
+-- the report is that of the verdict
+pub closed_none : (t : OffenceCount) (terms : Terms) (heard : List Heard) (m : session.State)
+    (d : docs.State) (c : Counts) (found : List Offence) (bad : Option Verdict) (v : Verdict)
+    (old new : List ℕ) → None ≡ t.first → IsTally t found → Stood terms m d c heard
+    → length heard < 2 ^ 63 → (found ≡ [] → first_no terms (heard_events heard) ≡ None)
+    → ((events : List Event) → Follows m d c events
+    → as_given (yes (summary d.terms events)) ≡ yes (summary d.terms events)
+    → v ≡ first_verdict [] bad (summary d.terms events))
+    → new ≡ old ++ report v
+    → (new ≡ old ++ closing found bad (summary terms (heard_events heard)))
+    × (v ≡ first_verdict found bad (summary terms (heard_events heard)))
+closed_none t terms heard m d c found bad v old new none tally stood few clean sound said =
+    let events = heard_events heard in
+    let empty = none_found t found none tally in
+    let own = sound events (follows_all terms heard m d c stood (clean empty))
+    (yes_exact d.terms events (omega (arith, few_events heard few)))
+    ∙ ap (λ (x : Terms). first_verdict [] bad (summary x events)) stood.by in (
+      said ∙ ap (λ w. old ++ report w) own
+          ∙ ap (λ f. old ++ closing f bad (summary terms events)) (sym empty),
+      own ∙ ap (λ f. first_verdict f bad (summary terms events)) (sym empty),
     )

@@ -1,7 +1,7 @@
 //! What is said where all that is wrong with a log is listed, and its kept events are shown or
 //! aren't.
 ghost use Rattle.std.specs.Prelude.{◌≡◌, ◌++◌, ◌∷◌, ◌+◌, ◌<◌, ◌^◌, ◌||◌, not, [], List, None, Some};
-ghost use Rattle.std.specs.Prelude.{IfOk, OnOk, chars, codes, decimal, length, option_map};
+ghost use Rattle.std.specs.Prelude.{IfOk, OnOk, chars, codes, decimal, length, map, option_map};
 ghost use Rattle.std.specs.Prelude.{string_bytes};
 ghost use Rattle.lsp_docs.specs.Terms.{Terms};
 ghost use Rattle.lsp_replay.specs.LogEvents.{flaw_of};
@@ -197,7 +197,7 @@ impl Survey {
         ensures { IfOk result (λ verdict. (terms : Terms) (heard : List Heard)
             → SurveyStands self.old.losses self.old.tally terms heard
             → Stood terms held.now.session held.now.docs held.now.counts heard
-            → length heard + 1 < 2 ^ 64
+            → length heard < 2 ^ 63
             → (string_bytes text.new ≡ string_bytes text.old ++ end_lines self.old.listing
             (offences terms (notes_of heard))
             (ends_held (asked_of self.old) terms heard log.now end) (bad_log_of (flaw_of end))
@@ -228,7 +228,7 @@ impl Survey {
     ) -> Result<(), Memory>
         ensures { OnOk result ((terms : Terms) (heard : List Heard) (found : List SpecOffence)
             → Stood terms held.now.session held.now.docs held.now.counts heard
-            → length heard + 1 < 2 ^ 64 → IsTally self.old.tally found
+            → length heard < 2 ^ 63 → IsTally self.old.tally found
             → IsTally self.new.tally
             (found ++ ends_held (asked_of self.old) terms heard log.now End.Sound)
             × (string_bytes text.new ≡ string_bytes text.old ++ lines_of self.old.listing
@@ -237,7 +237,22 @@ impl Survey {
         let editor = log.ends_inside(Side::Editor);
         let server = log.ends_inside(Side::Server);
         let listed = ends(alloc, held, editor, server, self.completeness)?;
-        for offence in listed.as_slice() {
+        self.list_each(alloc, listed.as_slice(), text)
+    }
+
+    /// Lists offences, one after another.
+    fn list_each(
+        &mut self,
+        alloc: Global,
+        offences: &[Offence],
+        text: &mut String,
+    ) -> Result<(), Memory>
+        ensures tally { OnOk result ((found : List SpecOffence) → IsTally self.old.tally found
+            → IsTally self.new.tally (found ++ map offence_view offences.now)) }
+        ensures said { OnOk result (string_bytes text.new ≡ string_bytes text.old
+            ++ lines_of self.old.listing (map offence_view offences.now)) }
+    {
+        for offence in offences {
             self.list(alloc, offence, text)?;
         }
         Ok(())
@@ -254,7 +269,7 @@ impl Survey {
         ensures { IfOk result (λ verdict. (terms : Terms) (heard : List Heard)
             (found : List SpecOffence)
             → Stood terms held.now.session held.now.docs held.now.counts heard
-            → length heard + 1 < 2 ^ 64 → IsTally self.now.tally found
+            → length heard < 2 ^ 63 → IsTally self.now.tally found
             → (found ≡ [] → first_no terms (heard_events heard) ≡ None)
             → length found < 2 ^ 64
             → (string_bytes text.new ≡ string_bytes text.old ++ closing found

@@ -1,0 +1,17 @@
+use Rattle.std.specs.Prelude.{take}
+use Rattle.std.proofs.Common.{◌≡◌, ◌++◌, List, map, string_bytes}
+use Rattle.lsp_survey.specs.Asked.{asked_of}
+use Rattle.lsp_survey.specs.Reported.{IsTally, lines_of}
+use Rattle.lsp_verdict.specs.Given.{offence_view}
+use Rattle.lsp_verdict.specs.Offences.{Offence}
+use Rattle.lsp_survey.proofs.survey.Survey.list_each.Given as goal
+
+abbrev pub invariant-loop-offence : goal.invariant-loop-offence
+invariant-loop-offence l = record {
+  asked : asked_of l.self ≡ asked_of l.fn.self;
+  losses : l.self.losses ≡ l.fn.self.losses;
+  tally : (found : List Offence) → IsTally l.fn.self.tally found
+      → IsTally l.self.tally (found ++ map offence_view (take l.offence-index l.offences));
+  said : string_bytes l.text ≡ string_bytes l.fn.text
+      ++ lines_of l.fn.self.listing (map offence_view (take l.offence-index l.offences));
+}
