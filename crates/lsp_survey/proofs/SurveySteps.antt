@@ -22,6 +22,7 @@ use Rattle.lsp_types.specs.declared.change.SyncKind.TheVariants.{Nothing}
 use Rattle.lsp_types.specs.declared.position.Encoding.{Encoding}
 use Rattle.lsp_types.specs.declared.position.Encoding.TheVariants.{Utf16}
 use Rattle.lsp_types.specs.declared.side.Side.{Side}
+use Rattle.lsp_replay.specs.Lines.{line_of}
 use Rattle.lsp_replay.specs.Places.{place_of}
 use Rattle.lsp_log.specs.declared.fault.LogCode.{LogCode}
 use Rattle.lsp_replay.specs.LogEvents.{flaw_of}
@@ -66,8 +67,9 @@ use Rattle.lsp_verdict.specs.Offences.{IsMalformed, IsNoted, Noted, Offence, bro
 use Rattle.lsp_verdict.specs.Offences.{said_at}
 use Rattle.lsp_verdict.specs.Placed.{Raw, content, show}
 use Rattle.lsp_verdict.specs.Report.{line, report, side_name}
-use Rattle.lsp_verdict.specs.Shown.{document_words, line_at, message_words, words_behind}
-use Rattle.lsp_verdict.specs.Verdict.{Verdict, bad_log_of, first_no, no, summary, whose, yes}
+use Rattle.lsp_verdict.specs.Shown.{document_words, line_at, message_words, snapshot_words}
+use Rattle.lsp_verdict.specs.Shown.{words_behind}
+use Rattle.lsp_verdict.specs.Verdict.{Verdict, bad_log_of, first_no, no, summary, who_of, whose, yes}
 use Rattle.lsp_verdict.specs.declared.counts.Counts.{Counts}
 use Rattle.lsp_verdict.specs.declared.lines.Lines.{Lines}
 use Rattle.lsp_verdict.specs.declared.verdict.Who.{Who}
@@ -390,3 +392,35 @@ closed_none t terms heard m d c found bad v old new none tally stood few clean s
           ∙ ap (λ f. old ++ closing f bad (summary terms events)) (sym empty),
       own ∙ ap (λ f. first_verdict f bad (summary terms events)) (sym empty),
     )
+
+-- ---- the line of an event that is kept
+
+-- a message is its side's
+pub spoken_whose : (kept : List Event) (event : Event) (side : Side) (s : Spoken)
+    → IsSpoken kept event side s → who_of side ≡ whose event
+spoken_whose kept event side s spoken = ap who_of (sym spoken.by) ∙ ap whose (sym spoken.is)
+
+module _ (lines : Lines) (before : List Heard) (h : Heard) (counts : Counts)
+    (few : length before + 1 < 2 ^ 64)
+    (counted : AreCounts counts (heard_events (before ++ h ∷ []))) (place : EventPlace)
+    (is : place ≡ place_of (heard_events before) h.note.event) where
+  line_here : line_of lines place h.note.event
+      ≡ unwrap_or (line_at lines (heard_events before) h.note.event) []
+  line_here = sym (line_placed lines (heard_events before) h.note.event place
+      (placed (heard_events before) h.note.event place (few_on before h counts few counted) is))
+
+  pub message_shown : (kept : List Event) (side : Side) (s : Spoken)
+      → IsSpoken kept h.note.event side s
+      → line (message_words place.event (lent.sent side s.message s.act)
+      ++ words_behind lines place.number (document_words (act_view s.act)))
+      ≡ unwrap_or (line_at lines (heard_events before) h.note.event) []
+  message_shown kept side s spoken =
+      message_line lines place.event place.number side s spoken.sent spoken.by spoken.says
+      spoken.means
+      ∙ ap (λ (e : Event). line_of lines place e) (sym spoken.is) ∙ line_here
+
+  pub snapshot_shown : (uri text : List ℕ) (number : ℤ) → h.note.event ≡ snapshot uri number text
+      → line (snapshot_words place.event uri number text ++ words_behind lines place.number [])
+      ≡ unwrap_or (line_at lines (heard_events before) h.note.event) []
+  snapshot_shown uri text number own =
+      ap (λ (e : Event). line_of lines place e) (sym own) ∙ line_here
