@@ -54,6 +54,10 @@ lines_append Causes xs ys =
     ∙ flat_map-append offence_lines (filter (λ (o : Offence). not o.follows) xs)
     (filter (λ (o : Offence). not o.follows) ys)
 
+pub lines_none : (listing : Listing) → [] ≡ lines_of listing []
+lines_none Every = refl
+lines_none Causes = refl
+
 pub report_is : (listing : Listing) (found : List Offence) (bad : Option Verdict) (s : Summary)
     → all_report (is_every listing) found bad s ≡ lines_of listing found ++ closing found bad s
 report_is Every [] bad s = refl

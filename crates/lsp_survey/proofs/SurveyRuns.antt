@@ -16,7 +16,7 @@ use Rattle.lsp_survey.specs.Reported.{BeginsReported, IsReported, SurveysLog, cl
 use Rattle.lsp_survey.specs.Reported.{lines_of}
 use Rattle.lsp_survey.specs.SurveyRun.{SurveyAsked, end_said, ends_of, event_said, found_by, said_by}
 use Rattle.lsp_survey.specs.SurveyRun.{survey_run, verdict_by}
-use Rattle.lsp_survey.proofs.Reporting.{lines_append, report_is, reported_verdict}
+use Rattle.lsp_survey.proofs.Reporting.{lines_append, lines_none, report_is, reported_verdict}
 use Rattle.lsp_survey.proofs.Told.{survey_told}
 use Rattle.lsp_verdict.specs.Complete.{IsVerdictBy}
 use Rattle.lsp_verdict.specs.Given.{verdict_view}
@@ -38,10 +38,6 @@ use Rattle.lsp_verdict.specs.declared.verdict.Verdict as code
 use Rattle.lsp_verdict.proofs.LookBackLemmas.{each_from-append}
 use Rattle.lsp_verdict.proofs.RunReading.{read_map}
 use Rattle.lsp_verdict.proofs.RunsJudged.{judged_not, judges, plain_by}
-
-lines_none : (listing : Listing) → [] ≡ lines_of listing []
-lines_none Every = refl
-lines_none Causes = refl
 
 -- the lines of all that is listed, and the closing ones, are the report
 pub whole_report : (listing : Listing) (found ends : List Offence) (bad : Option Verdict)

@@ -35,7 +35,7 @@ use Rattle.lsp_replay.specs.declared.log_events.End.{End}
 use Rattle.lsp_replay.specs.declared.log_events.End.TheVariants.{Sound}
 use Rattle.lsp_survey.specs.Ending.{ends_by, given_by}
 use Rattle.lsp_survey.proofs.LogEnds.{ends_few, given_few, lacks_exact, rests_exact}
-use Rattle.lsp_survey.proofs.Reporting.{first_none}
+use Rattle.lsp_survey.proofs.Reporting.{first_none, lines_none}
 use Rattle.lsp_verdict.proofs.ExactCounts.{yes_exact}
 use Rattle.lsp_verdict.proofs.Offences.Offending.{all_are_kept, nothing_listed}
 use Rattle.lsp_replay.specs.declared.log_events.LogEvents.{LogEvents}
@@ -69,9 +69,10 @@ use Rattle.lsp_verdict.specs.Placed.{Raw, content, show}
 use Rattle.lsp_verdict.specs.Report.{line, report, side_name}
 use Rattle.lsp_verdict.specs.Shown.{document_words, line_at, message_words, snapshot_words}
 use Rattle.lsp_verdict.specs.Shown.{words_behind}
-use Rattle.lsp_verdict.specs.Verdict.{Verdict, bad_log_of, first_no, no, summary, who_of, whose, yes}
+use Rattle.lsp_verdict.specs.Verdict.{Summary, Verdict, bad_log_of, first_no, no, summary, who_of, whose, yes}
 use Rattle.lsp_verdict.specs.declared.counts.Counts.{Counts}
 use Rattle.lsp_verdict.specs.declared.lines.Lines.{Lines}
+use Rattle.lsp_verdict.specs.declared.listing.Listing.{Listing}
 use Rattle.lsp_verdict.specs.declared.verdict.Who.{Who}
 use Rattle.lsp_verdict.proofs.Offences.Steps.{offences-push}
 
@@ -424,3 +425,21 @@ module _ (lines : Lines) (before : List Heard) (h : Heard) (counts : Counts)
       ≡ unwrap_or (line_at lines (heard_events before) h.note.event) []
   snapshot_shown uri text number own =
       ap (λ (e : Event). line_of lines place e) (sym own) ∙ line_here
+
+-- ---- how the report is closed
+
+-- of a log with a fault nothing is listed at the end
+pub bad_end : (listing : Listing) (found : List Offence) (bad : Option Verdict) (s : Summary)
+    → closing found bad s ≡ end_lines listing found [] bad s
+bad_end listing found bad s =
+    ap (λ f. closing f bad s) (sym (append-nil found))
+    ∙ ap (λ w. w ++ closing (found ++ []) bad s) (lines_none listing)
+
+pub found_few : (terms : Terms) (heard : List Heard) → length heard < 2 ^ 63
+    → length (offences terms (notes_of heard)) < 2 ^ 64
+found_few terms heard few = omega (
+  arith,
+  few,
+  given_few (offence_at terms) [] (notes_of heard),
+  length-map heard (λ (x : Heard). x.note),
+)
