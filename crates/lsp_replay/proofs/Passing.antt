@@ -144,9 +144,11 @@ rests_behind limits front records rests (more, goes) are =
 -- and so do their first ones
 pub rests_before : (limits : Bounds) (front more : List Record) (rests : Rests)
     → RestsBehind limits (front ++ more) rests → RestsBehind limits front rests
-rests_before limits front more rests (last, are) =
-    (more ++ last, subst (λ (w : List Record). AreRests limits w rests)
-    (append_assoc front more last) are)
+rests_before limits front more rests (last, are) = (
+  more ++ last,
+  subst (λ (w : List Record). AreRests limits w rests)
+      (append_assoc front more last) are,
+)
 
 module _ (limits : Bounds) (format : Option Format) (front : List Record) (heard : List Heard)
     (noted : AreNoted heard) (log : List ℕ)
@@ -378,9 +380,15 @@ module _ (Asked : Type 0) (run_of : Asked → Run) (asked : Asked)
       (first.holds first.bytes ([], sym (append-nil first.bytes), λ end. refl))
 
   pub passing_counts : c.all ≡ length p.heard
-  passing_counts = omega (arith, p.stood.counted.all, passing_few, p.reads.stands.range.log_high,
-      length-map p.heard (λ (h : Heard). h.note), length-map (notes_of p.heard)
-      (λ (n : Noted). n.event))
+  passing_counts = omega (
+    arith,
+    p.stood.counted.all,
+    passing_few,
+    p.reads.stands.range.log_high,
+    length-map p.heard (λ (h : Heard). h.note),
+    length-map (notes_of p.heard)
+        (λ (n : Noted). n.event),
+  )
 
   -- reading breaks off
   pub broke_next : (log : LogEvents) (last : Told) (fault : RunFault)
@@ -434,8 +442,12 @@ module _ (Asked : Type 0) (run_of : Asked → Run) (asked : Asked)
         (on_first.holds on_first.bytes ([], sym (append-nil on_first.bytes), λ end. refl))
 
     next_few : length p.heard + 1 < 2 ^ 64
-    next_few = omega (arith, on_few, gave.2.stands.range.log_high,
-        length-append p.heard (here ∷ []))
+    next_few = omega (
+      arith,
+      on_few,
+      gave.2.stands.range.log_high,
+      length-append p.heard (here ∷ []),
+    )
 
     -- so it comes after those told
     comes : Comes (raw_view raw) (log_terms limits p.format) m d c p.heard here
@@ -659,9 +671,12 @@ module _ (Asked : Type 0) (run_of : Asked → Run) (asked : Asked)
   }
 
   pub end_few : length p.heard < 2 ^ 63
-  end_few = omega (arith, passing_few Asked run_of asked Stands limits e m d c start now old new
-      p,
-      p.reads.stands.range.log_high)
+  end_few = omega (
+    arith,
+    passing_few Asked run_of asked Stands limits e m d c start now old new
+        p,
+    p.reads.stands.range.log_high,
+  )
 
   told_whole : (bytes : List ℕ) → IsLogOf log.log limits all (flaw_of end) bytes
       → IsTold limits bytes p.format all p.heard (tail_of bytes)

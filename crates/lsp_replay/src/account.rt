@@ -18,6 +18,7 @@ use std::alloc::Global;
 pub trait Account {
     /// What is asked of the run, which stays.
     ghost Asked: { Type 0 };
+
     ghost asked: { Self → Asked };
     /// What it says, as a definition.
     ghost run: { Asked → Run };

@@ -167,8 +167,7 @@ impl<S: TextStore> Events<S> {
     }
 
     /// A message that says nothing, in the place of which a content can be read. It takes no memory.
-    pub(crate) fn blank(&self) -> Spoken
-    {
+    pub(crate) fn blank(&self) -> Spoken {
         self.messages.blank()
     }
 

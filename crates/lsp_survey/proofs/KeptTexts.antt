@@ -206,8 +206,11 @@ module _ (asked : TextAsked) where
             read_map limits io.source_before io.source_after
                 (λ log. IsPassed (text_all_run asked) limits log (p.out ++ whole.1) whole.0)
                 (λ log. BeginsText Answers log p.out)
-                (λ log passed. (whole.0, whole.1,
-                passed_text positive limits log (p.out ++ whole.1) whole.0 passed)) whole.2,
+                (λ log passed. (
+                  whole.0,
+                  whole.1,
+                  passed_text positive limits log (p.out ++ whole.1) whole.0 passed,
+                )) whole.2,
           )
 
     pub writes_text : (result : Result Outcome RunFault) → Passes (text_all_run asked) limits

@@ -255,10 +255,13 @@ module _ (lines : Lines) (limits : Bounds) (sizes : IsInRange limits) (io : Port
   shows (Ok outcome) a = all_shown outcome a
   shows (Err fault) p =
       judged_not limits io (IsVerdict limits) (IsAllShown lines limits)
-      (BeginsAllShown lines limits) fault
-      (p.out, p.took, part_begins (survey_run (asked lines)) limits io.source_before
-      io.source_after io.sink_before io.sink_after fault p (BeginsAllShown lines limits)
-      (said_begins lines limits) (passed_begins lines limits)) p.source p.sink
+      (BeginsAllShown lines limits) fault (
+        p.out,
+        p.took,
+        part_begins (survey_run (asked lines)) limits io.source_before
+            io.source_after io.sink_before io.sink_after fault p (BeginsAllShown lines limits)
+            (said_begins lines limits) (passed_begins lines limits),
+      ) p.source p.sink
 
 -- ---- laws
 

@@ -209,7 +209,10 @@ module _ (completeness : Completeness) (listing : Listing) where
     surveyed (Ok outcome) a = all_surveyed outcome a
     surveyed (Err fault) p =
         judged_not limits io (IsVerdictBy completeness limits)
-        (IsReported completeness limits listing) (BeginsReported completeness limits listing) fault
-        (p.out, p.took, part_begins (survey_run asked) limits io.source_before io.source_after
-        io.sink_before io.sink_after fault p (BeginsReported completeness limits listing)
-        (said_reported limits) (passed_begins limits)) p.source p.sink
+        (IsReported completeness limits listing) (BeginsReported completeness limits listing) fault (
+          p.out,
+          p.took,
+          part_begins (survey_run asked) limits io.source_before io.source_after
+              io.sink_before io.sink_after fault p (BeginsReported completeness limits listing)
+              (said_reported limits) (passed_begins limits),
+        ) p.source p.sink

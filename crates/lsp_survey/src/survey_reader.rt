@@ -242,6 +242,12 @@ impl SurveyReader {
     {
         let editor = self.log.ends_inside(Side::Editor);
         let server = self.log.ends_inside(Side::Server);
-        ends(self.alloc, &self.walk.events, editor, server, self.completeness)
+        ends(
+            self.alloc,
+            &self.walk.events,
+            editor,
+            server,
+            self.completeness,
+        )
     }
 }

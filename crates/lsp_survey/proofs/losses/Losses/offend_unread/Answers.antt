@@ -21,19 +21,19 @@ returns c =
       malformed,
       read.1,
       λ terms before losses stands. (
-          noted.follows terms before losses stands,
-          record {
-            is_broken = noted.broken (kept_of terms (events_of before)) stands
-                ∙ ap (λ b. old.handshake || (breaks_handshake b rule
-                || may_answer (kept_of terms (events_of before)) (fault side rule))) meant.asks;
-            sides = noted.sides;
-            passed = content_passes side rule rule malformed old.passed c.note_asked.new.self
-                (subst (λ (o : Option Ident). SetsAny side o old.passed c.note_asked.new.self)
-                meant.asked c.in_ok-note_asked.ensures);
-            unheard = sym (or-false old.unheard);
-            noted = subst (λ (brought : Option (List ℕ)). Leaves (Some rule) brought false None
-                old.documents.map.entries c.note_malformed.new.notes.map.entries) meant.brings
-                c.in_ok-note_malformed.ensures;
-          },
-        ),
+        noted.follows terms before losses stands,
+        record {
+          is_broken = noted.broken (kept_of terms (events_of before)) stands
+              ∙ ap (λ b. old.handshake || (breaks_handshake b rule
+              || may_answer (kept_of terms (events_of before)) (fault side rule))) meant.asks;
+          sides = noted.sides;
+          passed = content_passes side rule rule malformed old.passed c.note_asked.new.self
+              (subst (λ (o : Option Ident). SetsAny side o old.passed c.note_asked.new.self)
+              meant.asked c.in_ok-note_asked.ensures);
+          unheard = sym (or-false old.unheard);
+          noted = subst (λ (brought : Option (List ℕ)). Leaves (Some rule) brought false None
+              old.documents.map.entries c.note_malformed.new.notes.map.entries) meant.brings
+              c.in_ok-note_malformed.ensures;
+        },
+      ),
     )
