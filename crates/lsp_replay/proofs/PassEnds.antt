@@ -1,11 +1,12 @@
 -- What follows for a run from what a pass of it writes and answers.
-use Rattle.std.proofs.Common.{◌≡◌, ◌⊎◌, ◌+◌, ℕ, false, List, [], ◌∷◌, ◌++◌, inl, inr, refl, sym, ap, subst}
+use Rattle.std.proofs.Common.{◌≡◌, ◌⊎◌, ◌+◌, ℕ, false, List, [], ◌∷◌, ◌++◌, inl, inr, refl, sym, ap}
+use Rattle.std.proofs.Common.{subst}
 use Rattle.std.proofs.Common.{◌∙◌, append-nil}
 use Rattle.lsp_docs.specs.Terms.{Terms}
 use Rattle.lsp_frame.specs.Bounds.{Bounds}
 use Rattle.lsp_frame.specs.Told.{Told}
 use Rattle.lsp_replay.specs.Passes.{DueAt, IsCut, PartPassed}
-use Rattle.lsp_replay.specs.Run.{HasSaid, IsPassed, IsTold, Run, SaysAll, Tail}
+use Rattle.lsp_replay.specs.Run.{HasSaid, IsPassed, Run, SaysAll}
 use Rattle.lsp_verdict.specs.Heard.{Heard, Rests}
 use Rattle.lsp_verdict.specs.Outcome.{log_terms}
 use Rattle.lsp_verdict.specs.RunIo.{GaveAtMost, OfRead}

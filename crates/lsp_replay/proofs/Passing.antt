@@ -1,8 +1,9 @@
 -- A pass over the events of a log, one after another.
-use Rattle.std.specs.Prelude.{map}
 use Rattle.std.specs.List.{AllZip}
-use Rattle.std.proofs.Common.{◌≡◌, ◌⊎◌, ◌<◌, ◌≤◌, ◌+◌, ◌-◌, ◌^◌, ℕ, Bool, true, false, List, [], ◌∷◌, ◌++◌}
-use Rattle.std.proofs.Common.{Option, Some, None, IsSome, Result, Ok, Err, inl, inr, refl, sym, ap, subst}
+use Rattle.std.proofs.Common.{◌≡◌, ◌⊎◌, ◌<◌, ◌≤◌, ◌+◌, ◌-◌, ◌^◌, ℕ, true, false, List, [], ◌∷◌}
+use Rattle.std.proofs.Common.{◌++◌}
+use Rattle.std.proofs.Common.{Option, Some, None, IsSome, Result, Ok, Err, inl, inr, refl, sym, ap}
+use Rattle.std.proofs.Common.{subst}
 use Rattle.std.proofs.Common.{◌∙◌, append_assoc, append-nil, length, length-append, arith}
 use Rattle.std.proofs.lemmas.List.{length-map, map-append}
 use Rattle.lsp_frame.specs.Bounds.{Bounds}
@@ -23,9 +24,9 @@ use Rattle.lsp_types.specs.declared.side.Side.{Side}
 use Rattle.lsp_types.specs.declared.side.Side.TheVariants.{Editor, Server}
 use Rattle.lsp_replay.specs.LogEvents.{Ended, GoesBehind, HasGiven, IsLogOf, NextIs, Opens, Reads}
 use Rattle.lsp_replay.specs.LogEvents.{flaw_of}
-use Rattle.lsp_replay.specs.Passes.{AllPassed, DueAt, IsCut, PartPassed, Passes, Steps}
+use Rattle.lsp_replay.specs.Passes.{DueAt, PartPassed, Passes, Steps}
 use Rattle.lsp_replay.specs.Run.{HasSaid, IsPassed, IsTold, Run, SaysAll, Tail}
-use Rattle.lsp_replay.specs.Streams.{LendsRest, Stands, decoder_of}
+use Rattle.lsp_replay.specs.Streams.{LendsRest, Stands}
 use Rattle.lsp_replay.specs.Telling.{Comes, DueAtEnd, DueOf, IsEnd, ShowsFault, Stood}
 use Rattle.lsp_replay.specs.declared.log_events.End.{End}
 use Rattle.lsp_replay.specs.declared.log_events.LogEvents.{LogEvents}
@@ -36,10 +37,10 @@ use Rattle.lsp_replay.proofs.Fronts.{front_shown}
 use Rattle.lsp_replay.proofs.Owning.{given_fault}
 use Rattle.lsp_replay.proofs.Pulling.{log_of, reads_failures, reads_given}
 use Rattle.lsp_replay.proofs.SideEnds.{inside_is, rest_held}
-use Rattle.lsp_verdict.specs.Heard.{AreRests, Heard, IsHeardSession, Rests, RestsBehind, heard_events}
+use Rattle.lsp_verdict.specs.Heard.{AreRests, Heard, Rests, RestsBehind}
 use Rattle.lsp_verdict.specs.Heard.{notes_of, raws_of, rest_of}
 use Rattle.lsp_verdict.specs.Lent.{raw_view}
-use Rattle.lsp_verdict.specs.Offences.{IsNoted, Noted, events_of}
+use Rattle.lsp_verdict.specs.Offences.{IsNoted, Noted}
 use Rattle.lsp_verdict.specs.Outcome.{HasRest, log_terms}
 use Rattle.lsp_verdict.specs.Placed.{Raw, Placed, broken, joined}
 use Rattle.lsp_verdict.specs.RunIo.{BreaksOff, OfRead, failures_after, sink_failures_after}

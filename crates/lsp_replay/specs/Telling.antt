@@ -1,5 +1,5 @@
 -- What an account is told, and what it owes.
-use Rattle.std.specs.Prelude.{◌≡◌, ℕ, ◌+◌, ◌<◌, ◌^◌, List, [], ◌∷◌, ◌++◌, length, Bool, true, false}
+use Rattle.std.specs.Prelude.{◌≡◌, ℕ, ◌+◌, ◌<◌, ◌^◌, List, [], ◌∷◌, ◌++◌, length, true, false}
 use Rattle.std.specs.Prelude.{Option, Some, None, IsSome, option_map}
 use Rattle.lsp_docs.specs.Answer.{answer_of}
 use Rattle.lsp_docs.specs.Documents.{held}

@@ -1,32 +1,19 @@
 -- What is listed of the end of a session.
-use Rattle.std.specs.Prelude.{map, not, ◌&&◌, ◌==◌, if◌then◌else◌, is_some, option_map}
+use Rattle.std.specs.Prelude.{map, ◌==◌, if◌then◌else◌, option_map}
 use Rattle.std.specs.Prelude.{option_to_list, Vec, vec_len}
 use Rattle.std.specs.Global.{Global}
-use Rattle.std.specs.List.{AllZip, list_any}
 use Rattle.std.proofs.lemmas.Bool.Decides.{nat_tests}
 use Rattle.std.proofs.Common.{◌≡◌, ℕ, ◌<◌, Bool, true, false, List, [], ◌∷◌, ◌++◌, length, Option}
-use Rattle.std.proofs.Common.{Some, None, refl, sym, ap, ◌∙◌, arith}
-use Rattle.std.proofs.Math.Bool.{and-false, and-true}
-use Rattle.lsp_frame.specs.Bounds.{Bounds}
-use Rattle.lsp_types.specs.declared.side.Side.{Side}
-use Rattle.lsp_log.specs.Log.{Record}
-use Rattle.lsp_replay.specs.Streams as streams
-use Rattle.lsp_replay.specs.Streams.{State, Stands, decoder_of, ends_at}
-use Rattle.lsp_replay.proofs.Resting.{whole_rest}
+use Rattle.std.proofs.Common.{None, refl, sym, ap, ◌∙◌, arith}
 use Rattle.lsp_survey.specs.Ending.{given_by, lack_by}
-use Rattle.lsp_survey.proofs.FrameRules.{faults_are}
 use Rattle.lsp_verdict.specs.Event.{Event}
-use Rattle.lsp_verdict.specs.Offences.{Noted, Offence, IsNoted, events_of}
-use Rattle.lsp_verdict.specs.Placed.{Raw, joined}
-use Rattle.lsp_verdict.specs.Outcome.{HasRest, is_rest}
-use Rattle.lsp_verdict.specs.Offences.{is_frame_fault}
-use Rattle.lsp_verdict.specs.Survey.{ends_inside, rests_listed, lacks_listed}
+use Rattle.lsp_verdict.specs.Offences.{Offence}
+use Rattle.lsp_verdict.specs.Survey.{rests_listed, lacks_listed}
 use Rattle.lsp_verdict.specs.Survey.{first_ends}
 use Rattle.lsp_verdict.specs.Verdict.{Verdict, no_next}
 use Rattle.lsp_verdict.specs.declared.completeness.Completeness.{Completeness}
 use Rattle.lsp_verdict.specs.declared.completeness.Completeness.TheVariants.{Ignored, Required}
 use Rattle.lsp_verdict.specs.declared.verdict.Who.TheVariants as who
-use Rattle.lsp_verdict.proofs.Below.{one_stream}
 
 -- ---- both rests
 

@@ -1,8 +1,9 @@
 -- The text that is held after a message of the editor's, where each event that offends is skipped.
-use Rattle.std.specs.Prelude.{◌==◌, if◌then◌else◌}
+use Rattle.std.specs.Prelude.{if◌then◌else◌}
 use Rattle.std.specs.List.{AllZip}
-use Rattle.std.proofs.Common.{◌≡◌, ◌⊎◌, ◌<◌, ℕ, true, false, List, [], ◌∷◌, ◌++◌, Option, Some, None}
-use Rattle.std.proofs.Common.{Result, Ok, Err, inl, inr, refl, sym, ap, subst, ◌∙◌, append-nil, append_assoc}
+use Rattle.std.proofs.Common.{◌≡◌, ◌⊎◌, ◌<◌, ℕ, List, [], ◌∷◌, ◌++◌, Option, Some}
+use Rattle.std.proofs.Common.{Result, Ok, Err, inl, inr, sym, ap, subst, ◌∙◌, append-nil}
+use Rattle.std.proofs.Common.{append_assoc}
 use Rattle.std.proofs.Common.{arith}
 use Rattle.std.proofs.lemmas.Bool.{eq-eqb}
 use Rattle.std.proofs.lemmas.Bool.Decides.{nat_tests}
@@ -19,7 +20,7 @@ use Rattle.lsp_replay.proofs.Reached.{reached_last, still_few}
 use Rattle.lsp_replay.proofs.Seeing.{events-push}
 use Rattle.lsp_types.specs.declared.side.Side.TheVariants.{Editor}
 use Rattle.lsp_survey.specs.KeptText.{AnswersKept, OneKeptText, TextAsked, answer_after, end_answer}
-use Rattle.lsp_survey.specs.KeptText.{is_reached, kept_answer, text_all_run}
+use Rattle.lsp_survey.specs.KeptText.{kept_answer, text_all_run}
 use Rattle.lsp_survey.proofs.Told.{survey_told}
 use Rattle.lsp_verdict.specs.Heard.{Heard, Rests, heard_events, notes_of}
 use Rattle.lsp_verdict.specs.Offences.{IsNoted, IsNotedSession, Noted, events_of}

@@ -1,6 +1,7 @@
 -- What is lost after one event more.
-use Rattle.std.specs.Prelude.{ℤ, ◌||◌, chars, if◌then◌else◌, is_some, option_and_then, option_map, unwrap_or}
-use Rattle.std.proofs.Common.{◌≡◌, ℕ, Bool, true, false, List, [], ◌∷◌, ◌++◌, Option, Some, None, refl}
+use Rattle.std.specs.Prelude.{ℤ, ◌||◌, chars, if◌then◌else◌, is_some, option_and_then, unwrap_or}
+use Rattle.std.proofs.Common.{◌≡◌, ℕ, Bool, true, false, List, [], ◌∷◌, ◌++◌, Option, Some, None}
+use Rattle.std.proofs.Common.{refl}
 use Rattle.std.proofs.Common.{sym, ap, subst, ◌∙◌}
 use Rattle.std.proofs.lemmas.List.{map-append}
 use Rattle.lsp_docs.specs.State as docs
@@ -10,9 +11,7 @@ use Rattle.lsp_rpc.specs.Ident.{id_view}
 use Rattle.lsp_rpc.specs.Message.{Message}
 use Rattle.lsp_rpc.specs.View.{act_view, message_view}
 use Rattle.lsp_rpc.specs.declared.act.Spoken.{Spoken}
-use Rattle.lsp_rpc.specs.declared.message.Id.{Id}
 use Rattle.lsp_session.specs.Negotiation.{encoding, sync_kind}
-use Rattle.lsp_session.specs.Sent.{Sent}
 use Rattle.lsp_session.specs.State as session
 use Rattle.lsp_types.specs.declared.change.SyncKind.{SyncKind}
 use Rattle.lsp_types.specs.declared.change.SyncKind.TheVariants.{Nothing}
@@ -34,9 +33,12 @@ use Rattle.lsp_verdict.specs.Calls.{call_of, calls}
 use Rattle.lsp_verdict.specs.Event.{Event, fault, message, sent_in, snapshot}
 use Rattle.lsp_verdict.specs.Heard.{Heard, heard_events, notes_of}
 use Rattle.lsp_verdict.specs.LookBack.{first_of}
-use Rattle.lsp_verdict.specs.Offences.{IsMalformed, IsNoted, IsReading, Noted, answered_by, asked_by, asks, breaks_handshake, broken_by}
-use Rattle.lsp_verdict.specs.Offences.{brought_by, events_of, follows, follows_bytes, follows_passed}
-use Rattle.lsp_verdict.specs.Offences.{is_initialized_by, is_lost, is_on_lost, is_passed, is_reopened}
+use Rattle.lsp_verdict.specs.Offences.{IsMalformed, IsNoted, IsReading, Noted, answered_by}
+use Rattle.lsp_verdict.specs.Offences.{asked_by, asks, breaks_handshake, broken_by}
+use Rattle.lsp_verdict.specs.Offences.{brought_by, events_of, follows, follows_bytes}
+use Rattle.lsp_verdict.specs.Offences.{follows_passed}
+use Rattle.lsp_verdict.specs.Offences.{is_initialized_by, is_lost, is_on_lost, is_passed}
+use Rattle.lsp_verdict.specs.Offences.{is_reopened}
 use Rattle.lsp_verdict.specs.Offences.{is_unheard, kept_of, left_by, may_answer, passes, rule_at}
 use Rattle.lsp_verdict.specs.Offences.{said_at}
 use Rattle.lsp_survey.proofs.PassedSteps.{fault_passes, kept_passes}

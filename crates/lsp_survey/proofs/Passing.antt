@@ -1,5 +1,5 @@
 -- A walk over events, with one event more.
-use Rattle.std.specs.Prelude.{if◌then◌else◌, is_some, option_and_then, unwrap_or, ◌||◌}
+use Rattle.std.specs.Prelude.{is_some, option_and_then, unwrap_or, ◌||◌}
 use Rattle.std.proofs.Common.{◌≡◌, ℕ, Bool, true, false, List, [], ◌∷◌, ◌++◌, Option, Some, None}
 use Rattle.std.proofs.Common.{refl, sym, ap, subst, ◌∙◌}
 use Rattle.lsp_docs.specs.Calls.{Call}
@@ -8,7 +8,6 @@ use Rattle.lsp_docs.specs.Terms.{Terms}
 use Rattle.lsp_replay.specs.Standing.{Holds}
 use Rattle.lsp_session.specs.State as session
 use Rattle.lsp_rpc.specs.Ident.{id_view}
-use Rattle.lsp_rpc.specs.Message.{Message}
 use Rattle.lsp_survey.specs.Notes.{Leaves, is_noted_lost}
 use Rattle.lsp_survey.specs.Marks.{AreMarks}
 use Rattle.lsp_survey.specs.Openings.{AreOpenings}
@@ -31,9 +30,9 @@ use Rattle.lsp_verdict.specs.Counting.{AreCounts}
 use Rattle.lsp_verdict.specs.Event.{Event}
 use Rattle.lsp_verdict.specs.Given.{given_offence}
 use Rattle.lsp_verdict.specs.LookBack.{first_of}
-use Rattle.lsp_verdict.specs.Offences.{Noted, IsNoted, asks, breaks_handshake, broken_by}
+use Rattle.lsp_verdict.specs.Offences.{Noted, IsNoted, broken_by}
 use Rattle.lsp_verdict.specs.Offences.{brought_by, events_of, follows_bytes, is_lost, is_on_lost}
-use Rattle.lsp_verdict.specs.Offences.{is_initialized_by, is_reopened, is_unheard, left_by}
+use Rattle.lsp_verdict.specs.Offences.{is_reopened, is_unheard, left_by}
 use Rattle.lsp_verdict.specs.Offences.{kept_of}
 use Rattle.lsp_verdict.specs.Offences.{answered_by, asked_by, follows_passed, is_passed}
 use Rattle.lsp_verdict.specs.Offences.{may_answer, passes, rule_at}
@@ -48,9 +47,8 @@ use Rattle.lsp_survey.proofs.OpeningSteps.{refused_opens}
 use Rattle.lsp_survey.proofs.SessionSteps.{refused_unsaid}
 use Rattle.lsp_survey.proofs.PassedSteps.{kept_passes}
 use Rattle.lsp_survey.proofs.SidesSteps.{sides_pushed}
-use Rattle.lsp_verdict.proofs.Offences.Steps.{broken-push, events_of-push, is_lost-push}
+use Rattle.lsp_verdict.proofs.Offences.Steps.{events_of-push, is_lost-push}
 use Rattle.lsp_verdict.proofs.Offences.Steps.{is_passed-push, kept-push, kept-refused}
-use Rattle.lsp_verdict.proofs.Offences.Steps.{unheard-push}
 
 -- ---- what is noted
 

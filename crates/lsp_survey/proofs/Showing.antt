@@ -2,7 +2,8 @@
 use Rattle.std.specs.Prelude.{filter, map, option_map, unwrap_or}
 use Rattle.std.specs.List.{cons_option, flat_map}
 use Rattle.std.specs.Option.{option_or}
-use Rattle.std.proofs.Common.{◌≡◌, ◌⊎◌, ℕ, List, [], ◌∷◌, ◌++◌, Option, Some, None, Result, Ok, Err, inl, inr}
+use Rattle.std.proofs.Common.{◌≡◌, ◌⊎◌, ℕ, List, [], ◌∷◌, ◌++◌, Option, Some, None, Result, Ok, Err}
+use Rattle.std.proofs.Common.{inl, inr}
 use Rattle.std.proofs.Common.{refl, sym, ap, subst, ◌∙◌, append_assoc, append-nil}
 use Rattle.std.proofs.lemmas.List.{append_cancel_left, map-append}
 use Rattle.std.proofs.lemmas.List.Elements.{filter-append}
@@ -16,11 +17,14 @@ use Rattle.lsp_log.specs.declared.fault.LogCode.{LogCode}
 use Rattle.lsp_replay.specs.Passes.{AllPassed, Passes}
 use Rattle.lsp_replay.specs.Run.{EndsAfter, HasSaid, IsPassed, IsTold, SaysAll, StopsIn, Tail}
 use Rattle.lsp_replay.proofs.PassEnds.{part_begins}
-use Rattle.lsp_survey.specs.AllShown.{BeginsAllShown, IsAllShown, OneAllShown, Piece, ShowsAll, ShowsReport}
-use Rattle.lsp_survey.specs.AllShown.{bytes_of, events_shown, is_offending, kept_line, offending, piece_bytes}
+use Rattle.lsp_survey.specs.AllShown.{BeginsAllShown, IsAllShown, OneAllShown, Piece, ShowsAll}
+use Rattle.lsp_survey.specs.AllShown.{ShowsReport}
+use Rattle.lsp_survey.specs.AllShown.{bytes_of, events_shown, is_offending, kept_line, offending}
+use Rattle.lsp_survey.specs.AllShown.{piece_bytes}
 use Rattle.lsp_survey.specs.AllShown.{shown_at, shown_in}
 use Rattle.lsp_survey.specs.Reported.{closing}
-use Rattle.lsp_survey.specs.SurveyRun.{SurveyAsked, end_said, ends_of, event_said, said_by, survey_run}
+use Rattle.lsp_survey.specs.SurveyRun.{SurveyAsked, end_said, ends_of, event_said, said_by}
+use Rattle.lsp_survey.specs.SurveyRun.{survey_run}
 use Rattle.lsp_survey.specs.SurveyRun.{verdict_by}
 use Rattle.lsp_survey.proofs.KeptTexts.{same_notes}
 use Rattle.lsp_survey.proofs.Reporting.{report_is, reported_verdict}
@@ -49,7 +53,7 @@ use Rattle.lsp_verdict.proofs.LookBackLemmas.{each_from-append}
 use Rattle.lsp_verdict.proofs.RunReading.{read_map}
 use Rattle.lsp_verdict.proofs.RunsJudged.{judged_not, judges}
 use Rattle.lsp_verdict.proofs.Below.{one_log}
-use Rattle.lsp_verdict.proofs.Offences.Surveying.{one_survey, some_notes}
+use Rattle.lsp_verdict.proofs.Offences.Surveying.{one_survey}
 use Rattle.lsp_verdict.proofs.Outcomes.{one_rest}
 
 -- ---- what is said of events

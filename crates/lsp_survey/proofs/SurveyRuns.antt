@@ -1,20 +1,20 @@
 -- What `check --all` answers and writes follows from what a pass does.
-use Rattle.std.specs.Prelude.{map}
 use Rattle.std.specs.List.{cons_option}
-use Rattle.std.proofs.Common.{◌≡◌, ◌⊎◌, ℕ, true, false, List, [], ◌∷◌, ◌++◌, Option, Some, None, Result}
-use Rattle.std.proofs.Common.{Ok, Err, inl, inr, refl, sym, ap, subst, ◌∙◌, append_assoc, append-nil}
+use Rattle.std.proofs.Common.{◌≡◌, ◌⊎◌, ℕ, List, [], ◌∷◌, ◌++◌, Option, Some, None, Result}
+use Rattle.std.proofs.Common.{Ok, Err, inl, inr, refl, sym, ap, subst, ◌∙◌, append_assoc}
+use Rattle.std.proofs.Common.{append-nil}
 use Rattle.std.proofs.lemmas.List.{map-append}
 use Rattle.lsp_docs.specs.Terms.{Terms}
 use Rattle.lsp_frame.specs.Bounds.{Bounds, IsInRange}
-use Rattle.lsp_frame.specs.Told.{Told}
 use Rattle.lsp_frame.specs.declared.format.Format.{Format}
 use Rattle.lsp_log.specs.Log.{Record}
-use Rattle.lsp_replay.specs.Passes.{AllPassed, PartPassed, Passes}
+use Rattle.lsp_replay.specs.Passes.{AllPassed, Passes}
 use Rattle.lsp_replay.specs.Run.{EndsAfter, HasSaid, IsPassed, IsTold, SaysAll, StopsIn, Tail}
 use Rattle.lsp_replay.proofs.PassEnds.{part_begins}
-use Rattle.lsp_survey.specs.Reported.{BeginsReported, IsReported, SurveysLog, closing, end_lines, is_every}
+use Rattle.lsp_survey.specs.Reported.{BeginsReported, IsReported, SurveysLog, closing, end_lines}
+use Rattle.lsp_survey.specs.Reported.{is_every}
 use Rattle.lsp_survey.specs.Reported.{lines_of}
-use Rattle.lsp_survey.specs.SurveyRun.{SurveyAsked, end_said, ends_of, event_said, found_by, said_by}
+use Rattle.lsp_survey.specs.SurveyRun.{SurveyAsked, end_said, ends_of, event_said, said_by}
 use Rattle.lsp_survey.specs.SurveyRun.{survey_run, verdict_by}
 use Rattle.lsp_survey.proofs.Reporting.{lines_append, lines_none, report_is, reported_verdict}
 use Rattle.lsp_survey.proofs.Told.{survey_told}
@@ -22,15 +22,14 @@ use Rattle.lsp_verdict.specs.Complete.{IsVerdictBy}
 use Rattle.lsp_verdict.specs.Given.{verdict_view}
 use Rattle.lsp_verdict.specs.Heard.{Heard, Rests, heard_events, notes_of}
 use Rattle.lsp_verdict.specs.LookBack.{each_from}
-use Rattle.lsp_verdict.specs.Offences.{Noted, Offence, offence_at, offences}
-use Rattle.lsp_verdict.specs.Outcome.{ending, log_terms}
+use Rattle.lsp_verdict.specs.Offences.{Offence, offence_at, offences}
+use Rattle.lsp_verdict.specs.Outcome.{log_terms}
 use Rattle.lsp_verdict.specs.Ports.{Ports}
 use Rattle.lsp_verdict.specs.RunIo.{OfRead}
-use Rattle.lsp_verdict.specs.Survey.{all_report, by_itself, ends_listed, first_verdict}
+use Rattle.lsp_verdict.specs.Survey.{all_report}
 use Rattle.lsp_verdict.specs.Verdict.{Verdict, Summary, bad_log_of, summary}
 use Rattle.lsp_verdict.specs.declared.completeness.Completeness.{Completeness}
 use Rattle.lsp_verdict.specs.declared.listing.Listing.{Listing}
-use Rattle.lsp_verdict.specs.declared.listing.Listing.TheVariants.{Causes, Every}
 use Rattle.lsp_verdict.specs.declared.outcome.Outcome.{Outcome}
 use Rattle.lsp_verdict.specs.declared.outcome.Outcome.TheVariants.{Judged}
 use Rattle.lsp_verdict.specs.declared.outcome.RunFault.{RunFault}

@@ -1,10 +1,12 @@
 -- The steps of the account that lists all that is wrong with a log.
 use Rattle.std.specs.Prelude.{ℤ, chars, decimal, map, option_and_then, option_map, unwrap_or}
 use Rattle.std.specs.List.{cons_option}
-use Rattle.std.proofs.Common.{◌≡◌, ℕ, ◌+◌, ◌<◌, ◌^◌, Bool, false, List, [], ◌∷◌, ◌++◌, length, Option, Some, None}
-use Rattle.std.proofs.Common.{OnOk, Result, Ok, Err, refl, sym, ap, subst, ◌∙◌, append-nil, arith, length-append}
+use Rattle.std.proofs.Common.{◌≡◌, ℕ, ◌+◌, ◌<◌, ◌^◌, Bool, false, List, [], ◌∷◌, ◌++◌, length}
+use Rattle.std.proofs.Common.{Option, Some, None}
+use Rattle.std.proofs.Common.{OnOk, Result, Ok, Err, refl, sym, ap, subst, ◌∙◌, append-nil, arith}
+use Rattle.std.proofs.Common.{length-append}
 use Rattle.std.proofs.lemmas.List.{length-map, map-append}
-use Rattle.lsp_docs.specs.Calls.{Call, shows}
+use Rattle.lsp_docs.specs.Calls.{shows}
 use Rattle.lsp_rpc.specs.Message.{Message}
 use Rattle.lsp_docs.specs.Terms.{Terms}
 use Rattle.lsp_rpc.specs.Outline.{outline}
@@ -42,7 +44,8 @@ use Rattle.lsp_replay.specs.declared.log_events.LogEvents.{LogEvents}
 use Rattle.lsp_types.specs.declared.side.Side.TheVariants.{Editor, Server}
 use Rattle.lsp_verdict.specs.Given.{as_given, offence_view, verdict_view}
 use Rattle.lsp_verdict.specs.Outcome.{is_rest}
-use Rattle.lsp_verdict.specs.Survey.{by_itself, ends_inside, first_ends, first_verdict, lacks_listed}
+use Rattle.lsp_verdict.specs.Survey.{by_itself, ends_inside, first_ends, first_verdict}
+use Rattle.lsp_verdict.specs.Survey.{lacks_listed}
 use Rattle.lsp_verdict.specs.Survey.{rests_listed}
 use Rattle.lsp_verdict.specs.declared.outcome.Outcome.TheVariants.{Judged}
 use Rattle.lsp_verdict.specs.declared.verdict.Verdict as code
@@ -63,17 +66,18 @@ use Rattle.lsp_verdict.specs.Calls.{call_of}
 use Rattle.lsp_verdict.specs.Counting.{AreCounts}
 use Rattle.lsp_verdict.specs.Event.{Event, message, sent_in, snapshot}
 use Rattle.lsp_verdict.specs.Heard.{Heard, heard_events, notes_of}
-use Rattle.lsp_verdict.specs.Offences.{IsMalformed, IsNoted, Noted, Offence, brought_by, follows, kept_of, offence_at, offence_by, offences}
+use Rattle.lsp_verdict.specs.Offences.{IsMalformed, IsNoted, Noted, Offence, brought_by, follows}
+use Rattle.lsp_verdict.specs.Offences.{kept_of, offence_at, offence_by, offences}
 use Rattle.lsp_verdict.specs.Offences.{said_at}
 use Rattle.lsp_verdict.specs.Placed.{Raw, content, show}
 use Rattle.lsp_verdict.specs.Report.{line, report, side_name}
 use Rattle.lsp_verdict.specs.Shown.{document_words, line_at, message_words, snapshot_words}
 use Rattle.lsp_verdict.specs.Shown.{words_behind}
-use Rattle.lsp_verdict.specs.Verdict.{Summary, Verdict, bad_log_of, first_no, no, summary, who_of, whose, yes}
+use Rattle.lsp_verdict.specs.Verdict.{Summary, Verdict, bad_log_of, first_no, no, summary, who_of}
+use Rattle.lsp_verdict.specs.Verdict.{whose, yes}
 use Rattle.lsp_verdict.specs.declared.counts.Counts.{Counts}
 use Rattle.lsp_verdict.specs.declared.lines.Lines.{Lines}
 use Rattle.lsp_verdict.specs.declared.listing.Listing.{Listing}
-use Rattle.lsp_verdict.specs.declared.verdict.Who.{Who}
 use Rattle.lsp_verdict.proofs.Offences.Steps.{offences-push}
 
 notes-push : (before : List Heard) (h : Heard)

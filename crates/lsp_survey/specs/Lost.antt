@@ -1,5 +1,6 @@
 -- What the offences so far have left lost.
-use Rattle.std.specs.Prelude.{◌≡◌, ◌&&◌, ◌||◌, ℕ, List, Bool, Option, Some, is_some, option_and_then}
+use Rattle.std.specs.Prelude.{◌≡◌, ◌&&◌, ◌||◌, ℕ, List, Bool, Option, Some, is_some}
+use Rattle.std.specs.Prelude.{option_and_then}
 use Rattle.lsp_docs.specs.Calls.{Call}
 use Rattle.lsp_docs.specs.Terms.{Terms}
 use Rattle.lsp_rpc.specs.Ident.{id_view}
@@ -7,7 +8,7 @@ use Rattle.lsp_rpc.specs.declared.message.Id.{Id}
 use Rattle.lsp_rpc.specs.Message.{Message}
 use Rattle.lsp_session.specs.State.{Stands}
 use Rattle.lsp_session.specs.State as session
-use Rattle.lsp_survey.specs.Notes.{AreAfter, Leaves, is_noted}
+use Rattle.lsp_survey.specs.Notes.{Leaves, is_noted}
 use Rattle.lsp_survey.specs.Passed.{ArePassed, has_passed}
 use Rattle.lsp_survey.specs.Sides.{sides_after, sides_of}
 use Rattle.lsp_survey.specs.declared.losses.Losses.{Losses}
@@ -15,9 +16,11 @@ use Rattle.lsp_types.specs.declared.side.Side.{Side}
 use Rattle.lsp_verdict.specs.Calls.{calls}
 use Rattle.lsp_verdict.specs.Event.{Event, sent_in}
 use Rattle.lsp_verdict.specs.LookBack.{first_of}
-use Rattle.lsp_verdict.specs.Offences.{Noted, asks, breaks_handshake, broken_by, brought_by, events_of}
+use Rattle.lsp_verdict.specs.Offences.{Noted, asks, breaks_handshake, broken_by, brought_by}
+use Rattle.lsp_verdict.specs.Offences.{events_of}
 use Rattle.lsp_verdict.specs.Offences.{is_handshake_lost, is_initialized_by, is_lost, is_passed}
-use Rattle.lsp_verdict.specs.Offences.{is_reopened, is_unheard, kept_of, may_answer, wants_handshake}
+use Rattle.lsp_verdict.specs.Offences.{is_reopened, is_unheard, kept_of, may_answer}
+use Rattle.lsp_verdict.specs.Offences.{wants_handshake}
 use Rattle.lsp_verdict.specs.Offences.{wants_text}
 
 -- **on these terms this is lost after these events**

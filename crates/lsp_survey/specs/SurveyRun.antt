@@ -1,5 +1,5 @@
 -- What is said where all that is wrong with a log is listed.
-use Rattle.std.specs.Prelude.{◌≡◌, ◌+◌, ◌<◌, ◌^◌, ℕ, List, [], ◌∷◌, ◌++◌, map, length, Bool, false}
+use Rattle.std.specs.Prelude.{◌≡◌, ◌+◌, ◌<◌, ◌^◌, ℕ, List, [], ◌∷◌, ◌++◌, map, length, false}
 use Rattle.std.specs.Prelude.{Option, Some, None, unwrap_or}
 use Rattle.lsp_docs.specs.Terms.{Terms}
 use Rattle.lsp_replay.specs.LogEvents.{flaw_of}
@@ -20,14 +20,14 @@ use Rattle.lsp_verdict.specs.Heard.{Heard, heard_events, notes_of}
 use Rattle.lsp_verdict.specs.Offences.{Offence, kept_of, offence_at, offences}
 use Rattle.lsp_verdict.specs.Outcome.{ending}
 use Rattle.lsp_verdict.specs.Shown.{line_at}
-use Rattle.lsp_verdict.specs.Survey.{by_itself, ends_listed, first_ends, first_verdict, lacks_listed}
+use Rattle.lsp_verdict.specs.Survey.{by_itself, ends_listed, first_ends, first_verdict}
+use Rattle.lsp_verdict.specs.Survey.{lacks_listed}
 use Rattle.lsp_verdict.specs.Survey.{rests_listed}
 use Rattle.lsp_verdict.specs.Verdict.{Verdict, bad_log_of, summary}
 use Rattle.lsp_verdict.specs.declared.completeness.Completeness.{Completeness}
 use Rattle.lsp_verdict.specs.declared.counts.Counts.{Counts}
 use Rattle.lsp_verdict.specs.declared.lines.Lines.{Lines}
 use Rattle.lsp_verdict.specs.declared.listing.Listing.{Listing}
-use Rattle.lsp_verdict.specs.declared.outcome.Outcome.{Outcome}
 use Rattle.lsp_verdict.specs.declared.outcome.Outcome.TheVariants.{Judged}
 use Rattle.lsp_verdict.specs.declared.verdict.Verdict as code
 

@@ -1,7 +1,8 @@
-use Rattle.std.proofs.Common.{◌∙◌, refl, sym, w32, rules}
+use Rattle.std.proofs.Common.{◌∙◌, refl, sym}
 use Rattle.std.proofs.lemmas.Int.{to_z-of_z}
 use Rattle.std.proofs.lemmas.Result.{IfOk-weaker}
-use Rattle.lsp_replay.proofs.Seeing.{comes_same, counted_on, noted_here, shown_answer, shown_refused}
+use Rattle.lsp_replay.proofs.Seeing.{comes_same, counted_on, noted_here, shown_answer}
+use Rattle.lsp_replay.proofs.Seeing.{shown_refused}
 use Rattle.lsp_replay.proofs.Seeing.{shown_rule, shown_silent, shown_stood}
 use Rattle.lsp_replay.proofs.one_pass.see_shown.Goals as goal
 

@@ -1,4 +1,4 @@
-use Rattle.std.proofs.Common.{sym, subst}
+use Rattle.std.proofs.Common.{subst}
 use Rattle.std.proofs.lemmas.Result.{IfOk-weaker}
 use Rattle.lsp_survey.proofs.Losing.{frames_lost, shown_lost}
 use Rattle.lsp_verdict.specs.Offences.{IsNoted}

@@ -1,4 +1,3 @@
-use Rattle.std.proofs.Common.{◌∙◌, refl}
 use Rattle.std.proofs.lemmas.Result.{IfOk-weaker}
 use Rattle.lsp_survey.proofs.Losing.{message_lost, unread_lost}
 use Rattle.lsp_survey.proofs.losses.Losses.offend_content.Goals as goal

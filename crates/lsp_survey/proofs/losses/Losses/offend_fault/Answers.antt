@@ -1,4 +1,4 @@
-use Rattle.std.specs.Prelude.{◌&&◌, ◌||◌}
+use Rattle.std.specs.Prelude.{◌||◌}
 use Rattle.std.proofs.Common.{◌∙◌, false, ap}
 use Rattle.lsp_verdict.specs.Offences.{events_of}
 use Rattle.lsp_survey.specs.Lost.{follows_of}

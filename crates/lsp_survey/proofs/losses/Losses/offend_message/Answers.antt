@@ -1,9 +1,8 @@
-use Rattle.std.specs.Prelude.{◌&&◌, ◌||◌}
+use Rattle.std.specs.Prelude.{◌||◌}
 use Rattle.std.proofs.Common.{◌∙◌, Bool, Some, None, false, ap, subst}
 use Rattle.lsp_rpc.specs.View.{act_view, message_view}
 use Rattle.lsp_survey.specs.Lost.{follows_of}
 use Rattle.lsp_survey.specs.Notes.{Leaves}
-use Rattle.lsp_survey.specs.Sides.{sides_read}
 use Rattle.lsp_verdict.specs.Calls.{call_of, calls}
 use Rattle.lsp_verdict.specs.Offences.{breaks_handshake, events_of, is_reopened, kept_of}
 use Rattle.lsp_docs.specs.Terms.{Terms}

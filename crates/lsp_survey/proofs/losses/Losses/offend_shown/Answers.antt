@@ -1,5 +1,5 @@
 use Rattle.std.specs.Prelude.{◌||◌}
-use Rattle.std.proofs.Common.{◌∙◌, None, Some, false, refl, sym, ap}
+use Rattle.std.proofs.Common.{◌∙◌, false, refl, sym, ap}
 use Rattle.std.proofs.Math.Bool.{or-false}
 use Rattle.lsp_docs.specs.Calls.{shows}
 use Rattle.lsp_survey.specs.Lost.{follows_of}

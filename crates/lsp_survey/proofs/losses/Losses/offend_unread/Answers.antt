@@ -1,5 +1,5 @@
-use Rattle.std.specs.Prelude.{List, Option, ℕ, option_map, string_bytes, ◌||◌}
-use Rattle.std.proofs.Common.{◌∙◌, false, None, Some, refl, sym, ap, subst}
+use Rattle.std.specs.Prelude.{List, Option, ℕ, ◌||◌}
+use Rattle.std.proofs.Common.{◌∙◌, false, None, Some, sym, ap, subst}
 use Rattle.std.proofs.Math.Bool.{or-false}
 use Rattle.lsp_rpc.specs.Ident.{Ident}
 use Rattle.lsp_survey.specs.Notes.{Leaves}

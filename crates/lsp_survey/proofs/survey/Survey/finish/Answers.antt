@@ -1,5 +1,5 @@
-use Rattle.std.specs.Prelude.{option_map}
-use Rattle.std.proofs.Common.{◌∙◌, ◌++◌, None, Some, ap, append_assoc, append-nil, string_bytes, sym}
+use Rattle.std.proofs.Common.{◌∙◌, ◌++◌, None, Some, ap, append_assoc, append-nil, string_bytes}
+use Rattle.std.proofs.Common.{sym}
 use Rattle.std.proofs.lemmas.Result.{IfOk-weaker}
 use Rattle.lsp_replay.specs.declared.log_events.End.TheVariants.{Sound}
 use Rattle.lsp_survey.specs.Asked.{asked_of}

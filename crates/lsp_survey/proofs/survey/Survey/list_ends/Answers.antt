@@ -1,4 +1,4 @@
-use Rattle.std.proofs.Common.{◌++◌, ◌∙◌, ap, map, string_bytes, subst}
+use Rattle.std.proofs.Common.{◌++◌, ◌∙◌, ap, string_bytes, subst}
 use Rattle.lsp_survey.specs.Asked.{asked_of}
 use Rattle.lsp_survey.specs.Reported.{IsTally, lines_of}
 use Rattle.lsp_survey.proofs.SurveySteps.{both_ok, ends_given}

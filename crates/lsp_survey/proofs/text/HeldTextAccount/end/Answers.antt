@@ -1,4 +1,4 @@
-use Rattle.std.proofs.Common.{◌++◌, ◌∙◌, ap, sym, subst, string_bytes}
+use Rattle.std.proofs.Common.{◌∙◌, ap, sym, subst}
 use Rattle.lsp_survey.specs.KeptText.{end_answer}
 use Rattle.lsp_verdict.specs.Shown.{TextAnswer}
 use Rattle.lsp_verdict.specs.TextAfter.{EndsAs, written_of}
