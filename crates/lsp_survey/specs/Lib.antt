@@ -21,4 +21,4 @@ pub mod KeptText
 pub mod AllShown
 pub mod Lost
 pub mod SurveyRun
-pub mod Asked
+pub mod AskedOf

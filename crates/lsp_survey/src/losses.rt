@@ -5,7 +5,7 @@ ghost use Rattle.lsp_docs.specs.Calls.{shows};
 ghost use Rattle.lsp_docs.specs.Terms.{Terms};
 ghost use Rattle.lsp_replay.specs.Standing.{Holds};
 ghost use Rattle.lsp_replay.specs.Telling.{IsSeen, MaySpeak, Stood, kept_before, rule_of};
-ghost use Rattle.lsp_replay.specs.declared.seen.Seen.TheVariants as seen;
+ghost use Rattle.lsp_replay.specs.declared.seen.Seen.TheVariants as variants;
 ghost use Rattle.lsp_rpc.specs.Message.{Message as AMessage};
 ghost use Rattle.lsp_rpc.specs.View.{act_view, message_view};
 ghost use Rattle.lsp_session.specs.Sent.{other_side, response_id, same_side};
@@ -100,7 +100,7 @@ impl Losses {
         ensures { IfOk result (λ late. (terms : Terms) (before : List Heard) (h : Heard)
             → AreLosses terms self.old (notes_of before)
             → IsSeen held.now.session held.now.docs held.now.counts
-            (seen.Offence raw.entry rule spoken.entry) terms before h
+            (variants.Offence raw.entry rule spoken.entry) terms before h
             → (late ≡ follows terms (notes_of before) h.note rule)
             × AreLosses terms self.new (notes_of (before ++ h ∷ []))) }
     {

@@ -7,8 +7,8 @@ ghost use Rattle.lsp_docs.specs.Terms.{Terms};
 ghost use Rattle.lsp_replay.specs.LogEvents.{flaw_of};
 ghost use Rattle.lsp_replay.specs.Standing.{Follows};
 ghost use Rattle.lsp_replay.specs.Telling.{IsSeen, IsSpoken, Stood, kept_before};
-ghost use Rattle.lsp_replay.specs.declared.seen.Seen.TheVariants as seen;
-ghost use Rattle.lsp_survey.specs.Asked.{asked_of};
+ghost use Rattle.lsp_replay.specs.declared.seen.Seen.TheVariants as variants;
+ghost use Rattle.lsp_survey.specs.AskedOf.{asked_of};
 ghost use Rattle.lsp_survey.specs.Lost.{AreLosses};
 ghost use Rattle.lsp_survey.specs.Reported.{IsTally, closing, end_lines, is_every, lines_of};
 ghost use Rattle.lsp_survey.specs.SurveyRun.{IsKeptOn, SurveyAsked, SurveyStands, ends_held};
@@ -160,7 +160,7 @@ impl Survey {
         ensures { OnOk result ((terms : Terms) (before : List Heard) (h : Heard)
             → SurveyStands self.old.losses self.old.tally terms before
             → IsSeen held.now.session held.now.docs held.now.counts
-            (seen.Offence raw.entry rule spoken.entry) terms before h
+            (variants.Offence raw.entry rule spoken.entry) terms before h
             → SurveyStands self.new.losses self.new.tally terms (before ++ h ∷ [])
             × (string_bytes text.new ≡ string_bytes text.old ++ lines_of self.old.listing
             (offence_by terms (notes_of before) h.note rule ∷ []))) }

@@ -2,7 +2,7 @@ use Rattle.std.proofs.Common.{◌∙◌, ◌++◌, None, Some, ap, append_assoc,
 use Rattle.std.proofs.Common.{sym}
 use Rattle.std.proofs.lemmas.Result.{IfOk-weaker}
 use Rattle.lsp_replay.specs.declared.log_events.End.TheVariants.{Sound}
-use Rattle.lsp_survey.specs.Asked.{asked_of}
+use Rattle.lsp_survey.specs.AskedOf.{asked_of}
 use Rattle.lsp_survey.specs.Reported.{closing, lines_of}
 use Rattle.lsp_survey.specs.SurveyRun.{ends_held}
 use Rattle.lsp_survey.proofs.SurveySteps.{bad_end, clean_by, few_listed, found_few}

@@ -1,6 +1,6 @@
 use Rattle.std.specs.Prelude.{take}
 use Rattle.std.proofs.Common.{◌≡◌, ◌++◌, List, map, string_bytes}
-use Rattle.lsp_survey.specs.Asked.{asked_of}
+use Rattle.lsp_survey.specs.AskedOf.{asked_of}
 use Rattle.lsp_survey.specs.Reported.{IsTally, lines_of}
 use Rattle.lsp_verdict.specs.Given.{offence_view}
 use Rattle.lsp_verdict.specs.Offences.{Offence}

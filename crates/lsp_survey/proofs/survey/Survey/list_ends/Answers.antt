@@ -1,5 +1,5 @@
 use Rattle.std.proofs.Common.{◌++◌, ◌∙◌, ap, string_bytes, subst}
-use Rattle.lsp_survey.specs.Asked.{asked_of}
+use Rattle.lsp_survey.specs.AskedOf.{asked_of}
 use Rattle.lsp_survey.specs.Reported.{IsTally, lines_of}
 use Rattle.lsp_survey.proofs.SurveySteps.{both_ok, ends_given}
 use Rattle.lsp_survey.proofs.survey.Survey.list_ends.Goals as goal

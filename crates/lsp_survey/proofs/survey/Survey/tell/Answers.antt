@@ -1,6 +1,6 @@
 use Rattle.std.proofs.Common.{◌∙◌, ◌++◌, ap, string_bytes}
 use Rattle.std.proofs.lemmas.Result.{on_ok_weaker}
-use Rattle.lsp_survey.specs.Asked.{asked_of}
+use Rattle.lsp_survey.specs.AskedOf.{asked_of}
 use Rattle.lsp_survey.proofs.SurveySteps.{kept_said, message_on, offence_said, shown_on}
 use Rattle.lsp_survey.proofs.SurveySteps.{shown_stands}
 use Rattle.std.proofs.Common.{refl}

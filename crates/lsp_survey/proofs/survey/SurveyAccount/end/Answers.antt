@@ -1,4 +1,4 @@
-use Rattle.lsp_survey.specs.Asked.{asked_of}
+use Rattle.lsp_survey.specs.AskedOf.{asked_of}
 use Rattle.lsp_survey.proofs.SurveySteps.{end_fits}
 use Rattle.lsp_survey.proofs.survey.SurveyAccount.end.Goals as goal
 
