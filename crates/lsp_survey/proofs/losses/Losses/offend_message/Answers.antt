@@ -2,7 +2,7 @@ use Rattle.std.specs.Prelude.{◌||◌}
 use Rattle.std.proofs.Common.{◌∙◌, Bool, Some, None, false, ap, subst}
 use Rattle.lsp_rpc.specs.View.{act_view, message_view}
 use Rattle.lsp_survey.specs.Lost.{follows_of}
-use Rattle.lsp_survey.specs.Notes.{Leaves}
+use Rattle.lsp_survey.specs.Notes.{Leaves, is_noted_lost}
 use Rattle.lsp_verdict.specs.Calls.{call_of, calls}
 use Rattle.lsp_verdict.specs.Offences.{breaks_handshake, events_of, is_reopened, kept_of}
 use Rattle.lsp_docs.specs.Terms.{Terms}
@@ -21,7 +21,8 @@ returns c = λ terms before event enc kind losses same holds is.
       c.follows-follows.ensures terms before losses holds.sent
           ∙ ap (λ on_lost. follows_of terms before rule on_lost c.message_follows-late.result)
           (c.in_ok-on_lost.ensures enc kind)
-          ∙ ap (λ late. follows_of terms before rule _ late)
+          ∙ ap (λ late. follows_of terms before rule
+          (is_noted_lost old.documents.map.entries call) late)
           (c.message_follows-late.ensures terms before event losses is),
       record {
         is_broken = c.break_handshake.ensures
