@@ -137,13 +137,14 @@ tally_more t xs i x found at tally =
     ∙ ap (λ l. found ++ l) (sym (map_one offence_view xs i x at))) tally
 
 -- the lines of one offence more
-pub lines_more : (listing : Listing) (xs : List code.Offence) (i : ℕ) (x : code.Offence)
-    (old mid new : List ℕ) → slice_get xs i ≡ Some x
+pub lines_more : (listing own : Listing) → own ≡ listing → (xs : List code.Offence) (i : ℕ)
+    (x : code.Offence) (old mid new : List ℕ) → slice_get xs i ≡ Some x
     → mid ≡ old ++ lines_of listing (map offence_view (take i xs))
-    → new ≡ mid ++ lines_of listing (offence_view x ∷ [])
+    → new ≡ mid ++ lines_of own (offence_view x ∷ [])
     → new ≡ old ++ lines_of listing (map offence_view (take (i + 1) xs))
-lines_more listing xs i x old mid new at said more =
-    more ∙ ap (λ w. w ++ lines_of listing (offence_view x ∷ [])) said
+lines_more listing own same xs i x old mid new at said more =
+    more ∙ ap (λ l. mid ++ lines_of l (offence_view x ∷ [])) same
+    ∙ ap (λ w. w ++ lines_of listing (offence_view x ∷ [])) said
     ∙ append_assoc old (lines_of listing (map offence_view (take i xs)))
     (lines_of listing (offence_view x ∷ []))
     ∙ ap (λ w. old ++ w)

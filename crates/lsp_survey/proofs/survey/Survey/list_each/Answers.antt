@@ -1,8 +1,7 @@
-use Rattle.std.proofs.Common.{◌++◌, ◌∙◌, ◌∷◌, [], ap, map, string_bytes}
+use Rattle.std.proofs.Common.{◌++◌, ap, map, string_bytes}
 use Rattle.std.specs.Prelude.{take}
 use Rattle.std.proofs.lemmas.Option.{slice_get-get_or}
 use Rattle.lsp_survey.specs.SurveyRun.{SurveyAsked}
-use Rattle.lsp_survey.specs.Reported.{lines_of}
 use Rattle.lsp_verdict.specs.Given.{offence_view}
 use Rattle.lsp_survey.proofs.Reporting.{lines_more, tally_more}
 use Rattle.lsp_survey.proofs.survey.Survey.list_each.Goals as goal
@@ -18,9 +17,8 @@ loop-offence-preserved c =
       tally = λ found tally. tally_more c.list.new.self.tally xs i _ found at
           (c.in_ok-list.ensures.tally (found ++ map offence_view (take i xs))
           (c.loop-offence.invariant.tally found tally));
-      said = lines_more c.args.self.now.listing xs i _ (string_bytes c.args.text.now) _ _ at
-          c.loop-offence.invariant.said
-          (c.in_ok-list.ensures.said
-          ∙ ap (λ (a : SurveyAsked). string_bytes c.loop-offence.text ++ lines_of a.listing
-          (offence_view _ ∷ [])) c.loop-offence.invariant.asked);
+      said = lines_more c.args.self.now.listing _
+          (ap (λ (a : SurveyAsked). a.listing) c.loop-offence.invariant.asked) xs i _
+          (string_bytes c.args.text.now) _ _ at c.loop-offence.invariant.said
+          c.in_ok-list.ensures.said;
     }
