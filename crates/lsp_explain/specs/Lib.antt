@@ -2,11 +2,11 @@ pub mod Suspects
 pub mod Unopened
 pub mod Twins
 pub mod Traced
+pub mod Trails
 pub mod Standing
 pub mod Compared
 pub mod Remarks
 pub mod Explained
 pub mod ExplainLaws
-pub mod RunSteps
+pub mod ExplainRuns
 pub mod AllExplained
-pub mod AllSteps

@@ -14,6 +14,7 @@ mod run;
 mod run_all;
 mod suspects;
 mod trace;
+mod trail;
 mod twins;
 mod unopened;
 
