@@ -16,7 +16,7 @@ use Rattle.lsp_verdict.specs.declared.outcome.RunFault.TheVariants as faults
 use Rattle.lsp_verdict.proofs.RunReading.{read_map, read_within}
 
 -- what holds of the log read holds of its bytes alone
-here : (limits : Bounds) (start now : Told) (P : List ℕ → Type 0) → (read : OfRead limits start now P)
+pub here : (limits : Bounds) (start now : Told) (P : List ℕ → Type 0) → (read : OfRead limits start now P)
     → P read.bytes
 here limits start now P read =
     read.holds read.bytes ([], sym (append-nil read.bytes), λ end. refl)

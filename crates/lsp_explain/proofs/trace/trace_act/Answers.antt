@@ -22,7 +22,7 @@ use Rattle.lsp_explain.proofs.trace.trace_act.Goals as goal
 pub returns-in-DidOpen : goal.returns-in-DidOpen
 returns-in-DidOpen c =
     let fits : SFits w32 c.in-DidOpen.version = search rules in
-    let terms = terms_in c.args.events.now in
+    let terms = terms_in c.args.past in
     let old = c.args.facts.now in
     let number = c.in-DidOpen.version in
     let call : Call = opens (string_bytes c.in-DidOpen.uri) number
@@ -42,7 +42,7 @@ returns-in-DidOpen c =
 pub returns-in-DidChange : goal.returns-in-DidChange
 returns-in-DidChange c =
     let fits : SFits w32 c.in-DidChange.version = search rules in
-    let terms = terms_in c.args.events.now in
+    let terms = terms_in c.args.past in
     let old = c.args.facts.now in
     let number = c.in-DidChange.version in
     let told = simp to_z-of_z at c.trace_text-in-DidChange.ensures in

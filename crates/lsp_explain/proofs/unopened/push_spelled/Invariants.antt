@@ -8,6 +8,6 @@ use Rattle.lsp_explain.proofs.unopened.push_spelled.Given as goal
 
 abbrev pub invariant-loop-on : goal.invariant-loop-on
 invariant-loop-on l =
-    (before : List Event) → StandsAfter l.events before
-    → l.facts ≡ l.fn.facts ++ flat_map (similar_fact (terms_in l.events) before l.size l.spelling)
+    (before : List Event) → StandsAfter l.past before
+    → l.facts ≡ l.fn.facts ++ flat_map (similar_fact (terms_in l.past) before l.size l.spelling)
     (ons_view (take l.on-index l.opened))
