@@ -19,3 +19,4 @@ pub mod SideEnds
 pub mod Passing
 pub mod Seeing
 pub mod PassEnds
+pub mod SeenLines
