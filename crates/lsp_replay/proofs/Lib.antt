@@ -20,3 +20,4 @@ pub mod Passing
 pub mod Seeing
 pub mod PassEnds
 pub mod SeenLines
+pub mod AllHeard

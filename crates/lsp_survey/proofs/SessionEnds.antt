@@ -1,8 +1,7 @@
 -- How the session of a log ends, and the verdict where nothing was found.
 use Rattle.std.specs.Prelude.{map, option_map}
 use Rattle.std.proofs.Common.{◌≡◌, ℕ, ◌+◌, ◌<◌, ◌^◌, Bool, List, [], ◌∷◌, ◌++◌, length, Option, Some}
-use Rattle.std.proofs.Common.{None, refl, sym, ap, subst, ◌∙◌, arith}
-use Rattle.std.proofs.lemmas.List.{length-map}
+use Rattle.std.proofs.Common.{None, refl, sym, ap, ◌∙◌, arith}
 use Rattle.lsp_docs.specs.State as docs
 use Rattle.lsp_docs.specs.Terms.{Terms}
 use Rattle.lsp_replay.specs.Standing.{Follows, Holds}
@@ -11,6 +10,7 @@ use Rattle.lsp_replay.specs.Streams.{decoder_of}
 use Rattle.lsp_replay.specs.Telling.{Stood}
 use Rattle.lsp_replay.specs.declared.log_events.End.TheVariants.{Sound}
 use Rattle.lsp_replay.specs.declared.log_events.LogEvents.{LogEvents}
+use Rattle.lsp_replay.proofs.AllHeard.{few_events, follows_all}
 use Rattle.lsp_session.specs.State as session
 use Rattle.lsp_survey.specs.Ending.{ends_by, given_by}
 use Rattle.lsp_survey.specs.Reported.{IsTally, verdict_lines}
@@ -21,8 +21,8 @@ use Rattle.lsp_types.specs.declared.side.Side.TheVariants.{Editor, Server}
 use Rattle.lsp_verdict.specs.Counting.{AreCounts}
 use Rattle.lsp_verdict.specs.Event.{Event}
 use Rattle.lsp_verdict.specs.Given.{as_given, offence_view}
-use Rattle.lsp_verdict.specs.Heard.{Heard, heard_events, notes_of}
-use Rattle.lsp_verdict.specs.Offences.{Noted, Offence, kept_of}
+use Rattle.lsp_verdict.specs.Heard.{Heard, heard_events}
+use Rattle.lsp_verdict.specs.Offences.{Offence, kept_of}
 use Rattle.lsp_verdict.specs.Report.{report}
 use Rattle.lsp_verdict.specs.Survey.{by_itself, first_ends, first_verdict, lacks_listed}
 use Rattle.lsp_verdict.specs.Survey.{rests_listed}
@@ -30,7 +30,6 @@ use Rattle.lsp_verdict.specs.Verdict.{Verdict, first_no, summary, yes}
 use Rattle.lsp_verdict.specs.declared.completeness.Completeness.{Completeness}
 use Rattle.lsp_verdict.specs.declared.counts.Counts.{Counts}
 use Rattle.lsp_verdict.proofs.ExactCounts.{yes_exact}
-use Rattle.lsp_verdict.proofs.Offences.Offending.{all_are_kept}
 
 none_found : (t : OffenceCount) (found : List Offence) → None ≡ t.first → IsTally t found
     → found ≡ []
@@ -44,13 +43,8 @@ module _ (terms : Terms) (heard : List Heard) (m : session.State) (d : docs.Stat
   abbrev events : List Event
   events = heard_events heard
 
-  few_events : length events + 1 < 2 ^ 64
-  few_events = omega (
-    arith,
-    few,
-    length-map (notes_of heard) (λ (n : Noted). n.event),
-    length-map heard (λ (x : Heard). x.note),
-  )
+  small : length events + 1 < 2 ^ 64
+  small = few_events heard few
 
   -- what is listed of the end of a log without a fault
   pub ends_given : (completeness : Completeness) (e : LogEvents) (editor server : Bool)
@@ -63,19 +57,11 @@ module _ (terms : Terms) (heard : List Heard) (m : session.State) (d : docs.Stat
       let kept = kept_of terms events in
       let lacks = lacks_listed completeness events kept in
       told events kept stood.counted stood.holds
-      ∙ rests_exact events few_events editor server lacks
-      (lacks_exact events few_events completeness kept)
+      ∙ rests_exact events small editor server lacks
+      (lacks_exact events small completeness kept)
       ∙ ap (λ b. map by_itself (first_ends None (rests_listed events b server) lacks)) is_editor
       ∙ ap (λ b. map by_itself (first_ends None (rests_listed events
       (streams.ends_inside (decoder_of Editor e.streams)) b) lacks)) is_server
-
-  -- what is held is the result of all events
-  follows_all : first_no terms events ≡ None → Follows m d c events
-  follows_all clean = record {
-    clean = ap (λ (t : Terms). first_no t events) stood.by ∙ clean;
-    holds = subst (Holds m d) (all_are_kept terms events clean) stood.holds;
-    counted = stood.counted;
-  }
 
   -- where nothing was found, the report is that of the verdict
   pub none_said : (t : OffenceCount) (found : List Offence) (bad : Option Verdict) (v : Verdict)
@@ -89,8 +75,8 @@ module _ (terms : Terms) (heard : List Heard) (m : session.State) (d : docs.Stat
       × (v ≡ first_verdict found bad (summary terms events))
   none_said t found bad v old new none tally clean sound said =
       let empty = none_found t found none tally in
-      let own = sound events (follows_all (clean empty))
-      (yes_exact d.terms events (omega (arith, few_events)))
+      let own = sound events (follows_all terms heard m d c stood (clean empty))
+      (yes_exact d.terms events (omega (arith, small)))
       ∙ ap (λ (x : Terms). first_verdict [] bad (summary x events)) stood.by in (
         said ∙ ap (λ w. old ++ report w) own
             ∙ ap (λ f. old ++ verdict_lines f bad (summary terms events)) (sym empty),

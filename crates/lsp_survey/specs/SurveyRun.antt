@@ -26,6 +26,10 @@ use Rattle.lsp_verdict.specs.declared.lines.Lines.{Lines}
 use Rattle.lsp_verdict.specs.declared.outcome.Outcome.TheVariants.{Judged}
 use Rattle.lsp_verdict.specs.declared.verdict.Verdict as code
 
+-- what is asked of it
+abbrev pub SurveyAsked : Type 0
+SurveyAsked = Options
+
 -- ---- an event
 
 -- the line of an event after these that is kept, where those are shown

@@ -3,7 +3,7 @@
 ghost use Rattle.std.specs.Prelude.{◌≡◌, ◌++◌, [], List, None, OnOk, string_bytes};
 ghost use Rattle.lsp_docs.specs.Terms.{Terms};
 ghost use Rattle.lsp_replay.specs.Telling.{IsSeen, rule_of};
-ghost use Rattle.lsp_survey.specs.SurveyRun.{SurveyStands, kept_line, survey_run};
+ghost use Rattle.lsp_survey.specs.SurveyRun.{SurveyAsked, SurveyStands, kept_line, survey_run};
 ghost use Rattle.lsp_verdict.specs.Heard.{Heard, heard_events};
 
 use crate::losses::Losses;
@@ -70,7 +70,7 @@ impl Survey {
 }
 
 impl Account for Survey {
-    ghost Asked = { Options };
+    ghost Asked = { SurveyAsked };
 
     ghost asked = { λ s. s.options };
 
