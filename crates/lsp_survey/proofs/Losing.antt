@@ -21,11 +21,11 @@ use Rattle.lsp_types.specs.declared.side.Side.{Side}
 use Rattle.lsp_replay.specs.Standing.{Holds}
 use Rattle.lsp_replay.specs.Telling.{IsSpoken, kept_before, rule_of}
 use Rattle.lsp_replay.proofs.Seeing.{events-push}
-use Rattle.lsp_survey.specs.Lost.{AreLosses, HoldsSent, Loses, Offends, WasTold, follows_of}
+use Rattle.lsp_survey.specs.Lost.{AreLosses, HoldsSent, IsMessageOf, Loses, Offends, WasTold}
+use Rattle.lsp_survey.specs.Lost.{follows_of}
 use Rattle.lsp_survey.specs.Notes.{AreAfter, Leaves, is_noted, is_noted_lost}
 use Rattle.lsp_survey.specs.Passed.{ArePassed}
 use Rattle.lsp_survey.specs.Sides.{sides_after, sides_failed, sides_of, sides_read}
-use Rattle.lsp_survey.specs.Walking.{IsMessageOf}
 use Rattle.lsp_survey.specs.declared.losses.Losses.{Losses}
 use Rattle.lsp_survey.specs.declared.notes.note.Notes as code_notes
 use Rattle.lsp_survey.proofs.Noting.{notes_stay, nothing_said}

@@ -16,7 +16,7 @@ use Rattle.lsp_survey.specs.Ending.{ends_by, given_by}
 use Rattle.lsp_survey.specs.Reported.{IsTally, verdict_lines}
 use Rattle.lsp_survey.specs.SurveyRun.{ends_held}
 use Rattle.lsp_survey.specs.declared.offence_count.OffenceCount.{OffenceCount}
-use Rattle.lsp_survey.proofs.LogEnds.{lacks_exact, rests_exact}
+use Rattle.lsp_survey.proofs.Ending.{lacks_exact, rests_exact}
 use Rattle.lsp_types.specs.declared.side.Side.TheVariants.{Editor, Server}
 use Rattle.lsp_verdict.specs.Counting.{AreCounts}
 use Rattle.lsp_verdict.specs.Event.{Event}

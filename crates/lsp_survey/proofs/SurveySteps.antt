@@ -25,7 +25,7 @@ use Rattle.lsp_survey.specs.SurveyRun.{said_by, survey_run}
 use Rattle.lsp_survey.specs.declared.offence_count.OffenceCount.{OffenceCount}
 use Rattle.lsp_survey.specs.declared.survey.Options.{Options}
 use Rattle.lsp_survey.specs.declared.survey.Survey.{Survey}
-use Rattle.lsp_survey.proofs.LogEnds.{ends_few, given_few}
+use Rattle.lsp_survey.proofs.Ending.{ends_few, given_few}
 use Rattle.lsp_survey.proofs.Reporting.{closing_is, first_none}
 use Rattle.lsp_types.specs.declared.side.Side.TheVariants.{Editor, Server}
 use Rattle.lsp_verdict.specs.Given.{verdict_view}

@@ -7,8 +7,10 @@ use Rattle.lsp_docs.specs.Terms.{Terms}
 use Rattle.lsp_replay.specs.Telling.{MaySpeak, Stood, kept_before, rule_of}
 use Rattle.lsp_rpc.specs.Ident.{id_view}
 use Rattle.lsp_rpc.specs.Message.{Message}
+use Rattle.lsp_rpc.specs.Outline.{outline}
 use Rattle.lsp_rpc.specs.declared.act.Spoken.{Spoken}
 use Rattle.lsp_rpc.specs.declared.message.Id.{Id}
+use Rattle.lsp_session.specs.Sent.{Sent}
 use Rattle.lsp_session.specs.State as session
 use Rattle.lsp_session.specs.State.{Stands}
 use Rattle.lsp_survey.specs.Notes.{Leaves, is_noted}
@@ -17,7 +19,7 @@ use Rattle.lsp_survey.specs.Sides.{sides_after, sides_of}
 use Rattle.lsp_survey.specs.declared.losses.Losses.{Losses}
 use Rattle.lsp_types.specs.declared.side.Side.{Side}
 use Rattle.lsp_verdict.specs.Calls.{calls}
-use Rattle.lsp_verdict.specs.Event.{Event, sent_in}
+use Rattle.lsp_verdict.specs.Event.{Event, message, sent_in}
 use Rattle.lsp_verdict.specs.Heard.{Heard, notes_of}
 use Rattle.lsp_verdict.specs.LookBack.{first_of}
 use Rattle.lsp_verdict.specs.Offences.{IsNoted, Noted, asks, breaks_handshake, broken_by}
@@ -46,6 +48,12 @@ HoldsSent s terms before = Stands s (sent_in (kept_of terms (events_of before)))
 abbrev pub follows_of : Terms → List Noted → ℕ → Bool → Bool → Bool
 follows_of terms before rule on_lost late =
     wants_handshake rule && is_handshake_lost terms before || (wants_text rule && on_lost || late)
+
+-- this message of the side, up to its params
+abbrev pub IsMessageOf : Side → Message → Event → Type 0
+IsMessageOf side said event =
+    (sent : Sent) × (event ≡ message sent) × (sent.side ≡ side)
+    × (outline sent.message ≡ outline said)
 
 -- **this event, which offends by this rule, was noted after these**: where its content is malformed
 -- it is this message, and it says this about a document
