@@ -22,3 +22,5 @@ pub mod LastEvents
 pub mod Seeing
 pub mod PassEnds
 pub mod JudgedRuns
+pub mod SeenLines
+pub mod AllHeard

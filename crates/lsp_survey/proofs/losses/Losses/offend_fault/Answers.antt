@@ -7,7 +7,7 @@ use Rattle.lsp_survey.proofs.losses.Losses.offend_fault.Goals as goal
 
 pub returns-clause-broken : goal.returns-clause-broken
 returns-clause-broken c = λ kept stands.
-    c.break_handshake.ensures
+    c.handshake_after-self.ensures
     ∙ ap (λ b. c.args.self.now.handshake || b) (c.breaks-breaks.ensures kept stands)
 
 pub returns-clause-follows : goal.returns-clause-follows
