@@ -1,38 +1,54 @@
 -- The two whole texts of the first event that offends.
-use Rattle.std.specs.Prelude.{Bool, if◌then◌else◌, is_some, map, option_map, unwrap_or}
+use Rattle.std.specs.Prelude.{Bool, ℤ, chars, if◌then◌else◌, is_some, map, option_map, unwrap_or}
 use Rattle.std.specs.List.{AllZip}
 use Rattle.std.specs.Option.{option_or}
 use Rattle.std.proofs.Common.{◌≡◌, ◌⊎◌, ℕ, true, false, List, [], ◌∷◌, ◌++◌, Option, Some, None, inl}
-use Rattle.std.proofs.Common.{inr, refl, sym, ap, subst, ◌∙◌}
+use Rattle.std.proofs.Common.{inr, refl, sym, ap, subst, ◌∙◌, append-nil, Bor}
 use Rattle.std.proofs.lemmas.List.{map-append}
+use Rattle.lsp_docs.specs.State as docs
 use Rattle.lsp_docs.specs.Terms.{Terms}
 use Rattle.lsp_frame.specs.Bounds.{Bounds}
 use Rattle.lsp_frame.specs.declared.format.Format.{Format}
 use Rattle.lsp_facts.specs.TwoTexts.{TwoTexts, is_of_texts, texts_at}
 use Rattle.lsp_replay.specs.Run.{EndsAfter, IsPassed, SaysAll, StopsIn}
-use Rattle.lsp_replay.specs.Telling.{kept_before, rule_of}
+use Rattle.lsp_replay.specs.Standing.{Holds}
+use Rattle.lsp_replay.specs.Telling.{IsSpoken, MaySpeak, Says, Stood, kept_before, rule_of}
+use Rattle.lsp_replay.specs.declared.seen.Flow.TheVariants.{GoOn, Stop}
 use Rattle.lsp_replay.proofs.PassEnds.{IsQuiet, quiet_all}
+use Rattle.lsp_replay.proofs.Seeing.{events-push}
+use Rattle.lsp_rpc.specs.View.{act_view}
+use Rattle.lsp_rpc.specs.declared.act.Spoken.{Spoken}
+use Rattle.lsp_session.specs.Sent.{Sent}
+use Rattle.lsp_session.specs.State as session
 use Rattle.lsp_survey.proofs.KeptTexts.{same_notes}
 use Rattle.lsp_survey.proofs.Told.{survey_told}
 use Rattle.lsp_types.specs.declared.side.Side.{Side}
-use Rattle.lsp_verdict.specs.Event.{Event, fault}
-use Rattle.lsp_verdict.specs.Heard.{Heard, heard_events, notes_of}
+use Rattle.lsp_verdict.specs.Calls.{calls}
+use Rattle.lsp_verdict.specs.Event.{Event, fault, message, snapshot}
+use Rattle.lsp_verdict.specs.Heard.{Heard, Rests, heard_events, notes_of}
+use Rattle.lsp_verdict.specs.Lent.{raw_view}
 use Rattle.lsp_verdict.specs.LookBack.{first_from, first_of}
 use Rattle.lsp_verdict.specs.Offences.{Noted, events_of, kept_of, offences, rule_at}
 use Rattle.lsp_verdict.specs.Outcome.{ending, log_terms}
 use Rattle.lsp_verdict.specs.Shown.{TextAnswer}
 use Rattle.lsp_verdict.specs.Survey as survey
-use Rattle.lsp_verdict.specs.TextAfter.{IsText}
-use Rattle.lsp_verdict.specs.Verdict.{Verdict, bad_log_of, no_at, no_by, offence, summary}
+use Rattle.lsp_verdict.specs.Placed.{Reads, content}
+use Rattle.lsp_verdict.specs.TextAfter.{EndsAs, IsText, written_of}
+use Rattle.lsp_verdict.specs.Verdict.{Verdict, bad_log_of, first_no, no_at, no_by, offence, summary}
+use Rattle.lsp_verdict.specs.declared.counts.Counts.{Counts}
 use Rattle.lsp_verdict.specs.declared.completeness.Completeness.TheVariants.{Ignored}
 use Rattle.lsp_verdict.specs.declared.outcome.Outcome.{Outcome}
+use Rattle.lsp_verdict.specs.declared.raw.Raw as lent
+use Rattle.lsp_verdict.specs.declared.raw.Raw.TheVariants as lents
 use Rattle.lsp_verdict.proofs.Below.{one_log}
 use Rattle.lsp_verdict.proofs.LookBackLemmas.{first_of-append, or_none_parts}
 use Rattle.lsp_verdict.proofs.Offences.Offending.{all_are_kept, nothing_listed}
+use Rattle.lsp_verdict.proofs.Offences.Steps.{kept-refused}
 use Rattle.lsp_explain.specs.Compared.{AnswersCompared, OneComparedText, answer_after, answer_at}
 use Rattle.lsp_explain.specs.Compared.{answer_of, compared_answer, compared_run, sound_answer}
 use Rattle.lsp_explain.specs.Compared.{written_at}
 use Rattle.lsp_explain.specs.declared.compared.ComparedText.{ComparedText}
+use Rattle.lsp_explain.proofs.AccountSteps.{clean_on}
 use Rattle.lsp_explain.proofs.Explaining.{notes-append, offence_of, offences_are}
 use Rattle.lsp_explain.proofs.ToldLogs.{clean_all, none_broken}
 
@@ -219,3 +235,90 @@ of_fault terms kept rule side code = by_test (is_of_texts rule)
     by_test : (b : Bool) → (if b then none else None) ≡ None
     by_test true = refl
     by_test false = refl
+
+module _ (terms : Terms) (before : List Heard) (h : Heard) (rule : ℕ) where
+  abbrev kept : List Event
+  kept = kept_before terms before
+
+  abbrev due : Option TwoTexts
+  due = texts_at terms kept h.note.event rule
+
+  -- a content that is no message and a fault of the frames compare none
+  pub unread_compared : (raw : lent.Raw)
+      → ((version : ℤ) (uri text : Bor (List ℕ)) → raw ≡ lents.Snapshot version uri text → ⊥)
+      → Reads (raw_view raw) h.note.event → MaySpeak kept h.note.event None → None ≡ due
+  unread_compared (lents.Content side bytes) not reads silent =
+      by_event h.note.event reads silent
+    where
+      by_event : (e : Event) → Reads (content side bytes.now) e → MaySpeak kept e None
+          → None ≡ texts_at terms kept e rule
+      by_event (fault by code) reads silent = sym (of_fault terms kept rule by code)
+      by_event (message m) reads silent = absurd (silent m refl)
+      by_event (snapshot uri number text) reads silent = absurd reads
+  unread_compared (lents.Broken side code rest) not reads silent =
+      sym (ap (λ (e : Event). texts_at terms kept e rule) reads ∙ of_fault terms kept rule side code)
+  unread_compared (lents.Snapshot version uri text) not reads silent =
+      absurd (not version uri text refl)
+
+  module _ (m : session.State) (d : docs.State) (c : Counts)
+      (stood : Stood terms m d c (before ++ h ∷ [])) (offends : rule_of terms before h ≡ Some rule)
+      where
+    -- what is held is that before it
+    held_before : Holds m d kept
+    held_before = subst (Holds m d) (ap (kept_of terms) (events-push before h)
+        ∙ kept-refused terms (heard_events before) h.note.event rule offends) stood.holds
+
+    -- a message compares what it says
+    pub message_compared : (side : Side) (s : Spoken) (texts : Option TwoTexts)
+        → IsSpoken kept h.note.event side s
+        → ((events : List Event) (sent : Sent) → Holds m d events → sent.act ≡ act_view s.act
+        → texts ≡ texts_at d.terms events (message sent) rule) → texts ≡ due
+    message_compared side s texts spoken are =
+        are kept spoken.sent held_before spoken.means
+        ∙ ap (λ (t : Terms). texts_at t kept (message spoken.sent) rule) stood.by
+        ∙ ap (λ (e : Event). texts_at terms kept e rule) (sym spoken.is)
+
+    -- a snapshot its text
+    pub shown_compared : (version : ℤ) (uri text : List ℕ) (texts : Option TwoTexts)
+        → h.note.event ≡ snapshot uri version (chars text)
+        → ((events : List Event) → docs.Stands d (calls events)
+        → texts ≡ texts_at d.terms events (snapshot uri version (chars text)) rule) → texts ≡ due
+    shown_compared version uri text texts own are =
+        are kept held_before.called
+        ∙ ap (λ (t : Terms). texts_at t kept (snapshot uri version (chars text)) rule) stood.by
+        ∙ ap (λ (e : Event). texts_at terms kept e rule) (sym own)
+
+-- ---- the account
+
+module _ (which : ComparedText) (terms : Terms) (before : List Heard) (h : Heard)
+    (Fits : Rests → Type 0) (old : List ℕ) where
+  -- of an event that is kept nothing is said
+  pub kept_silent : first_no terms (heard_events before) ≡ None → rule_of terms before h ≡ None
+      → Says (compared_run which) terms before h Fits old old
+      (first_no terms (heard_events (before ++ h ∷ [])) ≡ None) GoOn
+  kept_silent clean kept = record {
+    said = [];
+    added = sym (append-nil old);
+    is = λ rests fits. sym (ap (λ (o : Option ℕ). written_at (option_map (λ rule.
+        answer_of which (texts_at terms (kept_before terms before) h.note.event rule)) o)) kept);
+    goes = (ap is_some kept, clean_on terms before h clean kept);
+  }
+
+  -- of one that offends one of its texts
+  pub told_text : (Stands : Type 0) (new : List ℕ) (answer : TextAnswer)
+      (texts : Option TwoTexts) (rule : ℕ) (outcome : Outcome) → rule_of terms before h ≡ Some rule
+      → texts ≡ texts_at terms (kept_before terms before) h.note.event rule
+      → answer ≡ answer_of which texts → new ≡ old ++ written_of answer → EndsAs answer outcome
+      → Says (compared_run which) terms before h Fits old new Stands (Stop outcome)
+  told_text Stands new answer texts rule outcome offends are one added ends =
+      let named : answer_after which terms before h ≡ Some answer =
+      ap (option_map (λ r. answer_of which (texts_at terms (kept_before terms before) h.note.event
+      r))) offends
+      ∙ ap (λ (t : Option TwoTexts). Some (answer_of which t)) (sym are)
+      ∙ ap (λ (a : TextAnswer). Some a) (sym one) in
+      record {
+        said = written_of answer;
+        added = added;
+        is = λ rests fits. sym (ap written_at named);
+        goes = (ap is_some offends, (answer, named, ends));
+      }

@@ -5,12 +5,13 @@ pub mod Explanations
 pub mod AllExplanations
 pub mod Judged
 pub mod SaidFacts
+pub mod Telling
 pub mod Trails
 pub mod Ending
 pub mod Comparing
 pub mod Worked
 pub mod Tracing
-pub mod AllCauses
+pub mod AccountSteps
 pub mod AllLaws
 pub mod OneExplanation
 pub mod Written

@@ -3,26 +3,15 @@ use Rattle.std.specs.Prelude.{◌≡◌, ℕ, List, [], ◌∷◌, ◌++◌, map
 use Rattle.std.specs.Prelude.{Option, Some, None, option_map}
 use Rattle.std.specs.List.{AllZip, cons_option, flat_map}
 use Rattle.lsp_docs.specs.Terms.{Terms}
-use Rattle.lsp_log.specs.Reader.{shown_by}
 use Rattle.lsp_log.specs.declared.fault.LogCode.{LogCode}
-use Rattle.lsp_replay.specs.LogEvents.{flaw_of}
 use Rattle.lsp_replay.specs.Run.{Run, Tail}
-use Rattle.lsp_replay.specs.Streams.{decoder_of, ends_inside}
 use Rattle.lsp_replay.specs.Telling.{rule_of}
-use Rattle.lsp_replay.specs.declared.log_events.End.{End}
-use Rattle.lsp_replay.specs.declared.log_events.LogEvents.{LogEvents}
 use Rattle.lsp_survey.specs.Asking.{numbered}
-use Rattle.lsp_survey.specs.Lost.{AreLosses}
-use Rattle.lsp_survey.specs.Reported.{IsTally}
-use Rattle.lsp_survey.specs.declared.losses.Losses.{Losses}
-use Rattle.lsp_survey.specs.declared.offence_count.OffenceCount.{OffenceCount}
-use Rattle.lsp_types.specs.declared.side.Side.TheVariants.{Editor, Server}
 use Rattle.lsp_verdict.specs.Given.{verdict_view}
 use Rattle.lsp_verdict.specs.Heard.{Heard, Rests, heard_events, notes_of}
-use Rattle.lsp_verdict.specs.Offences.{Offence, kept_of, offences}
+use Rattle.lsp_verdict.specs.Offences.{Offence, offences}
 use Rattle.lsp_verdict.specs.Outcome.{ending}
-use Rattle.lsp_verdict.specs.Survey.{by_itself, ends_listed, first_ends, first_verdict}
-use Rattle.lsp_verdict.specs.Survey.{lacks_listed, rests_listed}
+use Rattle.lsp_verdict.specs.Survey.{by_itself, ends_listed, first_verdict}
 use Rattle.lsp_verdict.specs.Verdict.{Verdict, bad_log_of, no_by, summary}
 use Rattle.lsp_verdict.specs.declared.completeness.Completeness.{Completeness}
 use Rattle.lsp_verdict.specs.declared.outcome.Outcome.{Outcome}
@@ -34,8 +23,6 @@ use Rattle.lsp_explain.specs.AllExplained.{all_closing, cause_lines, is_cause}
 use Rattle.lsp_explain.specs.Explained.{Breach, Explained, Explains, breach, breach_at}
 use Rattle.lsp_explain.specs.Explained.{end_explained, explanation}
 use Rattle.lsp_explain.specs.Remarks.{noticed, remark_lines, remarks_of}
-use Rattle.lsp_explain.specs.Trails.{IsTrail}
-use Rattle.lsp_explain.specs.declared.trail.Trail.{Trail}
 
 -- ---- an event that offends
 
@@ -146,44 +133,3 @@ all_run completeness = record {
       × IsJudged (all_verdict terms heard tail.fault (ends_of completeness terms heard tail))
       outcome;
 }
-
--- ---- the accounts
-
--- **the account of `explain --all` stands for these events**
-pub record AllStands (losses : Losses) (tally : OffenceCount) (trail : Trail) (terms : Terms)
-    (heard : List Heard) : Type 0 where
-  pub lost : AreLosses terms losses (notes_of heard)
-  pub tallied : IsTally tally (offences terms (notes_of heard))
-  pub noted : IsTrail terms trail (heard_events heard)
-
--- it is said by these lines what the event is that offends by this rule, whatever rests the log has
--- that fit
-pub record TellsOf (lines : Explained → List ℕ) (terms : Terms) (before : List Heard) (h : Heard)
-    (rule : ℕ) (Fits : Rests → Type 0) (old new : List ℕ) : Type 0 where
-  pub e : Explained
-  pub no_is : e.no ≡ no_by (heard_events before) h.note.event rule
-  pub explains : (rests : Rests) → Fits rests → Explains rests terms (breach before h rule) e
-  pub added : new ≡ old ++ lines e
-
--- where the event is a cause, that is said
-pub record TellsCause (terms : Terms) (before : List Heard) (h : Heard) (Fits : Rests → Type 0)
-    (old new : List ℕ) : Type 0 where
-  pub said : List Explained
-  pub explains : (rests : Rests) → Fits rests
-      → AllZip (Explains rests terms) (cause_at terms before h) said
-  pub added : new ≡ old ++ flat_map cause_lines said
-
--- the bytes of both sides after their last whole frames, as the reader of the log holds them
-abbrev pub rests_held : LogEvents → Rests
-rests_held e = record { editor = e.streams.editor.rest; server = e.streams.server.rest }
-
--- the facts on its fault
-abbrev pub flaw_held : LogEvents → End → List Fact
-flaw_held e end = flaw_at e.log.place (shown_by e.log) (flaw_of end)
-
--- how the session ends
-abbrev pub ends_told : Completeness → Terms → List Heard → LogEvents → End → List Verdict
-ends_told completeness terms heard e end =
-    first_ends (flaw_of end) (rests_listed (heard_events heard)
-    (ends_inside (decoder_of Editor e.streams)) (ends_inside (decoder_of Server e.streams)))
-    (lacks_listed completeness (heard_events heard) (kept_of terms (heard_events heard)))

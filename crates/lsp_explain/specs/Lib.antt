@@ -9,4 +9,5 @@ pub mod Remarks
 pub mod Explained
 pub mod ExplainLaws
 pub mod ExplainRuns
+pub mod Accounts
 pub mod AllExplained

@@ -14,11 +14,11 @@ ghost use Rattle.lsp_verdict.specs.Lent.{raw_view};
 ghost use Rattle.lsp_verdict.specs.Offences.{kept_of, rule_at};
 ghost use Rattle.lsp_verdict.specs.Placed.{Reads};
 ghost use Rattle.lsp_verdict.specs.Report.{report};
-ghost use Rattle.lsp_verdict.specs.Verdict.{bad_log_of, no};
+ghost use Rattle.lsp_verdict.specs.Verdict.{bad_log_of, no, no_by};
 ghost use Rattle.lsp_verdict.specs.declared.verdict.Who.{Who};
 ghost use Rattle.lsp_explain.specs.AllExplained.{cause_lines};
 ghost use Rattle.lsp_explain.specs.Explained.{end_explained, end_facts, flaw_lines, place_in};
-ghost use Rattle.lsp_explain.specs.ExplainRuns.{TellsOf, flaw_held, rests_held};
+ghost use Rattle.lsp_explain.specs.Accounts.{TellsOf, flaw_held, rests_held};
 ghost use Rattle.lsp_explain.specs.Standing.{StandsAfter, terms_in};
 ghost use Rattle.lsp_explain.specs.Traced.{AreTraced};
 ghost use Rattle.lsp_explain.specs.Trails.{IsTrail};
@@ -55,7 +55,8 @@ pub(crate) fn push_offence(
         → IsTrail terms past.entry.trail.now (heard_events before)
         → IsSeen past.entry.held.now.session past.entry.held.now.docs past.entry.held.now.counts
         (variants.Offence raw.entry offence.now.rule spoken.entry) terms before h
-        → place_in offence.now ≡ place_of (heard_events before) h.note.event
+        → (offence_view offence.now).no
+        ≡ no_by (heard_events before) h.note.event offence.now.rule
         → TellsOf cause_lines terms before h offence.now.rule (ShowsFault raw.entry)
         (string_bytes text.old) (string_bytes text.new)) }
 {

@@ -1,31 +1,27 @@
 //! Explains all that is wrong with a log.
-ghost use Rattle.std.specs.Prelude.{◌≡◌, ◌++◌, ◌∷◌, ◌<◌, ◌^◌, [], List, OnOk, IfOk, length, map};
-ghost use Rattle.std.specs.Prelude.{string_bytes};
+ghost use Rattle.std.specs.Prelude.{◌≡◌, ◌++◌, [], List, OnOk, map, string_bytes};
 ghost use Rattle.std.specs.List.{flat_map};
 ghost use Rattle.lsp_docs.specs.Terms.{Terms};
-ghost use Rattle.lsp_replay.specs.LogEvents.{flaw_of};
-ghost use Rattle.lsp_replay.specs.Telling.{FitsRests, IsSeen, ShowsFault, Stood};
-ghost use Rattle.lsp_replay.specs.declared.seen.Seen.TheVariants as variants;
-ghost use Rattle.lsp_survey.specs.Lost.{AreLosses};
+ghost use Rattle.lsp_replay.specs.Telling.{Stood};
 ghost use Rattle.lsp_survey.specs.Reported.{IsTally};
-ghost use Rattle.lsp_verdict.specs.Given.{offence_view, verdict_view};
-ghost use Rattle.lsp_verdict.specs.Heard.{Heard, heard_events, notes_of};
-ghost use Rattle.lsp_verdict.specs.Offences.{Offence as SpecOffence, offence_by, offences};
+ghost use Rattle.lsp_verdict.specs.Given.{offence_view};
+ghost use Rattle.lsp_verdict.specs.Heard.{Heard, heard_events};
+ghost use Rattle.lsp_verdict.specs.Offences.{Offence as SpecOffence};
 ghost use Rattle.lsp_verdict.specs.Ports.{ports};
 ghost use Rattle.lsp_verdict.specs.declared.completeness.Completeness.{Completeness};
+ghost use Rattle.lsp_explain.specs.Accounts.{AllStands, rests_held};
 ghost use Rattle.lsp_explain.specs.AllExplained.{ExplainsAll, cause_lines};
-ghost use Rattle.lsp_explain.specs.ExplainRuns.{AllStands, TellsCause, all_end, all_run, all_verdict};
-ghost use Rattle.lsp_explain.specs.ExplainRuns.{ends_said, ends_told, flaw_held, rests_held};
+ghost use Rattle.lsp_explain.specs.ExplainRuns.{all_run, ends_said};
 ghost use Rattle.lsp_explain.specs.Trails.{IsTrail};
 
 use crate::offence_facts::{push_end, push_flaw, push_offence};
 use crate::trail::{Past, Trail};
 use lsp_frame::{Limits, Sink, Source};
-use lsp_replay::{Account, End, EventPlace, Events, Flow, LogEvents, Seen, pass};
-use lsp_rpc::{Memory, Spoken};
-use lsp_survey::{Losses, OffenceCount, SessionEnd, offence_at, session_end};
+use lsp_replay::{Account, End, Events, Flow, LogEvents, Seen, pass};
+use lsp_rpc::Memory;
+use lsp_survey::{Losses, OffenceCount, SessionEnd, last_offence, session_end};
 use lsp_text::Lined;
-use lsp_verdict::{Completeness, Offence, Outcome, Raw, RunFault, Verdict};
+use lsp_verdict::{Completeness, Offence, Outcome, RunFault};
 use std::alloc::Global;
 
 /// Reads a log to its end, and explains each offence in it that follows from no earlier one: the
@@ -69,7 +65,7 @@ impl AllCauses {
     /// An account that was told of nothing.
     fn new(alloc: Global, completeness: Completeness) -> AllCauses
         ensures completeness { result.completeness ≡ completeness }
-        ensures stands { (terms : Terms) → AllStands result.losses result.tally result.trail terms [] }
+        ensures stands { (terms : Terms) → AllStands result terms [] }
     {
         AllCauses {
             completeness,
@@ -77,88 +73,6 @@ impl AllCauses {
             tally: OffenceCount::new(),
             trail: Trail::new(alloc),
         }
-    }
-
-    /// Says what there is to say of an event.
-    fn tell(
-        &mut self,
-        alloc: Global,
-        held: &Events<Lined>,
-        seen: Seen<'_>,
-        text: &mut String,
-    ) -> Result<(), Memory>
-        ensures completeness { self.new.completeness ≡ self.old.completeness }
-        ensures said { OnOk result ((terms : Terms) (before : List Heard) (h : Heard)
-            → AllStands self.old.losses self.old.tally self.old.trail terms before
-            → IsSeen held.now.session held.now.docs held.now.counts seen.entry terms before h
-            → AllStands self.new.losses self.new.tally self.new.trail terms (before ++ h ∷ [])
-            × TellsCause terms before h (FitsRests seen.entry) (string_bytes text.old)
-            (string_bytes text.new)) }
-    {
-        let follows = self.losses.tell(alloc, held, seen)?;
-        let Seen::Offence { raw, rule, spoken } = seen else {
-            return self.trail.keep(held, seen);
-        };
-        let place = EventPlace::last(&held.counts, raw.who());
-        let offence = offence_at(place, rule, follows);
-        self.tally.add(&offence);
-        self.explain(alloc, held, &offence, raw, spoken, text)
-    }
-
-    /// Explains an event that offends, where it follows from no earlier one.
-    fn explain(
-        &self,
-        alloc: Global,
-        held: &Events<Lined>,
-        offence: &Offence,
-        raw: Raw<'_>,
-        spoken: Option<&Spoken>,
-        text: &mut String,
-    ) -> Result<(), Memory>
-        ensures { OnOk result ((terms : Terms) (before : List Heard) (h : Heard)
-            → IsTrail terms self.now.trail (heard_events before)
-            → IsSeen held.now.session held.now.docs held.now.counts
-            (variants.Offence raw.entry offence.now.rule spoken.entry) terms before h
-            → offence_view offence.now
-            ≡ offence_by terms (notes_of before) h.note offence.now.rule
-            → TellsCause terms before h (ShowsFault raw.entry) (string_bytes text.old)
-            (string_bytes text.new)) }
-    {
-        if offence.follows {
-            return Ok(());
-        }
-        let past = Past {
-            held,
-            trail: &self.trail,
-        };
-        push_offence(alloc, text, past, offence, raw, spoken)
-    }
-
-    /// Explains how a log ends, and gives its verdict.
-    fn finish(
-        &mut self,
-        alloc: Global,
-        held: &Events<Lined>,
-        log: &LogEvents,
-        end: End,
-        text: &mut String,
-    ) -> Result<Verdict, Memory>
-        ensures { IfOk result (λ verdict. (terms : Terms) (heard : List Heard)
-            → AllStands self.old.losses self.old.tally self.old.trail terms heard
-            → Stood terms held.now.session held.now.docs held.now.counts heard
-            → length heard < 2 ^ 63
-            → (string_bytes text.new ≡ string_bytes text.old
-            ++ all_end terms heard (rests_held log.now) (flaw_of end) (flaw_held log.now end)
-            (ends_told self.old.completeness terms heard log.now end))
-            × (verdict_view verdict ≡ all_verdict terms heard (flaw_of end)
-            (ends_told self.old.completeness terms heard log.now end))) }
-    {
-        let SessionEnd { listed, bad } = session_end(alloc, held, log, end, self.completeness)?;
-        self.explain_ends(alloc, held, log, listed.as_slice(), text)?;
-        let verdict = self.tally.push_verdict(alloc, held, bad, text)?;
-        push_flaw(alloc, text, log, end)?;
-        self.tally.push_count(alloc, text)?;
-        Ok(verdict)
     }
 
     /// Explains and counts what is listed of the end of a session.
@@ -170,6 +84,8 @@ impl AllCauses {
         listed: &[Offence],
         text: &mut String,
     ) -> Result<(), Memory>
+        ensures completeness { self.new.completeness ≡ self.old.completeness }
+        ensures losses { self.new.losses ≡ self.old.losses }
         ensures trail { self.new.trail ≡ self.old.trail }
         ensures tally { OnOk result ((found : List SpecOffence) → IsTally self.old.tally found
             → IsTally self.new.tally (found ++ map offence_view listed.now)) }
@@ -199,8 +115,7 @@ impl Account for AllCauses {
 
     ghost run = { all_run };
 
-    ghost stands = { λ account terms heard.
-        AllStands account.losses account.tally account.trail terms heard };
+    ghost stands = { AllStands };
 
     fn event(
         &mut self,
@@ -209,7 +124,20 @@ impl Account for AllCauses {
         seen: Seen<'_>,
         text: &mut String,
     ) -> Result<Flow, Memory> {
-        self.tell(alloc, held, seen, text)?;
+        let follows = self.losses.tell(alloc, held, seen)?;
+        let Seen::Offence { raw, rule, spoken } = seen else {
+            self.trail.keep(held, seen)?;
+            return Ok(Flow::GoOn);
+        };
+        let offence = last_offence(&held.counts, raw.who(), rule, follows);
+        self.tally.add(&offence);
+        if !follows {
+            let past = Past {
+                held,
+                trail: &self.trail,
+            };
+            push_offence(alloc, text, past, &offence, raw, spoken)?;
+        }
         Ok(Flow::GoOn)
     }
 
@@ -221,7 +149,11 @@ impl Account for AllCauses {
         end: End,
         text: &mut String,
     ) -> Result<Outcome, Memory> {
-        let verdict = self.finish(alloc, held, log, end, text)?;
+        let SessionEnd { listed, bad } = session_end(alloc, held, log, end, self.completeness)?;
+        self.explain_ends(alloc, held, log, listed.as_slice(), text)?;
+        let verdict = self.tally.push_verdict(alloc, held, bad, text)?;
+        push_flaw(alloc, text, log, end)?;
+        self.tally.push_count(alloc, text)?;
         Ok(Outcome::Judged(verdict))
     }
 }

@@ -34,7 +34,7 @@ pub struct Marks {
 
 impl Marks {
     /// Nothing is marked.
-    pub(crate) fn new(alloc: Global) -> Marks
+    pub fn new(alloc: Global) -> Marks
         ensures { (terms : Terms) → AreMarks terms result.map.entries [] }
     {
         Marks {
@@ -87,7 +87,7 @@ impl Marks {
     ///
     /// # Errors
     /// `Memory` where memory was refused; nothing is then known of the marks.
-    pub(crate) fn keep_act(&mut self, place: EventPlace, act: &Act) -> Result<(), Memory>
+    pub fn keep_act(&mut self, place: EventPlace, act: &Act) -> Result<(), Memory>
         ensures { OnOk result ((enc : Encoding) (kind : SyncKind)
             → DoneBy place (call_of enc kind
             (act_view act.now)) self.old.map.entries self.new.map.entries) }
@@ -111,7 +111,7 @@ impl Marks {
     ///
     /// # Errors
     /// `Memory` where memory was refused; nothing is then known of the marks.
-    pub(crate) fn keep_snapshot(
+    pub fn keep_snapshot(
         &mut self,
         place: EventPlace,
         uri: &str,

@@ -58,7 +58,7 @@ pub struct Openings {
 
 impl Openings {
     /// Nothing was opened.
-    pub(crate) fn new(alloc: Global) -> Openings
+    pub fn new(alloc: Global) -> Openings
         ensures { (terms : Terms) → AreOpenings terms result [] }
     {
         Openings {
@@ -101,7 +101,7 @@ impl Openings {
     ///
     /// # Errors
     /// `Memory` where memory was refused; nothing is then known of what is held.
-    pub(crate) fn keep_act(&mut self, place: EventPlace, act: &Act) -> Result<(), Memory>
+    pub fn keep_act(&mut self, place: EventPlace, act: &Act) -> Result<(), Memory>
         ensures { OnOk result ((enc : Encoding) (kind : SyncKind)
             → OpensBy place (call_of enc kind (act_view act.now)) self.old self.new) }
     {
@@ -117,7 +117,7 @@ impl Openings {
     ///
     /// # Errors
     /// `Memory` where memory was refused; nothing is then known of what is held.
-    pub(crate) fn keep_snapshot(&mut self, uri: &str) -> Result<(), Memory>
+    pub fn keep_snapshot(&mut self, uri: &str) -> Result<(), Memory>
         ensures { OnOk result (OpeningsShown uri.now self.old self.new) }
     {
         self.touched.keep_snapshot(uri)

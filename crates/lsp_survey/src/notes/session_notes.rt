@@ -37,7 +37,7 @@ pub struct SessionNotes {
 
 impl SessionNotes {
     /// Nothing was said.
-    pub(crate) fn new(alloc: Global) -> SessionNotes
+    pub fn new(alloc: Global) -> SessionNotes
         ensures { (terms : Terms) → AreNotes terms result [] }
     {
         SessionNotes {
@@ -120,7 +120,7 @@ impl SessionNotes {
     ///
     /// # Errors
     /// `Memory` where memory was refused; nothing is then known of the requests.
-    pub(crate) fn keep(
+    pub fn keep(
         &mut self,
         place: EventPlace,
         side: Side,
