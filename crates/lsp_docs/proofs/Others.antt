@@ -1,4 +1,5 @@
--- Versions that have another text than a given one, as they are looked for.
+-- Versions of a given number, as they are looked for, and texts that are the same.
+use Rattle.std.specs.Prelude.{ℤ}
 use Rattle.std.proofs.Common.{◌≡◌, ◌↔◌, ℕ, Bool, true, false, List, [], ◌∷◌, map}
 use Rattle.std.proofs.Common.{Option, Some, None, refl, sym, ap, ◌∙◌}
 use Rattle.std.proofs.Common.{inl, inr, true≢false}
@@ -11,8 +12,8 @@ use Rattle.std.proofs.lemmas.Slice.Eq.{bytes_eq-Decides}
 use Rattle.lsp_text.proofs.Counting.{chars_same}
 use Rattle.lsp_types.specs.declared.line_ends.LineEnds.{LineEnds}
 use Rattle.lsp_docs.specs.Texts.{Text}
-use Rattle.lsp_docs.specs.Documents.{Version}
-use Rattle.lsp_docs.specs.Others.{differs_from, other_in, other_than}
+use Rattle.lsp_docs.specs.Documents.{Version, is_at}
+use Rattle.lsp_docs.specs.Others.{text_at, text_in}
 use Rattle.lsp_text.specs.SameText.{SameText, compared, same_text}
 
 -- a test on the parts of a list
@@ -48,24 +49,22 @@ map-seen g f (x ∷ xs) = ap (λ l. g (f x) ∷ l) (map-seen g f xs)
 
 -- ---- among what is kept, and then what is held
 
-pub found-first : (ends : LineEnds) (s : Version) (ks : List Version) (v : Version) (t : Text)
-    → other_in ends s ks ≡ Some t → other_than ends s ks (Some v) ≡ Some t
-found-first ends s ks v t h =
-    let test = differs_from ends s in
-    ap (option_map (λ (w : Version). w.text)) (find-append test ks (v ∷ []))
-    ∙ first_of (find test ks) (find test (v ∷ [])) t h
+pub at-first : (number : ℤ) (ks : List Version) (v : Version) (t : Text)
+    → text_in number ks ≡ Some t → text_at number ks (Some v) ≡ Some t
+at-first number ks v t h =
+    ap (option_map (λ (w : Version). w.text)) (find-append (is_at number) ks (v ∷ []))
+    ∙ first_of (find (is_at number) ks) (find (is_at number) (v ∷ [])) t h
   where
     first_of : (o p : Option Version) (t : Text) → option_map (λ (w : Version). w.text) o ≡ Some t
         → option_map (λ (w : Version). w.text) (option_or o p) ≡ Some t
     first_of None p t h = absurd (cc)
     first_of (Some w) p t h = h
 
-pub found-behind : (ends : LineEnds) (s : Version) (ks : List Version) (v : Version)
-    → other_in ends s ks ≡ None → other_than ends s ks (Some v) ≡ other_in ends s (v ∷ [])
-found-behind ends s ks v h =
-    let test = differs_from ends s in
-    ap (option_map (λ (w : Version). w.text)) (find-append test ks (v ∷ []))
-    ∙ behind (find test ks) (find test (v ∷ [])) h
+pub at-behind : (number : ℤ) (ks : List Version) (v : Version) → text_in number ks ≡ None
+    → text_at number ks (Some v) ≡ text_in number (v ∷ [])
+at-behind number ks v h =
+    ap (option_map (λ (w : Version). w.text)) (find-append (is_at number) ks (v ∷ []))
+    ∙ behind (find (is_at number) ks) (find (is_at number) (v ∷ [])) h
   where
     behind : (o p : Option Version) → option_map (λ (w : Version). w.text) o ≡ None
         → option_map (λ (w : Version). w.text) (option_or o p)
