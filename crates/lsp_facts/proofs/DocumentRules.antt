@@ -129,6 +129,23 @@ show_breaks ends number t ks (Some v) rule e =
           )
     ]
 
+-- the one of its number
+pub shown_other : (d : docs.State) (calls : List Call) → docs.Stands d calls → (uri : List ℕ)
+    (number : ℤ) (t : Text) (rule : ℕ) → (rule ≡ 701 → ⊥)
+    → call_rule d.terms calls (shows uri number t) ≡ Some rule → (o : Option Text)
+    → o ≡ text_at number (kept d.terms uri calls) (held d.terms uri calls)
+    → o ≡ other_than d.terms.line_ends (versioned number t) (kept d.terms uri calls)
+    (held d.terms uri calls)
+shown_other d calls stands uri number t rule no701 e o is =
+    let ends = d.terms.line_ends in
+    let ks = kept d.terms uri calls in
+    let h = held d.terms uri calls in
+    elim (show_breaks ends number t ks h rule e) [
+      | inl late ↦ absurd (no701 late)
+      | inr found ↦ is ∙ held-at d.terms uri calls ends number t found.1 stands.accepted found.2
+          ∙ sym found.2
+    ]
+
 pub show_explained : (ends : LineEnds) (enc : Encoding) (number : ℤ) (t : Text) (ks : List Version)
     (h : Option Version) (rule : ℕ) (u : Text) (facts : List Fact) → (rule ≡ 701 → ⊥)
     → show_rule ends number t ks h ≡ Some rule
