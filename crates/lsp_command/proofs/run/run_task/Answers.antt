@@ -87,24 +87,24 @@ returns-in-ShowAll g c =
 
 pub returns-in-Text : goal.returns-in-Text
 returns-in-Text g c =
-    let is = c.run_text.ensures.text in
-    rw (c.in-Text.is, ← c.get.ensures.value) (record {
+    let is = rw c.get.ensures.value at c.run_text.ensures.text in
+    rw c.in-Text.is (record {
       ran = run_ended _ _ _ _ _ c.of_run-in-Text.ensures is.counts
           (c.run_text.result, c.of_run-in-Text.ensures, is);
     })
 
 pub returns-in-TextAll : goal.returns-in-TextAll
 returns-in-TextAll g c =
-    let is = c.run_text_all.ensures.text in
-    rw (c.in-TextAll.is, ← c.get-in-TextAll.ensures.value) (record {
+    let is = rw c.get-in-TextAll.ensures.value at c.run_text_all.ensures.text in
+    rw c.in-TextAll.is (record {
       ran = run_ended _ _ _ _ _ c.of_run-in-TextAll.ensures is.counts
           (c.run_text_all.result, c.of_run-in-TextAll.ensures, is);
     })
 
 pub returns-in-Event : goal.returns-in-Event
 returns-in-Event g c =
-    let is = c.run_event.ensures.gives in
-    rw (c.in-Event.is, ← c.get-in-Event.ensures.value) (record {
+    let is = rw c.get-in-Event.ensures.value at c.run_event.ensures.gives in
+    rw c.in-Event.is (record {
       ran = event_ended _ _ _ _ _ c.of_event.ensures is.writes.counts
           (c.run_event.result, c.of_event.ensures, is);
     })
