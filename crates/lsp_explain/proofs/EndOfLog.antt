@@ -41,7 +41,8 @@ use Rattle.lsp_verdict.proofs.Offences.Offending.{no_frame_fault, nothing_listed
 use Rattle.lsp_verdict.proofs.RunReading.{read_map}
 use Rattle.lsp_explain.specs.Explained.{Heard, Breach, Explains, raws_of, notes_of, breaches}
 use Rattle.lsp_explain.specs.Explained.{Explained, before_first, end_explained, explanation}
-use Rattle.lsp_explain.specs.Explained.{flaw_lines, noticed_before, said_of, IsExplained}
+use Rattle.lsp_explain.specs.Explained.{AreExplained, first_breach, flaw_lines, noticed_before}
+use Rattle.lsp_explain.specs.Explained.{said_of}
 use Rattle.lsp_explain.specs.Explained.{IsExplanation}
 use Rattle.lsp_facts.specs.FlawFacts.{Rests, rest_of, flaw_facts, log_facts}
 use Rattle.lsp_explain.specs.Remarks.{Noticed, noticed, remark_lines, remarks_of}
@@ -99,7 +100,7 @@ module _ (e : SurveyReader) (completeness : Completeness) (limits : Bounds) (log
   rests = rests_held e
 
   abbrev IsWhole : Type 0
-  IsWhole = IsExplained completeness limits log found
+  IsWhole = AreExplained first_breach (take 1) completeness limits log found
       (take 1 (map (λ (o : Offence). end_explained rests said o.no) found)) bad (flaw_held e bad)
       (summary terms (events_of (notes_of hs)))
 

@@ -20,7 +20,7 @@ use Rattle.lsp_verdict.proofs.Below.{some_stream}
 use Rattle.lsp_explain.specs.Remarks.{Noticed, noticed}
 use Rattle.lsp_explain.specs.Explained.{Heard, Breach, Explained, Explains, raws_of, notes_of}
 use Rattle.lsp_explain.specs.Explained.{before_first, breach, breach_at, breaches, noticed_before}
-use Rattle.lsp_explain.specs.Explained.{IsExplained}
+use Rattle.lsp_explain.specs.Explained.{AreExplained, first_breach}
 use Rattle.lsp_facts.specs.Fact.{Fact}
 use Rattle.lsp_facts.specs.FlawFacts.{Rests, log_facts}
 use Rattle.lsp_explain.specs.Remarks.{Noticed, noticed}
@@ -35,7 +35,8 @@ pub record IsFirst (completeness : Completeness) (limits : Bounds) (log : List �
   pub bad : Option Verdict
   pub flaw : List Fact
   pub s : Summary
-  pub is : IsExplained completeness limits log (o ∷ found) (e ∷ []) bad flaw s
+  pub is : AreExplained first_breach (take 1) completeness limits log (o ∷ found) (e ∷ []) bad
+      flaw s
   pub noticed_is : noticed_before (log_terms limits is.format) is.heard ≡ on
 
 module _ (completeness : Completeness) (limits : Bounds) (log : List ℕ) (format : Option Format)

@@ -34,7 +34,7 @@ use Rattle.lsp_verdict.proofs.RunReading.{read_map}
 use Rattle.lsp_explain.specs.Explained.{Heard, Explains, raws_of, notes_of, breach, breaches}
 use Rattle.lsp_explain.specs.Explained.{said_of, IsExplanation}
 use Rattle.lsp_explain.specs.Remarks.{Noticed, noticed, remark_lines, remarks_of}
-use Rattle.lsp_explain.specs.RunSteps.{AddsNotes, Tells, TellsEnd, EndsWhole, IsFollowing}
+use Rattle.lsp_explain.specs.RunSteps.{AddsNotes, Tells, TellsEnd, EndsWhole}
 use Rattle.lsp_explain.specs.RunSteps.{IsExplainedBy}
 use Rattle.lsp_explain.specs.Standing.{StandsAfter, terms_in}
 use Rattle.lsp_explain.specs.declared.run.Explanation.{Explanation}
@@ -43,6 +43,13 @@ use Rattle.lsp_explain.proofs.Explaining.{offence_of, raws-append, notes-append,
 use Rattle.lsp_explain.proofs.FirstOffence.{IsFirst, first_explained}
 use Rattle.lsp_explain.proofs.Standing.{stands_before}
 use Rattle.lsp_verdict.specs.RunIo.{BreaksOff}
+
+-- some events of the log were heard, and these offences found
+pub record IsFollowing (completeness : Completeness) (limits : Bounds) (e : SurveyReader)
+    (start now : Told) (found : List Offence) : Type 0 where
+  pub hs : List Heard
+  pub so_far : SoFar limits e start now (raws_of hs) (notes_of hs) found
+  pub wanted : e.completeness ≡ completeness
 
 nothing_before : {A : Type 0} (xs : List A) (y z : A) (ys : List A) → ys ≡ y ∷ []
     → xs ++ ys ≡ z ∷ [] → xs ≡ []

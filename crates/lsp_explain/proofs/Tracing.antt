@@ -1,6 +1,6 @@
 -- The facts on a message that was heard, with the events that brought it, are those on the message.
 use Rattle.std.specs.Prelude.{nat_lt, map, ◌==◌, codes, if◌then◌else◌, option_map, unwrap_or}
-use Rattle.std.proofs.Common.{◌≡◌, ◌<◌, ℕ, Bool, true, false, List, [], ◌++◌, Option, sym, ap}
+use Rattle.std.proofs.Common.{◌≡◌, ◌<◌, ◌≤◌, ℕ, Bool, true, false, List, [], ◌++◌, Option, sym, ap}
 use Rattle.std.proofs.Common.{◌∙◌, arith}
 use Rattle.std.proofs.lemmas.Bool.Decides.{nat_tests}
 use Rattle.lsp_docs.specs.Calls.{uri_of}
@@ -29,38 +29,33 @@ use Rattle.lsp_explain.specs.Traced.{session_trace, setter_at, setter_of, traced
 use Rattle.lsp_explain.specs.declared.suspects.Until.{Until}
 use Rattle.lsp_facts.proofs.Spoken.{id_in-outline}
 
-module _ (terms : Terms) (before : List Event) (place : EventPlace) (rule : ℕ) where
-  -- what is added, where the rule is one on messages or not
-  abbrev added : Bool → Side → Message → Act → List Fact
-  added b side said act = if b then session_trace rule (numbered terms before) side (id_in said)
-      else message_traced terms before place rule (act_call terms before act)
+module _ (terms : Terms) (before : List Event) (place : EventPlace) (rule : ℕ) (m : Sent)
+    (side : Side) (said : Message) (act : Act) (by : m.side ≡ side)
+    (same : outline m.message ≡ outline said) (means : m.act ≡ act)
+    (is : place ≡ place_of before (message m)) where
+  -- what is traced, where the rule is one on messages or not
+  abbrev of : Bool → List Fact
+  of b = if b then session_trace rule (numbered terms before) m.side (id_in m.message)
+      else message_traced terms before (place_of before (message m)) rule
+      (act_call terms before m.act)
 
   -- below 601 the rule is one on messages
-  pub added_to_messages : (side : Side) (said : Message) (act : Act) → rule < 601
-      → added (nat_lt rule 601) side said act
-      ≡ session_trace rule (numbered terms before) side (id_in said)
-  added_to_messages side said act less =
-      let below : nat_lt rule 601 ≡ true =
-      grind (arith, nat_tests) in ap (λ (b : Bool). added b side said act) below
+  pub session_traced : rule < 601
+      → session_trace rule (numbered terms before) side (id_in said)
+      ≡ traced terms before (message m) rule
+  session_traced less =
+      let below : nat_lt rule 601 ≡ true = grind (arith, nat_tests) in
+      let ids : id_in said ≡ id_in m.message =
+      id_in-outline said ∙ sym (ap id_in same) ∙ sym (id_in-outline m.message) in
+      (λ i. session_trace rule (numbered terms before) (sym by i) (ids i)) ∙ sym (ap of below)
 
-  pub same_traced : (m : Sent) (side : Side) (said : Message) (act : Act) → m.side ≡ side
-      → outline m.message ≡ outline said → m.act ≡ act → place ≡ place_of before (message m)
-      → added (nat_lt rule 601) side said act ≡ traced terms before (message m) rule
-  same_traced m side said act by same means is = by_test (nat_lt rule 601)
-    where
-      ids : id_in said ≡ id_in m.message
-      ids = id_in-outline said ∙ sym (ap id_in same) ∙ sym (id_in-outline m.message)
-
-      at : EventPlace → Bool → Side → Message → Act → List Fact
-      at p b side said act =
-          if b then session_trace rule (numbered terms before) side (id_in said)
-          else message_traced terms before p rule (act_call terms before act)
-
-      by_test : (b : Bool) → added b side said act
-          ≡ at (place_of before (message m)) b m.side m.message m.act
-      by_test true = λ i. session_trace rule (numbered terms before) (sym by i) (ids i)
-      by_test false = λ i. message_traced terms before (is i) rule
-          (act_call terms before (sym means i))
+  pub documents_traced : 601 ≤ rule
+      → message_traced terms before place rule (act_call terms before act)
+      ≡ traced terms before (message m) rule
+  documents_traced more =
+      let above : nat_lt rule 601 ≡ false = grind (arith, nat_tests) in
+      (λ i. message_traced terms before (is i) rule (act_call terms before (sym means i)))
+      ∙ sym (ap of above)
 
 -- the URI in an act is that of the document of which the message speaks
 pub same_setter : (terms : Terms) (before : List Event) (m : Sent) (act : Act)

@@ -201,11 +201,6 @@ pub record IsWritten (pick : Terms → List Heard → List Breach)
 abbrev pub first_breach : Terms → List Heard → List Breach
 first_breach terms heard = take 1 (breaches terms heard)
 
--- **what is explained of it**: the first that its survey lists
-abbrev pub IsExplained : Completeness → Bounds → List ℕ → List Offence → List Explained
-    → Option Verdict → List Fact → Summary → Type 0
-IsExplained = AreExplained first_breach (take 1)
-
 -- **the verdict on a log, and what explains it**, with the notes: the first that its survey lists,
 -- else its fault, else Yes
 abbrev pub IsExplanation : Completeness → Bounds → List ℕ → Verdict → List ℕ → Type 0

@@ -135,13 +135,6 @@ TellsEnd completeness limits start now x =
     (string_bytes x.text))
     × ((s : code.Summary) → x.verdict ≡ verdicts.Yes s → IsAtEnd now.bytes)
 
--- some events of the log were heard, and these offences found
-pub record IsFollowing (completeness : Completeness) (limits : Bounds) (e : SurveyReader)
-    (start now : Told) (found : List Offence) : Type 0 where
-  pub hs : List Heard
-  pub so_far : SoFar limits e start now (raws_of hs) (notes_of hs) found
-  pub wanted : e.completeness ≡ completeness
-
 -- the log read is explained
 pub record IsExplainedBy (completeness : Completeness) (limits : Bounds) (start now : Told)
     (x : Explanation) : Type 0 where

@@ -57,10 +57,6 @@ abbrev pub setter_at : Terms → List Event → Event → Option EventPlace
 setter_at terms before event =
     setter_of terms before (option_map uri_of (said_at terms before event))
 
-abbrev pub equal_facts : Option Shown → List Fact
-equal_facts None = []
-equal_facts (Some shown) = version_by (codes "equal") shown.version shown.place ∷ []
-
 -- the snapshots that differ from the text of a call after these, by their places: of those that
 -- wait for its version the ones with another text, or it is one itself, of this place
 abbrev pub differing : Terms → List Call → List Step → EventPlace → Call → List EventPlace
@@ -74,7 +70,9 @@ differing terms before done p (shows uri number text) = p ∷ []
 
 -- the snapshot that was found equal, and the messages that can have made the texts differ
 abbrev pub apart_facts : Option Shown → Until → List Setter → List Fact
-apart_facts equal until done = equal_facts equal ++ suspect_facts equal until done
+apart_facts equal until done = option_to_list
+    (option_map (λ (s : Shown). version_by (codes "equal") s.version s.place) equal)
+    ++ suspect_facts equal until done
 
 -- 702: these snapshots; and with 608 this
 abbrev pub texts_traced : List EventPlace → List Fact → ℕ → List Fact
@@ -107,14 +105,11 @@ message_traced terms before p rule said =
 
 -- ---- messages
 
--- the side's open request with this id, and the event that asked it
-abbrev pub open_facts : Side → List Numbered → Ident → List Fact
-open_facts side said id = option_to_list (option_map
-    (λ p. line (codes "open" ∷ id_text id ∷ place_words p)) (asked side id said))
-
--- the same, where there is an id
+-- the side's open request with this id, and the event that asked it, where there is an id
 abbrev pub twin_facts : Side → List Numbered → Option Ident → List Fact
-twin_facts side said id = unwrap_or (option_map (open_facts side said) id) []
+twin_facts side said None = []
+twin_facts side said (Some own) = option_to_list (option_map
+    (λ p. line (codes "open" ∷ id_text own ∷ place_words p)) (asked side own said))
 
 -- 301: the open request whose id differs in its type alone; 302: the event that asked the one that
 -- is open; both: the event that answered a request of this id before

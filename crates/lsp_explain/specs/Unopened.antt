@@ -34,10 +34,6 @@ abbrev pub is_spelled : ℕ → List ℕ → List ℕ → Bool
 is_spelled size spelling other =
     not (is_long size (length other)) && bytes_eq spelling (folded other)
 
--- the other is at most three times as long, and differs in its spelling alone
-abbrev pub is_similar : List ℕ → List ℕ → Bool
-is_similar uri other = is_spelled (length uri) (folded uri) other
-
 -- ---- the documents that are open
 
 abbrev pub is_at : EventPlace → Option EventPlace → Bool

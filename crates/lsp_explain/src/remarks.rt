@@ -2,13 +2,13 @@
 ghost use Rattle.std.specs.Prelude.{◌≡◌, ◌++◌, ◌∷◌, [], List, OnOk, IfOk, map, option_map, codes};
 ghost use Rattle.std.specs.Prelude.{option_to_list, string_bytes};
 ghost use Rattle.json.specs.Print.{quoted};
-ghost use Rattle.lsp_survey.specs.Misuses.{misused_view, misused_views};
+ghost use Rattle.lsp_survey.specs.Misuses.{misused_views};
 ghost use Rattle.lsp_survey.specs.Renames.{renamed_view};
 ghost use Rattle.lsp_survey.specs.Touched.{names_view};
 ghost use Rattle.lsp_verdict.specs.Event.{Event};
 ghost use Rattle.lsp_verdict.specs.Given.{verdict_view};
 ghost use Rattle.lsp_explain.specs.Remarks as spec;
-ghost use Rattle.lsp_explain.specs.Remarks.{count_line, exit_remarks, misuse_line, name_remarks};
+ghost use Rattle.lsp_explain.specs.Remarks.{exit_remarks, misuse_line, name_remarks};
 ghost use Rattle.lsp_explain.specs.Remarks.{noticed, old_name_remarks, remark_lines, remarks_of};
 ghost use Rattle.lsp_explain.specs.Remarks.{uncompared, unshown_line};
 ghost use Rattle.lsp_explain.specs.Standing.{StandsAfter, terms_in};
@@ -51,13 +51,17 @@ pub(crate) fn push_remarks(
     push_counted(lines, &remarks)
 }
 
-/// Adds the lines of notes, and how many they are.
+/// Adds the lines of notes, and how many they are, if there are any.
 fn push_counted(lines: &mut String, remarks: &Facts) -> Result<(), Memory>
     ensures { OnOk result (string_bytes lines.new
         ≡ string_bytes lines.old ++ remark_lines remarks.now) }
 {
     push_facts(lines, remarks)?;
-    push_count(lines, remarks.len())
+    let count = remarks.len();
+    if count > 0 {
+        writeln!(lines, "notes {count}")?;
+    }
+    Ok(())
 }
 
 /// The notes of all kinds.
@@ -91,17 +95,10 @@ fn push_misuses(remarks: &mut Facts, misuses: &[Misused]) -> Result<(), Memory>
         ≡ remarks.old ++ map misuse_line (misused_views misuses.now)) }
 {
     for misused in misuses {
-        push_misuse(remarks, misused)?;
+        let key = misuse_key(misused.misuse);
+        remarks.text_by(key, misused.method.as_str(), misused.place)?;
     }
     Ok(())
-}
-
-fn push_misuse(remarks: &mut Facts, misused: &Misused) -> Result<(), Memory>
-    ensures { OnOk result (remarks.new
-        ≡ remarks.old ++ misuse_line (misused_view misused.now) ∷ []) }
-{
-    let key = misuse_key(misused.misuse);
-    remarks.text_by(key, misused.method.as_str(), misused.place)
 }
 
 fn misuse_key(misuse: Misuse) -> &'static str
@@ -161,17 +158,6 @@ fn push_unshown(remarks: &mut Facts, unshown: &[String]) -> Result<(), Memory>
     for uri in unshown {
         remarks.text("note no-snapshot", uri.as_str())?;
     }
-    Ok(())
-}
-
-/// Adds how many notes there are, if there are any.
-fn push_count(lines: &mut String, count: usize) -> Result<(), Memory>
-    ensures { OnOk result (string_bytes lines.new ≡ string_bytes lines.old ++ count_line count) }
-{
-    if count == 0 {
-        return Ok(());
-    }
-    writeln!(lines, "notes {count}")?;
     Ok(())
 }
 

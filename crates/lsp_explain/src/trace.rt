@@ -1,5 +1,5 @@
 //! Which events led to an offence: lines that name earlier events.
-ghost use Rattle.std.specs.Prelude.{◌≡◌, ◌++◌, ℕ, Some, chars, nat_lt, if◌then◌else◌, ◌∷◌, []};
+ghost use Rattle.std.specs.Prelude.{◌≡◌, ◌++◌, ℕ, Some, chars, ◌∷◌, []};
 ghost use Rattle.std.specs.Prelude.{List, IfOk, OnOk, codes, map, option_map};
 ghost use Rattle.lsp_docs.specs.Calls.{Call, shows};
 ghost use Rattle.lsp_docs.specs.Terms.{Terms};
@@ -25,7 +25,6 @@ ghost use Rattle.lsp_facts.specs.Refuting.{refuting};
 ghost use Rattle.lsp_explain.specs.Standing.{StandsAfter, terms_in};
 ghost use Rattle.lsp_explain.specs.Traced as spec;
 ghost use Rattle.lsp_explain.specs.Twins.{twin};
-ghost use Rattle.lsp_types.specs.declared.rules.TheConstants as rules;
 
 use crate::suspects::{Until, push_suspects};
 use crate::twins::twin_of;
@@ -61,7 +60,13 @@ pub(crate) fn message_traced(
     let docs = events.docs();
     let set_by = setter_of(events.marks(), uri_in(&spoken.act))?;
     let mut facts = message_facts(alloc, session, docs, side, spoken, rule, set_by)?;
-    trace_spoken(alloc, &mut facts, events, place, side, spoken, rule)?;
+    if rule < rules::FIRST_ON_DOCUMENTS {
+        let said = events.session_notes();
+        trace_message(alloc, &mut facts, said, side, &spoken.message, rule)?;
+        return Ok(facts);
+    }
+    trace_act(alloc, &mut facts, events, place, &spoken.act, rule)?;
+    trace_unopened(alloc, &mut facts, events, &spoken.act, rule)?;
     Ok(facts)
 }
 
@@ -116,32 +121,6 @@ fn last_place(setters: &[Setter]) -> Option<EventPlace>
         Some(setter) => Some(setter.place),
         None => None,
     }
-}
-
-/// Adds to the facts on a message of a side, the event of this place, that breaks this rule the
-/// events that brought it. The reader stands for the events before it.
-fn trace_spoken(
-    alloc: Global,
-    facts: &mut Facts,
-    events: &SurveyReader,
-    place: EventPlace,
-    side: Side,
-    spoken: &Spoken,
-    rule: u16,
-) -> Result<(), Memory>
-    ensures { OnOk result ((before : List Event) → StandsAfter events.now before
-        → facts.new ≡ facts.old ++ (if nat_lt rule rules.FIRST_ON_DOCUMENTS
-        then spec.session_trace rule (numbered (terms_in events.now) before) side
-        (id_in (message_view spoken.now.message))
-        else spec.message_traced (terms_in events.now) before place rule
-        (spec.act_call (terms_in events.now) before (act_view spoken.now.act)))) }
-{
-    if rule < rules::FIRST_ON_DOCUMENTS {
-        let said = events.session_notes();
-        return trace_message(alloc, facts, said, side, &spoken.message, rule);
-    }
-    trace_act(alloc, facts, events, place, &spoken.act, rule)?;
-    trace_unopened(alloc, facts, events, &spoken.act, rule)
 }
 
 /// Adds to the facts on an act, the event of this place, that breaks this rule on documents, under
@@ -323,8 +302,9 @@ fn trace_id(
 {
     match rule {
         rules::RESPONSE_TO_NO_OPEN_REQUEST => {
-            push_twin(alloc, facts, said, other_side(side), id)?;
-            push_earlier(facts, "answered", said.answered(other_side(side), id))
+            let asker = other_side(side);
+            push_twin(alloc, facts, said, asker, id)?;
+            push_earlier(facts, "answered", said.answered(asker, id))
         }
         rules::ID_ALREADY_OPEN => {
             push_earlier(facts, "asked", said.asked(side, id))?;

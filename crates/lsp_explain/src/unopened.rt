@@ -36,19 +36,6 @@ pub(crate) fn trace_unopened(
     if rule != rules::DOCUMENT_NOT_OPEN {
         return Ok(());
     }
-    push_unopened(alloc, facts, events, uri)
-}
-
-fn push_unopened(
-    alloc: Global,
-    facts: &mut Facts,
-    events: &SurveyReader,
-    uri: &str,
-) -> Result<(), Memory>
-    ensures { OnOk result ((before : List Event) → StandsAfter events.now before
-        → facts.new ≡ facts.old
-        ++ spec.unopened_facts (terms_in events.now) before uri.now) }
-{
     push_closing(facts, events.openings().closing(uri))?;
     push_similar(alloc, facts, events, uri)
 }

@@ -1,5 +1,5 @@
 -- By which events it came, in worked sessions.
-use Rattle.std.proofs.Common.{◌≡◌, ℕ, ◌∷◌, [], List, ◌++◌, refl}
+use Rattle.std.proofs.Common.{◌≡◌, ℕ, ◌∷◌, [], Bool, List, ◌++◌, length, refl}
 use Rattle.std.specs.Prelude.{codes, negsuc, pos, Some, None, true, false}
 use Rattle.std.specs.Float.Numeral.{scan_numeral}
 use Rattle.std.specs.Str.{chars}
@@ -21,7 +21,8 @@ use Rattle.lsp_verdict.proofs.Worked.Templates.{RES, ERR, T}
 use Rattle.lsp_facts.specs.Fact.{fact_lines, holds}
 use Rattle.lsp_explain.specs.Traced.{lack_traced, setter_at, traced}
 use Rattle.lsp_explain.specs.Twins.{twin}
-use Rattle.lsp_explain.specs.Unopened.{is_similar}
+use Rattle.lsp_explain.specs.Unopened.{is_spelled}
+use Rattle.lsp_verdict.specs.Spelling.{folded}
 
 -- the events that brought one that breaks this rule behind these
 abbrev with_events : ℕ → List Event → Event → List ℕ
@@ -29,8 +30,8 @@ with_events rule before event = fact_lines (traced terms before event rule)
 
 -- the same of a snapshot of another text, behind the version that is held
 abbrev with_held : Terms → List Event → Event → ℕ → List ℕ
-with_held agreed before event number = fact_lines
-    (holds (pos number) (setter_at agreed before event) ∷ traced agreed before event 702)
+with_held agreed before event held = fact_lines
+    (holds (pos held) (setter_at agreed before event) ∷ traced agreed before event 702)
 
 -- ---- ids
 
@@ -156,6 +157,10 @@ not_opened : with_events 602 START (CHG (codes "2") (FULL (codes "x"))) ≡ code
 unfolding value punctuate lex content word after_number number_of scan_numeral chars digits
     escape_byte percent_decode
 not_opened = refl
+
+-- the other is at most three times as long, and differs in its spelling alone
+abbrev is_similar : List ℕ → List ℕ → Bool
+is_similar uri other = is_spelled (length uri) (folded uri) other
 
 spelled_otherwise : is_similar (codes "file:///c%3a/a.b/") (codes "file:///C:/A%2Eb") ≡ true
 unfolding percent_decode

@@ -2,7 +2,7 @@ use Rattle.std.proofs.Common.{[], ◌+◌, ◌-◌}
 use Rattle.lsp_frame.specs.Bounds.{Bounds}
 use Rattle.lsp_frame.specs.Told.{Told}
 use Rattle.lsp_survey.specs.Reads.{SoFar}
-use Rattle.lsp_explain.specs.RunSteps.{IsFollowing}
+use Rattle.lsp_explain.proofs.ToldFirst.{IsFollowing}
 use Rattle.lsp_explain.proofs.run.explain_first.Given as goal
 
 abbrev pub invariant-loop-heard : goal.invariant-loop-heard

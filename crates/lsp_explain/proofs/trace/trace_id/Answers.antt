@@ -17,9 +17,9 @@ returns-in_ok-push_twin-in-301 c =
     (λ says terms before are.
     let said = numbered terms before in
     let twins = c.in_ok-push_twin-in-301.ensures terms before are
-    ∙ ap (λ s. old ++ twin_facts s said (twin id)) c.other_side.ensures in
+    ∙ ap (λ s. old ++ twin_facts s said (twin id)) c.other_side-asker.ensures in
     let last = c.answered.ensures terms before are
-    ∙ ap (λ s. answered s id said) c.other_side-in-301.ensures in
+    ∙ ap (λ s. answered s id said) c.other_side-asker.ensures in
     says
     ∙ (λ i. twins i ++ place_facts (codes "answered") (last i))
     ∙ append_assoc old (twin_facts (other_side side) said (twin id)) _
