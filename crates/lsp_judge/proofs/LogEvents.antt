@@ -50,7 +50,7 @@ use Rattle.lsp_verdict.proofs.RunReading.{read_map}
 use Rattle.lsp_verdict.proofs.Sessions.{same_session}
 use Rattle.lsp_judge.specs.Ending.{end_by}
 use Rattle.lsp_judge.specs.Heard.{HasHeard, HearsOne}
-use Rattle.lsp_judge.specs.LogEvents.{EndsAt, EndsBy, BeginsWith, SoFar, HasEnded, Finishes, Found}
+use Rattle.lsp_judge.specs.LogEvents.{EndsAt, BeginsWith, SoFar, HasEnded, Finishes}
 use Rattle.lsp_judge.specs.LogEvents.{BrokeOff}
 use Rattle.lsp_judge.specs.Rulings.{verdict_in, IsNoAt}
 use Rattle.lsp_judge.specs.declared.event_reader.EventReader.{EventReader}
@@ -72,6 +72,22 @@ pub record BeginsBy (limits : Bounds) (format : Option Format) (heard : List Eve
 by_any : (limits : Bounds) (format : Option Format) (heard : List Event) (log : List ℕ)
     → BeginsBy limits format heard log → BeginsWith limits heard log
 by_any limits format heard log b = (b.v, b.later, (b.whole, b.is))
+
+-- ---- a verdict
+
+-- **where the session must be complete, this is the verdict on the log**, and these are the
+-- events before the place of the verdict that it has else
+abbrev pub EndsBy : Completeness → Bounds → List ℕ → List Event → Verdict → Type 0
+EndsBy Ignored limits log heard v = EndsAt limits log heard v
+EndsBy Required limits log heard v =
+    (plain : Verdict) × (ends : EndsAt limits log heard plain)
+    × (completed ends.0.final.events plain ≡ v)
+
+-- the verdict was found after these events
+pub record Found (completeness : Completeness) (limits : Bounds) (start now : Told)
+    (heard : List Event) (v : Verdict) : Type 0 where
+  pub of_read : OfRead limits start now (λ log. EndsBy completeness limits log heard v)
+  pub failures : now.failures ≡ start.failures
 
 -- ---- a log of these records
 

@@ -28,7 +28,7 @@ use Rattle.lsp_verdict.proofs.Logs.{same_events, one_verdict, some_verdict}
 use Rattle.lsp_verdict.proofs.LookBackLemmas.{each_from-append, each_of-snoc}
 use Rattle.lsp_verdict.proofs.RunReading.{read_map}
 use Rattle.lsp_verdict.proofs.RunsJudged.{judged_not, judges, unwritten_sink}
-use Rattle.lsp_judge.specs.LogEvents.{EndsAt, EndsBy, BeginsWith, SoFar, Found, BrokeOff}
+use Rattle.lsp_judge.specs.LogEvents.{EndsAt, BeginsWith, SoFar, BrokeOff}
 use Rattle.lsp_judge.specs.ShownLog.{IsShown, BeginsShown, OneShown, SomeShown, Showed, ShowedAll}
 use Rattle.lsp_verdict.specs.Ports.{ports}
 use Rattle.lsp_replay.specs.Lines.{line_of}
@@ -36,6 +36,7 @@ use Rattle.lsp_replay.specs.Places.{place_of}
 use Rattle.lsp_replay.proofs.EventPlaces.{IsPlaceAfter, line_placed, placed}
 use Rattle.lsp_replay.specs.declared.heard.EventPlace.{EventPlace}
 use Rattle.lsp_judge.specs.declared.event_reader.EventReader.{EventReader}
+use Rattle.lsp_judge.proofs.LogEvents.{EndsBy, Found}
 use Rattle.lsp_judge.proofs.LogEvents.{so_far_begins, so_far_few, so_far_failures, so_far_range}
 
 pub some_shown : SomeShown

@@ -1,5 +1,5 @@
 -- The text that is held after a message of the editor's, as the events of a log are heard.
-use Rattle.std.proofs.Common.{◌≡◌, ◌+◌, ◌<◌, ◌≤◌, ℕ, Bool, true, false, List, [], ◌∷◌, ◌++◌, length}
+use Rattle.std.proofs.Common.{◌≡◌, ◌+◌, ◌<◌, ℕ, List, [], ◌∷◌, ◌++◌}
 use Rattle.std.proofs.Common.{drop, Option, Some, None, refl, sym, ap}
 use Rattle.std.proofs.Common.{subst, ◌∙◌, append_assoc, append-nil, arith}
 use Rattle.std.specs.Prelude.{is_some, if◌then◌else◌}
@@ -28,10 +28,11 @@ use Rattle.lsp_verdict.proofs.Logs.Text.{text_missing}
 use Rattle.lsp_verdict.proofs.Logs.UpTo.{reached_more, reached_past}
 use Rattle.lsp_verdict.proofs.Verdicts.{no_found}
 use Rattle.lsp_replay.proofs.Reached.{count_within, reached_last, still_few}
-use Rattle.lsp_judge.specs.LogEvents.{BeginsWith, BrokeOff, EndsAt, EndsBy, Found, SoFar}
+use Rattle.lsp_judge.specs.LogEvents.{BeginsWith, BrokeOff, EndsAt, SoFar}
 use Rattle.lsp_replay.specs.Standing.{Follows}
 use Rattle.lsp_judge.specs.declared.event_reader.EventReader.{EventReader}
 use Rattle.lsp_judge.proofs.KeptEvents.{kept_within, kept_clean, kept_no, kept_final}
+use Rattle.lsp_judge.proofs.LogEvents.{EndsBy, Found}
 use Rattle.lsp_judge.proofs.LogEvents.{BeginsBy, so_far_by, so_far_clean, so_far_failures}
 use Rattle.lsp_judge.proofs.LogEvents.{so_far_few, so_far_range}
 

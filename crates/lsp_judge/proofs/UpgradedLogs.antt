@@ -44,7 +44,7 @@ use Rattle.lsp_judge.specs.Heard.{AreHeard, HasHeard}
 use Rattle.lsp_judge.specs.LogEvents.{Finishes}
 use Rattle.lsp_judge.specs.Rulings.{verdict_in}
 use Rattle.lsp_judge.specs.Standing.{Rules}
-use Rattle.lsp_judge.specs.UpgradedLog.{UpgradesLog, Upgrading}
+use Rattle.lsp_judge.specs.UpgradedLog.{UpgradesLog}
 use Rattle.lsp_verdict.specs.Ports.{ports}
 use Rattle.lsp_judge.specs.declared.event_reader.EventReader.{EventReader}
 use Rattle.lsp_judge.specs.declared.ruling.Ruling.{Ruling}
@@ -251,6 +251,17 @@ module _ (limits : Bounds) (e : LogEvents) (records : List Record)
       known_self : (format : Option Format) → IsKnown format format
       known_self None = tt
       known_self (Some f) = refl
+
+-- these records of the log were accepted, and their upgrade is written; the log has this next
+pub record Upgrading (limits : Bounds) (e : EventReader) (next : Entry)
+    (start now old new : Told) : Type 0 where
+  pub records : List Record
+  pub early : e.log.log.format ≡ None → records ≡ []
+  pub heard : AreHeard limits (format_or_one e.log.log.format) e.log.streams e.events.session
+      e.events.docs e.events.counts records
+  pub next_is : IsNext limits e.log start now records heard.1.past next
+  pub ignored : e.completeness ≡ Ignored
+  pub wrote : Wrote old new (upgraded records)
 
 -- a record was written, and the next entry read
 pub one_written : (limits : Bounds) (e : EventReader) (next : Entry) (start now old new : Told)

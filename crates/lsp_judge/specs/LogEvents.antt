@@ -7,7 +7,7 @@ use Rattle.lsp_types.specs.declared.memory.Memory.{Memory}
 use Rattle.lsp_log.specs.Log.{Record}
 use Rattle.lsp_replay.specs.LogEvents.{Reads, Ended, flaw_of}
 use Rattle.lsp_replay.specs.declared.log_events.End.{End}
-use Rattle.lsp_verdict.specs.Complete.{IsFinalBy, IsVerdictBy, completed}
+use Rattle.lsp_verdict.specs.Complete.{IsFinalBy, IsVerdictBy}
 use Rattle.lsp_verdict.specs.Event.{Event}
 use Rattle.lsp_verdict.specs.Given.{as_given, verdict_view}
 use Rattle.lsp_verdict.specs.Outcome.{IsVerdict, format_or_one, log_terms}
@@ -16,7 +16,6 @@ use Rattle.lsp_verdict.specs.RunIo.{OfRead, failures_after}
 use Rattle.lsp_verdict.specs.Shown.{kept}
 use Rattle.lsp_verdict.specs.Verdict.{Verdict}
 use Rattle.lsp_verdict.specs.declared.completeness.Completeness.{Completeness}
-use Rattle.lsp_verdict.specs.declared.completeness.Completeness.TheVariants.{Ignored, Required}
 use Rattle.lsp_verdict.specs.declared.outcome.RunFault.{RunFault}
 use Rattle.lsp_verdict.specs.declared.verdict.Verdict as code
 use Rattle.lsp_verdict.specs.declared.outcome.RunFault.TheVariants as faults
@@ -28,14 +27,6 @@ use Rattle.lsp_judge.specs.declared.event_reader.EventReader.{EventReader}
 -- **this is the verdict on the log, and these are the events before its place**
 abbrev pub EndsAt : Bounds → List ℕ → List Event → Verdict → Type 0
 EndsAt limits log heard v = (whole : IsVerdict limits log v) × (kept v whole.final.events ≡ heard)
-
--- **where the session must be complete, this is the verdict on the log**, and these are the
--- events before the place of the verdict that it has else
-abbrev pub EndsBy : Completeness → Bounds → List ℕ → List Event → Verdict → Type 0
-EndsBy Ignored limits log heard v = EndsAt limits log heard v
-EndsBy Required limits log heard v =
-    (plain : Verdict) × (ends : EndsAt limits log heard plain)
-    × (completed ends.0.final.events plain ≡ v)
 
 -- the events before the place of the log's verdict begin with these
 abbrev pub BeginsWith : Bounds → List Event → List ℕ → Type 0
@@ -62,12 +53,6 @@ pub record HasEnded (limits : Bounds) (e : EventReader) (start now : Told) (hear
   pub ended : Ended limits e.log.log.format e.log start now records given end
   pub has : HasHeard (log_terms limits e.log.log.format) e.events.session e.events.docs
       e.events.counts given heard
-
--- the verdict was found after these events
-pub record Found (completeness : Completeness) (limits : Bounds) (start now : Told)
-    (heard : List Event) (v : Verdict) : Type 0 where
-  pub of_read : OfRead limits start now (λ log. EndsBy completeness limits log heard v)
-  pub failures : now.failures ≡ start.failures
 
 -- reading broke off after these events
 pub record BrokeOff (limits : Bounds) (start now : Told) (heard : List Event)

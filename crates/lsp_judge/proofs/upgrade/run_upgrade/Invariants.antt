@@ -1,5 +1,5 @@
 use Rattle.lsp_replay.specs.LogEvents.{unread}
-use Rattle.lsp_judge.specs.UpgradedLog.{Upgrading}
+use Rattle.lsp_judge.proofs.UpgradedLogs.{Upgrading}
 use Rattle.lsp_judge.proofs.upgrade.run_upgrade.Given as goal
 
 abbrev pub invariant-loop-next : goal.invariant-loop-next
