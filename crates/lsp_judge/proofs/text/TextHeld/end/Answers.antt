@@ -1,0 +1,3 @@
+use Rattle.lsp_judge.proofs.JudgingSteps.{ends_given}
+use Rattle.lsp_judge.proofs.TextSteps.{missing_closes}
+use Rattle.lsp_judge.proofs.text.TextHeld.end.Goals as goal
