@@ -26,7 +26,7 @@ use Rattle.lsp_survey.specs.declared.offending.Judged.TheVariants as heard
 use Rattle.lsp_survey.specs.declared.offending.OffendingEvent.TheVariants as what
 use Rattle.lsp_survey.specs.declared.survey_reader.SurveyEnd.{SurveyEnd}
 use Rattle.lsp_survey.specs.declared.survey_reader.SurveyReader.{SurveyReader}
-use Rattle.lsp_replay.proofs.Passing.{join_notes}
+use Rattle.lsp_replay.proofs.FirstEvents.{join_notes}
 use Rattle.lsp_survey.proofs.Reading.{editor_rest, server_rest, so_far_failures}
 use Rattle.lsp_survey.proofs.Reading.{so_far_given, survey_of}
 use Rattle.lsp_types.specs.declared.side.Side.{Side}

@@ -15,7 +15,11 @@ pub mod Resting
 pub mod FrameRules
 pub mod Fronts
 pub mod SideEnds
+pub mod FirstEvents
 pub mod Passing
+pub mod LastEvents
 pub mod Seeing
 pub mod PassEnds
+pub mod SeenLines
+pub mod AllHeard
 pub mod TextRuns

@@ -1,11 +1,8 @@
 -- A pass over the events of a log, one after another.
-use Rattle.std.specs.List.{AllZip}
-use Rattle.std.proofs.Common.{◌≡◌, ◌⊎◌, ◌<◌, ◌≤◌, ◌+◌, ◌-◌, ◌^◌, ℕ, true, false, List, [], ◌∷◌}
-use Rattle.std.proofs.Common.{◌++◌}
-use Rattle.std.proofs.Common.{Option, Some, None, IsSome, Result, Ok, Err, inl, inr, refl, sym, ap}
-use Rattle.std.proofs.Common.{subst}
-use Rattle.std.proofs.Common.{◌∙◌, append_assoc, append-nil, length, length-append, arith}
-use Rattle.std.proofs.lemmas.List.{length-map, map-append}
+use Rattle.std.proofs.Common.{◌≡◌, ◌⊎◌, ◌<◌, ◌≤◌, ◌+◌, ◌-◌, ◌^◌, ℕ, false, List, [], ◌∷◌}
+use Rattle.std.proofs.Common.{◌++◌, Option, Result, Ok, Err, inl, inr, refl, sym, ap, subst, ◌∙◌, append_assoc}
+use Rattle.std.proofs.Common.{append-nil, length, length-append, arith}
+use Rattle.std.proofs.lemmas.List.{length-map}
 use Rattle.lsp_frame.specs.Bounds.{Bounds}
 use Rattle.lsp_frame.specs.Front.{header_front}
 use Rattle.lsp_frame.specs.Sink.{Stopped, Wrote}
@@ -16,233 +13,37 @@ use Rattle.lsp_frame.proofs.Writing.{wrote_nothing, wrote_then}
 use Rattle.lsp_session.specs.State as session
 use Rattle.lsp_docs.specs.State as docs
 use Rattle.lsp_docs.specs.Terms.{Terms}
-use Rattle.lsp_log.specs.Log.{Record, IsLog}
-use Rattle.lsp_log.specs.Place.{place_of, found_behind}
-use Rattle.lsp_log.specs.Reader.{shown_by}
-use Rattle.lsp_log.specs.declared.fault.LogCode.{LogCode}
+use Rattle.lsp_log.specs.Log.{Record}
 use Rattle.lsp_types.specs.declared.side.Side.{Side}
 use Rattle.lsp_types.specs.declared.side.Side.TheVariants.{Editor, Server}
-use Rattle.lsp_replay.specs.LogEvents.{Ended, GoesBehind, HasGiven, IsLogOf, NextIs, Opens, Reads}
-use Rattle.lsp_replay.specs.LogEvents.{flaw_of}
+use Rattle.lsp_replay.specs.LogEvents.{HasGiven, NextIs, Opens, Reads}
 use Rattle.lsp_replay.specs.Passes.{DueAt, PartPassed, Passes, Steps}
-use Rattle.lsp_replay.specs.Run.{HasSaid, IsPassed, IsTold, Run, SaysAll, Tail}
-use Rattle.lsp_replay.specs.Streams.{LendsRest, Stands}
-use Rattle.lsp_replay.specs.Telling.{Comes, DueAtEnd, DueOf, IsEnd, ShowsFault, Stood}
-use Rattle.lsp_replay.specs.declared.log_events.End.{End}
+use Rattle.lsp_replay.specs.Run.{HasSaid, IsPassed, Run, SaysAll}
+use Rattle.lsp_replay.specs.Streams.{LendsRest}
+use Rattle.lsp_replay.specs.Telling.{Comes, DueOf, ShowsFault, Stood}
 use Rattle.lsp_replay.specs.declared.log_events.LogEvents.{LogEvents}
 use Rattle.lsp_replay.specs.declared.log_events.Next.TheVariants as next
 use Rattle.lsp_replay.specs.declared.seen.Flow.{Flow}
 use Rattle.lsp_replay.specs.declared.seen.Flow.TheVariants.{GoOn, Stop}
+use Rattle.lsp_replay.proofs.FirstEvents.{AreNoted, few_given, join_heard, raws-push, rests_before}
+use Rattle.lsp_replay.proofs.FirstEvents.{said_given, says_more, stops_given}
 use Rattle.lsp_replay.proofs.Fronts.{front_shown}
 use Rattle.lsp_replay.proofs.Owning.{given_fault}
-use Rattle.lsp_replay.proofs.Pulling.{log_of, reads_failures, reads_given}
-use Rattle.lsp_replay.proofs.SideEnds.{inside_is, rest_held}
-use Rattle.lsp_verdict.specs.Heard.{AreRests, Heard, Rests, RestsBehind}
-use Rattle.lsp_verdict.specs.Heard.{notes_of, raws_of, rest_of}
+use Rattle.lsp_replay.proofs.Pulling.{reads_failures, reads_given}
+use Rattle.lsp_verdict.specs.Heard.{Heard, Rests, RestsBehind, notes_of, raws_of, rest_of}
 use Rattle.lsp_verdict.specs.Lent.{raw_view}
 use Rattle.lsp_verdict.specs.Offences.{IsNoted, Noted}
 use Rattle.lsp_verdict.specs.Outcome.{HasRest, log_terms}
 use Rattle.lsp_verdict.specs.Placed.{Raw, Placed, broken, joined}
-use Rattle.lsp_verdict.specs.RunIo.{BreaksOff, OfRead, failures_after, sink_failures_after}
+use Rattle.lsp_verdict.specs.RunIo.{OfRead, failures_after, sink_failures_after}
 use Rattle.lsp_verdict.specs.declared.counts.Counts.{Counts}
 use Rattle.lsp_verdict.specs.declared.outcome.Outcome.{Outcome}
 use Rattle.lsp_verdict.specs.declared.outcome.RunFault.{RunFault}
 use Rattle.lsp_verdict.specs.declared.outcome.RunFault.TheVariants as faults
 use Rattle.lsp_verdict.specs.declared.raw.Raw as code
 use Rattle.lsp_verdict.specs.declared.raw.Raw.TheVariants as lent
-use Rattle.lsp_verdict.proofs.Below.{some_stream}
-use Rattle.lsp_verdict.proofs.ExactCounts.{raws_within}
-use Rattle.lsp_verdict.proofs.Logs.{some_verdict}
 use Rattle.lsp_verdict.proofs.Offences.Surveying.{some_note}
-use Rattle.lsp_verdict.proofs.PlacedLemmas.{placed_whole}
 use Rattle.lsp_verdict.proofs.RunReading.{read_map}
-
--- ---- lists of events
-
-pub join_notes : (raws more : List Raw) (notes extra : List Noted) → AllZip IsNoted raws notes
-    → AllZip IsNoted more extra → AllZip IsNoted (raws ++ more) (notes ++ extra)
-join_notes [] more [] extra p q = q
-join_notes [] more (n ∷ notes) extra p q = absurd p
-join_notes (r ∷ raws) more [] extra p q = absurd p
-join_notes (r ∷ raws) more (n ∷ notes) extra p q = (p.0, join_notes raws more notes extra p.1 q)
-
-pub noted_push : (raws : List Raw) (notes : List Noted) (raw : Raw) (n : Noted)
-    → AllZip IsNoted raws notes → IsNoted raw n
-    → AllZip IsNoted (raws ++ raw ∷ []) (notes ++ n ∷ [])
-noted_push raws notes raw n all is = join_notes raws (raw ∷ []) notes (n ∷ []) all (is, tt)
-
--- each was noted as its raw form allows
-abbrev pub AreNoted : List Heard → Type 0
-AreNoted heard = AllZip IsNoted (raws_of heard) (notes_of heard)
-
-pub join_heard : (hs more : List Heard) → AreNoted hs → AreNoted more → AreNoted (hs ++ more)
-join_heard [] more p q = q
-join_heard (h ∷ hs) more p q = (p.0, join_heard hs more p.1 q)
-
-pub raws-push : (hs more : List Heard) → raws_of (hs ++ more) ≡ raws_of hs ++ raws_of more
-raws-push hs more = map-append (λ (h : Heard). h.raw) hs more
-
--- every list of raw events was heard so
-pub some_heard : (raws : List Raw) → (hs : List Heard) × (raws_of hs ≡ raws) × AreNoted hs
-some_heard [] = ([], refl, tt)
-some_heard (raw ∷ raws) =
-    let note = some_note raw in
-    let rest = some_heard raws in (
-      record { raw = raw; note = note.0 } ∷ rest.0,
-      ap (λ w. raw ∷ w) rest.1,
-      (note.1, rest.2),
-    )
-
--- ---- what is said
-
--- of one event more
-pub says_more : (run : Run) (terms : Terms) (rests : Rests) (before hs : List Heard) (out : List ℕ)
-    (h : Heard) (said : List ℕ) → SaysAll run terms rests before hs out
-    → run.says terms rests (before ++ hs) h said → run.stops terms (before ++ hs) h ≡ false
-    → SaysAll run terms rests before (hs ++ h ∷ []) (out ++ said)
-says_more run terms rests before [] out h said is says goes = (
-  said,
-  [],
-  ap (λ w. w ++ said) is ∙ sym (append-nil said),
-  subst (λ (w : List Heard). run.says terms rests w h said) (append-nil before) says,
-  ap (λ w. run.stops terms w h) (sym (append-nil before)) ∙ goes,
-  refl,
-)
-says_more run terms rests before (x ∷ hs) out h said (first, left, is, own, on, later) says goes =
-    let whole : (before ++ x ∷ []) ++ hs ≡ before ++ x ∷ hs =
-    append_assoc before (x ∷ []) hs in (
-      first,
-      left ++ said,
-      ap (λ w. w ++ said) is ∙ append_assoc first left said,
-      own,
-      on,
-      says_more run terms rests (before ++ x ∷ []) hs left h said later
-          (subst (λ (w : List Heard). run.says terms rests w h said) (sym whole) says)
-          (ap (λ w. run.stops terms w h) whole ∙ goes),
-    )
-
--- ---- a log that has these events first
-
--- there are rests of its records
-pub some_rests : (limits : Bounds) (records : List Record)
-    → (rests : Rests) × AreRests limits records rests
-some_rests limits records =
-    let editor = some_stream limits (joined Editor records) in
-    let server = some_stream limits (joined Server records) in (
-      record { editor = editor.1; server = server.1 },
-      record {
-        editor = (editor.0, editor.2, editor.3);
-        server = (server.0, server.2, server.3);
-      },
-    )
-
--- records that go on have these first
-pub rests_behind : (limits : Bounds) (front records : List Record) (rests : Rests)
-    → GoesBehind front records → AreRests limits records rests → RestsBehind limits front rests
-rests_behind limits front records rests (more, goes) are =
-    (more, subst (λ (w : List Record). AreRests limits w rests) goes are)
-
--- and so do their first ones
-pub rests_before : (limits : Bounds) (front more : List Record) (rests : Rests)
-    → RestsBehind limits (front ++ more) rests → RestsBehind limits front rests
-rests_before limits front more rests (last, are) = (
-  more ++ last,
-  subst (λ (w : List Record). AreRests limits w rests)
-      (append_assoc front more last) are,
-)
-
-module _ (limits : Bounds) (format : Option Format) (front : List Record) (heard : List Heard)
-    (noted : AreNoted heard) (log : List ℕ)
-    (has : HasGiven limits format front (raws_of heard) log) where
-  abbrev extra : (hs : List Heard) × (raws_of hs ≡ has.later) × AreNoted hs
-  extra = some_heard has.later
-
-  abbrev own_rests : (rests : Rests) × AreRests limits has.records rests
-  own_rests = some_rests limits has.records
-
-  abbrev pub tail_given : Tail
-  tail_given = record {
-    fault = has.log_fault;
-    place = place_of format has.records;
-    line = found_behind limits format has.records log;
-    rests = own_rests.0;
-  }
-
-  all_placed : Placed limits has.records (raws_of (heard ++ extra.0))
-  all_placed = subst (Placed limits has.records)
-      (ap (λ w. raws_of heard ++ w) (sym extra.1) ∙ sym (raws-push heard extra.0)) has.placed
-
-  pub told_given : IsTold limits log format has.records (heard ++ extra.0) tail_given
-  told_given = record {
-    is_log = has.is_log;
-    session = record {
-      placed = all_placed;
-      noted = join_heard heard extra.0 noted extra.2;
-    };
-    rests = own_rests.1;
-    place = refl;
-    line = refl;
-  }
-
-  pub behind_given : RestsBehind limits front own_rests.0
-  behind_given = rests_behind limits front has.records own_rests.0 has.goes own_rests.1
-
-  -- what the run says of them is said of the log
-  pub said_given : (run : Run) (out : List ℕ)
-      → ((rests : Rests) → RestsBehind limits front rests
-      → SaysAll run (log_terms limits format) rests [] heard out)
-      → HasSaid run limits log out
-  said_given run out says = record {
-    format = format;
-    records = has.records;
-    first = heard;
-    later = extra.0;
-    tail = tail_given;
-    told = told_given;
-    says = says own_rests.0 behind_given;
-  }
-
-  pub few_given : length heard ≤ limits.log
-  few_given = omega (
-    arith,
-    raws_within limits log format has.records has.log_fault (raws_of heard ++ has.later) has.is_log
-        has.placed,
-    length-append (raws_of heard) has.later,
-    length-map heard (λ (h : Heard). h.raw),
-  )
-
--- where it stops at the last of them, so does it on the log
-pub stops_given : (run : Run) (limits : Bounds) (format : Option Format) (front : List Record)
-    (heard : List Heard) (h : Heard) (noted : AreNoted (heard ++ h ∷ [])) (log : List ℕ)
-    (has : HasGiven limits format front (raws_of (heard ++ h ∷ [])) log) (out said : List ℕ)
-    (outcome : Outcome)
-    → ((rests : Rests) → RestsBehind limits front rests
-    → SaysAll run (log_terms limits format) rests [] heard out
-    × run.says (log_terms limits format) rests heard h said)
-    → run.stops (log_terms limits format) heard h ≡ true
-    → run.ends (log_terms limits format) heard h outcome
-    → IsPassed run limits log (out ++ said) outcome
-stops_given run limits format front heard h noted log has out said outcome says stops ends =
-    let both = says (tail_given limits format front (heard ++ h ∷ []) noted log has).rests
-    (behind_given limits format front (heard ++ h ∷ []) noted log has) in
-    record {
-      format = format;
-      records = has.records;
-      heard = (heard ++ h ∷ []) ++ (some_heard has.later).0;
-      tail = tail_given limits format front (heard ++ h ∷ []) noted log has;
-      told = told_given limits format front (heard ++ h ∷ []) noted log has;
-      is = inl (record {
-        first = heard;
-        here = h;
-        later = (some_heard has.later).0;
-        are = append_assoc heard (h ∷ []) (some_heard has.later).0;
-        front = out;
-        last = said;
-        is = refl;
-        said = both.0;
-        stop = record { says = both.1; stops = stops; ends = ends };
-      });
-    }
 
 -- ---- a fault
 
@@ -613,177 +414,3 @@ module _ (Asked : Type 0) (run_of : Asked → Run) (asked : Asked)
           → Passes run limits start last old end (Err fault)
       goes_wrong own same fault tells =
           passing_fault fault (steps_of own (Err fault) same tells)
-
--- ---- the log ends
-
-module _ (Asked : Type 0) (run_of : Asked → Run) (asked : Asked)
-    (Stands : Terms → List Heard → Type 0) (limits : Bounds) (e : LogEvents) (m : session.State)
-    (d : docs.State) (c : Counts) (start now old new : Told)
-    (p : IsPassing (run_of asked) Stands limits e m d c start now old new) (log : LogEvents)
-    (last : Told) (end : End) (told : NextIs e log now last (Ok (next.End end))) where
-  abbrev run : Run
-  run = run_of asked
-
-  abbrev terms : Terms
-  terms = log_terms limits p.format
-
-  abbrev gone : (more : List Record)
-      × Ended limits p.format log start last (p.records ++ more) (raws_of p.heard) end
-  gone = told limits p.format start p.records (raws_of p.heard) p.due p.reads
-
-  abbrev all : List Record
-  all = p.records ++ gone.0
-
-  abbrev own_rests : (rests : Rests) × AreRests limits all rests
-  own_rests = some_rests limits all
-
-  abbrev tail_of : List ℕ → Tail
-  tail_of bytes = record {
-    fault = flaw_of end;
-    place = place_of p.format all;
-    line = found_behind limits p.format all bytes;
-    rests = own_rests.0;
-  }
-
-  has_rest : (side : Side) → HasRest limits (joined side all) (rest_of own_rests.0 side)
-  has_rest Editor = own_rests.1.editor
-  has_rest Server = own_rests.1.server
-
-  -- its reader knows where the fault lies
-  lies : (bytes : List ℕ) (flaw : Option (ℕ × LogCode)) → IsLogOf log.log limits all flaw bytes
-      → IsSome flaw → (log.log.place ≡ place_of p.format all)
-      × (shown_by log.log ≡ found_behind limits p.format all bytes)
-  lies bytes None is some = absurd cc
-  lies bytes (Some flaw) is some =
-      let same = gone.1.reads.format_is in (
-        is.place_is ∙ ap (λ f. place_of f all) same,
-        is.line_is ∙ ap (λ f. found_behind limits f all bytes) same,
-      )
-
-  pub end_is : (bytes : List ℕ) → IsLogOf log.log limits all (flaw_of end) bytes
-      → IsEnd log end p.heard (tail_of bytes)
-  end_is bytes is = record {
-    fault = refl;
-    lies = lies bytes (flaw_of end) is;
-    rests = λ side none. sym (rest_held limits log.streams all (raws_of p.heard) (notes_of p.heard)
-        side (rest_of own_rests.0 side) gone.1.reads.stands p.noted (has_rest side) none);
-    inside = λ side. inside_is limits log.streams all (raws_of p.heard) (notes_of p.heard) side
-        (rest_of own_rests.0 side) gone.1.reads.stands p.noted (has_rest side);
-  }
-
-  pub end_few : length p.heard < 2 ^ 63
-  end_few = omega (
-    arith,
-    passing_few Asked run_of asked Stands limits e m d c start now old new
-        p,
-    p.reads.stands.range.log_high,
-  )
-
-  told_whole : (bytes : List ℕ) → IsLogOf log.log limits all (flaw_of end) bytes
-      → IsTold limits bytes p.format all p.heard (tail_of bytes)
-  told_whole bytes is = record {
-    is_log = subst (λ (o : Option Format). IsLog limits bytes o all (flaw_of end))
-        gone.1.reads.format_is (log_of limits log.log all (flaw_of end) bytes is);
-    session = record {
-      placed = placed_whole limits all (raws_of p.heard) [] refl gone.1.reads.stands.placed;
-      noted = p.noted;
-    };
-    rests = own_rests.1;
-    place = refl;
-    line = refl;
-  }
-
-  said_whole : SaysAll run terms own_rests.0 [] p.heard p.out
-  said_whole = p.says own_rests.0 (rests_behind limits p.records all own_rests.0 (gone.0, refl)
-      own_rests.1)
-
-  abbrev Due : Outcome → List ℕ → Type 0
-  Due = DueAtEnd run terms p.heard log end
-
-  end_passed : (outcome : Outcome) (said : List ℕ) → Due outcome said
-      → OfRead limits start last (λ bytes. IsPassed run limits bytes (p.out ++ said) outcome)
-  end_passed outcome said due = read_map limits start last (IsLogOf log.log limits all (flaw_of end))
-      (λ bytes. IsPassed run limits bytes (p.out ++ said) outcome)
-      (λ bytes is. record {
-        format = p.format;
-        records = all;
-        heard = p.heard;
-        tail = tail_of bytes;
-        told = told_whole bytes is;
-        is = inr (record {
-          front = p.out;
-          last = said;
-          is = refl;
-          said = said_whole;
-          closes = due (tail_of bytes) (end_is bytes is);
-        });
-      }) gone.1.ends.of_read
-
-  end_fault : (fault : RunFault) (sink : Told) → Steps {X = Outcome} new sink Due (Err fault)
-      → Passes run limits start last old sink (Err fault)
-  end_fault faults.Write sink (outcome, said, due, stopped, some) =
-      cut_at run limits start last old new sink p.out said p.wrote stopped some
-      (inr (outcome, end_passed outcome said due)) gone.1.ends.failures
-  end_fault faults.Memory sink steps =
-      subst (λ (t : Told). PartPassed run limits start last old t faults.Memory) (sym steps)
-      (broke_at run limits start last old new p.out p.wrote p.quiet faults.Memory
-      (read_map limits start last (IsLogOf log.log limits all (flaw_of end))
-      (λ bytes. HasSaid run limits bytes p.out) said_in gone.1.ends.of_read)
-      gone.1.ends.failures (λ same. absurd cc))
-    where
-      said_in : (bytes : List ℕ) → IsLogOf log.log limits all (flaw_of end) bytes
-          → HasSaid run limits bytes p.out
-      said_in bytes is = record {
-        format = p.format;
-        records = all;
-        first = p.heard;
-        later = [];
-        tail = tail_of bytes;
-        told = subst (λ (w : List Heard). IsTold limits bytes p.format all w (tail_of bytes))
-            (sym (append-nil p.heard)) (told_whole bytes is);
-        says = said_whole;
-      }
-  end_fault faults.Read sink steps = absurd steps
-
-  end_told : (result : Result Outcome RunFault) (sink : Told) → Steps new sink Due result
-      → Passes run limits start last old sink result
-  end_told (Ok outcome) sink (said, due, wrote, still) = record {
-    out = p.out ++ said;
-    wrote = wrote_then old new sink p.out said p.wrote wrote;
-    due = end_passed outcome said due;
-    failures = gone.1.ends.failures;
-  }
-  end_told (Err fault) sink steps = end_fault fault sink steps
-
-  -- by what the account says
-  pub end_all : (own : Asked) → own ≡ asked → (result : Result Outcome RunFault) (sink : Told)
-      → ((t : Terms) (heard : List Heard) → Stands t heard → Stood t m d c heard
-      → length heard < 2 ^ 63
-      → Steps new sink (DueAtEnd (run_of own) t heard log end) result)
-      → Passes run limits start last old sink result
-  end_all own same result sink tells =
-      end_told result sink (subst (λ (a : Asked). Steps new sink
-      (DueAtEnd (run_of a) terms p.heard log end) result) same
-      (tells terms p.heard p.stands p.stood end_few))
-
--- ---- nothing was read
-
-pub unopened : (run : Run) (limits : Bounds) (start now sink : Told) (fault : RunFault)
-    → BreaksOff limits start now fault → Passes run limits start now sink sink (Err fault)
-unopened run limits start now sink fault off =
-    broke_at run limits start now sink sink [] (wrote_nothing sink) (λ e. refl) fault
-    (read_map limits start now (λ log. Unit {0}) (λ log. HasSaid run limits log [])
-    (λ log u. nothing log) off.of_read) off.failures off.unwritten
-  where
-    nothing : (log : List ℕ) → HasSaid run limits log []
-    nothing log =
-        let v = some_verdict limits log in
-        let raws = v.1.final.session.0 in
-        said_given limits v.1.format v.1.records [] tt log (record {
-          records = v.1.records;
-          log_fault = v.1.fault;
-          later = raws;
-          is_log = v.1.is_log;
-          goes = ([], sym (append-nil v.1.records));
-          placed = v.1.final.session.1;
-        }) run [] (λ rests behind. refl)

@@ -19,7 +19,7 @@ use Rattle.lsp_replay.specs.declared.log_events.LogEvents.{LogEvents}
 use Rattle.lsp_replay.specs.declared.log_events.Next.TheVariants as next
 use Rattle.lsp_verdict.specs.declared.raw.Raw as lent
 use Rattle.lsp_replay.proofs.Owning.{given_fault}
-use Rattle.lsp_replay.proofs.Passing.{join_notes, noted_push}
+use Rattle.lsp_replay.proofs.FirstEvents.{join_notes, noted_push}
 use Rattle.lsp_replay.proofs.Pulling.{reads_failures, reads_given}
 use Rattle.lsp_types.specs.declared.side.Side.TheVariants.{Editor, Server}
 use Rattle.lsp_survey.specs.Reads.{BeginsSurvey, SoFar, IsHeardAs, found_in, HasEnded, GaveBehind}

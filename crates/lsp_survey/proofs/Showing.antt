@@ -23,10 +23,11 @@ use Rattle.lsp_survey.specs.AllShown.{bytes_of, events_shown, is_offending, kept
 use Rattle.lsp_survey.specs.AllShown.{piece_bytes}
 use Rattle.lsp_survey.specs.AllShown.{shown_at, shown_in}
 use Rattle.lsp_survey.specs.Reported.{closing}
-use Rattle.lsp_survey.specs.SurveyRun.{SurveyAsked, end_said, ends_of, event_said, said_by}
+use Rattle.lsp_survey.specs.SurveyRun.{end_said, ends_of, event_said, said_by}
 use Rattle.lsp_survey.specs.SurveyRun.{survey_run}
 use Rattle.lsp_survey.specs.SurveyRun.{verdict_by}
 use Rattle.lsp_survey.proofs.KeptTexts.{same_notes}
+use Rattle.lsp_survey.specs.declared.survey.Options.{Options}
 use Rattle.lsp_survey.proofs.Reporting.{report_is, reported_verdict}
 use Rattle.lsp_survey.proofs.Told.{survey_told}
 use Rattle.lsp_types.specs.declared.side.Side.TheVariants.{Editor, Server}
@@ -58,7 +59,7 @@ use Rattle.lsp_verdict.proofs.Outcomes.{one_rest}
 
 -- ---- what is said of events
 
-abbrev asked : Lines → SurveyAsked
+abbrev asked : Lines → Options
 asked lines = record { completeness = Ignored; listing = Every; lines = Some lines }
 
 -- the line of an event that is kept, or its offence, and what comes after it

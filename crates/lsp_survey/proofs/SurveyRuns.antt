@@ -14,8 +14,9 @@ use Rattle.lsp_replay.proofs.PassEnds.{part_begins}
 use Rattle.lsp_survey.specs.Reported.{BeginsReported, IsReported, SurveysLog, closing, end_lines}
 use Rattle.lsp_survey.specs.Reported.{is_every}
 use Rattle.lsp_survey.specs.Reported.{lines_of}
-use Rattle.lsp_survey.specs.SurveyRun.{SurveyAsked, end_said, ends_of, event_said, said_by}
+use Rattle.lsp_survey.specs.SurveyRun.{end_said, ends_of, event_said, said_by}
 use Rattle.lsp_survey.specs.SurveyRun.{survey_run, verdict_by}
+use Rattle.lsp_survey.specs.declared.survey.Options.{Options}
 use Rattle.lsp_survey.proofs.Reporting.{lines_append, lines_none, report_is, reported_verdict}
 use Rattle.lsp_survey.proofs.Told.{survey_told}
 use Rattle.lsp_verdict.specs.Complete.{IsVerdictBy}
@@ -48,7 +49,7 @@ whole_report listing found ends bad s =
     ∙ append_assoc (lines_of listing found) (lines_of listing ends) (closing (found ++ ends) bad s))
 
 module _ (completeness : Completeness) (listing : Listing) where
-  abbrev asked : SurveyAsked
+  abbrev asked : Options
   asked = record { completeness = completeness; listing = listing; lines = None }
 
   -- ---- what is said of events

@@ -1,5 +1,5 @@
 use Rattle.std.proofs.lemmas.Result.{err_from_is_err_and}
-use Rattle.lsp_replay.proofs.Passing.{unopened}
+use Rattle.lsp_replay.proofs.LastEvents.{unopened}
 use Rattle.lsp_replay.proofs.one_pass.pass.Goals as goal
 
 pub returns-in_err-reading-clause-passes : goal.returns-in_err-reading-clause-passes

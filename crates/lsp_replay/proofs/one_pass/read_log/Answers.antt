@@ -1,7 +1,8 @@
 use Rattle.std.proofs.Common.{◌∙◌, refl}
 use Rattle.std.proofs.lemmas.Result.{err_from_is_err_and}
-use Rattle.lsp_replay.proofs.Passing.{broke_next, end_all, goes_fewer, goes_on, goes_stop}
-use Rattle.lsp_replay.proofs.Passing.{goes_wrong, passing_first}
+use Rattle.lsp_replay.proofs.LastEvents.{end_all}
+use Rattle.lsp_replay.proofs.Passing.{broke_next, goes_fewer, goes_on, goes_stop, goes_wrong}
+use Rattle.lsp_replay.proofs.Passing.{passing_first}
 use Rattle.lsp_replay.proofs.one_pass.read_log.Goals as goal
 
 pub loop-fault-init : goal.loop-fault-init

@@ -1,6 +1,7 @@
-use Rattle.std.proofs.Common.{◌∙◌, refl, sym}
+use Rattle.std.proofs.Common.{◌∙◌, refl, sym, w32}
 use Rattle.std.proofs.lemmas.Int.{to_z-of_z}
 use Rattle.std.proofs.lemmas.Result.{IfOk-weaker}
+use mir.Val.{SFits}
 use Rattle.lsp_replay.proofs.Seeing.{comes_same, counted_on, noted_here, shown_answer}
 use Rattle.lsp_replay.proofs.Seeing.{shown_refused}
 use Rattle.lsp_replay.proofs.Seeing.{shown_rule, shown_silent, shown_stood}
@@ -11,6 +12,7 @@ returns-in_ok-flow-in-Ok-clause-saw g c = λ terms before h comes.
     let number = c.args.version in
     let uri = c.args.uri.now in
     let text = c.args.shown.now in
+    let fits : SFits w32 number = c.ranges.version in
     let accepts = simp to_z-of_z at c.in-Ok.ensures.accepts in
     let answer = simp to_z-of_z at c.in-Ok.ensures.answer in
     let counted = counted_on _ terms _ _ _ before h _ comes _ (λ events event counts whose.
@@ -36,6 +38,7 @@ returns-in_ok-rule-in-Err-clause-saw g c =
     let uri = c.args.uri.now in
     let text = c.args.shown.now in
     let rule = c.in_ok-rule-in-Err.rule in
+    let fits : SFits w32 number = c.ranges.version in
     let refuses = simp to_z-of_z at c.in-Err.ensures.refuses in
     let fault = sym c.from.ensures ∙ c.in_ok-rule-in-Err.ensures in
     IfOk-weaker c.skip.result _ _ (λ flow saw terms before h comes.
