@@ -6,14 +6,15 @@ use Rattle.std.proofs.Common.{Err, inl, inr, refl, sym, ap, subst, ◌∙◌, ap
 use Rattle.lsp_docs.specs.Terms.{Terms}
 use Rattle.lsp_frame.specs.Bounds.{Bounds, IsInRange}
 use Rattle.lsp_judge.specs.Checked.{IsCut, WritesVerdict}
-use Rattle.lsp_judge.specs.JudgingRun.{IsJudged, JudgingAsked, due_for, judging_run, no_of, said_by}
-use Rattle.lsp_judge.specs.JudgingRun.{shown_by, verdict_of}
+use Rattle.lsp_judge.specs.JudgingRun.{JudgingAsked, due_for, judging_run, said_by, shown_by}
+use Rattle.lsp_judge.specs.JudgingRun.{verdict_of}
 use Rattle.lsp_judge.specs.ShownLog.{BeginsShown, IsShown, Showed}
 use Rattle.lsp_judge.proofs.Checking.{faulted, verdict_written}
 use Rattle.lsp_judge.proofs.ShownLogs.{begins_shown}
 use Rattle.lsp_judge.proofs.Told.{EndsBy, ends_verdict, still_clean, told_end, told_front, told_no}
 use Rattle.lsp_replay.specs.Passes.{AllPassed, DueAt, PartPassed, Passes}
-use Rattle.lsp_replay.specs.Run.{EndsAfter, HasSaid, IsPassed, SaysAll, StopsIn}
+use Rattle.lsp_replay.specs.Run.{EndsAfter, HasSaid, IsJudged, IsPassed, SaysAll, StopsIn}
+use Rattle.lsp_replay.specs.Telling.{no_of}
 use Rattle.lsp_replay.proofs.PassEnds.{IsQuiet, cut_whole, part_begins, part_within, read_here}
 use Rattle.lsp_replay.proofs.PassEnds.{silent}
 use Rattle.lsp_replay.proofs.Seeing.{events-push}

@@ -1,7 +1,7 @@
 -- The steps of the accounts that end with the verdict on a log.
 use Rattle.std.specs.Prelude.{◌&&◌, is_some, not, option_map, unwrap_or}
 use Rattle.std.proofs.Common.{◌≡◌, ℕ, ◌+◌, ◌<◌, ◌^◌, Bool, true, false, List, [], ◌∷◌, ◌++◌, length}
-use Rattle.std.proofs.Common.{Option, Some, None, refl, sym, ap, subst, ◌∙◌, arith}
+use Rattle.std.proofs.Common.{Option, Some, None, refl, sym, ap, ◌∙◌, arith}
 use Rattle.std.proofs.Math.Bool.{and-true}
 use Rattle.std.proofs.lemmas.List.{length-map}
 use Rattle.lsp_docs.specs.State as docs
@@ -13,25 +13,26 @@ use Rattle.lsp_types.specs.declared.rules.TheConstants as rules
 use Rattle.lsp_types.specs.declared.side.Side.{Side}
 use Rattle.lsp_types.specs.declared.side.Side.TheVariants.{Editor, Server}
 use Rattle.lsp_judge.specs.Ending.{closed_by, end_by}
-use Rattle.lsp_judge.specs.JudgingRun.{JudgingAsked, completed_by, due_for, judging_run, no_of}
-use Rattle.lsp_judge.specs.JudgingRun.{said_by, shown_by, verdict_of}
+use Rattle.lsp_judge.specs.JudgingRun.{JudgingAsked, completed_by, due_for, judging_run, said_by}
+use Rattle.lsp_judge.specs.JudgingRun.{shown_by, verdict_of}
 use Rattle.lsp_judge.proofs.Finals.{by_end, by_log}
 use Rattle.lsp_judge.proofs.Told.{still_clean}
 use Rattle.lsp_replay.specs.LogEvents.{flaw_of}
 use Rattle.lsp_replay.specs.Run.{Tail}
-use Rattle.lsp_replay.specs.Standing.{Follows, Holds}
+use Rattle.lsp_replay.specs.Standing.{Follows}
 use Rattle.lsp_replay.specs.Streams.{decoder_of, ends_inside}
-use Rattle.lsp_replay.specs.Telling.{Closes, IsEnd, Says, Stood, rule_of}
+use Rattle.lsp_replay.specs.Telling.{Closes, IsEnd, Says, Stood, no_of, rule_of}
 use Rattle.lsp_replay.specs.declared.log_events.End.{End}
 use Rattle.lsp_replay.specs.declared.log_events.LogEvents.{LogEvents}
 use Rattle.lsp_replay.specs.declared.seen.Flow.TheVariants.{GoOn, Stop}
+use Rattle.lsp_replay.proofs.AllHeard.{few_events, follows_all}
 use Rattle.lsp_verdict.specs.Event.{Event, sent_in}
 use Rattle.lsp_verdict.specs.Given.{as_given, verdict_view}
 use Rattle.lsp_verdict.specs.Heard.{Heard, Rests, heard_events, notes_of, rest_of}
 use Rattle.lsp_verdict.specs.Offences.{Noted}
 use Rattle.lsp_verdict.specs.Outcome.{ending, is_rest}
 use Rattle.lsp_verdict.specs.Verdict.{Verdict, bad_log, bad_log_of, first_no, no_by, no_next}
-use Rattle.lsp_verdict.specs.Verdict.{offence, summary, verdict, whose, yes}
+use Rattle.lsp_verdict.specs.Verdict.{summary, verdict, whose, yes}
 use Rattle.lsp_verdict.specs.declared.completeness.Completeness.{Completeness}
 use Rattle.lsp_verdict.specs.declared.completeness.Completeness.TheVariants.{Ignored, Required}
 use Rattle.lsp_verdict.specs.declared.counts.Counts.{Counts}
@@ -39,42 +40,38 @@ use Rattle.lsp_verdict.specs.declared.outcome.Outcome.TheVariants.{Judged}
 use Rattle.lsp_verdict.specs.declared.verdict.Verdict as code
 use Rattle.lsp_verdict.specs.declared.verdict.Who.TheVariants as who
 use Rattle.lsp_verdict.proofs.ExactCounts.{no_exact, yes_exact}
-use Rattle.lsp_verdict.proofs.Offences.Offending.{all_are_kept, no_frame_fault}
-
-few_events : (heard : List Heard) (n : ℕ) → length heard + 1 < n
-    → length (heard_events heard) + 1 < n
-few_events heard n few = omega (
-  arith,
-  few,
-  length-map (notes_of heard) (λ (n : Noted). n.event),
-  length-map heard (λ (h : Heard). h.note),
-)
+use Rattle.lsp_verdict.proofs.Offences.Offending.{no_frame_fault}
 
 -- ---- an event
 
-module _ (terms : Terms) (before : List Heard) (h : Heard)
-    (clean : first_no terms (heard_events before) ≡ None) where
-  abbrev events : List Event
-  events = heard_events before
+module _ (terms : Terms) (before : List Heard) (h : Heard) where
+  abbrev no_by_rule : Option ℕ → Option Verdict
+  no_by_rule o = option_map (no_by (heard_events before) h.note.event) o
 
-  no_is : (o : Option ℕ) → rule_of terms before h ≡ o
-      → no_of terms before h ≡ option_map (no_by events h.note.event) o
-  no_is o is = ap (option_map (no_by events h.note.event))
-      (ap (λ es. offence terms es h.note.event) (sym (all_are_kept terms events clean)) ∙ is)
+  few_before : length before + 1 < 2 ^ 64 → length (heard_events before) + 1 < 2 ^ 64
+  few_before few = omega (
+    arith,
+    few,
+    length-map (notes_of before) (λ (n : Noted). n.event),
+    length-map before (λ (x : Heard). x.note),
+  )
 
   -- it is kept
   pub none_is : rule_of terms before h ≡ None → no_of terms before h ≡ None
-  none_is is = no_is None is
+  none_is is = ap no_by_rule is
 
   -- it offends
   pub given_is : (rule : ℕ) (given : Verdict) → rule_of terms before h ≡ Some rule
-      → length before + 1 < 2 ^ 64 → given ≡ as_given (no_by events h.note.event rule)
+      → length before + 1 < 2 ^ 64
+      → given ≡ as_given (no_by (heard_events before) h.note.event rule)
       → no_of terms before h ≡ Some given
   given_is rule given is few named =
-      no_is (Some rule) is ∙ ap Some (sym (named ∙ no_exact events rule (whose h.note.event)
-      (few_events before (2 ^ 64) few)))
+      ap no_by_rule is
+      ∙ ap Some (sym (named ∙ no_exact (heard_events before) rule (whose h.note.event)
+      (few_before few)))
 
-  module _ (asked : JudgingAsked) (Fits : Rests → Type 0) (old new : List ℕ) where
+  module _ (clean : first_no terms (heard_events before) ≡ None) (asked : JudgingAsked)
+      (Fits : Rests → Type 0) (old new : List ℕ) where
     pub kept_says : rule_of terms before h ≡ None → new ≡ old ++ shown_by asked.lines before h
         → Says (judging_run asked) terms before h Fits old new
         (first_no terms (heard_events (before ++ h ∷ [])) ≡ None) GoOn
@@ -89,7 +86,7 @@ module _ (terms : Terms) (before : List Heard) (h : Heard)
 
     pub offence_says : (rule : ℕ) (given : code.Verdict) → rule_of terms before h ≡ Some rule
         → length before + 1 < 2 ^ 64
-        → verdict_view given ≡ as_given (no_by events h.note.event rule)
+        → verdict_view given ≡ as_given (no_by (heard_events before) h.note.event rule)
         → new ≡ old ++ due_for asked.name (verdict_view given)
         → Says (judging_run asked) terms before h Fits old new
         (first_no terms (heard_events (before ++ h ∷ [])) ≡ None) (Stop (Judged given))
@@ -174,21 +171,14 @@ module _ (completeness : Completeness) (terms : Terms) (heard : List Heard) (m :
     (clean : first_no terms (heard_events heard) ≡ None)
     (told : (events : List Event) → Follows m d c events
     → verdict_view given ≡ closed_by completeness d.terms events e end) where
-  follows_all : Follows m d c (heard_events heard)
-  follows_all = record {
-    clean = ap (λ (t : Terms). first_no t (heard_events heard)) stood.by ∙ clean;
-    holds = subst (Holds m d) (all_are_kept terms (heard_events heard) clean) stood.holds;
-    counted = stood.counted;
-  }
-
   -- **it is the verdict, whatever end the log has that fits**
   pub ends_given : (tail : Tail) → IsEnd e end heard tail
       → verdict_view given ≡ verdict_of completeness terms heard tail
   ends_given tail fits =
-      told (heard_events heard) follows_all
+      told (heard_events heard) (follows_all terms heard m d c stood clean)
       ∙ ap (λ (t : Terms). closed_by completeness t (heard_events heard) e end) stood.by
       ∙ closed_is completeness terms heard e end clean tail fits
-      (few_events heard (2 ^ 64) (omega (arith, few)))
+      (few_events heard few)
 
   pub verdict_closes : (asked : JudgingAsked) (old new : List ℕ)
       → completeness ≡ asked.completeness

@@ -14,7 +14,6 @@ use Rattle.lsp_frame.specs.declared.format.Format.{Format}
 use Rattle.lsp_types.specs.declared.side.Side.TheVariants.{Editor}
 use Rattle.lsp_docs.specs.Documents.{held}
 use Rattle.lsp_docs.specs.Terms.{Terms}
-use Rattle.lsp_judge.specs.JudgingRun.{no_of}
 use Rattle.lsp_judge.specs.TextRun.{IsOpen, answer_at, answer_behind, answer_by, given_as, said_of}
 use Rattle.lsp_judge.specs.TextRun.{text_run}
 use Rattle.lsp_judge.proofs.JudgingRuns.{no_none}
@@ -22,6 +21,7 @@ use Rattle.lsp_judge.proofs.KeptEvents.{kept_within, kept_clean, kept_no, kept_f
 use Rattle.lsp_judge.proofs.Told.{BeginsBy, EndsAt, still_clean, told_at, told_end, told_front}
 use Rattle.lsp_replay.specs.Passes.{Passes}
 use Rattle.lsp_replay.specs.Run.{EndsAfter, IsPassed, IsTold, SaysAll, StopsIn}
+use Rattle.lsp_replay.specs.Telling.{no_of}
 use Rattle.lsp_replay.specs.TextAnswers.{FindsText, TextAsked, WritesText, answer_view, is_reached}
 use Rattle.lsp_replay.specs.declared.text_answer.TextAnswer as code
 use Rattle.lsp_replay.proofs.PassEnds.{IsQuiet, quiet_all}

@@ -10,13 +10,13 @@ use Rattle.lsp_docs.specs.State as docs
 use Rattle.lsp_docs.specs.Terms.{Terms}
 use Rattle.lsp_session.specs.State as session
 use Rattle.lsp_types.specs.declared.side.Side.TheVariants.{Editor}
-use Rattle.lsp_judge.specs.JudgingRun.{no_of, verdict_of}
+use Rattle.lsp_judge.specs.JudgingRun.{verdict_of}
 use Rattle.lsp_judge.specs.TextRun.{IsOpen, answer_at, answer_behind, answer_by, said_of, text_run}
 use Rattle.lsp_judge.proofs.JudgingSteps.{given_is, none_is}
 use Rattle.lsp_judge.proofs.TextRuns.{still_open}
 use Rattle.lsp_judge.proofs.Told.{still_clean}
 use Rattle.lsp_replay.specs.Run.{Tail}
-use Rattle.lsp_replay.specs.Telling.{Closes, Says, Stood, rule_of}
+use Rattle.lsp_replay.specs.Telling.{Closes, Says, Stood, no_of, rule_of}
 use Rattle.lsp_replay.specs.TextAnswers.{TextAsked, is_reached}
 use Rattle.lsp_replay.specs.declared.seen.Flow.TheVariants.{GoOn, Stop}
 use Rattle.lsp_replay.proofs.Reached.{count_exact}
@@ -66,13 +66,13 @@ module _ (asked : TextAsked) (terms : Terms) (before : List Heard) (h : Heard)
   says_missing rule given new answer outcome Stands is few named missing added ends =
       says_answer new answer outcome Stands
       (ap (λ o. answer_by o (is_reached asked.number before h) text_here)
-      (given_is terms before h open.0 rule given is few named) ∙ ap Some (sym missing)) added ends
+      (given_is terms before h rule given is few named) ∙ ap Some (sym missing)) added ends
 
   -- it is kept
   module _ (m : session.State) (d : docs.State) (c : Counts) (stood : Stood terms m d c on)
       (few : length before + 1 < 2 ^ 64) (kept : rule_of terms before h ≡ None) where
     none : no_of terms before h ≡ None
-    none = none_is terms before h open.0 kept
+    none = none_is terms before h kept
 
     -- and the message
     pub says_held : (new : List ℕ) (answer : TextAnswer) (outcome : Outcome) (Stands : Type 0)

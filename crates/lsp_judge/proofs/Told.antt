@@ -1,5 +1,5 @@
 -- The verdict on a log that was told to its end, and the events before its place.
-use Rattle.std.specs.Prelude.{unwrap_or}
+use Rattle.std.specs.Prelude.{option_map, unwrap_or}
 use Rattle.std.specs.List.{AllZip}
 use Rattle.std.specs.Option.{option_or}
 use Rattle.std.proofs.Common.{◌≡◌, ℕ, List, [], ◌∷◌, ◌++◌, Option, Some, None, refl, sym, ap, subst}
@@ -8,9 +8,10 @@ use Rattle.lsp_docs.specs.Terms.{Terms}
 use Rattle.lsp_frame.specs.Bounds.{Bounds}
 use Rattle.lsp_frame.specs.declared.format.Format.{Format}
 use Rattle.lsp_log.specs.Log.{Record}
-use Rattle.lsp_judge.specs.JudgingRun.{no_of, verdict_of}
+use Rattle.lsp_judge.specs.JudgingRun.{verdict_of}
 use Rattle.lsp_judge.proofs.KeptEvents.{kept_clean, kept_final, kept_more, kept_no, kept_within}
 use Rattle.lsp_replay.specs.Run.{IsTold, Tail}
+use Rattle.lsp_replay.specs.Telling.{no_of, rule_of}
 use Rattle.lsp_replay.proofs.Seeing.{events-join, events-push}
 use Rattle.lsp_verdict.specs.Complete.{IsVerdictBy, completed}
 use Rattle.lsp_verdict.specs.Event.{Event}
@@ -26,6 +27,7 @@ use Rattle.lsp_verdict.specs.declared.completeness.Completeness.TheVariants.{Ign
 use Rattle.lsp_verdict.proofs.Completing.{completed_other}
 use Rattle.lsp_verdict.proofs.Finding.{map_some}
 use Rattle.lsp_verdict.proofs.LookBackLemmas.{first_of-snoc}
+use Rattle.lsp_verdict.proofs.Offences.Offending.{all_are_kept}
 use Rattle.lsp_verdict.proofs.Verdicts.{no_found}
 
 -- **this is the verdict on the log, and these are the events before its place**
@@ -61,6 +63,14 @@ ends_verdict Required limits log front v ends = record {
 
 -- ---- events of which none offends
 
+no_is : (terms : Terms) (before : List Heard) (h : Heard)
+    → first_no terms (heard_events before) ≡ None
+    → no_at terms (heard_events before) h.note.event ≡ no_of terms before h
+no_is terms before h clean =
+    let events = heard_events before in
+    ap (λ es. option_map (no_by events h.note.event) (offence terms es h.note.event))
+    (sym (all_are_kept terms events clean))
+
 -- one more does not
 pub still_clean : (terms : Terms) (before : List Heard) (h : Heard)
     → first_no terms (heard_events before) ≡ None → no_of terms before h ≡ None
@@ -68,7 +78,8 @@ pub still_clean : (terms : Terms) (before : List Heard) (h : Heard)
 still_clean terms before h clean none =
     ap (first_no terms) (events-push before h)
     ∙ first_of-snoc (no_at terms) (heard_events before) h.note.event
-    ∙ ap (λ o. option_or o (no_of terms before h)) clean ∙ none
+    ∙ ap (λ o. option_or o (no_at terms (heard_events before) h.note.event)) clean
+    ∙ no_is terms before h clean ∙ none
 
 -- ---- a log that was told
 
@@ -160,6 +171,9 @@ module _ (limits : Bounds) (log : List ℕ) (format : Option Format) (records : 
   module _ (first later : List Heard) (here : Heard) (are : heard ≡ first ++ here ∷ later)
       (clean : first_no terms (heard_events first) ≡ None) (v : Verdict)
       (is : no_of terms first here ≡ Some v) where
+    offends : no_at terms (heard_events first) here.note.event ≡ Some v
+    offends = no_is terms first here clean ∙ is
+
     events_are : events ≡ heard_events first ++ here.note.event ∷ heard_events later
     events_are = ap heard_events are ∙ events-join first (here ∷ later)
 
@@ -167,14 +181,15 @@ module _ (limits : Bounds) (log : List ℕ) (format : Option Format) (records : 
     named = ap (λ o. unwrap_or (option_or o (option_or (bad_log_of end.log_fault)
         (rest_of events end.editor_rest end.server_rest))) (yes (summary terms events)))
         (ap (first_no terms) events_are ∙ no_found terms [] (heard_events first)
-        (heard_events later) here.note.event v clean is)
+        (heard_events later) here.note.event v clean offends)
 
     pub told_at : EndsAt limits log (heard_events first) v
     unfolding told_verdict
     told_at = subst (EndsAt limits log (heard_events first)) named (
       told_verdict limits log format records heard tail told,
       kept_final terms events end plain refl ∙ ap (kept_within terms) events_are
-          ∙ kept_no terms (heard_events first) here.note.event (heard_events later) v clean is,
+          ∙ kept_no terms (heard_events first) here.note.event (heard_events later) v clean
+          offends,
     )
 
     -- whether or not the session must be complete
@@ -186,6 +201,6 @@ module _ (limits : Bounds) (log : List ℕ) (format : Option Format) (records : 
         other : (s : Summary) → v ≡ yes s → ⊥
         other s same =
             let by = map_some (no_by (heard_events first) here.note.event)
-            (offence terms (heard_events first) here.note.event) v is in
+            (rule_of terms first here) v is in
             let no = by.2 ∙ same in
             absurd (cc no)

@@ -3,20 +3,17 @@ use Rattle.std.specs.Prelude.{◌≡◌, ℕ, List, [], Option, Some, None, is_s
 use Rattle.lsp_docs.specs.Terms.{Terms}
 use Rattle.lsp_judge.specs.CheckedLine.{line_for}
 use Rattle.lsp_replay.specs.Lines.{heard_line}
-use Rattle.lsp_replay.specs.Run.{Run, Tail}
+use Rattle.lsp_replay.specs.Run.{IsJudged, Run, Tail}
+use Rattle.lsp_replay.specs.Telling.{no_of}
 use Rattle.lsp_verdict.specs.Complete.{completed}
 use Rattle.lsp_verdict.specs.Event.{Event}
-use Rattle.lsp_verdict.specs.Given.{verdict_view}
 use Rattle.lsp_verdict.specs.Heard.{Heard, heard_events}
 use Rattle.lsp_verdict.specs.Outcome.{ending}
 use Rattle.lsp_verdict.specs.Report.{report}
-use Rattle.lsp_verdict.specs.Verdict.{Verdict, no_at, verdict}
+use Rattle.lsp_verdict.specs.Verdict.{Verdict, verdict}
 use Rattle.lsp_verdict.specs.declared.completeness.Completeness.{Completeness}
 use Rattle.lsp_verdict.specs.declared.completeness.Completeness.TheVariants.{Ignored, Required}
 use Rattle.lsp_verdict.specs.declared.lines.Lines.{Lines}
-use Rattle.lsp_verdict.specs.declared.outcome.Outcome.{Outcome}
-use Rattle.lsp_verdict.specs.declared.outcome.Outcome.TheVariants.{Judged}
-use Rattle.lsp_verdict.specs.declared.verdict.Verdict as code
 
 -- what is asked: whether the session must be complete; by which lines the events before the
 -- verdict's place are shown, or by none; and the name of one of several logs, or none
@@ -37,10 +34,6 @@ abbrev pub shown_by : Option Lines → List Heard → Heard → List ℕ
 shown_by None before h = []
 shown_by (Some lines) before h = heard_line lines before h
 
--- the No at it
-abbrev pub no_of : Terms → List Heard → Heard → Option Verdict
-no_of terms before h = no_at terms (heard_events before) h.note.event
-
 -- what is due for this No, else its line
 abbrev pub said_by : JudgingAsked → List Heard → Heard → Option Verdict → List ℕ
 said_by asked before h None = shown_by asked.lines before h
@@ -59,10 +52,6 @@ verdict_of completeness terms heard tail =
     (ending tail.fault tail.rests.editor tail.rests.server))
 
 -- ---- the run
-
--- it ends with this verdict
-abbrev pub IsJudged : Verdict → Outcome → Type 0
-IsJudged v outcome = (given : code.Verdict) × (outcome ≡ Judged given) × (verdict_view given ≡ v)
 
 -- **the runs `check` and `show`, which stop at the first No**
 abbrev pub judging_run : JudgingAsked → Run

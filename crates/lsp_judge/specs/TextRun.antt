@@ -3,8 +3,9 @@ use Rattle.std.specs.Prelude.{◌≡◌, ◌<◌, ℕ, List, [], ◌∷◌, ◌+
 use Rattle.std.specs.Prelude.{None, chars, is_some}
 use Rattle.lsp_docs.specs.Documents.{held}
 use Rattle.lsp_docs.specs.Terms.{Terms}
-use Rattle.lsp_judge.specs.JudgingRun.{no_of, verdict_of}
+use Rattle.lsp_judge.specs.JudgingRun.{verdict_of}
 use Rattle.lsp_replay.specs.Run.{Run, Tail}
+use Rattle.lsp_replay.specs.Telling.{no_of}
 use Rattle.lsp_replay.specs.TextAnswers.{TextAsked, is_reached}
 use Rattle.lsp_types.specs.declared.side.Side.TheVariants.{Editor}
 use Rattle.lsp_verdict.specs.Calls.{calls}

@@ -1,8 +1,9 @@
 //! The text that is held after a message of the editor's.
-ghost use Rattle.std.specs.Prelude.{◌≡◌, ◌<◌, Some, length, string_bytes};
+ghost use Rattle.std.specs.Prelude.{◌≡◌, ◌<◌, ℕ, IfOk, Some, length, string_bytes};
 ghost use Rattle.lsp_judge.specs.TextRun.{IsOpen, given_as, text_run};
 ghost use Rattle.lsp_replay.specs.TextAnswers.{FindsText, TextAsked, WritesText, answer_view};
 ghost use Rattle.lsp_verdict.specs.Ports.{ports};
+ghost use Rattle.lsp_verdict.specs.RunIo.{failures_after};
 ghost use Rattle.lsp_verdict.specs.TextAfter.{AnswersText};
 
 use crate::ending::verdict_at;
@@ -41,11 +42,10 @@ pub fn text_after<R: Source>(
     match run_text(alloc, reader, &mut written, limits, number, uri) {
         Ok(outcome) => {
             let Written { bytes, failures: _ } = written;
-            let text = String::from_utf8(bytes).map_err(|_| RunFault::Memory)?;
+            let text = text_of(bytes)?;
             Ok(answer_of(outcome, text))
         }
-        Err(RunFault::Read) => Err(RunFault::Read),
-        Err(RunFault::Write | RunFault::Memory) => Err(RunFault::Memory),
+        Err(fault) => Err(in_memory(fault)),
     }
 }
 
@@ -92,6 +92,24 @@ impl Sink for Written {
         }
         Ok(bytes.len())
     }
+}
+
+/// The fault of a run that writes into memory, of which more was refused where a write failed.
+fn in_memory(fault: RunFault) -> RunFault
+    ensures source { (n : ℕ) → failures_after fault n ≡ failures_after result n }
+    ensures unwritten { result ≡ RunFault.Write → ⊥ }
+{
+    match fault {
+        RunFault::Read => RunFault::Read,
+        RunFault::Write | RunFault::Memory => RunFault::Memory,
+    }
+}
+
+/// The text that these bytes are.
+fn text_of(bytes: Vec<u8>) -> Result<String, Memory>
+    ensures { IfOk result (λ text. string_bytes text ≡ bytes.items) }
+{
+    String::from_utf8(bytes).map_err(|_| Memory)
 }
 
 /// The answer of a run that ended so and wrote this.
