@@ -1,22 +1,19 @@
 -- What is said where the verdict on a log is explained, or all that is wrong with it.
 use Rattle.std.specs.Prelude.{◌≡◌, ℕ, List, [], ◌∷◌, ◌++◌, map, take, filter, false, is_some}
-use Rattle.std.specs.Prelude.{Option, Some, None, option_map}
+use Rattle.std.specs.Prelude.{Option, Some, None}
 use Rattle.std.specs.List.{AllZip, cons_option, flat_map}
 use Rattle.lsp_docs.specs.Terms.{Terms}
 use Rattle.lsp_log.specs.declared.fault.LogCode.{LogCode}
-use Rattle.lsp_replay.specs.Run.{Run, Tail}
-use Rattle.lsp_replay.specs.Telling.{rule_of}
+use Rattle.lsp_replay.specs.Run.{IsJudged, Run, Tail}
+use Rattle.lsp_replay.specs.Telling.{no_of}
 use Rattle.lsp_survey.specs.Asking.{numbered}
-use Rattle.lsp_verdict.specs.Given.{verdict_view}
 use Rattle.lsp_verdict.specs.Heard.{Heard, Rests, heard_events, notes_of}
 use Rattle.lsp_verdict.specs.Offences.{Offence, offences}
 use Rattle.lsp_verdict.specs.Outcome.{ending}
 use Rattle.lsp_verdict.specs.Survey.{by_itself, ends_listed, first_verdict}
-use Rattle.lsp_verdict.specs.Verdict.{Verdict, bad_log_of, no_by, summary}
+use Rattle.lsp_verdict.specs.Verdict.{Verdict, bad_log_of, summary}
 use Rattle.lsp_verdict.specs.declared.completeness.Completeness.{Completeness}
 use Rattle.lsp_verdict.specs.declared.outcome.Outcome.{Outcome}
-use Rattle.lsp_verdict.specs.declared.outcome.Outcome.TheVariants.{Judged}
-use Rattle.lsp_verdict.specs.declared.verdict.Verdict as code
 use Rattle.lsp_facts.specs.Fact.{Fact}
 use Rattle.lsp_facts.specs.FlawFacts.{flaw_facts}
 use Rattle.lsp_explain.specs.AllExplained.{all_closing, cause_lines, is_cause}
@@ -36,10 +33,6 @@ abbrev pub SaysFirst : Rests → Terms → Option Breach → List ℕ → Type 0
 SaysFirst rests terms None out = out ≡ []
 SaysFirst rests terms (Some b) out =
     (e : Explained) × Explains rests terms b e × (out ≡ first_lines terms b.before e)
-
--- the No at an event after these, where it offends
-abbrev pub no_of : Terms → List Heard → Heard → Option Verdict
-no_of terms before h = option_map (no_by (heard_events before) h.note.event) (rule_of terms before h)
 
 -- the cause that an event is after these, if it is one
 abbrev pub cause_at : Terms → List Heard → Heard → List Breach
@@ -102,10 +95,6 @@ all_end terms heard rests fault flaw ends =
     (summary terms (heard_events heard))
 
 -- ---- the runs
-
-abbrev pub IsJudged : Verdict → Outcome → Type 0
-IsJudged v outcome =
-    (given : code.Verdict) × (outcome ≡ Judged given) × (verdict_view given ≡ v)
 
 -- **the run `explain`**: it explains the first event that offends, and stops there
 abbrev pub explain_run : Completeness → Run

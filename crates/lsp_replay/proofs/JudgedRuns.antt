@@ -1,9 +1,9 @@
 -- What a run that judges a log answers and writes follows from what a pass does.
-use Rattle.std.proofs.Common.{◌≡◌, ℕ, List, [], ◌++◌, Result, Ok, Err, sym, subst, ◌∙◌}
+use Rattle.std.proofs.Common.{◌≡◌, ℕ, List, ◌++◌, Result, Ok, Err, sym, subst, ◌∙◌}
 use Rattle.lsp_frame.specs.Bounds.{Bounds, IsInRange}
 use Rattle.lsp_replay.specs.Passes.{AllPassed, Passes}
 use Rattle.lsp_replay.specs.Run.{HasSaid, IsPassed, Run}
-use Rattle.lsp_replay.proofs.PassEnds.{here, part_begins}
+use Rattle.lsp_replay.proofs.PassEnds.{part_begins, read_here}
 use Rattle.lsp_verdict.specs.Given.{verdict_view}
 use Rattle.lsp_verdict.specs.Outcome.{IsVerdict}
 use Rattle.lsp_verdict.specs.Ports.{Ports}
@@ -36,7 +36,7 @@ module _ (run : Run) (limits : Bounds) (sizes : IsInRange limits)
   all_judged : (outcome : Outcome) → AllPassed run limits io.source_before io.source_after
       io.sink_before io.sink_after outcome → Judges limits io IsRight IsDue Begins (Ok outcome)
   all_judged outcome a =
-      let own = passed a.due.bytes a.out outcome (here limits io.source_before io.source_after
+      let own = passed a.due.bytes a.out outcome (read_here limits io.source_before io.source_after
       (λ log. IsPassed run limits log a.out outcome) a.due) in
       let due : OfRead limits io.source_before io.source_after
       (λ log. IsDue log (verdict_view own.0) a.out) =

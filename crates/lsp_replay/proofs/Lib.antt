@@ -4,7 +4,6 @@ pub mod Hearing
 pub mod Following
 pub mod Reached
 pub mod EventPlaces
-pub mod TextRuns
 pub mod Listing
 pub mod Giving
 pub mod FrameSteps
@@ -24,3 +23,4 @@ pub mod PassEnds
 pub mod JudgedRuns
 pub mod SeenLines
 pub mod AllHeard
+pub mod TextRuns
