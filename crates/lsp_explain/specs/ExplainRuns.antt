@@ -5,7 +5,7 @@ use Rattle.std.specs.List.{AllZip, cons_option, flat_map}
 use Rattle.lsp_docs.specs.Terms.{Terms}
 use Rattle.lsp_log.specs.declared.fault.LogCode.{LogCode}
 use Rattle.lsp_replay.specs.Run.{IsJudged, Run, Tail}
-use Rattle.lsp_replay.specs.Telling.{no_of}
+use Rattle.lsp_replay.specs.Telling.{no_of, rule_of}
 use Rattle.lsp_survey.specs.Asking.{numbered}
 use Rattle.lsp_verdict.specs.Heard.{Heard, Rests, heard_events, notes_of}
 use Rattle.lsp_verdict.specs.Offences.{Offence, offences}
