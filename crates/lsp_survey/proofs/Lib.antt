@@ -15,11 +15,7 @@ pub mod Waiting
 pub mod SidesSteps
 pub mod PassedSteps
 pub mod Losing
-pub mod Passing
-pub mod Hearing
 pub mod Ending
-pub mod Reading
-pub mod LogEnds
 pub mod SessionEnds
 pub mod Reporting
 pub mod Told

@@ -13,9 +13,7 @@ pub mod Renames
 pub mod SessionNoting
 pub mod Passed
 pub mod Sides
-pub mod Walking
 pub mod Ending
-pub mod Reads
 pub mod Reported
 pub mod KeptText
 pub mod AllShown

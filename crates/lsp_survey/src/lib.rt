@@ -15,12 +15,9 @@ mod laws;
 mod losses;
 mod notes;
 mod offence_count;
-mod offending;
-mod replay;
 mod run;
 mod session_end;
 mod survey;
-mod survey_reader;
 mod text;
 
 pub use laws::{all_shown_is_report, one_all_shown, one_kept_text};
@@ -31,8 +28,6 @@ pub use notes::{
     folded, uri_in,
 };
 pub use offence_count::{OffenceCount, last_offence};
-pub use offending::{FoundOffence, Judged, OffendingEvent};
 pub use run::{run_show_all, run_survey};
 pub use session_end::{SessionEnd, session_end, sound};
-pub use survey_reader::{NextJudged, SurveyEnd, SurveyReader};
 pub use text::run_text_all;
