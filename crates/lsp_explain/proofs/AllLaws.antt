@@ -6,7 +6,7 @@ use Rattle.std.proofs.Common.{sym, ap, ◌∙◌}
 use Rattle.std.proofs.lemmas.List.{map-append}
 use Rattle.std.proofs.lemmas.List.Elements.{filter-append}
 use Rattle.lsp_docs.specs.Terms.{Terms}
-use Rattle.lsp_survey.specs.Asking.{Numbered, numbered}
+use Rattle.lsp_explain.specs.Asking.{Numbered, numbered}
 use Rattle.lsp_verdict.specs.Heard.{Heard, Rests, notes_of}
 use Rattle.lsp_verdict.specs.Offences.{Noted, Offence, events_of, offences}
 use Rattle.lsp_verdict.specs.Outcome.{ending, log_terms}

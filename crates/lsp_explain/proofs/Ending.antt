@@ -21,7 +21,7 @@ use Rattle.lsp_session.specs.Incomplete.{incomplete, is_any_open}
 use Rattle.lsp_session.specs.Negotiation.{first_row}
 use Rattle.lsp_session.specs.Requests.{open_requests}
 use Rattle.lsp_session.specs.Sent.{is_exit}
-use Rattle.lsp_survey.specs.Asking.{Numbered, numbered}
+use Rattle.lsp_explain.specs.Asking.{Numbered, numbered}
 use Rattle.lsp_survey.specs.Reported.{count_line, verdict_lines}
 use Rattle.lsp_types.specs.declared.side.Side.TheVariants.{Editor, Server}
 use Rattle.lsp_verdict.specs.Event.{Event, sent_in}

@@ -1,3 +1,15 @@
+pub mod LastOnes
+pub mod Exchanging
+pub mod Marking
+pub mod MarkSteps
+pub mod MarksWorked
+pub mod TouchedSteps
+pub mod OpeningSteps
+pub mod RemarkSteps
+pub mod RenameSteps
+pub mod RenamesWorked
+pub mod SessionSteps
+pub mod Waiting
 pub mod ExplainedReport
 pub mod Explaining
 pub mod ToldLogs

@@ -10,7 +10,7 @@ use Rattle.lsp_frame.specs.declared.format.Format.{Format}
 use Rattle.lsp_log.specs.Log.{Record, IsLog}
 use Rattle.lsp_log.specs.declared.fault.LogCode.{LogCode}
 use Rattle.lsp_replay.proofs.FirstEvents.{some_heard}
-use Rattle.lsp_survey.specs.Asking.{numbered}
+use Rattle.lsp_explain.specs.Asking.{numbered}
 use Rattle.lsp_types.specs.declared.side.Side.TheVariants.{Editor, Server}
 use Rattle.lsp_verdict.specs.Event.{Event}
 use Rattle.lsp_verdict.specs.Heard.{Heard, Rests, notes_of, raws_of}

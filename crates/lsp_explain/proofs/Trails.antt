@@ -15,13 +15,13 @@ use Rattle.lsp_rpc.specs.View.{act_view, message_view}
 use Rattle.lsp_rpc.specs.declared.act.Spoken.{Spoken}
 use Rattle.lsp_session.specs.Sent.{Sent}
 use Rattle.lsp_session.specs.State as session
-use Rattle.lsp_survey.specs.Marks.{AreMarks, DoneBy, ShownBy}
-use Rattle.lsp_survey.specs.Openings.{OpeningsShown, OpensBy}
-use Rattle.lsp_survey.specs.SessionNoting.{AreNotes, SaysOn}
-use Rattle.lsp_survey.specs.declared.notes.session_notes.SessionNotes.{SessionNotes}
-use Rattle.lsp_survey.proofs.MarkSteps.{act_done, refused_leaves, shown_done}
-use Rattle.lsp_survey.proofs.OpeningSteps.{act_opened, refused_opens, shown_opened}
-use Rattle.lsp_survey.proofs.SessionSteps.{message_noted, other_unsaid, refused_unsaid}
+use Rattle.lsp_explain.specs.Marks.{AreMarks, DoneBy, ShownBy}
+use Rattle.lsp_explain.specs.Openings.{OpeningsShown, OpensBy}
+use Rattle.lsp_explain.specs.SessionNoting.{AreNotes, SaysOn}
+use Rattle.lsp_explain.specs.declared.notes.session_notes.SessionNotes.{SessionNotes}
+use Rattle.lsp_explain.proofs.MarkSteps.{act_done, refused_leaves, shown_done}
+use Rattle.lsp_explain.proofs.OpeningSteps.{act_opened, refused_opens, shown_opened}
+use Rattle.lsp_explain.proofs.SessionSteps.{message_noted, other_unsaid, refused_unsaid}
 use Rattle.lsp_types.specs.declared.change.SyncKind.{SyncKind}
 use Rattle.lsp_types.specs.declared.position.Encoding.{Encoding}
 use Rattle.lsp_types.specs.declared.side.Side.{Side}

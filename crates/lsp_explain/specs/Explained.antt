@@ -33,7 +33,7 @@ use Rattle.lsp_facts.specs.MessageFacts.{front_facts}
 use Rattle.lsp_facts.specs.Lines.{detail_lines, event_line, end_event}
 use Rattle.lsp_explain.specs.Remarks.{Noticed, noticed, remark_lines, remarks_of}
 use Rattle.lsp_explain.specs.Traced.{AreTraced, lack_traced}
-use Rattle.lsp_survey.specs.Asking.{Numbered, numbered}
+use Rattle.lsp_explain.specs.Asking.{Numbered, numbered}
 use Rattle.lsp_replay.specs.declared.heard.EventPlace.{EventPlace}
 use Rattle.lsp_types.specs.declared.rules.TheConstants as rules
 

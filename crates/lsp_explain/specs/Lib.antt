@@ -1,3 +1,14 @@
+pub mod LastOnes
+pub mod Asking
+pub mod Marking
+pub mod Marks
+pub mod Touched
+pub mod Openings
+pub mod StandardMethods
+pub mod Misuses
+pub mod SessionRemarks
+pub mod Renames
+pub mod SessionNoting
 pub mod Suspects
 pub mod Unopened
 pub mod Twins

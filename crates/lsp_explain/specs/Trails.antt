@@ -1,9 +1,9 @@
 -- What is noted of the events of a session on the way.
 use Rattle.std.specs.Prelude.{List}
 use Rattle.lsp_docs.specs.Terms.{Terms}
-use Rattle.lsp_survey.specs.Marks.{AreMarks}
-use Rattle.lsp_survey.specs.Openings.{AreOpenings}
-use Rattle.lsp_survey.specs.SessionNoting.{AreNotes}
+use Rattle.lsp_explain.specs.Marks.{AreMarks}
+use Rattle.lsp_explain.specs.Openings.{AreOpenings}
+use Rattle.lsp_explain.specs.SessionNoting.{AreNotes}
 use Rattle.lsp_verdict.specs.Event.{Event}
 use Rattle.lsp_explain.specs.declared.trail.Trail.{Trail}
 

@@ -8,6 +8,7 @@
 
 mod compared;
 mod laws;
+mod notes;
 mod offence_facts;
 mod remarks;
 mod run;

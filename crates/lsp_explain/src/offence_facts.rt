@@ -6,7 +6,7 @@ ghost use Rattle.lsp_replay.specs.LogEvents.{flaw_of};
 ghost use Rattle.lsp_replay.specs.Places.{place_of};
 ghost use Rattle.lsp_replay.specs.Telling.{IsSeen, MaySpeak, ShowsFault};
 ghost use Rattle.lsp_replay.specs.declared.seen.Seen.TheVariants as variants;
-ghost use Rattle.lsp_survey.specs.Asking.{numbered};
+ghost use Rattle.lsp_explain.specs.Asking.{numbered};
 ghost use Rattle.lsp_verdict.specs.Event.{Event};
 ghost use Rattle.lsp_verdict.specs.Given.{offence_view};
 ghost use Rattle.lsp_verdict.specs.Heard.{Heard, Rests, heard_events, rest_of};

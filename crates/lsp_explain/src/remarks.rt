@@ -2,9 +2,9 @@
 ghost use Rattle.std.specs.Prelude.{◌≡◌, ◌++◌, ◌∷◌, [], List, OnOk, IfOk, map, option_map, codes};
 ghost use Rattle.std.specs.Prelude.{option_to_list, string_bytes};
 ghost use Rattle.json.specs.Print.{quoted};
-ghost use Rattle.lsp_survey.specs.Misuses.{misused_views};
-ghost use Rattle.lsp_survey.specs.Renames.{renamed_view};
-ghost use Rattle.lsp_survey.specs.Touched.{names_view};
+ghost use Rattle.lsp_explain.specs.Misuses.{misused_views};
+ghost use Rattle.lsp_explain.specs.Renames.{renamed_view};
+ghost use Rattle.lsp_explain.specs.Touched.{names_view};
 ghost use Rattle.lsp_verdict.specs.Event.{Event};
 ghost use Rattle.lsp_verdict.specs.Given.{verdict_view};
 ghost use Rattle.lsp_explain.specs.Remarks as spec;
@@ -13,12 +13,12 @@ ghost use Rattle.lsp_explain.specs.Remarks.{noticed, old_name_remarks, remark_li
 ghost use Rattle.lsp_explain.specs.Remarks.{uncompared, unshown_line};
 ghost use Rattle.lsp_explain.specs.Standing.{StandsAfter, terms_in};
 
+use crate::notes::{Misuse, Misused, Renamed};
 use crate::trace::push_earlier;
 use crate::trail::Past;
 use lsp_facts::{Facts, encoding_name, push_facts};
 use lsp_replay::EventPlace;
 use lsp_rpc::{Encoding, Memory};
-use lsp_survey::{Misuse, Misused, Renamed};
 use lsp_verdict::Verdict;
 use std::alloc::Global;
 use std::fmt::Write;

@@ -12,10 +12,10 @@ ghost use Rattle.lsp_verdict.specs.Offences.{IsNoted};
 ghost use Rattle.lsp_verdict.specs.Placed as placed;
 ghost use Rattle.lsp_explain.specs.Trails.{IsTrail};
 
+use crate::notes::{Marks, Openings, SessionNotes};
 use lsp_docs::Match;
 use lsp_replay::{EventPlace, Events, Seen};
 use lsp_rpc::{Memory, Side, Spoken};
-use lsp_survey::{Marks, Openings, SessionNotes};
 use lsp_text::Lined;
 use lsp_verdict::{Who, who_of};
 use std::alloc::Global;

@@ -2,17 +2,18 @@
 ghost use Rattle.std.specs.Prelude.{◌≡◌, ◌++◌, List, IfOk, OnOk};
 ghost use Rattle.std.specs.List.{flat_map};
 ghost use Rattle.lsp_rpc.specs.View.{act_view};
-ghost use Rattle.lsp_survey.specs.Openings.{on_view, ons_view};
+ghost use Rattle.lsp_explain.specs.Openings.{on_view, ons_view};
 ghost use Rattle.lsp_verdict.specs.Event.{Event};
 ghost use Rattle.lsp_explain.specs.Standing.{StandsAfter, terms_in};
 ghost use Rattle.lsp_explain.specs.Traced.{act_call};
 ghost use Rattle.lsp_explain.specs.Unopened as spec;
 
+use crate::notes::{Closing, DocumentEvent};
 use crate::trail::Past;
 use lsp_facts::Facts;
 use lsp_replay::EventPlace;
 use lsp_rpc::{Act, Memory};
-use lsp_survey::{Closing, DocumentEvent, folded, uri_in};
+use lsp_survey::{folded, uri_in};
 use lsp_types::rules;
 use std::alloc::Global;
 

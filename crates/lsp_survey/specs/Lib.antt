@@ -1,16 +1,6 @@
+pub mod ById
 pub mod ByUri
 pub mod Notes
-pub mod LastOnes
-pub mod Asking
-pub mod Marking
-pub mod Marks
-pub mod Touched
-pub mod Openings
-pub mod StandardMethods
-pub mod Misuses
-pub mod Remarks
-pub mod Renames
-pub mod SessionNoting
 pub mod Passed
 pub mod Sides
 pub mod Ending

@@ -1,7 +1,7 @@
 use Rattle.std.proofs.Common.{◌∙◌, ◌++◌, List, ℕ, ap, string_bytes, append_assoc}
 use Rattle.std.proofs.lemmas.Result.{on_ok_weaker}
 use Rattle.lsp_replay.specs.Streams.{decoder_of}
-use Rattle.lsp_survey.specs.Asking.{numbered}
+use Rattle.lsp_explain.specs.Asking.{numbered}
 use Rattle.lsp_verdict.specs.Given.{offence_view}
 use Rattle.lsp_verdict.specs.Report.{report}
 use Rattle.lsp_facts.specs.Fact.{fact_lines}

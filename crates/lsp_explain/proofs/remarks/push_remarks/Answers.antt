@@ -3,8 +3,8 @@ use Rattle.std.proofs.Common.{List, ◌++◌, sym, ap, ◌∙◌}
 use Rattle.std.proofs.lemmas.Result.{on_ok_weaker}
 use Rattle.lsp_session.specs.Negotiation.{encoding}
 use Rattle.lsp_session.specs.Sent.{Sent}
-use Rattle.lsp_survey.specs.Touched.{names_view}
-use Rattle.lsp_survey.proofs.SessionSteps.{sents-numbered}
+use Rattle.lsp_explain.specs.Touched.{names_view}
+use Rattle.lsp_explain.proofs.SessionSteps.{sents-numbered}
 use Rattle.lsp_verdict.specs.Event.{sent_in}
 use Rattle.lsp_verdict.specs.Given.{verdict_view}
 use Rattle.lsp_verdict.specs.Offences.{kept_of}

@@ -2,9 +2,9 @@ use Rattle.std.specs.Prelude.{codes, map}
 use Rattle.std.proofs.Common.{◌∷◌, [], ◌++◌, Option, List, sym, ap, ◌∙◌, subst, append_assoc}
 use Rattle.lsp_session.specs.Sent.{Sent}
 use Rattle.lsp_session.specs.State.{Stands}
-use Rattle.lsp_survey.specs.Asking.{numbered, sents, since}
+use Rattle.lsp_explain.specs.Asking.{numbered, sents, since}
 use Rattle.lsp_replay.specs.declared.heard.EventPlace.{EventPlace}
-use Rattle.lsp_survey.proofs.SessionSteps.{sents-numbered}
+use Rattle.lsp_explain.proofs.SessionSteps.{sents-numbered}
 use Rattle.lsp_facts.specs.Fact.{Fact, in_phase}
 use Rattle.lsp_explain.specs.Standing.{terms_in}
 use Rattle.lsp_explain.specs.Traced.{place_facts, waiting_by}

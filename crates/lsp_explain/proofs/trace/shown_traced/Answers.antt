@@ -3,7 +3,7 @@ use Rattle.std.proofs.Common.{◌++◌, ◌∷◌, [], Some, ◌∙◌, ap, subs
 use Rattle.std.proofs.lemmas.Int.{to_z-of_z}
 use mir.Val.{SFits}
 use Rattle.lsp_docs.specs.Calls.{Call, shows}
-use Rattle.lsp_survey.specs.Marking.{steps}
+use Rattle.lsp_explain.specs.Marking.{steps}
 use Rattle.lsp_replay.specs.declared.heard.EventPlace.{EventPlace}
 use Rattle.lsp_verdict.specs.Offences.{kept_of}
 use Rattle.lsp_facts.specs.EventFacts.{AreCallFacts}

@@ -12,7 +12,7 @@ use Rattle.lsp_types.specs.declared.position.Encoding.TheVariants.{Utf16}
 use Rattle.lsp_verdict.specs.Calls.{calls, edit_of}
 use Rattle.lsp_verdict.specs.Event.{sent_in}
 use Rattle.lsp_verdict.specs.Offences.{kept_of}
-use Rattle.lsp_survey.specs.Marking.{steps, waiting_for}
+use Rattle.lsp_explain.specs.Marking.{steps, waiting_for}
 use Rattle.lsp_facts.specs.Refuting.{refuting}
 use Rattle.lsp_explain.specs.Standing.{terms_in}
 use Rattle.lsp_explain.specs.Traced.{act_call, call_traced, document_traced}

@@ -10,7 +10,7 @@ use Rattle.lsp_types.specs.declared.position.Encoding.TheVariants.{Utf16}
 use Rattle.lsp_verdict.specs.Calls.{calls, call_of}
 use Rattle.lsp_verdict.specs.Event.{sent_in}
 use Rattle.lsp_verdict.specs.Offences.{kept_of}
-use Rattle.lsp_survey.specs.Marking.{steps, waiting_for}
+use Rattle.lsp_explain.specs.Marking.{steps, waiting_for}
 use Rattle.lsp_replay.specs.declared.heard.EventPlace.{EventPlace}
 use Rattle.lsp_facts.specs.Refuting.{refuting}
 use Rattle.lsp_explain.specs.Standing.{terms_in}

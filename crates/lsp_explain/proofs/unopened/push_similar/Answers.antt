@@ -3,7 +3,7 @@ use Rattle.std.proofs.lemmas.List.{map-append}
 use Rattle.std.specs.List.{flat_map}
 use Rattle.std.proofs.lemmas.Grind.{flat_map-append}
 use Rattle.std.proofs.lemmas.Result.{on_ok_weaker}
-use Rattle.lsp_survey.specs.Openings.{on_view, ons_view}
+use Rattle.lsp_explain.specs.Openings.{on_view, ons_view}
 use Rattle.lsp_facts.specs.Fact.{Fact}
 use Rattle.lsp_explain.specs.Standing.{terms_in}
 use Rattle.lsp_explain.specs.Unopened.{last_openings, similar_fact}

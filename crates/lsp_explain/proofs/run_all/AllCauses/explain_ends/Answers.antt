@@ -2,7 +2,7 @@ use Rattle.std.specs.Prelude.{take}
 use Rattle.std.proofs.Common.{◌≡◌, ◌++◌, ◌∙◌, map, ap, string_bytes, subst, sym}
 use Rattle.std.proofs.lemmas.Option.{slice_get-get_or}
 use Rattle.lsp_docs.specs.Terms.{Terms}
-use Rattle.lsp_survey.specs.Asking.{numbered}
+use Rattle.lsp_explain.specs.Asking.{numbered}
 use Rattle.lsp_survey.proofs.Reporting.{tally_more}
 use Rattle.lsp_verdict.specs.Given.{offence_view}
 use Rattle.lsp_verdict.specs.Heard.{heard_events}

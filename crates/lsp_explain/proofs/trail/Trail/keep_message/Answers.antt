@@ -3,8 +3,8 @@ use Rattle.std.proofs.Common.{◌∙◌, subst}
 use Rattle.lsp_replay.specs.Telling.{kept_before}
 use Rattle.lsp_replay.proofs.Seeing.{events-push}
 use Rattle.lsp_replay.proofs.SeenLines.{spoken_whose}
-use Rattle.lsp_survey.specs.Asking.{leads}
-use Rattle.lsp_survey.proofs.RemarkSteps.{on_ok_four}
+use Rattle.lsp_explain.specs.Asking.{leads}
+use Rattle.lsp_explain.proofs.RemarkSteps.{on_ok_four}
 use Rattle.lsp_verdict.specs.Counting.{AreCounts}
 use Rattle.lsp_verdict.specs.Heard.{heard_events}
 use Rattle.lsp_explain.proofs.Trails.{trail_said}
