@@ -20,6 +20,7 @@ pub mod Passing
 pub mod LastEvents
 pub mod Seeing
 pub mod PassEnds
+pub mod JudgedRuns
 pub mod SeenLines
 pub mod AllHeard
 pub mod TextRuns

@@ -103,10 +103,10 @@ module _ (raw : Raw) (terms : Terms) (m : session.State) (d : docs.State) (c : C
   -- what is held is as it was
   pub comes_same : (new_m : session.State) (new_d : docs.State) (after : Counts) → new_m ≡ m
       → new_d ≡ d → after ≡ c → Comes raw terms new_m new_d after before h Stands
-  comes_same new_m new_d after session documents counts =
-      subst (λ (x : session.State). Comes raw terms x new_d after before h Stands) (sym session)
-      (subst (λ (x : docs.State). Comes raw terms m x after before h Stands) (sym documents)
-      (subst (λ (x : Counts). Comes raw terms m d x before h Stands) (sym counts) comes))
+  comes_same new_m new_d after same_m same_d same_c =
+      subst (λ (x : session.State). Comes raw terms x new_d after before h Stands) (sym same_m)
+      (subst (λ (x : docs.State). Comes raw terms m x after before h Stands) (sym same_d)
+      (subst (λ (x : Counts). Comes raw terms m d x before h Stands) (sym same_c) comes))
 
   -- what is held changed, and is still the result of the same events
   pub comes_still : (new_m : session.State) (new_d : docs.State) (after : Counts)

@@ -3,7 +3,7 @@ use Rattle.std.specs.Prelude.{◌≡◌, List, [], ◌∷◌, ◌++◌, ℕ, map
 use Rattle.std.specs.Prelude.{unwrap_or}
 use Rattle.lsp_docs.specs.Terms.{Terms}
 use Rattle.lsp_replay.specs.LogEvents.{flaw_of}
-use Rattle.lsp_replay.specs.Run.{Run, Tail}
+use Rattle.lsp_replay.specs.Run.{IsJudged, Run, Tail}
 use Rattle.lsp_replay.specs.Streams.{decoder_of, ends_inside}
 use Rattle.lsp_replay.specs.declared.log_events.End.{End}
 use Rattle.lsp_replay.specs.declared.log_events.LogEvents.{LogEvents}
@@ -13,7 +13,6 @@ use Rattle.lsp_survey.specs.declared.survey.Options.{Options}
 use Rattle.lsp_survey.specs.declared.survey.Survey.{Survey}
 use Rattle.lsp_types.specs.declared.side.Side.TheVariants.{Editor, Server}
 use Rattle.lsp_verdict.specs.Event.{Event}
-use Rattle.lsp_verdict.specs.Given.{verdict_view}
 use Rattle.lsp_verdict.specs.Heard.{Heard, heard_events, notes_of}
 use Rattle.lsp_verdict.specs.Offences.{Offence, kept_of, offence_at, offences}
 use Rattle.lsp_verdict.specs.Outcome.{ending}
@@ -23,8 +22,6 @@ use Rattle.lsp_verdict.specs.Survey.{lacks_listed, rests_listed}
 use Rattle.lsp_verdict.specs.Verdict.{Verdict, bad_log_of, summary}
 use Rattle.lsp_verdict.specs.declared.completeness.Completeness.{Completeness}
 use Rattle.lsp_verdict.specs.declared.lines.Lines.{Lines}
-use Rattle.lsp_verdict.specs.declared.outcome.Outcome.TheVariants.{Judged}
-use Rattle.lsp_verdict.specs.declared.verdict.Verdict as code
 
 -- what is asked of it
 abbrev pub SurveyAsked : Type 0
@@ -84,8 +81,7 @@ survey_run asked = record {
   stops = λ terms before h. false;
   ends = λ terms before h outcome. ⊥;
   closes = λ terms heard tail out outcome. (out ≡ end_said asked terms heard tail)
-      × ((given : code.Verdict) × (outcome ≡ Judged given)
-      × (verdict_view given ≡ verdict_by asked terms heard tail));
+      × IsJudged (verdict_by asked terms heard tail) outcome;
 }
 
 -- ---- the account
