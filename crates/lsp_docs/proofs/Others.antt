@@ -96,40 +96,50 @@ none_behind ends x t (v ∷ vs) h =
     else find (differs_from ends (versioned x.number t)) vs)) away
     ∙ none_behind ends x t vs parts.1
 
+-- the first of these with another text, or of the number, by what is said of its head
+abbrev other_front : Version → Option Version → Bool → Bool → Option Text
+other_front v o at same =
+    option_map (λ (w : Version). w.text) (if at && not same then Some v else o)
+
+abbrev at_front : Version → Option Version → Bool → Option Text
+at_front v o at = option_map (λ (w : Version). w.text) (if at then Some v else o)
+
 -- **so one with another text is the one of that number**
 pub other-at : (ends : LineEnds) (number : ℤ) (t u : Text) (vs : List Version) → rises vs ≡ true
     → other_in ends (versioned number t) vs ≡ Some u → text_in number vs ≡ Some u
 other-at ends number t u [] h e = absurd (cc)
 other-at ends number t u (v ∷ vs) h e =
     by_number (int_eq v.number number) refl (same_text ends v.text t) refl
+    (λ k. other-at ends number t u vs
+    (and_parts (list_all (is_after v.number) vs) (rises vs) h).1 k)
   where
-    parts : (list_all (is_after v.number) vs ≡ true) × (rises vs ≡ true)
-    parts = and_parts (list_all (is_after v.number) vs) (rises vs) h
+    others : Option Version
+    others = find (differs_from ends (versioned number t)) vs
 
-    abbrev other : Bool → Bool → Option Text
-    other b same = option_map (λ (w : Version). w.text)
-        (if b && not same then Some v else find (differs_from ends (versioned number t)) vs)
-
-    abbrev here : Bool → Option Text
-    here b = option_map (λ (w : Version). w.text) (if b then Some v else find (is_at number) vs)
+    front : Bool → Option Text
+    front b = at_front v (find (is_at number) vs) b
 
     by_number : (b : Bool) → int_eq v.number number ≡ b → (same : Bool)
-        → same_text ends v.text t ≡ same → text_in number (v ∷ vs) ≡ Some u
-    by_number true at false other_text =
-        ap here at ∙ sym (ap (λ b. other b false) at)
-        ∙ sym (ap (other (int_eq v.number number)) other_text) ∙ e
-    by_number true at true same_text_is =
+        → same_text ends v.text t ≡ same
+        → (other_in ends (versioned number t) vs ≡ Some u → text_in number vs ≡ Some u)
+        → text_in number (v ∷ vs) ≡ Some u
+    by_number true at false other_text more =
+        ap front at ∙ sym (ap (λ b. other_front v others b false) at)
+        ∙ sym (ap (other_front v others (int_eq v.number number)) other_text) ∙ e
+    by_number true at true same_text_is more =
         let number_is : v.number ≡ number = (Decides-int_eq v.number number).0 at in
+        let above = (and_parts (list_all (is_after v.number) vs) (rises vs) h).0 in
         let none : other_in ends (versioned number t) vs ≡ None =
         subst (λ n. other_in ends (versioned n t) vs ≡ None) number_is
-        (none_behind ends v t vs parts.0) in
+        (none_behind ends v t vs above) in
         let some : other_in ends (versioned number t) vs ≡ Some u =
-        sym (ap (λ b. other b true) at) ∙ sym (ap (other (int_eq v.number number)) same_text_is) ∙ e
-        in absurd (cc (sym none ∙ some))
-    by_number false at same same_is =
-        ap here at
-        ∙ other-at ends number t u vs parts.1
-        (sym (ap (λ b. other b same) at) ∙ sym (ap (other (int_eq v.number number)) same_is) ∙ e)
+        sym (ap (λ b. other_front v others b true) at)
+        ∙ sym (ap (other_front v others (int_eq v.number number)) same_text_is) ∙ e in
+        absurd (cc (sym none ∙ some))
+    by_number false at same same_is more =
+        ap front at
+        ∙ more (sym (ap (λ b. other_front v others b same) at)
+        ∙ sym (ap (other_front v others (int_eq v.number number)) same_is) ∙ e)
 
 -- of what is held and kept after accepted calls
 pub held-at : (terms : Terms) (uri : Bytes) (calls : List Call) (ends : LineEnds) (number : ℤ)

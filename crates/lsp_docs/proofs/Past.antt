@@ -358,9 +358,3 @@ pub compared-none_kept : (terms : Terms) (front back : List Call) (uri : Bytes) 
 compared-none_kept terms front back uri n none =
     ap (λ ks. has_number n ks (held terms uri front) || comes_to uri n back)
     (none_kept terms uri front none)
-
--- so do the kept ones of it
-pub kept-rises : (terms : Terms) (uri : Bytes) (calls : List Call) → AreAccepted terms calls
-    → rises (kept terms uri calls ++ option_to_list (held terms uri calls)) ≡ true
-kept-rises terms uri calls h = last-rises terms.kept (past terms uri calls)
-    (option_to_list (held terms uri calls)) (past-rises terms uri calls h)
