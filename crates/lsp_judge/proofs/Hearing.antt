@@ -16,7 +16,7 @@ use Rattle.lsp_verdict.specs.Outcome.{Offends}
 use Rattle.lsp_verdict.specs.Placed.{Raw, Placed, Reads, IsSession}
 use Rattle.lsp_verdict.specs.Verdict.{Verdict, no, first_no, no_at}
 use Rattle.lsp_verdict.specs.declared.counts.Counts.{Counts}
-use Rattle.lsp_judge.specs.Heard.{HasHeard, HearsOne, IsHearing}
+use Rattle.lsp_judge.specs.Heard.{HasHeard, IsHearing}
 use Rattle.lsp_judge.specs.Rulings.{IsNoAt}
 use Rattle.lsp_judge.specs.Standing.{Rules}
 use Rattle.lsp_judge.specs.declared.ruling.Ruling.{Ruling}
@@ -32,10 +32,9 @@ pub hears_one : (terms : Terms) (old_m new_m : session.State) (old_d new_d : doc
     (old_c new_c : Counts) (raws : List Raw) (heard : List Event) (raw : Raw) (given : Heard)
     → HasHeard terms old_m old_d old_c raws heard → new_d.terms ≡ old_d.terms
     → KeepsOne raw old_d.terms old_c given new_m new_d new_c heard
-    → HearsOne terms new_m new_d new_c raws heard raw given
+    → (event : Event) × HasHeard terms new_m new_d new_c (raws ++ raw ∷ []) (heard ++ event ∷ [])
 hears_one terms old_m new_m old_d new_d old_c new_c raws heard raw given has same k = (
   k.event,
-  k.is_heard,
   record {
     read = lists_join raws (raw ∷ []) heard (k.event ∷ []) has.read (k.reads, tt);
     by = same ∙ has.by;

@@ -1,18 +1,44 @@
 //! What is given where a session ends of which no event offends.
-ghost use Rattle.std.specs.Prelude.{◌≡◌, List};
+ghost use Rattle.std.specs.Prelude.{◌≡◌, IfOk, List};
 ghost use Rattle.lsp_replay.specs.Standing.{Follows};
-ghost use Rattle.lsp_judge.specs.Ending.{EndIs, end_by, lack_by};
+ghost use Rattle.lsp_judge.specs.Ending.{EndIs, closed_by, end_by, lack_by};
 ghost use Rattle.lsp_judge.specs.Rulings.{RestIs};
 ghost use Rattle.lsp_verdict.specs.Counting.{AreCounts};
 ghost use Rattle.lsp_verdict.specs.Event.{Event};
+ghost use Rattle.lsp_verdict.specs.Given.{verdict_view};
 ghost use Rattle.lsp_verdict.specs.Verdict.{rest_of};
 
 use crate::ruling::Ruling;
-use lsp_replay::{Events, summary_of};
+use lsp_replay::{End, Events, LogEvents, summary_of};
+use lsp_rpc::{Memory, Side};
 use lsp_text::TextStore;
 use lsp_types::rules;
-use lsp_verdict::{Completeness, Counts, Summary, Who};
+use lsp_verdict::{Completeness, Counts, Summary, Verdict, Who};
 use std::alloc::Global;
+
+/// The verdict where the log ends so after these events: a fault of it, or what its session gives.
+pub(crate) fn verdict_at<S: TextStore>(
+    alloc: Global,
+    events: &Events<S>,
+    log: &LogEvents,
+    end: End,
+    completeness: Completeness,
+) -> Result<Verdict, Memory>
+    ensures { IfOk result (λ verdict. (so_far : List Event)
+        → Follows events.now.session events.now.docs events.now.counts so_far
+        → verdict_view verdict
+        ≡ closed_by completeness events.now.docs.terms so_far log.now end) }
+{
+    if let End::Bad { number, fault } = end {
+        return Ok(Verdict::BadLog { number, fault });
+    }
+    let editor = log.ends_inside(Side::Editor);
+    let server = log.ends_inside(Side::Server);
+    match end_of(alloc, events, editor, server, completeness) {
+        Ok(summary) => Ok(Verdict::Yes(summary)),
+        Err(ruling) => ruling.answer(),
+    }
+}
 
 /// The result of the events where the session ends after them; or the No by bytes of the
 /// editor's or the server's that are not a whole frame, or by what is missing from the session.

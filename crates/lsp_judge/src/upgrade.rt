@@ -5,11 +5,12 @@ ghost use Rattle.lsp_judge.specs.UpgradedLog.{UpgradesLog};
 ghost use Rattle.lsp_verdict.specs.Ports.{ports};
 
 use crate::contents::hear_record;
-use crate::event_reader::EventReader;
+use crate::ending::verdict_at;
 use lsp_frame::{Format, Limits, Sink, Source};
 use lsp_log::{Record, write_head_of, write_record};
-use lsp_replay::{Entry, LogEvents};
+use lsp_replay::{Entry, Events, LogEvents};
 use lsp_rpc::Memory;
+use lsp_text::Lined;
 use lsp_verdict::{Completeness, Outcome, RunFault};
 use std::alloc::Global;
 
@@ -34,19 +35,23 @@ pub fn run_upgrade<R: Source, W: Sink>(
     let mut log = LogEvents::new(alloc, limits);
     write_head_of(writer, Format::Two)?;
     let mut next = log.read(reader)?;
-    let mut events = EventReader::of(alloc, limits, log, Completeness::Ignored);
+    let format = log.format().unwrap_or(Format::One);
+    let mut events: Events<Lined> = Events::new(alloc, limits, format);
     loop {
         match next {
-            Entry::End(end) => return Ok(Outcome::Judged(events.finish(alloc, end)?)),
+            Entry::End(end) => {
+                let verdict = verdict_at(alloc, &events, &log, end, Completeness::Ignored)?;
+                return Ok(Outcome::Judged(verdict));
+            }
             Entry::Record(record) => {
                 let copy = copy_of(&record)?;
-                match hear_record(&mut events.log.streams, &mut events.events, record) {
+                match hear_record(&mut log.streams, &mut events, record) {
                     Ok(()) => write_record(writer, &copy)?,
                     Err(ruling) => return Ok(Outcome::Judged(ruling.answer()?)),
                 }
             }
         }
-        next = events.log.read(reader)?;
+        next = log.read(reader)?;
     }
 }
 

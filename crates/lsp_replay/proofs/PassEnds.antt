@@ -16,9 +16,9 @@ use Rattle.lsp_verdict.specs.declared.outcome.RunFault.TheVariants as faults
 use Rattle.lsp_verdict.proofs.RunReading.{read_map, read_within}
 
 -- what holds of the log read holds of its bytes alone
-here : (limits : Bounds) (start now : Told) (P : List ℕ → Type 0) → (read : OfRead limits start now P)
-    → P read.bytes
-here limits start now P read =
+pub read_here : (limits : Bounds) (start now : Told) (P : List ℕ → Type 0)
+    → (read : OfRead limits start now P) → P read.bytes
+read_here limits start now P read =
     read.holds read.bytes ([], sym (append-nil read.bytes), λ end. refl)
 
 module _ (run : Run) (limits : Bounds) (start now old new : Told) (fault : RunFault)
@@ -77,7 +77,7 @@ module _ (run : Run) (quiet : IsQuiet run) (limits : Bounds) (start now : Told) 
   said_nothing : (out : List ℕ) → OfRead limits start now (λ log. HasSaid run limits log out)
       → out ≡ []
   said_nothing out due =
-      let h = here limits start now (λ log. HasSaid run limits log out) due in
+      let h = read_here limits start now (λ log. HasSaid run limits log out) due in
       quiet_all run quiet (log_terms limits h.format) h.tail.rests [] h.first out h.says
 
   -- after a fault of the source, or where memory was refused, nothing is written

@@ -30,7 +30,7 @@ use Rattle.lsp_verdict.specs.Counting.{AreCounts}
 use Rattle.lsp_verdict.specs.Event.{Event, message, fault as broken_rule, snapshot}
 use Rattle.lsp_verdict.specs.Heard.{Heard, heard_events, notes_of}
 use Rattle.lsp_verdict.specs.Lent.{whose_raw}
-use Rattle.lsp_verdict.specs.Offences.{IsNoted, events_of, kept_of, rule_at}
+use Rattle.lsp_verdict.specs.Offences.{IsNoted, Noted, events_of, kept_of, rule_at}
 use Rattle.lsp_verdict.specs.Placed.{Raw, content, broken, show, Reads}
 use Rattle.lsp_verdict.specs.Verdict.{offence, whose}
 use Rattle.lsp_verdict.specs.declared.counts.Counts.{Counts}
@@ -41,6 +41,11 @@ pub events-push : (before : List Heard) (h : Heard)
     → heard_events (before ++ h ∷ []) ≡ heard_events before ++ h.note.event ∷ []
 events-push before h = ap events_of (map-append (λ (x : Heard). x.note) before (h ∷ []))
     ∙ events_of-push (notes_of before) h.note
+
+pub events-join : (before later : List Heard)
+    → heard_events (before ++ later) ≡ heard_events before ++ heard_events later
+events-join before later = ap events_of (map-append (λ (x : Heard). x.note) before later)
+    ∙ map-append (λ (n : Noted). n.event) (notes_of before) (notes_of later)
 
 module _ (raw : Raw) (terms : Terms) (m : session.State) (d : docs.State) (c : Counts)
     (before : List Heard) (h : Heard) (Stands : Type 0)

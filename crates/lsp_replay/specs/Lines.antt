@@ -5,7 +5,9 @@ use Rattle.lsp_rpc.specs.Outline.{outline}
 use Rattle.lsp_rpc.specs.View.{act_view, message_view}
 use Rattle.lsp_verdict.specs.declared.lines.Lines.{Lines}
 use Rattle.lsp_verdict.specs.Event.{Event, message, fault, snapshot}
-use Rattle.lsp_verdict.specs.Shown.{event_line}
+use Rattle.lsp_verdict.specs.Heard as told
+use Rattle.lsp_verdict.specs.Heard.{heard_events}
+use Rattle.lsp_verdict.specs.Shown.{event_line, line_at}
 use Rattle.lsp_replay.specs.declared.heard.Heard.{Heard}
 use Rattle.lsp_replay.specs.declared.heard.Heard.TheVariants as heard
 use Rattle.lsp_replay.specs.declared.heard.EventPlace.{EventPlace}
@@ -25,6 +27,10 @@ IsHeard (snapshot uri number text) (heard.Snapshot version name shown answer) =
 -- the line of the event at this place, empty for a fault
 abbrev pub line_of : Lines → EventPlace → Event → List ℕ
 line_of lines place event = unwrap_or (event_line lines place.event place.number event) []
+
+-- the line of an event after these, empty for a fault
+abbrev pub heard_line : Lines → List told.Heard → told.Heard → List ℕ
+heard_line lines before h = unwrap_or (line_at lines (heard_events before) h.note.event) []
 
 -- each word after a space
 abbrev pub spaced : List (List ℕ) → List ℕ

@@ -7,9 +7,13 @@ use Rattle.lsp_frame.specs.declared.format.Format.{Format}
 use Rattle.lsp_log.specs.Log.{Record, IsLog}
 use Rattle.lsp_log.specs.Place.{place_of, found_behind}
 use Rattle.lsp_log.specs.declared.fault.LogCode.{LogCode}
+use Rattle.lsp_verdict.specs.Given.{verdict_view}
 use Rattle.lsp_verdict.specs.Heard.{AreRests, Heard, IsHeardSession, Rests}
 use Rattle.lsp_verdict.specs.Outcome.{log_terms}
+use Rattle.lsp_verdict.specs.Verdict.{Verdict}
 use Rattle.lsp_verdict.specs.declared.outcome.Outcome.{Outcome}
+use Rattle.lsp_verdict.specs.declared.outcome.Outcome.TheVariants.{Judged}
+use Rattle.lsp_verdict.specs.declared.verdict.Verdict as code
 
 -- how a log ends: with this fault or none, which comes after so many of its bytes, where this line
 -- is; and what is left of the bytes of its sides
@@ -64,6 +68,10 @@ pub record EndsAfter (run : Run) (terms : Terms) (tail : Tail) (heard : List Hea
   pub is : out ≡ front ++ last
   pub said : SaysAll run terms tail.rests [] heard front
   pub closes : run.closes terms heard tail last outcome
+
+-- it ends with this verdict
+abbrev pub IsJudged : Verdict → Outcome → Type 0
+IsJudged v outcome = (given : code.Verdict) × (outcome ≡ Judged given) × (verdict_view given ≡ v)
 
 -- ---- a log
 

@@ -34,6 +34,7 @@ use Rattle.lsp_verdict.specs.Offences.{IsNoted, has_broken, kept_of, rule_at}
 use Rattle.lsp_verdict.specs.Outcome.{is_rest}
 use Rattle.lsp_verdict.specs.Placed.{Raw, content, show}
 use Rattle.lsp_verdict.specs.Survey.{ends_inside}
+use Rattle.lsp_verdict.specs.Verdict.{Verdict, no_by}
 use Rattle.lsp_verdict.specs.declared.counts.Counts.{Counts}
 use Rattle.lsp_verdict.specs.declared.outcome.Outcome.{Outcome}
 use Rattle.lsp_verdict.specs.declared.raw.Raw as code
@@ -57,6 +58,10 @@ kept_before terms before = kept_of terms (heard_events before)
 -- the least rule that an event breaks after the kept ones of these
 abbrev pub rule_of : Terms → List Heard → Heard → Option ℕ
 rule_of terms before h = rule_at terms (heard_events before) h.note.event
+
+-- the No at it, where it offends
+abbrev pub no_of : Terms → List Heard → Heard → Option Verdict
+no_of terms before h = option_map (no_by (heard_events before) h.note.event) (rule_of terms before h)
 
 -- the event is this message of a side, without its params; the value of its result may be left out
 -- where nothing reads it after these kept events

@@ -121,7 +121,7 @@ fn push_message_words(
 ///
 /// # Errors
 /// `Memory` where memory was refused.
-pub fn push_message_line(
+pub(crate) fn push_message_line(
     alloc: Global,
     text: &mut String,
     lines: Lines,
@@ -166,7 +166,7 @@ fn push_snapshot_words(
 ///
 /// # Errors
 /// `Memory` where memory was refused.
-pub fn push_snapshot_line(
+pub(crate) fn push_snapshot_line(
     alloc: Global,
     text: &mut String,
     lines: Lines,

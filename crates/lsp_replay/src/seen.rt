@@ -1,7 +1,18 @@
 //! What happened at an event, as an account is told it.
+ghost use Rattle.std.specs.Prelude.{◌≡◌, ◌++◌, List, None, OnOk, string_bytes};
+ghost use Rattle.lsp_docs.specs.Terms.{Terms};
+ghost use Rattle.lsp_replay.specs.Lines.{heard_line};
+ghost use Rattle.lsp_replay.specs.Telling.{IsSeen, rule_of};
+ghost use Rattle.lsp_verdict.specs.Heard.{Heard};
+
+use crate::events::Events;
+use crate::heard::EventPlace;
+use crate::lines::{push_message_line, push_snapshot_line};
 use lsp_docs::Match;
-use lsp_rpc::{Side, Spoken};
-use lsp_verdict::{Outcome, Raw};
+use lsp_rpc::{Memory, Side, Spoken};
+use lsp_text::Lined;
+use lsp_verdict::{Lines, Outcome, Raw, Who, who_of};
+use std::alloc::Global;
 
 /// What happened at an event, which is counted. All of it is lent.
 #[derive(Clone, Copy)]
@@ -36,4 +47,38 @@ pub enum Flow {
     GoOn,
     /// It ends so, and nothing more is read.
     Stop(Outcome),
+}
+
+/// Adds the line of an event that is kept to a text, short or long.
+///
+/// # Errors
+/// `Memory` where memory was refused.
+pub fn push_kept_line(
+    alloc: Global,
+    text: &mut String,
+    lines: Lines,
+    held: &Events<Lined>,
+    seen: Seen<'_>,
+) -> Result<(), Memory>
+    ensures { OnOk result ((terms : Terms) (before : List Heard) (h : Heard)
+        → IsSeen held.now.session held.now.docs held.now.counts seen.entry terms before h
+        → rule_of terms before h ≡ None
+        → string_bytes text.new ≡ string_bytes text.old ++ heard_line lines before h) }
+{
+    match seen {
+        Seen::Message { side, spoken, .. } => {
+            let place = EventPlace::last(&held.counts, who_of(side));
+            push_message_line(alloc, text, lines, place, side, spoken)
+        }
+        Seen::Snapshot {
+            version,
+            uri,
+            text: shown,
+            ..
+        } => {
+            let place = EventPlace::last(&held.counts, Who::Snapshot);
+            push_snapshot_line(alloc, text, lines, place, version, uri, shown)
+        }
+        Seen::Offence { .. } => Ok(()),
+    }
 }

@@ -37,7 +37,8 @@ use Rattle.lsp_survey.specs.declared.notes.session_notes.SessionNotes.{SessionNo
 use Rattle.lsp_survey.specs.declared.notes.sides.Sides.{Sides}
 use Rattle.lsp_survey.specs.Notes.{AreAfter, is_noted}
 use Rattle.lsp_survey.specs.Walking.{Walks, WalksBy, IsRefused, IsShown, IsUnread, PassesOver}
-use Rattle.lsp_survey.specs.Walking.{IsMessageOf, IsOffending, Hears, NotesKept, NotesMessage}
+use Rattle.lsp_survey.specs.Lost.{IsMessageOf}
+use Rattle.lsp_survey.specs.Walking.{IsOffending, Hears, NotesKept, NotesMessage}
 use Rattle.lsp_survey.specs.Walking.{NotesSnapshot, content_in}
 use Rattle.lsp_replay.specs.Places.{place_of}
 use Rattle.lsp_survey.specs.Passed.{has_passed}

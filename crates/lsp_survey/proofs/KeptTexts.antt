@@ -1,45 +1,41 @@
 -- The text that is held after a message of the editor's, where each event that offends is skipped.
 use Rattle.std.specs.Prelude.{if◌then◌else◌}
 use Rattle.std.specs.List.{AllZip}
-use Rattle.std.proofs.Common.{◌≡◌, ◌⊎◌, ◌<◌, ℕ, List, [], ◌∷◌, ◌++◌, Option, Some}
-use Rattle.std.proofs.Common.{Result, Ok, Err, inl, inr, sym, ap, subst, ◌∙◌, append-nil}
-use Rattle.std.proofs.Common.{append_assoc}
-use Rattle.std.proofs.Common.{arith}
+use Rattle.std.proofs.Common.{◌≡◌, ◌⊎◌, ◌<◌, ℕ, List, [], ◌∷◌, ◌++◌, Option, Some, Result, inl, inr}
+use Rattle.std.proofs.Common.{sym, ap, subst, ◌∙◌, append-nil, append_assoc, arith}
 use Rattle.std.proofs.lemmas.Bool.{eq-eqb}
 use Rattle.std.proofs.lemmas.Bool.Decides.{nat_tests}
-use Rattle.std.proofs.lemmas.List.{map-append}
 use Rattle.lsp_docs.specs.Terms.{Terms}
 use Rattle.lsp_frame.specs.Bounds.{Bounds}
 use Rattle.lsp_frame.specs.declared.format.Format.{Format}
 use Rattle.lsp_log.specs.Log.{Record}
-use Rattle.lsp_replay.specs.Passes.{DueAt, PartPassed, Passes}
+use Rattle.lsp_replay.specs.Passes.{Passes}
 use Rattle.lsp_replay.specs.Run.{EndsAfter, IsPassed, SaysAll, StopsIn}
-use Rattle.lsp_replay.specs.TextAnswers.{WritesText}
-use Rattle.lsp_replay.proofs.PassEnds.{IsQuiet, cut_whole, part_within, quiet_all, silent}
+use Rattle.lsp_replay.specs.TextAnswers.{TextAsked, WritesText}
+use Rattle.lsp_replay.proofs.PassEnds.{IsQuiet, quiet_all}
 use Rattle.lsp_replay.proofs.Reached.{reached_last, still_few}
-use Rattle.lsp_replay.proofs.Seeing.{events-push}
+use Rattle.lsp_replay.proofs.Seeing.{events-join, events-push}
+use Rattle.lsp_replay.proofs.TextRuns.{passed_text}
 use Rattle.lsp_types.specs.declared.side.Side.TheVariants.{Editor}
-use Rattle.lsp_survey.specs.KeptText.{AnswersKept, OneKeptText, TextAsked, answer_after, end_answer}
+use Rattle.lsp_survey.specs.KeptText.{AnswersKept, OneKeptText, answer_after, end_answer}
 use Rattle.lsp_survey.specs.KeptText.{kept_answer, text_all_run}
 use Rattle.lsp_survey.proofs.Told.{survey_told}
 use Rattle.lsp_verdict.specs.Heard.{Heard, Rests, heard_events, notes_of}
 use Rattle.lsp_verdict.specs.Offences.{IsNoted, IsNotedSession, Noted, events_of}
 use Rattle.lsp_verdict.specs.Outcome.{ending, log_terms}
 use Rattle.lsp_verdict.specs.Placed.{Placed, Raw}
-use Rattle.lsp_verdict.specs.Ports.{OutputFor, Ports}
-use Rattle.lsp_verdict.specs.Shown.{TextAnswer, up_to_editor}
+use Rattle.lsp_verdict.specs.Ports.{Ports}
+use Rattle.lsp_verdict.specs.Shown.{up_to_editor}
 use Rattle.lsp_verdict.specs.Survey as survey
-use Rattle.lsp_verdict.specs.TextAfter.{BeginsText, IsText, written_of}
+use Rattle.lsp_verdict.specs.TextAfter.{IsText, written_of}
 use Rattle.lsp_verdict.specs.Verdict.{Verdict, bad_log_of, count_of, is_of, summary}
 use Rattle.lsp_verdict.specs.declared.completeness.Completeness.TheVariants.{Ignored}
 use Rattle.lsp_verdict.specs.declared.outcome.Outcome.{Outcome}
 use Rattle.lsp_verdict.specs.declared.outcome.RunFault.{RunFault}
-use Rattle.lsp_verdict.specs.declared.outcome.RunFault.TheVariants as faults
 use Rattle.lsp_verdict.proofs.Below.{one_log}
 use Rattle.lsp_verdict.proofs.Logs.UpTo.{none_yet, reached_more}
 use Rattle.lsp_verdict.proofs.Offences.Surveying.{one_notes}
 use Rattle.lsp_verdict.proofs.PlacedLemmas.{one_placed}
-use Rattle.lsp_verdict.proofs.RunReading.{read_map, read_within}
 
 -- ---- one answer
 
@@ -66,13 +62,8 @@ one_kept limits sizes log n uri a b (found, bad, s, p, is) (others, flaw, t, q, 
 
 -- ---- the run
 
-events_join : (hs more : List Heard)
-    → heard_events (hs ++ more) ≡ heard_events hs ++ heard_events more
-events_join hs more = ap events_of (map-append (λ (h : Heard). h.note) hs more)
-    ∙ map-append (λ (n : Noted). n.event) (notes_of hs) (notes_of more)
-
 module _ (asked : TextAsked) where
-  pub quiet : IsQuiet (text_all_run asked)
+  quiet : IsQuiet (text_all_run asked)
   quiet terms rests before h said is goes =
       is ∙ ap (λ b. if b then written_of (answer_after terms asked.uri (before ++ h ∷ [])) else [])
       goes
@@ -118,7 +109,7 @@ module _ (asked : TextAsked) where
         ∙ ap Some (sym (events-push s.first s.here)) in
         let all : heard_events p.heard ≡ heard_events on ++ heard_events s.later =
         ap heard_events (s.are ∙ sym (append_assoc s.first (s.here ∷ []) s.later))
-        ∙ events_join on s.later in
+        ∙ events-join on s.later in
         let upto : up_to_editor asked.number [] (heard_events p.heard) ≡ Some (heard_events on) =
         ap (up_to_editor asked.number []) all
         ∙ reached_more asked.number (heard_events on) (heard_events s.later) (heard_events on)
@@ -164,8 +155,8 @@ module _ (asked : TextAsked) where
           ends = e.closes.1;
         }
 
-    pub passed_text : IsText (λ l. AnswersKept limits l asked.number asked.uri) log out outcome
-    passed_text = by_end p.is
+    kept_text : IsText (λ l. AnswersKept limits l asked.number asked.uri) log out outcome
+    kept_text = by_end p.is
       where
         by_end : StopsIn (text_all_run asked) terms p.tail.rests p.heard out outcome
             ⊎ EndsAfter (text_all_run asked) terms p.tail p.heard out outcome
@@ -174,65 +165,9 @@ module _ (asked : TextAsked) where
         by_end (inr e) = ended e
 
   -- **what `text --all` answers and writes** follows from what a pass does
-  module _ (positive : 0 < asked.number) (limits : Bounds) (io : Ports) where
-    abbrev Answers : List ℕ → TextAnswer → Type 0
-    Answers log answer = AnswersKept limits log asked.number asked.uri answer
-
-    broke_text : (fault : RunFault) → PartPassed (text_all_run asked) limits io.source_before
-        io.source_after io.sink_before io.sink_after fault → WritesText limits io Answers (Err fault)
-    broke_text fault p = record {
-      written = tt;
-      read_fault = λ e. let same : fault ≡ faults.Read = cc e in
-          silent (text_all_run asked) quiet limits io.source_before io.source_after io.sink_before
-          io.sink_after fault (λ write. absurd (cc (sym write ∙ same))) p;
-      memory = λ e. let same : fault ≡ faults.Memory = cc e in
-          silent (text_all_run asked) quiet limits io.source_before io.source_after io.sink_before
-          io.sink_after fault (λ write. absurd (cc (sym write ∙ same))) p;
-      write_fault = λ e. let same : fault ≡ faults.Write = cc e in cut_text same;
-      counts = record {
-        source_failures = p.source;
-        sink_failures = p.sink;
-        limit = part_within (text_all_run asked) limits io.source_before io.source_after
-            io.sink_before io.sink_after fault p;
-      };
-    } where
-      cut_text : fault ≡ faults.Write → OutputFor limits io (BeginsText Answers)
-      cut_text same =
-          let cut = subst (λ (f : RunFault). DueAt f (text_all_run asked) limits io.source_before
-          io.source_after p.out) same p.due in
-          let whole = cut_whole (text_all_run asked) quiet limits io.source_before io.source_after
-          p.out cut in (
-            p.out,
-            p.took,
-            read_map limits io.source_before io.source_after
-                (λ log. IsPassed (text_all_run asked) limits log (p.out ++ whole.1) whole.0)
-                (λ log. BeginsText Answers log p.out)
-                (λ log passed. (
-                  whole.0,
-                  whole.1,
-                  passed_text positive limits log (p.out ++ whole.1) whole.0 passed,
-                )) whole.2,
-          )
-
-    pub writes_text : (result : Result Outcome RunFault) → Passes (text_all_run asked) limits
-        io.source_before io.source_after io.sink_before io.sink_after result
-        → WritesText limits io Answers result
-    writes_text (Ok outcome) a = record {
-      written = (
-        a.out,
-        a.wrote.took,
-        read_map limits io.source_before io.source_after
-            (λ log. IsPassed (text_all_run asked) limits log a.out outcome)
-            (λ log. IsText Answers log a.out outcome)
-            (λ log p. passed_text positive limits log a.out outcome p) a.due,
-      );
-      read_fault = λ e. absurd (cc e);
-      memory = λ e. absurd (cc e);
-      write_fault = λ e. absurd (cc e);
-      counts = record {
-        source_failures = a.failures;
-        sink_failures = a.wrote.failures;
-        limit = read_within _ _ _ _ a.due;
-      };
-    }
-    writes_text (Err fault) p = broke_text fault p
+  pub writes_text : 0 < asked.number → (limits : Bounds) (io : Ports)
+      → (result : Result Outcome RunFault) → Passes (text_all_run asked) limits io.source_before
+      io.source_after io.sink_before io.sink_after result
+      → WritesText limits io (λ log. AnswersKept limits log asked.number asked.uri) result
+  writes_text positive limits io = passed_text (text_all_run asked) quiet limits
+      (λ log. AnswersKept limits log asked.number asked.uri) (kept_text positive limits) io

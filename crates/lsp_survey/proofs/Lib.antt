@@ -20,6 +20,7 @@ pub mod Hearing
 pub mod Ending
 pub mod Reading
 pub mod LogEnds
+pub mod SessionEnds
 pub mod Reporting
 pub mod Told
 pub mod KeptTexts

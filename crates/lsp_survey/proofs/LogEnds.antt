@@ -1,8 +1,8 @@
 -- The end of a log after the events heard.
-use Rattle.std.specs.Prelude.{map, option_map, option_to_list}
+use Rattle.std.specs.Prelude.{map, option_map}
 use Rattle.std.specs.Io.KnownBytes.{IsAtEnd}
-use Rattle.std.specs.List.{AllZip, cons_option}
-use Rattle.std.proofs.Common.{◌≡◌, ℕ, ◌+◌, ◌<◌, ◌≤◌, ◌^◌, Bool, true, false, List, [], ◌∷◌, ◌++◌}
+use Rattle.std.specs.List.{AllZip}
+use Rattle.std.proofs.Common.{◌≡◌, ℕ, ◌+◌, ◌<◌, ◌≤◌, ◌^◌, Bool, List, [], ◌++◌}
 use Rattle.std.proofs.Common.{length, length-append, Option, Some, None, Ok, refl, sym, ap, subst}
 use Rattle.std.proofs.Common.{◌∙◌, append-nil, arith}
 use Rattle.std.proofs.lemmas.List.{length-map}
@@ -13,7 +13,6 @@ use Rattle.lsp_frame.specs.Told.{Told}
 use Rattle.lsp_frame.specs.declared.format.Format.{Format}
 use Rattle.lsp_log.specs.Log.{Record, IsLog}
 use Rattle.lsp_log.specs.declared.fault.LogCode.{LogCode}
-use Rattle.lsp_session.specs.Incomplete.{incomplete}
 use Rattle.lsp_types.specs.declared.side.Side.TheVariants.{Editor, Server}
 use Rattle.lsp_replay.specs.LogEvents as streams
 use Rattle.lsp_replay.specs.LogEvents.{GoesBehind, IsLogOf, NextIs, flaw_of}
@@ -23,14 +22,14 @@ use Rattle.lsp_replay.specs.declared.log_events.End.TheVariants.{Sound, Bad}
 use Rattle.lsp_replay.specs.declared.log_events.Next.TheVariants as next
 use Rattle.lsp_replay.proofs.Pulling.{log_of}
 use Rattle.lsp_survey.specs.Ending.{ends_by, given_by}
+use Rattle.lsp_survey.proofs.Ending.{ends_few, given_few, lacks_exact, rests_exact}
 use Rattle.lsp_survey.specs.Reads.{EndedBehind, EndIs, SoFar, Ended, IsSurveyOf, KnowsFlaw}
 use Rattle.lsp_survey.specs.Walking.{Walks}
 use Rattle.lsp_survey.specs.declared.survey_reader.SurveyEnd.{SurveyEnd}
 use Rattle.lsp_survey.specs.declared.survey_reader.SurveyReader.{SurveyReader}
 use Rattle.lsp_survey.specs.declared.replay.Replay.{Replay}
-use Rattle.lsp_verdict.specs.Event.{Event, sent_in}
+use Rattle.lsp_verdict.specs.Event.{Event}
 use Rattle.lsp_verdict.specs.Given.{offence_view, verdict_view}
-use Rattle.lsp_verdict.specs.LookBack.{each_from}
 use Rattle.lsp_verdict.specs.Offences.{Noted, Offence, IsNoted, events_of, kept_of, offence_at}
 use Rattle.lsp_verdict.specs.Offences.{offences}
 use Rattle.lsp_verdict.specs.Outcome.{HasRest, ending, is_rest, log_terms}
@@ -38,13 +37,10 @@ use Rattle.lsp_verdict.specs.Placed.{Raw, Placed, joined}
 use Rattle.lsp_verdict.specs.Survey.{IsSurvey, by_itself, ends_listed, first_ends, lacks_listed}
 use Rattle.lsp_verdict.specs.Survey.{rests_listed}
 use Rattle.lsp_verdict.specs.Survey as survey
-use Rattle.lsp_verdict.specs.Verdict.{Verdict, Ending, bad_log_of, no_next, summary}
+use Rattle.lsp_verdict.specs.Verdict.{Verdict, Ending, bad_log_of, summary}
 use Rattle.lsp_verdict.specs.declared.completeness.Completeness.{Completeness}
-use Rattle.lsp_verdict.specs.declared.completeness.Completeness.TheVariants.{Ignored, Required}
-use Rattle.lsp_verdict.specs.declared.verdict.Who.{Who}
-use Rattle.lsp_verdict.specs.declared.verdict.Who.TheVariants as who
 use Rattle.lsp_verdict.proofs.Below.{some_stream}
-use Rattle.lsp_verdict.proofs.ExactCounts.{no_exact, yes_exact}
+use Rattle.lsp_verdict.proofs.ExactCounts.{yes_exact}
 use Rattle.lsp_verdict.proofs.Offences.Offending.{all_are_kept, nothing_listed}
 use Rattle.lsp_verdict.proofs.RunReading.{read_map}
 use Rattle.lsp_verdict.proofs.PlacedLemmas.{placed_whole}
@@ -54,41 +50,12 @@ use Rattle.lsp_survey.proofs.Reading.{notes_few, small_events, survey_of}
 -- ---- exact numbers
 
 module _ (events : List Event) (small : length events + 1 < 2 ^ 64) where
-  one_exact : (rule : ℕ) (by : Who)
-      → given_by (no_next rule by events) ≡ by_itself (no_next rule by events)
-  one_exact rule by = ap (λ (v : Verdict). by_itself v) (no_exact events rule by small)
-
-  pub rests_exact : (editor server : Bool) (lacks : List Verdict)
-      → map given_by lacks ≡ map by_itself lacks
-      → map given_by (first_ends None (rests_listed events editor server) lacks)
-      ≡ map by_itself (first_ends None (rests_listed events editor server) lacks)
-  rests_exact false false lacks exact = exact
-  rests_exact true false lacks exact = ap (λ (o : Offence). o ∷ []) (one_exact 107 who.Editor)
-  rests_exact false true lacks exact = ap (λ (o : Offence). o ∷ []) (one_exact 107 who.Server)
-  rests_exact true true lacks exact =
-      ap (λ (o : Offence). o ∷ given_by (no_next 107 who.Server events) ∷ [])
-      (one_exact 107 who.Editor)
-      ∙ ap (λ (o : Offence). by_itself (no_next 107 who.Editor events) ∷ o ∷ [])
-      (one_exact 107 who.Server)
-
-  lack_exact : (rule : Option ℕ)
-      → map given_by (option_to_list (option_map (λ (r : ℕ). no_next r who.Editor events) rule))
-      ≡ map by_itself (option_to_list (option_map (λ (r : ℕ). no_next r who.Editor events) rule))
-  lack_exact None = refl
-  lack_exact (Some rule) = ap (λ (o : Offence). o ∷ []) (one_exact rule who.Editor)
-
-  pub lacks_exact : (completeness : Completeness) (kept : List Event)
-      → map given_by (lacks_listed completeness events kept)
-      ≡ map by_itself (lacks_listed completeness events kept)
-  lacks_exact Ignored kept = refl
-  lacks_exact Required kept = lack_exact (incomplete (sent_in kept))
-
   ends_by_fault : (flaw : Option (ℕ × LogCode)) (editor server : Bool) (lacks : List Verdict)
       → map given_by lacks ≡ map by_itself lacks
       → map given_by (first_ends flaw (rests_listed events editor server) lacks)
       ≡ map by_itself (first_ends flaw (rests_listed events editor server) lacks)
   ends_by_fault (Some flaw) editor server lacks exact = refl
-  ends_by_fault None editor server lacks exact = rests_exact editor server lacks exact
+  ends_by_fault None editor server lacks exact = rests_exact events small editor server lacks exact
 
   ends_exact : (completeness : Completeness) (terms : Terms) (end : Ending)
       → map given_by (ends_listed completeness terms events end)
@@ -97,35 +64,7 @@ module _ (events : List Event) (small : length events + 1 < 2 ^ 64) where
       ends_by_fault end.log_fault (survey.ends_inside Editor events end.editor_rest)
       (survey.ends_inside Server events end.server_rest)
       (lacks_listed completeness events (kept_of terms events))
-      (lacks_exact completeness (kept_of terms events))
-
--- ---- few
-
-pub given_few : {A X : Type 0} (f : List A → A → Option X) (before xs : List A)
-    → length (each_from f before xs) ≤ length xs
-given_few f before [] = omega arith
-given_few {X = X} f before (x ∷ xs) = by_option (f before x) (given_few f (before ++ x ∷ []) xs)
-  where
-    by_option : (o : Option X) → length (each_from f (before ++ x ∷ []) xs) ≤ length xs
-        → length (cons_option o (each_from f (before ++ x ∷ []) xs)) ≤ length (x ∷ xs)
-    by_option None h = omega (arith, h)
-    by_option (Some y) h = omega (arith, h)
-
-pub ends_few : (flaw : Option (ℕ × LogCode)) (events kept : List Event) (editor server : Bool)
-    (completeness : Completeness)
-    → length (first_ends flaw (rests_listed events editor server)
-    (lacks_listed completeness events kept)) ≤ 2
-ends_few (Some flaw) events kept editor server completeness = omega arith
-ends_few None events kept true true completeness = omega arith
-ends_few None events kept true false completeness = omega arith
-ends_few None events kept false true completeness = omega arith
-ends_few None events kept false false Ignored = omega arith
-ends_few None events kept false false Required = by_rule (incomplete (sent_in kept))
-  where
-    by_rule : (o : Option ℕ)
-        → length (option_to_list (option_map (λ (r : ℕ). no_next r who.Editor events) o)) ≤ 2
-    by_rule None = omega arith
-    by_rule (Some rule) = omega arith
+      (lacks_exact events small completeness (kept_of terms events))
 
 -- ---- the end
 

@@ -1,8 +1,8 @@
 -- What is lost after one event more.
-use Rattle.std.specs.Prelude.{ℤ, ◌||◌, chars, if◌then◌else◌, is_some, option_and_then, unwrap_or}
+use Rattle.std.specs.Prelude.{ℤ, ◌||◌, chars, if◌then◌else◌, is_some, option_and_then, option_map}
+use Rattle.std.specs.Prelude.{unwrap_or}
 use Rattle.std.proofs.Common.{◌≡◌, ℕ, Bool, true, false, List, [], ◌∷◌, ◌++◌, Option, Some, None}
-use Rattle.std.proofs.Common.{refl}
-use Rattle.std.proofs.Common.{sym, ap, subst, ◌∙◌}
+use Rattle.std.proofs.Common.{refl, sym, ap, subst, ◌∙◌}
 use Rattle.std.proofs.lemmas.List.{map-append}
 use Rattle.lsp_docs.specs.State as docs
 use Rattle.lsp_docs.specs.Calls.{Call, shows}
@@ -19,36 +19,34 @@ use Rattle.lsp_types.specs.declared.position.Encoding.{Encoding}
 use Rattle.lsp_types.specs.declared.position.Encoding.TheVariants.{Utf16}
 use Rattle.lsp_types.specs.declared.side.Side.{Side}
 use Rattle.lsp_replay.specs.Standing.{Holds}
-use Rattle.lsp_replay.specs.Telling.{MaySpeak, Stood, kept_before, rule_of}
+use Rattle.lsp_replay.specs.Telling.{IsSpoken, kept_before, rule_of}
 use Rattle.lsp_replay.proofs.Seeing.{events-push}
-use Rattle.lsp_survey.specs.Lost.{AreLosses, HoldsSent, Loses, follows_of}
-use Rattle.lsp_survey.specs.Walking.{IsMessageOf}
-use Rattle.lsp_survey.specs.Notes.{Leaves, is_noted, is_noted_lost}
+use Rattle.lsp_survey.specs.Lost.{AreLosses, HoldsSent, IsMessageOf, Loses, Offends, WasTold}
+use Rattle.lsp_survey.specs.Lost.{follows_of}
+use Rattle.lsp_survey.specs.Notes.{AreAfter, Leaves, is_noted, is_noted_lost}
 use Rattle.lsp_survey.specs.Passed.{ArePassed}
-use Rattle.lsp_survey.specs.Sides.{sides_after, sides_failed, sides_of}
+use Rattle.lsp_survey.specs.Sides.{sides_after, sides_failed, sides_of, sides_read}
 use Rattle.lsp_survey.specs.declared.losses.Losses.{Losses}
 use Rattle.lsp_survey.specs.declared.notes.note.Notes as code_notes
-use Rattle.lsp_survey.proofs.Noting.{nothing_said}
+use Rattle.lsp_survey.proofs.Noting.{notes_stay, nothing_said}
+use Rattle.lsp_survey.proofs.PassedSteps.{fault_passes, kept_passes}
+use Rattle.lsp_survey.proofs.SidesSteps.{sides_pushed}
 use Rattle.lsp_verdict.specs.Calls.{call_of, calls}
 use Rattle.lsp_verdict.specs.Event.{Event, fault, message, sent_in, snapshot}
 use Rattle.lsp_verdict.specs.Heard.{Heard, heard_events, notes_of}
 use Rattle.lsp_verdict.specs.LookBack.{first_of}
 use Rattle.lsp_verdict.specs.Offences.{IsMalformed, IsNoted, IsReading, Noted, answered_by}
-use Rattle.lsp_verdict.specs.Offences.{asked_by, asks, breaks_handshake, broken_by}
-use Rattle.lsp_verdict.specs.Offences.{brought_by, events_of, follows, follows_bytes}
-use Rattle.lsp_verdict.specs.Offences.{follows_passed}
+use Rattle.lsp_verdict.specs.Offences.{asked_by, asks, breaks_handshake, broken_by, brought_by}
+use Rattle.lsp_verdict.specs.Offences.{events_of, follows, follows_bytes, follows_passed}
 use Rattle.lsp_verdict.specs.Offences.{is_initialized_by, is_lost, is_on_lost, is_passed}
-use Rattle.lsp_verdict.specs.Offences.{is_reopened}
-use Rattle.lsp_verdict.specs.Offences.{is_unheard, kept_of, left_by, may_answer, passes, rule_at}
-use Rattle.lsp_verdict.specs.Offences.{said_at}
-use Rattle.lsp_survey.proofs.PassedSteps.{fault_passes, kept_passes}
-use Rattle.lsp_survey.proofs.SidesSteps.{sides_pushed}
-use Rattle.lsp_verdict.proofs.Offences.Steps.{broken-push, events_of-push, is_lost-push}
-use Rattle.lsp_verdict.proofs.Offences.Steps.{is_passed-push, kept-refused, unheard-push}
-use Rattle.lsp_verdict.proofs.Offences.Surveying.{one_malformed}
+use Rattle.lsp_verdict.specs.Offences.{is_reopened, is_unheard, kept_of, left_by, may_answer}
+use Rattle.lsp_verdict.specs.Offences.{passes, rule_at, said_at}
 use Rattle.lsp_verdict.specs.Placed.{Raw, Reads, broken, content, show}
 use Rattle.lsp_verdict.specs.Verdict.{offence}
 use Rattle.lsp_verdict.specs.declared.counts.Counts.{Counts}
+use Rattle.lsp_verdict.proofs.Offences.Steps.{broken-push, events_of-push, is_lost-push}
+use Rattle.lsp_verdict.proofs.Offences.Steps.{is_passed-push, kept-refused, unheard-push}
+use Rattle.lsp_verdict.proofs.Offences.Surveying.{one_malformed}
 
 -- an event that offends by this rule, or is kept, breaks the handshake
 abbrev pub breaks_by : Option ℕ → Option Message → Bool → Bool
@@ -232,40 +230,6 @@ notes-push : (before : List Heard) (h : Heard)
     → notes_of (before ++ h ∷ []) ≡ notes_of before ++ h.note ∷ []
 notes-push before h = map-append (λ (x : Heard). x.note) before (h ∷ [])
 
-module _ (raw : Raw) (terms : Terms) (before : List Heard) (h : Heard) (m : session.State)
-    (d : docs.State) (c : Counts) (rule : ℕ) (late : Bool) (old new : Losses)
-    (losses : AreLosses terms old (notes_of before))
-    (stood : Stood terms m d c (before ++ h ∷ [])) (noted : IsNoted raw h.note)
-    (offends : rule_of terms before h ≡ Some rule) where
-  abbrev notes : List Noted
-  notes = notes_of before
-
-  abbrev kept : List Event
-  kept = kept_before terms before
-
-  -- what is held is the result of the kept events before it
-  pub held_before : Holds m d kept
-  held_before = subst (Holds m d) (ap (kept_of terms) (events-push before h)
-      ∙ kept-refused terms (heard_events before) h.note.event rule offends) stood.holds
-
-  abbrev pub IsLost : Type 0
-  IsLost = (late ≡ follows terms notes h.note rule)
-      × AreLosses terms new (notes_of (before ++ h ∷ []))
-
-  is_lost_by : (said : Option Call) (malformed : Option Message)
-      → said_at terms (events_of notes) h.note.event ≡ said → h.note.malformed ≡ malformed
-      → late ≡ follows_of terms notes rule (is_noted_lost old.documents.map.entries said)
-      (follows_passed terms rule notes h.note.event
-      || follows_bytes rule (events_of notes) h.note.event)
-      → Loses terms notes h.note.event malformed said rule old new → IsLost
-  is_lost_by said malformed said_is whole is l = (
-    follows_on terms notes h.note rule said old new losses offends said_is late _ refl is,
-    subst (AreLosses terms new) (sym (notes-push before h))
-        (lost_on terms notes h.note rule said old new losses offends said_is
-        (subst (λ (x : Option Message). Loses terms notes h.note.event x said rule old new)
-        (sym whole) l)),
-  )
-
 -- the call that a message makes after these kept events
 abbrev enc_after : List Event → Encoding
 enc_after kept = unwrap_or (encoding (sent_in kept)) Utf16
@@ -273,13 +237,91 @@ enc_after kept = unwrap_or (encoding (sent_in kept)) Utf16
 abbrev kind_after : List Event → SyncKind
 kind_after kept = unwrap_or (sync_kind (sent_in kept)) Nothing
 
+-- ---- an event that is kept
+
+module _ (terms : Terms) (before : List Heard) (h : Heard) (old new : Losses)
+    (losses : AreLosses terms old (notes_of before)) (noted : IsNoted h.raw h.note)
+    (rule : rule_of terms before h ≡ None) where
+  told_kept : AreLosses terms new (notes_of before ++ h.note ∷ []) → WasTold new terms before h false
+  told_kept are = record {
+    late_is = ap (λ (o : Option ℕ). unwrap_or
+        (option_map (follows terms (notes_of before) h.note) o) false) (sym rule);
+    losses = subst (AreLosses terms new) (sym (notes-push before h)) are;
+  }
+
+  -- a message
+  pub message_kept : (side : Side) (bytes : List ℕ) (s : Spoken) → h.raw ≡ content side bytes
+      → IsSpoken (kept_before terms before) h.note.event side s
+      → ((enc : Encoding) (kind : SyncKind) → AreAfter (call_of enc kind (act_view s.act))
+      old.documents.map.entries new.documents.map.entries)
+      → new.sides ≡ sides_read side old.sides → new.handshake ≡ old.handshake
+      → new.passed ≡ old.passed → new.unheard ≡ old.unheard → WasTold new terms before h false
+  message_kept side bytes s raw speaks after sides handshake passed unheard =
+      let enc = enc_after (kept_before terms before) in
+      let kind = kind_after (kept_before terms before) in
+      let call = call_of enc kind (act_view s.act) in
+      let whole = subst (λ (e : Event). IsMalformed (content side bytes) e h.note.malformed)
+      speaks.is (subst (λ (w : Raw). IsNoted w h.note) raw noted).1 in
+      told_kept (kept_on terms (notes_of before) h.note call old new losses rule
+      (ap (λ (e : Event). said_at terms (heard_events before) e) speaks.is
+      ∙ ap (call_of enc kind) speaks.means) handshake
+      (sides ∙ ap (λ (x : Side). sides_read x old.sides) (sym speaks.by)
+      ∙ ap (λ (e : Event). sides_after e old.sides) (sym speaks.is)) passed unheard
+      (subst (λ (m : Option Message). Leaves None (option_and_then brought_by m) false call
+      old.documents.map.entries new.documents.map.entries) (sym whole) (after enc kind)))
+
+  -- a snapshot
+  pub shown_kept : (number : ℤ) (uri text : List ℕ) → h.raw ≡ show number uri text → new ≡ old
+      → WasTold new terms before h false
+  shown_kept number uri text raw same =
+      let own = subst (λ (w : Raw). IsNoted w h.note) raw noted in
+      let call = shows uri number (chars text) in
+      told_kept (subst (λ (l : Losses). AreLosses terms l (notes_of before ++ h.note ∷ []))
+      (sym same)
+      (kept_on terms (notes_of before) h.note (Some call) old old losses rule
+      (ap (λ (e : Event). said_at terms (heard_events before) e) own.0) refl
+      (ap (λ (e : Event). sides_after e old.sides) (sym own.0)) refl refl
+      (subst (λ (m : Option Message). Leaves None (option_and_then brought_by m) false (Some call)
+      old.documents.map.entries old.documents.map.entries) (sym own.1)
+      (notes_stay call old.documents.map.entries refl))))
+
+-- ---- an event that offends
+
+module _ (raw : Raw) (terms : Terms) (before : List Heard) (h : Heard) (m : session.State)
+    (d : docs.State) (c : Counts) (rule : ℕ) (spoken : Option Spoken) (late : Bool)
+    (old new : Losses) (losses : AreLosses terms old (notes_of before))
+    (offends : Offends m d c raw rule spoken terms before h) where
+  abbrev notes : List Noted
+  notes = notes_of before
+
+  -- what is held is the result of the kept events before it
+  pub held_before : Holds m d (kept_before terms before)
+  held_before = subst (Holds m d) (ap (kept_of terms) (events-push before h)
+      ∙ kept-refused terms (heard_events before) h.note.event rule offends.breaks)
+      offends.stood.holds
+
+  told_by : (said : Option Call) (malformed : Option Message)
+      → said_at terms (events_of notes) h.note.event ≡ said → h.note.malformed ≡ malformed
+      → late ≡ follows_of terms notes rule (is_noted_lost old.documents.map.entries said)
+      (follows_passed terms rule notes h.note.event
+      || follows_bytes rule (events_of notes) h.note.event)
+      → Loses terms notes h.note.event malformed said rule old new → WasTold new terms before h late
+  told_by said malformed said_is whole is l = record {
+    late_is = follows_on terms notes h.note rule said old new losses offends.breaks said_is late _
+        refl is
+        ∙ ap (λ (o : Option ℕ). unwrap_or (option_map (follows terms notes h.note) o) false)
+        (sym offends.breaks);
+    losses = subst (AreLosses terms new) (sym (notes-push before h))
+        (lost_on terms notes h.note rule said old new losses offends.breaks said_is
+        (subst (λ (x : Option Message). Loses terms notes h.note.event x said rule old new)
+        (sym whole) l));
+  }
+
 -- a message
 pub message_lost : (side : Side) (bytes : List ℕ) (terms : Terms) (before : List Heard) (h : Heard)
     (m : session.State) (d : docs.State) (c : Counts) (s : Spoken) (rule : ℕ) (late : Bool)
     (old new : Losses) → AreLosses terms old (notes_of before)
-    → Stood terms m d c (before ++ h ∷ []) → IsNoted (content side bytes) h.note
-    → rule_of terms before h ≡ Some rule
-    → MaySpeak (kept_before terms before) h.note.event (Some s)
+    → Offends m d c (content side bytes) rule (Some s) terms before h
     → ((notes : List Noted) (event : Event) (enc : Encoding) (kind : SyncKind)
     → AreLosses terms old notes → d.terms ≡ terms → Holds m d (kept_of terms (events_of notes))
     → IsMessageOf side (message_view s.message) event
@@ -287,21 +329,20 @@ pub message_lost : (side : Side) (bytes : List ℕ) (terms : Terms) (before : Li
     (call_of enc kind (act_view s.act)))
     (follows_passed terms rule notes event || follows_bytes rule (events_of notes) event))
     × Loses terms notes event None (call_of enc kind (act_view s.act)) rule old new)
-    → (late ≡ follows terms (notes_of before) h.note rule)
-    × AreLosses terms new (notes_of (before ++ h ∷ []))
-message_lost side bytes terms before h m d c s rule late old new losses stood noted offends
-    (by, speaks) told =
+    → WasTold new terms before h late
+message_lost side bytes terms before h m d c s rule late old new losses offends told =
     let raw = content side bytes in
-    let kept = kept_before terms before in
-    let enc = enc_after kept in
-    let kind = kind_after kept in
-    let sent = speaks.sent in
-    let reads = subst (λ (e : Event). Reads raw e) speaks.is noted.0 in
-    let whole = subst (λ (e : Event). IsMalformed raw e h.note.malformed) speaks.is noted.1 in
-    let both = told (notes_of before) h.note.event enc kind losses stood.by
-    (held_before raw terms before h m d c rule late old new losses stood noted offends)
-    (sent, speaks.is, reads.by, speaks.says) in
-    is_lost_by raw terms before h m d c rule late old new losses stood noted offends
+    let enc = enc_after (kept_before terms before) in
+    let kind = kind_after (kept_before terms before) in
+    let by = offends.speaks.0 in
+    let speaks : IsSpoken (kept_before terms before) h.note.event by s = offends.speaks.1 in
+    let reads = subst (λ (e : Event). Reads raw e) speaks.is offends.noted.0 in
+    let whole = subst (λ (e : Event). IsMalformed raw e h.note.malformed) speaks.is offends.noted.1
+    in
+    let both = told (notes_of before) h.note.event enc kind losses offends.stood.by
+    (held_before raw terms before h m d c rule (Some s) late old new losses offends)
+    (speaks.sent, speaks.is, reads.by, speaks.says) in
+    told_by raw terms before h m d c rule (Some s) late old new losses offends
     (call_of enc kind (act_view s.act)) None
     (ap (λ (e : Event). said_at terms (heard_events before) e) speaks.is
     ∙ ap (call_of enc kind) speaks.means) whole both.0 both.1
@@ -309,87 +350,71 @@ message_lost side bytes terms before h m d c s rule late old new losses stood no
 -- a content that is no message with a meaning
 pub unread_lost : (side : Side) (bytes : List ℕ) (terms : Terms) (before : List Heard) (h : Heard)
     (m : session.State) (d : docs.State) (c : Counts) (rule : ℕ) (late : Bool) (old new : Losses)
-    → AreLosses terms old (notes_of before) → Stood terms m d c (before ++ h ∷ [])
-    → IsNoted (content side bytes) h.note → rule_of terms before h ≡ Some rule
-    → MaySpeak (kept_before terms before) h.note.event None
+    → AreLosses terms old (notes_of before)
+    → Offends m d c (content side bytes) rule None terms before h
     → (malformed : Option Message) → IsReading bytes malformed
     → ((notes : List Noted) → AreLosses terms old notes → HoldsSent m terms notes
     → (late ≡ follows_of terms notes rule false
     (follows_bytes rule (events_of notes) (fault side rule)))
     × Loses terms notes (fault side rule) malformed None rule old new)
-    → (late ≡ follows terms (notes_of before) h.note rule)
-    × AreLosses terms new (notes_of (before ++ h ∷ []))
-unread_lost side bytes terms before h m d c rule late old new losses stood noted offends speaks
-    malformed reading told =
+    → WasTold new terms before h late
+unread_lost side bytes terms before h m d c rule late old new losses offends malformed reading told =
     let raw = content side bytes in
-    let both = told (notes_of before) losses
-    (held_before raw terms before h m d c rule late old new losses stood noted offends).sent in
-    by_event h.note.event refl both
+    let notes = notes_of before in
+    let both = told notes losses
+    (held_before raw terms before h m d c rule None late old new losses offends).sent in
+    let own = fault_is h.note.event refl offends.noted.0 offends.breaks in
+    let whole = subst (λ (x : Event). IsMalformed raw x h.note.malformed) own offends.noted.1 in
+    told_by raw terms before h m d c rule None late old new losses offends None malformed
+    (ap (λ (x : Event). said_at terms (heard_events before) x) own)
+    (one_malformed raw (fault side rule) h.note.malformed malformed whole reading)
+    (both.0 ∙ ap (λ (x : Event). follows_of terms notes rule false
+    (follows_passed terms rule notes x || follows_bytes rule (heard_events before) x)) (sym own))
+    (subst (λ (x : Event). Loses terms notes x malformed None rule old new) (sym own) both.1)
   where
     -- the event is that fault
     fault_is : (e : Event) → h.note.event ≡ e → Reads (content side bytes) e
         → offence terms (kept_before terms before) e ≡ Some rule → e ≡ fault side rule
-    fault_is (message sent) is reads breaks = absurd (speaks sent is)
+    fault_is (message sent) is reads breaks = absurd (offends.speaks sent is)
     fault_is (fault by code) is reads breaks =
         let code_is : code ≡ rule = cc breaks in
         ap (λ (s : Side). fault s code) (sym reads.0) ∙ ap (fault side) code_is
     fault_is (snapshot uri number text) is reads breaks = absurd reads
 
-    by_event : (e : Event) → h.note.event ≡ e
-        → (late ≡ follows_of terms (notes_of before) rule false
-        (follows_bytes rule (heard_events before) (fault side rule)))
-        × Loses terms (notes_of before) (fault side rule) malformed None rule old new
-        → (late ≡ follows terms (notes_of before) h.note rule)
-        × AreLosses terms new (notes_of (before ++ h ∷ []))
-    by_event e is both =
-        let own = fault_is h.note.event refl noted.0 offends in
-        let whole = subst (λ (x : Event). IsMalformed (content side bytes) x h.note.malformed) own
-        noted.1 in
-        is_lost_by (content side bytes) terms before h m d c rule late old new losses stood noted
-        offends None malformed
-        (ap (λ (x : Event). said_at terms (heard_events before) x) own)
-        (one_malformed (content side bytes) (fault side rule) h.note.malformed malformed whole reading)
-        (both.0 ∙ ap (λ (x : Event). follows_of terms (notes_of before) rule false
-        (follows_passed terms rule (notes_of before) x || follows_bytes rule (heard_events before) x))
-        (sym own))
-        (subst (λ (x : Event). Loses terms (notes_of before) x malformed None rule old new) (sym own)
-        both.1)
-
 -- a fault of the frames
 pub frames_lost : (side : Side) (code : ℕ) (terms : Terms) (before : List Heard) (h : Heard)
-    (m : session.State) (d : docs.State) (c : Counts) (rule : ℕ) (late : Bool) (old new : Losses)
-    → AreLosses terms old (notes_of before) → Stood terms m d c (before ++ h ∷ [])
-    → IsNoted (broken side code) h.note → rule_of terms before h ≡ Some rule
-    → new.documents ≡ old.documents → new.passed ≡ old.passed → new.unheard ≡ old.unheard
-    → new.sides ≡ sides_failed side rule old.sides
+    (m : session.State) (d : docs.State) (c : Counts) (rule : ℕ) (spoken : Option Spoken)
+    (late : Bool) (old new : Losses) → AreLosses terms old (notes_of before)
+    → Offends m d c (broken side code) rule spoken terms before h
+    → new ≡ record old { handshake = new.handshake; sides = sides_failed side rule old.sides }
     → ((kept : List Event) → session.Stands m (sent_in kept)
     → new.handshake ≡ (old.handshake || (breaks_handshake false rule
     || may_answer kept (fault side rule))))
     → ((t : Terms) (notes : List Noted) → AreLosses t old notes → HoldsSent m t notes
     → late ≡ follows_of t notes rule false (follows_bytes rule (events_of notes) (fault side rule)))
-    → (late ≡ follows terms (notes_of before) h.note rule)
-    × AreLosses terms new (notes_of (before ++ h ∷ []))
-frames_lost side code terms before h m d c rule late old new losses stood noted offends documents
-    passed unheard sides broke follows_is =
+    → WasTold new terms before h late
+frames_lost side code terms before h m d c rule spoken late old new losses offends stays broke
+    follows_is =
     let raw = broken side code in
     let notes = notes_of before in
-    let stands = (held_before raw terms before h m d c rule late old new losses stood noted
-    offends).sent in
+    let stands = (held_before raw terms before h m d c rule spoken late old new losses offends).sent
+    in
     let code_is : code ≡ rule = same_rule code rule (sym (ap (λ (e : Event).
-    rule_at terms (heard_events before) e) noted.0) ∙ offends) in
-    let own : h.note.event ≡ fault side rule = noted.0 ∙ ap (fault side) code_is in
-    is_lost_by raw terms before h m d c rule late old new losses stood noted offends None None
-    (ap (λ (e : Event). said_at terms (heard_events before) e) own) noted.1
+    rule_at terms (heard_events before) e) offends.noted.0) ∙ offends.breaks) in
+    let own : h.note.event ≡ fault side rule = offends.noted.0 ∙ ap (fault side) code_is in
+    told_by raw terms before h m d c rule spoken late old new losses offends None None
+    (ap (λ (e : Event). said_at terms (heard_events before) e) own) offends.noted.1
     (follows_is terms notes losses stands
     ∙ ap (λ (e : Event). follows_of terms notes rule false
     (follows_passed terms rule notes e || follows_bytes rule (heard_events before) e)) (sym own))
     (subst (λ (e : Event). Loses terms notes e None None rule old new) (sym own) (record {
       is_broken = broke (kept_before terms before) stands;
-      sides = sides;
-      passed = fault_passes (fault side rule) side rule rule old.passed new.passed refl passed;
-      unheard = unheard ∙ or_false old.unheard;
+      sides = ap (λ (l : Losses). l.sides) stays;
+      passed = fault_passes (fault side rule) side rule rule old.passed new.passed refl
+          (ap (λ (l : Losses). l.passed) stays);
+      unheard = ap (λ (l : Losses). l.unheard) stays ∙ or_false old.unheard;
       noted = subst (λ (w : code_notes.Notes). Leaves (Some rule) None false None
-          old.documents.map.entries w.map.entries) (sym documents)
+          old.documents.map.entries w.map.entries) (sym (ap (λ (l : Losses). l.documents) stays))
           (nothing_said (Some rule) false old.documents.map.entries);
     }))
   where
@@ -398,25 +423,25 @@ frames_lost side code terms before h m d c rule late old new losses stood noted 
 
 -- a snapshot
 pub shown_lost : (number : ℤ) (uri text : List ℕ) (terms : Terms) (before : List Heard) (h : Heard)
-    (m : session.State) (d : docs.State) (c : Counts) (rule : ℕ) (late : Bool) (old new : Losses)
-    → AreLosses terms old (notes_of before) → Stood terms m d c (before ++ h ∷ [])
-    → IsNoted (show number uri text) h.note → rule_of terms before h ≡ Some rule
+    (m : session.State) (d : docs.State) (c : Counts) (rule : ℕ) (spoken : Option Spoken)
+    (late : Bool) (old new : Losses) → AreLosses terms old (notes_of before)
+    → Offends m d c (show number uri text) rule spoken terms before h
     → ((t : Terms) (notes : List Noted) (n : ℤ) (shown : List ℕ) → AreLosses t old notes
     → HoldsSent m t notes
     → (late ≡ follows_of t notes rule (is_noted old.documents.map.entries uri) false)
     × Loses t notes (snapshot uri n shown) None (Some (shows uri n shown)) rule old new)
-    → (late ≡ follows terms (notes_of before) h.note rule)
-    × AreLosses terms new (notes_of (before ++ h ∷ []))
-shown_lost number uri text terms before h m d c rule late old new losses stood noted offends told =
+    → WasTold new terms before h late
+shown_lost number uri text terms before h m d c rule spoken late old new losses offends told =
     let raw = show number uri text in
     let notes = notes_of before in
     let call = shows uri number (chars text) in
     let both = told terms notes number (chars text) losses
-    (held_before raw terms before h m d c rule late old new losses stood noted offends).sent in
-    is_lost_by raw terms before h m d c rule late old new losses stood noted offends (Some call) None
-    (ap (λ (e : Event). said_at terms (heard_events before) e) noted.0) noted.1
+    (held_before raw terms before h m d c rule spoken late old new losses offends).sent in
+    told_by raw terms before h m d c rule spoken late old new losses offends (Some call) None
+    (ap (λ (e : Event). said_at terms (heard_events before) e) offends.noted.0) offends.noted.1
     (both.0 ∙ ap (λ (e : Event). follows_of terms notes rule
     (is_noted old.documents.map.entries uri)
     (follows_passed terms rule notes e || follows_bytes rule (heard_events before) e))
-    (sym noted.0))
-    (subst (λ (e : Event). Loses terms notes e None (Some call) rule old new) (sym noted.0) both.1)
+    (sym offends.noted.0))
+    (subst (λ (e : Event). Loses terms notes e None (Some call) rule old new)
+    (sym offends.noted.0) both.1)

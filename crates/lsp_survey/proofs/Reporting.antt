@@ -1,33 +1,33 @@
 -- The report of all that is wrong with a log, written as it is found.
-use Rattle.std.specs.Prelude.{map, filter, not, if◌then◌else◌, option_map, codes, decimal, take}
-use Rattle.std.specs.Prelude.{slice_get}
+use Rattle.std.specs.Prelude.{map, filter, not, ◌||◌, if◌then◌else◌, option_map, codes, decimal}
+use Rattle.std.specs.Prelude.{slice_get, take}
 use Rattle.std.specs.List.{flat_map}
 use Rattle.std.proofs.Common.{◌≡◌, ℕ, ◌+◌, ◌<◌, ◌≤◌, ◌^◌, length, arith, Bool, true, false, List}
-use Rattle.std.proofs.Common.{[], ◌∷◌, ◌++◌, Option, Some, None, refl, sym, ap}
-use Rattle.std.proofs.Common.{subst, ◌∙◌, append_assoc}
+use Rattle.std.proofs.Common.{[], ◌∷◌, ◌++◌, Option, Some, None, refl, sym, ap, subst, ◌∙◌}
+use Rattle.std.proofs.Common.{append-nil, append_assoc}
 use Rattle.std.proofs.lemmas.List.Concat.{flat_map-append}
 use Rattle.lsp_frame.specs.Bounds.{Bounds, IsInRange}
-use Rattle.lsp_survey.specs.Reported.{is_every, IsReported, lines_of, closing}
-use Rattle.lsp_survey.specs.Reported.{IsTally}
-use Rattle.lsp_verdict.specs.declared.listing.Listing.{Listing}
-use Rattle.lsp_verdict.specs.declared.listing.Listing.TheVariants.{Causes, Every}
+use Rattle.lsp_survey.specs.Reported.{IsReported, IsTally, closing, count_line, is_every, lines_of}
+use Rattle.lsp_survey.specs.Reported.{verdict_lines}
 use Rattle.lsp_survey.specs.declared.offence_count.OffenceCount.{OffenceCount}
+use Rattle.lsp_verdict.specs.Complete.{IsCompleteVerdict, IsVerdictBy}
 use Rattle.lsp_verdict.specs.Given.{offence_view}
 use Rattle.lsp_verdict.specs.Offences.{Offence}
+use Rattle.lsp_verdict.specs.Outcome.{IsVerdict}
+use Rattle.lsp_verdict.specs.Report.{line, report}
 use Rattle.lsp_verdict.specs.Survey.{all_report, bad_lines, first_verdict, found_line}
 use Rattle.lsp_verdict.specs.Survey.{offence_lines, shown_of}
-use Rattle.lsp_verdict.specs.Complete.{IsCompleteVerdict, IsVerdictBy}
-use Rattle.lsp_verdict.specs.Outcome.{IsVerdict}
-use Rattle.lsp_verdict.specs.Report.{line}
 use Rattle.lsp_verdict.specs.Verdict.{Summary, Verdict}
+use Rattle.lsp_verdict.specs.declared.completeness.Completeness.{Completeness}
 use Rattle.lsp_verdict.specs.declared.completeness.Completeness.TheVariants.{Ignored, Required}
+use Rattle.lsp_verdict.specs.declared.listing.Listing.{Listing}
+use Rattle.lsp_verdict.specs.declared.listing.Listing.TheVariants.{Causes, Every}
 use Rattle.lsp_verdict.specs.declared.offence.Offence as code
+use Rattle.lsp_verdict.proofs.ByIndex.{map_one}
 use Rattle.lsp_verdict.proofs.Completing.{some_complete_verdict}
 use Rattle.lsp_verdict.proofs.ExactCounts.{capped_is}
-use Rattle.lsp_verdict.proofs.ByIndex.{map_one}
 use Rattle.lsp_verdict.proofs.Logs.{some_verdict}
 use Rattle.lsp_verdict.proofs.Offences.Surveying.{survey_agrees}
-use Rattle.lsp_verdict.specs.declared.completeness.Completeness.{Completeness}
 
 -- ---- lines
 
@@ -68,6 +68,26 @@ report_is Causes (o ∷ found) bad s =
     append_assoc (flat_map offence_lines (shown_of false (o ∷ found))) (bad_lines bad)
     (found_line (o ∷ found))
 
+-- what is said at the end, its first lines and its last
+pub closing_is : (found : List Offence) (bad : Option Verdict) (s : Summary)
+    → verdict_lines found bad s ++ count_line found ≡ closing found bad s
+closing_is [] bad s = append-nil (report (first_verdict [] bad s))
+closing_is (o ∷ found) bad s = refl
+
+-- an offence is listed, or not
+pub not_listed : (listing : Listing) (o : Offence) → (is_every listing || not o.follows) ≡ false
+    → [] ≡ lines_of listing (o ∷ [])
+not_listed Every o is = absurd (cc is)
+not_listed Causes o is =
+    ap (λ b. flat_map offence_lines (if b then o ∷ [] else [])) (sym is)
+
+pub is_listed : (listing : Listing) (o : Offence) → (is_every listing || not o.follows) ≡ true
+    → offence_lines o ≡ lines_of listing (o ∷ [])
+is_listed Every o is = sym (append-nil (offence_lines o))
+is_listed Causes o is =
+    sym (append-nil (offence_lines o))
+    ∙ ap (λ b. flat_map offence_lines (if b then o ∷ [] else [])) (sym is)
+
 -- ---- a log
 
 filter_few : (xs : List Offence) → length (filter (λ (o : Offence). o.follows) xs) ≤ length xs
@@ -107,6 +127,45 @@ closed_some t (o ∷ found) first bad s text v is tally few text_is v_is =
       v_is ∙ ap (λ (x : Offence). x.no) here,
     )
 
+-- where something was found, those of the fault of the log come first
+pub some_said : (t : OffenceCount) (found : List Offence) (first : code.Offence)
+    (bad : Option Verdict) (s : Summary) (v : Verdict) → t.first ≡ Some first → IsTally t found
+    → v ≡ (offence_view first).no
+    → (bad_lines bad ≡ verdict_lines found bad s) × (v ≡ first_verdict found bad s)
+some_said t [] first bad s v is tally v_is =
+    let none : Some (offence_view first) ≡ None =
+    ap (option_map offence_view) (sym is) ∙ tally.first in absurd cc
+some_said t (o ∷ found) first bad s v is tally v_is =
+    let same : Some (offence_view first) ≡ Some o =
+    ap (option_map offence_view) (sym is) ∙ tally.first in
+    let here : offence_view first ≡ o = cc same in (
+      refl,
+      v_is ∙ ap (λ (x : Offence). x.no) here,
+    )
+
+-- the last line says how many
+module _ (t : OffenceCount) where
+  pub count_none : (found : List Offence) → IsTally t found → length found < 2 ^ 64 → t.found ≡ 0
+      → [] ≡ count_line found
+  count_none [] tally few none = refl
+  count_none (o ∷ found) tally few none =
+      absurd (omega (arith, tally.all, capped_is (length (o ∷ found)) few, none))
+
+  pub count_some : (found : List Offence) → IsTally t found → length found < 2 ^ 64
+      → (t.found ≡ 0 → ⊥)
+      → line (codes "offences" ∷ decimal t.found ∷ codes "following" ∷ decimal t.following ∷ [])
+      ≡ count_line found
+  count_some [] tally few some = absurd (some (tally.all ∙ capped_is 0 few))
+  count_some (o ∷ found) tally few some =
+      let all = tally.all ∙ capped_is (length (o ∷ found)) few in
+      let following = tally.following
+      ∙ capped_is (length (filter (λ (x : Offence). x.follows) (o ∷ found)))
+      (omega (arith, few, filter_few (o ∷ found))) in
+      ap (λ n. line (codes "offences" ∷ decimal n ∷ codes "following" ∷ decimal t.following ∷ []))
+      all
+      ∙ ap (λ n. line (codes "offences" ∷ decimal (length (o ∷ found)) ∷ codes
+      "following" ∷ decimal n ∷ [])) following
+
 -- ---- offences one after another
 
 -- the verdict with which the report comes is that on the log
@@ -137,14 +196,13 @@ tally_more t xs i x found at tally =
     ∙ ap (λ l. found ++ l) (sym (map_one offence_view xs i x at))) tally
 
 -- the lines of one offence more
-pub lines_more : (listing own : Listing) → own ≡ listing → (xs : List code.Offence) (i : ℕ)
-    (x : code.Offence) (old mid new : List ℕ) → slice_get xs i ≡ Some x
+pub lines_more : (listing : Listing) (xs : List code.Offence) (i : ℕ) (x : code.Offence)
+    (old mid new : List ℕ) → slice_get xs i ≡ Some x
     → mid ≡ old ++ lines_of listing (map offence_view (take i xs))
-    → new ≡ mid ++ lines_of own (offence_view x ∷ [])
+    → new ≡ mid ++ lines_of listing (offence_view x ∷ [])
     → new ≡ old ++ lines_of listing (map offence_view (take (i + 1) xs))
-lines_more listing own same xs i x old mid new at said more =
-    more ∙ ap (λ l. mid ++ lines_of l (offence_view x ∷ [])) same
-    ∙ ap (λ w. w ++ lines_of listing (offence_view x ∷ [])) said
+lines_more listing xs i x old mid new at said more =
+    more ∙ ap (λ w. w ++ lines_of listing (offence_view x ∷ [])) said
     ∙ append_assoc old (lines_of listing (map offence_view (take i xs)))
     (lines_of listing (offence_view x ∷ []))
     ∙ ap (λ w. old ++ w)

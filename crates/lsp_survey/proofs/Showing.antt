@@ -2,9 +2,8 @@
 use Rattle.std.specs.Prelude.{filter, map, option_map, unwrap_or}
 use Rattle.std.specs.List.{cons_option, flat_map}
 use Rattle.std.specs.Option.{option_or}
-use Rattle.std.proofs.Common.{◌≡◌, ◌⊎◌, ℕ, List, [], ◌∷◌, ◌++◌, Option, Some, None, Result, Ok, Err}
-use Rattle.std.proofs.Common.{inl, inr}
-use Rattle.std.proofs.Common.{refl, sym, ap, subst, ◌∙◌, append_assoc, append-nil}
+use Rattle.std.proofs.Common.{◌≡◌, ◌⊎◌, ℕ, List, [], ◌∷◌, ◌++◌, Option, Some, None, Result, inl}
+use Rattle.std.proofs.Common.{inr, refl, sym, ap, subst, ◌∙◌, append_assoc, append-nil}
 use Rattle.std.proofs.lemmas.List.{append_cancel_left, map-append}
 use Rattle.std.proofs.lemmas.List.Elements.{filter-append}
 use Rattle.std.proofs.lemmas.List.Concat.{flat_map-append}
@@ -14,30 +13,28 @@ use Rattle.lsp_frame.specs.Bounds.{Bounds, IsInRange}
 use Rattle.lsp_frame.specs.declared.format.Format.{Format}
 use Rattle.lsp_log.specs.Log.{Record}
 use Rattle.lsp_log.specs.declared.fault.LogCode.{LogCode}
-use Rattle.lsp_replay.specs.Passes.{AllPassed, Passes}
+use Rattle.lsp_replay.specs.Passes.{Passes}
 use Rattle.lsp_replay.specs.Run.{EndsAfter, HasSaid, IsPassed, IsTold, SaysAll, StopsIn, Tail}
-use Rattle.lsp_replay.proofs.PassEnds.{part_begins}
+use Rattle.lsp_replay.proofs.JudgedRuns.{IsDueOf, judged_run}
 use Rattle.lsp_survey.specs.AllShown.{BeginsAllShown, IsAllShown, OneAllShown, Piece, ShowsAll}
 use Rattle.lsp_survey.specs.AllShown.{ShowsReport}
 use Rattle.lsp_survey.specs.AllShown.{bytes_of, events_shown, is_offending, kept_line, offending}
 use Rattle.lsp_survey.specs.AllShown.{piece_bytes}
 use Rattle.lsp_survey.specs.AllShown.{shown_at, shown_in}
 use Rattle.lsp_survey.specs.Reported.{closing}
-use Rattle.lsp_survey.specs.SurveyRun.{SurveyAsked, end_said, ends_of, event_said, said_by}
-use Rattle.lsp_survey.specs.SurveyRun.{survey_run}
-use Rattle.lsp_survey.specs.SurveyRun.{verdict_by}
+use Rattle.lsp_survey.specs.SurveyRun.{end_said, ends_of, event_said, said_by}
+use Rattle.lsp_survey.specs.SurveyRun.{survey_run, verdict_by}
 use Rattle.lsp_survey.proofs.KeptTexts.{same_notes}
+use Rattle.lsp_survey.specs.declared.survey.Options.{Options}
 use Rattle.lsp_survey.proofs.Reporting.{report_is, reported_verdict}
 use Rattle.lsp_survey.proofs.Told.{survey_told}
 use Rattle.lsp_types.specs.declared.side.Side.TheVariants.{Editor, Server}
-use Rattle.lsp_verdict.specs.Given.{verdict_view}
 use Rattle.lsp_verdict.specs.Heard.{Heard, Rests, heard_events, notes_of}
 use Rattle.lsp_verdict.specs.LookBack.{each_from}
 use Rattle.lsp_verdict.specs.Offences.{Noted, Offence, events_of, offence_at, offences}
 use Rattle.lsp_verdict.specs.Outcome.{IsVerdict, ending, log_terms}
 use Rattle.lsp_verdict.specs.Placed.{joined}
 use Rattle.lsp_verdict.specs.Ports.{Ports}
-use Rattle.lsp_verdict.specs.RunIo.{OfRead}
 use Rattle.lsp_verdict.specs.Shown.{line_at}
 use Rattle.lsp_verdict.specs.Survey as survey
 use Rattle.lsp_verdict.specs.Survey.{IsSurvey, by_itself, ends_listed, first_verdict, offence_lines}
@@ -46,19 +43,15 @@ use Rattle.lsp_verdict.specs.declared.completeness.Completeness.TheVariants.{Ign
 use Rattle.lsp_verdict.specs.declared.lines.Lines.{Lines}
 use Rattle.lsp_verdict.specs.declared.listing.Listing.TheVariants.{Every}
 use Rattle.lsp_verdict.specs.declared.outcome.Outcome.{Outcome}
-use Rattle.lsp_verdict.specs.declared.outcome.Outcome.TheVariants.{Judged}
 use Rattle.lsp_verdict.specs.declared.outcome.RunFault.{RunFault}
-use Rattle.lsp_verdict.specs.declared.verdict.Verdict as code
 use Rattle.lsp_verdict.proofs.LookBackLemmas.{each_from-append}
-use Rattle.lsp_verdict.proofs.RunReading.{read_map}
-use Rattle.lsp_verdict.proofs.RunsJudged.{judged_not, judges}
 use Rattle.lsp_verdict.proofs.Below.{one_log}
 use Rattle.lsp_verdict.proofs.Offences.Surveying.{one_survey}
 use Rattle.lsp_verdict.proofs.Outcomes.{one_rest}
 
 -- ---- what is said of events
 
-abbrev asked : Lines → SurveyAsked
+abbrev asked : Lines → Options
 asked lines = record { completeness = Ignored; listing = Every; lines = Some lines }
 
 -- the line of an event that is kept, or its offence, and what comes after it
@@ -147,18 +140,16 @@ module _ (lines : Lines) (limits : Bounds) (log : List ℕ) where
         comes_to = refl;
       }
 
-  pub passed_shown : (out : List ℕ) (outcome : Outcome)
+  passed_shown : (out : List ℕ) (outcome : Outcome)
       → IsPassed (survey_run (asked lines)) limits log out outcome
-      → (given : code.Verdict) × (outcome ≡ Judged given)
-      × IsAllShown lines limits log (verdict_view given) out
+      → IsDueOf (IsAllShown lines limits log) out outcome
   passed_shown out outcome p = by_end p.is
     where
       by_end : StopsIn (survey_run (asked lines)) (log_terms limits p.format) p.tail.rests p.heard
           out outcome
           ⊎ EndsAfter (survey_run (asked lines)) (log_terms limits p.format) p.tail p.heard out
           outcome
-          → (given : code.Verdict) × (outcome ≡ Judged given)
-          × IsAllShown lines limits log (verdict_view given) out
+          → IsDueOf (IsAllShown lines limits log) out outcome
       by_end (inl s) = absurd (cc s.stop.stops)
       by_end (inr e) =
           let given = e.closes.1 in (
@@ -170,7 +161,7 @@ module _ (lines : Lines) (limits : Bounds) (log : List ℕ) where
           )
 
   -- a part of it
-  pub said_begins : (front left : List ℕ)
+  said_begins : (front left : List ℕ)
       → HasSaid (survey_run (asked lines)) limits log (front ++ left)
       → BeginsAllShown lines limits log front
   unfolding survey_told
@@ -210,13 +201,7 @@ module _ (lines : Lines) (limits : Bounds) (log : List ℕ) where
         },
       )
 
-  pub passed_begins : (front left : List ℕ) (outcome : Outcome)
-      → IsPassed (survey_run (asked lines)) limits log (front ++ left) outcome
-      → BeginsAllShown lines limits log front
-  passed_begins front left outcome p =
-      let r = passed_shown (front ++ left) outcome p in (verdict_view r.0, left, r.2)
-
-  pub shown_verdict : IsInRange limits → (v : Verdict) (out : List ℕ)
+  shown_verdict : IsInRange limits → (v : Verdict) (out : List ℕ)
       → IsAllShown lines limits log v out → IsVerdict limits log v
   shown_verdict sizes v out is = reported_verdict Ignored limits sizes Every log v _ (record {
     found = is.found;
@@ -227,45 +212,14 @@ module _ (lines : Lines) (limits : Bounds) (log : List ℕ) where
     comes_to = is.comes_to;
   })
 
--- ---- **the run**
-
-module _ (lines : Lines) (limits : Bounds) (sizes : IsInRange limits) (io : Ports) where
-  all_shown : (outcome : Outcome) → AllPassed (survey_run (asked lines)) limits io.source_before
-      io.source_after io.sink_before io.sink_after outcome → ShowsAll lines limits io (Ok outcome)
-  all_shown outcome a =
-      let own = passed_shown lines limits a.due.bytes a.out outcome
-      (a.due.holds a.due.bytes ([], sym (append-nil a.due.bytes), λ end. refl)) in
-      let due : OfRead limits io.source_before io.source_after
-      (λ log. IsAllShown lines limits log (verdict_view own.0) a.out) =
-      read_map limits io.source_before io.source_after
-      (λ log. IsPassed (survey_run (asked lines)) limits log a.out outcome)
-      (λ log. IsAllShown lines limits log (verdict_view own.0) a.out)
-      (λ log p. let r = passed_shown lines limits log a.out outcome p in
-      let same : r.0 ≡ own.0 = cc (sym r.1 ∙ own.1) in
-      subst (λ (v : code.Verdict). IsAllShown lines limits log (verdict_view v) a.out) same r.2)
-      a.due in
-      subst (λ (o : Outcome). ShowsAll lines limits io (Ok o)) (sym own.1)
-      (judges limits sizes io (IsVerdict limits) (IsAllShown lines limits)
-      (BeginsAllShown lines limits) own.0
-      (read_map limits io.source_before io.source_after
-      (λ log. IsAllShown lines limits log (verdict_view own.0) a.out)
-      (λ log. IsVerdict limits log (verdict_view own.0))
-      (λ log r. shown_verdict lines limits log sizes (verdict_view own.0) a.out r) due)
-      (a.out, a.wrote.took, due) (λ log s is. is) a.failures a.wrote.failures)
-
-  pub shows : (result : Result Outcome RunFault) → Passes (survey_run (asked lines)) limits
-      io.source_before io.source_after io.sink_before io.sink_after result
-      → ShowsAll lines limits io result
-  shows (Ok outcome) a = all_shown outcome a
-  shows (Err fault) p =
-      judged_not limits io (IsVerdict limits) (IsAllShown lines limits)
-      (BeginsAllShown lines limits) fault (
-        p.out,
-        p.took,
-        part_begins (survey_run (asked lines)) limits io.source_before
-            io.source_after io.sink_before io.sink_after fault p (BeginsAllShown lines limits)
-            (said_begins lines limits) (passed_begins lines limits),
-      ) p.source p.sink
+-- **what `show --all` answers and writes**
+pub shows : (lines : Lines) (limits : Bounds) → IsInRange limits → (io : Ports)
+    → (result : Result Outcome RunFault) → Passes (survey_run (asked lines)) limits io.source_before
+    io.source_after io.sink_before io.sink_after result → ShowsAll lines limits io result
+shows lines limits sizes io =
+    judged_run (survey_run (asked lines)) limits sizes (IsVerdict limits) (IsAllShown lines limits)
+    (BeginsAllShown lines limits) (λ log. shown_verdict lines limits log sizes) (λ log s is. is)
+    (passed_shown lines limits) (said_begins lines limits) (λ log front left v is. (v, left, is)) io
 
 -- ---- laws
 

@@ -1,42 +1,36 @@
 -- What `check --all` answers and writes follows from what a pass does.
 use Rattle.std.specs.List.{cons_option}
-use Rattle.std.proofs.Common.{◌≡◌, ◌⊎◌, ℕ, List, [], ◌∷◌, ◌++◌, Option, Some, None, Result}
-use Rattle.std.proofs.Common.{Ok, Err, inl, inr, refl, sym, ap, subst, ◌∙◌, append_assoc}
-use Rattle.std.proofs.Common.{append-nil}
+use Rattle.std.proofs.Common.{◌≡◌, ◌⊎◌, ℕ, List, [], ◌∷◌, ◌++◌, Option, Some, None, Result, inl, inr}
+use Rattle.std.proofs.Common.{refl, sym, ap, subst, ◌∙◌, append_assoc}
 use Rattle.std.proofs.lemmas.List.{map-append}
 use Rattle.lsp_docs.specs.Terms.{Terms}
 use Rattle.lsp_frame.specs.Bounds.{Bounds, IsInRange}
 use Rattle.lsp_frame.specs.declared.format.Format.{Format}
 use Rattle.lsp_log.specs.Log.{Record}
-use Rattle.lsp_replay.specs.Passes.{AllPassed, Passes}
+use Rattle.lsp_replay.specs.Passes.{Passes}
 use Rattle.lsp_replay.specs.Run.{EndsAfter, HasSaid, IsPassed, IsTold, SaysAll, StopsIn, Tail}
-use Rattle.lsp_replay.proofs.PassEnds.{part_begins}
+use Rattle.lsp_replay.proofs.JudgedRuns.{IsDueOf, judged_run}
 use Rattle.lsp_survey.specs.Reported.{BeginsReported, IsReported, SurveysLog, closing, end_lines}
-use Rattle.lsp_survey.specs.Reported.{is_every}
-use Rattle.lsp_survey.specs.Reported.{lines_of}
-use Rattle.lsp_survey.specs.SurveyRun.{SurveyAsked, end_said, ends_of, event_said, said_by}
-use Rattle.lsp_survey.specs.SurveyRun.{survey_run, verdict_by}
+use Rattle.lsp_survey.specs.Reported.{is_every, lines_of}
+use Rattle.lsp_survey.specs.SurveyRun.{end_said, ends_of, event_said, said_by, survey_run}
+use Rattle.lsp_survey.specs.SurveyRun.{verdict_by}
+use Rattle.lsp_survey.specs.declared.survey.Options.{Options}
 use Rattle.lsp_survey.proofs.Reporting.{lines_append, lines_none, report_is, reported_verdict}
 use Rattle.lsp_survey.proofs.Told.{survey_told}
 use Rattle.lsp_verdict.specs.Complete.{IsVerdictBy}
-use Rattle.lsp_verdict.specs.Given.{verdict_view}
 use Rattle.lsp_verdict.specs.Heard.{Heard, Rests, heard_events, notes_of}
 use Rattle.lsp_verdict.specs.LookBack.{each_from}
 use Rattle.lsp_verdict.specs.Offences.{Offence, offence_at, offences}
 use Rattle.lsp_verdict.specs.Outcome.{log_terms}
 use Rattle.lsp_verdict.specs.Ports.{Ports}
-use Rattle.lsp_verdict.specs.RunIo.{OfRead}
 use Rattle.lsp_verdict.specs.Survey.{all_report}
 use Rattle.lsp_verdict.specs.Verdict.{Verdict, Summary, bad_log_of, summary}
 use Rattle.lsp_verdict.specs.declared.completeness.Completeness.{Completeness}
 use Rattle.lsp_verdict.specs.declared.listing.Listing.{Listing}
 use Rattle.lsp_verdict.specs.declared.outcome.Outcome.{Outcome}
-use Rattle.lsp_verdict.specs.declared.outcome.Outcome.TheVariants.{Judged}
 use Rattle.lsp_verdict.specs.declared.outcome.RunFault.{RunFault}
-use Rattle.lsp_verdict.specs.declared.verdict.Verdict as code
 use Rattle.lsp_verdict.proofs.LookBackLemmas.{each_from-append}
-use Rattle.lsp_verdict.proofs.RunReading.{read_map}
-use Rattle.lsp_verdict.proofs.RunsJudged.{judged_not, judges, plain_by}
+use Rattle.lsp_verdict.proofs.RunsJudged.{plain_by}
 
 -- the lines of all that is listed, and the closing ones, are the report
 pub whole_report : (listing : Listing) (found ends : List Offence) (bad : Option Verdict)
@@ -48,7 +42,7 @@ whole_report listing found ends bad s =
     ∙ append_assoc (lines_of listing found) (lines_of listing ends) (closing (found ++ ends) bad s))
 
 module _ (completeness : Completeness) (listing : Listing) where
-  abbrev asked : SurveyAsked
+  abbrev asked : Options
   asked = record { completeness = completeness; listing = listing; lines = None }
 
   -- ---- what is said of events
@@ -108,17 +102,15 @@ module _ (completeness : Completeness) (listing : Listing) where
         }
 
     -- **what a pass writes is the report of the log, with its verdict**
-    pub passed_reported : (out : List ℕ) (outcome : Outcome)
+    passed_reported : (out : List ℕ) (outcome : Outcome)
         → IsPassed (survey_run asked) limits log out outcome
-        → (given : code.Verdict) × (outcome ≡ Judged given)
-        × IsReported completeness limits listing log (verdict_view given) out
+        → IsDueOf (IsReported completeness limits listing log) out outcome
     passed_reported out outcome p = by_end p.is
       where
         by_end : StopsIn (survey_run asked) (log_terms limits p.format) p.tail.rests p.heard out
             outcome
             ⊎ EndsAfter (survey_run asked) (log_terms limits p.format) p.tail p.heard out outcome
-            → (given : code.Verdict) × (outcome ≡ Judged given)
-            × IsReported completeness limits listing log (verdict_view given) out
+            → IsDueOf (IsReported completeness limits listing log) out outcome
         by_end (inl s) = absurd (cc s.stop.stops)
         by_end (inr e) =
             let given = e.closes.1 in (
@@ -132,7 +124,7 @@ module _ (completeness : Completeness) (listing : Listing) where
 
     -- ---- a part of it
 
-    pub said_reported : (front left : List ℕ)
+    said_reported : (front left : List ℕ)
         → HasSaid (survey_run asked) limits log (front ++ left)
         → BeginsReported completeness limits listing log front
     said_reported front left h =
@@ -168,50 +160,14 @@ module _ (completeness : Completeness) (listing : Listing) where
           },
         )
 
-    pub passed_begins : (front left : List ℕ) (outcome : Outcome)
-        → IsPassed (survey_run asked) limits log (front ++ left) outcome
-        → BeginsReported completeness limits listing log front
-    passed_begins front left outcome p =
-        let r = passed_reported (front ++ left) outcome p in (verdict_view r.0, left, r.2)
-
-  -- ---- **the run**
-
-  module _ (limits : Bounds) (sizes : IsInRange limits) (io : Ports) where
-    all_surveyed : (outcome : Outcome) → AllPassed (survey_run asked) limits io.source_before
-        io.source_after io.sink_before io.sink_after outcome
-        → SurveysLog completeness listing limits io (Ok outcome)
-    all_surveyed outcome a =
-        let own = passed_reported limits a.due.bytes a.out outcome
-        (a.due.holds a.due.bytes ([], sym (append-nil a.due.bytes), λ end. refl)) in
-        let due : OfRead limits io.source_before io.source_after
-        (λ log. IsReported completeness limits listing log (verdict_view own.0) a.out) =
-        read_map limits io.source_before io.source_after
-        (λ log. IsPassed (survey_run asked) limits log a.out outcome)
-        (λ log. IsReported completeness limits listing log (verdict_view own.0) a.out)
-        (λ log p. let r = passed_reported limits log a.out outcome p in
-        let same : r.0 ≡ own.0 = cc (sym r.1 ∙ own.1) in
-        subst (λ (v : code.Verdict).
-        IsReported completeness limits listing log (verdict_view v) a.out) same r.2) a.due in
-        subst (λ (o : Outcome). SurveysLog completeness listing limits io (Ok o)) (sym own.1)
-        (judges limits sizes io (IsVerdictBy completeness limits)
-        (IsReported completeness limits listing) (BeginsReported completeness limits listing) own.0
-        (read_map limits io.source_before io.source_after
-        (λ log. IsReported completeness limits listing log (verdict_view own.0) a.out)
-        (λ log. IsVerdictBy completeness limits log (verdict_view own.0))
-        (λ log r. reported_verdict completeness limits sizes listing log (verdict_view own.0) a.out
-        r) due)
-        (a.out, a.wrote.took, due) (plain_by completeness limits) a.failures a.wrote.failures)
-
-    pub surveyed : (result : Result Outcome RunFault) → Passes (survey_run asked) limits
-        io.source_before io.source_after io.sink_before io.sink_after result
-        → SurveysLog completeness listing limits io result
-    surveyed (Ok outcome) a = all_surveyed outcome a
-    surveyed (Err fault) p =
-        judged_not limits io (IsVerdictBy completeness limits)
-        (IsReported completeness limits listing) (BeginsReported completeness limits listing) fault (
-          p.out,
-          p.took,
-          part_begins (survey_run asked) limits io.source_before io.source_after
-              io.sink_before io.sink_after fault p (BeginsReported completeness limits listing)
-              (said_reported limits) (passed_begins limits),
-        ) p.source p.sink
+  -- **what `check --all` answers and writes**
+  pub surveyed : (limits : Bounds) → IsInRange limits → (io : Ports)
+      → (result : Result Outcome RunFault) → Passes (survey_run asked) limits io.source_before
+      io.source_after io.sink_before io.sink_after result
+      → SurveysLog completeness listing limits io result
+  surveyed limits sizes io =
+      judged_run (survey_run asked) limits sizes (IsVerdictBy completeness limits)
+      (IsReported completeness limits listing) (BeginsReported completeness limits listing)
+      (reported_verdict completeness limits sizes listing)
+      (λ log s. plain_by completeness limits log s) (passed_reported limits)
+      (said_reported limits) (λ log front left v is. (v, left, is)) io

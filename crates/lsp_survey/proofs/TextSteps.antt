@@ -1,39 +1,22 @@
 -- The steps of the account that says the text just after a message.
 use Rattle.std.specs.Prelude.{◌==◌, if◌then◌else◌}
-use Rattle.std.proofs.Common.{◌≡◌, ℕ, ◌+◌, ◌<◌, ◌^◌, true, false, List, [], ◌∷◌, ◌++◌, length}
-use Rattle.std.proofs.Common.{sym, ap, subst, ◌∙◌, arith, append-nil, length-append}
+use Rattle.std.proofs.Common.{◌≡◌, ℕ, ◌<◌, true, false, List, [], ◌∷◌, ◌++◌, sym, ap, subst, ◌∙◌}
+use Rattle.std.proofs.Common.{arith, append-nil}
 use Rattle.std.proofs.lemmas.Bool.{eq-eqb}
 use Rattle.std.proofs.lemmas.Bool.Decides.{nat_tests}
-use Rattle.std.proofs.lemmas.List.{length-map}
 use Rattle.lsp_docs.specs.Terms.{Terms}
 use Rattle.lsp_replay.specs.Telling.{Says}
+use Rattle.lsp_replay.specs.TextAnswers.{TextAsked, is_reached}
 use Rattle.lsp_replay.specs.declared.seen.Flow.TheVariants.{GoOn, Stop}
-use Rattle.lsp_replay.proofs.Reached.{count_within, still_few}
+use Rattle.lsp_replay.proofs.Reached.{still_few}
 use Rattle.lsp_replay.proofs.Seeing.{events-push}
 use Rattle.lsp_types.specs.declared.side.Side.TheVariants.{Editor}
-use Rattle.lsp_survey.specs.KeptText.{TextAsked, answer_after, is_reached, text_all_run}
-use Rattle.lsp_verdict.specs.Counting.{AreCounts}
-use Rattle.lsp_verdict.specs.Heard.{Heard, Rests, heard_events, notes_of}
-use Rattle.lsp_verdict.specs.Offences.{Noted}
+use Rattle.lsp_survey.specs.KeptText.{answer_after, text_all_run}
+use Rattle.lsp_verdict.specs.Heard.{Heard, Rests, heard_events}
 use Rattle.lsp_verdict.specs.Shown.{TextAnswer}
 use Rattle.lsp_verdict.specs.TextAfter.{EndsAs, written_of}
 use Rattle.lsp_verdict.specs.Verdict.{count_of, is_of}
-use Rattle.lsp_verdict.specs.declared.counts.Counts.{Counts}
 use Rattle.lsp_verdict.specs.declared.outcome.Outcome.{Outcome}
-
--- the editor's messages are counted exactly
-pub count_exact : (c : Counts) (before : List Heard) (h : Heard)
-    → AreCounts c (heard_events (before ++ h ∷ [])) → length before + 1 < 2 ^ 64
-    → c.editor ≡ count_of (is_of Editor) (heard_events (before ++ h ∷ []))
-count_exact c before h counted few = omega (
-  arith,
-  counted.editor,
-  few,
-  count_within (heard_events (before ++ h ∷ [])),
-  length-map (before ++ h ∷ []) (λ (x : Heard). x.note),
-  length-map (notes_of (before ++ h ∷ [])) (λ (n : Noted). n.event),
-  length-append before (h ∷ []),
-)
 
 unequal : (m n : ℕ) → (m ≡ n → ⊥) → (m == n) ≡ false
 unequal m n other = grind (arith, nat_tests, other)

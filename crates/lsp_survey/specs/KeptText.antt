@@ -1,11 +1,10 @@
 -- The text that is held after a message of the editor's, where each event that offends is skipped.
-use Rattle.std.specs.Prelude.{◌≡◌, ◌==◌, ℕ, List, [], ◌∷◌, ◌++◌, Bool, Option, Some, None}
-use Rattle.std.specs.Prelude.{if◌then◌else◌}
+use Rattle.std.specs.Prelude.{◌≡◌, ℕ, List, [], ◌∷◌, ◌++◌, Option, Some, None, if◌then◌else◌}
 use Rattle.lsp_docs.specs.Documents.{held}
 use Rattle.lsp_docs.specs.Terms.{Terms}
 use Rattle.lsp_frame.specs.Bounds.{Bounds, IsInRange}
 use Rattle.lsp_replay.specs.Run.{Run}
-use Rattle.lsp_types.specs.declared.side.Side.TheVariants.{Editor}
+use Rattle.lsp_replay.specs.TextAnswers.{TextAsked, is_reached}
 use Rattle.lsp_verdict.specs.Calls.{calls}
 use Rattle.lsp_verdict.specs.Event.{Event}
 use Rattle.lsp_verdict.specs.Heard.{Heard, heard_events}
@@ -14,7 +13,7 @@ use Rattle.lsp_verdict.specs.Outcome.{log_terms}
 use Rattle.lsp_verdict.specs.Shown.{TextAnswer, held_answer, refused, too_few, up_to_editor}
 use Rattle.lsp_verdict.specs.Survey.{IsSurvey}
 use Rattle.lsp_verdict.specs.TextAfter.{EndsAs, written_of}
-use Rattle.lsp_verdict.specs.Verdict.{Summary, Verdict, bad_log_of, count_of, is_of}
+use Rattle.lsp_verdict.specs.Verdict.{Summary, Verdict, bad_log_of}
 use Rattle.lsp_verdict.specs.declared.completeness.Completeness.TheVariants.{Ignored}
 
 -- where there is no such message: the fault of the log, or too few, if it has none
@@ -43,15 +42,6 @@ OneKeptText = (limits : Bounds) → IsInRange limits → (log : List ℕ) (n : �
     → (a b : TextAnswer) → AnswersKept limits log n uri a → AnswersKept limits log n uri b → a ≡ b
 
 -- ---- the run
-
--- what is asked: the editor's n-th message, and a URI
-pub record TextAsked : Type 0 where
-  pub number : ℕ
-  pub uri : List ℕ
-
--- that message is the event after these
-abbrev pub is_reached : ℕ → List Heard → Heard → Bool
-is_reached n before h = count_of (is_of Editor) (heard_events (before ++ h ∷ [])) == n
 
 -- what the kept ones of these events make of the text
 abbrev pub answer_after : Terms → List ℕ → List Heard → TextAnswer

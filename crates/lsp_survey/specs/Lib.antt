@@ -21,4 +21,3 @@ pub mod KeptText
 pub mod AllShown
 pub mod Lost
 pub mod SurveyRun
-pub mod AskedOf

@@ -12,11 +12,11 @@ use Rattle.lsp_replay.specs.declared.heard.Heard.TheVariants as kept
 use Rattle.lsp_rpc.specs.Act.{Act}
 use Rattle.lsp_rpc.specs.Ident.{id_view}
 use Rattle.lsp_rpc.specs.Message.{Message}
-use Rattle.lsp_rpc.specs.Outline.{outline}
 use Rattle.lsp_rpc.specs.declared.message.Id.{Id}
 use Rattle.lsp_rpc.specs.View.{act_view, message_view}
 use Rattle.lsp_session.specs.Sent.{Sent}
 use Rattle.lsp_session.specs.State.{Stands}
+use Rattle.lsp_survey.specs.Lost.{IsMessageOf}
 use Rattle.lsp_survey.specs.Marks.{AreMarks, DoneBy, ShownBy}
 use Rattle.lsp_survey.specs.Openings.{AreOpenings, OpeningsShown, OpensBy}
 use Rattle.lsp_survey.specs.SessionNoting.{AreNotes, SaysOn}
@@ -36,7 +36,7 @@ use Rattle.lsp_types.specs.declared.side.Side.{Side}
 use Rattle.lsp_verdict.specs.Calls.{call_of, calls}
 use Rattle.lsp_verdict.specs.Counting.{AreCounts}
 use Rattle.lsp_verdict.specs.Contents.{ReadsAs}
-use Rattle.lsp_verdict.specs.Event.{Event, fault, message}
+use Rattle.lsp_verdict.specs.Event.{Event, fault}
 use Rattle.lsp_verdict.specs.Given.{given_offence, offence_view}
 use Rattle.lsp_verdict.specs.LookBack.{first_of}
 use Rattle.lsp_verdict.specs.Offences.{Noted, Offence, IsNoted, asks, breaks_handshake, broken_by}
@@ -127,12 +127,6 @@ offence_of terms before by rule on_lost late = record {
   follows = wants_handshake rule && is_handshake_lost terms before
       || (wants_text rule && on_lost || late);
 }
-
--- this message of the side, up to its params
-abbrev pub IsMessageOf : Side → Message → Event → Type 0
-IsMessageOf side said event =
-    (sent : Sent) × (event ≡ message sent) × (sent.side ≡ side)
-    × (outline sent.message ≡ outline said)
 
 -- this content of the side does not read as a message that means something
 abbrev pub IsUnread : Side → List ℕ → OffendingEvent → Type 0

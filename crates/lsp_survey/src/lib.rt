@@ -19,20 +19,20 @@ mod offending;
 mod replay;
 mod run;
 mod session_end;
-mod show;
 mod survey;
 mod survey_reader;
 mod text;
 
 pub use laws::{all_shown_is_report, one_all_shown, one_kept_text};
+pub use losses::Losses;
 pub use lsp_verdict::Listing;
 pub use notes::{
     Closing, DocumentEvent, Marks, Misuse, Misused, Openings, Renamed, SessionNotes, Setter, Shown,
     folded, uri_in,
 };
-pub use offence_count::OffenceCount;
+pub use offence_count::{OffenceCount, last_offence};
 pub use offending::{FoundOffence, Judged, OffendingEvent};
-pub use run::run_survey;
-pub use show::run_show_all;
+pub use run::{run_show_all, run_survey};
+pub use session_end::{SessionEnd, session_end, sound};
 pub use survey_reader::{NextJudged, SurveyEnd, SurveyReader};
 pub use text::run_text_all;

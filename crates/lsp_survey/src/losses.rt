@@ -1,15 +1,19 @@
 //! What the offences so far have left lost, so that later ones follow from them.
-ghost use Rattle.std.specs.Prelude.{◌≡◌, ◌&&◌, ◌||◌, ◌==◌, ◌++◌, ◌∷◌, ℕ, ℤ, [], List, Option, None};
-ghost use Rattle.std.specs.Prelude.{IfOk, OnOk, Some, false, option_map};
+ghost use Rattle.std.specs.Prelude.{◌≡◌, ◌&&◌, ◌||◌, ◌==◌, ℕ, ℤ, [], List, Option, None, Some, false};
+ghost use Rattle.std.specs.Prelude.{IfOk, option_map};
 ghost use Rattle.lsp_docs.specs.Calls.{shows};
 ghost use Rattle.lsp_docs.specs.Terms.{Terms};
 ghost use Rattle.lsp_replay.specs.Standing.{Holds};
-ghost use Rattle.lsp_replay.specs.Telling.{IsSeen, MaySpeak, Stood, kept_before, rule_of};
-ghost use Rattle.lsp_replay.specs.declared.seen.Seen.TheVariants as variants;
+ghost use Rattle.lsp_replay.specs.Telling.{IsSeen};
 ghost use Rattle.lsp_rpc.specs.Message.{Message as AMessage};
 ghost use Rattle.lsp_rpc.specs.View.{act_view, message_view};
 ghost use Rattle.lsp_session.specs.Sent.{other_side, response_id, same_side};
 ghost use Rattle.lsp_session.specs.State.{Stands};
+ghost use Rattle.lsp_survey.specs.Lost.{AreLosses, HoldsSent, IsMessageOf, Loses, Offends};
+ghost use Rattle.lsp_survey.specs.Lost.{WasTold, follows_of};
+ghost use Rattle.lsp_survey.specs.Notes.{is_noted, is_noted_lost};
+ghost use Rattle.lsp_survey.specs.Passed.{has_any};
+ghost use Rattle.lsp_survey.specs.Sides.{sides_failed};
 ghost use Rattle.lsp_types.specs.declared.change.SyncKind.{SyncKind};
 ghost use Rattle.lsp_types.specs.declared.position.Encoding.{Encoding};
 ghost use Rattle.lsp_types.specs.declared.rules.TheConstants as rules;
@@ -17,24 +21,18 @@ ghost use Rattle.lsp_types.specs.declared.side.Side.TheVariants.{Editor};
 ghost use Rattle.lsp_verdict.specs.Calls.{call_of};
 ghost use Rattle.lsp_verdict.specs.Event.{Event, fault, sent_in, snapshot};
 ghost use Rattle.lsp_verdict.specs.Heard.{Heard, notes_of};
-ghost use Rattle.lsp_verdict.specs.Offences.{IsNoted, IsReading, Noted, breaks_handshake};
-ghost use Rattle.lsp_verdict.specs.Offences.{events_of};
-ghost use Rattle.lsp_verdict.specs.Offences.{follows, follows_bytes, follows_passed};
-ghost use Rattle.lsp_verdict.specs.Offences.{is_handshake_lost, kept_of, may_answer};
-ghost use Rattle.lsp_verdict.specs.Offences.{tells_initialized};
+ghost use Rattle.lsp_verdict.specs.Lent.{raw_view};
+ghost use Rattle.lsp_verdict.specs.Offences.{IsReading, Noted, breaks_handshake, events_of};
+ghost use Rattle.lsp_verdict.specs.Offences.{follows_bytes, follows_passed, is_handshake_lost};
+ghost use Rattle.lsp_verdict.specs.Offences.{kept_of, may_answer, tells_initialized};
 ghost use Rattle.lsp_verdict.specs.Placed.{content};
-ghost use Rattle.lsp_survey.specs.Lost.{AreLosses, HoldsSent, Loses, follows_of};
-ghost use Rattle.lsp_survey.specs.Notes.{AreAfter, is_noted, is_noted_lost};
-ghost use Rattle.lsp_survey.specs.Passed.{has_any};
-ghost use Rattle.lsp_survey.specs.Sides.{sides_failed, sides_read};
-ghost use Rattle.lsp_survey.specs.Walking.{IsMessageOf};
 
 use crate::notes::{
     Malformed, Notes, Passed, Sides, breaks_handshake, is_on_lost, meant_again, note_kept_act,
     note_malformed, note_refused, note_refused_act, reopens, wants_handshake, wants_text,
 };
-use lsp_replay::Events;
-use lsp_rpc::{Act, Memory, Message, Side, Spoken};
+use lsp_replay::{Events, Seen};
+use lsp_rpc::{Memory, Message, Side, Spoken};
 use lsp_session::Session;
 use lsp_text::Lined;
 use lsp_types::rules;
@@ -43,7 +41,7 @@ use std::alloc::Global;
 
 /// What the offences so far have left lost.
 #[derive(Drop)]
-pub(crate) struct Losses {
+pub struct Losses {
     /// Which documents are lost.
     documents: Notes,
     /// Whether an event of the handshake was refused.
@@ -58,7 +56,7 @@ pub(crate) struct Losses {
 
 impl Losses {
     /// Nothing is lost before the first event.
-    pub(crate) fn new(alloc: Global) -> Losses
+    pub fn new(alloc: Global) -> Losses
         ensures { (terms : Terms) → AreLosses terms result [] }
     {
         Losses {
@@ -70,26 +68,35 @@ impl Losses {
         }
     }
 
-    /// A message of this side that means this act is kept.
+    /// This was seen of the next event. Whether it offends and follows from an earlier one.
     ///
     /// # Errors
     /// `Memory` where memory was refused.
-    pub(crate) fn keep(&mut self, side: Side, act: &Act) -> Result<(), Memory>
-        ensures sides { self.new.sides ≡ sides_read side self.old.sides }
-        ensures noted { OnOk result ((enc : Encoding) (kind : SyncKind)
-            → AreAfter (call_of enc kind (act_view act.now)) self.old.documents.map.entries
-            self.new.documents.map.entries) }
+    pub fn tell(
+        &mut self,
+        alloc: Global,
+        held: &Events<Lined>,
+        seen: Seen<'_>,
+    ) -> Result<bool, Memory>
+        ensures { IfOk result (λ late. (terms : Terms) (before : List Heard) (h : Heard)
+            → AreLosses terms self.old (notes_of before)
+            → IsSeen held.now.session held.now.docs held.now.counts seen.entry terms before h
+            → WasTold self.new terms before h late) }
     {
-        self.sides = self.sides.after_message(side);
-        note_kept_act(&mut self.documents, act)
+        match seen {
+            Seen::Message { side, spoken, .. } => {
+                self.sides = self.sides.after_message(side);
+                note_kept_act(&mut self.documents, &spoken.act)?;
+                Ok(false)
+            }
+            Seen::Snapshot { .. } => Ok(false),
+            Seen::Offence { raw, rule, spoken } => self.offend(alloc, held, raw, rule, spoken),
+        }
     }
 
-    /// An event offends by this rule, and is a message or none; session and documents are those
+    /// An event offends by this rule, and is this message or none; session and documents are those
     /// before it. Whether it follows from an earlier one.
-    ///
-    /// # Errors
-    /// `Memory` where memory was refused.
-    pub(crate) fn offend(
+    fn offend(
         &mut self,
         alloc: Global,
         held: &Events<Lined>,
@@ -99,10 +106,9 @@ impl Losses {
     ) -> Result<bool, Memory>
         ensures { IfOk result (λ late. (terms : Terms) (before : List Heard) (h : Heard)
             → AreLosses terms self.old (notes_of before)
-            → IsSeen held.now.session held.now.docs held.now.counts
-            (variants.Offence raw.entry rule spoken.entry) terms before h
-            → (late ≡ follows terms (notes_of before) h.note rule)
-            × AreLosses terms self.new (notes_of (before ++ h ∷ []))) }
+            → Offends held.now.session held.now.docs held.now.counts (raw_view raw.entry) rule
+            (option_map (λ s. s.now) spoken.entry) terms before h
+            → WasTold self.new terms before h late) }
     {
         match raw {
             Raw::Content { side, content } => {
@@ -125,12 +131,9 @@ impl Losses {
     ) -> Result<bool, Memory>
         ensures { IfOk result (λ late. (terms : Terms) (before : List Heard) (h : Heard)
             → AreLosses terms self.old (notes_of before)
-            → Stood terms held.now.session held.now.docs held.now.counts (before ++ h ∷ [])
-            → IsNoted (content side content.now) h.note → rule_of terms before h ≡ Some rule
-            → MaySpeak (kept_before terms before) h.note.event
-            (option_map (λ s. s.now) spoken.entry)
-            → (late ≡ follows terms (notes_of before) h.note rule)
-            × AreLosses terms self.new (notes_of (before ++ h ∷ []))) }
+            → Offends held.now.session held.now.docs held.now.counts (content side content.now) rule
+            (option_map (λ s. s.now) spoken.entry) terms before h
+            → WasTold self.new terms before h late) }
     {
         match spoken {
             Some(spoken) => self.offend_message(held, side, rule, spoken),
@@ -163,7 +166,7 @@ impl Losses {
         let on_lost = is_on_lost(&self.documents, &spoken.act)?;
         let late = self.message_follows(side, rule, &spoken.message);
         let follows = self.follows(&held.session, rule, on_lost, late);
-        self.break_handshake(breaks);
+        self.handshake = self.handshake_after(breaks);
         self.sides = self.sides.after_message(side);
         note_refused_act(&mut self.documents, rule, other, &spoken.act)?;
         self.passed.note(side, rule, &spoken.message)?;
@@ -210,14 +213,17 @@ impl Losses {
         let on_lost = self.documents.is_lost(uri)?;
         let follows = self.follows(session, rule, on_lost, false);
         let breaks = breaks_handshake(false, rule);
-        self.break_handshake(breaks);
+        self.handshake = self.handshake_after(breaks);
         note_refused(&mut self.documents, rule, uri, false, false)?;
         Ok(follows)
     }
 
     /// A frame or a content of a side offends; the content may ask for the handshake.
     fn offend_fault(&mut self, session: &Session, side: Side, rule: u16, asks: bool) -> bool
-        ensures sides { self.new.sides ≡ sides_failed side rule self.old.sides }
+        ensures stays { self.new ≡ record self.old {
+          handshake = self.new.handshake;
+          sides = sides_failed side rule self.old.sides;
+        } }
         ensures broken { (kept : List Event) → Stands session.now (sent_in kept)
             → self.new.handshake ≡ (self.old.handshake || (breaks_handshake asks rule
             || may_answer kept (fault side rule))) }
@@ -228,16 +234,16 @@ impl Losses {
         let breaks = breaks(session, side, rule, asks);
         let late = self.sides.fault_follows(side, rule);
         let follows = self.follows(session, rule, false, late);
-        self.break_handshake(breaks);
+        self.handshake = self.handshake_after(breaks);
         self.sides = self.sides.after_fault(side, rule);
         follows
     }
 
-    /// The handshake is lost where the event breaks it.
-    fn break_handshake(&mut self, breaks: bool)
-        ensures { self.new.handshake ≡ (self.old.handshake || breaks) }
+    /// Whether an event of the handshake was refused, once one is that breaks it or doesn't.
+    fn handshake_after(&self, breaks: bool) -> bool
+        ensures { result ≡ (self.now.handshake || breaks) }
     {
-        self.handshake = self.handshake || breaks;
+        self.handshake || breaks
     }
 
     /// Whether an offence of this message by this rule follows from a message that was passed over,

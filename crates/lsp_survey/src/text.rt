@@ -1,8 +1,8 @@
 //! The text that is held after a message of the editor, where each event that offends is skipped.
 ghost use Rattle.std.specs.Prelude.{◌≡◌, ◌<◌};
 ghost use Rattle.lsp_replay.specs.LogEvents.{flaw_of};
-ghost use Rattle.lsp_replay.specs.TextAnswers.{WritesText, answer_view};
-ghost use Rattle.lsp_survey.specs.KeptText.{AnswersKept, end_answer, text_all_run, TextAsked};
+ghost use Rattle.lsp_replay.specs.TextAnswers.{TextAsked, WritesText, answer_view};
+ghost use Rattle.lsp_survey.specs.KeptText.{AnswersKept, end_answer, text_all_run};
 ghost use Rattle.lsp_types.specs.declared.side.Side.TheVariants.{Editor};
 ghost use Rattle.lsp_verdict.specs.Heard.{heard_events};
 ghost use Rattle.lsp_verdict.specs.Ports.{ports};

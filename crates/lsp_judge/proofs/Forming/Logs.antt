@@ -13,11 +13,11 @@ use Rattle.lsp_frame.proofs.Writing.{stopped_then, wrote_nothing, wrote_then}
 use Rattle.lsp_log.specs.Log.{Record, first_line}
 use Rattle.lsp_log.specs.declared.fault.LogCode.{LogCode}
 use Rattle.lsp_replay.specs.LogEvents as log_events
-use Rattle.lsp_replay.specs.LogEvents.{Gives, HasGiven, IsLogOf, Opens, flaw_of}
+use Rattle.lsp_replay.specs.LogEvents.{Gives, HasGiven, IsLogOf, Opens, Reads, flaw_of}
 use Rattle.lsp_judge.specs.Normal.{form_of, fault_of, EndsNormal, BeginsNormal, IsNormal}
-use Rattle.lsp_judge.specs.Normal.{Carries, Normalizes}
+use Rattle.lsp_judge.specs.Normal.{Carries, Normalizes, first_broken}
 use Rattle.lsp_judge.specs.NormalSteps.{mark, CarriesCapped, spelled, EndsLog, EndsWhole}
-use Rattle.lsp_judge.specs.NormalSteps.{WritesEvent, SoFar}
+use Rattle.lsp_judge.specs.NormalSteps.{Counted, WritesEvent}
 use Rattle.lsp_verdict.specs.Ports.{ports}
 use Rattle.lsp_verdict.specs.Given.{as_given}
 use Rattle.lsp_verdict.specs.Lent.{raw_view}
@@ -69,6 +69,19 @@ cut_at old mid new before due faults.Memory wrote same =
     let all = subst (λ (t : Told). Wrote old t before) (sym same) wrote in
     (before, due, refl, all.took, all.failures, λ n. refl)
 cut_at old mid new before due faults.Read wrote told = absurd told
+
+-- ---- the events so far
+
+-- the events given are written and counted, and none of them is a fault of the frames
+pub record SoFar (limits : Bounds) (format : Option Format) (e : LogEvents) (counts : Counts)
+    (start now old new : Told) : Type 0 where
+  pub records : List Record
+  pub given : List Raw
+  pub due : List Raw
+  pub reads : Reads limits format e start now records given due
+  pub sound : first_broken given ≡ None
+  pub counted : Counted counts given
+  pub wrote : Wrote old new (spelled limits.chunk given)
 
 -- ---- nothing was written
 

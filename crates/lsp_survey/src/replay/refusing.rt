@@ -20,7 +20,8 @@ ghost use Rattle.lsp_verdict.specs.Placed as placed;
 ghost use Rattle.lsp_verdict.specs.Verdict as spec;
 ghost use Rattle.lsp_survey.specs.Passed.{has_any};
 ghost use Rattle.lsp_survey.specs.Sides.{sides_failed};
-ghost use Rattle.lsp_survey.specs.Walking.{Counted, Hears, IsFound, IsMessageOf, IsOffence};
+ghost use Rattle.lsp_survey.specs.Lost.{IsMessageOf};
+ghost use Rattle.lsp_survey.specs.Walking.{Counted, Hears, IsFound, IsOffence};
 ghost use Rattle.lsp_survey.specs.Walking.{IsRefused, IsShown, IsUnread, PassesMessage};
 ghost use Rattle.lsp_survey.specs.Walking.{PassesOver, Walks, offence_of};
 

@@ -3,4 +3,4 @@ use Rattle.lsp_survey.proofs.run.run_survey.Goals as goal
 
 pub returns : goal.returns
 returns g c = surveyed c.args.completeness c.args.listing c.args.limits c.pass.ensures.range _ _
-    c.pass.ensures.passes
+    (rw c.new-account.ensures.options at c.pass.ensures.passes)

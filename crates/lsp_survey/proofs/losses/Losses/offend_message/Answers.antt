@@ -25,7 +25,7 @@ returns c = λ terms before event enc kind losses same holds is.
           (is_noted_lost old.documents.map.entries call) late)
           (c.message_follows-late.ensures terms before event losses is),
       record {
-        is_broken = c.break_handshake.ensures
+        is_broken = c.handshake_after-self.ensures
             ∙ ap (λ b. old.handshake || b) (c.breaks_handshake-breaks.ensures
             ∙ message_answers side (breaks_handshake false rule) kept said event is);
         sides = c.after_message-self.ensures ∙ message_after side old.sides said event is;

@@ -13,7 +13,7 @@ returns c = λ terms before number text losses stands.
       c.follows-follows.ensures terms before losses stands
           ∙ ap (λ on_lost. follows_of terms before rule on_lost false) c.in_ok-on_lost.ensures,
       record {
-        is_broken = c.break_handshake.ensures ∙ ap (λ b. old.handshake || b)
+        is_broken = c.handshake_after-self.ensures ∙ ap (λ b. old.handshake || b)
             (c.breaks_handshake-breaks.ensures ∙ sym (or-false (breaks_handshake false rule)));
         sides = refl;
         passed = λ side k. refl;

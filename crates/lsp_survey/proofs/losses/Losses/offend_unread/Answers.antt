@@ -4,6 +4,9 @@ use Rattle.std.proofs.Math.Bool.{or-false}
 use Rattle.lsp_rpc.specs.Ident.{Ident}
 use Rattle.lsp_survey.specs.Notes.{Leaves}
 use Rattle.lsp_survey.specs.Passed.{SetsAny}
+use Rattle.lsp_survey.specs.declared.losses.Losses.{Losses}
+use Rattle.lsp_survey.specs.declared.notes.note.Notes.{Notes}
+use Rattle.lsp_survey.specs.declared.notes.passed.Passed.{Passed}
 use Rattle.lsp_verdict.specs.Event.{fault}
 use Rattle.lsp_verdict.specs.Offences.{breaks_handshake, events_of, kept_of, may_answer}
 use Rattle.lsp_survey.proofs.PassedSteps.{content_passes}
@@ -26,14 +29,19 @@ returns c =
           is_broken = noted.broken (kept_of terms (events_of before)) stands
               ∙ ap (λ b. old.handshake || (breaks_handshake b rule
               || may_answer (kept_of terms (events_of before)) (fault side rule))) meant.asks;
-          sides = noted.sides;
+          sides = ap (λ (l : Losses). l.sides) noted.stays;
           passed = content_passes side rule rule malformed old.passed c.note_asked.new.self
-              (subst (λ (o : Option Ident). SetsAny side o old.passed c.note_asked.new.self)
-              meant.asked c.in_ok-note_asked.ensures);
-          unheard = sym (or-false old.unheard);
-          noted = subst (λ (brought : Option (List ℕ)). Leaves (Some rule) brought false None
-              old.documents.map.entries c.note_malformed.new.notes.map.entries) meant.brings
-              c.in_ok-note_malformed.ensures;
+              (subst (λ (p : Passed). SetsAny side _ p c.note_asked.new.self)
+              (ap (λ (l : Losses). l.passed) noted.stays)
+              (subst (λ (o : Option Ident). SetsAny side o _ c.note_asked.new.self)
+              meant.asked c.in_ok-note_asked.ensures));
+          unheard = ap (λ (l : Losses). l.unheard) noted.stays ∙ sym (or-false old.unheard);
+          noted = subst (λ (w : Notes). Leaves (Some rule) _ false None
+              w.map.entries c.note_malformed.new.notes.map.entries)
+              (ap (λ (l : Losses). l.documents) noted.stays)
+              (subst (λ (brought : Option (List ℕ)). Leaves (Some rule) brought false None
+              _ c.note_malformed.new.notes.map.entries) meant.brings
+              c.in_ok-note_malformed.ensures);
         },
       ),
     )

@@ -1,22 +1,23 @@
-use Rattle.lsp_replay.specs.LogEvents.{flaw_of}
-use Rattle.lsp_survey.specs.AskedOf.{asked_of}
-use Rattle.lsp_survey.specs.Reported.{end_lines}
-use Rattle.lsp_survey.specs.SurveyRun.{ends_held}
-use Rattle.lsp_survey.proofs.SurveySteps.{end_fits}
-use Rattle.lsp_verdict.specs.Heard.{heard_events, notes_of}
+use Rattle.std.specs.Prelude.{map, option_map}
+use Rattle.std.proofs.Common.{◌++◌}
+use Rattle.lsp_survey.proofs.SurveySteps.{clean_by, end_closes, few_listed}
+use Rattle.lsp_verdict.specs.Given.{offence_view, verdict_view}
+use Rattle.lsp_verdict.specs.Heard.{notes_of}
 use Rattle.lsp_verdict.specs.Offences.{offences}
-use Rattle.lsp_verdict.specs.Verdict.{bad_log_of, summary}
 use Rattle.lsp_survey.proofs.survey.SurveyAccount.end.Goals as goal
 
 pub returns : goal.returns
 returns c = λ terms heard stands stood few.
-    let told = c.in_ok-verdict.ensures terms heard stands stood few in
-    let asked = asked_of c.args.self.now in
+    let options = c.args.self.now.options in
     let log = c.args.log.now in
-    record {
-      said = end_lines asked.listing (offences terms (notes_of heard))
-          (ends_held asked terms heard log c.args.end) (bad_log_of (flaw_of c.args.end))
-          (summary terms (heard_events heard));
-      added = told.0;
-      is = end_fits asked terms heard log c.args.end c.in_ok-verdict.verdict told.1;
-    }
+    let end = c.args.end in
+    let ends = map offence_view c.in_ok-listed.listed.items in
+    let found = offences terms (notes_of heard) ++ ends in
+    let are = c.in_ok-listed.ensures.listed terms heard stood few in
+    let tally = c.in_ok-list_all.ensures.tally (offences terms (notes_of heard)) stands.tally in
+    end_closes options terms heard log end c.in_ok-verdict.verdict ends
+    (option_map verdict_view c.in_ok-listed.bad) _ _ _ _ are c.in_ok-listed.ensures.bad
+    c.in_ok-list_all.ensures.said
+    (c.in_ok-verdict.ensures terms heard found stood few tally
+    (clean_by options terms heard log end ends))
+    (c.in_ok-push_count.ensures found tally (few_listed options terms heard log end ends are few))

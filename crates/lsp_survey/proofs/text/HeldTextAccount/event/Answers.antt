@@ -5,7 +5,8 @@ use Rattle.lsp_verdict.specs.Calls.{calls}
 use Rattle.lsp_verdict.specs.Heard.{heard_events}
 use Rattle.lsp_verdict.specs.Offences.{kept_of}
 use Rattle.lsp_verdict.specs.Shown.{held_answer}
-use Rattle.lsp_survey.proofs.TextSteps.{count_exact, says_held, says_nothing}
+use Rattle.lsp_replay.proofs.Reached.{count_exact}
+use Rattle.lsp_survey.proofs.TextSteps.{says_held, says_nothing}
 use Rattle.std.proofs.Common.{◌++◌, ◌∷◌, []}
 use Rattle.lsp_survey.proofs.text.HeldTextAccount.event.Goals as goal
 

@@ -1,0 +1,9 @@
+use Rattle.lsp_judge.proofs.JudgingSteps.{ends_given}
+use Rattle.lsp_judge.proofs.TextSteps.{missing_closes}
+use Rattle.lsp_judge.proofs.text.TextHeld.end.Goals as goal
+
+pub returns-in_ok-outcome : goal.returns-in_ok-outcome
+returns-in_ok-outcome c = λ terms heard open stood few.
+    missing_closes _ terms heard _ _ _ _ _ _
+    (ends_given _ terms heard _ _ _ _ _ _ stood few open.0 c.in_ok-verdict.ensures)
+    c.missing.ensures c.in_ok-outcome.ensures.0 c.in_ok-outcome.ensures.1
