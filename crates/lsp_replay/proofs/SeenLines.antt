@@ -38,12 +38,13 @@ message_line lines event number side s sent by says means =
     let words : words_of sent.message ≡ words_of (message_view s.message) =
     words_by_outline sent.message ∙ ap words_of says ∙ sym (words_by_outline (message_view s.message))
     in
-    sym (λ i. line (message_words event (record {
-      side = by i;
-      message = sent.message;
-      act = means i;
-    }) ++ words_behind lines number (document_words (means i)))
-    ∙ ap (λ w. line ((decimal event ∷ side_name side ∷ w ∷ [])
+    let own : line (message_words event sent
+    ++ words_behind lines number (document_words sent.act))
+    ≡ line ((decimal event ∷ side_name side ∷ words_of sent.message ∷ [])
+    ++ words_behind lines number (document_words (act_view s.act))) =
+    λ i. line ((decimal event ∷ side_name (by i) ∷ words_of sent.message ∷ [])
+    ++ words_behind lines number (document_words (means i))) in
+    sym (own ∙ ap (λ w. line ((decimal event ∷ side_name side ∷ w ∷ [])
     ++ words_behind lines number (document_words (act_view s.act)))) words)
 
 -- a message is its side's
