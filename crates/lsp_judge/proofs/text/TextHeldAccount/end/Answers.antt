@@ -1,6 +1,6 @@
 use Rattle.lsp_judge.proofs.JudgingSteps.{ends_given}
 use Rattle.lsp_judge.proofs.TextSteps.{missing_closes}
-use Rattle.lsp_judge.proofs.text.TextHeld.end.Goals as goal
+use Rattle.lsp_judge.proofs.text.TextHeldAccount.end.Goals as goal
 
 pub returns-in_ok-outcome : goal.returns-in_ok-outcome
 returns-in_ok-outcome c = λ terms heard open stood few.

@@ -5,7 +5,7 @@ use Rattle.lsp_replay.proofs.SeenLines.{counted_on}
 use Rattle.lsp_verdict.specs.Heard.{heard_events}
 use Rattle.lsp_verdict.specs.Offences.{IsNoted}
 use Rattle.lsp_verdict.specs.Placed.{Raw}
-use Rattle.lsp_judge.proofs.judging.Judging.event.Goals as goal
+use Rattle.lsp_judge.proofs.judging.JudgingAccount.event.Goals as goal
 
 pub returns-in_ok-say-in-Offence-clause-says : goal.returns-in_ok-say-in-Offence-clause-says
 returns-in_ok-say-in-Offence-clause-says c = λ terms before h clean seen.

@@ -1,6 +1,6 @@
 use Rattle.std.proofs.Common.{refl}
 use Rattle.lsp_judge.proofs.JudgingSteps.{verdict_closes}
-use Rattle.lsp_judge.proofs.judging.Judging.end.Goals as goal
+use Rattle.lsp_judge.proofs.judging.JudgingAccount.end.Goals as goal
 
 pub returns-in_ok-say : goal.returns-in_ok-say
 returns-in_ok-say c = λ terms heard clean stood few.
