@@ -4,7 +4,6 @@ pub mod Hearing
 pub mod Following
 pub mod Reached
 pub mod EventPlaces
-pub mod TextRuns
 pub mod Listing
 pub mod Giving
 pub mod FrameSteps
