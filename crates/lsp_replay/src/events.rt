@@ -1,5 +1,5 @@
 //! The events of a session, heard one after another.
-ghost use Rattle.std.specs.Prelude.{◌≡◌, [], ℕ, List, IfOk, IfErr, OnOk, OnErr};
+ghost use Rattle.std.specs.Prelude.{◌≡◌, [], ℕ, List, IfErr, OnOk, OnErr};
 ghost use Rattle.lsp_rpc.specs.View.{act_view, message_view};
 ghost use Rattle.lsp_docs.specs.Terms.{Terms, terms_of};
 ghost use Rattle.lsp_outline.specs.declared.outline.Results.TheVariants.{LeftOut};
@@ -10,8 +10,9 @@ ghost use Rattle.lsp_verdict.specs.Calls.{call_of};
 ghost use Rattle.lsp_verdict.specs.Event.{Event};
 ghost use Rattle.lsp_replay.specs.Apart.{Says};
 ghost use Rattle.lsp_verdict.specs.Lent.{raw_view};
-ghost use Rattle.lsp_replay.specs.Standing.{Follows, Holds, Hears, IsUnread, RefusesBy};
-ghost use Rattle.lsp_replay.specs.Standing.{RefusesCall, RefusesFor, Takes, TakesCall, TakesContent};
+ghost use Rattle.lsp_replay.specs.Standing.{Follows, Hears, Holds, IsUnread, RefusesBy};
+ghost use Rattle.lsp_replay.specs.Standing.{RefusesCall, RefusesFor, Takes, TakesCall};
+ghost use Rattle.lsp_replay.specs.Standing.{TakesContent};
 ghost use Rattle.lsp_verdict.specs.Placed as placed;
 
 use crate::fault::Fault;
