@@ -11,6 +11,7 @@
 //! whoever explains a session.
 #![tactic(auto)]
 
+mod end_of_session;
 mod laws;
 mod losses;
 mod notes;
@@ -18,11 +19,11 @@ mod offence_count;
 mod offending;
 mod replay;
 mod run;
-mod session_end;
 mod survey;
 mod survey_reader;
 mod text;
 
+pub use end_of_session::{SessionEnd, session_end, sound};
 pub use laws::{all_shown_is_report, one_all_shown, one_kept_text};
 pub use losses::Losses;
 pub use lsp_verdict::Listing;
@@ -33,6 +34,5 @@ pub use notes::{
 pub use offence_count::{OffenceCount, last_offence};
 pub use offending::{FoundOffence, Judged, OffendingEvent};
 pub use run::{run_show_all, run_survey};
-pub use session_end::{SessionEnd, session_end, sound};
 pub use survey_reader::{NextJudged, SurveyEnd, SurveyReader};
 pub use text::run_text_all;

@@ -15,10 +15,10 @@ ghost use Rattle.lsp_verdict.specs.Verdict.{summary, yes};
 ghost use Rattle.lsp_survey.specs.Reads.{EndIs, EndsAre, GivesBehind, IsBroken, Pulls, ShowsFront};
 ghost use Rattle.lsp_survey.specs.Reads.{SoFar};
 
+use crate::end_of_session::ends;
 use crate::notes::{Marks, Openings, SessionNotes};
 use crate::offending::Judged;
 use crate::replay::Replay;
-use crate::session_end::ends;
 use lsp_docs::Docs;
 use lsp_frame::{Format, Limits, Source};
 use lsp_replay as replay;
