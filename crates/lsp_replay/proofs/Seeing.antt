@@ -210,6 +210,13 @@ module _ (number : ℤ) (uri text : List ℕ) (terms : Terms) (m : session.State
   abbrev made : List Call
   made = calls (kept_before terms before)
 
+  -- documents that are the same have still to hear it, of a number that is the same
+  pub shown_comes : (own : ℤ) → own ≡ number → (new_d : docs.State) → new_d ≡ d
+      → Comes (show own uri text) terms m new_d c before h Stands
+  shown_comes own same new_d is =
+      subst (λ (n : ℤ). Comes (show n uri text) terms m new_d c before h Stands) (sym same)
+      (comes_same (show number uri text) terms m d c before h Stands comes m new_d c refl is refl)
+
   pub shown_silent : (sent : Sent) → h.note.event ≡ message sent → ⊥
   shown_silent sent is = let same = sym comes.noted.0 ∙ is in absurd (cc same)
 
@@ -242,8 +249,16 @@ module _ (number : ℤ) (uri text : List ℕ) (terms : Terms) (m : session.State
         (shown_holds m new_d (kept_before terms before) uri number (chars text)
         comes.stood.holds.sent (accepts.stands made comes.stood.holds.called)) counted
 
-  pub shown_answer : (answer : Match) → IsAnswer d uri number answer
-      → answer ≡ answer_of number (kept_texts terms uri made) (held terms uri made)
-  shown_answer answer is =
-      subst (λ (t : Terms). answer ≡ answer_of number (kept_texts t uri made) (held t uri made))
-      comes.stood.by (is made comes.stood.holds.called)
+    -- and it was seen so, with a number that is the same
+    pub shown_as : (own : ℤ) → own ≡ number → (answer : Match) → IsAnswer d uri number answer
+        → (h.raw ≡ show own uri text) × (rule_of terms before h ≡ None)
+        × (answer ≡ answer_of own (kept_texts terms uri made) (held terms uri made))
+    shown_as own same answer is =
+        subst (λ (n : ℤ). (h.raw ≡ show n uri text) × (rule_of terms before h ≡ None)
+        × (answer ≡ answer_of n (kept_texts terms uri made) (held terms uri made))) (sym same) (
+          comes.raw_is,
+          shown_rule,
+          subst (λ (t : Terms).
+              answer ≡ answer_of number (kept_texts t uri made) (held t uri made))
+              comes.stood.by (is made comes.stood.holds.called),
+        )

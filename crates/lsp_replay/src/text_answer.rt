@@ -92,14 +92,14 @@ impl TextAnswer {
         ensures { WritesAnswer (answer_view self) (W.told writer.old) (W.told writer.new) result }
     {
         match self {
-            TextAnswer::Text(text) => {
+            Self::Text(text) => {
                 put_all(writer, text.as_bytes())?;
                 Ok(Outcome::Done)
             }
-            TextAnswer::NoDocument => Ok(Outcome::NoDocument),
-            TextAnswer::TooFew => Ok(Outcome::TooFew),
-            TextAnswer::NoDifference => Ok(Outcome::NoDifference),
-            TextAnswer::Refused(verdict) => Ok(Outcome::Judged(verdict)),
+            Self::NoDocument => Ok(Outcome::NoDocument),
+            Self::TooFew => Ok(Outcome::TooFew),
+            Self::NoDifference => Ok(Outcome::NoDifference),
+            Self::Refused(verdict) => Ok(Outcome::Judged(verdict)),
         }
     }
 }

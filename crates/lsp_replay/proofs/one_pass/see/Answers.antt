@@ -1,4 +1,7 @@
+use Rattle.std.proofs.Common.{rules, w32}
+use Rattle.std.proofs.lemmas.Int.{to_z-of_z}
 use Rattle.std.proofs.lemmas.Result.{IfOk-weaker}
+use mir.Val.{SFits}
 use Rattle.lsp_replay.proofs.Seeing.{broken_here, broken_silent}
 use Rattle.lsp_replay.proofs.one_pass.see.Goals as goal
 
@@ -14,4 +17,8 @@ returns-in-Broken-clause-saw g c =
     (broken_silent at.side at.rule h comes.noted)) saw)
 
 pub returns-in-Snapshot-clause-saw : goal.returns-in-Snapshot-clause-saw
-returns-in-Snapshot-clause-saw g c = rw c.in-Snapshot.is c.see_shown.ensures.saw
+returns-in-Snapshot-clause-saw g c =
+    let at = c.in-Snapshot in
+    let fits : SFits w32 at.version = search rules in
+    let saw = rw (to_z-of_z w32 at.version fits) at c.see_shown.ensures.saw in
+    rw at.is saw

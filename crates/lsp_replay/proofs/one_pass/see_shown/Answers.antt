@@ -1,15 +1,15 @@
-use Rattle.std.proofs.Common.{◌∙◌, refl, sym, w32}
+use Rattle.std.proofs.Common.{◌∙◌, sym, w32}
 use Rattle.std.proofs.lemmas.Int.{to_z-of_z}
 use Rattle.std.proofs.lemmas.Result.{IfOk-weaker}
-use mir.Val.{SFits}
-use Rattle.lsp_replay.proofs.Seeing.{comes_same, counted_on, noted_here, shown_answer}
-use Rattle.lsp_replay.proofs.Seeing.{shown_refused}
-use Rattle.lsp_replay.proofs.Seeing.{shown_rule, shown_silent, shown_stood}
+use mir.Val.{SFits, of_z, to_z}
+use Rattle.lsp_replay.proofs.Seeing.{counted_on, noted_here, shown_as, shown_comes, shown_refused}
+use Rattle.lsp_replay.proofs.Seeing.{shown_silent, shown_stood}
 use Rattle.lsp_replay.proofs.one_pass.see_shown.Goals as goal
 
 pub returns-in_ok-flow-in-Ok-clause-saw : goal.returns-in_ok-flow-in-Ok-clause-saw
 returns-in_ok-flow-in-Ok-clause-saw g c = λ terms before h comes.
     let number = c.args.version in
+    let own = to_z w32 (of_z w32 number) in
     let uri = c.args.uri.now in
     let text = c.args.shown.now in
     let fits : SFits w32 number = c.ranges.version in
@@ -24,17 +24,15 @@ returns-in_ok-flow-in-Ok-clause-saw g c = λ terms before h comes.
         stood = stood;
         few = comes.few;
         noted = noted_here _ terms _ _ _ before h _ comes;
-        as_is = (
-          comes.raw_is,
-          shown_rule number uri text terms _ _ _ before h _ comes _ accepts,
-          shown_answer number uri text terms _ _ _ before h _ comes _ answer,
-        );
+        as_is = shown_as number uri text terms _ _ _ before h _ comes _ accepts own
+            (to_z-of_z w32 number fits) _ answer;
       });
     }
 
 pub returns-in_ok-rule-in-Err-clause-saw : goal.returns-in_ok-rule-in-Err-clause-saw
 returns-in_ok-rule-in-Err-clause-saw g c =
     let number = c.args.version in
+    let own = to_z w32 (of_z w32 number) in
     let uri = c.args.uri.now in
     let text = c.args.shown.now in
     let rule = c.in_ok-rule-in-Err.rule in
@@ -42,7 +40,7 @@ returns-in_ok-rule-in-Err-clause-saw g c =
     let refuses = simp to_z-of_z at c.in-Err.ensures.refuses in
     let fault = sym c.from.ensures ∙ c.in_ok-rule-in-Err.ensures in
     IfOk-weaker c.skip.result _ _ (λ flow saw terms before h comes.
-    saw terms before h (comes_same _ terms _ _ _ before h _ comes _ _ _ refl c.in-Err.ensures.err
-    refl)
+    saw terms before h (shown_comes number uri text terms _ _ _ before h _ comes own
+    (to_z-of_z w32 number fits) _ c.in-Err.ensures.err)
     (shown_refused number uri text terms _ _ _ before h _ comes rule _ refuses fault)
     (shown_silent number uri text terms _ _ _ before h _ comes)) c.skip.ensures.saw
