@@ -7,20 +7,20 @@
 //! follows, is defined in `lsp_verdict`.
 #![tactic(auto)]
 
+mod end_of_session;
 mod laws;
 mod losses;
 mod notes;
 mod offence_count;
 mod run;
-mod session_end;
 mod survey;
 mod text;
 
+pub use end_of_session::{SessionEnd, session_end, sound};
 pub use laws::{all_shown_is_report, one_all_shown, one_kept_text};
 pub use losses::Losses;
 pub use lsp_verdict::Listing;
 pub use notes::{folded, forget, uri_in};
 pub use offence_count::{OffenceCount, last_offence};
 pub use run::{run_show_all, run_survey};
-pub use session_end::{SessionEnd, session_end, sound};
 pub use text::run_text_all;

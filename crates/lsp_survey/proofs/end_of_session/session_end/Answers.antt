@@ -1,5 +1,5 @@
 use Rattle.lsp_survey.proofs.SessionEnds.{ends_given}
-use Rattle.lsp_survey.proofs.session_end.session_end.Goals as goal
+use Rattle.lsp_survey.proofs.end_of_session.session_end.Goals as goal
 
 pub returns-in_ok-listed-in-Sound-clause-listed : goal.returns-in_ok-listed-in-Sound-clause-listed
 returns-in_ok-listed-in-Sound-clause-listed c = rw c.in-Sound.is (λ terms heard stood few.

@@ -5,7 +5,7 @@ use Rattle.lsp_verdict.specs.Survey.{lacks_listed}
 use Rattle.lsp_survey.specs.Ending.{given_by}
 use Rattle.lsp_survey.proofs.Ending.{rests_are, ends_some, ends_none, lacks_are, no_items}
 use Rattle.lsp_survey.proofs.Ending.{some_items}
-use Rattle.lsp_survey.proofs.session_end.ends.Goals as goal
+use Rattle.lsp_survey.proofs.end_of_session.ends.Goals as goal
 
 pub returns-then-not-is_empty : goal.returns-then-not-is_empty
 returns-then-not-is_empty c = λ events kept counted holds.
