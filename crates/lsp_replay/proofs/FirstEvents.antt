@@ -14,7 +14,7 @@ use Rattle.lsp_types.specs.declared.side.Side.TheVariants.{Editor, Server}
 use Rattle.lsp_replay.specs.LogEvents.{GoesBehind, HasGiven}
 use Rattle.lsp_replay.specs.Run.{HasSaid, IsPassed, IsTold, Run, SaysAll, Tail}
 use Rattle.lsp_verdict.specs.Heard.{AreRests, Heard, Rests, RestsBehind, notes_of, raws_of}
-use Rattle.lsp_verdict.specs.Offences.{IsNoted, Noted}
+use Rattle.lsp_verdict.specs.Offences.{IsNoted}
 use Rattle.lsp_verdict.specs.Outcome.{log_terms}
 use Rattle.lsp_verdict.specs.Placed.{Raw, Placed, joined}
 use Rattle.lsp_verdict.specs.RunIo.{OfRead}
