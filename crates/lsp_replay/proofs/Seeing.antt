@@ -117,14 +117,6 @@ module _ {raw : Raw} {terms : Terms} {m : session.State} {d : docs.State} {c : C
     noted = comes.noted;
   }
 
-  -- it is as it was
-  pub comes_same : (new_m : session.State) (new_d : docs.State) (after : Counts) → new_m ≡ m
-      → new_d ≡ d → after ≡ c → Comes raw terms new_m new_d after before h Stands
-  comes_same new_m new_d after same_m same_d =
-      comes_still new_m new_d after (ap (λ (x : docs.State). x.terms) same_d)
-      (subst (λ (x : session.State). Holds x new_d kept) (sym same_m)
-      (subst (λ (x : docs.State). Holds m x kept) (sym same_d) comes.stood.holds))
-
 -- ---- a content
 
 module _ {side : Side} {bytes : List ℕ} {terms : Terms} {m : session.State} {d : docs.State}
@@ -208,7 +200,8 @@ module _ {number : ℤ} {uri text : List ℕ} {terms : Terms} {m : session.State
       → Comes (show own uri text) terms m new_d c before h Stands
   shown_comes own same new_d is =
       subst (λ (n : ℤ). Comes (show n uri text) terms m new_d c before h Stands) (sym same)
-      (comes_same comes m new_d c refl is refl)
+      (subst (λ (x : docs.State). Comes (show number uri text) terms m x c before h Stands) (sym is)
+      comes)
 
   pub shown_silent : (sent : Sent) → h.note.event ≡ message sent → ⊥
   shown_silent sent is = let same = sym comes.noted.0 ∙ is in absurd (cc same)
