@@ -6,8 +6,8 @@ use Rattle.lsp_verdict.specs.Heard.{notes_of}
 use Rattle.lsp_verdict.specs.Offences.{offences}
 use Rattle.lsp_survey.proofs.survey.SurveyAccount.end.Goals as goal
 
-pub returns : goal.returns
-returns c = λ terms heard stands stood few.
+pub returns-clause-closes : goal.returns-clause-closes
+returns-clause-closes c = λ terms heard stands stood few.
     let options = c.args.self.now.options in
     let log = c.args.log.now in
     let end = c.args.end in

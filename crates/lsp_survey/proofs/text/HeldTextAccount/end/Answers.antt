@@ -6,8 +6,8 @@ use Rattle.lsp_verdict.specs.TextAfter.{EndsAs, written_of}
 use Rattle.lsp_verdict.specs.Verdict.{bad_log_of}
 use Rattle.lsp_survey.proofs.text.HeldTextAccount.end.Goals as goal
 
-pub returns : goal.returns
-returns c = λ terms heard few stood small.
+pub returns-clause-closes : goal.returns-clause-closes
+returns-clause-closes c = λ terms heard few stood small.
     record {
       said = written_of (answer_view c.missing.result);
       added = c.in_ok-outcome.ensures.0;

@@ -12,8 +12,8 @@ use Rattle.lsp_verdict.specs.TextAfter.{EndsAs}
 use Rattle.lsp_verdict.specs.declared.outcome.Outcome.{Outcome}
 use Rattle.lsp_survey.proofs.text.HeldTextAccount.event.Goals as goal
 
-pub returns-then-held-clause-says : goal.returns-then-held-clause-says
-returns-then-held-clause-says c = λ terms before h few seen.
+pub returns-then-held-self-clause-says : goal.returns-then-held-self-clause-says
+returns-then-held-self-clause-says c = λ terms before h few seen.
     let count = count_exact _ before h seen.stood.counted seen.few in
     says_nothing _ terms before h _ _ _ (λ is. omega (arith, c.if-held-self.true, count, is))
     (λ later. later) few
