@@ -1,6 +1,8 @@
 use Rattle.lsp_survey.proofs.SurveyRuns.{surveyed}
 use Rattle.lsp_survey.proofs.run.run_survey.Goals as goal
 
-pub returns-clause-surveyed : goal.returns-clause-surveyed
-returns-clause-surveyed g c = surveyed c.args.completeness c.args.listing c.args.limits c.pass.ensures.range _ _
-    (rw c.new-account.ensures.options at c.pass.ensures.passes)
+pub returns : goal.returns
+returns g c = record {
+  surveyed = surveyed c.args.completeness c.args.listing c.args.limits c.pass.ensures.range _ _
+        (rw c.new-account.ensures.options at c.pass.ensures.passes);
+}
