@@ -27,4 +27,4 @@ returns-clause-says c = λ terms before h few seen.
     ∙ ap (λ (t : Terms). held_answer (held t c.args.self.now.uri.now made)) seen.stood.by)
     c.in_ok-outcome.ensures.0
     (subst (λ (o : Outcome). EndsAs (answer_view c.in_ok-answer.answer) o)
-    (sym c.in_ok-boxed.ensures.value) c.in_ok-outcome.ensures.1)
+    (sym c.in_ok-boxed.ensures.ok) c.in_ok-outcome.ensures.1)
