@@ -8,12 +8,14 @@
 
 mod compared;
 mod laws;
+mod notes;
 mod offence_facts;
 mod remarks;
 mod run;
 mod run_all;
 mod suspects;
 mod trace;
+mod trail;
 mod twins;
 mod unopened;
 

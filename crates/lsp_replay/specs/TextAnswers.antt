@@ -3,7 +3,6 @@
 use Rattle.std.specs.Prelude.{◌≡◌, ◌==◌, ℕ, List, [], ◌∷◌, ◌++◌, Bool, Result, Ok, Err, IfOk, chars}
 use Rattle.std.specs.Prelude.{string_bytes}
 use Rattle.lsp_frame.specs.Bounds.{Bounds}
-use Rattle.lsp_frame.specs.Sink.{Stopped, Wrote}
 use Rattle.lsp_frame.specs.Told.{Told}
 use Rattle.lsp_replay.specs.declared.text_answer.TextAnswer as code
 use Rattle.lsp_replay.specs.declared.text_answer.TextAnswer.TheVariants as answers
@@ -14,7 +13,7 @@ use Rattle.lsp_verdict.specs.Ports.{CountsFaults, IsSilent, OutputFor, Ports}
 use Rattle.lsp_verdict.specs.RunIo.{BreaksOff, OfRead}
 use Rattle.lsp_verdict.specs.Shown.{TextAnswer, text_is, no_document, no_difference, too_few}
 use Rattle.lsp_verdict.specs.Shown.{refused}
-use Rattle.lsp_verdict.specs.TextAfter.{BeginsText, EndsAs, IsText, written_of}
+use Rattle.lsp_verdict.specs.TextAfter.{BeginsText, IsText}
 use Rattle.lsp_verdict.specs.Verdict.{count_of, is_of}
 use Rattle.lsp_verdict.specs.declared.outcome.Outcome.{Outcome}
 use Rattle.lsp_verdict.specs.declared.outcome.RunFault.{RunFault}
@@ -47,14 +46,6 @@ FindsText limits start now Answers (Ok answer) =
     OfRead limits start now (λ log. Answers log (answer_view answer))
     × (now.failures ≡ start.failures)
 FindsText limits start now Answers (Err fault) = BreaksOff limits start now fault
-
--- what is due for an answer is written, and the run ends as it says; or a write failed
-abbrev pub WritesAnswer : TextAnswer → Told → Told → Result Outcome RunFault → Type 0
-WritesAnswer answer old new (Ok outcome) =
-    Wrote old new (written_of answer) × EndsAs answer outcome
-WritesAnswer answer old new (Err faults.Write) = Stopped old new (written_of answer)
-WritesAnswer answer old new (Err faults.Read) = ⊥
-WritesAnswer answer old new (Err faults.Memory) = ⊥
 
 -- **what a run for a text answers and writes**, where a log has one of these answers
 pub record WritesText (limits : Bounds) (io : Ports) (Answers : List ℕ → TextAnswer → Type 0)

@@ -2,8 +2,8 @@
 //! it breaks after the events before it, and the result of those that keep the rules.
 //!
 //! `LogEvents` gives the events of a log one after another. `Events` stands for the events that it
-//! heard. A content that breaks a rule is refused with what is known of it, and leaves what is held
-//! as it was, so that the next event can be heard after those before it.
+//! heard. An event that breaks a rule is refused, and leaves what is held as it was, so that the next
+//! event can be heard after those before it.
 #![tactic(auto)]
 
 mod account;
@@ -20,9 +20,8 @@ mod text_answer;
 
 pub use account::Account;
 pub use events::Events;
-pub use fault::{Fault, Refused};
-pub use heard::{EventPlace, Heard};
-pub use lines::write_event_line;
+pub use fault::Fault;
+pub use heard::EventPlace;
 pub use log_events::{End, Entry, LogEvents, Next};
 pub use one_pass::pass;
 pub use seen::{Flow, Seen, push_kept_line};

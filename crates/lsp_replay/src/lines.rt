@@ -5,17 +5,14 @@ ghost use Rattle.json.specs.Print.{quoted};
 ghost use Rattle.lsp_docs.specs.Texts.{byte_len};
 ghost use Rattle.lsp_session.specs.View.{sent};
 ghost use Rattle.lsp_rpc.specs.View.{act_view};
-ghost use Rattle.lsp_verdict.specs.Event.{Event};
 ghost use Rattle.lsp_verdict.specs.Report.{line};
-ghost use Rattle.lsp_verdict.specs.RunIo.{Tells};
 ghost use Rattle.lsp_verdict.specs.Shown.{document_words, message_words, snapshot_words};
 ghost use Rattle.lsp_verdict.specs.Shown.{words_behind};
-ghost use Rattle.lsp_replay.specs.Lines.{IsHeard, line_of, row, spaced};
+ghost use Rattle.lsp_replay.specs.Lines.{row, spaced};
 
-use crate::heard::{EventPlace, Heard};
-use lsp_frame::{Sink, put_all};
+use crate::heard::EventPlace;
 use lsp_rpc::{Act, Memory, Side, Spoken, push_quoted, words_of};
-use lsp_verdict::{Lines, RunFault, side_name};
+use lsp_verdict::{Lines, side_name};
 use std::alloc::Global;
 use std::fmt::Write;
 
@@ -182,67 +179,4 @@ pub(crate) fn push_snapshot_line(
     push_snapshot_words(alloc, text, place.event, version, uri, shown)?;
     push_behind_snapshot(text, lines, place.number)?;
     Ok(text.push_str("\n")?)
-}
-
-/// Makes the text the line of an event.
-fn fill_event_line(
-    alloc: Global,
-    text: &mut String,
-    lines: Lines,
-    place: EventPlace,
-    heard: &Heard<'_>,
-) -> Result<(), Memory>
-    ensures { OnOk result ((event : Event) → IsHeard event heard.now
-        → string_bytes text.new ≡ line_of lines place event) }
-{
-    text.clear();
-    match heard {
-        Heard::Message { side, spoken } => {
-            push_message_line(alloc, text, lines, place, *side, spoken)
-        }
-        Heard::Snapshot {
-            version,
-            uri,
-            text: shown,
-            answer: _,
-        } => {
-            let version = *version;
-            push_snapshot_line(alloc, text, lines, place, version, *uri, *shown)
-        }
-    }
-}
-
-/// Writes the line of an event. The text is used to make it.
-fn write_line<W: Sink>(
-    alloc: Global,
-    writer: &mut W,
-    text: &mut String,
-    lines: Lines,
-    place: EventPlace,
-    heard: &Heard<'_>,
-) -> Result<(), RunFault>
-    ensures { (event : Event) → IsHeard event heard.now
-        → Tells (W.told writer.old) (W.told writer.new) (line_of lines place event) result }
-{
-    fill_event_line(alloc, text, lines, place, heard)?;
-    Ok(put_all(writer, text.as_bytes())?)
-}
-
-/// Writes the line of an event, short or long, and lets the event go. The text is used to make it.
-///
-/// # Errors
-/// `Write` is answered where the sink failed, and `Memory` where memory was refused: what was
-/// written then begins the line.
-pub fn write_event_line<W: Sink>(
-    alloc: Global,
-    writer: &mut W,
-    text: &mut String,
-    lines: Lines,
-    place: EventPlace,
-    heard: Heard<'_>,
-) -> Result<(), RunFault>
-    ensures { (event : Event) → IsHeard event heard.entry
-        → Tells (W.told writer.old) (W.told writer.new) (line_of lines place event) result }
-{
-    write_line(alloc, writer, text, lines, place, &heard)
 }

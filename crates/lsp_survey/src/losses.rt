@@ -25,7 +25,7 @@ ghost use Rattle.lsp_verdict.specs.Lent.{raw_view};
 ghost use Rattle.lsp_verdict.specs.Offences.{IsReading, Noted, breaks_handshake, events_of};
 ghost use Rattle.lsp_verdict.specs.Offences.{follows_bytes, follows_passed, is_handshake_lost};
 ghost use Rattle.lsp_verdict.specs.Offences.{kept_of, may_answer, tells_initialized};
-ghost use Rattle.lsp_verdict.specs.Placed.{content};
+ghost use Rattle.lsp_verdict.specs.Placed as placed;
 
 use crate::notes::{
     Malformed, Notes, Passed, Sides, breaks_handshake, is_on_lost, meant_again, note_kept_act,
@@ -131,7 +131,8 @@ impl Losses {
     ) -> Result<bool, Memory>
         ensures { IfOk result (λ late. (terms : Terms) (before : List Heard) (h : Heard)
             → AreLosses terms self.old (notes_of before)
-            → Offends held.now.session held.now.docs held.now.counts (content side content.now) rule
+            → Offends held.now.session held.now.docs held.now.counts
+            (placed.content side content.now) rule
             (option_map (λ s. s.now) spoken.entry) terms before h
             → WasTold self.new terms before h late) }
     {

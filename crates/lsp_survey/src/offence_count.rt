@@ -13,7 +13,7 @@ ghost use Rattle.lsp_verdict.specs.Report.{report};
 ghost use Rattle.lsp_verdict.specs.Survey.{bad_lines, first_verdict};
 ghost use Rattle.lsp_verdict.specs.Verdict.{first_no, no_by, summary, whose};
 
-use crate::session_end::sound;
+use crate::end_of_session::sound;
 use lsp_replay::{EventPlace, Events};
 use lsp_rpc::Memory;
 use lsp_text::Lined;

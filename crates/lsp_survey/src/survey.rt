@@ -6,9 +6,9 @@ ghost use Rattle.lsp_replay.specs.Telling.{IsSeen, rule_of};
 ghost use Rattle.lsp_survey.specs.SurveyRun.{SurveyAsked, SurveyStands, kept_line, survey_run};
 ghost use Rattle.lsp_verdict.specs.Heard.{Heard, heard_events};
 
+use crate::end_of_session::{SessionEnd, session_end};
 use crate::losses::Losses;
 use crate::offence_count::{OffenceCount, last_offence};
-use crate::session_end::{SessionEnd, session_end};
 use lsp_replay::{Account, End, Events, Flow, LogEvents, Seen, push_kept_line};
 use lsp_rpc::Memory;
 use lsp_text::Lined;

@@ -14,5 +14,5 @@ pub returns-clause-said : goal.returns-clause-said
 returns-clause-said c =
     let lines = is_listed c.args.listing (offence_view c.args.offence.now)
     (sym c.is_listed.ensures ∙ c.if-not-is_listed.false) in
-    c.in_ok-push_str.ensures ∙ ap (λ w. string_bytes c.args.text.now ++ w)
+    c.in_ok-push_str.ensures.bytes ∙ ap (λ w. string_bytes c.args.text.now ++ w)
     (c.as_str.ensures.value ∙ c.in_ok-lines.ensures ∙ lines)
