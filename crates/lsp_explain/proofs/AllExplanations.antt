@@ -1,5 +1,5 @@
 -- What `explain --all` answers and writes follows from what a pass does.
-use Rattle.std.specs.Prelude.{filter, map}
+use Rattle.std.specs.Prelude.{filter}
 use Rattle.std.specs.List.{AllZip, cons_option, flat_map}
 use Rattle.std.proofs.Common.{◌≡◌, ◌⊎◌, ℕ, List, [], ◌∷◌, ◌++◌, Option, inl, inr, Result, refl, sym, ap}
 use Rattle.std.proofs.Common.{subst, ◌∙◌, append_assoc}
@@ -11,9 +11,8 @@ use Rattle.lsp_replay.specs.Passes.{Passes}
 use Rattle.lsp_replay.specs.Run.{EndsAfter, HasSaid, IsPassed, SaysAll, StopsIn}
 use Rattle.lsp_replay.proofs.JudgedRuns.{IsDueOf, judged_run}
 use Rattle.lsp_verdict.specs.Complete.{IsVerdictBy}
-use Rattle.lsp_verdict.specs.Heard.{Heard, Rests, heard_events, notes_of, raws_of}
+use Rattle.lsp_verdict.specs.Heard.{Heard, Rests, heard_events, raws_of}
 use Rattle.lsp_verdict.specs.LookBack.{each_from}
-use Rattle.lsp_verdict.specs.Offences.{IsNoted}
 use Rattle.lsp_verdict.specs.Outcome.{log_terms}
 use Rattle.lsp_verdict.specs.Placed.{Placed, Raw}
 use Rattle.lsp_verdict.specs.Ports.{Ports}
@@ -25,7 +24,7 @@ use Rattle.lsp_verdict.proofs.LookBackLemmas.{cons_append}
 use Rattle.lsp_verdict.proofs.RunsJudged.{plain_by}
 use Rattle.lsp_explain.specs.AllExplained.{AreFirstSaid, BeginsAllExplained, ExplainsAll}
 use Rattle.lsp_explain.specs.AllExplained.{IsAllExplained, all_closing, cause_lines, causes, is_cause}
-use Rattle.lsp_explain.specs.ExplainRuns.{all_found, all_run, all_verdict, cause_at, ends_of, ends_said}
+use Rattle.lsp_explain.specs.ExplainRuns.{all_found, all_run, cause_at, ends_of, ends_said}
 use Rattle.lsp_explain.specs.ExplainRuns.{flaw_at}
 use Rattle.lsp_explain.specs.Explained.{Breach, Explained, Explains, breach_at}
 use Rattle.lsp_explain.proofs.Explaining.{noted_front, raws-append}

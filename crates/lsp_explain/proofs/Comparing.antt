@@ -1,6 +1,5 @@
 -- The two whole texts of the first event that offends.
 use Rattle.std.specs.Prelude.{Bool, ℤ, chars, if◌then◌else◌, is_some, map, option_map, unwrap_or}
-use Rattle.std.specs.List.{AllZip}
 use Rattle.std.specs.Option.{option_or}
 use Rattle.std.proofs.Common.{◌≡◌, ◌⊎◌, ℕ, true, false, List, [], ◌∷◌, ◌++◌, Option, Some, None, inl}
 use Rattle.std.proofs.Common.{inr, refl, sym, ap, subst, ◌∙◌, append-nil, Bor}

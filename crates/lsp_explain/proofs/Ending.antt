@@ -1,7 +1,7 @@
 -- How a log ends whose reader tells it, and what is said of that.
 use Rattle.std.specs.Prelude.{map, take, slice_get, not, option_map, option_to_list}
 use Rattle.std.specs.List.{flat_map}
-use Rattle.std.proofs.Common.{◌≡◌, ◌⊎◌, ℕ, ◌+◌, ◌<◌, ◌^◌, length, Bool, true, false, ◌&&◌, IsSome}
+use Rattle.std.proofs.Common.{◌≡◌, ◌⊎◌, ℕ, ◌+◌, Bool, true, false, ◌&&◌, IsSome}
 use Rattle.std.proofs.Common.{List, [], ◌∷◌, ◌++◌, Option, Some, None, inl, inr, refl, sym, ap, ◌∙◌}
 use Rattle.std.proofs.Common.{append_assoc, append-nil, subst}
 use Rattle.std.proofs.lemmas.List.{map-append}
@@ -30,8 +30,8 @@ use Rattle.lsp_verdict.specs.Heard.{Heard, Rests, heard_events}
 use Rattle.lsp_verdict.specs.Offences.{Offence, has_broken, kept_of}
 use Rattle.lsp_verdict.specs.Outcome.{ending, is_rest}
 use Rattle.lsp_verdict.specs.Report.{report}
-use Rattle.lsp_verdict.specs.Survey.{bad_lines, by_itself, ends_inside, ends_listed, first_ends}
-use Rattle.lsp_verdict.specs.Survey.{first_verdict, found_line, lacks_listed, rests_listed}
+use Rattle.lsp_verdict.specs.Survey.{by_itself, ends_inside, ends_listed, first_ends}
+use Rattle.lsp_verdict.specs.Survey.{first_verdict, lacks_listed, rests_listed}
 use Rattle.lsp_verdict.specs.Verdict.{Summary, Verdict, bad_log_of, no_next, summary}
 use Rattle.lsp_verdict.specs.declared.completeness.Completeness.{Completeness}
 use Rattle.lsp_verdict.specs.declared.completeness.Completeness.TheVariants.{Ignored, Required}
@@ -44,11 +44,11 @@ use Rattle.lsp_facts.specs.Fact.{Fact}
 use Rattle.lsp_facts.specs.FlawFacts.{flaw_facts}
 use Rattle.lsp_explain.specs.Accounts.{ends_told, flaw_held, rests_held}
 use Rattle.lsp_explain.specs.AllExplained.{all_closing, cause_lines}
-use Rattle.lsp_explain.specs.ExplainRuns.{all_end, all_found, all_run, all_verdict}
-use Rattle.lsp_explain.specs.ExplainRuns.{end_explanation, end_verdict, ends_of, ends_said}
+use Rattle.lsp_explain.specs.ExplainRuns.{all_found, all_run, all_verdict}
+use Rattle.lsp_explain.specs.ExplainRuns.{end_verdict, ends_of, ends_said}
 use Rattle.lsp_explain.specs.ExplainRuns.{explain_run, flaw_at}
 use Rattle.lsp_explain.specs.Explained.{Explained, end_explained, explanation, flaw_lines, said_of}
-use Rattle.lsp_explain.specs.Remarks.{Noticed, noticed, remark_lines, remarks_of}
+use Rattle.lsp_explain.specs.Remarks.{noticed, remark_lines, remarks_of}
 
 -- ---- what is listed of the end says nothing of a side whose frames have a fault
 

@@ -1,16 +1,12 @@
 -- The requests of one side, with one message more.
 use Rattle.std.specs.Prelude.{if◌then◌else◌}
 use Rattle.std.specs.List.{cons_option, filter_map}
-use Rattle.std.specs.Map.{lookup}
 use Rattle.std.specs.Option.{option_or}
-use Rattle.std.proofs.Common.{◌≡◌, Bool, true, false, cond, List, [], ◌∷◌}
-use Rattle.std.proofs.Common.{◌++◌, Option, Some, None, refl, sym, ap, ◌∙◌, inl, inr}
-use Rattle.std.proofs.lemmas.Bool.{cases_Bool}
-use Rattle.lsp_rpc.specs.Ident.{Ident, id_view, same_id}
-use Rattle.lsp_rpc.specs.declared.message.Id.{Id}
+use Rattle.std.proofs.Common.{◌≡◌, Bool, true, false, List, [], ◌∷◌}
+use Rattle.std.proofs.Common.{◌++◌, Option, Some, None, refl, sym, ap, ◌∙◌}
+use Rattle.lsp_rpc.specs.Ident.{Ident, same_id}
 use Rattle.lsp_verdict.specs.Offences.{last_or}
 use Rattle.lsp_explain.specs.Asking.{Reply, reply_to, last_reply}
-use Rattle.lsp_survey.specs.ById.{asked_in}
 use Rattle.lsp_replay.specs.declared.heard.EventPlace.{EventPlace}
 
 -- one of the two, as a test says

@@ -11,8 +11,7 @@ use Rattle.lsp_replay.proofs.JudgedRuns.{IsDueOf, judged_run}
 use Rattle.lsp_replay.proofs.PassEnds.{IsQuiet, quiet_all, silent}
 use Rattle.lsp_replay.specs.Telling.{no_of, rule_of}
 use Rattle.lsp_verdict.specs.Complete.{IsVerdictBy}
-use Rattle.lsp_verdict.specs.Given.{verdict_view}
-use Rattle.lsp_verdict.specs.Heard.{Heard, heard_events, notes_of}
+use Rattle.lsp_verdict.specs.Heard.{heard_events, notes_of}
 use Rattle.lsp_verdict.specs.LookBack.{each_from}
 use Rattle.lsp_verdict.specs.Offences.{Offence, offences}
 use Rattle.lsp_verdict.specs.Outcome.{log_terms}

@@ -89,17 +89,6 @@ refused_leaves terms es before e rule are is =
     (λ uri. ap (λ (o : Option ℕ). step_by terms uri before (place_of before e) o
     (said_at terms before e)) is)
 
--- so they are what the events before it left
-pub refused_marks : (terms : Terms) (es : Entries) (before : List Event) (e : Event) (rule : ℕ)
-    → AreMarks terms es (before ++ e ∷ []) → rule_at terms before e ≡ Some rule
-    → AreMarks terms es before
-refused_marks terms es before e rule are is uri =
-    are uri
-    ∙ ap marked (steps-push terms uri before e
-    ∙ ap (λ (o : Option ℕ). steps terms uri before ++ cons_option
-    (step_by terms uri before (place_of before e) o (said_at terms before e)) []) is
-    ∙ append-nil (steps terms uri before))
-
 -- one that is kept and says nothing of a document too
 pub unsaid_leaves : (terms : Terms) (es : Entries) (before : List Event) (e : Event)
     → AreMarks terms es before → rule_at terms before e ≡ None → said_at terms before e ≡ None

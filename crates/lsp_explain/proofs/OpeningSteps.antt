@@ -20,8 +20,7 @@ use Rattle.lsp_verdict.specs.Offences.{kept_of, last_or, rule_at, said_at}
 use Rattle.lsp_verdict.proofs.LookBackLemmas.{each_of-snoc}
 use Rattle.lsp_explain.specs.LastOnes.{last_ones}
 use Rattle.lsp_explain.specs.Touched.{AreTouched}
-use Rattle.lsp_explain.proofs.TouchedSteps.{act_touched, kept_touched, refused_touched}
-use Rattle.lsp_explain.proofs.TouchedSteps.{refused_touches}
+use Rattle.lsp_explain.proofs.TouchedSteps.{act_touched, kept_touched, refused_touches}
 use Rattle.lsp_explain.specs.Openings.{AreOpenings, Holds, OnDocument, OpeningsShown, OpensBy}
 use Rattle.lsp_explain.specs.Openings.{closed_by, closings, openings, ons_view}
 use Rattle.lsp_explain.specs.Openings.{event_on, is_on, last_on, most_closings, most_openings}
@@ -87,20 +86,6 @@ refused_opens terms o before e rule are is =
     (refused_takes opened_by terms before e rule is)
     (refused_takes closed_by terms before e rule is)
     (refused_touches terms o.touched before e rule are.touched_are is)
-
--- so it is what the events before it left
-pub refused_openings : (terms : Terms) (o : Openings) (before : List Event) (e : Event) (rule : ℕ)
-    → AreOpenings terms o (before ++ e ∷ []) → rule_at terms before e ≡ Some rule
-    → AreOpenings terms o before
-refused_openings terms o before e rule are is = record {
-  opened_are = are.opened_are ∙ ap (last_ones most_openings)
-      (none_more opened_by most_openings terms before e
-      (refused_takes opened_by terms before e rule is));
-  closed_are = are.closed_are ∙ ap (last_ones most_closings)
-      (none_more closed_by most_closings terms before e
-      (refused_takes closed_by terms before e rule is));
-  touched_are = refused_touched terms o.touched before e rule are.touched_are is;
-}
 
 -- what is taken of one that is kept
 kept_takes : (takes : Takes) (terms : Terms) (before : List Event) (e : Event) (said : Option Call)

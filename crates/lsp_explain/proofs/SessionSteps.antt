@@ -147,16 +147,6 @@ refused_unsaid terms s before e rule are is =
     said_none terms s before e are
     (ap (λ (o : Option ℕ). numbered_by (place_of before e) o (sent_of e)) is)
 
--- so they stand for those before it
-pub refused_notes : (terms : Terms) (s : SessionNotes) (before : List Event) (e : Event) (rule : ℕ)
-    → AreNotes terms s (before ++ e ∷ []) → rule_at terms before e ≡ Some rule
-    → AreNotes terms s before
-refused_notes terms s before e rule are is =
-    subst (SessionStands s) (numbered-push terms before e
-    ∙ ap (λ (o : Option ℕ). numbered terms before ++ cons_option
-    (numbered_by (place_of before e) o (sent_of e)) []) is
-    ∙ append-nil (numbered terms before)) are
-
 -- so does one that is no message
 pub other_unsaid : (terms : Terms) (s : SessionNotes) (before : List Event) (e : Event)
     → AreNotes terms s before → sent_of e ≡ None → AreNotes terms s (before ++ e ∷ [])

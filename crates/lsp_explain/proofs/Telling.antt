@@ -35,7 +35,7 @@ use Rattle.lsp_facts.specs.EventFacts.{AreFacts}
 use Rattle.lsp_facts.specs.Fact.{Fact}
 use Rattle.lsp_facts.specs.Lines.{detail_lines, event_line}
 use Rattle.lsp_explain.specs.Accounts.{TellsOf, rests_held}
-use Rattle.lsp_explain.specs.Explained.{Explained, place_in}
+use Rattle.lsp_explain.specs.Explained.{place_in}
 use Rattle.lsp_explain.specs.Standing.{StandsAfter, terms_in}
 use Rattle.lsp_explain.specs.Traced.{AreTraced}
 use Rattle.lsp_explain.specs.Trails.{IsTrail}

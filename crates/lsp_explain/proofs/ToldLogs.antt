@@ -1,7 +1,7 @@
 -- What is explained of a log of which all events were told.
-use Rattle.std.specs.Prelude.{map, option_map, is_some}
+use Rattle.std.specs.Prelude.{option_map, is_some}
 use Rattle.std.specs.List.{AllZip, cons_option}
-use Rattle.std.proofs.Common.{◌≡◌, ℕ, Bool, true, false, List, [], ◌∷◌, ◌++◌, Option, Some, None}
+use Rattle.std.proofs.Common.{◌≡◌, ℕ, false, List, [], ◌∷◌, ◌++◌, Option, Some, None}
 use Rattle.std.proofs.Common.{refl, sym, ap, ◌∙◌}
 use Rattle.lsp_docs.specs.Terms.{Terms}
 use Rattle.lsp_frame.specs.Bounds.{Bounds}

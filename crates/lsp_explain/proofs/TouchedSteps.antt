@@ -76,15 +76,6 @@ refused_touches terms t before e rule are is = record {
   shown_are = are.shown_are ∙ sym (none_touched shown_by terms before e rule is);
 }
 
--- so it is what the events before it left
-pub refused_touched : (terms : Terms) (t : Touched) (before : List Event) (e : Event) (rule : ℕ)
-    → AreTouched terms t (before ++ e ∷ []) → rule_at terms before e ≡ Some rule
-    → AreTouched terms t before
-refused_touched terms t before e rule are is = record {
-  changed_are = are.changed_are ∙ none_touched changed_by terms before e rule is;
-  shown_are = are.shown_are ∙ none_touched shown_by terms before e rule is;
-}
-
 -- **an event that is kept**, and says this of a document
 pub kept_touched : (terms : Terms) (old new : Touched) (before : List Event) (e : Event)
     (said : Option Call) → AreTouched terms old before → rule_at terms before e ≡ None

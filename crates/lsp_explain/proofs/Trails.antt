@@ -15,7 +15,7 @@ use Rattle.lsp_rpc.specs.View.{act_view, message_view}
 use Rattle.lsp_rpc.specs.declared.act.Spoken.{Spoken}
 use Rattle.lsp_session.specs.Sent.{Sent}
 use Rattle.lsp_session.specs.State as session
-use Rattle.lsp_explain.specs.Marks.{AreMarks, DoneBy, ShownBy}
+use Rattle.lsp_explain.specs.Marks.{DoneBy, ShownBy}
 use Rattle.lsp_explain.specs.Openings.{OpeningsShown, OpensBy}
 use Rattle.lsp_explain.specs.SessionNoting.{AreNotes, SaysOn}
 use Rattle.lsp_explain.specs.declared.notes.session_notes.SessionNotes.{SessionNotes}

@@ -1,5 +1,5 @@
 -- What is said where the verdict on a log is explained, or all that is wrong with it.
-use Rattle.std.specs.Prelude.{◌≡◌, ℕ, List, [], ◌∷◌, ◌++◌, map, take, filter, false, is_some}
+use Rattle.std.specs.Prelude.{◌≡◌, ℕ, List, [], ◌++◌, map, take, filter, false, is_some}
 use Rattle.std.specs.Prelude.{Option, Some, None}
 use Rattle.std.specs.List.{AllZip, cons_option, flat_map}
 use Rattle.lsp_docs.specs.Terms.{Terms}
@@ -13,11 +13,10 @@ use Rattle.lsp_verdict.specs.Outcome.{ending}
 use Rattle.lsp_verdict.specs.Survey.{by_itself, ends_listed, first_verdict}
 use Rattle.lsp_verdict.specs.Verdict.{Verdict, bad_log_of, summary}
 use Rattle.lsp_verdict.specs.declared.completeness.Completeness.{Completeness}
-use Rattle.lsp_verdict.specs.declared.outcome.Outcome.{Outcome}
 use Rattle.lsp_facts.specs.Fact.{Fact}
 use Rattle.lsp_facts.specs.FlawFacts.{flaw_facts}
 use Rattle.lsp_explain.specs.AllExplained.{all_closing, cause_lines, is_cause}
-use Rattle.lsp_explain.specs.Explained.{Breach, Explained, Explains, breach, breach_at}
+use Rattle.lsp_explain.specs.Explained.{Breach, Explained, Explains, breach_at}
 use Rattle.lsp_explain.specs.Explained.{end_explained, explanation}
 use Rattle.lsp_explain.specs.Remarks.{noticed, remark_lines, remarks_of}
 

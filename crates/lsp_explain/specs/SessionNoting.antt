@@ -2,7 +2,6 @@
 use Rattle.std.specs.Prelude.{◌≡◌, ℕ, List, ◌++◌, map, Option, Some, None, if◌then◌else◌}
 use Rattle.std.specs.Prelude.{unwrap_or, option_to_list}
 use Rattle.std.specs.Option.{option_or}
-use Rattle.std.specs.Map.{lookup}
 use Rattle.lsp_docs.specs.Terms.{Terms}
 use Rattle.lsp_rpc.specs.Act.{Act}
 use Rattle.lsp_rpc.specs.Ident.{Ident, id_view, same_id}

@@ -100,33 +100,6 @@ filter_few (x ∷ xs) = by_test x.follows (filter_few xs)
     by_test true h = omega (arith, h)
     by_test false h = omega (arith, h)
 
--- what comes after the lines where something was found
-pub closed_some : (t : OffenceCount) (found : List Offence) (first : code.Offence)
-    (bad : Option Verdict)
-    (s : Summary) (text : List ℕ) (v : Verdict) → t.first ≡ Some first → IsTally t found
-    → length found < 2 ^ 64
-    → text ≡ bad_lines bad ++ line (codes "offences" ∷ decimal t.found ∷ codes "following" ∷ decimal
-    t.following ∷ []) → v ≡ (offence_view first).no
-    → (text ≡ closing found bad s) × (v ≡ first_verdict found bad s)
-closed_some t [] first bad s text v is tally few text_is v_is =
-    let none : Some (offence_view first) ≡ None =
-    ap (option_map offence_view) (sym is) ∙ tally.first in absurd cc
-closed_some t (o ∷ found) first bad s text v is tally few text_is v_is =
-    let same : Some (offence_view first) ≡ Some o =
-    ap (option_map offence_view) (sym is) ∙ tally.first in
-    let here : offence_view first ≡ o = cc same in
-    let all : t.found ≡ length (o ∷ found) = tally.all ∙ capped_is (length (o ∷ found)) few in
-    let following : t.following ≡ length (filter (λ (x : Offence). x.follows) (o ∷ found)) =
-    tally.following ∙ capped_is (length (filter (λ (x : Offence). x.follows) (o ∷ found)))
-    (omega (arith, few, filter_few (o ∷ found))) in (
-      text_is
-          ∙ ap (λ n. bad_lines bad ++ line (codes "offences" ∷ decimal n ∷ codes
-          "following" ∷ decimal t.following ∷ [])) all
-          ∙ ap (λ n. bad_lines bad ++ line (codes "offences" ∷ decimal (length (o ∷ found)) ∷ codes
-          "following" ∷ decimal n ∷ [])) following,
-      v_is ∙ ap (λ (x : Offence). x.no) here,
-    )
-
 -- where something was found, those of the fault of the log come first
 pub some_said : (t : OffenceCount) (found : List Offence) (first : code.Offence)
     (bad : Option Verdict) (s : Summary) (v : Verdict) → t.first ≡ Some first → IsTally t found
@@ -144,27 +117,20 @@ some_said t (o ∷ found) first bad s v is tally v_is =
     )
 
 -- the last line says how many
-module _ (t : OffenceCount) where
-  pub count_none : (found : List Offence) → IsTally t found → length found < 2 ^ 64 → t.found ≡ 0
-      → [] ≡ count_line found
-  count_none [] tally few none = refl
-  count_none (o ∷ found) tally few none =
-      absurd (omega (arith, tally.all, capped_is (length (o ∷ found)) few, none))
-
-  pub count_some : (found : List Offence) → IsTally t found → length found < 2 ^ 64
-      → (t.found ≡ 0 → ⊥)
-      → line (codes "offences" ∷ decimal t.found ∷ codes "following" ∷ decimal t.following ∷ [])
-      ≡ count_line found
-  count_some [] tally few some = absurd (some (tally.all ∙ capped_is 0 few))
-  count_some (o ∷ found) tally few some =
-      let all = tally.all ∙ capped_is (length (o ∷ found)) few in
-      let following = tally.following
-      ∙ capped_is (length (filter (λ (x : Offence). x.follows) (o ∷ found)))
-      (omega (arith, few, filter_few (o ∷ found))) in
-      ap (λ n. line (codes "offences" ∷ decimal n ∷ codes "following" ∷ decimal t.following ∷ []))
-      all
-      ∙ ap (λ n. line (codes "offences" ∷ decimal (length (o ∷ found)) ∷ codes
-      "following" ∷ decimal n ∷ [])) following
+pub count_some : (t : OffenceCount) (found : List Offence) → IsTally t found → length found < 2 ^ 64
+    → (t.found ≡ 0 → ⊥)
+    → line (codes "offences" ∷ decimal t.found ∷ codes "following" ∷ decimal t.following ∷ [])
+    ≡ count_line found
+count_some t [] tally few some = absurd (some (tally.all ∙ capped_is 0 few))
+count_some t (o ∷ found) tally few some =
+    let all = tally.all ∙ capped_is (length (o ∷ found)) few in
+    let following = tally.following
+    ∙ capped_is (length (filter (λ (x : Offence). x.follows) (o ∷ found)))
+    (omega (arith, few, filter_few (o ∷ found))) in
+    ap (λ n. line (codes "offences" ∷ decimal n ∷ codes "following" ∷ decimal t.following ∷ []))
+    all
+    ∙ ap (λ n. line (codes "offences" ∷ decimal (length (o ∷ found)) ∷ codes
+    "following" ∷ decimal n ∷ [])) following
 
 -- ---- offences one after another
 

@@ -4,17 +4,20 @@ use Rattle.std.proofs.Common.{◌≡◌, ℕ, ◌+◌, ◌<◌, ◌^◌, Bool, L
 use Rattle.std.proofs.Common.{None, refl, sym, ap, ◌∙◌, arith}
 use Rattle.lsp_docs.specs.State as docs
 use Rattle.lsp_docs.specs.Terms.{Terms}
+use Rattle.lsp_log.specs.declared.fault.LogCode.{LogCode}
+use Rattle.lsp_replay.specs.Run.{Tail}
 use Rattle.lsp_replay.specs.Standing.{Follows, Holds}
 use Rattle.lsp_replay.specs.Streams as streams
 use Rattle.lsp_replay.specs.Streams.{decoder_of}
-use Rattle.lsp_replay.specs.Telling.{Stood}
+use Rattle.lsp_replay.specs.Telling.{IsEnd, Stood}
+use Rattle.lsp_replay.specs.declared.log_events.End.{End}
 use Rattle.lsp_replay.specs.declared.log_events.End.TheVariants.{Sound}
 use Rattle.lsp_replay.specs.declared.log_events.LogEvents.{LogEvents}
 use Rattle.lsp_replay.proofs.AllHeard.{few_events, follows_all}
 use Rattle.lsp_session.specs.State as session
 use Rattle.lsp_survey.specs.Ending.{ends_by, given_by}
 use Rattle.lsp_survey.specs.Reported.{IsTally, verdict_lines}
-use Rattle.lsp_survey.specs.SurveyRun.{ends_held}
+use Rattle.lsp_survey.specs.SessionEnds.{ends_held, ends_of}
 use Rattle.lsp_survey.specs.declared.offence_count.OffenceCount.{OffenceCount}
 use Rattle.lsp_survey.proofs.Ending.{lacks_exact, rests_exact}
 use Rattle.lsp_types.specs.declared.side.Side.TheVariants.{Editor, Server}
@@ -23,13 +26,29 @@ use Rattle.lsp_verdict.specs.Event.{Event}
 use Rattle.lsp_verdict.specs.Given.{as_given, offence_view}
 use Rattle.lsp_verdict.specs.Heard.{Heard, heard_events}
 use Rattle.lsp_verdict.specs.Offences.{Offence, kept_of}
+use Rattle.lsp_verdict.specs.Outcome.{is_rest}
 use Rattle.lsp_verdict.specs.Report.{report}
-use Rattle.lsp_verdict.specs.Survey.{by_itself, first_ends, first_verdict, lacks_listed}
-use Rattle.lsp_verdict.specs.Survey.{rests_listed}
+use Rattle.lsp_verdict.specs.Survey.{by_itself, ends_inside, first_ends, first_verdict}
+use Rattle.lsp_verdict.specs.Survey.{lacks_listed, rests_listed}
 use Rattle.lsp_verdict.specs.Verdict.{Verdict, first_no, summary, yes}
 use Rattle.lsp_verdict.specs.declared.completeness.Completeness.{Completeness}
 use Rattle.lsp_verdict.specs.declared.counts.Counts.{Counts}
 use Rattle.lsp_verdict.proofs.ExactCounts.{yes_exact}
+
+-- what the reader of the log tells of its end is how the session ends
+pub ends_fit : (completeness : Completeness) (terms : Terms) (heard : List Heard) (e : LogEvents)
+    (end : End) (tail : Tail) → IsEnd e end heard tail
+    → ends_held completeness terms heard e end ≡ ends_of completeness terms heard tail
+ends_fit completeness terms heard e end tail fits =
+    let events = heard_events heard in
+    let editor = streams.ends_inside (decoder_of Editor e.streams) in
+    let server = streams.ends_inside (decoder_of Server e.streams) in
+    let lacks = lacks_listed completeness events (kept_of terms events) in
+    ap (λ (f : Option (ℕ × LogCode)). first_ends f (rests_listed events editor server) lacks)
+    (sym fits.fault)
+    ∙ ap (λ b. first_ends tail.fault (rests_listed events b server) lacks) (fits.inside Editor)
+    ∙ ap (λ b. first_ends tail.fault (rests_listed events
+    (ends_inside Editor events (is_rest tail.rests.editor)) b) lacks) (fits.inside Server)
 
 none_found : (t : OffenceCount) (found : List Offence) → None ≡ t.first → IsTally t found
     → found ≡ []
@@ -52,7 +71,7 @@ module _ (terms : Terms) (heard : List Heard) (m : session.State) (d : docs.Stat
       → server ≡ streams.ends_inside (decoder_of Server e.streams)
       → ((events kept : List Event) → AreCounts c events → Holds m d kept
       → listed ≡ map given_by (ends_by completeness events kept editor server))
-      → listed ≡ ends_held completeness terms heard e Sound
+      → listed ≡ map by_itself (ends_held completeness terms heard e Sound)
   ends_given completeness e editor server listed is_editor is_server told =
       let kept = kept_of terms events in
       let lacks = lacks_listed completeness events kept in

@@ -22,8 +22,8 @@ use Rattle.lsp_survey.specs.AllShown.{bytes_of, events_shown, is_offending, kept
 use Rattle.lsp_survey.specs.AllShown.{piece_bytes}
 use Rattle.lsp_survey.specs.AllShown.{shown_at, shown_in}
 use Rattle.lsp_survey.specs.Reported.{closing}
-use Rattle.lsp_survey.specs.SurveyRun.{end_said, ends_of, event_said, said_by}
-use Rattle.lsp_survey.specs.SurveyRun.{survey_run, verdict_by}
+use Rattle.lsp_survey.specs.SessionEnds.{all_found, all_verdict, ends_of}
+use Rattle.lsp_survey.specs.SurveyRun.{end_said, event_said, said_by, survey_run}
 use Rattle.lsp_survey.proofs.KeptTexts.{same_notes}
 use Rattle.lsp_survey.specs.declared.survey.Options.{Options}
 use Rattle.lsp_survey.proofs.Reporting.{report_is, reported_verdict}
@@ -116,16 +116,17 @@ module _ (lines : Lines) (limits : Bounds) (log : List ℕ) where
       (out front last : List ℕ) → out ≡ front ++ last
       → IsTold limits log format records heard tail
       → SaysAll (survey_run (asked lines)) (log_terms limits format) tail.rests [] heard front
-      → last ≡ end_said (asked lines) (log_terms limits format) heard tail
-      → IsAllShown lines limits log
-      (verdict_by (asked lines) (log_terms limits format) heard tail) out
+      → last ≡ end_said (asked lines) (log_terms limits format) heard tail.fault
+      (ends_of Ignored (log_terms limits format) heard tail)
+      → IsAllShown lines limits log (all_verdict (log_terms limits format) heard tail.fault
+      (ends_of Ignored (log_terms limits format) heard tail)) out
   unfolding survey_told
   shown_told format records heard tail out front last is told said closes =
       let terms = log_terms limits format in
       let notes = notes_of heard in
       let end = ending tail.fault tail.rests.editor tail.rests.server in
       let found = offences terms notes in
-      let ends = ends_of (asked lines) terms heard tail in
+      let ends = map by_itself (ends_of Ignored terms heard tail) in
       let bad = bad_log_of tail.fault in
       let s = summary terms (heard_events heard) in
       record {
@@ -170,7 +171,7 @@ module _ (lines : Lines) (limits : Bounds) (log : List ℕ) where
       let heard = h.first ++ h.later in
       let notes = notes_of heard in
       let end = ending h.tail.fault h.tail.rests.editor h.tail.rests.server in
-      let found = offences terms notes ++ ends_of (asked lines) terms heard h.tail in
+      let found = all_found terms heard (ends_of Ignored terms heard h.tail) in
       let bad = bad_log_of h.tail.fault in
       let s = summary terms (heard_events heard) in
       let last = closing found bad s in
@@ -179,7 +180,7 @@ module _ (lines : Lines) (limits : Bounds) (log : List ℕ) where
       let ends : List Piece =
       map (λ v. offending (by_itself v)) (ends_listed Ignored terms (events_of notes) end) in
       let rest = bytes_of (late ++ ends) ++ last in (
-        verdict_by (asked lines) terms heard h.tail,
+        all_verdict terms heard h.tail.fault (ends_of Ignored terms heard h.tail),
         left ++ rest,
         record {
           found = found;

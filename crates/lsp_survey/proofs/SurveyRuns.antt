@@ -1,5 +1,6 @@
 -- What `check --all` answers and writes follows from what a pass does.
 use Rattle.std.specs.List.{cons_option}
+use Rattle.std.specs.Prelude.{map}
 use Rattle.std.proofs.Common.{◌≡◌, ◌⊎◌, ℕ, List, [], ◌∷◌, ◌++◌, Option, Some, None, Result, inl, inr}
 use Rattle.std.proofs.Common.{refl, sym, ap, subst, ◌∙◌, append_assoc}
 use Rattle.std.proofs.lemmas.List.{map-append}
@@ -10,10 +11,10 @@ use Rattle.lsp_log.specs.Log.{Record}
 use Rattle.lsp_replay.specs.Passes.{Passes}
 use Rattle.lsp_replay.specs.Run.{EndsAfter, HasSaid, IsPassed, IsTold, SaysAll, StopsIn, Tail}
 use Rattle.lsp_replay.proofs.JudgedRuns.{IsDueOf, judged_run}
-use Rattle.lsp_survey.specs.Reported.{BeginsReported, IsReported, SurveysLog, closing, end_lines}
-use Rattle.lsp_survey.specs.Reported.{is_every, lines_of}
-use Rattle.lsp_survey.specs.SurveyRun.{end_said, ends_of, event_said, said_by, survey_run}
-use Rattle.lsp_survey.specs.SurveyRun.{verdict_by}
+use Rattle.lsp_survey.specs.Reported.{BeginsReported, IsReported, SurveysLog, closing, is_every}
+use Rattle.lsp_survey.specs.Reported.{lines_of}
+use Rattle.lsp_survey.specs.SessionEnds.{all_verdict, ends_of}
+use Rattle.lsp_survey.specs.SurveyRun.{end_said, event_said, said_by, survey_run}
 use Rattle.lsp_survey.specs.declared.survey.Options.{Options}
 use Rattle.lsp_survey.proofs.Reporting.{lines_append, lines_none, report_is, reported_verdict}
 use Rattle.lsp_survey.proofs.Told.{survey_told}
@@ -23,7 +24,7 @@ use Rattle.lsp_verdict.specs.LookBack.{each_from}
 use Rattle.lsp_verdict.specs.Offences.{Offence, offence_at, offences}
 use Rattle.lsp_verdict.specs.Outcome.{log_terms}
 use Rattle.lsp_verdict.specs.Ports.{Ports}
-use Rattle.lsp_verdict.specs.Survey.{all_report}
+use Rattle.lsp_verdict.specs.Survey.{all_report, by_itself}
 use Rattle.lsp_verdict.specs.Verdict.{Verdict, Summary, bad_log_of, summary}
 use Rattle.lsp_verdict.specs.declared.completeness.Completeness.{Completeness}
 use Rattle.lsp_verdict.specs.declared.listing.Listing.{Listing}
@@ -34,7 +35,8 @@ use Rattle.lsp_verdict.proofs.RunsJudged.{plain_by}
 
 -- the lines of all that is listed, and the closing ones, are the report
 pub whole_report : (listing : Listing) (found ends : List Offence) (bad : Option Verdict)
-    (s : Summary) → lines_of listing found ++ end_lines listing found ends bad s
+    (s : Summary)
+    → lines_of listing found ++ (lines_of listing ends ++ closing (found ++ ends) bad s)
     ≡ all_report (is_every listing) (found ++ ends) bad s
 whole_report listing found ends bad s =
     sym (report_is listing (found ++ ends) bad s
@@ -80,13 +82,15 @@ module _ (completeness : Completeness) (listing : Listing) where
         (tail : Tail) (out front last : List ℕ) → out ≡ front ++ last
         → IsTold limits log format records heard tail
         → SaysAll (survey_run asked) (log_terms limits format) tail.rests [] heard front
-        → last ≡ end_said asked (log_terms limits format) heard tail
+        → last ≡ end_said asked (log_terms limits format) heard tail.fault
+        (ends_of completeness (log_terms limits format) heard tail)
         → IsReported completeness limits listing log
-        (verdict_by asked (log_terms limits format) heard tail) out
+        (all_verdict (log_terms limits format) heard tail.fault
+        (ends_of completeness (log_terms limits format) heard tail)) out
     reported_told format records heard tail out front last is told said closes =
         let terms = log_terms limits format in
         let found = offences terms (notes_of heard) in
-        let ends = ends_of asked terms heard tail in
+        let ends = map by_itself (ends_of completeness terms heard tail) in
         let bad = bad_log_of tail.fault in
         let s = summary terms (heard_events heard) in
         record {
@@ -131,12 +135,12 @@ module _ (completeness : Completeness) (listing : Listing) where
         let terms = log_terms limits h.format in
         let heard = h.first ++ h.later in
         let found = offences terms (notes_of heard) in
-        let ends = ends_of asked terms heard h.tail in
+        let ends = map by_itself (ends_of completeness terms heard h.tail) in
         let bad = bad_log_of h.tail.fault in
         let s = summary terms (heard_events heard) in
         let early = each_from (offence_at terms) [] (notes_of h.first) in
         let late = each_from (offence_at terms) (notes_of h.first) (notes_of h.later) in
-        let last = end_lines listing found ends bad s in
+        let last = lines_of listing ends ++ closing (found ++ ends) bad s in
         let all : lines_of listing found ≡ (front ++ left) ++ lines_of listing late =
         ap (λ ns. lines_of listing (offences terms ns))
         (map-append (λ (x : Heard). x.note) h.first h.later)
@@ -145,7 +149,7 @@ module _ (completeness : Completeness) (listing : Listing) where
         ∙ lines_append listing early late
         ∙ ap (λ w. w ++ lines_of listing late)
         (sym (said_listed terms h.tail.rests [] h.first (front ++ left) h.says)) in (
-          verdict_by asked terms heard h.tail,
+          all_verdict terms heard h.tail.fault (ends_of completeness terms heard h.tail),
           left ++ (lines_of listing late ++ last),
           record {
             found = found ++ ends;

@@ -1,15 +1,13 @@
 -- The steps of the account that lists all that is wrong with a log.
-use Rattle.std.specs.Prelude.{map, option_map, unwrap_or}
 use Rattle.std.specs.Borrow.{Bor}
 use Rattle.std.specs.List.{cons_option}
+use Rattle.std.specs.Prelude.{map, option_map, unwrap_or}
 use Rattle.std.proofs.Common.{◌≡◌, ℕ, ◌<◌, ◌^◌, Bool, false, List, [], ◌∷◌, ◌++◌, length, Option}
 use Rattle.std.proofs.Common.{Some, None, refl, sym, ap, subst, ◌∙◌, append-nil, append_assoc}
 use Rattle.std.proofs.Common.{arith, length-append}
 use Rattle.std.proofs.lemmas.List.{length-map, map-append}
 use Rattle.lsp_docs.specs.Terms.{Terms}
-use Rattle.lsp_log.specs.declared.fault.LogCode.{LogCode}
 use Rattle.lsp_replay.specs.LogEvents.{flaw_of}
-use Rattle.lsp_replay.specs.Run.{Tail}
 use Rattle.lsp_replay.specs.Streams as streams
 use Rattle.lsp_replay.specs.Streams.{decoder_of}
 use Rattle.lsp_replay.specs.Telling.{Closes, IsEnd, SeenAs, rule_of}
@@ -20,23 +18,22 @@ use Rattle.lsp_replay.specs.declared.seen.Seen.TheVariants as seen
 use Rattle.lsp_rpc.specs.declared.act.Spoken.{Spoken}
 use Rattle.lsp_survey.specs.Lost.{WasTold, follows_at}
 use Rattle.lsp_survey.specs.Reported.{IsTally, closing, count_line, lines_of, verdict_lines}
-use Rattle.lsp_survey.specs.SurveyRun.{SurveyStands, ends_held, ends_of, event_said, kept_line}
-use Rattle.lsp_survey.specs.SurveyRun.{said_by, survey_run}
+use Rattle.lsp_survey.specs.SessionEnds.{ends_held, ends_of}
+use Rattle.lsp_survey.specs.SurveyRun.{SurveyStands, event_said, kept_line, said_by, survey_run}
 use Rattle.lsp_survey.specs.declared.offence_count.OffenceCount.{OffenceCount}
 use Rattle.lsp_survey.specs.declared.survey.Options.{Options}
 use Rattle.lsp_survey.specs.declared.survey.Survey.{Survey}
 use Rattle.lsp_survey.proofs.Ending.{ends_few, given_few}
 use Rattle.lsp_survey.proofs.Reporting.{closing_is, first_none}
+use Rattle.lsp_survey.proofs.SessionEnds.{ends_fit}
 use Rattle.lsp_types.specs.declared.side.Side.TheVariants.{Editor, Server}
 use Rattle.lsp_verdict.specs.Given.{verdict_view}
 use Rattle.lsp_verdict.specs.Heard.{Heard, heard_events, notes_of}
+use Rattle.lsp_verdict.specs.Lent.{raw_view}
 use Rattle.lsp_verdict.specs.Offences.{Noted, Offence, follows, kept_of, offence_at}
 use Rattle.lsp_verdict.specs.Offences.{offence_by, offences}
-use Rattle.lsp_verdict.specs.Lent.{raw_view}
-use Rattle.lsp_verdict.specs.Outcome.{is_rest}
-use Rattle.lsp_verdict.specs.Survey.{by_itself, ends_inside, first_ends, first_verdict}
-use Rattle.lsp_verdict.specs.Survey.{lacks_listed, rests_listed}
-use Rattle.lsp_verdict.specs.Verdict.{Verdict, bad_log_of, first_no, no_by, summary}
+use Rattle.lsp_verdict.specs.Survey.{by_itself, first_verdict}
+use Rattle.lsp_verdict.specs.Verdict.{Summary, Verdict, bad_log_of, first_no, no_by, summary}
 use Rattle.lsp_verdict.specs.declared.outcome.Outcome.TheVariants.{Judged}
 use Rattle.lsp_verdict.specs.declared.raw.Raw as lent
 use Rattle.lsp_verdict.specs.declared.verdict.Verdict as code
@@ -135,63 +132,47 @@ module _ (terms : Terms) (before : List Heard) (h : Heard) where
 
 -- ---- the end
 
-module _ (options : Options) (terms : Terms) (heard : List Heard) (e : LogEvents) (end : End) where
-  abbrev held : List Offence
-  held = ends_held options.completeness terms heard e end
+-- where nothing is listed, no event offends
+pub clean_by : (terms : Terms) (heard : List Heard) (ends : List Offence)
+    → offences terms (notes_of heard) ++ ends ≡ [] → first_no terms (heard_events heard) ≡ None
+clean_by terms heard ends none = (nothing_listed terms (notes_of heard)).0
+    (first_none (offences terms (notes_of heard)) ends none)
 
-  -- what the reader of the log tells of its end is how the session ends
-  ends_are : (tail : Tail) → IsEnd e end heard tail → held ≡ ends_of options terms heard tail
-  ends_are tail fits =
-      let events = heard_events heard in
-      let lacks = lacks_listed options.completeness events (kept_of terms events) in
-      ap (λ (f : Option (ℕ × LogCode)). map by_itself (first_ends f (rests_listed events
-      (streams.ends_inside (decoder_of Editor e.streams))
-      (streams.ends_inside (decoder_of Server e.streams))) lacks)) (sym fits.fault)
-      ∙ ap (λ b. map by_itself (first_ends tail.fault (rests_listed events b
-      (streams.ends_inside (decoder_of Server e.streams))) lacks)) (fits.inside Editor)
-      ∙ ap (λ b. map by_itself (first_ends tail.fault (rests_listed events
-      (ends_inside Editor events (is_rest tail.rests.editor)) b) lacks)) (fits.inside Server)
+module _ (options : Options) (terms : Terms) (heard : List Heard) (e : LogEvents) (end : End)
+    (ends : List Offence)
+    (are : ends ≡ map by_itself (ends_held options.completeness terms heard e end)) where
+  abbrev found : List Offence
+  found = offences terms (notes_of heard)
 
-  -- where nothing is listed, no event offends
-  pub clean_by : (ends : List Offence) → offences terms (notes_of heard) ++ ends ≡ []
-      → first_no terms (heard_events heard) ≡ None
-  clean_by ends none = (nothing_listed terms (notes_of heard)).0
-      (first_none (offences terms (notes_of heard)) ends none)
+  abbrev s : Summary
+  s = summary terms (heard_events heard)
 
   -- all that is listed can be counted
-  pub few_listed : (ends : List Offence) → ends ≡ held → length heard < 2 ^ 63
-      → length (offences terms (notes_of heard) ++ ends) < 2 ^ 64
-  few_listed ends are few =
+  pub few_listed : length heard < 2 ^ 63 → length (found ++ ends) < 2 ^ 64
+  few_listed few =
       let events = heard_events heard in
       let kept = kept_of terms events in
       let editor = streams.ends_inside (decoder_of Editor e.streams) in
       let server = streams.ends_inside (decoder_of Server e.streams) in
-      let listed = first_ends (flaw_of end) (rests_listed events editor server)
-      (lacks_listed options.completeness events kept) in
       omega (
         arith,
         few,
-        length-append (offences terms (notes_of heard)) ends,
+        length-append found ends,
         ap length are,
         given_few (offence_at terms) [] (notes_of heard),
         length-map heard (λ (x : Heard). x.note),
-        length-map listed by_itself,
+        length-map (ends_held options.completeness terms heard e end) by_itself,
         ends_few (flaw_of end) events kept editor server options.completeness,
       )
 
   -- **what is said is what the run says, whatever end the log has that fits**
-  pub end_closes : (given : code.Verdict) (ends : List Offence) (bad : Option Verdict)
-      (old mid next new : List ℕ) → ends ≡ held → bad ≡ bad_log_of (flaw_of end)
-      → mid ≡ old ++ lines_of options.listing ends
-      → (next ≡ mid ++ verdict_lines (offences terms (notes_of heard) ++ ends) bad
-      (summary terms (heard_events heard)))
-      × (verdict_view given ≡ first_verdict (offences terms (notes_of heard) ++ ends) bad
-      (summary terms (heard_events heard)))
-      → new ≡ next ++ count_line (offences terms (notes_of heard) ++ ends)
+  pub end_closes : (given : code.Verdict) (bad : Option Verdict) (old mid next new : List ℕ)
+      → bad ≡ bad_log_of (flaw_of end) → mid ≡ old ++ lines_of options.listing ends
+      → (next ≡ mid ++ verdict_lines (found ++ ends) bad s)
+      × (verdict_view given ≡ first_verdict (found ++ ends) bad s)
+      → new ≡ next ++ count_line (found ++ ends)
       → Closes (survey_run options) terms heard (IsEnd e end heard) old new (Judged given)
-  end_closes given ends bad old mid next new are bad_is listed (first, verdict) last =
-      let found = offences terms (notes_of heard) in
-      let s = summary terms (heard_events heard) in
+  end_closes given bad old mid next new bad_is listed (first, verdict) last =
       let lines = lines_of options.listing ends in
       let own = verdict_lines (found ++ ends) bad s in
       let count = count_line (found ++ ends) in
@@ -200,18 +181,18 @@ module _ (options : Options) (terms : Terms) (heard : List Heard) (e : LogEvents
         added = last ∙ ap (λ w. w ++ count) (first ∙ ap (λ w. w ++ own) listed)
             ∙ append_assoc (old ++ lines) own count ∙ append_assoc old lines (own ++ count);
         is = λ tail fits.
-            let all = are ∙ ends_are tail fits in
-            let flaw : bad ≡ bad_log_of tail.fault = bad_is ∙ ap bad_log_of (sym fits.fault) in
-            let ends_now = ends_of options terms heard tail in (
+            let due = map by_itself (ends_of options.completeness terms heard tail) in
+            let all : ends ≡ due =
+            are ∙ ap (map by_itself) (ends_fit options.completeness terms heard e end tail fits) in
+            let flaw : bad ≡ bad_log_of tail.fault = bad_is ∙ ap bad_log_of (sym fits.fault) in (
               ap (λ w. lines ++ w) (closing_is (found ++ ends) bad s)
                   ∙ ap (λ l. lines_of options.listing l ++ closing (found ++ l) bad s) all
-                  ∙ ap (λ b. lines_of options.listing ends_now ++ closing (found ++ ends_now) b s)
-                  flaw,
+                  ∙ ap (λ b. lines_of options.listing due ++ closing (found ++ due) b s) flaw,
               (
                 given,
                 refl,
                 verdict ∙ ap (λ l. first_verdict (found ++ l) bad s) all
-                    ∙ ap (λ b. first_verdict (found ++ ends_now) b s) flaw,
+                    ∙ ap (λ b. first_verdict (found ++ due) b s) flaw,
               ),
             );
       }

@@ -79,8 +79,3 @@ pub record IsTally (t : OffenceCount) (found : List Offence) : Type 0 where
   pub first : option_map offence_view t.first ≡ head_of found
   pub all : t.found ≡ capped (length found)
   pub following : t.following ≡ capped (length (filter (λ (o : Offence). o.follows) found))
-
--- what comes after the offences of the events: these of the end are listed, and the report is
--- closed
-abbrev pub end_lines : Listing → List Offence → List Offence → Option Verdict → Summary → List ℕ
-end_lines listing found ends bad s = lines_of listing ends ++ closing (found ++ ends) bad s

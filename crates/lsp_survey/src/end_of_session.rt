@@ -6,12 +6,12 @@ ghost use Rattle.lsp_replay.specs.LogEvents.{flaw_of};
 ghost use Rattle.lsp_replay.specs.Standing.{Follows, Holds};
 ghost use Rattle.lsp_replay.specs.Telling.{Stood};
 ghost use Rattle.lsp_survey.specs.Ending.{ends_by, given_by, lack_by};
-ghost use Rattle.lsp_survey.specs.SurveyRun.{ends_held};
+ghost use Rattle.lsp_survey.specs.SessionEnds.{ends_held};
 ghost use Rattle.lsp_verdict.specs.Counting.{AreCounts};
 ghost use Rattle.lsp_verdict.specs.Event.{Event};
 ghost use Rattle.lsp_verdict.specs.Given.{as_given, offence_view, verdict_view};
 ghost use Rattle.lsp_verdict.specs.Heard.{Heard};
-ghost use Rattle.lsp_verdict.specs.Survey.{first_verdict};
+ghost use Rattle.lsp_verdict.specs.Survey.{by_itself, first_verdict};
 ghost use Rattle.lsp_verdict.specs.Verdict.{bad_log_of, no_next, summary, yes};
 ghost use Rattle.lsp_types.specs.declared.rules.TheConstants as rules;
 
@@ -45,7 +45,7 @@ pub fn session_end(
     ensures listed { IfOk result (λ told. (terms : Terms) (heard : List Heard)
         → Stood terms held.now.session held.now.docs held.now.counts heard
         → length heard < 2 ^ 63 → map offence_view told.listed.items
-        ≡ ends_held completeness terms heard log.now end) }
+        ≡ map by_itself (ends_held completeness terms heard log.now end)) }
     ensures bad { IfOk result (λ told.
         option_map verdict_view told.bad ≡ bad_log_of (flaw_of end)) }
 {

@@ -1,10 +1,7 @@
 use Rattle.std.specs.Prelude.{option_map}
-use Rattle.std.proofs.Common.{◌≡◌, ◌∙◌, ◌++◌, ◌∷◌, [], ap, refl, subst, sym}
+use Rattle.std.proofs.Common.{subst}
 use Rattle.std.proofs.lemmas.Int.{to_z-of_z}
 use Rattle.std.proofs.lemmas.Result.{IfOk-weaker}
-use Rattle.lsp_docs.specs.Terms.{Terms}
-use Rattle.lsp_facts.specs.TwoTexts.{texts_at}
-use Rattle.lsp_replay.specs.Telling.{kept_before}
 use Rattle.lsp_verdict.specs.Offences.{IsNoted}
 use Rattle.lsp_verdict.specs.Placed.{Raw}
 use Rattle.lsp_explain.proofs.Comparing.{message_compared, shown_compared, unread_compared}

@@ -1,10 +1,8 @@
-use Rattle.std.specs.Prelude.{chars}
-use Rattle.std.proofs.Common.{◌∙◌, ap, sym}
+use Rattle.std.proofs.Common.{◌∙◌, ap}
 use Rattle.std.proofs.lemmas.Int.{to_z-of_z}
 use Rattle.std.proofs.lemmas.Result.{IfOk-weaker}
 use Rattle.lsp_replay.specs.Places.{place_next}
 use Rattle.lsp_replay.proofs.Following.{whose_read}
-use Rattle.lsp_verdict.specs.Offences.{kept_of}
 use Rattle.lsp_explain.specs.Standing.{terms_in}
 use Rattle.lsp_explain.proofs.SaidFacts.{frames_said, message_said, shown_said, unread_said}
 use Rattle.lsp_explain.proofs.offence_facts.facts_of.Goals as goal

@@ -1,5 +1,5 @@
-use Rattle.std.specs.Prelude.{map, option_map, take}
-use Rattle.std.proofs.Common.{◌∙◌, ◌++◌, ap, append_assoc, append-nil, refl, string_bytes, subst, sym}
+use Rattle.std.specs.Prelude.{map}
+use Rattle.std.proofs.Common.{◌∙◌, ap, sym}
 use Rattle.std.proofs.lemmas.Result.{on_ok_weaker}
 use Rattle.lsp_explain.proofs.Ending.{ending_none, ending_some, first_none, first_some}
 use Rattle.lsp_explain.proofs.Telling.{stands_at}

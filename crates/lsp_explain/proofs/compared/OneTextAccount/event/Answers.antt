@@ -1,6 +1,5 @@
-use Rattle.std.proofs.Common.{◌∙◌, ◌++◌, ◌∷◌, [], ap, append-nil, refl, string_bytes, subst, sym}
+use Rattle.std.proofs.Common.{string_bytes}
 use Rattle.lsp_replay.specs.Telling.{FitsRests}
-use Rattle.lsp_replay.specs.declared.seen.Seen.{Seen}
 use Rattle.lsp_survey.proofs.SurveySteps.{kept_seen, offence_seen}
 use Rattle.lsp_explain.proofs.Comparing.{kept_silent, told_text}
 use Rattle.lsp_explain.proofs.compared.OneTextAccount.event.Goals as goal

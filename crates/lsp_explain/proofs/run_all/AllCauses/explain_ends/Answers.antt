@@ -1,5 +1,5 @@
 use Rattle.std.specs.Prelude.{take}
-use Rattle.std.proofs.Common.{◌≡◌, ◌++◌, ◌∙◌, map, ap, string_bytes, subst, sym}
+use Rattle.std.proofs.Common.{◌≡◌, ◌++◌, map, string_bytes, subst, sym}
 use Rattle.std.proofs.lemmas.Option.{slice_get-get_or}
 use Rattle.lsp_docs.specs.Terms.{Terms}
 use Rattle.lsp_explain.specs.Asking.{numbered}

@@ -1,5 +1,5 @@
 use Rattle.std.specs.Prelude.{map, option_map}
-use Rattle.std.proofs.Common.{◌++◌, ◌∙◌, ap, subst, sym}
+use Rattle.std.proofs.Common.{◌++◌, ap}
 use Rattle.lsp_survey.proofs.SurveySteps.{clean_by, few_listed}
 use Rattle.lsp_verdict.specs.Given.{offence_view, verdict_view}
 use Rattle.lsp_verdict.specs.Heard.{notes_of}

@@ -1,4 +1,4 @@
-use Rattle.std.proofs.Common.{◌∙◌, ◌++◌, ◌∷◌, [], refl, string_bytes, subst, sym}
+use Rattle.std.proofs.Common.{◌∙◌, refl, string_bytes, subst, sym}
 use Rattle.lsp_replay.specs.Telling.{FitsRests}
 use Rattle.lsp_replay.proofs.Following.{whose_read}
 use Rattle.lsp_replay.proofs.SeenLines.{counted_on, few_on}

@@ -1,5 +1,5 @@
-use Rattle.std.proofs.Common.{◌∙◌, ◌++◌, ap, append-nil, string_bytes, sym}
-use Rattle.lsp_survey.proofs.Reporting.{count_none, count_some}
+use Rattle.std.proofs.Common.{◌∙◌, ◌++◌, ap, string_bytes}
+use Rattle.lsp_survey.proofs.Reporting.{count_some}
 use Rattle.lsp_survey.proofs.offence_count.OffenceCount.push_count.Goals as goal
 
 pub returns : goal.returns

@@ -15,9 +15,8 @@ returns c = λ terms heard stands stood few.
     let found = offences terms (notes_of heard) ++ ends in
     let are = c.in_ok-listed.ensures.listed terms heard stood few in
     let tally = c.in_ok-list_all.ensures.tally (offences terms (notes_of heard)) stands.tally in
-    end_closes options terms heard log end c.in_ok-verdict.verdict ends
-    (option_map verdict_view c.in_ok-listed.bad) _ _ _ _ are c.in_ok-listed.ensures.bad
+    end_closes options terms heard log end ends are c.in_ok-verdict.verdict
+    (option_map verdict_view c.in_ok-listed.bad) _ _ _ _ c.in_ok-listed.ensures.bad
     c.in_ok-list_all.ensures.said
-    (c.in_ok-verdict.ensures terms heard found stood few tally
-    (clean_by options terms heard log end ends))
+    (c.in_ok-verdict.ensures terms heard found stood few tally (clean_by terms heard ends))
     (c.in_ok-push_count.ensures found tally (few_listed options terms heard log end ends are few))
