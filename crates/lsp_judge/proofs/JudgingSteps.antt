@@ -7,12 +7,10 @@ use Rattle.std.proofs.lemmas.List.{length-map}
 use Rattle.lsp_docs.specs.State as docs
 use Rattle.lsp_docs.specs.Terms.{Terms}
 use Rattle.lsp_log.specs.declared.fault.LogCode.{LogCode}
-use Rattle.lsp_session.specs.Incomplete.{incomplete}
 use Rattle.lsp_session.specs.State as session
-use Rattle.lsp_types.specs.declared.rules.TheConstants as rules
 use Rattle.lsp_types.specs.declared.side.Side.{Side}
 use Rattle.lsp_types.specs.declared.side.Side.TheVariants.{Editor, Server}
-use Rattle.lsp_judge.specs.Ending.{closed_by, end_by}
+use Rattle.lsp_judge.specs.Ending.{closed_by, end_by, end_rule, ends_with}
 use Rattle.lsp_judge.specs.JudgingRun.{JudgingAsked, completed_by, due_for, judging_run, said_by}
 use Rattle.lsp_judge.specs.JudgingRun.{shown_by, verdict_of}
 use Rattle.lsp_judge.proofs.Finals.{by_end, by_log}
@@ -26,19 +24,19 @@ use Rattle.lsp_replay.specs.declared.log_events.End.{End}
 use Rattle.lsp_replay.specs.declared.log_events.LogEvents.{LogEvents}
 use Rattle.lsp_replay.specs.declared.seen.Flow.TheVariants.{GoOn, Stop}
 use Rattle.lsp_replay.proofs.AllHeard.{few_events, follows_all}
-use Rattle.lsp_verdict.specs.Event.{Event, sent_in}
+use Rattle.lsp_verdict.specs.Event.{Event}
 use Rattle.lsp_verdict.specs.Given.{as_given, verdict_view}
 use Rattle.lsp_verdict.specs.Heard.{Heard, Rests, heard_events, notes_of, rest_of}
 use Rattle.lsp_verdict.specs.Offences.{Noted}
 use Rattle.lsp_verdict.specs.Outcome.{ending, is_rest}
-use Rattle.lsp_verdict.specs.Verdict.{Verdict, bad_log, bad_log_of, first_no, no_by, no_next}
+use Rattle.lsp_verdict.specs.Verdict.{Verdict, bad_log, bad_log_of, first_no, no_by}
 use Rattle.lsp_verdict.specs.Verdict.{summary, verdict, whose, yes}
 use Rattle.lsp_verdict.specs.declared.completeness.Completeness.{Completeness}
 use Rattle.lsp_verdict.specs.declared.completeness.Completeness.TheVariants.{Ignored, Required}
 use Rattle.lsp_verdict.specs.declared.counts.Counts.{Counts}
 use Rattle.lsp_verdict.specs.declared.outcome.Outcome.TheVariants.{Judged}
 use Rattle.lsp_verdict.specs.declared.verdict.Verdict as code
-use Rattle.lsp_verdict.specs.declared.verdict.Who.TheVariants as who
+use Rattle.lsp_verdict.specs.declared.verdict.Who.{Who}
 use Rattle.lsp_verdict.proofs.ExactCounts.{no_exact, yes_exact}
 use Rattle.lsp_verdict.proofs.Offences.Offending.{no_frame_fault}
 
@@ -106,20 +104,13 @@ end_exact : (completeness : Completeness) (terms : Terms) (events : List Event)
     (editor server : Bool) → length events + 1 < 2 ^ 64
     → as_given (end_by completeness terms events editor server)
     ≡ end_by completeness terms events editor server
-end_exact completeness terms events true server few =
-    no_exact events rules.STREAM_ENDS_INSIDE_FRAME who.Editor few
-end_exact completeness terms events false true few =
-    no_exact events rules.STREAM_ENDS_INSIDE_FRAME who.Server few
-end_exact Ignored terms events false false few = yes_exact terms events (omega (arith, few))
-end_exact Required terms events false false few = by_lack (incomplete (sent_in events))
+end_exact completeness terms events editor server few =
+    by_rule (end_rule completeness events editor server)
   where
-    by_lack : (o : Option ℕ)
-        → as_given (unwrap_or (option_map (λ rule. no_next rule who.Editor events) o)
-        (yes (summary terms events)))
-        ≡ unwrap_or (option_map (λ rule. no_next rule who.Editor events) o)
-        (yes (summary terms events))
-    by_lack None = yes_exact terms events (omega (arith, few))
-    by_lack (Some rule) = no_exact events rule who.Editor few
+    by_rule : (o : Option (ℕ × Who))
+        → as_given (ends_with terms events o) ≡ ends_with terms events o
+    by_rule None = yes_exact terms events (omega (arith, few))
+    by_rule (Some broken) = no_exact events broken.0 broken.1 few
 
 bad_stays : (completeness : Completeness) (events : List Event) (number : ℕ) (code : LogCode)
     → bad_log number code ≡ completed_by completeness events (bad_log number code)
