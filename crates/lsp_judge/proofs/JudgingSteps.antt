@@ -19,10 +19,12 @@ use Rattle.lsp_replay.specs.LogEvents.{flaw_of}
 use Rattle.lsp_replay.specs.Run.{Tail}
 use Rattle.lsp_replay.specs.Standing.{Follows}
 use Rattle.lsp_replay.specs.Streams.{decoder_of, ends_inside}
-use Rattle.lsp_replay.specs.Telling.{Closes, IsEnd, Says, Stood, no_of, rule_of}
+use Rattle.lsp_replay.specs.Telling.{Closes, IsEnd, Says, SeenAs, Stood, no_of, rule_of}
 use Rattle.lsp_replay.specs.declared.log_events.End.{End}
 use Rattle.lsp_replay.specs.declared.log_events.LogEvents.{LogEvents}
 use Rattle.lsp_replay.specs.declared.seen.Flow.TheVariants.{GoOn, Stop}
+use Rattle.lsp_replay.specs.declared.seen.Seen.{Seen}
+use Rattle.lsp_replay.specs.declared.seen.Seen.TheVariants as seen
 use Rattle.lsp_replay.proofs.AllHeard.{few_events, follows_all}
 use Rattle.lsp_verdict.specs.Event.{Event}
 use Rattle.lsp_verdict.specs.Given.{as_given, verdict_view}
@@ -41,6 +43,18 @@ use Rattle.lsp_verdict.proofs.ExactCounts.{no_exact, yes_exact}
 use Rattle.lsp_verdict.proofs.Offences.Offending.{no_frame_fault}
 
 -- ---- an event
+
+-- it was seen as one that does not offend
+abbrev IsKept : Seen → Type 0
+IsKept (seen.Message side bytes spoken) = Unit {0}
+IsKept (seen.Snapshot version uri text answer) = Unit {0}
+IsKept (seen.Offence raw rule spoken) = ⊥
+
+pub kept_rule : (s : Seen) (terms : Terms) (before : List Heard) (h : Heard) → IsKept s
+    → SeenAs s terms before h → rule_of terms before h ≡ None
+kept_rule (seen.Message side bytes spoken) terms before h kept is = is.1
+kept_rule (seen.Snapshot version uri text answer) terms before h kept is = is.1
+kept_rule (seen.Offence raw rule spoken) terms before h kept is = absurd kept
 
 module _ (terms : Terms) (before : List Heard) (h : Heard) where
   abbrev no_by_rule : Option ℕ → Option Verdict

@@ -170,12 +170,12 @@ module _ (asked : TextAsked) where
   open_after : (terms : Terms) (rests : Rests) (before hs : List Heard) (out : List ℕ)
       → SaysAll (text_run asked) terms rests before hs out → IsOpen asked.number terms before
       → IsOpen asked.number terms (before ++ hs)
-  open_after terms rests before [] out is open =
-      subst (IsOpen asked.number terms) (sym (append-nil before)) open
-  open_after terms rests before (h ∷ hs) out (said, left, is, own, goes, later) open =
+  open_after terms rests before [] out is waits =
+      subst (IsOpen asked.number terms) (sym (append-nil before)) waits
+  open_after terms rests before (h ∷ hs) out (said, left, is, own, goes, later) waits =
       subst (IsOpen asked.number terms) (append_assoc before (h ∷ []) hs)
       (open_after terms rests (before ++ h ∷ []) hs left later
-      (still_open asked terms before h (no_none (answer_at asked terms before h) goes) open))
+      (still_open asked terms before h (no_none (answer_at asked terms before h) goes) waits))
 
   module _ (positive : 0 < asked.number) (limits : Bounds) (log out : List ℕ) (outcome : Outcome)
       (p : IsPassed (text_run asked) limits log out outcome) where
@@ -184,7 +184,7 @@ module _ (asked : TextAsked) where
 
     -- the run stopped at this event, which has this answer
     module _ (first later : List Heard) (here : Heard) (are : p.heard ≡ first ++ here ∷ later)
-        (open : IsOpen asked.number terms first) where
+        (waits : IsOpen asked.number terms first) where
       told : IsTold limits log p.format p.records ((first ++ here ∷ []) ++ later) p.tail
       told = subst (λ (w : List Heard). IsTold limits log p.format p.records w p.tail)
           (are ∙ sym (append_assoc first (here ∷ []) later)) p.told
@@ -194,9 +194,9 @@ module _ (asked : TextAsked) where
           (held_answer (held terms asked.uri (calls (heard_events (first ++ here ∷ [])))))
       reached none at =
           let on = heard_events (first ++ here ∷ []) in
-          let clean = still_clean terms first here open.0 none in
+          let clean = still_clean terms first here waits.0 none in
           let count : count_of (is_of Editor) on ≡ asked.number = grind (arith, nat_tests, at) in
-          let last = reached_last asked.number (heard_events first) here.note.event open.1
+          let last = reached_last asked.number (heard_events first) here.note.event waits.1
           (ap (count_of (is_of Editor)) (sym (events-push first here)) ∙ count) in
           text_held limits p.format asked.number asked.uri on
           (ap (up_to_editor asked.number []) (events-push first here) ∙ last
@@ -211,8 +211,8 @@ module _ (asked : TextAsked) where
       answers (Some v) at answer no is gives =
           let same : missing_answer v ≡ answer = cc gives in
           subst (AnswersText limits log asked.number asked.uri) same
-          (text_ended limits asked.number asked.uri (heard_events first) v open.1 log
-          (told_at limits log p.format p.records p.heard p.tail p.told first later here are open.0 v
+          (text_ended limits asked.number asked.uri (heard_events first) v waits.1 log
+          (told_at limits log p.format p.records p.heard p.tail p.told first later here are waits.0 v
           no))
       answers None true answer no is gives =
           let same = cc gives in
@@ -227,10 +227,10 @@ module _ (asked : TextAsked) where
             → IsText (λ l. AnswersText limits l asked.number asked.uri) log out outcome
         by_end (inl s) =
             let (answer, is, ends) = s.stop.ends in
-            let open = open_after terms p.tail.rests [] s.first s.front s.said (refl, positive) in
+            let waits = open_after terms p.tail.rests [] s.first s.front s.said (refl, positive) in
             record {
               answer = answer;
-              answers = answers s.first s.later s.here s.are open (no_of terms s.first s.here)
+              answers = answers s.first s.later s.here s.are waits (no_of terms s.first s.here)
                   (is_reached asked.number s.first s.here) answer refl refl is;
               written = s.is ∙ ap (λ w. w ++ s.last)
                   (quiet_all (text_run asked) quiet terms p.tail.rests [] s.first s.front s.said)
@@ -238,11 +238,11 @@ module _ (asked : TextAsked) where
               ends = ends;
             }
         by_end (inr e) =
-            let open = open_after terms p.tail.rests [] p.heard e.front e.said (refl, positive) in
+            let waits = open_after terms p.tail.rests [] p.heard e.front e.said (refl, positive) in
             record {
               answer = answer_behind terms p.heard p.tail;
-              answers = text_ended limits asked.number asked.uri (heard_events p.heard) _ open.1 log
-                  (told_end limits log p.format p.records p.heard p.tail p.told Ignored open.0);
+              answers = text_ended limits asked.number asked.uri (heard_events p.heard) _ waits.1 log
+                  (told_end limits log p.format p.records p.heard p.tail p.told Ignored waits.0);
               written = e.is ∙ ap (λ w. w ++ e.last)
                   (quiet_all (text_run asked) quiet terms p.tail.rests [] p.heard e.front e.said)
                   ∙ e.closes.0;

@@ -37,7 +37,7 @@ unequal : (m n : ℕ) → (m ≡ n → ⊥) → (m == n) ≡ false
 unequal m n other = grind (arith, nat_tests, other)
 
 module _ (asked : TextAsked) (terms : Terms) (before : List Heard) (h : Heard)
-    (open : IsOpen asked.number terms before) (Fits : Rests → Type 0) (old : List ℕ) where
+    (waits : IsOpen asked.number terms before) (Fits : Rests → Type 0) (old : List ℕ) where
   abbrev on : List Heard
   on = before ++ h ∷ []
 
@@ -88,7 +88,7 @@ module _ (asked : TextAsked) (terms : Terms) (before : List Heard) (h : Heard)
         ∙ ap (λ (t : Terms). held_answer (held t asked.uri (calls (kept_of terms
         (heard_events on))))) stood.by
         ∙ ap (λ es. held_answer (held terms asked.uri (calls es)))
-        (all_are_kept terms (heard_events on) (still_clean terms before h open.0 none)) in
+        (all_are_kept terms (heard_events on) (still_clean terms before h waits.0 none)) in
         says_answer new answer outcome Stands
         (ap (λ o. answer_by o (is_reached asked.number before h) text_here) none
         ∙ ap (λ b. answer_by None b text_here) at ∙ ap Some (sym is)) added ends
@@ -106,7 +106,7 @@ module _ (asked : TextAsked) (terms : Terms) (before : List Heard) (h : Heard)
           said = [];
           added = sym (append-nil old);
           is = λ rests fits. ap said_of (sym at);
-          goes = (ap is_some at, still_open asked terms before h at open);
+          goes = (ap is_some at, still_open asked terms before h at waits);
         }
 
 -- the message did not come

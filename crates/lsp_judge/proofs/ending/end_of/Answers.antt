@@ -11,5 +11,5 @@ returns-in-Some g c = λ so_far follows.
 pub returns-in_ok-summary_of-in-None : goal.returns-in_ok-summary_of-in-None
 returns-in_ok-summary_of-in-None g c = λ so_far follows.
     yes_ends c.args.completeness c.args.events.now.docs.terms so_far c.args.editor c.args.server _
-    (c.end_rule.ensures so_far follows) _ c.in-None.is
+    (c.end_rule.ensures so_far follows) c.in_ok-summary_of-in-None.field-0 c.in-None.is
     (c.in_ok-summary_of-in-None.ensures so_far follows)

@@ -3,7 +3,7 @@ use Rattle.lsp_judge.proofs.TextSteps.{missing_closes}
 use Rattle.lsp_judge.proofs.text.TextHeldAccount.end.Goals as goal
 
 pub returns-in_ok-outcome : goal.returns-in_ok-outcome
-returns-in_ok-outcome c = λ terms heard open stood few.
+returns-in_ok-outcome c = λ terms heard waits stood few.
     missing_closes _ terms heard _ _ _ _ _ _
-    (ends_given _ terms heard _ _ _ _ _ _ stood few open.0 c.in_ok-verdict.ensures)
+    (ends_given _ terms heard _ _ _ _ _ _ stood few waits.0 c.in_ok-verdict.ensures)
     c.missing.ensures c.in_ok-outcome.ensures.0 c.in_ok-outcome.ensures.1
