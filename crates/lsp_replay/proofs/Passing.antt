@@ -29,6 +29,7 @@ use Rattle.lsp_replay.proofs.FirstEvents.{AreNoted, few_read, given_before, join
 use Rattle.lsp_replay.proofs.FirstEvents.{rests_before, said_read, says_more, stops_given}
 use Rattle.lsp_replay.proofs.Fronts.{front_shown}
 use Rattle.lsp_replay.proofs.Owning.{given_fault}
+use Rattle.lsp_replay.proofs.PassEnds.{Boxed}
 use Rattle.lsp_replay.proofs.Pulling.{reads_failures, reads_given}
 use Rattle.lsp_verdict.specs.Heard.{Heard, Rests, RestsBehind, notes_of, raws_of, rest_of}
 use Rattle.lsp_verdict.specs.Lent.{raw_view}
@@ -269,12 +270,12 @@ module _ (Asked : Type 0) (run_of : Asked → Run) (asked : Asked)
       said_on said due rests behind = says_more run terms rests [] p.heard p.out here said
           (said_before gave.0 rests behind) (due.is rests (shown rests behind)) due.goes.0
 
-      stopped_at : (outcome : Outcome) (said : List ℕ) → Due (Stop outcome) said
-          → OfRead limits start last (λ log. IsPassed run limits log (p.out ++ said) outcome)
-      stopped_at outcome said due = read_map limits start last
+      stopped_at : (boxed : Boxed) (said : List ℕ) → Due (Stop boxed) said
+          → OfRead limits start last (λ log. IsPassed run limits log (p.out ++ said) boxed.value)
+      stopped_at boxed said due = read_map limits start last
           (HasGiven limits p.format front (raws_of on))
-          (λ log. IsPassed run limits log (p.out ++ said) outcome)
-          (λ log has. stops_given p.heard here on_noted has run p.out said outcome
+          (λ log. IsPassed run limits log (p.out ++ said) boxed.value)
+          (λ log has. stops_given p.heard here on_noted has run p.out said boxed.value
           (λ rests behind. (said_before gave.0 rests behind, due.is rests (shown rests behind)))
           due.goes.0 due.goes.1) on_first
 
@@ -297,12 +298,12 @@ module _ (Asked : Type 0) (run_of : Asked → Run) (asked : Asked)
       }
 
       -- it stops
-      passing_stop : (outcome : Outcome) → Steps {X = Flow} new end Due (Ok (Stop outcome))
-          → Passes run limits start last old end (Ok outcome)
-      passing_stop outcome (said, due, wrote, still) = record {
+      passing_stop : (boxed : Boxed) → Steps {X = Flow} new end Due (Ok (Stop boxed))
+          → Passes run limits start last old end (Ok boxed.value)
+      passing_stop boxed (said, due, wrote, still) = record {
         out = p.out ++ said;
         wrote = wrote_then old new end p.out said p.wrote wrote;
-        due = stopped_at outcome said due;
+        due = stopped_at boxed said due;
         failures = on_failures;
       }
 
@@ -313,7 +314,7 @@ module _ (Asked : Type 0) (run_of : Asked → Run) (asked : Asked)
           × OfRead limits start last (λ log. IsPassed run limits log (p.out ++ said) outcome))
       cut_by GoOn said due = inl (said_read on on_noted on_first run (p.out ++ said)
           (said_on said due))
-      cut_by (Stop outcome) said due = inr (outcome, stopped_at outcome said due)
+      cut_by (Stop boxed) said due = inr (boxed.value, stopped_at boxed said due)
 
       passing_fault : (fault : RunFault) → Steps {X = Flow} new end Due (Err fault)
           → Passes run limits start last old end (Err fault)
@@ -364,10 +365,10 @@ module _ (Asked : Type 0) (run_of : Asked → Run) (asked : Asked)
             length-append p.heard (here ∷ []),
           )
 
-      pub goes_stop : (own : Asked) → own ≡ asked → (outcome : Outcome)
-          → TellsNext own (Ok (Stop outcome)) → Passes run limits start last old end (Ok outcome)
-      goes_stop own same outcome tells =
-          passing_stop outcome (steps_of own (Ok (Stop outcome)) same tells)
+      pub goes_stop : (own : Asked) → own ≡ asked → (boxed : Boxed)
+          → TellsNext own (Ok (Stop boxed)) → Passes run limits start last old end (Ok boxed.value)
+      goes_stop own same boxed tells =
+          passing_stop boxed (steps_of own (Ok (Stop boxed)) same tells)
 
       pub goes_wrong : (own : Asked) → own ≡ asked → (fault : RunFault) → TellsNext own (Err fault)
           → Passes run limits start last old end (Err fault)

@@ -109,7 +109,7 @@ fn read_log<R: Source, W: Sink, A: Account>(
                 let text = &mut reading.text;
                 match tell(alloc, &mut reading.held, text, writer, account, raw)? {
                     Flow::GoOn => {}
-                    Flow::Stop(outcome) => return Ok(outcome),
+                    Flow::Stop(outcome) => return Ok(Box::into_inner(outcome)),
                 }
             }
         }
