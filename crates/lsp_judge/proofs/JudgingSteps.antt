@@ -1,12 +1,13 @@
 -- The steps of the accounts that end with the verdict on a log.
 use Rattle.std.specs.Prelude.{◌&&◌, is_some, not, option_map, unwrap_or}
 use Rattle.std.proofs.Common.{◌≡◌, ℕ, ◌+◌, ◌<◌, ◌^◌, Bool, true, false, List, [], ◌∷◌, ◌++◌, length}
-use Rattle.std.proofs.Common.{Option, Some, None, refl, sym, ap, ◌∙◌, arith}
+use Rattle.std.proofs.Common.{Bor, Option, Some, None, refl, sym, ap, ◌∙◌, arith}
 use Rattle.std.proofs.Math.Bool.{and-true}
 use Rattle.std.proofs.lemmas.List.{length-map}
 use Rattle.lsp_docs.specs.State as docs
 use Rattle.lsp_docs.specs.Terms.{Terms}
 use Rattle.lsp_log.specs.declared.fault.LogCode.{LogCode}
+use Rattle.lsp_rpc.specs.declared.act.Spoken.{Spoken}
 use Rattle.lsp_session.specs.State as session
 use Rattle.lsp_types.specs.declared.side.Side.{Side}
 use Rattle.lsp_types.specs.declared.side.Side.TheVariants.{Editor, Server}
@@ -26,6 +27,7 @@ use Rattle.lsp_replay.specs.declared.seen.Flow.TheVariants.{GoOn, Stop}
 use Rattle.lsp_replay.specs.declared.seen.Seen.{Seen}
 use Rattle.lsp_replay.specs.declared.seen.Seen.TheVariants as seen
 use Rattle.lsp_replay.proofs.AllHeard.{few_events, follows_all}
+use Rattle.lsp_replay.proofs.PassEnds.{Boxed}
 use Rattle.lsp_verdict.specs.Event.{Event}
 use Rattle.lsp_verdict.specs.Given.{as_given, verdict_view}
 use Rattle.lsp_verdict.specs.Heard.{Heard, Rests, heard_events, notes_of, rest_of}
@@ -37,6 +39,7 @@ use Rattle.lsp_verdict.specs.declared.completeness.Completeness.{Completeness}
 use Rattle.lsp_verdict.specs.declared.completeness.Completeness.TheVariants.{Ignored, Required}
 use Rattle.lsp_verdict.specs.declared.counts.Counts.{Counts}
 use Rattle.lsp_verdict.specs.declared.outcome.Outcome.TheVariants.{Judged}
+use Rattle.lsp_verdict.specs.declared.raw.Raw.{Raw}
 use Rattle.lsp_verdict.specs.declared.verdict.Verdict as code
 use Rattle.lsp_verdict.specs.declared.verdict.Who.{Who}
 use Rattle.lsp_verdict.proofs.ExactCounts.{no_exact, yes_exact}
@@ -45,16 +48,13 @@ use Rattle.lsp_verdict.proofs.Offences.Offending.{no_frame_fault}
 -- ---- an event
 
 -- it was seen as one that does not offend
-abbrev IsKept : Seen → Type 0
-IsKept (seen.Message side bytes spoken) = Unit {0}
-IsKept (seen.Snapshot version uri text answer) = Unit {0}
-IsKept (seen.Offence raw rule spoken) = ⊥
-
-pub kept_rule : (s : Seen) (terms : Terms) (before : List Heard) (h : Heard) → IsKept s
+pub kept_rule : (s : Seen) (terms : Terms) (before : List Heard) (h : Heard)
+    → ((raw : Raw) (rule : ℕ) (spoken : Option (Bor Spoken)) → s ≡ seen.Offence raw rule spoken → ⊥)
     → SeenAs s terms before h → rule_of terms before h ≡ None
-kept_rule (seen.Message side bytes spoken) terms before h kept is = is.1
-kept_rule (seen.Snapshot version uri text answer) terms before h kept is = is.1
-kept_rule (seen.Offence raw rule spoken) terms before h kept is = absurd kept
+kept_rule (seen.Message side bytes spoken) terms before h other is = is.1
+kept_rule (seen.Snapshot version uri text answer) terms before h other is = is.1
+kept_rule (seen.Offence raw rule spoken) terms before h other is =
+    absurd (other raw rule spoken refl)
 
 module _ (terms : Terms) (before : List Heard) (h : Heard) where
   abbrev no_by_rule : Option ℕ → Option Verdict
@@ -96,19 +96,20 @@ module _ (terms : Terms) (before : List Heard) (h : Heard) where
           goes = (ap is_some none, still_clean terms before h clean none);
         }
 
-    pub offence_says : (rule : ℕ) (given : code.Verdict) → rule_of terms before h ≡ Some rule
+    pub offence_says : (rule : ℕ) (given : code.Verdict) (boxed : Boxed)
+        → boxed.value ≡ Judged given → rule_of terms before h ≡ Some rule
         → length before + 1 < 2 ^ 64
         → verdict_view given ≡ as_given (no_by (heard_events before) h.note.event rule)
         → new ≡ old ++ due_for asked.name (verdict_view given)
         → Says (judging_run asked) terms before h Fits old new
-        (first_no terms (heard_events (before ++ h ∷ [])) ≡ None) (Stop (Judged given))
-    offence_says rule given is few named added =
+        (first_no terms (heard_events (before ++ h ∷ [])) ≡ None) (Stop boxed)
+    offence_says rule given boxed in_box is few named added =
         let some = given_is rule (verdict_view given) is few named in
         record {
           said = due_for asked.name (verdict_view given);
           added = added;
           is = λ rests fits. ap (said_by asked before h) (sym some);
-          goes = (ap is_some some, (verdict_view given, some, (given, refl, refl)));
+          goes = (ap is_some some, (verdict_view given, some, (given, in_box, refl)));
         }
 
 -- ---- the end

@@ -1,8 +1,9 @@
 -- What `text` answers and writes follows from what a pass does.
+use Rattle.std.specs.Global.{Global}
 use Rattle.std.specs.Io.KnownBytes.{Appends}
 use Rattle.std.proofs.Common.{◌≡◌, ◌⊎◌, ◌<◌, ◌+◌, ℕ, Bool, true, false, List, [], ◌∷◌, ◌++◌, inl, inr}
 use Rattle.std.proofs.Common.{drop, Option, Some, None, Result, Ok, Err, refl, sym, ap, subst, ◌∙◌}
-use Rattle.std.proofs.Common.{append_assoc, append-nil, arith}
+use Rattle.std.proofs.Common.{append_assoc, append-nil, arith, String}
 use Rattle.std.specs.Prelude.{is_some, if◌then◌else◌, string_bytes}
 use Rattle.std.proofs.lemmas.Bool.{eq-eqb}
 use Rattle.std.proofs.lemmas.Bool.Decides.{nat_tests}
@@ -208,16 +209,17 @@ module _ (asked : TextAsked) where
           → answer_by o at
           (held_answer (held terms asked.uri (calls (heard_events (first ++ here ∷ [])))))
           ≡ Some answer → AnswersText limits log asked.number asked.uri answer
-      answers (Some v) at answer no is gives =
+      answers (Some v) at answer own is gives =
           let same : missing_answer v ≡ answer = cc gives in
           subst (AnswersText limits log asked.number asked.uri) same
           (text_ended limits asked.number asked.uri (heard_events first) v waits.1 log
           (told_at limits log p.format p.records p.heard p.tail p.told first later here are waits.0 v
-          no))
-      answers None true answer no is gives =
-          let same = cc gives in
-          subst (AnswersText limits log asked.number asked.uri) same (reached no is)
-      answers None false answer no is gives = absurd (cc gives)
+          own))
+      answers None true answer own is gives =
+          let same : held_answer (held terms asked.uri (calls (heard_events (first ++ here ∷ []))))
+          ≡ answer = cc gives in
+          subst (AnswersText limits log asked.number asked.uri) same (reached own is)
+      answers None false answer _ _ gives = absurd (cc gives)
 
     is_text : IsText (λ l. AnswersText limits l asked.number asked.uri) log out outcome
     is_text = by_end p.is
@@ -260,7 +262,7 @@ module _ (asked : TextAsked) where
 
 -- ---- the text that was written is the answer
 
-pub answer_is : (answer : TextAnswer) (outcome : Outcome) (text : String) → EndsAs answer outcome
+pub answer_is : (answer : TextAnswer) (outcome : Outcome) (text : String Global) → EndsAs answer outcome
     → string_bytes text ≡ written_of answer → given_as outcome (string_bytes text) ≡ answer
 answer_is (text_is t) outcome text ends is =
     ap (λ (o : Outcome). given_as o (string_bytes text)) ends
@@ -292,6 +294,17 @@ module _ (limits : Bounds) (start now old new : Told) (Answers : List ℕ → Te
             t.answers) due,
         w.counts.source_failures,
       )
+
+  -- memory was refused for it
+  pub text_refused : (outcome : Outcome)
+      → WritesText limits (ports start now old new) Answers (Ok outcome)
+      → FindsText limits start now Answers (Err faults.Memory)
+  text_refused outcome w = record {
+    of_read = read_map limits start now (λ log. IsText Answers log w.written.0 outcome)
+        (λ log. Unit {0}) (λ log t. tt) w.written.2;
+    failures = w.counts.source_failures;
+    unwritten = λ same. absurd (cc same);
+  }
 
   pub text_broke : (fault given : RunFault)
       → WritesText limits (ports start now old new) Answers (Err fault)

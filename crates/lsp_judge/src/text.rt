@@ -1,8 +1,9 @@
 //! The text that is held after a message of the editor's.
-ghost use Rattle.std.specs.Prelude.{◌≡◌, ◌<◌, string_bytes};
+ghost use Rattle.std.specs.Prelude.{◌≡◌, ◌<◌, ℕ, IfOk, string_bytes};
 ghost use Rattle.lsp_judge.specs.TextRun.{IsOpen, given_as, text_run};
 ghost use Rattle.lsp_replay.specs.TextAnswers.{FindsText, TextAsked, WritesText, answer_view};
 ghost use Rattle.lsp_verdict.specs.Ports.{ports};
+ghost use Rattle.lsp_verdict.specs.RunIo.{failures_after};
 ghost use Rattle.lsp_verdict.specs.TextAfter.{AnswersText};
 
 use crate::ending::verdict_at;
@@ -37,12 +38,10 @@ pub fn text_after<R: Source>(
     let mut bytes = Vec::new(alloc);
     match run_text(alloc, reader, &mut Output::new(&mut bytes), limits, number, uri) {
         Ok(outcome) => {
-            let text = String::from_utf8(bytes).map_err(|_| RunFault::Memory)?;
+            let text = text_of(bytes)?;
             Ok(answer_of(outcome, text))
         }
-        // Memory was refused to the bytes.
-        Err(RunFault::Write) => Err(RunFault::Memory),
-        Err(fault) => Err(fault),
+        Err(fault) => Err(in_memory(fault)),
     }
 }
 
@@ -66,6 +65,24 @@ pub fn run_text<R: Source, W: Sink>(
 {
     let mut account = TextHeld { number, uri };
     pass(alloc, reader, writer, limits, &mut account)
+}
+
+/// The fault of a run that writes into memory, of which more was refused where a write failed.
+fn in_memory(fault: RunFault) -> RunFault
+    ensures source { (n : ℕ) → failures_after fault n ≡ failures_after result n }
+    ensures unwritten { result ≡ RunFault.Write → ⊥ }
+{
+    match fault {
+        RunFault::Read => RunFault::Read,
+        RunFault::Write | RunFault::Memory => RunFault::Memory,
+    }
+}
+
+/// The text that these bytes are.
+fn text_of(bytes: Vec<u8>) -> Result<String, Memory>
+    ensures { IfOk result (λ text. string_bytes text ≡ bytes.items) }
+{
+    String::from_utf8(bytes).map_err(|_| Memory)
 }
 
 /// The answer of a run that ended so and wrote this.
