@@ -21,6 +21,10 @@ use Rattle.lsp_verdict.specs.declared.completeness.Completeness.TheVariants.{Ign
 use Rattle.lsp_explain.specs.declared.compared.ComparedText.{ComparedText}
 use Rattle.lsp_explain.specs.declared.compared.ComparedText.TheVariants.{ByMessages, InEditor}
 
+-- what is asked of the run
+abbrev pub ComparedAsked : Type 0
+ComparedAsked = ComparedText
+
 abbrev pub one_of : ComparedText → TwoTexts → Text
 one_of ByMessages texts = texts.by_messages
 one_of InEditor texts = texts.in_editor

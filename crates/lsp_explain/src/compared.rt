@@ -1,5 +1,5 @@
 //! The whole texts of a verdict that says that two texts differ.
-ghost use Rattle.std.specs.Prelude.{◌≡◌, None, IfOk, option_map};
+ghost use Rattle.std.specs.Prelude.{◌≡◌, List, None, IfOk, option_map};
 ghost use Rattle.lsp_docs.specs.Terms.{Terms};
 ghost use Rattle.lsp_facts.specs.TwoTexts.{texts_at, texts_view};
 ghost use Rattle.lsp_replay.specs.LogEvents.{flaw_of};
@@ -10,7 +10,8 @@ ghost use Rattle.lsp_verdict.specs.Heard.{Heard, heard_events};
 ghost use Rattle.lsp_verdict.specs.Ports.{ports};
 ghost use Rattle.lsp_verdict.specs.Verdict.{bad_log_of, first_no};
 ghost use Rattle.lsp_explain.specs.Compared as spec;
-ghost use Rattle.lsp_explain.specs.Compared.{AnswersCompared, compared_run, sound_answer};
+ghost use Rattle.lsp_explain.specs.Compared.{AnswersCompared, ComparedAsked, compared_run};
+ghost use Rattle.lsp_explain.specs.Compared.{sound_answer};
 
 use lsp_facts::{TwoTexts, message_texts, shown_texts};
 use lsp_frame::{Limits, Sink, Source};
@@ -56,7 +57,7 @@ struct OneText {
 }
 
 impl Account for OneText {
-    ghost Asked = { spec.ComparedText };
+    ghost Asked = { ComparedAsked };
 
     ghost asked = { λ account. account.which };
 

@@ -57,7 +57,7 @@ pub(crate) fn push_offence(
         (variants.Offence raw.entry offence.now.rule spoken.entry) terms before h
         → (offence_view offence.now).no
         ≡ no_by (heard_events before) h.note.event offence.now.rule
-        → TellsOf cause_lines terms before h offence.now.rule (ShowsFault raw.entry)
+        → TellsOf terms before h offence.now.rule (ShowsFault raw.entry)
         (string_bytes text.old) (string_bytes text.new)) }
 {
     push_report(alloc, text, offence)?;

@@ -176,9 +176,9 @@ pub kept_on : (terms : Terms) (notes : List Noted) (n : Noted) (said : Option Ca
     → new.unheard ≡ old.unheard
     → Leaves None (option_and_then brought_by n.malformed) false said old.documents.map.entries
     new.documents.map.entries → AreLosses terms new (notes ++ n ∷ [])
-kept_on terms notes n said old new losses rule_is said_is broken sides passed unheard noted =
+kept_on terms notes n said old new losses rule_is said_is same sides passed unheard noted =
     losses_on terms notes n None said old new losses rule_is said_is (record {
-      is_broken = broken ∙ or_false old.handshake;
+      is_broken = same ∙ or_false old.handshake;
       sides = sides;
       passed = kept_passes n.event n.malformed old.passed new.passed passed;
       unheard = unheard ∙ or_false old.unheard;
@@ -342,7 +342,7 @@ unread_lost side bytes terms before h m d c rule late old new losses offends mal
     fault_is (message sent) is reads breaks = absurd (offends.speaks sent is)
     fault_is (fault by code) is reads breaks =
         let code_is : code ≡ rule = cc breaks in
-        ap (λ (s : Side). fault s code) (sym reads.0) ∙ ap (fault side) code_is
+        ap (λ (s : Side). fault s code) reads.0 ∙ ap (fault side) code_is
     fault_is (snapshot uri number text) is reads breaks = absurd reads
 
 -- a fault of the frames

@@ -8,6 +8,7 @@ use Rattle.lsp_docs.specs.Terms.{Terms}
 use Rattle.lsp_replay.specs.Telling.{Says}
 use Rattle.lsp_replay.specs.TextAnswers.{TextAsked, is_reached}
 use Rattle.lsp_replay.specs.declared.seen.Flow.TheVariants.{GoOn, Stop}
+use Rattle.lsp_replay.proofs.PassEnds.{Boxed}
 use Rattle.lsp_replay.proofs.Reached.{still_few}
 use Rattle.lsp_replay.proofs.Seeing.{events-push}
 use Rattle.lsp_types.specs.declared.side.Side.TheVariants.{Editor}
@@ -16,7 +17,6 @@ use Rattle.lsp_verdict.specs.Heard.{Heard, Rests, heard_events}
 use Rattle.lsp_verdict.specs.Shown.{TextAnswer}
 use Rattle.lsp_verdict.specs.TextAfter.{EndsAs, written_of}
 use Rattle.lsp_verdict.specs.Verdict.{count_of, is_of}
-use Rattle.lsp_verdict.specs.declared.outcome.Outcome.{Outcome}
 
 unequal : (m n : ℕ) → (m ≡ n → ⊥) → (m == n) ≡ false
 unequal m n other = grind (arith, nat_tests, other)
@@ -27,19 +27,19 @@ module _ (asked : TextAsked) (terms : Terms) (before : List Heard) (h : Heard)
   on = before ++ h ∷ []
 
   -- the message is this one
-  pub says_held : (new : List ℕ) (answer : TextAnswer) (outcome : Outcome) (Stands : Type 0)
+  pub says_held : (new : List ℕ) (answer : TextAnswer) (boxed : Boxed) (Stands : Type 0)
       → count_of (is_of Editor) (heard_events on) ≡ asked.number
       → answer ≡ answer_after terms asked.uri on → new ≡ old ++ written_of answer
-      → EndsAs answer outcome
-      → Says (text_all_run asked) terms before h Fits old new Stands (Stop outcome)
-  says_held new answer outcome Stands reached is added ends =
+      → EndsAs answer boxed.value
+      → Says (text_all_run asked) terms before h Fits old new Stands (Stop boxed)
+  says_held new answer boxed Stands reached is added ends =
       let at : is_reached asked.number before h ≡ true = eq-eqb _ _ reached in
       record {
         said = written_of answer;
         added = added;
         is = λ rests fits. ap written_of is
             ∙ sym (ap (λ b. if b then written_of (answer_after terms asked.uri on) else []) at);
-        goes = (at, subst (λ (a : TextAnswer). EndsAs a outcome) is ends);
+        goes = (at, subst (λ (a : TextAnswer). EndsAs a boxed.value) is ends);
       }
 
   -- it is still to come

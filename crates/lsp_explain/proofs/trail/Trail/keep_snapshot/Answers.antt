@@ -1,6 +1,7 @@
 use Rattle.std.proofs.Common.{ap, refl, subst, sym}
 use Rattle.std.proofs.lemmas.Int.{to_z-of_z}
 use Rattle.std.proofs.lemmas.Result.{on_ok_weaker}
+use mir.Val.{SFits}
 use Rattle.lsp_replay.proofs.Seeing.{events-push}
 use Rattle.lsp_verdict.specs.Counting.{AreCounts}
 use Rattle.lsp_verdict.specs.Heard.{heard_events}
@@ -10,6 +11,7 @@ use Rattle.lsp_explain.proofs.trail.Trail.keep_snapshot.Goals as goal
 
 pub returns : goal.returns
 returns c =
+    let fits : SFits w32 c.args.version = c.ranges.version in
     let kept = simp to_z-of_z at c.keep_snapshot-2.ensures in
     on_ok_weaker c.keep_snapshot-2.result (λ shown terms before h text is stood rule own answers.
     let place = c.last-place.ensures (heard_events before) h.note.event

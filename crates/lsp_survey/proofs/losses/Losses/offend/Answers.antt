@@ -15,5 +15,6 @@ returns-in-Broken c =
 pub returns-in-Snapshot : goal.returns-in-Snapshot
 returns-in-Snapshot c = rw c.in-Snapshot.is (IfOk-weaker c.offend_shown.result _ _
     (λ late told terms before h losses offends.
-    shown_lost _ _ _ terms before h _ _ _ c.args.rule _ late _ _ losses offends told)
+    shown_lost _ c.in-Snapshot.uri.now _ terms before h _ _ _ c.args.rule _ late c.args.self.now
+    c.offend_shown.new.self losses offends told)
     c.offend_shown.ensures)

@@ -11,18 +11,21 @@ use Rattle.lsp_verdict.specs.Placed.{Raw}
 use Rattle.lsp_survey.proofs.survey.SurveyAccount.event.Goals as goal
 
 -- it is kept
-pub returns-in_ok-show-in_default-clause-says : goal.returns-in_ok-show-in_default-clause-says
-returns-in_ok-show-in_default-clause-says c = λ terms before h stands seen.
-    let old = c.args.self.now in
-    let told = c.in_ok-follows.ensures terms before h stands.losses seen in
-    let rule = kept_seen terms before h c.args.seen c.in_default.not-Offence seen.as_is in
-    record {
-      said = event_said old.options terms before h;
-      added = c.in_ok-show-in_default.ensures terms before h seen rule
-          ∙ ap (λ w. string_bytes c.args.text.now ++ w) (kept_said terms before h old.options rule);
-      is = λ rests fits. refl;
-      goes = (refl, kept_stands terms before h old _ _ stands told rule refl);
-    }
+pub returns-in_default : goal.returns-in_default
+returns-in_default c = record {
+  asked = refl;
+  says = λ terms before h stands seen.
+      let old = c.args.self.now in
+      let told = c.in_ok-follows.ensures terms before h stands.losses seen in
+      let rule = kept_seen terms before h c.args.seen c.in_default.not-Offence seen.as_is in
+      record {
+        said = event_said old.options terms before h;
+        added = c.in_ok-show.ensures terms before h seen rule
+            ∙ ap (λ w. string_bytes c.args.text.now ++ w) (kept_said terms before h old.options rule);
+        is = λ rests fits. refl;
+        goes = (refl, kept_stands terms before h old _ _ stands told rule refl);
+      };
+}
 
 -- it offends
 pub returns-clause-says : goal.returns-clause-says

@@ -7,14 +7,16 @@ use Rattle.lsp_verdict.specs.Verdict.{bad_log_of}
 use Rattle.lsp_survey.proofs.text.HeldTextAccount.end.Goals as goal
 
 pub returns : goal.returns
-returns c = λ terms heard few stood small.
-    record {
-      said = written_of (answer_view c.missing.result);
-      added = c.in_ok-outcome.ensures.0;
-      is = λ tail fits.
-          let same = c.missing.ensures ∙ ap (λ f. end_answer (bad_log_of f)) (sym fits.fault) in (
-            ap written_of same,
-            subst (λ (a : TextAnswer). EndsAs a c.in_ok-outcome.outcome) same
-                c.in_ok-outcome.ensures.1,
-          );
-    }
+returns c = record {
+  closes = λ terms heard few stood small.
+      record {
+        said = written_of (answer_view c.missing.result);
+        added = c.in_ok-outcome.ensures.0;
+        is = λ tail fits.
+            let same = c.missing.ensures ∙ ap (λ f. end_answer (bad_log_of f)) (sym fits.fault) in (
+              ap written_of same,
+              subst (λ (a : TextAnswer). EndsAs a c.in_ok-outcome.outcome) same
+                  c.in_ok-outcome.ensures.1,
+            );
+      };
+}
