@@ -17,25 +17,25 @@ use Rattle.lsp_replay.specs.declared.log_events.End.{End}
 use Rattle.lsp_replay.specs.declared.log_events.LogEvents.{LogEvents}
 use Rattle.lsp_replay.specs.Streams as frames
 use Rattle.lsp_replay.specs.Streams.{ends_inside}
-use Rattle.lsp_verdict.specs.Complete.{IsFinalBy, completed, lack_of}
+use Rattle.lsp_verdict.specs.Complete.{IsFinalBy, completed}
 use Rattle.lsp_verdict.specs.Event.{Event, sent_in}
 use Rattle.lsp_verdict.specs.Given.{summary_view, as_given}
 use Rattle.lsp_verdict.specs.Outcome.{IsFinal, is_rest}
-use Rattle.lsp_judge.specs.Ending.{closed_by, end_by, lack_by}
+use Rattle.lsp_judge.specs.Ending.{closed_by, end_by, end_rule, ends_with}
 use Rattle.lsp_judge.specs.JudgingRun.{completed_by}
-use Rattle.lsp_judge.specs.Rulings.{verdict_in, RestIs}
+use Rattle.lsp_judge.specs.Rulings.{verdict_in}
 use Rattle.lsp_replay.specs.Standing.{Follows}
 use Rattle.lsp_judge.specs.Heard.{HasHeard}
 use Rattle.lsp_judge.specs.Standing.{State, HasOffence, Stands}
 use Rattle.lsp_verdict.specs.Placed.{Raw, IsSession}
 use Rattle.lsp_verdict.specs.Verdict.{Verdict, yes, bad_log, bad_log_of, first_no, no_next}
-use Rattle.lsp_verdict.specs.Verdict.{rest_of}
-use Rattle.lsp_verdict.specs.Verdict.{summary, verdict}
+use Rattle.lsp_verdict.specs.Verdict.{rest_of, summary, verdict}
 use Rattle.lsp_verdict.specs.declared.counts.Counts.{Counts}
 use Rattle.lsp_verdict.specs.declared.completeness.Completeness.{Completeness}
 use Rattle.lsp_verdict.specs.declared.completeness.Completeness.TheVariants.{Ignored, Required}
 use Rattle.lsp_verdict.specs.declared.verdict.Summary as code
 use Rattle.lsp_judge.specs.declared.ruling.Ruling.{Ruling}
+use Rattle.lsp_verdict.specs.declared.verdict.Who.{Who}
 use Rattle.lsp_verdict.specs.declared.verdict.Who.TheVariants as who
 use Rattle.lsp_verdict.proofs.Completing.{completed_other}
 use Rattle.lsp_verdict.proofs.Logs.{final_more}
@@ -110,7 +110,13 @@ ends_complete : (terms : Terms) (es : List Event) (editor server : Bool)
     ≡ end_by Required terms es editor server
 ends_complete terms es true server = refl
 ends_complete terms es false true = refl
-ends_complete terms es false false = refl
+ends_complete terms es false false = by_lack (incomplete (sent_in es))
+  where
+    by_lack : (o : Option ℕ)
+        → unwrap_or (option_map (λ rule. no_next rule who.Editor es) o) (yes (summary terms es))
+        ≡ ends_with terms es (option_map (λ rule. (rule, who.Editor)) o)
+    by_lack None = refl
+    by_lack (Some rule) = refl
 
 -- whether or not the session has to be complete
 pub by_end : (completeness : Completeness) (terms : Terms) (es : List Event) (editor server : Bool)
@@ -254,67 +260,17 @@ sound_closed completeness terms events e end given sound is =
     (end_by completeness terms events (ends_inside e.streams.editor)
     (ends_inside e.streams.server)))) sound)
 
-pub editor_rest : (events : List Event) (editor server : Bool) (ruling : Ruling) → true ≡ editor
-    → verdict_in ruling ≡ Some (as_given (no_next 107 who.Editor events))
-    → RestIs (Some ruling) (rest_of events editor server)
-editor_rest events editor server ruling e told =
-    (no_next 107 who.Editor events, ap (λ b. rest_of events b server) (sym e), told)
-
-pub server_rest : (events : List Event) (editor server : Bool) (ruling : Ruling) → false ≡ editor
-    → true ≡ server → verdict_in ruling ≡ Some (as_given (no_next 107 who.Server events))
-    → RestIs (Some ruling) (rest_of events editor server)
-server_rest events editor server ruling e f told = (
-  no_next 107 who.Server events,
-  ap (λ b. rest_of events b server) (sym e) ∙ ap (rest_of events false) (sym f),
-  told,
-)
-
-pub no_rest : (events : List Event) (editor server : Bool) → false ≡ editor → false ≡ server
-    → RestIs None (rest_of events editor server)
-no_rest events editor server e f =
-    ap (λ b. rest_of events b server) (sym e) ∙ ap (rest_of events false) (sym f)
-
-pub lacks_some : (events : List Event) (rule : ℕ) (ruling : Ruling)
-    → Some rule ≡ incomplete (sent_in events)
-    → verdict_in ruling ≡ Some (as_given (no_next rule who.Editor events))
-    → RestIs (Some ruling) (lack_of events)
-lacks_some events rule ruling is named = (
-  no_next rule who.Editor events,
-  ap (option_map (λ r. no_next r who.Editor events)) (sym is),
-  named,
-)
-
--- a refusal, or else what comes next
-refused_by : (ruling : Ruling) (given w : Verdict) → verdict_in ruling ≡ Some (as_given given)
-    → given ≡ w → IfSome (verdict_in ruling) (λ said. said ≡ as_given w)
-refused_by ruling given w is same =
-    subst (λ o. IfSome o (λ said. said ≡ as_given w)) (sym is) (ap as_given same)
-
 module _ (completeness : Completeness) (terms : Terms) (events : List Event) (editor server : Bool)
-  where
-    pub rest_ends : (ruling : Ruling) → RestIs (Some ruling) (rest_of events editor server)
-        → IfSome (verdict_in ruling)
-        (λ said. said ≡ as_given (end_by completeness terms events editor server))
-    rest_ends ruling (v, is, named) =
-        refused_by ruling v (end_by completeness terms events editor server) named
-        (ap (λ o. unwrap_or (option_or o (lack_by completeness events))
-        (yes (summary terms events))) (sym is))
+    (o : Option (ℕ × Who)) (is : o ≡ end_rule completeness events editor server) where
+  pub no_ends : (rule : ℕ) (by : Who) (ruling : Ruling) → o ≡ Some (rule, by)
+      → verdict_in ruling ≡ Some (as_given (no_next rule by events))
+      → IfSome (verdict_in ruling)
+      (λ said. said ≡ as_given (end_by completeness terms events editor server))
+  no_ends rule by ruling some named = subst (λ w. IfSome w
+      (λ said. said ≡ as_given (end_by completeness terms events editor server))) (sym named)
+      (ap (λ w. as_given (ends_with terms events w)) (sym some ∙ is))
 
-    pub lack_ends : (ruling : Ruling) → RestIs None (rest_of events editor server)
-        → RestIs (Some ruling) (lack_by completeness events)
-        → IfSome (verdict_in ruling)
-        (λ said. said ≡ as_given (end_by completeness terms events editor server))
-    lack_ends ruling none (v, is, named) =
-        refused_by ruling v (end_by completeness terms events editor server) named
-        (sym (ap (λ o. unwrap_or (option_or o (lack_by completeness events))
-        (yes (summary terms events))) none
-        ∙ ap (λ o. unwrap_or o (yes (summary terms events))) is))
-
-    pub yes_ends : (s : code.Summary) → RestIs None (rest_of events editor server)
-        → RestIs None (lack_by completeness events)
-        → yes (summary_view s) ≡ as_given (yes (summary terms events))
-        → yes (summary_view s) ≡ as_given (end_by completeness terms events editor server)
-    yes_ends s none whole told =
-        told ∙ ap as_given (sym (ap (λ o. unwrap_or (option_or o (lack_by completeness events))
-        (yes (summary terms events))) none
-        ∙ ap (λ o. unwrap_or o (yes (summary terms events))) whole))
+  pub yes_ends : (s : code.Summary) → o ≡ None
+      → yes (summary_view s) ≡ as_given (yes (summary terms events))
+      → yes (summary_view s) ≡ as_given (end_by completeness terms events editor server)
+  yes_ends s none told = told ∙ ap (λ w. as_given (ends_with terms events w)) (sym none ∙ is)

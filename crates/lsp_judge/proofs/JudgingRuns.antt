@@ -15,8 +15,8 @@ use Rattle.lsp_judge.proofs.Told.{EndsBy, ends_verdict, still_clean, told_end, t
 use Rattle.lsp_replay.specs.Passes.{AllPassed, DueAt, PartPassed, Passes}
 use Rattle.lsp_replay.specs.Run.{EndsAfter, HasSaid, IsJudged, IsPassed, SaysAll, StopsIn}
 use Rattle.lsp_replay.specs.Telling.{no_of}
-use Rattle.lsp_replay.proofs.PassEnds.{IsQuiet, cut_whole, part_begins, part_within, read_here}
-use Rattle.lsp_replay.proofs.PassEnds.{silent}
+use Rattle.lsp_replay.proofs.JudgedRuns.{IsDueOf, judged_run}
+use Rattle.lsp_replay.proofs.PassEnds.{IsQuiet, cut_whole, part_within, read_here, silent}
 use Rattle.lsp_replay.proofs.Seeing.{events-push}
 use Rattle.lsp_verdict.specs.Complete.{IsVerdictBy}
 use Rattle.lsp_verdict.specs.Event.{Event}
@@ -38,7 +38,6 @@ use Rattle.lsp_verdict.specs.declared.outcome.RunFault.{RunFault}
 use Rattle.lsp_verdict.specs.declared.outcome.RunFault.TheVariants as faults
 use Rattle.lsp_verdict.specs.declared.verdict.Verdict as code
 use Rattle.lsp_verdict.proofs.RunReading.{read_map}
-use Rattle.lsp_verdict.proofs.RunsJudged.{judged_not, judges}
 
 -- ---- what is said before the verdict
 
@@ -280,44 +279,21 @@ module _ (lines : Lines) (limits : Bounds) (sizes : IsInRange limits) (io : Port
       (sym (said_shown shows (log_terms limits h.format) h.tail.rests [] h.first (front ++ left)
       h.says)) log begins
 
-  passed_begins : (log front left : List ℕ) (outcome : Outcome)
-      → IsPassed (judging_run shows) limits log (front ++ left) outcome
-      → BeginsShown lines limits log front
-  passed_begins log front left outcome p =
-      let one = is_judged shows limits log (front ++ left) outcome p in (
-        verdict_view one.0,
-        left,
-        shown_as log (front ++ left) one.0
-            (subst (λ (o : Outcome). IsPassed (judging_run shows) limits log (front ++ left) o)
-            one.1 p),
+  passed_shown : (log out : List ℕ) (outcome : Outcome)
+      → IsPassed (judging_run shows) limits log out outcome
+      → IsDueOf (IsShown lines limits log) out outcome
+  passed_shown log out outcome p =
+      let one = is_judged shows limits log out outcome p in (
+        one.0,
+        one.1,
+        shown_as log out one.0
+            (subst (λ (o : Outcome). IsPassed (judging_run shows) limits log out o) one.1 p),
       )
-
-  shown_all : (given : code.Verdict) → AllPassed (judging_run shows) limits io.source_before
-      io.source_after io.sink_before io.sink_after (Judged given)
-      → Showed lines limits io (Ok (Judged given))
-  shown_all given a =
-      let due = read_map limits io.source_before io.source_after
-      (λ log. IsPassed (judging_run shows) limits log a.out (Judged given))
-      (λ log. IsShown lines limits log (verdict_view given) a.out)
-      (λ log p. shown_as log a.out given p) a.due in
-      judges limits sizes _ _ _ _ given
-      (read_map _ _ _ _ (λ log. IsVerdict limits log (verdict_view given))
-      (λ log shown. shown.0) due)
-      (a.out, a.wrote.took, due) (λ log s says. says) a.failures a.wrote.failures
 
   -- **what `show` answers and writes**
   pub showed : (result : Result Outcome RunFault) → Passes (judging_run shows) limits
       io.source_before io.source_after io.sink_before io.sink_after result
       → Showed lines limits io result
-  showed (Ok outcome) a =
-      let one = is_judged shows limits a.due.bytes a.out outcome (read_here limits _ _
-      (λ log. IsPassed (judging_run shows) limits log a.out outcome) a.due) in
-      subst (λ (o : Outcome). AllPassed (judging_run shows) limits io.source_before
-      io.source_after io.sink_before io.sink_after o → Showed lines limits io (Ok o)) (sym one.1)
-      (shown_all one.0) a
-  showed (Err fault) p = judged_not _ _ _ _ _ fault (
-    p.out,
-    p.took,
-    part_begins (judging_run shows) limits io.source_before io.source_after io.sink_before
-        io.sink_after fault p (BeginsShown lines limits) said_begins passed_begins,
-  ) p.source p.sink
+  showed = judged_run (judging_run shows) limits sizes (IsVerdict limits) (IsShown lines limits)
+      (BeginsShown lines limits) (λ log v out shown. shown.0) (λ log s says. says) passed_shown
+      said_begins (λ log front left v shown. (v, left, shown)) io

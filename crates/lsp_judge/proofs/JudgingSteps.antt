@@ -1,18 +1,17 @@
 -- The steps of the accounts that end with the verdict on a log.
 use Rattle.std.specs.Prelude.{◌&&◌, is_some, not, option_map, unwrap_or}
 use Rattle.std.proofs.Common.{◌≡◌, ℕ, ◌+◌, ◌<◌, ◌^◌, Bool, true, false, List, [], ◌∷◌, ◌++◌, length}
-use Rattle.std.proofs.Common.{Option, Some, None, refl, sym, ap, ◌∙◌, arith}
+use Rattle.std.proofs.Common.{Bor, Option, Some, None, refl, sym, ap, ◌∙◌, arith}
 use Rattle.std.proofs.Math.Bool.{and-true}
 use Rattle.std.proofs.lemmas.List.{length-map}
 use Rattle.lsp_docs.specs.State as docs
 use Rattle.lsp_docs.specs.Terms.{Terms}
 use Rattle.lsp_log.specs.declared.fault.LogCode.{LogCode}
-use Rattle.lsp_session.specs.Incomplete.{incomplete}
+use Rattle.lsp_rpc.specs.declared.act.Spoken.{Spoken}
 use Rattle.lsp_session.specs.State as session
-use Rattle.lsp_types.specs.declared.rules.TheConstants as rules
 use Rattle.lsp_types.specs.declared.side.Side.{Side}
 use Rattle.lsp_types.specs.declared.side.Side.TheVariants.{Editor, Server}
-use Rattle.lsp_judge.specs.Ending.{closed_by, end_by}
+use Rattle.lsp_judge.specs.Ending.{closed_by, end_by, end_rule, ends_with}
 use Rattle.lsp_judge.specs.JudgingRun.{JudgingAsked, completed_by, due_for, judging_run, said_by}
 use Rattle.lsp_judge.specs.JudgingRun.{shown_by, verdict_of}
 use Rattle.lsp_judge.proofs.Finals.{by_end, by_log}
@@ -21,28 +20,41 @@ use Rattle.lsp_replay.specs.LogEvents.{flaw_of}
 use Rattle.lsp_replay.specs.Run.{Tail}
 use Rattle.lsp_replay.specs.Standing.{Follows}
 use Rattle.lsp_replay.specs.Streams.{decoder_of, ends_inside}
-use Rattle.lsp_replay.specs.Telling.{Closes, IsEnd, Says, Stood, no_of, rule_of}
+use Rattle.lsp_replay.specs.Telling.{Closes, IsEnd, Says, SeenAs, Stood, no_of, rule_of}
 use Rattle.lsp_replay.specs.declared.log_events.End.{End}
 use Rattle.lsp_replay.specs.declared.log_events.LogEvents.{LogEvents}
 use Rattle.lsp_replay.specs.declared.seen.Flow.TheVariants.{GoOn, Stop}
+use Rattle.lsp_replay.specs.declared.seen.Seen.{Seen}
+use Rattle.lsp_replay.specs.declared.seen.Seen.TheVariants as seen
 use Rattle.lsp_replay.proofs.AllHeard.{few_events, follows_all}
-use Rattle.lsp_verdict.specs.Event.{Event, sent_in}
+use Rattle.lsp_replay.proofs.PassEnds.{Boxed}
+use Rattle.lsp_verdict.specs.Event.{Event}
 use Rattle.lsp_verdict.specs.Given.{as_given, verdict_view}
 use Rattle.lsp_verdict.specs.Heard.{Heard, Rests, heard_events, notes_of, rest_of}
 use Rattle.lsp_verdict.specs.Offences.{Noted}
 use Rattle.lsp_verdict.specs.Outcome.{ending, is_rest}
-use Rattle.lsp_verdict.specs.Verdict.{Verdict, bad_log, bad_log_of, first_no, no_by, no_next}
+use Rattle.lsp_verdict.specs.Verdict.{Verdict, bad_log, bad_log_of, first_no, no_by}
 use Rattle.lsp_verdict.specs.Verdict.{summary, verdict, whose, yes}
 use Rattle.lsp_verdict.specs.declared.completeness.Completeness.{Completeness}
 use Rattle.lsp_verdict.specs.declared.completeness.Completeness.TheVariants.{Ignored, Required}
 use Rattle.lsp_verdict.specs.declared.counts.Counts.{Counts}
 use Rattle.lsp_verdict.specs.declared.outcome.Outcome.TheVariants.{Judged}
+use Rattle.lsp_verdict.specs.declared.raw.Raw.{Raw}
 use Rattle.lsp_verdict.specs.declared.verdict.Verdict as code
-use Rattle.lsp_verdict.specs.declared.verdict.Who.TheVariants as who
+use Rattle.lsp_verdict.specs.declared.verdict.Who.{Who}
 use Rattle.lsp_verdict.proofs.ExactCounts.{no_exact, yes_exact}
 use Rattle.lsp_verdict.proofs.Offences.Offending.{no_frame_fault}
 
 -- ---- an event
+
+-- it was seen as one that does not offend
+pub kept_rule : (s : Seen) (terms : Terms) (before : List Heard) (h : Heard)
+    → ((raw : Raw) (rule : ℕ) (spoken : Option (Bor Spoken)) → s ≡ seen.Offence raw rule spoken → ⊥)
+    → SeenAs s terms before h → rule_of terms before h ≡ None
+kept_rule (seen.Message side bytes spoken) terms before h other is = is.1
+kept_rule (seen.Snapshot version uri text answer) terms before h other is = is.1
+kept_rule (seen.Offence raw rule spoken) terms before h other is =
+    absurd (other raw rule spoken refl)
 
 module _ (terms : Terms) (before : List Heard) (h : Heard) where
   abbrev no_by_rule : Option ℕ → Option Verdict
@@ -84,19 +96,20 @@ module _ (terms : Terms) (before : List Heard) (h : Heard) where
           goes = (ap is_some none, still_clean terms before h clean none);
         }
 
-    pub offence_says : (rule : ℕ) (given : code.Verdict) → rule_of terms before h ≡ Some rule
+    pub offence_says : (rule : ℕ) (given : code.Verdict) (boxed : Boxed)
+        → boxed.value ≡ Judged given → rule_of terms before h ≡ Some rule
         → length before + 1 < 2 ^ 64
         → verdict_view given ≡ as_given (no_by (heard_events before) h.note.event rule)
         → new ≡ old ++ due_for asked.name (verdict_view given)
         → Says (judging_run asked) terms before h Fits old new
-        (first_no terms (heard_events (before ++ h ∷ [])) ≡ None) (Stop (Judged given))
-    offence_says rule given is few named added =
+        (first_no terms (heard_events (before ++ h ∷ [])) ≡ None) (Stop boxed)
+    offence_says rule given boxed in_box is few named added =
         let some = given_is rule (verdict_view given) is few named in
         record {
           said = due_for asked.name (verdict_view given);
           added = added;
           is = λ rests fits. ap (said_by asked before h) (sym some);
-          goes = (ap is_some some, (verdict_view given, some, (given, refl, refl)));
+          goes = (ap is_some some, (verdict_view given, some, (given, in_box, refl)));
         }
 
 -- ---- the end
@@ -106,20 +119,13 @@ end_exact : (completeness : Completeness) (terms : Terms) (events : List Event)
     (editor server : Bool) → length events + 1 < 2 ^ 64
     → as_given (end_by completeness terms events editor server)
     ≡ end_by completeness terms events editor server
-end_exact completeness terms events true server few =
-    no_exact events rules.STREAM_ENDS_INSIDE_FRAME who.Editor few
-end_exact completeness terms events false true few =
-    no_exact events rules.STREAM_ENDS_INSIDE_FRAME who.Server few
-end_exact Ignored terms events false false few = yes_exact terms events (omega (arith, few))
-end_exact Required terms events false false few = by_lack (incomplete (sent_in events))
+end_exact completeness terms events editor server few =
+    by_rule (end_rule completeness events editor server)
   where
-    by_lack : (o : Option ℕ)
-        → as_given (unwrap_or (option_map (λ rule. no_next rule who.Editor events) o)
-        (yes (summary terms events)))
-        ≡ unwrap_or (option_map (λ rule. no_next rule who.Editor events) o)
-        (yes (summary terms events))
-    by_lack None = yes_exact terms events (omega (arith, few))
-    by_lack (Some rule) = no_exact events rule who.Editor few
+    by_rule : (o : Option (ℕ × Who))
+        → as_given (ends_with terms events o) ≡ ends_with terms events o
+    by_rule None = yes_exact terms events (omega (arith, few))
+    by_rule (Some broken) = no_exact events broken.0 broken.1 few
 
 bad_stays : (completeness : Completeness) (events : List Event) (number : ℕ) (code : LogCode)
     → bad_log number code ≡ completed_by completeness events (bad_log number code)

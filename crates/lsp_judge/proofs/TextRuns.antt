@@ -1,8 +1,9 @@
 -- What `text` answers and writes follows from what a pass does.
+use Rattle.std.specs.Global.{Global}
 use Rattle.std.specs.Io.KnownBytes.{Appends}
 use Rattle.std.proofs.Common.{◌≡◌, ◌⊎◌, ◌<◌, ◌+◌, ℕ, Bool, true, false, List, [], ◌∷◌, ◌++◌, inl, inr}
 use Rattle.std.proofs.Common.{drop, Option, Some, None, Result, Ok, Err, refl, sym, ap, subst, ◌∙◌}
-use Rattle.std.proofs.Common.{append_assoc, append-nil, arith}
+use Rattle.std.proofs.Common.{append_assoc, append-nil, arith, String}
 use Rattle.std.specs.Prelude.{is_some, if◌then◌else◌, string_bytes}
 use Rattle.std.proofs.lemmas.Bool.{eq-eqb}
 use Rattle.std.proofs.lemmas.Bool.Decides.{nat_tests}
@@ -170,12 +171,12 @@ module _ (asked : TextAsked) where
   open_after : (terms : Terms) (rests : Rests) (before hs : List Heard) (out : List ℕ)
       → SaysAll (text_run asked) terms rests before hs out → IsOpen asked.number terms before
       → IsOpen asked.number terms (before ++ hs)
-  open_after terms rests before [] out is open =
-      subst (IsOpen asked.number terms) (sym (append-nil before)) open
-  open_after terms rests before (h ∷ hs) out (said, left, is, own, goes, later) open =
+  open_after terms rests before [] out is waits =
+      subst (IsOpen asked.number terms) (sym (append-nil before)) waits
+  open_after terms rests before (h ∷ hs) out (said, left, is, own, goes, later) waits =
       subst (IsOpen asked.number terms) (append_assoc before (h ∷ []) hs)
       (open_after terms rests (before ++ h ∷ []) hs left later
-      (still_open asked terms before h (no_none (answer_at asked terms before h) goes) open))
+      (still_open asked terms before h (no_none (answer_at asked terms before h) goes) waits))
 
   module _ (positive : 0 < asked.number) (limits : Bounds) (log out : List ℕ) (outcome : Outcome)
       (p : IsPassed (text_run asked) limits log out outcome) where
@@ -184,7 +185,7 @@ module _ (asked : TextAsked) where
 
     -- the run stopped at this event, which has this answer
     module _ (first later : List Heard) (here : Heard) (are : p.heard ≡ first ++ here ∷ later)
-        (open : IsOpen asked.number terms first) where
+        (waits : IsOpen asked.number terms first) where
       told : IsTold limits log p.format p.records ((first ++ here ∷ []) ++ later) p.tail
       told = subst (λ (w : List Heard). IsTold limits log p.format p.records w p.tail)
           (are ∙ sym (append_assoc first (here ∷ []) later)) p.told
@@ -194,9 +195,9 @@ module _ (asked : TextAsked) where
           (held_answer (held terms asked.uri (calls (heard_events (first ++ here ∷ [])))))
       reached none at =
           let on = heard_events (first ++ here ∷ []) in
-          let clean = still_clean terms first here open.0 none in
+          let clean = still_clean terms first here waits.0 none in
           let count : count_of (is_of Editor) on ≡ asked.number = grind (arith, nat_tests, at) in
-          let last = reached_last asked.number (heard_events first) here.note.event open.1
+          let last = reached_last asked.number (heard_events first) here.note.event waits.1
           (ap (count_of (is_of Editor)) (sym (events-push first here)) ∙ count) in
           text_held limits p.format asked.number asked.uri on
           (ap (up_to_editor asked.number []) (events-push first here) ∙ last
@@ -208,16 +209,17 @@ module _ (asked : TextAsked) where
           → answer_by o at
           (held_answer (held terms asked.uri (calls (heard_events (first ++ here ∷ [])))))
           ≡ Some answer → AnswersText limits log asked.number asked.uri answer
-      answers (Some v) at answer no is gives =
+      answers (Some v) at answer own is gives =
           let same : missing_answer v ≡ answer = cc gives in
           subst (AnswersText limits log asked.number asked.uri) same
-          (text_ended limits asked.number asked.uri (heard_events first) v open.1 log
-          (told_at limits log p.format p.records p.heard p.tail p.told first later here are open.0 v
-          no))
-      answers None true answer no is gives =
-          let same = cc gives in
-          subst (AnswersText limits log asked.number asked.uri) same (reached no is)
-      answers None false answer no is gives = absurd (cc gives)
+          (text_ended limits asked.number asked.uri (heard_events first) v waits.1 log
+          (told_at limits log p.format p.records p.heard p.tail p.told first later here are waits.0 v
+          own))
+      answers None true answer own is gives =
+          let same : held_answer (held terms asked.uri (calls (heard_events (first ++ here ∷ []))))
+          ≡ answer = cc gives in
+          subst (AnswersText limits log asked.number asked.uri) same (reached own is)
+      answers None false answer _ _ gives = absurd (cc gives)
 
     is_text : IsText (λ l. AnswersText limits l asked.number asked.uri) log out outcome
     is_text = by_end p.is
@@ -227,10 +229,10 @@ module _ (asked : TextAsked) where
             → IsText (λ l. AnswersText limits l asked.number asked.uri) log out outcome
         by_end (inl s) =
             let (answer, is, ends) = s.stop.ends in
-            let open = open_after terms p.tail.rests [] s.first s.front s.said (refl, positive) in
+            let waits = open_after terms p.tail.rests [] s.first s.front s.said (refl, positive) in
             record {
               answer = answer;
-              answers = answers s.first s.later s.here s.are open (no_of terms s.first s.here)
+              answers = answers s.first s.later s.here s.are waits (no_of terms s.first s.here)
                   (is_reached asked.number s.first s.here) answer refl refl is;
               written = s.is ∙ ap (λ w. w ++ s.last)
                   (quiet_all (text_run asked) quiet terms p.tail.rests [] s.first s.front s.said)
@@ -238,11 +240,11 @@ module _ (asked : TextAsked) where
               ends = ends;
             }
         by_end (inr e) =
-            let open = open_after terms p.tail.rests [] p.heard e.front e.said (refl, positive) in
+            let waits = open_after terms p.tail.rests [] p.heard e.front e.said (refl, positive) in
             record {
               answer = answer_behind terms p.heard p.tail;
-              answers = text_ended limits asked.number asked.uri (heard_events p.heard) _ open.1 log
-                  (told_end limits log p.format p.records p.heard p.tail p.told Ignored open.0);
+              answers = text_ended limits asked.number asked.uri (heard_events p.heard) _ waits.1 log
+                  (told_end limits log p.format p.records p.heard p.tail p.told Ignored waits.0);
               written = e.is ∙ ap (λ w. w ++ e.last)
                   (quiet_all (text_run asked) quiet terms p.tail.rests [] p.heard e.front e.said)
                   ∙ e.closes.0;
@@ -260,7 +262,7 @@ module _ (asked : TextAsked) where
 
 -- ---- the text that was written is the answer
 
-pub answer_is : (answer : TextAnswer) (outcome : Outcome) (text : String) → EndsAs answer outcome
+pub answer_is : (answer : TextAnswer) (outcome : Outcome) (text : String Global) → EndsAs answer outcome
     → string_bytes text ≡ written_of answer → given_as outcome (string_bytes text) ≡ answer
 answer_is (text_is t) outcome text ends is =
     ap (λ (o : Outcome). given_as o (string_bytes text)) ends
@@ -292,6 +294,17 @@ module _ (limits : Bounds) (start now old new : Told) (Answers : List ℕ → Te
             t.answers) due,
         w.counts.source_failures,
       )
+
+  -- memory was refused for it
+  pub text_refused : (outcome : Outcome)
+      → WritesText limits (ports start now old new) Answers (Ok outcome)
+      → FindsText limits start now Answers (Err faults.Memory)
+  text_refused outcome w = record {
+    of_read = read_map limits start now (λ log. IsText Answers log w.written.0 outcome)
+        (λ log. Unit {0}) (λ log t. tt) w.written.2;
+    failures = w.counts.source_failures;
+    unwritten = λ same. absurd (cc same);
+  }
 
   pub text_broke : (fault given : RunFault)
       → WritesText limits (ports start now old new) Answers (Err fault)

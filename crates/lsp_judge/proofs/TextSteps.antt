@@ -19,6 +19,7 @@ use Rattle.lsp_replay.specs.Run.{Tail}
 use Rattle.lsp_replay.specs.Telling.{Closes, Says, Stood, no_of, rule_of}
 use Rattle.lsp_replay.specs.TextAnswers.{TextAsked, is_reached}
 use Rattle.lsp_replay.specs.declared.seen.Flow.TheVariants.{GoOn, Stop}
+use Rattle.lsp_replay.proofs.PassEnds.{Boxed}
 use Rattle.lsp_replay.proofs.Reached.{count_exact}
 use Rattle.lsp_verdict.specs.Calls.{calls}
 use Rattle.lsp_verdict.specs.Event.{Event}
@@ -37,7 +38,7 @@ unequal : (m n : ℕ) → (m ≡ n → ⊥) → (m == n) ≡ false
 unequal m n other = grind (arith, nat_tests, other)
 
 module _ (asked : TextAsked) (terms : Terms) (before : List Heard) (h : Heard)
-    (open : IsOpen asked.number terms before) (Fits : Rests → Type 0) (old : List ℕ) where
+    (waits : IsOpen asked.number terms before) (Fits : Rests → Type 0) (old : List ℕ) where
   abbrev on : List Heard
   on = before ++ h ∷ []
 
@@ -45,11 +46,11 @@ module _ (asked : TextAsked) (terms : Terms) (before : List Heard) (h : Heard)
   text_here = held_answer (held terms asked.uri (calls (heard_events on)))
 
   -- the run stops here with this answer
-  says_answer : (new : List ℕ) (answer : TextAnswer) (outcome : Outcome) (Stands : Type 0)
+  says_answer : (new : List ℕ) (answer : TextAnswer) (boxed : Boxed) (Stands : Type 0)
       → answer_at asked terms before h ≡ Some answer → new ≡ old ++ written_of answer
-      → EndsAs answer outcome
-      → Says (text_run asked) terms before h Fits old new Stands (Stop outcome)
-  says_answer new answer outcome Stands at added ends = record {
+      → EndsAs answer boxed.value
+      → Says (text_run asked) terms before h Fits old new Stands (Stop boxed)
+  says_answer new answer boxed Stands at added ends = record {
     said = written_of answer;
     added = added;
     is = λ rests fits. ap said_of (sym at);
@@ -58,13 +59,13 @@ module _ (asked : TextAsked) (terms : Terms) (before : List Heard) (h : Heard)
 
   -- the event offends
   pub says_missing : (rule : ℕ) (given : Verdict) (new : List ℕ) (answer : TextAnswer)
-      (outcome : Outcome) (Stands : Type 0) → rule_of terms before h ≡ Some rule
+      (boxed : Boxed) (Stands : Type 0) → rule_of terms before h ≡ Some rule
       → length before + 1 < 2 ^ 64
       → given ≡ as_given (no_by (heard_events before) h.note.event rule)
-      → answer ≡ missing_answer given → new ≡ old ++ written_of answer → EndsAs answer outcome
-      → Says (text_run asked) terms before h Fits old new Stands (Stop outcome)
-  says_missing rule given new answer outcome Stands is few named missing added ends =
-      says_answer new answer outcome Stands
+      → answer ≡ missing_answer given → new ≡ old ++ written_of answer → EndsAs answer boxed.value
+      → Says (text_run asked) terms before h Fits old new Stands (Stop boxed)
+  says_missing rule given new answer boxed Stands is few named missing added ends =
+      says_answer new answer boxed Stands
       (ap (λ o. answer_by o (is_reached asked.number before h) text_here)
       (given_is terms before h rule given is few named) ∙ ap Some (sym missing)) added ends
 
@@ -75,21 +76,21 @@ module _ (asked : TextAsked) (terms : Terms) (before : List Heard) (h : Heard)
     none = none_is terms before h kept
 
     -- and the message
-    pub says_held : (new : List ℕ) (answer : TextAnswer) (outcome : Outcome) (Stands : Type 0)
+    pub says_held : (new : List ℕ) (answer : TextAnswer) (boxed : Boxed) (Stands : Type 0)
         → c.editor ≡ asked.number
         → ((made : List Call) → docs.Stands d made
         → answer ≡ held_answer (held d.terms asked.uri made))
-        → new ≡ old ++ written_of answer → EndsAs answer outcome
-        → Says (text_run asked) terms before h Fits old new Stands (Stop outcome)
-    says_held new answer outcome Stands reached told added ends =
+        → new ≡ old ++ written_of answer → EndsAs answer boxed.value
+        → Says (text_run asked) terms before h Fits old new Stands (Stop boxed)
+    says_held new answer boxed Stands reached told added ends =
         let at : is_reached asked.number before h ≡ true =
         eq-eqb _ _ (sym (count_exact c before h stood.counted few) ∙ reached) in
         let is : answer ≡ text_here = told _ stood.holds.called
         ∙ ap (λ (t : Terms). held_answer (held t asked.uri (calls (kept_of terms
         (heard_events on))))) stood.by
         ∙ ap (λ es. held_answer (held terms asked.uri (calls es)))
-        (all_are_kept terms (heard_events on) (still_clean terms before h open.0 none)) in
-        says_answer new answer outcome Stands
+        (all_are_kept terms (heard_events on) (still_clean terms before h waits.0 none)) in
+        says_answer new answer boxed Stands
         (ap (λ o. answer_by o (is_reached asked.number before h) text_here) none
         ∙ ap (λ b. answer_by None b text_here) at ∙ ap Some (sym is)) added ends
 
@@ -106,7 +107,7 @@ module _ (asked : TextAsked) (terms : Terms) (before : List Heard) (h : Heard)
           said = [];
           added = sym (append-nil old);
           is = λ rests fits. ap said_of (sym at);
-          goes = (ap is_some at, still_open asked terms before h at open);
+          goes = (ap is_some at, still_open asked terms before h at waits);
         }
 
 -- the message did not come

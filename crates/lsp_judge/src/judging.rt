@@ -74,6 +74,7 @@ impl Account for Judging<'_> {
 
     ghost stands = { λ account terms heard. first_no terms (heard_events heard) ≡ None };
 
+    #[inline(always)]
     fn event(
         &mut self,
         alloc: Global,

@@ -305,6 +305,8 @@ fn see_shown<A: Account>(
 }
 
 /// Counts an event that breaks this rule, and adds what an account says of it.
+#[cold]
+#[inline(never)]
 fn skip<A: Account>(
     alloc: Global,
     held: &mut Events<Lined>,

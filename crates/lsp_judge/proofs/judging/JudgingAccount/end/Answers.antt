@@ -2,7 +2,9 @@ use Rattle.std.proofs.Common.{refl}
 use Rattle.lsp_judge.proofs.JudgingSteps.{verdict_closes}
 use Rattle.lsp_judge.proofs.judging.JudgingAccount.end.Goals as goal
 
-pub returns-in_ok-say : goal.returns-in_ok-say
-returns-in_ok-say c = λ terms heard clean stood few.
-    verdict_closes _ terms heard _ _ _ _ _ _ stood few clean c.in_ok-verdict.ensures _ _ _ refl
-    c.in_ok-say.ensures
+pub returns : goal.returns
+returns c = record {
+  closes = λ terms heard clean stood few.
+      verdict_closes _ terms heard _ _ _ _ _ _ stood few clean c.in_ok-verdict.ensures _ _ _ refl
+      c.in_ok-say.ensures;
+}
