@@ -181,6 +181,9 @@ fn pull_fresh<'a, R: Read>(
         ≡ take 32 (first_bytes input.old ++ appended_bytes buffer.old.items buffer.new.items)) }
     ensures same_first { OnErr result (first_bytes input.new ≡ first_bytes input.old) }
 {
+    // The kit's readers only fill bytes that are there, and what they say after `fill_buf` does not
+    // tell where an unknown input ends. So the bytes are zeroed first. They are few, since the
+    // reader reads the next 64 KB ahead in the same call.
     let start = buffer.len();
     buffer.resize(start + most.min(PIECE), 0).unwrap();
     let answer = input.pull(&mut buffer[start..]);

@@ -306,6 +306,9 @@ impl Decoder {
         if self.fault.is_some() {
             return Ok(0);
         }
+        // The buffer keeps its length, so that nothing is zeroed before the source fills it, and
+        // in a stream of frames only the unfinished frame at the end of a piece is moved. The input
+        // of such a stream reads nothing ahead: that would copy every piece once more.
         make_room(&mut self.buffer, self.start, self.end, most as usize)?;
         self.end -= self.start;
         self.start = 0;
@@ -355,6 +358,7 @@ impl Decoder {
         requires { Misses self.old missing }
         ensures { Passes self.old self.new (R.told source.old) (R.told source.new) missing result }
     {
+        // Over the bytes of frames already given, nothing has to be moved.
         if missing.bytes.min(WINDOW) <= self.start {
             return self.pass_in_front(source, missing);
         }
