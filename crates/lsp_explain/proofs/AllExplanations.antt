@@ -10,6 +10,7 @@ use Rattle.lsp_frame.specs.Bounds.{Bounds, IsInRange}
 use Rattle.lsp_replay.specs.Passes.{Passes}
 use Rattle.lsp_replay.specs.Run.{EndsAfter, HasSaid, IsPassed, SaysAll, StopsIn}
 use Rattle.lsp_replay.proofs.JudgedRuns.{IsDueOf, judged_run}
+use Rattle.lsp_survey.specs.SessionEnds.{all_found, ends_of}
 use Rattle.lsp_verdict.specs.Complete.{IsVerdictBy}
 use Rattle.lsp_verdict.specs.Heard.{Heard, Rests, heard_events, raws_of}
 use Rattle.lsp_verdict.specs.LookBack.{each_from}
@@ -24,7 +25,7 @@ use Rattle.lsp_verdict.proofs.LookBackLemmas.{cons_append}
 use Rattle.lsp_verdict.proofs.RunsJudged.{plain_by}
 use Rattle.lsp_explain.specs.AllExplained.{AreFirstSaid, BeginsAllExplained, ExplainsAll}
 use Rattle.lsp_explain.specs.AllExplained.{IsAllExplained, all_closing, cause_lines, causes, is_cause}
-use Rattle.lsp_explain.specs.ExplainRuns.{all_found, all_run, cause_at, ends_of, ends_said}
+use Rattle.lsp_explain.specs.ExplainRuns.{all_run, cause_at, ends_said}
 use Rattle.lsp_explain.specs.ExplainRuns.{flaw_at}
 use Rattle.lsp_explain.specs.Explained.{Breach, Explained, Explains, breach_at}
 use Rattle.lsp_explain.proofs.Explaining.{noted_front, raws-append}

@@ -11,8 +11,6 @@ use Rattle.lsp_log.specs.Reader.{shown_by}
 use Rattle.lsp_log.specs.declared.fault.LogCode.{LogCode}
 use Rattle.lsp_replay.specs.LogEvents.{flaw_of}
 use Rattle.lsp_replay.specs.Run.{Tail}
-use Rattle.lsp_replay.specs.Streams as streams
-use Rattle.lsp_replay.specs.Streams.{decoder_of}
 use Rattle.lsp_replay.specs.Telling.{Closes, IsEnd}
 use Rattle.lsp_replay.specs.declared.log_events.End.{End}
 use Rattle.lsp_replay.specs.declared.log_events.LogEvents.{LogEvents}
@@ -23,6 +21,8 @@ use Rattle.lsp_session.specs.Requests.{open_requests}
 use Rattle.lsp_session.specs.Sent.{is_exit}
 use Rattle.lsp_explain.specs.Asking.{Numbered, numbered}
 use Rattle.lsp_survey.specs.Reported.{count_line, verdict_lines}
+use Rattle.lsp_survey.proofs.SessionEnds.{ends_fit}
+use Rattle.lsp_survey.specs.SessionEnds.{all_found, all_verdict, ends_held, ends_of}
 use Rattle.lsp_types.specs.declared.side.Side.TheVariants.{Editor, Server}
 use Rattle.lsp_verdict.specs.Event.{Event, sent_in}
 use Rattle.lsp_verdict.specs.Given.{offence_view, verdict_view}
@@ -42,10 +42,10 @@ use Rattle.lsp_verdict.specs.declared.verdict.Who.TheVariants as who
 use Rattle.lsp_verdict.proofs.ByIndex.{map_one}
 use Rattle.lsp_facts.specs.Fact.{Fact}
 use Rattle.lsp_facts.specs.FlawFacts.{flaw_facts}
-use Rattle.lsp_explain.specs.Accounts.{ends_told, flaw_held, rests_held}
+use Rattle.lsp_explain.specs.Accounts.{flaw_held, rests_held}
 use Rattle.lsp_explain.specs.AllExplained.{all_closing, cause_lines}
-use Rattle.lsp_explain.specs.ExplainRuns.{all_found, all_run, all_verdict}
-use Rattle.lsp_explain.specs.ExplainRuns.{end_verdict, ends_of, ends_said}
+use Rattle.lsp_explain.specs.ExplainRuns.{all_run}
+use Rattle.lsp_explain.specs.ExplainRuns.{end_verdict, ends_said}
 use Rattle.lsp_explain.specs.ExplainRuns.{explain_run, flaw_at}
 use Rattle.lsp_explain.specs.Explained.{Explained, end_explained, explanation, flaw_lines, said_of}
 use Rattle.lsp_explain.specs.Remarks.{noticed, remark_lines, remarks_of}
@@ -134,7 +134,7 @@ module _ (completeness : Completeness) (terms : Terms) (heard : List Heard) (e :
   all = heard_events heard
 
   abbrev told : List Verdict
-  told = ends_told completeness terms heard e end
+  told = ends_held completeness terms heard e end
 
   module _ (tail : Tail) (fits : IsEnd e end heard tail) where
     abbrev due : List Verdict
@@ -143,19 +143,9 @@ module _ (completeness : Completeness) (terms : Terms) (heard : List Heard) (e :
     abbrev due_flaw : List Fact
     due_flaw = flaw_at tail.place tail.line tail.fault
 
-    ends_fit : told ≡ due
-    ends_fit =
-        let editor = streams.ends_inside (decoder_of Editor e.streams) in
-        let server = streams.ends_inside (decoder_of Server e.streams) in
-        let lacks = lacks_listed completeness all (kept_of terms all) in
-        ap (λ f. first_ends f (rests_listed all editor server) lacks) (sym fits.fault)
-        ∙ ap (λ b. first_ends tail.fault (rests_listed all b server) lacks) (fits.inside Editor)
-        ∙ ap (λ b. first_ends tail.fault (rests_listed all
-        (ends_inside Editor all (is_rest tail.rests.editor)) b) lacks) (fits.inside Server)
-
     said_fit : ends_said terms heard (rests_held e) told ≡ ends_said terms heard tail.rests due
     said_fit =
-        ap (ends_said terms heard (rests_held e)) ends_fit
+        ap (ends_said terms heard (rests_held e)) (ends_fit completeness terms heard e end tail fits)
         ∙ ends_alike tail.rests (rests_held e) (numbered terms all) all completeness terms tail.fault
         (λ whole. sym (fits.rests Editor whole)) (λ whole. sym (fits.rests Server whole))
 
@@ -203,14 +193,14 @@ module _ (completeness : Completeness) (terms : Terms) (heard : List Heard) (e :
               ∙ ap (λ fs. first_end tail.fault fs told
               (ends_said terms heard (rests_held e) told)) (flaw_fit tail fits)
               ∙ ap (λ vs. first_end tail.fault (due_flaw tail fits) vs
-              (ends_said terms heard (rests_held e) told)) (ends_fit tail fits)
+              (ends_said terms heard (rests_held e) told)) (ends_fit completeness terms heard e end tail fits)
               ∙ ap (first_end tail.fault (due_flaw tail fits) (due tail fits))
               (said_fit tail fits),
           (
             given,
             refl,
             verdict ∙ ap (λ f. end_verdict terms heard f told) (sym fits.fault)
-                ∙ ap (end_verdict terms heard tail.fault) (ends_fit tail fits),
+                ∙ ap (end_verdict terms heard tail.fault) (ends_fit completeness terms heard e end tail fits),
           ),
         );
       }
@@ -263,7 +253,7 @@ module _ (completeness : Completeness) (terms : Terms) (heard : List Heard) (e :
               ∙ ap (λ fs. whole_end tail.fault fs told
               (ends_said terms heard (rests_held e) told)) (flaw_fit tail fits)
               ∙ ap (λ vs. whole_end tail.fault (due_flaw tail fits) vs
-              (ends_said terms heard (rests_held e) told)) (ends_fit tail fits)
+              (ends_said terms heard (rests_held e) told)) (ends_fit completeness terms heard e end tail fits)
               ∙ ap (whole_end tail.fault (due_flaw tail fits) (due tail fits))
               (said_fit tail fits),
           (
@@ -272,7 +262,7 @@ module _ (completeness : Completeness) (terms : Terms) (heard : List Heard) (e :
             verdict ∙ ap (λ fs. first_verdict fs bad s) are
                 ∙ ap (λ b. first_verdict (all_found terms heard told) b s) bad_is
                 ∙ ap (λ f. all_verdict terms heard f told) (sym fits.fault)
-                ∙ ap (all_verdict terms heard tail.fault) (ends_fit tail fits),
+                ∙ ap (all_verdict terms heard tail.fault) (ends_fit completeness terms heard e end tail fits),
           ),
         );
       }
@@ -306,7 +296,7 @@ first_none {A} (x ∷ xs) is = let same : None ≡ Some x = is in absurd (cc sam
 module _ (completeness : Completeness) (terms : Terms) (heard : List Heard) (e : LogEvents)
     (end : End) where
   abbrev ends : List Verdict
-  ends = ends_told completeness terms heard e end
+  ends = ends_held completeness terms heard e end
 
   abbrev s : Summary
   s = summary terms (heard_events heard)

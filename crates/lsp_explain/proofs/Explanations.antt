@@ -10,6 +10,7 @@ use Rattle.lsp_replay.specs.Run.{EndsAfter, HasSaid, IsPassed, StopsIn}
 use Rattle.lsp_replay.proofs.JudgedRuns.{IsDueOf, judged_run}
 use Rattle.lsp_replay.proofs.PassEnds.{IsQuiet, quiet_all, silent}
 use Rattle.lsp_replay.specs.Telling.{no_of, rule_of}
+use Rattle.lsp_survey.specs.SessionEnds.{ends_of}
 use Rattle.lsp_verdict.specs.Complete.{IsVerdictBy}
 use Rattle.lsp_verdict.specs.Heard.{heard_events, notes_of}
 use Rattle.lsp_verdict.specs.LookBack.{each_from}
@@ -25,7 +26,7 @@ use Rattle.lsp_verdict.specs.declared.outcome.RunFault.{RunFault}
 use Rattle.lsp_verdict.specs.declared.outcome.RunFault.TheVariants as faults
 use Rattle.lsp_verdict.proofs.RunsJudged.{plain_by}
 use Rattle.lsp_facts.specs.Fact.{Fact}
-use Rattle.lsp_explain.specs.ExplainRuns.{SaysFirst, end_verdict, ends_of, ends_said}
+use Rattle.lsp_explain.specs.ExplainRuns.{SaysFirst, end_verdict, ends_said}
 use Rattle.lsp_explain.specs.ExplainRuns.{explain_run, first_lines, flaw_at}
 use Rattle.lsp_explain.specs.Explained.{BeginsExplanation, Breach, Explained, Explains}
 use Rattle.lsp_explain.specs.Explained.{IsExplanation, WritesExplanation, before_first, breach}

@@ -11,6 +11,7 @@ use Rattle.lsp_log.specs.Place.{place_of}
 use Rattle.lsp_log.specs.declared.fault.LogCode.{LogCode}
 use Rattle.lsp_replay.specs.Run.{IsTold, Run, SaysAll, Tail}
 use Rattle.lsp_replay.specs.Telling.{rule_of}
+use Rattle.lsp_survey.specs.SessionEnds.{ends_of}
 use Rattle.lsp_verdict.specs.Heard.{Heard, Rests, heard_events, notes_of}
 use Rattle.lsp_verdict.specs.LookBack.{each_from}
 use Rattle.lsp_verdict.specs.Offences.{Offence}
@@ -19,7 +20,7 @@ use Rattle.lsp_verdict.specs.Survey.{found_in}
 use Rattle.lsp_verdict.specs.Verdict.{bad_log_of, summary}
 use Rattle.lsp_verdict.specs.declared.completeness.Completeness.{Completeness}
 use Rattle.lsp_facts.specs.FlawFacts.{flaw_facts, log_facts}
-use Rattle.lsp_explain.specs.ExplainRuns.{ends_of, ends_said, flaw_at}
+use Rattle.lsp_explain.specs.ExplainRuns.{ends_said, flaw_at}
 use Rattle.lsp_explain.specs.Explained.{AreExplained, Breach, Explained, Explains, breach, breach_at}
 
 -- what is said of its fault

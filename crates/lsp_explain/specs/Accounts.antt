@@ -3,17 +3,13 @@ use Rattle.std.specs.Prelude.{◌≡◌, ℕ, List, ◌++◌, None}
 use Rattle.lsp_docs.specs.Terms.{Terms}
 use Rattle.lsp_log.specs.Reader.{shown_by}
 use Rattle.lsp_replay.specs.LogEvents.{flaw_of}
-use Rattle.lsp_replay.specs.Streams.{decoder_of, ends_inside}
 use Rattle.lsp_replay.specs.declared.log_events.End.{End}
 use Rattle.lsp_replay.specs.declared.log_events.LogEvents.{LogEvents}
 use Rattle.lsp_survey.specs.Lost.{AreLosses}
 use Rattle.lsp_survey.specs.Reported.{IsTally}
-use Rattle.lsp_types.specs.declared.side.Side.TheVariants.{Editor, Server}
 use Rattle.lsp_verdict.specs.Heard.{Heard, Rests, heard_events, notes_of}
-use Rattle.lsp_verdict.specs.Offences.{kept_of, offences}
-use Rattle.lsp_verdict.specs.Survey.{first_ends, lacks_listed, rests_listed}
-use Rattle.lsp_verdict.specs.Verdict.{Verdict, first_no, no_by}
-use Rattle.lsp_verdict.specs.declared.completeness.Completeness.{Completeness}
+use Rattle.lsp_verdict.specs.Offences.{offences}
+use Rattle.lsp_verdict.specs.Verdict.{first_no, no_by}
 use Rattle.lsp_facts.specs.Fact.{Fact}
 use Rattle.lsp_explain.specs.AllExplained.{cause_lines}
 use Rattle.lsp_explain.specs.ExplainRuns.{flaw_at}
@@ -50,10 +46,3 @@ rests_held e = record { editor = e.streams.editor.rest; server = e.streams.serve
 -- the facts on a fault
 abbrev pub flaw_held : LogEvents → End → List Fact
 flaw_held e end = flaw_at e.log.place (shown_by e.log) (flaw_of end)
-
--- how the session ends
-abbrev pub ends_told : Completeness → Terms → List Heard → LogEvents → End → List Verdict
-ends_told completeness terms heard e end =
-    first_ends (flaw_of end) (rests_listed (heard_events heard)
-    (ends_inside (decoder_of Editor e.streams)) (ends_inside (decoder_of Server e.streams)))
-    (lacks_listed completeness (heard_events heard) (kept_of terms (heard_events heard)))

@@ -4,13 +4,12 @@ use Rattle.std.specs.Prelude.{Option, Some, None}
 use Rattle.std.specs.List.{AllZip, cons_option, flat_map}
 use Rattle.lsp_docs.specs.Terms.{Terms}
 use Rattle.lsp_log.specs.declared.fault.LogCode.{LogCode}
-use Rattle.lsp_replay.specs.Run.{IsJudged, Run, Tail}
+use Rattle.lsp_replay.specs.Run.{IsJudged, Run}
 use Rattle.lsp_replay.specs.Telling.{no_of, rule_of}
 use Rattle.lsp_explain.specs.Asking.{numbered}
-use Rattle.lsp_verdict.specs.Heard.{Heard, Rests, heard_events, notes_of}
-use Rattle.lsp_verdict.specs.Offences.{Offence, offences}
-use Rattle.lsp_verdict.specs.Outcome.{ending}
-use Rattle.lsp_verdict.specs.Survey.{by_itself, ends_listed, first_verdict}
+use Rattle.lsp_survey.specs.SessionEnds.{all_found, all_verdict, ends_of}
+use Rattle.lsp_verdict.specs.Heard.{Heard, Rests, heard_events}
+use Rattle.lsp_verdict.specs.Survey.{by_itself, first_verdict}
 use Rattle.lsp_verdict.specs.Verdict.{Verdict, bad_log_of, summary}
 use Rattle.lsp_verdict.specs.declared.completeness.Completeness.{Completeness}
 use Rattle.lsp_facts.specs.Fact.{Fact}
@@ -45,12 +44,6 @@ SaysCauses rests terms found out =
 
 -- ---- the end
 
--- how a session ends
-abbrev pub ends_of : Completeness → Terms → List Heard → Tail → List Verdict
-ends_of completeness terms heard tail =
-    ends_listed completeness terms (heard_events heard)
-    (ending tail.fault tail.rests.editor tail.rests.server)
-
 -- the facts on a fault of the log, which comes after so many of its bytes, where this line is
 abbrev pub flaw_at : ℕ → List ℕ → Option (ℕ × LogCode) → List Fact
 flaw_at place line None = []
@@ -74,16 +67,6 @@ end_explanation terms heard rests fault flaw ends =
     (bad_log_of fault) flaw (summary terms (heard_events heard))
     ++ remark_lines (remarks_of (end_verdict terms heard fault ends)
     (noticed terms (heard_events heard)))
-
--- all that is listed, where the session ends so
-abbrev pub all_found : Terms → List Heard → List Verdict → List Offence
-all_found terms heard ends = offences terms (notes_of heard) ++ map by_itself ends
-
--- the verdict on it
-abbrev pub all_verdict : Terms → List Heard → Option (ℕ × LogCode) → List Verdict → Verdict
-all_verdict terms heard fault ends =
-    first_verdict (all_found terms heard ends) (bad_log_of fault)
-    (summary terms (heard_events heard))
 
 -- what is said of the ends, and what closes the explanation
 abbrev pub all_end : Terms → List Heard → Rests → Option (ℕ × LogCode) → List Fact → List Verdict

@@ -1,7 +1,6 @@
 //! The notes on a session, which change no verdict.
-ghost use Rattle.std.specs.Prelude.{◌≡◌, ◌++◌, ◌∷◌, [], List, OnOk, IfOk, map, option_map, codes};
-ghost use Rattle.std.specs.Prelude.{option_to_list, string_bytes};
-ghost use Rattle.json.specs.Print.{quoted};
+ghost use Rattle.std.specs.Prelude.{◌≡◌, ◌++◌, List, OnOk, IfOk, map, option_map};
+ghost use Rattle.std.specs.Prelude.{string_bytes};
 ghost use Rattle.lsp_explain.specs.Misuses.{misused_views};
 ghost use Rattle.lsp_explain.specs.Renames.{renamed_view};
 ghost use Rattle.lsp_explain.specs.Touched.{names_view};

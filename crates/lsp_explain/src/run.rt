@@ -4,13 +4,14 @@ ghost use Rattle.std.specs.Prelude.{map, take};
 ghost use Rattle.lsp_docs.specs.Terms.{Terms};
 ghost use Rattle.lsp_replay.specs.LogEvents.{flaw_of};
 ghost use Rattle.lsp_replay.specs.Telling.{Stood};
+ghost use Rattle.lsp_survey.specs.SessionEnds.{ends_held};
 ghost use Rattle.lsp_verdict.specs.Given.{verdict_view};
 ghost use Rattle.lsp_verdict.specs.Heard.{Heard, heard_events};
 ghost use Rattle.lsp_verdict.specs.Ports.{ports};
 ghost use Rattle.lsp_verdict.specs.Survey.{by_itself};
 ghost use Rattle.lsp_verdict.specs.Verdict.{bad_log_of, first_no, summary};
 ghost use Rattle.lsp_verdict.specs.declared.completeness.Completeness.{Completeness};
-ghost use Rattle.lsp_explain.specs.Accounts.{FirstStands, ends_told, flaw_held, rests_held};
+ghost use Rattle.lsp_explain.specs.Accounts.{FirstStands, flaw_held, rests_held};
 ghost use Rattle.lsp_explain.specs.ExplainRuns.{end_verdict, ends_said, explain_run};
 ghost use Rattle.lsp_explain.specs.Explained.{WritesExplanation, explanation};
 ghost use Rattle.lsp_explain.specs.Trails.{IsTrail};
@@ -126,12 +127,12 @@ fn push_ending(
         past.entry.held.now.counts heard
         → length heard < 2 ^ 63
         → (string_bytes text.new ≡ string_bytes text.old
-        ++ explanation (map by_itself (ends_told completeness terms heard log.now end))
+        ++ explanation (map by_itself (ends_held completeness terms heard log.now end))
         (take 1 (ends_said terms heard (rests_held log.now)
-        (ends_told completeness terms heard log.now end))) (bad_log_of (flaw_of end))
+        (ends_held completeness terms heard log.now end))) (bad_log_of (flaw_of end))
         (flaw_held log.now end) (summary terms (heard_events heard)))
         × (verdict_view verdict ≡ end_verdict terms heard (flaw_of end)
-        (ends_told completeness terms heard log.now end))) }
+        (ends_held completeness terms heard log.now end))) }
 {
     let SessionEnd { listed, bad } = session_end(alloc, past.held, log, end, completeness)?;
     if let Some(offence) = listed.first() {

@@ -21,10 +21,9 @@ use Rattle.lsp_types.specs.declared.side.Side.{Side}
 use Rattle.lsp_replay.specs.Standing.{Holds}
 use Rattle.lsp_replay.specs.Telling.{IsSpoken, kept_before, rule_of}
 use Rattle.lsp_replay.proofs.Seeing.{events-push}
-use Rattle.lsp_survey.specs.Lost.{AreLosses, HoldsSent, IsMessageOf, Loses, Offends, WasTold}
-use Rattle.lsp_survey.specs.Lost.{follows_of}
+use Rattle.lsp_survey.specs.Lost.{AreLosses, HoldsSent, IsMessageOf, IsNotedIn, Offends}
+use Rattle.lsp_survey.specs.Lost.{WasTold, breaks_by, follows_of, unheard_with}
 use Rattle.lsp_survey.specs.Notes.{AreAfter, Leaves, is_noted, is_noted_lost}
-use Rattle.lsp_survey.specs.Passed.{ArePassed}
 use Rattle.lsp_survey.specs.Sides.{sides_after, sides_failed, sides_of, sides_read}
 use Rattle.lsp_survey.specs.declared.losses.Losses.{Losses}
 use Rattle.lsp_survey.specs.declared.notes.note.Notes as code_notes
@@ -47,11 +46,6 @@ use Rattle.lsp_verdict.specs.declared.counts.Counts.{Counts}
 use Rattle.lsp_verdict.proofs.Offences.Steps.{broken-push, events_of-push, is_lost-push}
 use Rattle.lsp_verdict.proofs.Offences.Steps.{is_passed-push, kept-refused, unheard-push}
 use Rattle.lsp_verdict.proofs.Offences.Surveying.{one_malformed}
-
--- an event that offends by this rule, or is kept, breaks the handshake
-abbrev pub breaks_by : Option ℕ → Option Message → Bool → Bool
-breaks_by None malformed answers = false
-breaks_by (Some rule) malformed answers = breaks_handshake (asks malformed) rule || answers
 
 breaks_at : (o : Option ℕ) (malformed : Option Message) (answers : Bool)
     → is_some (option_and_then (λ rule.
@@ -76,11 +70,6 @@ broken_pushed terms notes n =
     (breaks_at (rule_at terms (events_of notes) n.event) n.malformed
     (may_answer (kept_of terms (events_of notes)) n.event))
 
--- an event that offends by this rule, or is kept, is an `initialized` that is passed over
-abbrev pub unheard_with : Option ℕ → Event → Bool
-unheard_with None e = false
-unheard_with (Some rule) e = is_initialized_by e
-
 unheard_at : (o : Option ℕ) (e : Event)
     → is_some (if is_initialized_by e then o else None) ≡ unheard_with o e
 unheard_at None e = by_test (is_initialized_by e)
@@ -104,24 +93,13 @@ unheard_pushed terms notes n = unheard-push terms notes n
     ∙ ap (λ (b : Bool). is_unheard terms notes || b)
     (unheard_at (rule_at terms (events_of notes) n.event) n.event)
 
--- an event that offends by this rule, or is kept, and says this of a document, was noted
-pub record Notes (terms : Terms) (notes : List Noted) (n : Noted) (rule : Option ℕ)
-    (said : Option Call) (old new : Losses) : Type 0 where
-  pub rule_is : rule_at terms (events_of notes) n.event ≡ rule
-  pub said_is : said_at terms (events_of notes) n.event ≡ said
-  pub is_broken : new.handshake ≡ (old.handshake || breaks_by rule n.malformed
-      (may_answer (kept_of terms (events_of notes)) n.event))
-  pub sides : new.sides ≡ sides_after n.event old.sides
-  pub passed : ArePassed rule n.event n.malformed old.passed new.passed
-  pub unheard : new.unheard ≡ (old.unheard || unheard_with rule n.event)
-  pub noted : Leaves rule (option_and_then brought_by n.malformed)
-      (is_reopened terms (calls (kept_of terms (events_of notes))) said) said
-      old.documents.map.entries new.documents.map.entries
-
 pub losses_on : (terms : Terms) (notes : List Noted) (n : Noted) (rule : Option ℕ)
     (said : Option Call) (old new : Losses) → AreLosses terms old notes
-    → Notes terms notes n rule said old new → AreLosses terms new (notes ++ n ∷ [])
-losses_on terms notes n rule said old new losses s = record {
+    → rule_at terms (events_of notes) n.event ≡ rule
+    → said_at terms (events_of notes) n.event ≡ said
+    → IsNotedIn terms notes n.event n.malformed said rule old new
+    → AreLosses terms new (notes ++ n ∷ [])
+losses_on terms notes n rule said old new losses rule_is said_is s = record {
   noted = λ uri.
       let brought = option_and_then brought_by n.malformed in
       let made = calls (kept_of terms (events_of notes)) in
@@ -130,17 +108,17 @@ losses_on terms notes n rule said old new losses s = record {
       ∙ ap (unwrap_or (left_by uri rule brought (is_reopened terms made said) said))
       (losses.noted uri)
       ∙ ap (λ (o : Option ℕ). unwrap_or
-      (left_by uri o brought (is_reopened terms made said) said) was) (sym s.rule_is)
+      (left_by uri o brought (is_reopened terms made said) said) was) (sym rule_is)
       ∙ ap (λ (o : Option Call). unwrap_or
       (left_by uri (rule_at terms (events_of notes) n.event) brought
-      (is_reopened terms made o) o) was) (sym s.said_is)
+      (is_reopened terms made o) o) was) (sym said_is)
       ∙ sym (is_lost-push terms uri notes n);
   is_broken =
       s.is_broken
       ∙ ap (λ (b : Bool). b || breaks_by rule n.malformed
       (may_answer (kept_of terms (events_of notes)) n.event)) losses.is_broken
       ∙ ap (λ (o : Option ℕ). is_some (first_of (broken_by terms) notes) || breaks_by o n.malformed
-      (may_answer (kept_of terms (events_of notes)) n.event)) (sym s.rule_is)
+      (may_answer (kept_of terms (events_of notes)) n.event)) (sym rule_is)
       ∙ sym (broken_pushed terms notes n);
   sided =
       s.sides
@@ -153,12 +131,12 @@ losses_on terms notes n rule said old new losses s = record {
       (id_view k) in
       s.passed side k
       ∙ ap (λ (b : Bool). unwrap_or (option_and_then does rule) b) (losses.passed side k)
-      ∙ ap (λ (o : Option ℕ). unwrap_or (option_and_then does o) was) (sym s.rule_is)
+      ∙ ap (λ (o : Option ℕ). unwrap_or (option_and_then does o) was) (sym rule_is)
       ∙ sym (is_passed-push terms side (id_view k) notes n);
   unheard =
       s.unheard
       ∙ ap (λ (b : Bool). b || unheard_with rule n.event) losses.unheard
-      ∙ ap (λ (o : Option ℕ). is_unheard terms notes || unheard_with o n.event) (sym s.rule_is)
+      ∙ ap (λ (o : Option ℕ). is_unheard terms notes || unheard_with o n.event) (sym rule_is)
       ∙ sym (unheard_pushed terms notes n);
 }
 
@@ -171,33 +149,18 @@ pub noted_lost : (terms : Terms) (l : Losses) (notes : List Noted) (said : Optio
 noted_lost terms l notes None losses = refl
 noted_lost terms l notes (Some call) losses = losses.noted _
 
-module _ (terms : Terms) (notes : List Noted) (n : Noted) (rule : ℕ) (said : Option Call)
-    (old new : Losses) (losses : AreLosses terms old notes)
-    (offends : rule_at terms (events_of notes) n.event ≡ Some rule)
-    (said_is : said_at terms (events_of notes) n.event ≡ said) where
-  pub lost_on : Loses terms notes n.event n.malformed said rule old new
-      → AreLosses terms new (notes ++ n ∷ [])
-  lost_on l = losses_on terms notes n (Some rule) said old new losses (record {
-    rule_is = offends;
-    said_is = said_is;
-    is_broken = l.is_broken;
-    sides = l.sides;
-    passed = l.passed;
-    unheard = l.unheard;
-    noted = l.noted;
-  })
-
-  -- whether it follows is told
-  pub follows_on : (late on_lost : Bool) → on_lost ≡ is_noted_lost old.documents.map.entries said
-      → late ≡ follows_of terms notes rule on_lost (follows_passed terms rule notes n.event
-      || follows_bytes rule (events_of notes) n.event)
-      → late ≡ follows terms notes n rule
-  follows_on late on_lost lost is =
-      let other = follows_passed terms rule notes n.event
-      || follows_bytes rule (events_of notes) n.event in
-      is ∙ ap (λ b. follows_of terms notes rule b other)
-      (lost ∙ noted_lost terms old notes said losses
-      ∙ ap (is_on_lost terms notes) (sym said_is))
+-- whether it follows is told
+pub follows_on : (terms : Terms) (notes : List Noted) (n : Noted) (rule : ℕ) (said : Option Call)
+    (old : Losses) (late : Bool) → AreLosses terms old notes
+    → said_at terms (events_of notes) n.event ≡ said
+    → late ≡ follows_of terms notes rule (is_noted_lost old.documents.map.entries said)
+    (follows_passed terms rule notes n.event || follows_bytes rule (events_of notes) n.event)
+    → late ≡ follows terms notes n rule
+follows_on terms notes n rule said old late losses said_is is =
+    let other = follows_passed terms rule notes n.event
+    || follows_bytes rule (events_of notes) n.event in
+    is ∙ ap (λ b. follows_of terms notes rule b other)
+    (noted_lost terms old notes said losses ∙ ap (is_on_lost terms notes) (sym said_is))
 
 -- ---- an event that is kept
 
@@ -214,9 +177,7 @@ pub kept_on : (terms : Terms) (notes : List Noted) (n : Noted) (said : Option Ca
     → Leaves None (option_and_then brought_by n.malformed) false said old.documents.map.entries
     new.documents.map.entries → AreLosses terms new (notes ++ n ∷ [])
 kept_on terms notes n said old new losses rule_is said_is broken sides passed unheard noted =
-    losses_on terms notes n None said old new losses (record {
-      rule_is = rule_is;
-      said_is = said_is;
+    losses_on terms notes n None said old new losses rule_is said_is (record {
       is_broken = broken ∙ or_false old.handshake;
       sides = sides;
       passed = kept_passes n.event n.malformed old.passed new.passed passed;
@@ -242,7 +203,8 @@ kind_after kept = unwrap_or (sync_kind (sent_in kept)) Nothing
 module _ (terms : Terms) (before : List Heard) (h : Heard) (old new : Losses)
     (losses : AreLosses terms old (notes_of before)) (noted : IsNoted h.raw h.note)
     (rule : rule_of terms before h ≡ None) where
-  told_kept : AreLosses terms new (notes_of before ++ h.note ∷ []) → WasTold new terms before h false
+  told_kept : AreLosses terms new (notes_of before ++ h.note ∷ [])
+      → WasTold new terms before h false
   told_kept are = record {
     late_is = ap (λ (o : Option ℕ). unwrap_or
         (option_map (follows terms (notes_of before) h.note) o) false) (sym rule);
@@ -305,16 +267,16 @@ module _ (raw : Raw) (terms : Terms) (before : List Heard) (h : Heard) (m : sess
       → late ≡ follows_of terms notes rule (is_noted_lost old.documents.map.entries said)
       (follows_passed terms rule notes h.note.event
       || follows_bytes rule (events_of notes) h.note.event)
-      → Loses terms notes h.note.event malformed said rule old new → WasTold new terms before h late
+      → IsNotedIn terms notes h.note.event malformed said (Some rule) old new
+      → WasTold new terms before h late
   told_by said malformed said_is whole is l = record {
-    late_is = follows_on terms notes h.note rule said old new losses offends.breaks said_is late _
-        refl is
+    late_is = follows_on terms notes h.note rule said old late losses said_is is
         ∙ ap (λ (o : Option ℕ). unwrap_or (option_map (follows terms notes h.note) o) false)
         (sym offends.breaks);
     losses = subst (AreLosses terms new) (sym (notes-push before h))
-        (lost_on terms notes h.note rule said old new losses offends.breaks said_is
-        (subst (λ (x : Option Message). Loses terms notes h.note.event x said rule old new)
-        (sym whole) l));
+        (losses_on terms notes h.note (Some rule) said old new losses offends.breaks said_is
+        (subst (λ (x : Option Message).
+        IsNotedIn terms notes h.note.event x said (Some rule) old new) (sym whole) l));
   }
 
 -- a message
@@ -328,7 +290,7 @@ pub message_lost : (side : Side) (bytes : List ℕ) (terms : Terms) (before : Li
     → (late ≡ follows_of terms notes rule (is_noted_lost old.documents.map.entries
     (call_of enc kind (act_view s.act)))
     (follows_passed terms rule notes event || follows_bytes rule (events_of notes) event))
-    × Loses terms notes event None (call_of enc kind (act_view s.act)) rule old new)
+    × IsNotedIn terms notes event None (call_of enc kind (act_view s.act)) (Some rule) old new)
     → WasTold new terms before h late
 message_lost side bytes terms before h m d c s rule late old new losses offends told =
     let raw = content side bytes in
@@ -356,9 +318,10 @@ pub unread_lost : (side : Side) (bytes : List ℕ) (terms : Terms) (before : Lis
     → ((notes : List Noted) → AreLosses terms old notes → HoldsSent m terms notes
     → (late ≡ follows_of terms notes rule false
     (follows_bytes rule (events_of notes) (fault side rule)))
-    × Loses terms notes (fault side rule) malformed None rule old new)
+    × IsNotedIn terms notes (fault side rule) malformed None (Some rule) old new)
     → WasTold new terms before h late
-unread_lost side bytes terms before h m d c rule late old new losses offends malformed reading told =
+unread_lost side bytes terms before h m d c rule late old new losses offends malformed reading
+    told =
     let raw = content side bytes in
     let notes = notes_of before in
     let both = told notes losses
@@ -370,7 +333,8 @@ unread_lost side bytes terms before h m d c rule late old new losses offends mal
     (one_malformed raw (fault side rule) h.note.malformed malformed whole reading)
     (both.0 ∙ ap (λ (x : Event). follows_of terms notes rule false
     (follows_passed terms rule notes x || follows_bytes rule (heard_events before) x)) (sym own))
-    (subst (λ (x : Event). Loses terms notes x malformed None rule old new) (sym own) both.1)
+    (subst (λ (x : Event). IsNotedIn terms notes x malformed None (Some rule) old new) (sym own)
+    both.1)
   where
     -- the event is that fault
     fault_is : (e : Event) → h.note.event ≡ e → Reads (content side bytes) e
@@ -407,7 +371,8 @@ frames_lost side code terms before h m d c rule spoken late old new losses offen
     (follows_is terms notes losses stands
     ∙ ap (λ (e : Event). follows_of terms notes rule false
     (follows_passed terms rule notes e || follows_bytes rule (heard_events before) e)) (sym own))
-    (subst (λ (e : Event). Loses terms notes e None None rule old new) (sym own) (record {
+    (subst (λ (e : Event). IsNotedIn terms notes e None None (Some rule) old new) (sym own)
+    (record {
       is_broken = broke (kept_before terms before) stands;
       sides = ap (λ (l : Losses). l.sides) stays;
       passed = fault_passes (fault side rule) side rule rule old.passed new.passed refl
@@ -429,7 +394,7 @@ pub shown_lost : (number : ℤ) (uri text : List ℕ) (terms : Terms) (before : 
     → ((t : Terms) (notes : List Noted) (n : ℤ) (shown : List ℕ) → AreLosses t old notes
     → HoldsSent m t notes
     → (late ≡ follows_of t notes rule (is_noted old.documents.map.entries uri) false)
-    × Loses t notes (snapshot uri n shown) None (Some (shows uri n shown)) rule old new)
+    × IsNotedIn t notes (snapshot uri n shown) None (Some (shows uri n shown)) (Some rule) old new)
     → WasTold new terms before h late
 shown_lost number uri text terms before h m d c rule spoken late old new losses offends told =
     let raw = show number uri text in
@@ -443,5 +408,5 @@ shown_lost number uri text terms before h m d c rule spoken late old new losses 
     (is_noted old.documents.map.entries uri)
     (follows_passed terms rule notes e || follows_bytes rule (heard_events before) e))
     (sym offends.noted.0))
-    (subst (λ (e : Event). Loses terms notes e None (Some call) rule old new)
+    (subst (λ (e : Event). IsNotedIn terms notes e None (Some call) (Some rule) old new)
     (sym offends.noted.0) both.1)

@@ -1,6 +1,6 @@
 -- What the offences so far have left lost.
-use Rattle.std.specs.Prelude.{◌≡◌, ◌&&◌, ◌||◌, ◌∷◌, ◌++◌, [], ℕ, List, Bool, false, Option, Some}
-use Rattle.std.specs.Prelude.{is_some, option_and_then, option_map, unwrap_or}
+use Rattle.std.specs.Prelude.{◌≡◌, ◌&&◌, ◌||◌, ◌∷◌, ◌++◌, [], ℕ, List, Bool, false, Option, None}
+use Rattle.std.specs.Prelude.{Some, is_some, option_and_then, option_map, unwrap_or}
 use Rattle.lsp_docs.specs.Calls.{Call}
 use Rattle.lsp_docs.specs.State as docs
 use Rattle.lsp_docs.specs.Terms.{Terms}
@@ -55,21 +55,32 @@ IsMessageOf side said event =
     (sent : Sent) × (event ≡ message sent) × (sent.side ≡ side)
     × (outline sent.message ≡ outline said)
 
--- **this event, which offends by this rule, was noted after these**: where its content is malformed
--- it is this message, and it says this about a document
-pub record Loses (terms : Terms) (before : List Noted) (event : Event) (malformed : Option Message)
-    (said : Option Call) (rule : ℕ) (old new : Losses) : Type 0 where
-  pub is_broken : new.handshake ≡ (old.handshake || (breaks_handshake (asks malformed) rule
-      || may_answer (kept_of terms (events_of before)) event))
-  pub sides : new.sides ≡ sides_after event old.sides
-  pub passed : ArePassed (Some rule) event malformed old.passed new.passed
-  pub unheard : new.unheard ≡ (old.unheard || is_initialized_by event)
-  pub noted : Leaves (Some rule) (option_and_then brought_by malformed)
-      (is_reopened terms (calls (kept_of terms (events_of before))) said) said
-      old.documents.map.entries new.documents.map.entries
+-- an event that offends by this rule, or is kept, breaks the handshake
+abbrev pub breaks_by : Option ℕ → Option Message → Bool → Bool
+breaks_by None malformed answers = false
+breaks_by (Some rule) malformed answers = breaks_handshake (asks malformed) rule || answers
 
--- **this event after these offends by this rule**, and is this message or none; what is held is that
--- before it
+-- it is an `initialized` that is passed over
+abbrev pub unheard_with : Option ℕ → Event → Bool
+unheard_with None event = false
+unheard_with (Some rule) event = is_initialized_by event
+
+-- **this event, which offends by this rule or is kept, was noted after these**: where its content
+-- is malformed it is this message, and it says this about a document
+pub record IsNotedIn (terms : Terms) (before : List Noted) (event : Event)
+    (malformed : Option Message) (said : Option Call) (rule : Option ℕ) (old new : Losses) : Type 0
+  where
+    pub is_broken : new.handshake ≡ (old.handshake || breaks_by rule malformed
+        (may_answer (kept_of terms (events_of before)) event))
+    pub sides : new.sides ≡ sides_after event old.sides
+    pub passed : ArePassed rule event malformed old.passed new.passed
+    pub unheard : new.unheard ≡ (old.unheard || unheard_with rule event)
+    pub noted : Leaves rule (option_and_then brought_by malformed)
+        (is_reopened terms (calls (kept_of terms (events_of before))) said) said
+        old.documents.map.entries new.documents.map.entries
+
+-- **this event after these offends by this rule**, and is this message or none; what is held is
+-- that before it
 pub record Offends (messages : session.State) (documents : docs.State) (counts : Counts)
     (raw : Raw) (rule : ℕ) (spoken : Option Spoken) (terms : Terms) (before : List Heard)
     (h : Heard) : Type 0 where

@@ -1,6 +1,6 @@
 //! What the offences so far have left lost, so that later ones follow from them.
-ghost use Rattle.std.specs.Prelude.{◌≡◌, ◌&&◌, ◌||◌, ◌==◌, ℕ, ℤ, [], List, Option, None, Some, false};
-ghost use Rattle.std.specs.Prelude.{IfOk, option_map};
+ghost use Rattle.std.specs.Prelude.{◌≡◌, ◌&&◌, ◌||◌, ◌==◌, ℕ, ℤ, [], List, Option, None, Some};
+ghost use Rattle.std.specs.Prelude.{IfOk, false, option_map};
 ghost use Rattle.lsp_docs.specs.Calls.{shows};
 ghost use Rattle.lsp_docs.specs.Terms.{Terms};
 ghost use Rattle.lsp_replay.specs.Standing.{Holds};
@@ -9,7 +9,7 @@ ghost use Rattle.lsp_rpc.specs.Message.{Message as AMessage};
 ghost use Rattle.lsp_rpc.specs.View.{act_view, message_view};
 ghost use Rattle.lsp_session.specs.Sent.{other_side, response_id, same_side};
 ghost use Rattle.lsp_session.specs.State.{Stands};
-ghost use Rattle.lsp_survey.specs.Lost.{AreLosses, HoldsSent, IsMessageOf, Loses, Offends};
+ghost use Rattle.lsp_survey.specs.Lost.{AreLosses, HoldsSent, IsMessageOf, IsNotedIn, Offends};
 ghost use Rattle.lsp_survey.specs.Lost.{WasTold, follows_of};
 ghost use Rattle.lsp_survey.specs.Notes.{is_noted, is_noted_lost};
 ghost use Rattle.lsp_survey.specs.Passed.{has_any};
@@ -158,8 +158,8 @@ impl Losses {
             → (late ≡ follows_of terms before rule (is_noted_lost self.old.documents.map.entries
             (call_of enc kind (act_view spoken.now.act))) (follows_passed terms rule before event
             || follows_bytes rule (events_of before) event))
-            × Loses terms before event None (call_of enc kind (act_view spoken.now.act)) rule
-            self.old self.new) }
+            × IsNotedIn terms before event None (call_of enc kind (act_view spoken.now.act))
+            (Some rule) self.old self.new) }
     {
         let breaks = breaks_handshake(false, rule);
         let unheard = self.unheard_after(side, &spoken.message);
@@ -189,7 +189,8 @@ impl Losses {
             → AreLosses terms self.old before → HoldsSent session.now terms before
             → (late ≡ follows_of terms before rule false
             (follows_bytes rule (events_of before) (fault side rule)))
-            × Loses terms before (fault side rule) malformed None rule self.old self.new)) }
+            × IsNotedIn terms before (fault side rule) malformed None (Some rule)
+            self.old self.new)) }
     {
         let Malformed {
             asks,
@@ -208,8 +209,8 @@ impl Losses {
             (text : List ℕ) → AreLosses terms self.old before → HoldsSent session.now terms before
             → (late ≡ follows_of terms before rule
             (is_noted self.old.documents.map.entries uri.now) false)
-            × Loses terms before (snapshot uri.now number text) None
-            (Some (shows uri.now number text)) rule self.old self.new) }
+            × IsNotedIn terms before (snapshot uri.now number text) None
+            (Some (shows uri.now number text)) (Some rule) self.old self.new) }
     {
         let on_lost = self.documents.is_lost(uri)?;
         let follows = self.follows(session, rule, on_lost, false);
@@ -321,8 +322,8 @@ impl Losses {
     }
 }
 
-/// Whether a frame or a content of this side that breaks this rule breaks the handshake; the content
-/// may ask for it.
+/// Whether a frame or a content of this side that breaks this rule breaks the handshake; the
+/// content may ask for it.
 fn breaks(session: &Session, side: Side, rule: u16, asks: bool) -> bool
     ensures { (kept : List Event) → Stands session.now (sent_in kept)
         → result ≡ (breaks_handshake asks rule || may_answer kept (fault side rule)) }

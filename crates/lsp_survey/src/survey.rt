@@ -91,7 +91,8 @@ impl Account for Survey {
             return Ok(Flow::GoOn);
         };
         let offence = last_offence(&held.counts, raw.who(), rule, follows);
-        self.tally.list(alloc, self.options.listing, &offence, text)?;
+        let listing = self.options.listing;
+        self.tally.list(alloc, listing, &offence, text)?;
         Ok(Flow::GoOn)
     }
 
@@ -103,9 +104,11 @@ impl Account for Survey {
         end: End,
         text: &mut String,
     ) -> Result<Outcome, Memory> {
-        let SessionEnd { listed, bad } =
-            session_end(alloc, held, log, end, self.options.completeness)?;
-        self.tally.list_all(alloc, self.options.listing, listed.as_slice(), text)?;
+        let completeness = self.options.completeness;
+        let listing = self.options.listing;
+        let SessionEnd { listed, bad } = session_end(alloc, held, log, end, completeness)?;
+        self.tally
+            .list_all(alloc, listing, listed.as_slice(), text)?;
         let verdict = self.tally.push_verdict(alloc, held, bad, text)?;
         self.tally.push_count(alloc, text)?;
         Ok(Outcome::Judged(verdict))
