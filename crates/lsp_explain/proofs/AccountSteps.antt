@@ -7,6 +7,7 @@ use Rattle.std.proofs.Common.{sym, ap, ◌∙◌, subst, append_assoc, append-ni
 use Rattle.lsp_docs.specs.Terms.{Terms}
 use Rattle.lsp_replay.specs.Telling.{Says, rule_of}
 use Rattle.lsp_replay.specs.declared.seen.Flow.TheVariants.{GoOn, Stop}
+use Rattle.lsp_replay.proofs.PassEnds.{Boxed}
 use Rattle.lsp_replay.proofs.Seeing.{events-push}
 use Rattle.lsp_survey.specs.Lost.{WasTold, follows_at}
 use Rattle.lsp_survey.specs.Reported.{IsTally}
@@ -72,13 +73,14 @@ module _ (terms : Terms) (before : List Heard) (h : Heard) where
     }
 
     -- one that offends is explained
-    pub first_told : (Stands : Type 0) (rule : ℕ) (given : code.Verdict) (mid new : List ℕ)
-        → rule_of terms before h ≡ Some rule → verdict_view given ≡ no_by events h.note.event rule
+    pub first_told : (Stands : Type 0) (rule : ℕ) (given : code.Verdict) (boxed : Boxed)
+        (mid new : List ℕ) → boxed.value ≡ Judged given → rule_of terms before h ≡ Some rule
+        → verdict_view given ≡ no_by events h.note.event rule
         → TellsOf terms before h rule Fits old mid
         → new ≡ mid ++ remark_lines (remarks_of (verdict_view given) (noticed terms events))
         → Says (explain_run account.completeness) terms before h Fits old new Stands
-        (Stop (Judged given))
-    first_told Stands rule given mid new offends verdict told noted =
+        (Stop boxed)
+    first_told Stands rule given boxed mid new is_boxed offends verdict told noted =
         let e = told.e in
         let notes : Verdict → List ℕ = λ v. remark_lines (remarks_of v (noticed terms events)) in
         record {
@@ -94,7 +96,7 @@ module _ (terms : Terms) (before : List Heard) (h : Heard) where
             (
               no_by events h.note.event rule,
               ap (option_map (no_by events h.note.event)) offends,
-              (given, refl, verdict),
+              (given, is_boxed, verdict),
             ),
           );
         }

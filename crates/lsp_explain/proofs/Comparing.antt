@@ -13,7 +13,7 @@ use Rattle.lsp_replay.specs.Run.{EndsAfter, IsPassed, SaysAll, StopsIn}
 use Rattle.lsp_replay.specs.Standing.{Holds}
 use Rattle.lsp_replay.specs.Telling.{IsSpoken, MaySpeak, Says, Stood, kept_before, rule_of}
 use Rattle.lsp_replay.specs.declared.seen.Flow.TheVariants.{GoOn, Stop}
-use Rattle.lsp_replay.proofs.PassEnds.{IsQuiet, quiet_all}
+use Rattle.lsp_replay.proofs.PassEnds.{Boxed, IsQuiet, quiet_all}
 use Rattle.lsp_replay.proofs.Seeing.{events-push}
 use Rattle.lsp_rpc.specs.View.{act_view}
 use Rattle.lsp_rpc.specs.declared.act.Spoken.{Spoken}
@@ -305,11 +305,12 @@ module _ (which : ComparedText) (terms : Terms) (before : List Heard) (h : Heard
 
   -- of one that offends one of its texts
   pub told_text : (Stands : Type 0) (new : List ℕ) (answer : TextAnswer)
-      (texts : Option TwoTexts) (rule : ℕ) (outcome : Outcome) → rule_of terms before h ≡ Some rule
+      (texts : Option TwoTexts) (rule : ℕ) (boxed : Boxed) → rule_of terms before h ≡ Some rule
       → texts ≡ texts_at terms (kept_before terms before) h.note.event rule
-      → answer ≡ answer_of which texts → new ≡ old ++ written_of answer → EndsAs answer outcome
-      → Says (compared_run which) terms before h Fits old new Stands (Stop outcome)
-  told_text Stands new answer texts rule outcome offends are one added ends =
+      → answer ≡ answer_of which texts → new ≡ old ++ written_of answer
+      → EndsAs answer boxed.value
+      → Says (compared_run which) terms before h Fits old new Stands (Stop boxed)
+  told_text Stands new answer texts rule boxed offends are one added ends =
       let named : answer_after which terms before h ≡ Some answer =
       ap (option_map (λ r. answer_of which (texts_at terms (kept_before terms before) h.note.event
       r))) offends

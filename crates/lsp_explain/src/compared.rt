@@ -76,7 +76,8 @@ impl Account for OneText {
         };
         let texts = texts_of(alloc, held, raw, rule, spoken)?;
         let outcome = one_of(texts, self.which).add(text)?;
-        Ok(Flow::Stop(outcome))
+        let boxed = Box::new(alloc, outcome)?;
+        Ok(Flow::Stop(boxed))
     }
 
     fn end(

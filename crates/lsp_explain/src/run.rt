@@ -90,7 +90,8 @@ impl Account for FirstOffence {
         let verdict = offence.verdict();
         push_offence(alloc, text, past, &offence, raw, spoken)?;
         push_remarks(alloc, text, past, &verdict)?;
-        Ok(Flow::Stop(Outcome::Judged(verdict)))
+        let boxed = Box::new(alloc, Outcome::Judged(verdict))?;
+        Ok(Flow::Stop(boxed))
     }
 
     fn end(

@@ -84,7 +84,8 @@ impl Account for Judging<'_> {
         if let Seen::Offence { raw, rule, .. } = seen {
             let verdict = no_last(&held.counts, rule, raw.who());
             self.say(alloc, &verdict, text)?;
-            return Ok(Flow::Stop(Outcome::Judged(verdict)));
+            let boxed = Box::new(alloc, Outcome::Judged(verdict))?;
+            return Ok(Flow::Stop(boxed));
         }
         self.show(alloc, held, seen, text)?;
         Ok(Flow::GoOn)

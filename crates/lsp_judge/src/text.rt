@@ -152,14 +152,16 @@ impl Account for TextHeld<'_> {
         if let Seen::Offence { raw, rule, .. } = seen {
             let verdict = no_last(&held.counts, rule, raw.who());
             let outcome = TextAnswer::missing(verdict).add(text)?;
-            return Ok(Flow::Stop(outcome));
+            let boxed = Box::new(alloc, outcome)?;
+            return Ok(Flow::Stop(boxed));
         }
         if held.counts.editor != self.number {
             return Ok(Flow::GoOn);
         }
         let answer = TextAnswer::held(alloc, &held.docs, self.uri)?;
         let outcome = answer.add(text)?;
-        Ok(Flow::Stop(outcome))
+        let boxed = Box::new(alloc, outcome)?;
+        Ok(Flow::Stop(boxed))
     }
 
     fn end(

@@ -1,9 +1,11 @@
 -- The events of a log that were told first, and what a run says of them.
 use Rattle.std.specs.List.{AllZip}
 use Rattle.std.proofs.Common.{◌≡◌, ◌≤◌, ℕ, true, false, List, [], ◌∷◌, ◌++◌, Option, inl}
-use Rattle.std.proofs.Common.{refl, sym, ap, subst, ◌∙◌, append_assoc, append-nil, length, length-append, arith}
+use Rattle.std.proofs.Common.{refl, sym, ap, subst, ◌∙◌, append_assoc, append-nil, length}
+use Rattle.std.proofs.Common.{length-append, arith}
 use Rattle.std.proofs.lemmas.List.{length-map, map-append}
 use Rattle.lsp_frame.specs.Bounds.{Bounds}
+use Rattle.lsp_frame.specs.Told.{Told}
 use Rattle.lsp_frame.specs.declared.format.Format.{Format}
 use Rattle.lsp_docs.specs.Terms.{Terms}
 use Rattle.lsp_log.specs.Log.{Record}
@@ -12,27 +14,17 @@ use Rattle.lsp_types.specs.declared.side.Side.TheVariants.{Editor, Server}
 use Rattle.lsp_replay.specs.LogEvents.{GoesBehind, HasGiven}
 use Rattle.lsp_replay.specs.Run.{HasSaid, IsPassed, IsTold, Run, SaysAll, Tail}
 use Rattle.lsp_verdict.specs.Heard.{AreRests, Heard, Rests, RestsBehind, notes_of, raws_of}
-use Rattle.lsp_verdict.specs.Offences.{IsNoted, Noted}
+use Rattle.lsp_verdict.specs.Offences.{IsNoted}
 use Rattle.lsp_verdict.specs.Outcome.{log_terms}
 use Rattle.lsp_verdict.specs.Placed.{Raw, Placed, joined}
+use Rattle.lsp_verdict.specs.RunIo.{OfRead}
 use Rattle.lsp_verdict.specs.declared.outcome.Outcome.{Outcome}
 use Rattle.lsp_verdict.proofs.Below.{some_stream}
 use Rattle.lsp_verdict.proofs.ExactCounts.{raws_within}
 use Rattle.lsp_verdict.proofs.Offences.Surveying.{some_note}
+use Rattle.lsp_verdict.proofs.RunReading.{read_map}
 
 -- ---- lists of events
-
-pub join_notes : (raws more : List Raw) (notes extra : List Noted) → AllZip IsNoted raws notes
-    → AllZip IsNoted more extra → AllZip IsNoted (raws ++ more) (notes ++ extra)
-join_notes [] more [] extra p q = q
-join_notes [] more (n ∷ notes) extra p q = absurd p
-join_notes (r ∷ raws) more [] extra p q = absurd p
-join_notes (r ∷ raws) more (n ∷ notes) extra p q = (p.0, join_notes raws more notes extra p.1 q)
-
-pub noted_push : (raws : List Raw) (notes : List Noted) (raw : Raw) (n : Noted)
-    → AllZip IsNoted raws notes → IsNoted raw n
-    → AllZip IsNoted (raws ++ raw ∷ []) (notes ++ n ∷ [])
-noted_push raws notes raw n all is = join_notes raws (raw ∷ []) notes (n ∷ []) all (is, tt)
 
 -- each was noted as its raw form allows
 abbrev pub AreNoted : List Heard → Type 0
@@ -110,12 +102,11 @@ pub rests_before : (limits : Bounds) (front more : List Record) (rests : Rests)
     → RestsBehind limits (front ++ more) rests → RestsBehind limits front rests
 rests_before limits front more rests (last, are) = (
   more ++ last,
-  subst (λ (w : List Record). AreRests limits w rests)
-      (append_assoc front more last) are,
+  subst (λ (w : List Record). AreRests limits w rests) (append_assoc front more last) are,
 )
 
-module _ (limits : Bounds) (format : Option Format) (front : List Record) (heard : List Heard)
-    (noted : AreNoted heard) (log : List ℕ)
+module _ {limits : Bounds} {format : Option Format} {front : List Record} (heard : List Heard)
+    (noted : AreNoted heard) {log : List ℕ}
     (has : HasGiven limits format front (raws_of heard) log) where
   abbrev extra : (hs : List Heard) × (raws_of hs ≡ has.later) × AreNoted hs
   extra = some_heard has.later
@@ -174,35 +165,65 @@ module _ (limits : Bounds) (format : Option Format) (front : List Record) (heard
     length-map heard (λ (h : Heard). h.raw),
   )
 
--- where it stops at the last of them, so does it on the log
-pub stops_given : (run : Run) (limits : Bounds) (format : Option Format) (front : List Record)
-    (heard : List Heard) (h : Heard) (noted : AreNoted (heard ++ h ∷ [])) (log : List ℕ)
-    (has : HasGiven limits format front (raws_of (heard ++ h ∷ [])) log) (out said : List ℕ)
-    (outcome : Outcome)
-    → ((rests : Rests) → RestsBehind limits front rests
-    → SaysAll run (log_terms limits format) rests [] heard out
-    × run.says (log_terms limits format) rests heard h said)
-    → run.stops (log_terms limits format) heard h ≡ true
-    → run.ends (log_terms limits format) heard h outcome
-    → IsPassed run limits log (out ++ said) outcome
-stops_given run limits format front heard h noted log has out said outcome says stops ends =
-    let both = says (tail_given limits format front (heard ++ h ∷ []) noted log has).rests
-    (behind_given limits format front (heard ++ h ∷ []) noted log has) in
-    record {
-      format = format;
-      records = has.records;
-      heard = (heard ++ h ∷ []) ++ (some_heard has.later).0;
-      tail = tail_given limits format front (heard ++ h ∷ []) noted log has;
-      told = told_given limits format front (heard ++ h ∷ []) noted log has;
-      is = inl (record {
-        first = heard;
-        here = h;
-        later = (some_heard has.later).0;
-        are = append_assoc heard (h ∷ []) (some_heard has.later).0;
-        front = out;
-        last = said;
-        is = refl;
-        said = both.0;
-        stop = record { says = both.1; stops = stops; ends = ends };
-      });
-    }
+module _ {limits : Bounds} {format : Option Format} {front : List Record} (heard : List Heard)
+    (h : Heard) (noted : AreNoted (heard ++ h ∷ [])) {log : List ℕ}
+    (has : HasGiven limits format front (raws_of (heard ++ h ∷ [])) log) where
+  -- but for the last one
+  pub given_before : HasGiven limits format front (raws_of heard) log
+  given_before = record {
+    records = has.records;
+    log_fault = has.log_fault;
+    later = h.raw ∷ has.later;
+    is_log = has.is_log;
+    goes = has.goes;
+    placed = subst (Placed limits has.records)
+        (ap (λ w. w ++ has.later) (raws-push heard (h ∷ []))
+        ∙ append_assoc (raws_of heard) (h.raw ∷ []) has.later) has.placed;
+  }
+
+  -- where the run stops at it, so does it on the log
+  pub stops_given : (run : Run) (out said : List ℕ) (outcome : Outcome)
+      → ((rests : Rests) → RestsBehind limits front rests
+      → SaysAll run (log_terms limits format) rests [] heard out
+      × run.says (log_terms limits format) rests heard h said)
+      → run.stops (log_terms limits format) heard h ≡ true
+      → run.ends (log_terms limits format) heard h outcome
+      → IsPassed run limits log (out ++ said) outcome
+  stops_given run out said outcome says stops ends =
+      let all = heard ++ h ∷ [] in
+      let both = says (tail_given all noted has).rests (behind_given all noted has) in
+      record {
+        format = format;
+        records = has.records;
+        heard = all ++ (some_heard has.later).0;
+        tail = tail_given all noted has;
+        told = told_given all noted has;
+        is = inl (record {
+          first = heard;
+          here = h;
+          later = (some_heard has.later).0;
+          are = append_assoc heard (h ∷ []) (some_heard has.later).0;
+          front = out;
+          last = said;
+          is = refl;
+          said = both.0;
+          stop = record { says = both.1; stops = stops; ends = ends };
+        });
+      }
+
+-- ---- what was read has these events first
+
+module _ {limits : Bounds} {format : Option Format} {front : List Record} {start now : Told}
+    (heard : List Heard) (noted : AreNoted heard)
+    (read : OfRead limits start now (HasGiven limits format front (raws_of heard))) where
+  pub few_read : length heard ≤ limits.log
+  few_read = few_given heard noted
+      (read.holds read.bytes ([], sym (append-nil read.bytes), λ end. refl))
+
+  pub said_read : (run : Run) (out : List ℕ)
+      → ((rests : Rests) → RestsBehind limits front rests
+      → SaysAll run (log_terms limits format) rests [] heard out)
+      → OfRead limits start now (λ log. HasSaid run limits log out)
+  said_read run out says =
+      read_map limits start now (HasGiven limits format front (raws_of heard))
+      (λ log. HasSaid run limits log out) (λ log has. said_given heard noted has run out says) read

@@ -1,6 +1,7 @@
 -- How a pass ends, with its log or before the first event.
 use Rattle.std.proofs.Common.{◌≡◌, ◌<◌, ◌^◌, ℕ, List, [], ◌++◌, Option, Some, None, IsSome}
-use Rattle.std.proofs.Common.{Result, Ok, Err, inr, refl, sym, ap, subst, ◌∙◌, append-nil, length, arith}
+use Rattle.std.proofs.Common.{Result, Ok, Err, inr, refl, sym, ap, subst, ◌∙◌, append-nil, length}
+use Rattle.std.proofs.Common.{arith}
 use Rattle.lsp_frame.specs.Bounds.{Bounds}
 use Rattle.lsp_frame.specs.Told.{Told}
 use Rattle.lsp_frame.specs.declared.format.Format.{Format}
@@ -14,7 +15,7 @@ use Rattle.lsp_log.specs.Reader.{shown_by}
 use Rattle.lsp_log.specs.declared.fault.LogCode.{LogCode}
 use Rattle.lsp_types.specs.declared.side.Side.{Side}
 use Rattle.lsp_types.specs.declared.side.Side.TheVariants.{Editor, Server}
-use Rattle.lsp_replay.specs.LogEvents.{Ended, IsLogOf, NextIs, flaw_of}
+use Rattle.lsp_replay.specs.LogEvents.{Ended, HasGiven, IsLogOf, NextIs, flaw_of}
 use Rattle.lsp_replay.specs.Passes.{PartPassed, Passes, Steps}
 use Rattle.lsp_replay.specs.Run.{HasSaid, IsPassed, IsTold, Run, SaysAll, Tail}
 use Rattle.lsp_replay.specs.Telling.{DueAtEnd, IsEnd, Stood}
@@ -97,8 +98,7 @@ module _ (Asked : Type 0) (run_of : Asked → Run) (asked : Asked)
   pub end_few : length p.heard < 2 ^ 63
   end_few = omega (
     arith,
-    passing_few Asked run_of asked Stands limits e m d c start now old new
-        p,
+    passing_few Asked run_of asked Stands limits e m d c start now old new p,
     p.reads.stands.range.log_high,
   )
 
@@ -201,12 +201,12 @@ unopened run limits start now sink fault off =
     nothing : (log : List ℕ) → HasSaid run limits log []
     nothing log =
         let v = some_verdict limits log in
-        let raws = v.1.final.session.0 in
-        said_given limits v.1.format v.1.records [] tt log (record {
+        let has : HasGiven limits v.1.format v.1.records [] log = record {
           records = v.1.records;
           log_fault = v.1.fault;
-          later = raws;
+          later = v.1.final.session.0;
           is_log = v.1.is_log;
           goes = ([], sym (append-nil v.1.records));
           placed = v.1.final.session.1;
-        }) run [] (λ rests behind. refl)
+        } in
+        said_given [] tt has run [] (λ rests behind. refl)

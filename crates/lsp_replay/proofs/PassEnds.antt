@@ -1,4 +1,6 @@
 -- What follows for a run from what a pass of it writes and answers.
+use Rattle.std.specs.Global.{Global}
+use Rattle.std.specs.Prelude.{Box}
 use Rattle.std.proofs.Common.{◌≡◌, ◌⊎◌, ◌+◌, ℕ, false, List, [], ◌∷◌, ◌++◌, inl, inr, refl, sym, ap}
 use Rattle.std.proofs.Common.{subst}
 use Rattle.std.proofs.Common.{◌∙◌, append-nil}
@@ -14,6 +16,10 @@ use Rattle.lsp_verdict.specs.declared.outcome.Outcome.{Outcome}
 use Rattle.lsp_verdict.specs.declared.outcome.RunFault.{RunFault}
 use Rattle.lsp_verdict.specs.declared.outcome.RunFault.TheVariants as faults
 use Rattle.lsp_verdict.proofs.RunReading.{read_map, read_within}
+
+-- an outcome, as a run that stops gives it
+abbrev pub Boxed : Type 0
+Boxed = Box Outcome Global
 
 -- what holds of the log read holds of its bytes alone
 pub read_here : (limits : Bounds) (start now : Told) (P : List ℕ → Type 0)

@@ -1,7 +1,7 @@
 -- A pass over the events of a log, one after another.
-use Rattle.std.proofs.Common.{◌≡◌, ◌⊎◌, ◌<◌, ◌≤◌, ◌+◌, ◌-◌, ◌^◌, ℕ, false, List, [], ◌∷◌}
-use Rattle.std.proofs.Common.{◌++◌, Option, Result, Ok, Err, inl, inr, refl, sym, ap, subst, ◌∙◌, append_assoc}
-use Rattle.std.proofs.Common.{append-nil, length, length-append, arith}
+use Rattle.std.proofs.Common.{◌≡◌, ◌⊎◌, ◌<◌, ◌≤◌, ◌+◌, ◌-◌, ℕ, List, [], ◌∷◌, ◌++◌, Option}
+use Rattle.std.proofs.Common.{Result, Ok, Err, inl, inr, refl, sym, ap, subst, ◌∙◌, append_assoc}
+use Rattle.std.proofs.Common.{length, length-append, arith}
 use Rattle.std.proofs.lemmas.List.{length-map}
 use Rattle.lsp_frame.specs.Bounds.{Bounds}
 use Rattle.lsp_frame.specs.Front.{header_front}
@@ -25,16 +25,17 @@ use Rattle.lsp_replay.specs.declared.log_events.LogEvents.{LogEvents}
 use Rattle.lsp_replay.specs.declared.log_events.Next.TheVariants as next
 use Rattle.lsp_replay.specs.declared.seen.Flow.{Flow}
 use Rattle.lsp_replay.specs.declared.seen.Flow.TheVariants.{GoOn, Stop}
-use Rattle.lsp_replay.proofs.FirstEvents.{AreNoted, few_given, join_heard, raws-push, rests_before}
-use Rattle.lsp_replay.proofs.FirstEvents.{said_given, says_more, stops_given}
+use Rattle.lsp_replay.proofs.FirstEvents.{AreNoted, few_read, given_before, join_heard, raws-push}
+use Rattle.lsp_replay.proofs.FirstEvents.{rests_before, said_read, says_more, stops_given}
 use Rattle.lsp_replay.proofs.Fronts.{front_shown}
 use Rattle.lsp_replay.proofs.Owning.{given_fault}
+use Rattle.lsp_replay.proofs.PassEnds.{Boxed}
 use Rattle.lsp_replay.proofs.Pulling.{reads_failures, reads_given}
 use Rattle.lsp_verdict.specs.Heard.{Heard, Rests, RestsBehind, notes_of, raws_of, rest_of}
 use Rattle.lsp_verdict.specs.Lent.{raw_view}
-use Rattle.lsp_verdict.specs.Offences.{IsNoted, Noted}
+use Rattle.lsp_verdict.specs.Offences.{Noted}
 use Rattle.lsp_verdict.specs.Outcome.{HasRest, log_terms}
-use Rattle.lsp_verdict.specs.Placed.{Raw, Placed, broken, joined}
+use Rattle.lsp_verdict.specs.Placed.{Raw, broken, joined}
 use Rattle.lsp_verdict.specs.RunIo.{OfRead, failures_after, sink_failures_after}
 use Rattle.lsp_verdict.specs.declared.counts.Counts.{Counts}
 use Rattle.lsp_verdict.specs.declared.outcome.Outcome.{Outcome}
@@ -174,23 +175,29 @@ module _ (Asked : Type 0) (run_of : Asked → Run) (asked : Asked)
   abbrev run : Run
   run = run_of asked
 
+  abbrev terms : Terms
+  terms = log_terms limits p.format
+
   first : OfRead limits start now (HasGiven limits p.format p.records (raws_of p.heard))
   first = reads_given limits p.format e start now p.records (raws_of p.heard) p.due p.reads
 
   pub passing_few : length p.heard ≤ limits.log
-  passing_few = few_given limits p.format p.records p.heard p.noted first.bytes
-      (first.holds first.bytes ([], sym (append-nil first.bytes), λ end. refl))
+  passing_few = few_read p.heard p.noted first
 
-  pub passing_counts : c.all ≡ length p.heard
+  passing_counts : c.all ≡ length p.heard
   passing_counts = omega (
     arith,
     p.stood.counted.all,
     passing_few,
     p.reads.stands.range.log_high,
     length-map p.heard (λ (h : Heard). h.note),
-    length-map (notes_of p.heard)
-        (λ (n : Noted). n.event),
+    length-map (notes_of p.heard) (λ (n : Noted). n.event),
   )
+
+  -- what was said holds where more records follow
+  said_before : (more : List Record) (rests : Rests) → RestsBehind limits (p.records ++ more) rests
+      → SaysAll run terms rests [] p.heard p.out
+  said_before more rests behind = p.says rests (rests_before limits p.records more rests behind)
 
   -- reading breaks off
   pub broke_next : (log : LogEvents) (last : Told) (fault : RunFault)
@@ -199,11 +206,8 @@ module _ (Asked : Type 0) (run_of : Asked → Run) (asked : Asked)
   broke_next log last fault told =
       let off = told limits p.format start p.records (raws_of p.heard) p.due p.reads in
       broke_at run limits start last old new p.out p.wrote p.quiet fault
-      (read_map limits start last (HasGiven limits p.format (p.records ++ off.0) (raws_of p.heard))
-      (λ log. HasSaid run limits log p.out)
-      (λ log has. said_given limits p.format (p.records ++ off.0) p.heard p.noted log has run p.out
-      (λ rests behind. p.says rests (rests_before limits p.records off.0 rests behind)))
-      off.1.of_read) off.1.failures off.1.unwritten
+      (said_read p.heard p.noted off.1.of_read run p.out (said_before off.0)) off.1.failures
+      off.1.unwritten
 
   -- ---- one more event
 
@@ -215,99 +219,72 @@ module _ (Asked : Type 0) (run_of : Asked → Run) (asked : Asked)
         × LendsRest log.streams raw
     gave = told limits p.format start p.records (raws_of p.heard) p.due p.reads
 
+    abbrev front : List Record
+    front = p.records ++ gave.0
+
     abbrev pub here : Heard
     here = record { raw = raw_view raw; note = (some_note (raw_view raw)).0 }
-
-    here_noted : IsNoted (raw_view raw) here.note
-    here_noted = (some_note (raw_view raw)).1
 
     abbrev on : List Heard
     on = p.heard ++ here ∷ []
 
     on_noted : AreNoted on
-    on_noted = join_heard p.heard (here ∷ []) p.noted (here_noted, tt)
+    on_noted = join_heard p.heard (here ∷ []) p.noted ((some_note (raw_view raw)).1, tt)
 
-    on_reads : Reads limits p.format log start last (p.records ++ gave.0) (raws_of on) gave.1
-    on_reads = subst (λ (w : List Raw). Reads limits p.format log start last (p.records ++ gave.0) w
-        gave.1) (sym (raws-push p.heard (here ∷ []))) gave.2
+    on_reads : Reads limits p.format log start last front (raws_of on) gave.1
+    on_reads = subst (λ (w : List Raw). Reads limits p.format log start last front w gave.1)
+        (sym (raws-push p.heard (here ∷ []))) gave.2
 
-    on_first : OfRead limits start last (HasGiven limits p.format (p.records ++ gave.0) (raws_of on))
-    on_first = reads_given limits p.format log start last (p.records ++ gave.0) (raws_of on) gave.1
-        on_reads
+    on_first : OfRead limits start last (HasGiven limits p.format front (raws_of on))
+    on_first = reads_given limits p.format log start last front (raws_of on) gave.1 on_reads
 
     on_failures : last.failures ≡ start.failures
-    on_failures = reads_failures limits p.format log start last (p.records ++ gave.0) (raws_of on)
-        gave.1 on_reads
+    on_failures = reads_failures limits p.format log start last front (raws_of on) gave.1 on_reads
 
-    on_few : length on ≤ limits.log
-    on_few = few_given limits p.format (p.records ++ gave.0) on on_noted on_first.bytes
-        (on_first.holds on_first.bytes ([], sym (append-nil on_first.bytes), λ end. refl))
-
-    next_few : length p.heard + 1 < 2 ^ 64
-    next_few = omega (
-      arith,
-      on_few,
-      gave.2.stands.range.log_high,
-      length-append p.heard (here ∷ []),
-    )
+    on_few : length p.heard + 1 ≤ limits.log
+    on_few = omega (arith, few_read on on_noted on_first, length-append p.heard (here ∷ []))
 
     -- so it comes after those told
-    comes : Comes (raw_view raw) (log_terms limits p.format) m d c p.heard here
-        (Stands (log_terms limits p.format) p.heard)
+    comes : Comes (raw_view raw) terms m d c p.heard here (Stands terms p.heard)
     comes = record {
       stood = p.stood;
       stands = p.stands;
-      few = next_few;
+      few = omega (arith, on_few, gave.2.stands.range.log_high);
       raw_is = refl;
-      noted = here_noted;
+      noted = (some_note (raw_view raw)).1;
     }
 
-    -- what was said before holds of the records read since
-    said_before : (rests : Rests) → RestsBehind limits (p.records ++ gave.0) rests
-        → SaysAll run (log_terms limits p.format) rests [] p.heard p.out
-    said_before rests behind = p.says rests (rests_before limits p.records gave.0 rests behind)
-
-    shown : (rests : Rests) → RestsBehind limits (p.records ++ gave.0) rests → ShowsFault raw rests
-    shown = fault_shown limits p.format log start last (p.records ++ gave.0) (raws_of p.heard) gave.1
-        raw gave.2 gave.3
+    shown : (rests : Rests) → RestsBehind limits front rests → ShowsFault raw rests
+    shown = fault_shown limits p.format log start last front (raws_of p.heard) gave.1 raw gave.2
+        gave.3
 
     module _ (Later : Terms → List Heard → Type 0) (new_m : session.State) (new_d : docs.State)
         (new_c : Counts) (end : Told) where
       -- what is due for it
       abbrev Due : Flow → List ℕ → Type 0
-      Due flow said = DueOf run (log_terms limits p.format) p.heard here (ShowsFault raw)
-          (Later (log_terms limits p.format) on) new_m new_d new_c flow said
+      Due flow said = DueOf run terms p.heard here (ShowsFault raw) (Later terms on) new_m new_d new_c
+          flow said
 
-      said_on : (flow : Flow) (said : List ℕ) → Due flow said
-          → run.stops (log_terms limits p.format) p.heard here ≡ false
-          → (rests : Rests) → RestsBehind limits (p.records ++ gave.0) rests
-          → SaysAll run (log_terms limits p.format) rests [] on (p.out ++ said)
-      said_on flow said due goes rests behind =
-          says_more run (log_terms limits p.format) rests [] p.heard p.out here said
-          (said_before rests behind) (due.is rests (shown rests behind)) goes
+      said_on : (said : List ℕ) → Due GoOn said → (rests : Rests) → RestsBehind limits front rests
+          → SaysAll run terms rests [] on (p.out ++ said)
+      said_on said due rests behind = says_more run terms rests [] p.heard p.out here said
+          (said_before gave.0 rests behind) (due.is rests (shown rests behind)) due.goes.0
 
-      said_with : (flow : Flow) (said : List ℕ) → Due flow said
-          → (rests : Rests) → RestsBehind limits (p.records ++ gave.0) rests
-          → SaysAll run (log_terms limits p.format) rests [] p.heard p.out
-          × run.says (log_terms limits p.format) rests p.heard here said
-      said_with flow said due rests behind =
-          (said_before rests behind, due.is rests (shown rests behind))
-
-      stopped_at : (outcome : Outcome) (said : List ℕ) → Due (Stop outcome) said
-          → OfRead limits start last (λ log. IsPassed run limits log (p.out ++ said) outcome)
-      stopped_at outcome said due = read_map limits start last
-          (HasGiven limits p.format (p.records ++ gave.0) (raws_of on))
-          (λ log. IsPassed run limits log (p.out ++ said) outcome)
-          (λ log has. stops_given run limits p.format (p.records ++ gave.0) p.heard here on_noted
-          log has p.out said outcome (said_with (Stop outcome) said due) due.goes.0 due.goes.1)
-          on_first
+      stopped_at : (boxed : Boxed) (said : List ℕ) → Due (Stop boxed) said
+          → OfRead limits start last (λ log. IsPassed run limits log (p.out ++ said) boxed.value)
+      stopped_at boxed said due = read_map limits start last
+          (HasGiven limits p.format front (raws_of on))
+          (λ log. IsPassed run limits log (p.out ++ said) boxed.value)
+          (λ log has. stops_given p.heard here on_noted has run p.out said boxed.value
+          (λ rests behind. (said_before gave.0 rests behind, due.is rests (shown rests behind)))
+          due.goes.0 due.goes.1) on_first
 
       -- the run goes on
       passing_next : Steps {X = Flow} new end Due (Ok GoOn)
           → IsPassing run Later limits log new_m new_d new_c start last old end
       passing_next (said, due, wrote, still) = record {
         format = p.format;
-        records = p.records ++ gave.0;
+        records = front;
         due = gave.1;
         heard = on;
         out = p.out ++ said;
@@ -317,16 +294,16 @@ module _ (Asked : Type 0) (run_of : Asked → Run) (asked : Asked)
         stands = due.goes.1;
         wrote = wrote_then old new end p.out said p.wrote wrote;
         quiet = λ e. let both = nothing_both p.out said e in still both.1 ∙ p.quiet both.0;
-        says = said_on GoOn said due due.goes.0;
+        says = said_on said due;
       }
 
       -- it stops
-      passing_stop : (outcome : Outcome) → Steps {X = Flow} new end Due (Ok (Stop outcome))
-          → Passes run limits start last old end (Ok outcome)
-      passing_stop outcome (said, due, wrote, still) = record {
+      passing_stop : (boxed : Boxed) → Steps {X = Flow} new end Due (Ok (Stop boxed))
+          → Passes run limits start last old end (Ok boxed.value)
+      passing_stop boxed (said, due, wrote, still) = record {
         out = p.out ++ said;
         wrote = wrote_then old new end p.out said p.wrote wrote;
-        due = stopped_at outcome said due;
+        due = stopped_at boxed said due;
         failures = on_failures;
       }
 
@@ -335,12 +312,9 @@ module _ (Asked : Type 0) (run_of : Asked → Run) (asked : Asked)
           → OfRead limits start last (λ log. HasSaid run limits log (p.out ++ said))
           ⊎ ((outcome : Outcome)
           × OfRead limits start last (λ log. IsPassed run limits log (p.out ++ said) outcome))
-      cut_by GoOn said due = inl (read_map limits start last
-          (HasGiven limits p.format (p.records ++ gave.0) (raws_of on))
-          (λ log. HasSaid run limits log (p.out ++ said))
-          (λ log has. said_given limits p.format (p.records ++ gave.0) on on_noted log has run
-          (p.out ++ said) (said_on GoOn said due due.goes.0)) on_first)
-      cut_by (Stop outcome) said due = inr (outcome, stopped_at outcome said due)
+      cut_by GoOn said due = inl (said_read on on_noted on_first run (p.out ++ said)
+          (said_on said due))
+      cut_by (Stop boxed) said due = inr (boxed.value, stopped_at boxed said due)
 
       passing_fault : (fault : RunFault) → Steps {X = Flow} new end Due (Err fault)
           → Passes run limits start last old end (Err fault)
@@ -350,40 +324,26 @@ module _ (Asked : Type 0) (run_of : Asked → Run) (asked : Asked)
       passing_fault faults.Memory steps =
           subst (λ (t : Told). PartPassed run limits start last old t faults.Memory) (sym steps)
           (broke_at run limits start last old new p.out p.wrote p.quiet faults.Memory
-          (read_map limits start last
-          (HasGiven limits p.format (p.records ++ gave.0) (raws_of on))
-          (λ log. HasSaid run limits log p.out)
-          (λ log has. said_given limits p.format (p.records ++ gave.0) p.heard p.noted log
-          (fewer log has) run p.out said_before) on_first) on_failures (λ same. absurd cc))
-        where
-          fewer : (log : List ℕ) → HasGiven limits p.format (p.records ++ gave.0) (raws_of on) log
-              → HasGiven limits p.format (p.records ++ gave.0) (raws_of p.heard) log
-          fewer log h = record {
-            records = h.records;
-            log_fault = h.log_fault;
-            later = raw_view raw ∷ h.later;
-            is_log = h.is_log;
-            goes = h.goes;
-            placed = subst (Placed limits h.records)
-                (ap (λ w. w ++ h.later) (raws-push p.heard (here ∷ []))
-                ∙ append_assoc (raws_of p.heard) (raw_view raw ∷ []) h.later) h.placed;
-          }
+          (said_read p.heard p.noted (read_map limits start last
+          (HasGiven limits p.format front (raws_of on))
+          (HasGiven limits p.format front (raws_of p.heard))
+          (λ log has. given_before p.heard here on_noted has) on_first) run p.out
+          (said_before gave.0)) on_failures (λ same. absurd cc))
       passing_fault faults.Read steps = absurd steps
 
       -- what the account says of it was written, by what it stands for
       abbrev TellsNext : Asked → Result Flow RunFault → Type 0
       TellsNext own result =
-          (terms : Terms) (before : List Heard) (h : Heard)
-          → Comes (raw_view raw) terms m d c before h (Stands terms before)
-          → Steps new end (DueOf (run_of own) terms before h (ShowsFault raw)
-          (Later terms (before ++ h ∷ [])) new_m new_d new_c) result
+          (t : Terms) (before : List Heard) (h : Heard)
+          → Comes (raw_view raw) t m d c before h (Stands t before)
+          → Steps new end (DueOf (run_of own) t before h (ShowsFault raw)
+          (Later t (before ++ h ∷ [])) new_m new_d new_c) result
 
       steps_of : (own : Asked) (result : Result Flow RunFault) → own ≡ asked
           → TellsNext own result → Steps new end Due result
       steps_of own result same tells =
-          subst (λ (a : Asked). Steps new end (DueOf (run_of a) (log_terms limits p.format) p.heard
-          here (ShowsFault raw) (Later (log_terms limits p.format) on) new_m new_d new_c) result)
-          same (tells (log_terms limits p.format) p.heard here comes)
+          subst (λ (a : Asked). Steps new end (DueOf (run_of a) terms p.heard here (ShowsFault raw)
+          (Later terms on) new_m new_d new_c) result) same (tells terms p.heard here comes)
 
       pub goes_on : (own : Asked) → own ≡ asked → TellsNext own (Ok GoOn)
           → IsPassing run Later limits log new_m new_d new_c start last old end
@@ -405,10 +365,10 @@ module _ (Asked : Type 0) (run_of : Asked → Run) (asked : Asked)
             length-append p.heard (here ∷ []),
           )
 
-      pub goes_stop : (own : Asked) → own ≡ asked → (outcome : Outcome)
-          → TellsNext own (Ok (Stop outcome)) → Passes run limits start last old end (Ok outcome)
-      goes_stop own same outcome tells =
-          passing_stop outcome (steps_of own (Ok (Stop outcome)) same tells)
+      pub goes_stop : (own : Asked) → own ≡ asked → (boxed : Boxed)
+          → TellsNext own (Ok (Stop boxed)) → Passes run limits start last old end (Ok boxed.value)
+      goes_stop own same boxed tells =
+          passing_stop boxed (steps_of own (Ok (Stop boxed)) same tells)
 
       pub goes_wrong : (own : Asked) → own ≡ asked → (fault : RunFault) → TellsNext own (Err fault)
           → Passes run limits start last old end (Err fault)

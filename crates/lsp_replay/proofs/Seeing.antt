@@ -47,10 +47,10 @@ pub events-join : (before later : List Heard)
 events-join before later = ap events_of (map-append (λ (x : Heard). x.note) before later)
     ∙ map-append (λ (n : Noted). n.event) (notes_of before) (notes_of later)
 
-module _ (raw : Raw) (terms : Terms) (m : session.State) (d : docs.State) (c : Counts)
-    (before : List Heard) (h : Heard) (Stands : Type 0)
+module _ {raw : Raw} {terms : Terms} {m : session.State} {d : docs.State} {c : Counts}
+    {before : List Heard} {h : Heard} {Stands : Type 0}
     (comes : Comes raw terms m d c before h Stands) where
-  abbrev pub kept : List Event
+  abbrev kept : List Event
   kept = kept_before terms before
 
   pub noted_here : IsNoted h.raw h.note
@@ -100,14 +100,6 @@ module _ (raw : Raw) (terms : Terms) (m : session.State) (d : docs.State) (c : C
     counted = counted;
   }
 
-  -- what is held is as it was
-  pub comes_same : (new_m : session.State) (new_d : docs.State) (after : Counts) → new_m ≡ m
-      → new_d ≡ d → after ≡ c → Comes raw terms new_m new_d after before h Stands
-  comes_same new_m new_d after same_m same_d same_c =
-      subst (λ (x : session.State). Comes raw terms x new_d after before h Stands) (sym same_m)
-      (subst (λ (x : docs.State). Comes raw terms m x after before h Stands) (sym same_d)
-      (subst (λ (x : Counts). Comes raw terms m d x before h Stands) (sym same_c) comes))
-
   -- what is held changed, and is still the result of the same events
   pub comes_still : (new_m : session.State) (new_d : docs.State) (after : Counts)
       → new_d.terms ≡ d.terms → Holds new_m new_d kept → after ≡ c
@@ -127,37 +119,32 @@ module _ (raw : Raw) (terms : Terms) (m : session.State) (d : docs.State) (c : C
 
 -- ---- a content
 
-module _ (side : Side) (bytes : List ℕ) (terms : Terms) (m : session.State) (d : docs.State)
-    (c : Counts) (before : List Heard) (h : Heard) (Stands : Type 0)
+module _ {side : Side} {bytes : List ℕ} {terms : Terms} {m : session.State} {d : docs.State}
+    {c : Counts} {before : List Heard} {h : Heard} {Stands : Type 0}
     (comes : Comes (content side bytes) terms m d c before h Stands) where
   -- it is no message
   pub unread_rule : (rule : ℕ) → ReadsAs side bytes (broken_rule side rule)
       → rule_of terms before h ≡ Some rule
-  unread_rule rule reads =
-      rule_here (content side bytes) terms m d c before h Stands comes (broken_rule side rule)
-      (Some rule) reads refl
+  unread_rule rule reads = rule_here comes (broken_rule side rule) (Some rule) reads refl
 
   pub unread_silent : (rule : ℕ) → ReadsAs side bytes (broken_rule side rule) → (sent : Sent)
       → h.note.event ≡ message sent → ⊥
   unread_silent rule reads sent is =
-      let same = event_is (content side bytes) terms m d c before h Stands comes
-      (broken_rule side rule) reads ∙ is in
+      let same = event_is comes (broken_rule side rule) reads ∙ is in
       absurd (cc same)
 
   module _ (s : Spoken) where
     -- it is this message, which is kept
-    module _ (new_m : session.State) (new_d : docs.State)
+    module _ {new_m : session.State} {new_d : docs.State}
         (hears : Hears side bytes (message_view s.message) (act_view s.act) d.terms new_m new_d
         (kept_before terms before)) where
       pub heard_rule : rule_of terms before h ≡ None
-      heard_rule = rule_here (content side bytes) terms m d c before h Stands comes
-          (message hears.sent) None hears.reads hears.accepted
+      heard_rule = rule_here comes (message hears.sent) None hears.reads hears.accepted
 
       pub heard_spoken : IsSpoken (kept_before terms before) h.note.event side s
       heard_spoken = record {
         sent = hears.sent;
-        is = sym (event_is (content side bytes) terms m d c before h Stands comes
-            (message hears.sent) hears.reads);
+        is = sym (event_is comes (message hears.sent) hears.reads);
         by = hears.reads.by;
         says = hears.says;
         means = hears.means;
@@ -167,22 +154,20 @@ module _ (side : Side) (bytes : List ℕ) (terms : Terms) (m : session.State) (d
       pub heard_stood : (after : Counts) → new_d.terms ≡ d.terms
           → AreCounts after (heard_events (before ++ h ∷ []))
           → Stood terms new_m new_d after (before ++ h ∷ [])
-      heard_stood after same counted =
-          stood_on (content side bytes) terms m d c before h Stands comes (message hears.sent)
-          new_m new_d after hears.reads heard_rule same hears.holds counted
+      heard_stood after same counted = stood_on comes (message hears.sent) new_m new_d after
+          hears.reads heard_rule same hears.holds counted
 
     -- it is this message, which offends
     module _ (rule : ℕ) (refuses : RefusesMessage side bytes (message_view s.message)
         (act_view s.act) d.terms (kept_before terms before) rule) where
       pub refused_rule : rule_of terms before h ≡ Some rule
-      refused_rule = rule_here (content side bytes) terms m d c before h Stands comes
-          (message refuses.sent) (Some rule) refuses.reads refuses.offends
+      refused_rule = rule_here comes (message refuses.sent) (Some rule) refuses.reads
+          refuses.offends
 
       pub refused_spoken : IsSpoken (kept_before terms before) h.note.event side s
       refused_spoken = record {
         sent = refuses.sent;
-        is = sym (event_is (content side bytes) terms m d c before h Stands comes
-            (message refuses.sent) refuses.reads);
+        is = sym (event_is comes (message refuses.sent) refuses.reads);
         by = refuses.reads.by;
         says = refuses.says;
         means = refuses.means;
@@ -201,8 +186,8 @@ pub broken_silent : (side : Side) (rule : ℕ) (h : Heard) → IsNoted (broken s
     → (sent : Sent) → h.note.event ≡ message sent → ⊥
 broken_silent side rule h noted sent is = let same = sym noted.0 ∙ is in absurd (cc same)
 
-module _ (number : ℤ) (uri text : List ℕ) (terms : Terms) (m : session.State) (d : docs.State)
-    (c : Counts) (before : List Heard) (h : Heard) (Stands : Type 0)
+module _ {number : ℤ} {uri text : List ℕ} {terms : Terms} {m : session.State} {d : docs.State}
+    {c : Counts} {before : List Heard} {h : Heard} {Stands : Type 0}
     (comes : Comes (show number uri text) terms m d c before h Stands) where
   abbrev event : Event
   event = snapshot uri number (chars text)
@@ -215,7 +200,8 @@ module _ (number : ℤ) (uri text : List ℕ) (terms : Terms) (m : session.State
       → Comes (show own uri text) terms m new_d c before h Stands
   shown_comes own same new_d is =
       subst (λ (n : ℤ). Comes (show n uri text) terms m new_d c before h Stands) (sym same)
-      (comes_same (show number uri text) terms m d c before h Stands comes m new_d c refl is refl)
+      (subst (λ (x : docs.State). Comes (show number uri text) terms m x c before h Stands) (sym is)
+      comes)
 
   pub shown_silent : (sent : Sent) → h.note.event ≡ message sent → ⊥
   shown_silent sent is = let same = sym comes.noted.0 ∙ is in absurd (cc same)
@@ -225,7 +211,7 @@ module _ (number : ℤ) (uri text : List ℕ) (terms : Terms) (m : session.State
       → docs.Refuses d (shows uri number (chars text)) f → of_call f ≡ own.Rule rule
       → rule_of terms before h ≡ Some rule
   shown_refused rule f refuses is =
-      rule_here (show number uri text) terms m d c before h Stands comes event (Some rule) refl
+      rule_here comes event (Some rule) refl
       (by_fault f (refuses made comes.stood.holds.called) is)
     where
       by_fault : (g : DocFault)
@@ -236,29 +222,29 @@ module _ (number : ℤ) (uri text : List ℕ) (terms : Terms) (m : session.State
       by_fault calls_fault.Memory named same = absurd (cc same)
 
   -- it is accepted
-  module _ (new_d : docs.State) (accepts : docs.Accepts d new_d (shows uri number (chars text))) where
-    pub shown_rule : rule_of terms before h ≡ None
-    shown_rule = rule_here (show number uri text) terms m d c before h Stands comes event None refl
-        (accepts.accepted made comes.stood.holds.called)
+  module _ {new_d : docs.State} (accepts : docs.Accepts d new_d (shows uri number (chars text)))
+    where
+      pub shown_rule : rule_of terms before h ≡ None
+      shown_rule = rule_here comes event None refl
+          (accepts.accepted made comes.stood.holds.called)
 
-    pub shown_stood : (after : Counts) → AreCounts after (heard_events (before ++ h ∷ []))
-        → Stood terms m new_d after (before ++ h ∷ [])
-    shown_stood after counted =
-        stood_on (show number uri text) terms m d c before h Stands comes event m new_d after refl
-        shown_rule accepts.terms
-        (shown_holds m new_d (kept_before terms before) uri number (chars text)
-        comes.stood.holds.sent (accepts.stands made comes.stood.holds.called)) counted
+      pub shown_stood : (after : Counts) → AreCounts after (heard_events (before ++ h ∷ []))
+          → Stood terms m new_d after (before ++ h ∷ [])
+      shown_stood after counted =
+          stood_on comes event m new_d after refl shown_rule accepts.terms
+          (shown_holds m new_d (kept_before terms before) uri number (chars text)
+          comes.stood.holds.sent (accepts.stands made comes.stood.holds.called)) counted
 
-    -- and it was seen so, with a number that is the same
-    pub shown_as : (own : ℤ) → own ≡ number → (answer : Match) → IsAnswer d uri number answer
-        → (h.raw ≡ show own uri text) × (rule_of terms before h ≡ None)
-        × (answer ≡ answer_of own (kept_texts terms uri made) (held terms uri made))
-    shown_as own same answer is =
-        subst (λ (n : ℤ). (h.raw ≡ show n uri text) × (rule_of terms before h ≡ None)
-        × (answer ≡ answer_of n (kept_texts terms uri made) (held terms uri made))) (sym same) (
-          comes.raw_is,
-          shown_rule,
-          subst (λ (t : Terms).
-              answer ≡ answer_of number (kept_texts t uri made) (held t uri made))
-              comes.stood.by (is made comes.stood.holds.called),
-        )
+      -- and it was seen so, with a number that is the same
+      pub shown_as : (own : ℤ) → own ≡ number → (answer : Match) → IsAnswer d uri number answer
+          → (h.raw ≡ show own uri text) × (rule_of terms before h ≡ None)
+          × (answer ≡ answer_of own (kept_texts terms uri made) (held terms uri made))
+      shown_as own same answer is =
+          subst (λ (n : ℤ). (h.raw ≡ show n uri text) × (rule_of terms before h ≡ None)
+          × (answer ≡ answer_of n (kept_texts terms uri made) (held terms uri made))) (sym same) (
+            comes.raw_is,
+            shown_rule,
+            subst (λ (t : Terms).
+                answer ≡ answer_of number (kept_texts t uri made) (held t uri made))
+                comes.stood.by (is made comes.stood.holds.called),
+          )

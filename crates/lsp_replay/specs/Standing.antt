@@ -3,8 +3,6 @@ use Rattle.std.specs.Prelude.{◌≡◌, ◌⊎◌, ℕ, List, [], ◌∷◌, �
 use Rattle.lsp_rpc.specs.Act.{Act}
 use Rattle.lsp_rpc.specs.Message as rpc
 use Rattle.lsp_rpc.specs.Outline.{outline, without_params}
-use Rattle.lsp_rpc.specs.View.{act_view, message_view}
-use Rattle.lsp_rpc.specs.declared.act.Spoken.{Spoken}
 use Rattle.lsp_types.specs.declared.side.Side.{Side}
 use Rattle.lsp_session.specs.Handshake.{open_initializes}
 use Rattle.lsp_session.specs.Sent.{Sent}
@@ -105,15 +103,6 @@ pub record Keeps (raw : Raw) (terms : Terms) (before : Counts) (messages : sessi
   pub holds : Holds messages documents (events ++ event ∷ [])
   -- also where more events were counted, which were refused
   pub counted : (all : List Event) → AreCounts before all → AreCounts after (all ++ event ∷ [])
-
--- the content is a message that doesn't offend after any events with this result, and what is held
--- is their result with it
-abbrev pub TakesContent : Side → List ℕ → Terms → session.State → docs.State → session.State
-    → docs.State → Type 0
-TakesContent side bytes terms old_messages old_documents messages documents =
-    (spoken : Spoken) × ((events : List Event) → Holds old_messages old_documents events
-    → Hears side bytes (message_view spoken.message) (act_view spoken.act) terms messages documents
-    events)
 
 -- it is kept, after whatever events have this result
 abbrev pub Takes : Raw → Terms → Counts → session.State → docs.State → session.State → docs.State

@@ -123,8 +123,8 @@ pub record Comes (raw : Raw) (terms : Terms) (messages : session.State) (documen
 -- the run stops so, or the account goes on
 abbrev pub Goes : Run → Terms → List Heard → Heard → Type 0 → Flow → Type 0
 Goes run terms before h Stands GoOn = (run.stops terms before h ≡ false) × Stands
-Goes run terms before h Stands (Stop outcome) =
-    (run.stops terms before h ≡ true) × run.ends terms before h outcome
+Goes run terms before h Stands (Stop boxed) =
+    (run.stops terms before h ≡ true) × run.ends terms before h boxed.value
 
 -- **what the run says of the event is said**, whatever rests the log has that fit
 pub record Says (run : Run) (terms : Terms) (before : List Heard) (h : Heard)

@@ -12,7 +12,6 @@ ghost use Rattle.lsp_replay.specs.Apart.{Says};
 ghost use Rattle.lsp_verdict.specs.Lent.{raw_view};
 ghost use Rattle.lsp_replay.specs.Standing.{Follows, Hears, Holds, IsUnread, RefusesBy};
 ghost use Rattle.lsp_replay.specs.Standing.{RefusesCall, RefusesFor, Takes, TakesCall};
-ghost use Rattle.lsp_replay.specs.Standing.{TakesContent};
 ghost use Rattle.lsp_verdict.specs.Placed as placed;
 
 use crate::fault::Fault;
@@ -34,7 +33,7 @@ pub struct Events<S: TextStore> {
     pub session: Session,
     pub docs: Docs<S>,
     pub counts: Counts,
-    messages: MessageReader,
+    pub(crate) messages: MessageReader,
 }
 
 impl<S: TextStore> Events<S> {
@@ -71,9 +70,8 @@ impl<S: TextStore> Events<S> {
     {
         match raw {
             Raw::Content { side, content } => {
-                self.take_content(side, content)?;
-                self.counts.add(who_of(side));
-                Ok(())
+                let mut spoken = self.messages.blank();
+                self.take_content(side, content, &mut spoken)
             }
             Raw::Broken { rule, .. } => Err(Fault::Rule(rule)),
             Raw::Snapshot { version, uri, text } => {
@@ -85,66 +83,24 @@ impl<S: TextStore> Events<S> {
         }
     }
 
-    /// Reads a content of a side, admits the message that it is, and takes over what that says
-    /// about a document. The message is read in one place and dropped there.
-    fn take_content(&mut self, side: Side, content: &[u8]) -> Result<(), Fault>
+    /// Takes a content of a side, which is read in the place of this message.
+    fn take_content(&mut self, side: Side, content: &[u8], spoken: &mut Spoken) -> Result<(), Fault>
         ensures terms { self.new.docs.terms ≡ self.old.docs.terms }
-        ensures counts { self.new.counts ≡ self.old.counts }
-        ensures ok { OnOk result (TakesContent side content.now self.old.docs.terms
-            self.old.session self.old.docs self.new.session self.new.docs) }
+        ensures ok { OnOk result (Takes (placed.content side content.now) self.old.docs.terms
+            self.old.counts self.old.session self.old.docs self.new.session self.new.docs
+            self.new.counts) }
         ensures rule { IfErr result (λ fault. (events : List Event)
             → Holds self.old.session self.old.docs events
             → RefusesFor (placed.content side content.now) self.old.docs.terms events fault) }
         ensures err { OnErr result ((events : List Event)
             → Holds self.old.session self.old.docs events
             → Holds self.new.session self.new.docs events) }
-    {
-        let mut spoken = self.messages.blank();
-        self.take_at(side, content, &mut spoken)
-    }
-
-    /// Takes a content as [`take_content`](Events::take_content) does, in the place of this message.
-    fn take_at(&mut self, side: Side, content: &[u8], spoken: &mut Spoken) -> Result<(), Fault>
-        ensures terms { self.new.docs.terms ≡ self.old.docs.terms }
-        ensures counts { self.new.counts ≡ self.old.counts }
-        ensures ok { OnOk result (TakesContent side content.now self.old.docs.terms
-            self.old.session self.old.docs self.new.session self.new.docs) }
-        ensures rule { IfErr result (λ fault. (events : List Event)
-            → Holds self.old.session self.old.docs events
-            → RefusesFor (placed.content side content.now) self.old.docs.terms events fault) }
-        ensures err { OnErr result ((events : List Event)
-            → Holds self.old.session self.old.docs events
-            → Holds self.new.session self.new.docs events) }
+        ensures uncounted { OnErr result (self.new.counts ≡ self.old.counts) }
     {
         read_into(&self.session, &mut self.messages, side, content, spoken)?;
-        self.follow(side, spoken)
-    }
-
-    /// A message that says nothing, in the place of which a content can be read. It takes no memory.
-    pub(crate) fn blank(&self) -> Spoken {
-        self.messages.blank()
-    }
-
-    /// Reads a content of a side with what it means, in the place of another message. It is heard
-    /// once it is followed.
-    ///
-    /// # Errors
-    /// `Rule` by the least of 201 to 209 that the content breaks, and `Memory` where memory was
-    /// refused.
-    pub(crate) fn read_into(
-        &mut self,
-        side: Side,
-        content: &[u8],
-        spoken: &mut Spoken,
-    ) -> Result<(), Fault>
-        ensures session { self.new.session ≡ self.old.session }
-        ensures docs { self.new.docs ≡ self.old.docs }
-        ensures counts { self.new.counts ≡ self.old.counts }
-        ensures ok { OnOk result (Says self.old.session side content.now
-            (message_view spoken.new.message) (act_view spoken.new.act)) }
-        ensures rule { IfErr result (IsUnread side content.now) }
-    {
-        read_into(&self.session, &mut self.messages, side, content, spoken)
+        self.follow(side, spoken)?;
+        self.counts.add(who_of(side));
+        Ok(())
     }
 
     /// Admits the message that a content is, and takes over what it says about a document. The
@@ -196,8 +152,12 @@ fn wanted_results(session: &Session) -> Results
     }
 }
 
-/// Reads a content with what it means on its side, in the place of another message.
-fn read_into(
+/// Reads a content of a side with what it means, in the place of another message. It is heard once
+/// it is followed.
+///
+/// # Errors
+/// `Rule` by the least of 201 to 209 that the content breaks, and `Memory` where memory was refused.
+pub(crate) fn read_into(
     session: &Session,
     messages: &mut MessageReader,
     side: Side,

@@ -19,7 +19,7 @@ ghost use Rattle.lsp_verdict.specs.Placed as placed;
 ghost use Rattle.lsp_verdict.specs.RunIo.{BreaksOff};
 
 use crate::account::Account;
-use crate::events::Events;
+use crate::events::{Events, read_into};
 use crate::fault::Fault;
 use crate::log_events::{End, LogEvents, Next};
 use crate::seen::{Flow, Seen};
@@ -109,7 +109,7 @@ fn read_log<R: Source, W: Sink, A: Account>(
                 let text = &mut reading.text;
                 match tell(alloc, &mut reading.held, text, writer, account, raw)? {
                     Flow::GoOn => {}
-                    Flow::Stop(outcome) => return Ok(outcome),
+                    Flow::Stop(outcome) => return Ok(Box::into_inner(outcome)),
                 }
             }
         }
@@ -180,7 +180,7 @@ fn see<A: Account>(
 {
     match raw {
         Raw::Content { side, content } => {
-            let mut spoken = held.blank();
+            let mut spoken = held.messages.blank();
             see_content(alloc, held, account, side, content, &mut spoken, text)
         }
         Raw::Broken { rule, .. } => skip(alloc, held, account, raw, rule, None, text),
@@ -211,7 +211,7 @@ fn see_content<A: Account>(
         (A.stands account.new terms (before ++ h ∷ [])) held.new.session held.new.docs
         held.new.counts flow) }
 {
-    match held.read_into(side, content, spoken) {
+    match read_into(&held.session, &mut held.messages, side, content, spoken) {
         Ok(()) => see_message(alloc, held, account, side, content, spoken, text),
         Err(fault) => {
             let rule = fault.rule()?;

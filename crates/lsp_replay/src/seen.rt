@@ -45,8 +45,8 @@ pub enum Seen<'a> {
 pub enum Flow {
     /// It does.
     GoOn,
-    /// It ends so, and nothing more is read.
-    Stop(Outcome),
+    /// It ends so, and nothing more is read. The outcome is large, and rarely given.
+    Stop(Box<Outcome>),
 }
 
 /// Adds the line of an event that is kept to a text, short or long.

@@ -70,7 +70,8 @@ impl Account for HeldText<'_> {
         }
         let answer = TextAnswer::held(alloc, &held.docs, self.uri)?;
         let outcome = answer.add(text)?;
-        Ok(Flow::Stop(outcome))
+        let boxed = Box::new(alloc, outcome)?;
+        Ok(Flow::Stop(boxed))
     }
 
     fn end(

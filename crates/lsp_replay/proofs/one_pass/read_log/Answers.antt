@@ -64,7 +64,8 @@ returns-in-Stop g c = λ start opens.
     let here = c.loop-fault.invariant.1 start opens in
     let told = rw (c.in-Ok-Event.is, c.in-Ok-Event.field-0-is) at c.next.follows.holds-at-none in
     let steps = rw c.in-Stop.is at c.in_ok-tell-in-Ok-Event.ensures.steps in
-    goes_stop _ g.A.Account.run _ _ _ c.loop-fault.reading.log _ _ _ start _ _ _ here
+    rw c.into_inner.ensures
+    (goes_stop _ g.A.Account.run _ _ _ c.loop-fault.reading.log _ _ _ start _ _ _ here
     c.next.follows.lender-at-none _ c.in-Ok-Event.raw told
     (g.A.Account.stands c.tell.new.account) _ _ _ _ _ c.loop-fault.invariant.0
-    c.in-Stop.outcome steps
+    c.in-Stop.outcome steps)

@@ -12,25 +12,23 @@ use Rattle.lsp_replay.proofs.one_pass.see_message.Goals as goal
 
 pub returns-in_ok-flow-in-Ok-clause-saw : goal.returns-in_ok-flow-in-Ok-clause-saw
 returns-in_ok-flow-in-Ok-clause-saw g c = λ terms before h comes says.
-    let side = c.args.side in
-    let bytes = c.args.content.now in
     let spoken = c.args.spoken.now in
-    let hears = c.in-Ok.ensures.ok bytes (kept_before terms before) says comes.stood.holds in
-    let counted = counted_on _ terms _ _ _ before h _ comes _ (λ events event counts whose.
+    let hears = c.in-Ok.ensures.ok c.args.content.now (kept_before terms before) says
+    comes.stood.holds in
+    let stood = heard_stood comes spoken hears _ c.in-Ok.ensures.terms
+    (counted_on comes _ (λ events event counts whose.
     c.add.ensures events event (subst (λ (w : Counts). AreCounts w events)
-    (sym c.in-Ok.ensures.counts) counts) (whose ∙ sym c.who_of.ensures)) in
-    let stood = heard_stood side bytes terms _ _ _ before h _ comes spoken _ _ hears _
-    c.in-Ok.ensures.terms counted in
+    (sym c.in-Ok.ensures.counts) counts) (whose ∙ sym c.who_of.ensures))) in
     record {
       stood = stood;
       says = c.in_ok-flow-in-Ok.ensures.says terms before h comes.stands (record {
         stood = stood;
         few = comes.few;
-        noted = noted_here _ terms _ _ _ before h _ comes;
+        noted = noted_here comes;
         as_is = (
           comes.raw_is,
-          heard_rule side bytes terms _ _ _ before h _ comes spoken _ _ hears,
-          heard_spoken side bytes terms _ _ _ before h _ comes spoken _ _ hears,
+          heard_rule comes spoken hears,
+          heard_spoken comes spoken hears,
         );
       });
     }
@@ -46,8 +44,7 @@ returns-in_ok-rule-in-Err-clause-saw g c =
     let refuses = subst (λ (f : Fault). RefusesBy side bytes (message_view spoken.message)
     (act_view spoken.act) c.args.held.now.docs.terms kept f) c.in_ok-rule-in-Err.ensures
     (c.in-Err.ensures.rule bytes kept says comes.stood.holds) in
-    saw terms before h (comes_still _ terms _ _ _ before h _ comes _ _ _ c.in-Err.ensures.terms
+    saw terms before h (comes_still comes _ _ _ c.in-Err.ensures.terms
     (c.in-Err.ensures.err bytes kept says comes.stood.holds) c.in-Err.ensures.counts)
-    (refused_rule side bytes terms _ _ _ before h _ comes spoken rule refuses)
-    (side, refused_spoken side bytes terms _ _ _ before h _ comes spoken rule refuses))
+    (refused_rule comes spoken rule refuses) (side, refused_spoken comes spoken rule refuses))
     c.skip.ensures.saw

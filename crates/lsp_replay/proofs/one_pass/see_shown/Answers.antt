@@ -9,38 +9,29 @@ use Rattle.lsp_replay.proofs.one_pass.see_shown.Goals as goal
 pub returns-in_ok-flow-in-Ok-clause-saw : goal.returns-in_ok-flow-in-Ok-clause-saw
 returns-in_ok-flow-in-Ok-clause-saw g c = λ terms before h comes.
     let number = c.args.version in
-    let own = to_z w32 (of_z w32 number) in
-    let uri = c.args.uri.now in
-    let text = c.args.shown.now in
     let fits : SFits w32 number = c.ranges.version in
     let accepts = simp to_z-of_z at c.in-Ok.ensures.accepts in
     let answer = simp to_z-of_z at c.in-Ok.ensures.answer in
-    let counted = counted_on _ terms _ _ _ before h _ comes _ (λ events event counts whose.
-    c.add.ensures events event counts whose) in
-    let stood = shown_stood number uri text terms _ _ _ before h _ comes _ accepts _ counted in
+    let stood = shown_stood comes accepts _ (counted_on comes _ (λ events event counts whose.
+    c.add.ensures events event counts whose)) in
     record {
       stood = stood;
       says = c.in_ok-flow-in-Ok.ensures.says terms before h comes.stands (record {
         stood = stood;
         few = comes.few;
-        noted = noted_here _ terms _ _ _ before h _ comes;
-        as_is = shown_as number uri text terms _ _ _ before h _ comes _ accepts own
-            (to_z-of_z w32 number fits) _ answer;
+        noted = noted_here comes;
+        as_is = shown_as comes accepts (to_z w32 (of_z w32 number)) (to_z-of_z w32 number fits) _
+            answer;
       });
     }
 
 pub returns-in_ok-rule-in-Err-clause-saw : goal.returns-in_ok-rule-in-Err-clause-saw
 returns-in_ok-rule-in-Err-clause-saw g c =
     let number = c.args.version in
-    let own = to_z w32 (of_z w32 number) in
-    let uri = c.args.uri.now in
-    let text = c.args.shown.now in
-    let rule = c.in_ok-rule-in-Err.rule in
     let fits : SFits w32 number = c.ranges.version in
     let refuses = simp to_z-of_z at c.in-Err.ensures.refuses in
     let fault = sym c.from.ensures ∙ c.in_ok-rule-in-Err.ensures in
     IfOk-weaker c.skip.result _ _ (λ flow saw terms before h comes.
-    saw terms before h (shown_comes number uri text terms _ _ _ before h _ comes own
-    (to_z-of_z w32 number fits) _ c.in-Err.ensures.err)
-    (shown_refused number uri text terms _ _ _ before h _ comes rule _ refuses fault)
-    (shown_silent number uri text terms _ _ _ before h _ comes)) c.skip.ensures.saw
+    saw terms before h (shown_comes comes (to_z w32 (of_z w32 number)) (to_z-of_z w32 number fits)
+    _ c.in-Err.ensures.err) (shown_refused comes c.in_ok-rule-in-Err.rule _ refuses fault)
+    (shown_silent comes)) c.skip.ensures.saw

@@ -1,5 +1,6 @@
-use Rattle.std.proofs.Common.{string_bytes}
+use Rattle.std.proofs.Common.{string_bytes, subst, sym}
 use Rattle.lsp_replay.specs.Telling.{FitsRests}
+use Rattle.lsp_verdict.specs.TextAfter.{EndsAs}
 use Rattle.lsp_survey.proofs.SurveySteps.{kept_seen, offence_seen}
 use Rattle.lsp_explain.proofs.Comparing.{kept_silent, told_text}
 use Rattle.lsp_explain.proofs.compared.OneTextAccount.event.Goals as goal
@@ -16,7 +17,7 @@ pub returns-clause-says : goal.returns-clause-says
 returns-clause-says c = λ terms before h clean seen.
     let own = offence_seen terms before h c.args.seen _ _ _ c.in-Offence.is seen.as_is in
     told_text c.args.self.now.which terms before h (FitsRests c.args.seen)
-    (string_bytes c.args.text.now) _ _ _ c.in-Offence.rule c.in_ok-outcome.outcome own.1
+    (string_bytes c.args.text.now) _ _ _ c.in-Offence.rule c.in_ok-boxed.boxed own.1
     (c.in_ok-texts.ensures terms before h
     (rw c.in-Offence.is at seen)) c.one_of.ensures c.in_ok-outcome.ensures.0
-    c.in_ok-outcome.ensures.1
+    (subst (EndsAs _) (sym c.in_ok-boxed.ensures) c.in_ok-outcome.ensures.1)

@@ -43,7 +43,8 @@ returns-clause-says c = λ terms before h stands seen.
     (before ++ h ∷ [])) same seen.stood)
     (subst (λ (t : Terms). rule_of t before h ≡ Some c.in-Offence.rule) same own.1) in
     first_told terms before h c.args.self.now c.args.self.now stands (FitsRests c.args.seen)
-    (string_bytes c.args.text.now) _ c.in-Offence.rule c.verdict.result _ _ own.1
+    (string_bytes c.args.text.now) _ c.in-Offence.rule c.verdict.result c.in_ok-boxed.boxed _ _
+    c.in_ok-boxed.ensures own.1
     (c.verdict.ensures ∙ ap (λ (x : Offence). x.no) last)
     (told_of terms before h c.args.seen c.in-Offence.raw c.in-Offence.rule c.in-Offence.spoken
     c.last_offence-offence.result c.in-Offence.is named.0 _ _
