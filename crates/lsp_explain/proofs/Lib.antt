@@ -18,6 +18,7 @@ pub mod AllExplanations
 pub mod Judged
 pub mod SaidFacts
 pub mod Telling
+pub mod Standard
 pub mod Trails
 pub mod Ending
 pub mod Comparing

@@ -1,12 +1,17 @@
 -- Which calls LSP 3.17 has in another way than they were sent.
-use Rattle.std.specs.Prelude.{ℕ, List, [], ◌∷◌, ◌++◌, map, Bool, if◌then◌else◌, Option, Some}
+use Rattle.std.specs.Prelude.{◌≡◌, ℕ, List, [], ◌∷◌, ◌++◌, map, Bool, if◌then◌else◌, Option, Some}
 use Rattle.std.specs.Prelude.{None, option_and_then, option_map, string_bytes}
 use Rattle.std.specs.List.{filter_map, list_any}
 use Rattle.std.specs.Str.{bytes_eq}
+use Rattle.lsp_docs.specs.Calls.{Call}
+use Rattle.lsp_rpc.specs.Act.{Act}
 use Rattle.lsp_rpc.specs.Message.{Message, request, notification, response}
+use Rattle.lsp_types.specs.declared.change.SyncKind.{SyncKind}
+use Rattle.lsp_types.specs.declared.position.Encoding.{Encoding}
 use Rattle.lsp_types.specs.declared.side.Side.{Side}
 use Rattle.lsp_types.specs.declared.side.Side.TheVariants.{Editor, Server}
 use Rattle.lsp_explain.specs.Asking.{Numbered}
+use Rattle.lsp_verdict.specs.Calls.{call_of}
 use Rattle.lsp_explain.specs.StandardMethods.{use_of}
 use Rattle.lsp_replay.specs.declared.heard.EventPlace.{EventPlace}
 use Rattle.lsp_explain.specs.declared.notes.misuses.Misuse.{Misuse}
@@ -55,6 +60,11 @@ misuse_in p side (request id name params) = option_map (misused p name) (request
 misuse_in p side (notification name params) =
     option_map (misused p name) (notification_misuse side name)
 misuse_in p side (response id reply) = None
+
+-- where a message says something of a document, it has no misuse
+abbrev pub IsStandard : Side → Message → Act → Type 0
+IsStandard side m act = (enc : Encoding) (kind : SyncKind) (call : Call)
+    → call_of enc kind act ≡ Some call → (p : EventPlace) → misuse_in p side m ≡ None
 
 abbrev pub misuse_at : Numbered → Option Misused
 misuse_at m = misuse_in m.place m.sent.side m.sent.message

@@ -1,8 +1,9 @@
 //! What is remarkable about the messages of a session, though it breaks no rule.
-ghost use Rattle.std.specs.Prelude.{◌≡◌, ◌&&◌, [], IfOk, OnOk, if◌then◌else◌, not, option_map};
+ghost use Rattle.std.specs.Prelude.{◌≡◌, ◌&&◌, [], None, true, IfOk, OnOk, if◌then◌else◌, not, option_map};
 ghost use Rattle.std.specs.Prelude.{string_bytes};
 ghost use Rattle.serde_json.specs.View.{view};
 ghost use Rattle.lsp_rpc.specs.View.{message_view};
+ghost use Rattle.lsp_explain.specs.Misuses.{misuse_in};
 ghost use Rattle.lsp_explain.specs.SessionRemarks as spec;
 ghost use Rattle.lsp_explain.specs.SessionRemarks.{AreRemarks, Remarked, older_held, older_of};
 
@@ -59,7 +60,8 @@ impl Remarks {
     }
 
     /// Takes over a message that is kept, the event of this place, before and after which the
-    /// session is in these phases, and after which the handshake is settled or is not.
+    /// session is in these phases, and after which the handshake is settled or is not. Its method is
+    /// looked up unless it is known to be sent as LSP 3.17 defines it.
     ///
     /// # Errors
     /// `Memory` where memory was refused.
@@ -71,14 +73,20 @@ impl Remarks {
         before: Phase,
         after: Phase,
         done: bool,
+        known: bool,
     ) -> Result<(), Memory>
-        ensures { OnOk result (Remarked place side (message_view message.now) before after done
+        ensures { OnOk result (
+            (known ≡ true → misuse_in place side (message_view message.now) ≡ None)
+            → Remarked place side (message_view message.now) before after done
             self.old self.new) }
     {
         if is_abrupt(before, after) {
             self.abrupt_exit = Some(place);
         }
         self.keep_answer(message, done)?;
+        if known {
+            return Ok(());
+        }
         note_misuse(&mut self.misuses, place, side, message)
     }
 

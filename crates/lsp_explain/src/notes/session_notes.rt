@@ -1,12 +1,12 @@
 //! Which events sent and answered requests, and which event led to the phase.
-ghost use Rattle.std.specs.Prelude.{◌≡◌, [], List, OnOk, option_map, unwrap_or};
+ghost use Rattle.std.specs.Prelude.{◌≡◌, [], List, None, OnOk, option_map, true, unwrap_or};
 ghost use Rattle.lsp_docs.specs.Terms.{Terms};
 ghost use Rattle.lsp_rpc.specs.Ident.{id_view};
 ghost use Rattle.lsp_rpc.specs.View.{act_view, message_view};
 ghost use Rattle.lsp_verdict.specs.Event.{Event};
 ghost use Rattle.lsp_explain.specs.Asking.{answered, asked, leads, numbered, same_phase, sents};
 ghost use Rattle.lsp_explain.specs.Asking.{since};
-ghost use Rattle.lsp_explain.specs.Misuses.{misused_views, misuses};
+ghost use Rattle.lsp_explain.specs.Misuses.{IsStandard, misuse_in, misused_views, misuses};
 ghost use Rattle.lsp_explain.specs.SessionRemarks.{Remarked, abrupt_exit, older_encoding};
 ghost use Rattle.lsp_explain.specs.Renames.{RenamesIn, renamed, renamed_view};
 ghost use Rattle.lsp_explain.specs.SessionNoting.{AreNotes, Exchanges};
@@ -18,6 +18,7 @@ use crate::notes::renames::{Renamed, Renames};
 use lsp_replay::EventPlace;
 use lsp_rpc::{Id, Memory, Message, Side, Spoken};
 use lsp_session::Phase;
+use lsp_survey::uri_in;
 use std::alloc::Global;
 
 /// Which events sent and answered the requests of both sides, and which one led to the phase of the
@@ -138,17 +139,21 @@ impl SessionNotes {
         ensures phase { self.new.phase ≡ phase }
         ensures since { self.new.since
             ≡ unwrap_or (leads place self.old.phase phase) self.old.since }
-        ensures remarks { OnOk result (Remarked place side (message_view spoken.now.message)
+        ensures remarks { OnOk result (
+            IsStandard side (message_view spoken.now.message) (act_view spoken.now.act)
+            → Remarked place side (message_view spoken.now.message)
             self.old.phase phase done self.old.remarks self.new.remarks) }
         ensures renames { OnOk result (RenamesIn place side content.now
             (message_view spoken.now.message) (act_view spoken.now.act) self.old.renames
             self.new.renames) }
     {
-        self.keep_message(place, side, &spoken.message, phase, done)?;
+        let known = uri_in(&spoken.act).is_some();
+        self.keep_message(place, side, &spoken.message, phase, done, known)?;
         self.renames.keep(place, side, content, spoken)
     }
 
-    /// Notes a message that is kept, apart from what it says about files.
+    /// Notes a message that is kept, apart from what it says about files, whose method need not be
+    /// looked up where it is known to be sent as LSP 3.17 defines it.
     fn keep_message(
         &mut self,
         place: EventPlace,
@@ -156,6 +161,7 @@ impl SessionNotes {
         message: &Message,
         phase: Phase,
         done: bool,
+        known: bool,
     ) -> Result<(), Memory>
         ensures editor { OnOk result
             (Exchanges Side.Editor place side
@@ -166,7 +172,9 @@ impl SessionNotes {
         ensures phase { self.new.phase ≡ phase }
         ensures since { self.new.since
             ≡ unwrap_or (leads place self.old.phase phase) self.old.since }
-        ensures remarks { OnOk result (Remarked place side (message_view message.now)
+        ensures remarks { OnOk result (
+            (known ≡ true → misuse_in place side (message_view message.now) ≡ None)
+            → Remarked place side (message_view message.now)
             self.old.phase phase done self.old.remarks self.new.remarks) }
         ensures renames { self.new.renames ≡ self.old.renames }
     {
@@ -176,7 +184,7 @@ impl SessionNotes {
         }
         self.phase = phase;
         self.remarks
-            .keep(place, side, message, before, phase, done)?;
+            .keep(place, side, message, before, phase, done, known)?;
         self.exchange(place, side, message)
     }
 

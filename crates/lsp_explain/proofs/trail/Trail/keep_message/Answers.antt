@@ -7,6 +7,7 @@ use Rattle.lsp_explain.specs.Asking.{leads}
 use Rattle.lsp_explain.proofs.RemarkSteps.{on_ok_four}
 use Rattle.lsp_verdict.specs.Counting.{AreCounts}
 use Rattle.lsp_verdict.specs.Heard.{heard_events}
+use Rattle.lsp_explain.proofs.Standard.{spoken_standard}
 use Rattle.lsp_explain.proofs.Trails.{trail_said}
 use Rattle.lsp_explain.proofs.trail.Trail.keep_message.Goals as goal
 
@@ -29,6 +30,7 @@ returns c =
       phase_is = c.keep.ensures.phase ∙ behind;
       since_is = c.keep.ensures.since
           ∙ (λ i. unwrap_or (leads c.last-place.result old.phase (behind i)) old.since);
-      remarked = rw (behind, done) at remarked;
+      remarked = rw (behind, done) at (remarked (spoken_standard (kept_before terms before)
+          h.note.event c.args.side c.args.content.now c.args.spoken.now noted.0 spoken));
       renamed = renamed;
     })) c.keep.ensures.editor c.keep.ensures.server c.keep.ensures.remarks c.keep.ensures.renames
