@@ -261,31 +261,34 @@ module _ (terms : Terms) (before : List Heard) (h : Heard) (rule : ℕ) where
 
   module _ (m : session.State) (d : docs.State) (c : Counts)
       (stood : Stood terms m d c (before ++ h ∷ [])) (offends : rule_of terms before h ≡ Some rule)
-      where
-    -- what is held is that before it
-    held_before : Holds m d kept
-    held_before = subst (Holds m d) (ap (kept_of terms) (events-push before h)
-        ∙ kept-refused terms (heard_events before) h.note.event rule offends) stood.holds
+    where
+      -- what is held is that before it
+      held_before : Holds m d kept
+      held_before = subst (Holds m d) (ap (kept_of terms) (events-push before h)
+          ∙ kept-refused terms (heard_events before) h.note.event rule offends) stood.holds
 
-    -- a message compares what it says
-    pub message_compared : (side : Side) (s : Spoken) (texts : Option TwoTexts)
-        → IsSpoken kept h.note.event side s
-        → ((events : List Event) (sent : Sent) → Holds m d events → sent.act ≡ act_view s.act
-        → texts ≡ texts_at d.terms events (message sent) rule) → texts ≡ due
-    message_compared side s texts spoken are =
-        are kept spoken.sent held_before spoken.means
-        ∙ ap (λ (t : Terms). texts_at t kept (message spoken.sent) rule) stood.by
-        ∙ ap (λ (e : Event). texts_at terms kept e rule) (sym spoken.is)
+      -- a message compares what it says
+      pub message_compared : (side : Side) (s : Spoken) (texts : Option TwoTexts)
+          → IsSpoken kept h.note.event side s
+          → ((events : List Event) (sent : Sent) → Holds m d events → sent.act ≡ act_view s.act
+          → texts ≡ texts_at d.terms events (message sent) rule) → texts ≡ due
+      message_compared side s texts spoken are =
+          are kept spoken.sent held_before spoken.means
+          ∙ ap (λ (t : Terms). texts_at t kept (message spoken.sent) rule) stood.by
+          ∙ ap (λ (e : Event). texts_at terms kept e rule) (sym spoken.is)
 
-    -- a snapshot its text
-    pub shown_compared : (version : ℤ) (uri text : List ℕ) (texts : Option TwoTexts)
-        → h.note.event ≡ snapshot uri version (chars text)
-        → ((events : List Event) → docs.Stands d (calls events)
-        → texts ≡ texts_at d.terms events (snapshot uri version (chars text)) rule) → texts ≡ due
-    shown_compared version uri text texts own are =
-        are kept held_before.called
-        ∙ ap (λ (t : Terms). texts_at t kept (snapshot uri version (chars text)) rule) stood.by
-        ∙ ap (λ (e : Event). texts_at terms kept e rule) (sym own)
+      -- a snapshot its text
+      pub shown_compared : (version : ℤ) (uri text : List ℕ) (texts : Option TwoTexts)
+          → h.note.event ≡ snapshot uri version (chars text)
+          → ((events : List Event) → docs.Stands d (calls events)
+          → offence d.terms events (snapshot uri version (chars text)) ≡ Some rule
+          → texts ≡ texts_at d.terms events (snapshot uri version (chars text)) rule) → texts ≡ due
+      shown_compared version uri text texts own are =
+          are kept held_before.called
+          (ap (λ (t : Terms). offence t kept (snapshot uri version (chars text))) stood.by
+          ∙ ap (λ (e : Event). offence terms kept e) (sym own) ∙ offends)
+          ∙ ap (λ (t : Terms). texts_at t kept (snapshot uri version (chars text)) rule) stood.by
+          ∙ ap (λ (e : Event). texts_at terms kept e rule) (sym own)
 
 -- ---- the account
 

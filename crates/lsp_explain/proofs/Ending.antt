@@ -348,22 +348,24 @@ module _ (completeness : Completeness) (terms : Terms) (heard : List Heard) (e :
       )
 
 -- one more of what is listed is said
-pub ends_more : (terms : Terms) (heard : List Heard) (rests : Rests)
+pub ends_more : (terms own : Terms) (heard : List Heard) (rests : Rests)
     (xs : List code_offence.Offence) (i : ℕ) (x : code_offence.Offence) (old mid new : List ℕ)
-    → slice_get xs i ≡ Some x
+    → own ≡ terms → slice_get xs i ≡ Some x
     → mid ≡ old ++ flat_map cause_lines
     (ends_said terms heard rests (map (λ o. (offence_view o).no) (take i xs)))
-    → new ≡ mid ++ cause_lines (end_explained rests (numbered terms (heard_events heard))
+    → new ≡ mid ++ cause_lines (end_explained rests (numbered own (heard_events heard))
     (offence_view x).no)
     → new ≡ old ++ flat_map cause_lines
     (ends_said terms heard rests (map (λ o. (offence_view o).no) (take (i + 1) xs)))
-ends_more terms heard rests xs i x old mid new at said more =
+ends_more terms own heard rests xs i x old mid new same at said more =
     let no : code_offence.Offence → Verdict = λ o. (offence_view o).no in
     let explained : Verdict → Explained =
     end_explained rests (numbered terms (heard_events heard)) in
     let here = ends_said terms heard rests (map no (take i xs)) in
     let one = cause_lines (explained (no x)) in
-    more ∙ ap (λ w. w ++ one) said
+    more ∙ ap (λ (t : Terms). mid ++ cause_lines (end_explained rests
+    (numbered t (heard_events heard)) (no x))) same
+    ∙ ap (λ w. w ++ one) said
     ∙ append_assoc old (flat_map cause_lines here) one
     ∙ ap (λ w. old ++ (flat_map cause_lines here ++ w)) (sym (append-nil one))
     ∙ ap (λ w. old ++ w) (sym (flat_map-append cause_lines here (explained (no x) ∷ [])))

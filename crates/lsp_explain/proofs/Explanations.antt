@@ -215,9 +215,12 @@ module _ (completeness : Completeness) where
         let none : front ++ left ≡ [] = quiet_all (explain_run completeness) quiet
         (log_terms limits h.format) h.tail.rests [] h.first (front ++ left) h.says in
         let some = some_explanation completeness limits log in
-        let empty : front ≡ [] = no_front front left none in
-        (some.0, some.1, subst (λ (w : List ℕ). IsExplanation completeness limits log some.0
-        (w ++ some.1)) (sym empty) some.2)
+        let empty : front ≡ [] = no_front front left none in (
+          some.0,
+          some.1,
+          subst (λ (w : List ℕ). IsExplanation completeness limits log some.0
+              (w ++ some.1)) (sym empty) some.2,
+        )
       where
         no_front : (xs ys : List ℕ) → xs ++ ys ≡ [] → xs ≡ []
         no_front [] ys is = refl

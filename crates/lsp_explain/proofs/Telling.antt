@@ -85,17 +85,18 @@ placed_by o before event few is =
     }
 
 -- what is known of the past stands for the events before one that offends
-pub stands_before : (past : Past) (before : List Heard) (h : Heard) (rule : ℕ)
-    → IsTrail (terms_in past) past.trail.now (heard_events before)
-    → Stood (terms_in past) past.held.now.session past.held.now.docs past.held.now.counts
-    (before ++ h ∷ []) → rule_of (terms_in past) before h ≡ Some rule
+pub stands_before : (past : Past) (terms : Terms) (before : List Heard) (h : Heard) (rule : ℕ)
+    → IsTrail terms past.trail.now (heard_events before)
+    → Stood terms past.held.now.session past.held.now.docs past.held.now.counts
+    (before ++ h ∷ []) → rule_of terms before h ≡ Some rule
     → StandsAfter past (heard_events before)
-stands_before past before h rule trail stood offends = record {
-  holds = subst (Holds past.held.now.session past.held.now.docs)
-      (ap (kept_of (terms_in past)) (events-push before h)
-      ∙ kept-refused (terms_in past) (heard_events before) h.note.event rule offends)
-      stood.holds;
-  trail = trail;
+stands_before past terms before h rule trail stood offends = record {
+  holds = subst (λ (t : Terms). Holds past.held.now.session past.held.now.docs
+      (kept_of t (heard_events before))) (sym stood.by)
+      (subst (Holds past.held.now.session past.held.now.docs)
+      (ap (kept_of terms) (events-push before h)
+      ∙ kept-refused terms (heard_events before) h.note.event rule offends) stood.holds);
+  trail = subst (λ (t : Terms). IsTrail t past.trail.now (heard_events before)) (sym stood.by) trail;
 }
 
 -- what is said of such an event

@@ -131,13 +131,14 @@ impl Account for AllCauses {
         };
         let offence = last_offence(&held.counts, raw.who(), rule, follows);
         self.tally.add(&offence);
-        if !follows {
-            let past = Past {
-                held,
-                trail: &self.trail,
-            };
-            push_offence(alloc, text, past, &offence, raw, spoken)?;
+        if follows {
+            return Ok(Flow::GoOn);
         }
+        let past = Past {
+            held,
+            trail: &self.trail,
+        };
+        push_offence(alloc, text, past, &offence, raw, spoken)?;
         Ok(Flow::GoOn)
     }
 

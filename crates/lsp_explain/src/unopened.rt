@@ -53,12 +53,7 @@ fn push_closing(facts: &mut Facts, closing: Closing) -> Result<(), Memory>
 }
 
 /// Adds the open documents of which the URI differs from this one in its spelling alone.
-fn push_similar(
-    alloc: Global,
-    facts: &mut Facts,
-    past: Past<'_>,
-    uri: &str,
-) -> Result<(), Memory>
+fn push_similar(alloc: Global, facts: &mut Facts, past: Past<'_>, uri: &str) -> Result<(), Memory>
     ensures { OnOk result ((before : List Event) → StandsAfter past.entry before
         → facts.new ≡ facts.old ++ spec.similar_facts (terms_in past.entry) before uri.now) }
 {

@@ -150,13 +150,16 @@ shown_other d calls stands uri number t rule no701 e o is =
           ∙ sym found.2
     ]
 
+-- a snapshot that differs is not a late one
+pub not_late : (rule : ℕ) → rule ≡ 702 → rule ≡ 701 → ⊥
+not_late rule differs late = absurd (cc (sym differs ∙ late))
+
 -- 701 compares no texts
 pub shown_differs : (terms : Terms) (calls : List Call) (uri : List ℕ) (number : ℤ) (t : Text)
     (rule : ℕ) → is_of_texts rule ≡ true → call_rule terms calls (shows uri number t) ≡ Some rule
     → rule ≡ 702
 shown_differs terms calls uri number t rule of e =
-    elim (show_breaks terms.line_ends number t (kept terms uri calls) (held terms uri calls) rule e)
-    [
+    elim (show_breaks terms.line_ends number t (kept terms uri calls) (held terms uri calls) rule e) [
       | inl late ↦ absurd (true≢false (sym of ∙ ap is_of_texts late))
       | inr found ↦ found.0
     ]

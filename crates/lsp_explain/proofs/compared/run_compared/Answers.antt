@@ -1,12 +1,10 @@
-use Rattle.std.proofs.Common.{refl}
 use Rattle.lsp_replay.proofs.TextRuns.{passed_text}
 use Rattle.lsp_explain.proofs.Comparing.{passed_compared, quiet}
 use Rattle.lsp_explain.proofs.compared.run_compared.Goals as goal
 
-pub requires-pass-begins : goal.requires-pass-begins
-requires-pass-begins g c = λ terms. refl
-
 pub returns : goal.returns
-returns g c = passed_text _ (quiet c.args.which) c.args.limits _
-    (λ log out outcome p. passed_compared c.args.which c.args.limits log out outcome p) _ _
-    c.pass.ensures.passes
+returns g c = record {
+  text = passed_text _ (quiet c.args.which) c.args.limits _
+      (λ log out outcome p. passed_compared c.args.which c.args.limits log out outcome p) _ _
+      c.pass.ensures.passes;
+}

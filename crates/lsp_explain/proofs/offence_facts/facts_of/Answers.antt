@@ -1,6 +1,7 @@
-use Rattle.std.proofs.Common.{◌∙◌, ap}
+use Rattle.std.proofs.Common.{◌∙◌, ap, rules, w32}
 use Rattle.std.proofs.lemmas.Int.{to_z-of_z}
 use Rattle.std.proofs.lemmas.Result.{IfOk-weaker}
+use mir.Val.{SFits}
 use Rattle.lsp_replay.specs.Places.{place_next}
 use Rattle.lsp_replay.proofs.Following.{whose_read}
 use Rattle.lsp_explain.specs.Standing.{terms_in}
@@ -30,6 +31,7 @@ returns-in-None-in-Content c = rw c.in-Content.is (IfOk-weaker c.content_facts.r
 
 pub returns-in-Snapshot : goal.returns-in-Snapshot
 returns-in-Snapshot c =
+    let fits : SFits w32 c.in-Snapshot.version = search rules in
     let told = simp to_z-of_z at c.shown_traced.ensures in
     rw c.in-Snapshot.is (IfOk-weaker c.shown_traced.result _ _
     (λ facts are event before stands place reads speaks offends rests shows.

@@ -11,7 +11,6 @@ use Rattle.lsp_facts.specs.Fact.{fact_lines}
 use Rattle.lsp_facts.specs.Lines.{usual_line}
 use Rattle.lsp_explain.specs.Accounts.{TellsOf}
 use Rattle.lsp_explain.specs.Standing.{terms_in}
-use Rattle.lsp_explain.specs.Trails.{IsTrail}
 use Rattle.lsp_explain.proofs.Telling.{few_before, placed_by, stands_before, tells_of}
 use Rattle.lsp_explain.proofs.offence_facts.push_offence.Goals as goal
 
@@ -22,12 +21,10 @@ returns c = on_ok_weaker c.push_details.result (λ says terms before h trail see
     let raw = raw_view c.args.raw in
     let old = string_bytes c.args.text.now in
     let own = terms_in past in
-    let same = sym seen.stood.by in
     let here = subst (λ (t : Terms). IsSeen past.held.now.session past.held.now.docs
-    past.held.now.counts (variants.Offence c.args.raw o.rule c.args.spoken) t before h) same seen in
-    let stands = stands_before past before h o.rule
-    (subst (λ (t : Terms). IsTrail t past.trail.now (heard_events before)) same trail) here.stood
-    here.as_is.1 in
+    past.held.now.counts (variants.Offence c.args.raw o.rule c.args.spoken) t before h)
+    (sym seen.stood.by) seen in
+    let stands = stands_before past terms before h o.rule trail seen.stood seen.as_is.1 in
     let noted = subst (λ (w : Raw). IsNoted w h.note) here.as_is.0 here.noted in
     let place = placed_by o (heard_events before) h.note.event (few_before before here.few) no_is in
     let line = string_bytes c.push_event.new.lines in

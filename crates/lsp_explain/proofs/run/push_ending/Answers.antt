@@ -6,14 +6,14 @@ use Rattle.lsp_explain.proofs.Telling.{stands_at}
 use Rattle.lsp_explain.proofs.run.push_ending.Goals as goal
 
 -- something is listed
-pub returns-in_ok-push_end-in-Some : goal.returns-in_ok-push_end-in-Some
-returns-in_ok-push_end-in-Some c = λ terms heard trail clean stood few.
+pub returns-in-Some : goal.returns-in-Some
+returns-in-Some c = λ terms heard trail clean stood few.
     let listed = c.in_ok-listed.ensures.listed terms heard stood few in
     let first = first_some _ _ (c.in-Some.is ∙ c.first.ensures) in
     ending_some c.args.completeness terms heard c.args.log.now c.args.end c.in-Some.offence.now
     first.0 _ _ _ _ (sym (ap (map offence_view) first.1) ∙ listed) stood.by
-    (c.in_ok-push_end-in-Some.ensures (heard_events heard)
-    (stands_at c.args.past terms heard trail stood)) c.verdict.ensures
+    (c.in_ok-push_end.ensures (heard_events heard)
+    (stands_at _ terms heard trail stood)) c.verdict.ensures
 
 -- nothing is
 pub returns : goal.returns

@@ -7,15 +7,17 @@ use Rattle.lsp_explain.specs.Compared.{sound_answer}
 use Rattle.lsp_explain.proofs.compared.OneTextAccount.end.Goals as goal
 
 pub returns : goal.returns
-returns c = λ terms heard clean stood few.
-    record {
-      said = written_of (answer_view c.answer_at.result);
-      added = c.in_ok-outcome.ensures.0;
-      is = λ tail fits.
-          let same = c.answer_at.ensures ∙ ap (λ f. sound_answer (bad_log_of f)) (sym fits.fault)
-          in (
-            ap written_of same,
-            subst (λ (a : TextAnswer). EndsAs a c.in_ok-outcome.outcome) same
-                c.in_ok-outcome.ensures.1,
-          );
-    }
+returns c = record {
+  closes = λ terms heard clean stood few.
+      record {
+        said = written_of (answer_view c.answer_at.result);
+        added = c.in_ok-outcome.ensures.0;
+        is = λ tail fits.
+            let same = c.answer_at.ensures ∙ ap (λ f. sound_answer (bad_log_of f)) (sym fits.fault)
+            in (
+              ap written_of same,
+              subst (λ (a : TextAnswer). EndsAs a c.in_ok-outcome.outcome) same
+                  c.in_ok-outcome.ensures.1,
+            );
+      };
+}

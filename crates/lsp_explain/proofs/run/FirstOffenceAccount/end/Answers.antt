@@ -8,13 +8,14 @@ use Rattle.lsp_explain.proofs.Telling.{stands_at}
 use Rattle.lsp_explain.proofs.run.FirstOffenceAccount.end.Goals as goal
 
 pub returns : goal.returns
-returns c = λ terms heard stands stood few.
-    let past = c.push_ending-verdict.args.past in
-    let verdict = c.in_ok-verdict.verdict in
-    first_closes c.args.self.now.completeness terms heard c.args.log.now c.args.end verdict _ _ _
-    (c.in_ok-verdict.ensures terms heard stands.noted stands.clean stood few)
-    (subst (λ (t : Terms). string_bytes c.push_remarks.new.lines
-    ≡ string_bytes c.push_remarks.args.lines.now ++ remark_lines (remarks_of (verdict_view verdict)
-    (noticed t (heard_events heard)))) stood.by
-    (c.in_ok-push_remarks.ensures (heard_events heard) (stands_at past terms heard stands.noted
-    stood)))
+returns c = record {
+  closes = λ terms heard stands stood few.
+      let verdict = c.in_ok-verdict.verdict in
+      first_closes c.args.self.now.completeness terms heard c.args.log.now c.args.end verdict _ _ _
+      (c.in_ok-verdict.ensures terms heard stands.noted stands.clean stood few)
+      (subst (λ (t : Terms). string_bytes c.push_remarks.new.lines
+      ≡ string_bytes c.push_ending.new.text ++ remark_lines (remarks_of (verdict_view verdict)
+      (noticed t (heard_events heard)))) stood.by
+      (c.in_ok-push_remarks.ensures (heard_events heard)
+      (stands_at _ terms heard stands.noted stood)));
+}

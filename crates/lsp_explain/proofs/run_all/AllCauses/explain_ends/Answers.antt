@@ -1,14 +1,10 @@
 use Rattle.std.specs.Prelude.{take}
-use Rattle.std.proofs.Common.{◌≡◌, ◌++◌, map, string_bytes, subst, sym}
+use Rattle.std.proofs.Common.{◌++◌, map, string_bytes, subst, sym}
 use Rattle.std.proofs.lemmas.Option.{slice_get-get_or}
-use Rattle.lsp_docs.specs.Terms.{Terms}
-use Rattle.lsp_explain.specs.Asking.{numbered}
 use Rattle.lsp_survey.proofs.Reporting.{tally_more}
 use Rattle.lsp_verdict.specs.Given.{offence_view}
 use Rattle.lsp_verdict.specs.Heard.{heard_events}
 use Rattle.lsp_explain.specs.Accounts.{rests_held}
-use Rattle.lsp_explain.specs.AllExplained.{cause_lines}
-use Rattle.lsp_explain.specs.Explained.{end_explained}
 use Rattle.lsp_explain.specs.Trails.{IsTrail}
 use Rattle.lsp_explain.specs.declared.trail.Trail.{Trail}
 use Rattle.lsp_explain.proofs.Ending.{ends_more}
@@ -31,11 +27,7 @@ loop-offence-preserved c =
       said = λ terms heard trail stood.
           let here = subst (λ (t : Trail). IsTrail terms t (heard_events heard)) (sym inv.trail) trail
           in
-          ends_more terms heard rests xs i _ (string_bytes c.args.text.now) _ _ at
+          ends_more terms _ heard rests xs i _ (string_bytes c.args.text.now) _ _ stood.by at
           (inv.said terms heard trail stood)
-          (subst (λ (t : Terms). string_bytes c.push_end.new.text
-          ≡ string_bytes c.loop-offence.text ++ cause_lines (end_explained rests
-          (numbered t (heard_events heard)) (offence_view c.offence.now).no)) stood.by
-          (c.in_ok-push_end.ensures (heard_events heard)
-          (stands_at c.push_end.args.past terms heard here stood)));
+          (c.in_ok-push_end.ensures (heard_events heard) (stands_at _ terms heard here stood));
     }

@@ -2,7 +2,7 @@ use Rattle.lsp_explain.proofs.run_all.AllCauses.new.Goals as goal
 
 pub returns-clause-stands : goal.returns-clause-stands
 returns-clause-stands c = λ terms. record {
-  lost = c.new-losses.ensures terms;
-  tallied = c.new-tally.ensures;
-  noted = c.new-trail.ensures terms;
+  lost = c.new.ensures terms;
+  tallied = c.new-2.ensures;
+  noted = c.new-3.ensures terms;
 }
