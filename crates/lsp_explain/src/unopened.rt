@@ -18,7 +18,8 @@ use lsp_types::rules;
 use std::alloc::Global;
 
 /// Adds to the facts on an act that breaks this rule, under 602, how the document of which it
-/// speaks was closed, and which documents with a similar URI are open. The past is of the events before it.
+/// speaks was closed, and which documents with a similar URI are open. The past is of the events
+/// before it.
 pub(crate) fn trace_unopened(
     alloc: Global,
     facts: &mut Facts,

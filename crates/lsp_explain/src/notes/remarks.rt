@@ -1,6 +1,6 @@
 //! What is remarkable about the messages of a session, though it breaks no rule.
-ghost use Rattle.std.specs.Prelude.{◌≡◌, ◌&&◌, [], None, true, IfOk, OnOk, if◌then◌else◌, not, option_map};
-ghost use Rattle.std.specs.Prelude.{string_bytes};
+ghost use Rattle.std.specs.Prelude.{◌≡◌, ◌&&◌, [], None, true, IfOk, OnOk, if◌then◌else◌, not};
+ghost use Rattle.std.specs.Prelude.{option_map, string_bytes};
 ghost use Rattle.serde_json.specs.View.{view};
 ghost use Rattle.lsp_rpc.specs.View.{message_view};
 ghost use Rattle.lsp_explain.specs.Misuses.{misuse_in};
