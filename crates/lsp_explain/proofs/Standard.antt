@@ -5,22 +5,17 @@ use Rattle.std.proofs.Common.{◌≡◌, ◌⊎◌, ◌∙◌, ℕ, Bool, true, 
 use Rattle.std.proofs.Common.{inl, inr, refl, sym, ap, subst}
 use Rattle.std.proofs.lemmas.Slice.Eq.{bytes_eq-Decides}
 use Rattle.serde_json.specs.Data.{Data}
-use Rattle.lsp_docs.specs.Calls.{Call}
 use Rattle.lsp_rpc.specs.Act.{Act, cancel, early, exit, initialized, other, progress}
 use Rattle.lsp_rpc.specs.Ident.{Ident}
 use Rattle.lsp_rpc.specs.Message.{Message, notification, request, response}
 use Rattle.lsp_rpc.specs.Outline.{outline}
-use Rattle.lsp_rpc.specs.Params.{Row, act_at, act_by, cancel_at, editor_notifications}
-use Rattle.lsp_rpc.specs.Params.{notifications, progress_at, server_notifications}
+use Rattle.lsp_rpc.specs.Params.{Row, act_at, act_by, cancel_at, notifications, progress_at}
 use Rattle.lsp_rpc.specs.View.{act_view, message_view}
 use Rattle.lsp_rpc.specs.declared.act.Spoken.{Spoken}
-use Rattle.lsp_types.specs.declared.change.SyncKind.{SyncKind}
-use Rattle.lsp_types.specs.declared.position.Encoding.{Encoding}
 use Rattle.lsp_types.specs.declared.side.Side.{Side}
 use Rattle.lsp_types.specs.declared.side.Side.TheVariants.{Editor, Server}
 use Rattle.lsp_replay.specs.Telling.{IsSpoken}
 use Rattle.lsp_replay.specs.declared.heard.EventPlace.{EventPlace}
-use Rattle.lsp_verdict.specs.Calls.{call_of}
 use Rattle.lsp_verdict.specs.Event.{Event}
 use Rattle.lsp_verdict.specs.Placed.{Reads, content}
 use Rattle.lsp_verdict.proofs.Offences.Quiet.{IsNotified, IsPlain, is_notified}

@@ -36,7 +36,7 @@ use Rattle.lsp_facts.specs.Fact.{Fact}
 use Rattle.lsp_facts.specs.Lines.{detail_lines, event_line}
 use Rattle.lsp_explain.specs.Accounts.{TellsOf, rests_held}
 use Rattle.lsp_explain.specs.Explained.{place_in}
-use Rattle.lsp_explain.specs.Standing.{StandsAfter, terms_in}
+use Rattle.lsp_explain.specs.Standing.{StandsAfter}
 use Rattle.lsp_explain.specs.Traced.{AreTraced}
 use Rattle.lsp_explain.specs.Trails.{IsTrail}
 use Rattle.lsp_explain.specs.declared.trail.Past.{Past}

@@ -152,7 +152,7 @@ shown_other d calls stands uri number t rule no701 e o is =
 
 -- a snapshot that differs is not a late one
 pub not_late : (rule : ℕ) → rule ≡ 702 → rule ≡ 701 → ⊥
-not_late rule differs late = absurd (cc (sym differs ∙ late))
+not_late rule differs late = true≢false (ap is_of_texts (sym differs ∙ late))
 
 -- 701 compares no texts
 pub shown_differs : (terms : Terms) (calls : List Call) (uri : List ℕ) (number : ℤ) (t : Text)

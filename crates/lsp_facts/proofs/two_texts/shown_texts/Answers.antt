@@ -1,4 +1,4 @@
-use Rattle.std.proofs.Common.{◌≡◌, List, Option, None, Some, ap, sym, ◌∙◌, w32}
+use Rattle.std.proofs.Common.{None, Some, ap, sym, ◌∙◌, w32}
 use Rattle.std.proofs.lemmas.Int.{to_z-of_z}
 use Rattle.std.proofs.lemmas.Result.{IfOk-weaker}
 use Rattle.std.specs.Prelude.{if◌then◌else◌}
@@ -6,7 +6,7 @@ use Rattle.std.specs.Str.{chars}
 use mir.Val.{SFits}
 use Rattle.lsp_docs.specs.Calls.{shows}
 use Rattle.lsp_verdict.specs.Calls.{calls}
-use Rattle.lsp_facts.specs.TwoTexts.{TwoTexts, compared}
+use Rattle.lsp_facts.specs.TwoTexts.{compared}
 use Rattle.lsp_facts.proofs.DocumentRules.{shown_differs}
 use Rattle.lsp_facts.proofs.two_texts.shown_texts.Goals as goal
 

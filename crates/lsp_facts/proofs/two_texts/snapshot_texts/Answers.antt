@@ -1,4 +1,4 @@
-use Rattle.std.proofs.Common.{◌≡◌, Option, None, Some, ap, refl, sym, ◌∙◌, w32}
+use Rattle.std.proofs.Common.{None, Some, ap, refl, ◌∙◌, w32}
 use Rattle.std.proofs.lemmas.Int.{to_z-of_z}
 use Rattle.std.specs.Option.{option_map}
 use Rattle.std.specs.Str.{chars}
