@@ -1,5 +1,5 @@
 //! The text that is held after a message of the editor's.
-ghost use Rattle.std.specs.Prelude.{◌≡◌, ◌<◌, ℕ, IfOk, string_bytes};
+ghost use Rattle.std.specs.Prelude.{◌≡◌, ◌<◌, ℕ, IfOk, Some, length, string_bytes};
 ghost use Rattle.lsp_judge.specs.TextRun.{IsOpen, given_as, text_run};
 ghost use Rattle.lsp_replay.specs.TextAnswers.{FindsText, TextAsked, WritesText, answer_view};
 ghost use Rattle.lsp_verdict.specs.Ports.{ports};
@@ -8,7 +8,7 @@ ghost use Rattle.lsp_verdict.specs.TextAfter.{AnswersText};
 
 use crate::ending::verdict_at;
 use crate::judging::no_last;
-use lsp_frame::{Limits, Output, Sink, Source};
+use lsp_frame::{Failed, Limits, Sink, Source};
 use lsp_replay::{Account, End, Events, Flow, LogEvents, Seen, TextAnswer, pass};
 use lsp_rpc::Memory;
 use lsp_text::Lined;
@@ -35,10 +35,11 @@ pub fn text_after<R: Source>(
     ensures { FindsText limits (R.told reader.old) (R.told reader.new)
         (λ log. AnswersText limits log number uri.now) result }
 {
-    let mut bytes = Vec::new(alloc);
-    match run_text(alloc, reader, &mut Output::new(&mut bytes), limits, number, uri) {
+    let bytes = Vec::new(alloc);
+    let mut written = Written { bytes, failures: 0 };
+    match run_text(alloc, reader, &mut written, limits, number, uri) {
         Ok(outcome) => {
-            let text = text_of(bytes)?;
+            let text = text_of(written)?;
             Ok(answer_of(outcome, text))
         }
         Err(fault) => Err(in_memory(fault)),
@@ -78,10 +79,36 @@ fn in_memory(fault: RunFault) -> RunFault
     }
 }
 
-/// The text that these bytes are.
-fn text_of(bytes: Vec<u8>) -> Result<String, Memory>
-    ensures { IfOk result (λ text. string_bytes text ≡ bytes.items) }
+/// What was written, in memory.
+#[derive(Drop)]
+struct Written {
+    bytes: Vec<u8>,
+    failures: u64,
+}
+
+impl Sink for Written {
+    ghost told = { λ written. record {
+      bytes = Some written.bytes.items;
+      count = length written.bytes.items;
+      failures = written.failures;
+    } };
+
+    fn put(&mut self, bytes: &[u8]) -> Result<usize, Failed> {
+        match self.bytes.extend_from_slice(bytes) {
+            Ok(()) => Ok(bytes.len()),
+            Err(_) => {
+                self.failures = self.failures.saturating_add(1);
+                Err(Failed)
+            }
+        }
+    }
+}
+
+/// The text that was written.
+fn text_of(written: Written) -> Result<String, Memory>
+    ensures { IfOk result (λ text. string_bytes text ≡ written.bytes.items) }
 {
+    let Written { bytes, failures: _ } = written;
     String::from_utf8(bytes).map_err(|_| Memory)
 }
 

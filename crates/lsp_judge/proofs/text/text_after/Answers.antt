@@ -1,13 +1,12 @@
 use Rattle.std.proofs.Common.{◌∙◌, Some, ap, refl}
 use Rattle.std.proofs.lemmas.Result.{err_from_is_err_and}
-use Rattle.lsp_frame.specs.Told.{Told}
 use Rattle.lsp_judge.proofs.TextRuns.{answer_is, text_broke, text_found, text_refused}
 use Rattle.lsp_judge.proofs.text.text_after.Goals as goal
 
 pub returns-in_ok-text-in-Ok : goal.returns-in_ok-text-in-Ok
 returns-in_ok-text-in-Ok g c =
     text_found _ _ _ _ _ _ c.in-Ok.outcome _ _ (rw c.in-Ok.is at c.run_text.ensures.text)
-    (ap (λ (t : Told). t.bytes) c.new.ensures ∙ ap Some c.new-bytes.ensures.items) refl
+    (ap Some c.new-bytes.ensures.items) refl
     (λ answer ends written. c.answer_of.ensures
     ∙ answer_is answer c.in-Ok.outcome _ ends (c.in_ok-text-in-Ok.ensures ∙ written))
 
