@@ -8,7 +8,8 @@ returns-in_ok-text-in-Ok g c =
     text_found _ _ _ _ _ _ c.in-Ok.outcome _ _ (rw c.in-Ok.is at c.run_text.ensures.text)
     (ap Some c.new-bytes.ensures.items) refl
     (λ answer ends written. c.answer_of.ensures
-    ∙ answer_is answer c.in-Ok.outcome _ ends (c.in_ok-text-in-Ok.ensures ∙ written))
+    ∙ answer_is answer c.in-Ok.outcome c.in_ok-text-in-Ok.text ends
+    (c.in_ok-text-in-Ok.ensures ∙ written))
 
 pub returns-in_err-text-in-Ok : goal.returns-in_err-text-in-Ok
 returns-in_err-text-in-Ok g c =
