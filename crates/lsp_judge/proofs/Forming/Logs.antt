@@ -147,23 +147,24 @@ module _ (limits : Bounds) (format : Option Format) (old new : LogEvents) (count
       (Ok (next.Event raw)) → WritesEvent size counted_now sink_now sink_new so.given (raw_view raw)
       (Ok None)
       → SoFar limits format new counted_now start now sink_before sink_new
-  one_formed raw counted_now size sink_new is (more, due, reads) (none, counted, wrote) = record {
-    records = so.records ++ more;
-    given = so.given ++ raw_view raw ∷ [];
-    due = due;
-    reads = reads;
-    sound = one_sound (raw_view raw) so.given none so.sound;
-    counted = counted;
-    wrote = wrote_more (raw_view raw) sink_new
-        (subst (λ (n : ℕ). Wrote sink_now sink_new (spelled n (raw_view raw ∷ []))) is wrote);
-  }
+  one_formed raw counted_now size sink_new is (more, due, reads, lent) (none, counted, wrote) =
+      record {
+        records = so.records ++ more;
+        given = so.given ++ raw_view raw ∷ [];
+        due = due;
+        reads = reads;
+        sound = one_sound (raw_view raw) so.given none so.sound;
+        counted = counted;
+        wrote = wrote_more (raw_view raw) sink_new
+            (subst (λ (n : ℕ). Wrote sink_now sink_new (spelled n (raw_view raw ∷ []))) is wrote);
+      }
 
   -- and it is one more than before, of no more than the log has bytes
   pub fewer : (raw : code.Raw) (counted_now : Counts) (size : ℕ) (sink_new : Told)
       → Gives limits format new start now so.records so.given (Ok (next.Event raw))
       → WritesEvent size counted_now sink_now sink_new so.given (raw_view raw) (Ok None)
       → (limits.log + 1) - counted_now.all < (limits.log + 1) - counts.all
-  fewer raw counted_now size sink_new (more, due, reads) (none, counted, wrote) =
+  fewer raw counted_now size sink_new (more, due, reads, lent) (none, counted, wrote) =
       let given : List Raw = so.given ++ raw_view raw ∷ [] in
       let of_log = reads_given limits format new start now (so.records ++ more) given due reads in
       let has : HasGiven limits format (so.records ++ more) given of_log.bytes =
@@ -193,7 +194,7 @@ module _ (limits : Bounds) (format : Option Format) (old new : LogEvents) (count
         (raw_view raw) (Ok (Some outcome))
         → Normalizes limits (ports start now sink sink_new) (Ok outcome)
     unfolding line
-    fault_ends raw counted_now size outcome sink_new (more, due, reads)
+    fault_ends raw counted_now size outcome sink_new (more, due, reads, lent)
         (stays, (verdict, is, carries)) =
         let given : List Raw = so.given ++ raw_view raw ∷ [] in
         let form : List ℕ = form_of (format_or_one format) limits.chunk given in
@@ -231,7 +232,7 @@ module _ (limits : Bounds) (format : Option Format) (old new : LogEvents) (count
         → WritesEvent size counted_now sink_now sink_new so.given (raw_view raw) (Err fault)
         → Normalizes limits (ports start now sink sink_new) (Err fault)
     unfolding line
-    part_written raw counted_now size fault sink_new is (more, due, reads) (none, told) =
+    part_written raw counted_now size fault sink_new is (more, due, reads, lent) (none, told) =
         let given : List Raw = so.given ++ raw_view raw ∷ [] in
         let before_it : List ℕ = line ++ spelled limits.chunk so.given in
         let wrote : Wrote sink sink_now before_it =
