@@ -1,6 +1,6 @@
 -- The steps of the accounts that end with the verdict on a log.
 use Rattle.std.specs.Prelude.{◌&&◌, is_some, not, option_map, unwrap_or}
-use Rattle.std.proofs.Common.{◌≡◌, ℕ, ◌+◌, ◌<◌, ◌^◌, Bool, true, false, List, [], ◌∷◌, ◌++◌, length}
+use Rattle.std.proofs.Common.{◌≡◌, ℕ, ◌+◌, ◌<◌, ◌^◌, Bool, List, [], ◌∷◌, ◌++◌, length}
 use Rattle.std.proofs.Common.{Bor, Option, Some, None, refl, sym, ap, ◌∙◌, arith}
 use Rattle.std.proofs.Math.Bool.{and-true}
 use Rattle.std.proofs.lemmas.List.{length-map}
@@ -16,7 +16,6 @@ use Rattle.lsp_judge.specs.JudgingRun.{JudgingAsked, completed_by, due_for, judg
 use Rattle.lsp_judge.specs.JudgingRun.{shown_by, verdict_of}
 use Rattle.lsp_judge.proofs.Finals.{by_end, by_log}
 use Rattle.lsp_judge.proofs.Told.{still_clean}
-use Rattle.lsp_replay.specs.LogEvents.{flaw_of}
 use Rattle.lsp_replay.specs.Run.{Tail}
 use Rattle.lsp_replay.specs.Standing.{Follows}
 use Rattle.lsp_replay.specs.Streams.{decoder_of, ends_inside}
@@ -34,7 +33,7 @@ use Rattle.lsp_verdict.specs.Heard.{Heard, Rests, heard_events, notes_of, rest_o
 use Rattle.lsp_verdict.specs.Offences.{Noted}
 use Rattle.lsp_verdict.specs.Outcome.{ending, is_rest}
 use Rattle.lsp_verdict.specs.Verdict.{Verdict, bad_log, bad_log_of, first_no, no_by}
-use Rattle.lsp_verdict.specs.Verdict.{summary, verdict, whose, yes}
+use Rattle.lsp_verdict.specs.Verdict.{verdict, whose}
 use Rattle.lsp_verdict.specs.declared.completeness.Completeness.{Completeness}
 use Rattle.lsp_verdict.specs.declared.completeness.Completeness.TheVariants.{Ignored, Required}
 use Rattle.lsp_verdict.specs.declared.counts.Counts.{Counts}

@@ -9,7 +9,6 @@ use Rattle.lsp_docs.specs.Documents.{held}
 use Rattle.lsp_docs.specs.State as docs
 use Rattle.lsp_docs.specs.Terms.{Terms}
 use Rattle.lsp_session.specs.State as session
-use Rattle.lsp_types.specs.declared.side.Side.TheVariants.{Editor}
 use Rattle.lsp_judge.specs.JudgingRun.{verdict_of}
 use Rattle.lsp_judge.specs.TextRun.{IsOpen, answer_at, answer_behind, answer_by, said_of, text_run}
 use Rattle.lsp_judge.proofs.JudgingSteps.{given_is, none_is}
@@ -22,7 +21,6 @@ use Rattle.lsp_replay.specs.declared.seen.Flow.TheVariants.{GoOn, Stop}
 use Rattle.lsp_replay.proofs.PassEnds.{Boxed}
 use Rattle.lsp_replay.proofs.Reached.{count_exact}
 use Rattle.lsp_verdict.specs.Calls.{calls}
-use Rattle.lsp_verdict.specs.Event.{Event}
 use Rattle.lsp_verdict.specs.Given.{as_given}
 use Rattle.lsp_verdict.specs.Heard.{Heard, Rests, heard_events}
 use Rattle.lsp_verdict.specs.Offences.{kept_of}

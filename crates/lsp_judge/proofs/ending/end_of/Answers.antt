@@ -1,4 +1,3 @@
-use Rattle.std.proofs.Common.{sym}
 use Rattle.lsp_judge.proofs.Finals.{no_ends, yes_ends}
 use Rattle.lsp_judge.proofs.ending.end_of.Goals as goal
 
