@@ -14,6 +14,18 @@ use lsp_text::Lined;
 use lsp_verdict::{Completeness, Outcome, RunFault};
 use std::alloc::Global;
 
+/// A log that is read, and what is held of its events.
+struct Reading {
+    log: LogEvents,
+    events: Events<Lined>,
+}
+
+impl Drop for Reading {
+    fn drop(self) {
+        let Reading { log: _, events: _ } = self;
+    }
+}
+
 /// Reads a log up to the first event that offends, or to its end, and writes it again in format 2:
 /// the first line of that format, and each record that brings no event which offends, up to the
 /// first that does.
@@ -36,22 +48,24 @@ pub fn run_upgrade<R: Source, W: Sink>(
     write_head_of(writer, Format::Two)?;
     let mut next = log.read(reader)?;
     let format = log.format().unwrap_or(Format::One);
-    let mut events: Events<Lined> = Events::new(alloc, limits, format);
+    let events = Events::new(alloc, limits, format);
+    let mut reading = Reading { log, events };
     loop {
         match next {
             Entry::End(end) => {
-                let verdict = verdict_at(alloc, &events, &log, end, Completeness::Ignored)?;
+                let held = &reading.events;
+                let verdict = verdict_at(alloc, held, &reading.log, end, Completeness::Ignored)?;
                 return Ok(Outcome::Judged(verdict));
             }
             Entry::Record(record) => {
                 let copy = copy_of(&record)?;
-                match hear_record(&mut log.streams, &mut events, record) {
+                match hear_record(&mut reading.log.streams, &mut reading.events, record) {
                     Ok(()) => write_record(writer, &copy)?,
                     Err(ruling) => return Ok(Outcome::Judged(ruling.answer()?)),
                 }
             }
         }
-        next = log.read(reader)?;
+        next = reading.log.read(reader)?;
     }
 }
 
