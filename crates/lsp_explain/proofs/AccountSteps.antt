@@ -4,6 +4,7 @@ use Rattle.std.specs.List.{cons_option}
 use Rattle.std.specs.Option.{option_or}
 use Rattle.std.proofs.Common.{◌≡◌, ℕ, Bool, true, false, List, [], ◌∷◌, ◌++◌, Option, Some, None, refl}
 use Rattle.std.proofs.Common.{sym, ap, ◌∙◌, subst, append_assoc, append-nil}
+use Rattle.std.proofs.lemmas.List.{map-append}
 use Rattle.lsp_docs.specs.Terms.{Terms}
 use Rattle.lsp_replay.specs.Telling.{Says, rule_of}
 use Rattle.lsp_replay.specs.declared.seen.Flow.TheVariants.{GoOn, Stop}
@@ -11,21 +12,17 @@ use Rattle.lsp_replay.proofs.PassEnds.{Boxed}
 use Rattle.lsp_replay.proofs.Seeing.{events-push}
 use Rattle.lsp_survey.specs.Lost.{WasTold, follows_at}
 use Rattle.lsp_survey.specs.Reported.{IsTally}
-use Rattle.lsp_survey.specs.SurveyRun.{SurveyStands}
-use Rattle.lsp_survey.specs.declared.survey.Options.{Options}
-use Rattle.lsp_survey.specs.declared.survey.Survey.{Survey}
-use Rattle.lsp_survey.proofs.SurveySteps.{kept_stands, offence_stands}
+use Rattle.lsp_survey.specs.declared.offence_count.OffenceCount.{OffenceCount}
 use Rattle.lsp_verdict.specs.Event.{Event}
 use Rattle.lsp_verdict.specs.Given.{verdict_view}
 use Rattle.lsp_verdict.specs.Heard.{Heard, Rests, heard_events, notes_of}
-use Rattle.lsp_verdict.specs.Offences.{Offence, follows, kept_of, offence_by}
+use Rattle.lsp_verdict.specs.Offences.{Offence, follows, kept_of, offence_by, offences}
 use Rattle.lsp_verdict.specs.Verdict.{Verdict, first_no, no_at, no_by, offence}
-use Rattle.lsp_verdict.specs.declared.completeness.Completeness.{Completeness}
-use Rattle.lsp_verdict.specs.declared.listing.Listing.TheVariants.{Causes}
 use Rattle.lsp_verdict.specs.declared.outcome.Outcome.TheVariants.{Judged}
 use Rattle.lsp_verdict.specs.declared.verdict.Verdict as code
 use Rattle.lsp_verdict.proofs.LookBackLemmas.{first_of-snoc}
 use Rattle.lsp_verdict.proofs.Offences.Offending.{all_are_kept}
+use Rattle.lsp_verdict.proofs.Offences.Steps.{offences-push}
 use Rattle.lsp_explain.specs.Accounts.{AllStands, FirstStands, TellsOf}
 use Rattle.lsp_explain.specs.AllExplained.{cause_lines, is_cause}
 use Rattle.lsp_explain.specs.ExplainRuns.{SaysCauses, SaysFirst, all_run, cause_at, explain_run}
@@ -35,10 +32,6 @@ use Rattle.lsp_explain.specs.Remarks.{noticed, remark_lines, remarks_of}
 use Rattle.lsp_explain.specs.Trails.{IsTrail}
 use Rattle.lsp_explain.specs.declared.run.FirstOffence.{FirstOffence}
 use Rattle.lsp_explain.specs.declared.run_all.AllCauses.{AllCauses}
-
--- a survey of the causes
-abbrev pub as_options : Completeness → Options
-as_options completeness = record { completeness = completeness; listing = Causes; lines = None }
 
 module _ (terms : Terms) (before : List Heard) (h : Heard) where
   abbrev events : List Event
@@ -120,19 +113,20 @@ module _ (terms : Terms) (before : List Heard) (h : Heard) where
       offends
       ∙ ap (λ (b : Bool). if not b then breach before h rule ∷ [] else []) same
 
-  abbrev as_survey : AllCauses → Survey
-  as_survey a = record {
-    options = as_options a.completeness;
-    losses = a.losses;
-    tally = a.tally;
-  }
+  -- what is found with it
+  found_on : (rule : Option ℕ) → rule_of terms before h ≡ rule
+      → offences terms (notes_of (before ++ h ∷ []))
+      ≡ offences terms (notes_of before)
+      ++ cons_option (option_map (offence_by terms (notes_of before) h.note) rule) []
+  found_on rule is =
+      ap (offences terms) (map-append (λ (x : Heard). x.note) before (h ∷ []))
+      ∙ offences-push terms (notes_of before) h.note
+      ∙ ap (λ (o : Option ℕ). offences terms (notes_of before)
+      ++ cons_option (option_map (offence_by terms (notes_of before) h.note) o) []) is
 
   module _ (account next : AllCauses) (stands : AllStands account terms before)
       (Fits : Rests → Type 0) (old : List ℕ) (late : Bool)
       (told : WasTold next.losses terms before h late) where
-    abbrev surveyed : SurveyStands (as_survey account) terms before
-    surveyed = record { losses = stands.lost; tally = stands.tallied }
-
     -- of no cause nothing is said
     says_none : (Stands : Type 0) → cause_at terms before h ≡ [] → Stands
         → Says (all_run account.completeness) terms before h Fits old old Stands GoOn
@@ -150,11 +144,13 @@ module _ (terms : Terms) (before : List Heard) (h : Heard) where
         → Says (all_run account.completeness) terms before h Fits old old
         (AllStands next terms (before ++ h ∷ [])) GoOn
     all_kept kept same trail =
-        let on = kept_stands terms before h (as_survey account) (as_survey next) late surveyed told
-        kept same in
         says_none (AllStands next terms (before ++ h ∷ [])) (no_cause kept) (record {
           lost = told.losses;
-          tallied = on.tally;
+          tallied = subst (λ (t : OffenceCount).
+              IsTally t (offences terms (notes_of (before ++ h ∷ [])))) (sym same)
+              (subst (IsTally account.tally)
+              (sym (found_on None kept ∙ append-nil (offences terms (notes_of before))))
+              stands.tallied);
           noted = trail;
         })
 
@@ -165,10 +161,14 @@ module _ (terms : Terms) (before : List Heard) (h : Heard) where
         → IsTally next.tally (found ++ o ∷ []))
         → IsTrail terms next.trail (heard_events (before ++ h ∷ []))
         → AllStands next terms (before ++ h ∷ [])
-    offends_on rule o offends own counts trail =
-        let on = offence_stands terms before h (as_survey account) (as_survey next) late surveyed
-        told rule o offends own counts in
-        record { lost = told.losses; tallied = on.tally; noted = trail }
+    offends_on rule o offends own counts trail = record {
+      lost = told.losses;
+      tallied = subst (IsTally next.tally)
+          (ap (λ (x : Offence). offences terms (notes_of before) ++ x ∷ []) own
+          ∙ sym (found_on (Some rule) offends))
+          (counts (offences terms (notes_of before)) stands.tallied);
+      noted = trail;
+    }
 
     -- one that follows from an earlier one says nothing
     pub all_late : (rule : ℕ) (o : Offence) → late ≡ true → rule_of terms before h ≡ Some rule

@@ -3,14 +3,17 @@ use Rattle.std.specs.Prelude.{map, take, slice_get, not, option_map, option_to_l
 use Rattle.std.specs.List.{flat_map}
 use Rattle.std.proofs.Common.{◌≡◌, ◌⊎◌, ℕ, ◌+◌, Bool, true, false, ◌&&◌, IsSome}
 use Rattle.std.proofs.Common.{List, [], ◌∷◌, ◌++◌, Option, Some, None, inl, inr, refl, sym, ap, ◌∙◌}
-use Rattle.std.proofs.Common.{append_assoc, append-nil, subst}
-use Rattle.std.proofs.lemmas.List.{map-append}
+use Rattle.std.proofs.Common.{append_assoc, append-nil, subst, arith, length, length-append}
+use Rattle.std.proofs.Common.{◌<◌, ◌^◌}
+use Rattle.std.proofs.lemmas.List.{length-map, map-append}
 use Rattle.std.proofs.lemmas.List.Concat.{flat_map-append}
 use Rattle.lsp_docs.specs.Terms.{Terms}
 use Rattle.lsp_log.specs.Reader.{shown_by}
 use Rattle.lsp_log.specs.declared.fault.LogCode.{LogCode}
 use Rattle.lsp_replay.specs.LogEvents.{flaw_of}
 use Rattle.lsp_replay.specs.Run.{Tail}
+use Rattle.lsp_replay.specs.Streams as streams
+use Rattle.lsp_replay.specs.Streams.{decoder_of}
 use Rattle.lsp_replay.specs.Telling.{Closes, IsEnd}
 use Rattle.lsp_replay.specs.declared.log_events.End.{End}
 use Rattle.lsp_replay.specs.declared.log_events.LogEvents.{LogEvents}
@@ -21,13 +24,14 @@ use Rattle.lsp_session.specs.Requests.{open_requests}
 use Rattle.lsp_session.specs.Sent.{is_exit}
 use Rattle.lsp_explain.specs.Asking.{Numbered, numbered}
 use Rattle.lsp_survey.specs.Reported.{count_line, verdict_lines}
+use Rattle.lsp_survey.proofs.Ending.{ends_few, given_few}
 use Rattle.lsp_survey.proofs.SessionEnds.{ends_fit}
 use Rattle.lsp_survey.specs.SessionEnds.{all_found, all_verdict, ends_held, ends_of}
 use Rattle.lsp_types.specs.declared.side.Side.TheVariants.{Editor, Server}
 use Rattle.lsp_verdict.specs.Event.{Event, sent_in}
 use Rattle.lsp_verdict.specs.Given.{offence_view, verdict_view}
-use Rattle.lsp_verdict.specs.Heard.{Heard, Rests, heard_events}
-use Rattle.lsp_verdict.specs.Offences.{Offence, has_broken, kept_of}
+use Rattle.lsp_verdict.specs.Heard.{Heard, Rests, heard_events, notes_of}
+use Rattle.lsp_verdict.specs.Offences.{Offence, has_broken, kept_of, offence_at, offences}
 use Rattle.lsp_verdict.specs.Outcome.{ending, is_rest}
 use Rattle.lsp_verdict.specs.Report.{report}
 use Rattle.lsp_verdict.specs.Survey.{by_itself, ends_inside, ends_listed, first_ends}
@@ -290,6 +294,26 @@ first_some (x ∷ xs) o is = (xs, ap (λ w. w ∷ xs) (cc is))
 pub first_none : {A : Type 0} (xs : List A) → None ≡ slice_get xs 0 → xs ≡ []
 first_none [] is = refl
 first_none {A} (x ∷ xs) is = let same : None ≡ Some x = is in absurd (cc same)
+
+-- all that is listed can be counted
+pub few_found : (completeness : Completeness) (terms : Terms) (heard : List Heard) (e : LogEvents)
+    (end : End) (listed : List Offence)
+    → listed ≡ map by_itself (ends_held completeness terms heard e end) → length heard < 2 ^ 63
+    → length (offences terms (notes_of heard) ++ listed) < 2 ^ 64
+few_found completeness terms heard e end listed are few =
+    let events = heard_events heard in
+    omega (
+      arith,
+      few,
+      length-append (offences terms (notes_of heard)) listed,
+      ap length are,
+      given_few (offence_at terms) [] (notes_of heard),
+      length-map heard (λ (x : Heard). x.note),
+      length-map (ends_held completeness terms heard e end) by_itself,
+      ends_few (flaw_of end) events (kept_of terms events)
+          (streams.ends_inside (decoder_of Editor e.streams))
+          (streams.ends_inside (decoder_of Server e.streams)) completeness,
+    )
 
 -- ---- where no event offends
 

@@ -12,6 +12,7 @@ use Rattle.lsp_rpc.specs.Outline.{outline}
 use Rattle.lsp_rpc.specs.Params.{Row, act_at, act_by, cancel_at, notifications, progress_at}
 use Rattle.lsp_rpc.specs.View.{act_view, message_view}
 use Rattle.lsp_rpc.specs.declared.act.Spoken.{Spoken}
+use Rattle.lsp_session.specs.Sent.{Sent}
 use Rattle.lsp_types.specs.declared.side.Side.{Side}
 use Rattle.lsp_types.specs.declared.side.Side.TheVariants.{Editor, Server}
 use Rattle.lsp_replay.specs.Telling.{IsSpoken}
@@ -121,10 +122,7 @@ right_rows Server = (
 named : (method : List ℕ) (m : Message) → notification method None ≡ outline m → (side : Side)
     → notification_misuse side method ≡ None → (p : EventPlace) → misuse_in p side m ≡ None
 named method (request id name params) same side right p = absurd (cc same)
-named method (response id reply) same side right p = absurd (by_reply reply same)
-  where
-    by_reply : (r : _) → notification method None ≡ outline (response id r) → ⊥
-    by_reply r e = cc e
+named method (response id reply) same side right p = refl
 named method (notification name params) same side right p =
     let own : method ≡ name = cc same in
     ap (option_map (misused p name)) (ap (notification_misuse side) (sym own) ∙ right)
@@ -137,6 +135,7 @@ spoken_standard kept event side bytes s reads spoken enc kind call says p =
     by_row (right_by side (notifications side) (right_rows side) told.method told.params
     (act_view s.act) named_so)
   where
+    sent : Sent
     sent = spoken.sent
 
     here : act_at side sent.message ≡ Some (act_view s.act)

@@ -24,7 +24,7 @@ use Rattle.lsp_explain.specs.ExplainRuns.{ends_said, flaw_at}
 use Rattle.lsp_explain.specs.Explained.{AreExplained, Breach, Explained, Explains, breach, breach_at}
 
 -- what is said of its fault
-log_flaw : (limits : Bounds) (log : List ℕ) (format : Option Format) (records : List Record)
+pub log_flaw : (limits : Bounds) (log : List ℕ) (format : Option Format) (records : List Record)
     (heard : List Heard) (tail : Tail) → IsTold limits log format records heard tail
     → flaw_at tail.place tail.line tail.fault ≡ log_facts limits log format records tail.fault
 log_flaw limits log format records heard tail told = by_fault tail.fault

@@ -1,18 +1,16 @@
 use Rattle.std.specs.Prelude.{map, option_map}
 use Rattle.std.proofs.Common.{◌++◌, ◌∙◌, ap}
-use Rattle.lsp_survey.proofs.SurveySteps.{clean_by, few_listed}
+use Rattle.lsp_survey.proofs.SurveySteps.{clean_by}
 use Rattle.lsp_verdict.specs.Given.{offence_view, verdict_view}
 use Rattle.lsp_verdict.specs.Heard.{notes_of}
 use Rattle.lsp_verdict.specs.Offences.{offences}
-use Rattle.lsp_explain.proofs.AccountSteps.{as_options}
-use Rattle.lsp_explain.proofs.Ending.{all_closes, nos_listed}
+use Rattle.lsp_explain.proofs.Ending.{all_closes, few_found, nos_listed}
 use Rattle.lsp_explain.proofs.run_all.AllCausesAccount.end.Goals as goal
 
 pub returns : goal.returns
 returns c = record {
   closes = λ terms heard stands stood few.
       let completeness = c.args.self.now.completeness in
-      let options = as_options completeness in
       let log = c.args.log.now in
       let end = c.args.end in
       let listed = c.as_slice.result.now in
@@ -29,5 +27,5 @@ returns c = record {
       (c.in_ok-explain_ends.ensures.said terms heard stands.noted stood))
       (c.in_ok-verdict.ensures terms heard found stood few tally (clean_by terms heard ends))
       c.in_ok-push_flaw.ensures
-      (c.in_ok-push_count.ensures found tally (few_listed options terms heard log end ends are few));
+      (c.in_ok-push_count.ensures found tally (few_found completeness terms heard log end ends are few));
 }

@@ -1,6 +1,7 @@
 use Rattle.std.specs.Prelude.{is_some, option_map}
-use Rattle.std.proofs.Common.{◌≡◌, Option, Some, None, true, refl, sym, ap, ◌∙◌}
+use Rattle.std.proofs.Common.{◌≡◌, ℕ, Bor, List, Option, Some, None, true, refl, sym, ap, ◌∙◌}
 use Rattle.std.proofs.lemmas.Result.{on_ok_weaker}
+use Rattle.lsp_docs.proofs.Entries.{is_some-mapped}
 use Rattle.lsp_docs.specs.Calls.{Call, uri_of}
 use Rattle.lsp_rpc.specs.View.{act_view, message_view}
 use Rattle.lsp_types.specs.declared.change.SyncKind.TheVariants.{Nothing}
@@ -14,7 +15,9 @@ returns-clause-remarks c = on_ok_weaker c.keep.result (λ renamed standard.
     c.in_ok-keep_message.ensures.remarks (λ known.
     let act = act_view c.args.spoken.now.act in
     by_call standard (call_of Utf16 Nothing act) refl
-    (sym (ap is_some (c.uri_in.ensures Utf16 Nothing)) ∙ sym c.is_some-known.ensures ∙ known)))
+    (sym (ap is_some (c.uri_in.ensures Utf16 Nothing))
+    ∙ is_some-mapped (λ (u : Bor (List ℕ)). u.now) c.uri_in.result
+    ∙ sym c.is_some-known.ensures ∙ known)))
     c.keep.ensures
   where
     by_call : IsStandard c.args.side (message_view c.args.spoken.now.message)
