@@ -162,7 +162,7 @@ module _ (completeness : Completeness) (terms : Terms) (heard : List Heard) (e :
             → flaw_at e.log.place (shown_by e.log) f ≡ flaw_at tail.place tail.line f
         by_fault None lies = refl
         by_fault (Some (number, code)) lies =
-            let at = lies tt in
+            let at = lies refl in
             ap (λ n. flaw_facts number n (shown_by e.log)) at.0 ∙ ap (flaw_facts number tail.place) at.1
 
   -- ---- `explain`
@@ -221,7 +221,9 @@ module _ (completeness : Completeness) (terms : Terms) (heard : List Heard) (e :
       ≡ all_closing found bad flaw s
   closing_said [] bad flaw s =
       ap (λ w. report (first_verdict [] bad s) ++ w) (append-nil (flaw_lines bad flaw))
-  closing_said (o ∷ found) bad flaw s = refl
+  closing_said (o ∷ found) bad flaw s =
+      sym (append_assoc (verdict_lines (o ∷ found) bad s) (flaw_lines bad flaw)
+      (count_line (o ∷ found)))
 
   pub all_closes : (given : code.Verdict) (found : List Offence) (bad : Option Verdict)
       (old mid first next new : List ℕ) → found ≡ all_found terms heard told

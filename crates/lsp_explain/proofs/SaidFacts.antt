@@ -1,6 +1,6 @@
 -- What is said of an event that offends, by what was seen of it.
 use Rattle.std.specs.Prelude.{chars, ℤ}
-use Rattle.std.proofs.Common.{◌≡◌, ℕ, List, Some, None, append-nil, sym, ap, ◌∙◌, subst}
+use Rattle.std.proofs.Common.{◌≡◌, ℕ, Bor, List, Some, None, append-nil, refl, sym, ap, ◌∙◌, subst}
 use Rattle.lsp_docs.specs.Calls.{shows}
 use Rattle.lsp_docs.specs.Terms.{Terms}
 use Rattle.lsp_frame.specs.Front.{header_front}
@@ -11,14 +11,17 @@ use Rattle.lsp_rpc.specs.declared.act.Spoken.{Spoken}
 use Rattle.lsp_types.specs.declared.side.Side.{Side}
 use Rattle.lsp_verdict.specs.Event.{Event, message, fault, snapshot}
 use Rattle.lsp_verdict.specs.Heard.{Rests, rest_of}
+use Rattle.lsp_verdict.specs.Lent.{raw_view}
 use Rattle.lsp_verdict.specs.Offences.{kept_of, rule_at}
 use Rattle.lsp_verdict.specs.Placed.{Raw, Reads, broken, content, show}
+use Rattle.lsp_verdict.specs.declared.raw.Raw as lent
+use Rattle.lsp_verdict.specs.declared.raw.Raw.TheVariants as lents
 use Rattle.lsp_verdict.specs.declared.verdict.Who.{Who}
 use Rattle.lsp_facts.specs.ContentFacts.{content_facts}
 use Rattle.lsp_facts.specs.EventFacts.{AreCallFacts, AreFacts, AreMessageFacts}
 use Rattle.lsp_facts.specs.Fact.{Fact}
 use Rattle.lsp_facts.specs.FlawFacts.{frame_facts}
-use Rattle.lsp_facts.specs.Lines.{content_event, event_line, message_event}
+use Rattle.lsp_facts.specs.Lines.{bare_event, content_event, event_line, message_event}
 use Rattle.lsp_facts.specs.MessageFacts.{front_facts}
 use Rattle.lsp_facts.proofs.Naming.{message_named}
 use Rattle.lsp_facts.proofs.Spoken.{same_line}
@@ -38,9 +41,9 @@ module _ (terms : Terms) (before : List Event) (rule : ℕ) where
       (facts : List Fact) → Reads (broken side code) event
       → header_front rest ≡ header_front (rest_of rests side) → facts ≡ frame_facts rest
       → AreAll rests (broken side code) event facts
-  frames_said rests side code event rest facts reads shows says =
+  frames_said rests side code event rest facts reads fits says =
       subst (λ (e : Event). AreAll rests (broken side code) e facts) (sym reads)
-      (facts, says ∙ ap front_facts shows, sym (append-nil facts))
+      (facts, says ∙ ap front_facts fits, sym (append-nil facts))
 
   -- a content that is no message
   pub unread_said : (rests : Rests) (side : Side) (bytes : List ℕ) (event : Event)
@@ -83,6 +86,14 @@ module _ (terms : Terms) (before : List Event) (rule : ℕ) where
   shown_said rests number uri text event facts reads offends says =
       subst (λ (e : Event). AreAll rests (show number uri text) e facts) (sym reads)
       (says (subst (λ (e : Event). rule_at terms before e ≡ Some rule) reads offends))
+
+-- what is no content is told without words
+pub bare_said : (event number : ℕ) (who : Who) (raw : lent.Raw)
+    → ((side : Side) (bytes : Bor (List ℕ)) → raw ≡ lents.Content side bytes → ⊥)
+    → bare_event event who number ≡ event_line event who number (raw_view raw)
+bare_said event number who (lents.Content side bytes) not = absurd (not side bytes refl)
+bare_said event number who (lents.Broken side rule rest) not = refl
+bare_said event number who (lents.Snapshot version uri text) not = refl
 
 -- the line of a message is that of its content
 pub line_said : (kept : List Event) (side : Side) (bytes : List ℕ) (e : Event) (s : Spoken)

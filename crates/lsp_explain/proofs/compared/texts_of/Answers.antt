@@ -18,14 +18,14 @@ returns-in-Snapshot c =
     shown_compared terms before h c.args.rule _ _ _ seen.stood seen.as_is.1 c.in-Snapshot.version
     c.in-Snapshot.uri.now c.in-Snapshot.text.now (option_map texts_view texts) noted.0 are) told)
 
-pub returns-in-Some-in_default : goal.returns-in-Some-in_default
-returns-in-Some-in_default c = rw c.in-Some.is (IfOk-weaker c.message_texts.result _ _
+pub returns-in-Some : goal.returns-in-Some
+returns-in-Some c = rw c.in-Some.is (IfOk-weaker c.message_texts.result _ _
     (λ texts are terms before h seen.
     message_compared terms before h c.args.rule _ _ _ seen.stood seen.as_is.1 seen.as_is.2.0
     c.in-Some.spoken.now (option_map texts_view texts) seen.as_is.2.1 are) c.message_texts.ensures)
 
-pub returns-in-None-in_default : goal.returns-in-None-in_default
-returns-in-None-in_default c = rw c.in-None.is (λ terms before h seen.
+pub returns-in-None : goal.returns-in-None
+returns-in-None c = rw c.in-None.is (λ terms before h seen.
     let noted = subst (λ (w : Raw). IsNoted w h.note) seen.as_is.0 seen.noted in
     unread_compared terms before h c.args.rule c.args.raw c.in_default.not-Snapshot noted.0
     seen.as_is.2)
