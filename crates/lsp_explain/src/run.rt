@@ -71,6 +71,7 @@ impl Account for FirstOffence {
 
     ghost stands = { FirstStands };
 
+    #[inline(always)]
     fn event(
         &mut self,
         alloc: Global,

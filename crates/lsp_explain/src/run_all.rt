@@ -117,6 +117,7 @@ impl Account for AllCauses {
 
     ghost stands = { AllStands };
 
+    #[inline(always)]
     fn event(
         &mut self,
         alloc: Global,

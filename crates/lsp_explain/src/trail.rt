@@ -52,6 +52,7 @@ impl Trail {
     ///
     /// # Errors
     /// `Memory` where memory was refused; nothing is then known of what is noted.
+    #[inline(always)]
     pub(crate) fn keep(&mut self, held: &Events<Lined>, seen: Seen<'_>) -> Result<(), Memory>
         ensures { OnOk result ((terms : Terms) (before : List Heard) (h : Heard)
             → IsTrail terms self.old (heard_events before)

@@ -1,10 +1,11 @@
 //! All that is wrong with a session, and not only the first offence: an event that offends is
 //! skipped, as if it had not been sent, and the next is judged after those that keep the rules.
 //!
-//! `run_survey` reads a log and writes a report of all its offences, `run_text_all` the text that
-//! is held after a message of the editor's. An offence may follow from an earlier one, after which
-//! the two sides no longer agree on a document or on the handshake; what is an offence, and what
-//! follows, is defined in `lsp_verdict`.
+//! `run_survey` reads a log and writes a report of all its offences, `run_show_all` also shows the
+//! events between them, and `run_text_all` writes the text that is held after a message of the
+//! editor's. Each is an account (`Survey`, `HeldText`) over the one `pass` of `lsp_replay`. An
+//! offence may follow from an earlier one, after which the two sides no longer agree on a document
+//! or on the handshake; what is an offence, and what follows, is defined in `lsp_verdict`.
 #![tactic(auto)]
 
 mod end_of_session;

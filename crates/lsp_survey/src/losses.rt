@@ -72,6 +72,7 @@ impl Losses {
     ///
     /// # Errors
     /// `Memory` where memory was refused.
+    #[inline(always)]
     pub fn tell(
         &mut self,
         alloc: Global,

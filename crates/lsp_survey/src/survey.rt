@@ -78,6 +78,7 @@ impl Account for Survey {
 
     ghost stands = { SurveyStands };
 
+    #[inline(always)]
     fn event(
         &mut self,
         alloc: Global,
