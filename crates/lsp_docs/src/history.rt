@@ -146,10 +146,7 @@ fn any_differs<S: TextStore>(
 }
 
 /// The first that is of this version.
-fn first_at<S: TextStore>(
-    revisions: &VecDeque<Revision<S>>,
-    version: i32,
-) -> Option<&Revision<S>>
+fn first_at<S: TextStore>(revisions: &VecDeque<Revision<S>>, version: i32) -> Option<&Revision<S>>
     ensures { option_map (λ r. r.now) result
         ≡ find (λ r. is_at version (versioned r.version (S.content r.store))) revisions.now.items }
 {
