@@ -50,7 +50,7 @@ irreflexive v = grind (arith, ints)
 past : (a b c : ℤ) → int_lt a b ≡ true → int_lt b c ≡ true → int_lt c a ≡ false
 past a b c h k = grind (arith, ints)
 
-apart : (a b : ℤ) → int_lt a b ≡ true → int_eq a b ≡ false
+pub apart : (a b : ℤ) → int_lt a b ≡ true → int_eq a b ≡ false
 apart a b h =
     elim (cases_Bool (int_eq a b)) [
       | inl p ↦ absurd (true≢false (sym h ∙ (ap (λ x. int_lt x b) (int_is a b p) ∙ irreflexive b)))
@@ -124,7 +124,7 @@ module _ (n : ℤ) (q : Text → Bool) (test : Version → Bool)
 eq_same : (n : ℤ) → int_eq n n ≡ true
 eq_same n = (Decides-int_eq n n).1 refl
 
-eq_flip : (a b : ℤ) → int_eq a b ≡ false → int_eq b a ≡ false
+pub eq_flip : (a b : ℤ) → int_eq a b ≡ false → int_eq b a ≡ false
 eq_flip a b h =
     elim (cases_Bool (int_eq b a)) [
       | inl p ↦ absurd (true≢false (sym (eq_same b) ∙ (ap (λ x. int_eq x b) (int_is b a p) ∙ h)))

@@ -1,18 +1,28 @@
--- Versions that have another text than a given one, as they are looked for.
-use Rattle.std.proofs.Common.{◌≡◌, ◌↔◌, ℕ, Bool, true, false, List, [], ◌∷◌, map}
-use Rattle.std.proofs.Common.{Option, Some, None, refl, sym, ap, ◌∙◌}
+-- Versions of a given number, as they are looked for, and texts that are the same.
+use Rattle.std.specs.Prelude.{ℤ, int_lt, ◌&&◌, not, if◌then◌else◌, option_to_list}
+use Rattle.std.specs.Ordering.{int_eq}
+use Rattle.std.proofs.Common.{◌≡◌, ◌↔◌, ℕ, Bool, true, false, List, [], ◌∷◌, ◌++◌, map}
+use Rattle.std.proofs.Common.{Option, Some, None, refl, sym, ap, subst, ◌∙◌}
 use Rattle.std.proofs.Common.{inl, inr, true≢false}
-use Rattle.std.proofs.lemmas.Bool.{cases_Bool}
+use Rattle.std.proofs.lemmas.Bool.{and_parts, cases_Bool}
+use Rattle.std.proofs.lemmas.Bool.Decides.{Decides-int_eq}
 use Rattle.std.proofs.lemmas.List.Folds.{find-append}
-use Rattle.std.specs.List.{find}
+use Rattle.std.specs.List.{find, list_all}
 use Rattle.std.specs.Option.{option_map, option_or}
 use Rattle.std.specs.Str.{bytes_eq, chars, IsUtf8}
 use Rattle.std.proofs.lemmas.Slice.Eq.{bytes_eq-Decides}
 use Rattle.lsp_text.proofs.Counting.{chars_same}
 use Rattle.lsp_types.specs.declared.line_ends.LineEnds.{LineEnds}
 use Rattle.lsp_docs.specs.Texts.{Text}
-use Rattle.lsp_docs.specs.Documents.{Version}
-use Rattle.lsp_docs.specs.Others.{differs_from, other_in, other_than}
+use Rattle.lsp_docs.specs.Calls.{Bytes, Call}
+use Rattle.lsp_docs.specs.Documents.{Version, held, is_after, is_at, versioned}
+use Rattle.lsp_docs.specs.Laws.{rises}
+use Rattle.lsp_docs.specs.Others.{differs_from, other_in, other_than, text_at, text_in}
+use Rattle.lsp_docs.specs.Kept.{kept}
+use Rattle.lsp_docs.specs.Rules.{AreAccepted}
+use Rattle.lsp_docs.specs.Terms.{Terms}
+use Rattle.lsp_docs.proofs.Past.{kept-rises}
+use Rattle.lsp_docs.proofs.Due.{apart, eq_flip}
 use Rattle.lsp_text.specs.SameText.{SameText, compared, same_text}
 
 -- a test on the parts of a list
@@ -48,30 +58,97 @@ map-seen g f (x ∷ xs) = ap (λ l. g (f x) ∷ l) (map-seen g f xs)
 
 -- ---- among what is kept, and then what is held
 
-pub found-first : (ends : LineEnds) (s : Version) (ks : List Version) (v : Version) (t : Text)
-    → other_in ends s ks ≡ Some t → other_than ends s ks (Some v) ≡ Some t
-found-first ends s ks v t h =
-    let test = differs_from ends s in
-    ap (option_map (λ (w : Version). w.text)) (find-append test ks (v ∷ []))
-    ∙ first_of (find test ks) (find test (v ∷ [])) t h
+pub at-first : (number : ℤ) (ks : List Version) (v : Version) (t : Text)
+    → text_in number ks ≡ Some t → text_at number ks (Some v) ≡ Some t
+at-first number ks v t h =
+    ap (option_map (λ (w : Version). w.text)) (find-append (is_at number) ks (v ∷ []))
+    ∙ first_of (find (is_at number) ks) (find (is_at number) (v ∷ [])) t h
   where
     first_of : (o p : Option Version) (t : Text) → option_map (λ (w : Version). w.text) o ≡ Some t
         → option_map (λ (w : Version). w.text) (option_or o p) ≡ Some t
     first_of None p t h = absurd (cc)
     first_of (Some w) p t h = h
 
-pub found-behind : (ends : LineEnds) (s : Version) (ks : List Version) (v : Version)
-    → other_in ends s ks ≡ None → other_than ends s ks (Some v) ≡ other_in ends s (v ∷ [])
-found-behind ends s ks v h =
-    let test = differs_from ends s in
-    ap (option_map (λ (w : Version). w.text)) (find-append test ks (v ∷ []))
-    ∙ behind (find test ks) (find test (v ∷ [])) h
+pub at-behind : (number : ℤ) (ks : List Version) (v : Version) → text_in number ks ≡ None
+    → text_at number ks (Some v) ≡ text_in number (v ∷ [])
+at-behind number ks v h =
+    ap (option_map (λ (w : Version). w.text)) (find-append (is_at number) ks (v ∷ []))
+    ∙ behind (find (is_at number) ks) (find (is_at number) (v ∷ [])) h
   where
     behind : (o p : Option Version) → option_map (λ (w : Version). w.text) o ≡ None
         → option_map (λ (w : Version). w.text) (option_or o p)
         ≡ option_map (λ (w : Version). w.text) p
     behind None p h = refl
     behind (Some w) p h = absurd (cc)
+
+-- ---- where they rise, only one is of a number
+
+-- of a version below all of these none has the number
+none_behind : (ends : LineEnds) (x : Version) (t : Text) (vs : List Version)
+    → list_all (is_after x.number) vs ≡ true → other_in ends (versioned x.number t) vs ≡ None
+none_behind ends x t [] h = refl
+none_behind ends x t (v ∷ vs) h =
+    let parts = and_parts (int_lt x.number v.number) (list_all (is_after x.number) vs) h in
+    let away : int_eq v.number x.number ≡ false =
+    eq_flip x.number v.number (apart x.number v.number parts.0) in
+    ap (λ b. option_map (λ (w : Version). w.text)
+    (if b && not (same_text ends v.text t) then Some v
+    else find (differs_from ends (versioned x.number t)) vs)) away
+    ∙ none_behind ends x t vs parts.1
+
+-- the first of these with another text, or of the number, by what is said of its head
+abbrev other_front : Version → Option Version → Bool → Bool → Option Text
+other_front v o at same =
+    option_map (λ (w : Version). w.text) (if at && not same then Some v else o)
+
+abbrev at_front : Version → Option Version → Bool → Option Text
+at_front v o at = option_map (λ (w : Version). w.text) (if at then Some v else o)
+
+-- **so one with another text is the one of that number**
+pub other-at : (ends : LineEnds) (number : ℤ) (t u : Text) (vs : List Version) → rises vs ≡ true
+    → other_in ends (versioned number t) vs ≡ Some u → text_in number vs ≡ Some u
+other-at ends number t u [] h e = absurd (cc)
+other-at ends number t u (v ∷ vs) h e =
+    by_number (int_eq v.number number) refl (same_text ends v.text t) refl
+    (λ k. other-at ends number t u vs
+    (and_parts (list_all (is_after v.number) vs) (rises vs) h).1 k)
+  where
+    others : Option Version
+    others = find (differs_from ends (versioned number t)) vs
+
+    front : Bool → Option Text
+    front b = at_front v (find (is_at number) vs) b
+
+    by_number : (b : Bool) → int_eq v.number number ≡ b → (same : Bool)
+        → same_text ends v.text t ≡ same
+        → (other_in ends (versioned number t) vs ≡ Some u → text_in number vs ≡ Some u)
+        → text_in number (v ∷ vs) ≡ Some u
+    by_number true at false other_text more =
+        ap front at ∙ sym (ap (λ b. other_front v others b false) at)
+        ∙ sym (ap (other_front v others (int_eq v.number number)) other_text) ∙ e
+    by_number true at true same_text_is more =
+        let number_is : v.number ≡ number = (Decides-int_eq v.number number).0 at in
+        let above = (and_parts (list_all (is_after v.number) vs) (rises vs) h).0 in
+        let none : other_in ends (versioned number t) vs ≡ None =
+        subst (λ n. other_in ends (versioned n t) vs ≡ None) number_is
+        (none_behind ends v t vs above) in
+        let some : other_in ends (versioned number t) vs ≡ Some u =
+        sym (ap (λ b. other_front v others b true) at)
+        ∙ sym (ap (other_front v others (int_eq v.number number)) same_text_is) ∙ e in
+        absurd (cc (sym none ∙ some))
+    by_number false at same same_is more =
+        ap front at
+        ∙ more (sym (ap (λ b. other_front v others b same) at)
+        ∙ sym (ap (other_front v others (int_eq v.number number)) same_is) ∙ e)
+
+-- of what is held and kept after accepted calls
+pub held-at : (terms : Terms) (uri : Bytes) (calls : List Call) (ends : LineEnds) (number : ℤ)
+    (t u : Text) → AreAccepted terms calls
+    → other_than ends (versioned number t) (kept terms uri calls) (held terms uri calls) ≡ Some u
+    → text_at number (kept terms uri calls) (held terms uri calls) ≡ Some u
+held-at terms uri calls ends number t u accepted e =
+    other-at ends number t u (kept terms uri calls ++ option_to_list (held terms uri calls))
+    (kept-rises terms uri calls accepted) e
 
 -- what says of two texts that they are the same
 pub same_where : (ends : LineEnds) (a b : List ℕ) (r : Bool) → (r ≡ true) ↔ SameText ends a b

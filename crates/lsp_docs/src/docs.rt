@@ -11,7 +11,7 @@ ghost use Rattle.lsp_docs.specs.Calls.{Call, opens, changes as changes_by, close
 ghost use Rattle.lsp_docs.specs.Documents.{versioned, held, documents};
 ghost use Rattle.lsp_docs.specs.Kept.{kept};
 ghost use Rattle.lsp_docs.specs.Snapshots.{texts_at, waiting, unmatched, versions_of};
-ghost use Rattle.lsp_docs.specs.Others.{other_than};
+ghost use Rattle.lsp_docs.specs.Others.{text_at};
 ghost use Rattle.lsp_docs.specs.Rules.{differs};
 ghost use Rattle.lsp_docs.specs.Stored.{texts_of};
 ghost use Rattle.lsp_docs.specs.State.{capped, held_in, queue_of, early_rule, rule_at};
@@ -167,16 +167,16 @@ impl<S: TextStore> Docs<S> {
         }
     }
 
-    /// The text that the server holds of a URI at this version, or that is kept of it, where it
-    /// differs from this one: it refuses a snapshot by 702.
-    pub fn other_of(&self, uri: &str, version: i32, text: &str) -> Option<&S>
+    /// The text that the server holds of a URI at this version, or that is kept of it: a snapshot
+    /// with another one is refused by 702.
+    pub fn store_at(&self, uri: &str, version: i32) -> Option<&S>
         ensures { (calls : List Call) → Stands self.now calls
             → option_map (λ store. S.content store.now) result
-            ≡ other_than self.now.terms.line_ends (versioned version (chars text.now))
-            (kept self.now.terms uri.now calls) (held self.now.terms uri.now calls) }
+            ≡ text_at version (kept self.now.terms uri.now calls)
+            (held self.now.terms uri.now calls) }
     {
         match self.get(uri) {
-            Some(document) => document.other(self.terms.line_ends, version, text),
+            Some(document) => document.store_at(version),
             None => None,
         }
     }

@@ -11,7 +11,7 @@ ghost use Rattle.lsp_docs.specs.Kept.{last_of};
 ghost use Rattle.lsp_docs.specs.Rules.{show_rule};
 ghost use Rattle.lsp_docs.specs.Answer.{answer_of};
 ghost use Rattle.lsp_docs.specs.Fault.{IsRule, Names};
-ghost use Rattle.lsp_docs.specs.Others.{other_than};
+ghost use Rattle.lsp_docs.specs.Others.{text_at};
 ghost use Rattle.lsp_docs.specs.State.{early_rule, rule_with};
 
 use crate::fault::DocFault;
@@ -153,15 +153,15 @@ impl<S: TextStore> Document<S> {
         }
     }
 
-    /// The text that is held or kept at a version, where it is another than this one.
-    pub(crate) fn other(&self, line_ends: LineEnds, version: i32, text: &str) -> Option<&S>
+    /// The text that is held or kept at a version.
+    pub(crate) fn store_at(&self, version: i32) -> Option<&S>
         ensures { option_map (λ store. S.content store.now) result
-            ≡ other_than line_ends (versioned version (chars text.now)) self.now.kept
+            ≡ text_at version self.now.kept
             (Some (versioned self.now.held.version (S.content self.now.held.store))) }
     {
-        match self.kept.other(line_ends, version, text) {
+        match self.kept.store_at(version) {
             Some(store) => Some(store),
-            None => self.held.other(line_ends, version, text),
+            None => self.held.store_at(version),
         }
     }
 

@@ -7,7 +7,7 @@ ghost use Rattle.std.specs.Str.{chars};
 ghost use Rattle.lsp_docs.specs.Documents.{versioned, is_after, is_at};
 ghost use Rattle.lsp_docs.specs.Kept.{last_of};
 ghost use Rattle.lsp_docs.specs.Rules.{differs};
-ghost use Rattle.lsp_docs.specs.Others.{other_in, differs_from};
+ghost use Rattle.lsp_docs.specs.Others.{text_in};
 
 use crate::revision::Revision;
 use lsp_text::TextStore;
@@ -69,12 +69,11 @@ impl<S: TextStore> History<S> {
         any_differs(&self.revisions, line_ends, version, text)
     }
 
-    /// The text of the one that is of this version and has another text.
-    pub(crate) fn other(&self, line_ends: LineEnds, version: i32, text: &str) -> Option<&S>
-        ensures { option_map (λ store. S.content store.now) result
-            ≡ other_in line_ends (versioned version (chars text.now)) self.now }
+    /// The text of the one that is of this version.
+    pub(crate) fn store_at(&self, version: i32) -> Option<&S>
+        ensures { option_map (λ store. S.content store.now) result ≡ text_in version self.now }
     {
-        match first_other(&self.revisions, line_ends, version, text) {
+        match first_at(&self.revisions, version) {
             Some(revision) => Some(&revision.store),
             None => None,
         }
@@ -146,20 +145,12 @@ fn any_differs<S: TextStore>(
         .any(|r| r.differs(line_ends, version, text))
 }
 
-/// The first that is of this version and has another text.
-fn first_other<'a, S: TextStore>(
-    revisions: &'a VecDeque<Revision<S>>,
-    line_ends: LineEnds,
-    version: i32,
-    text: &str,
-) -> Option<&'a Revision<S>>
+/// The first that is of this version.
+fn first_at<S: TextStore>(revisions: &VecDeque<Revision<S>>, version: i32) -> Option<&Revision<S>>
     ensures { option_map (λ r. r.now) result
-        ≡ find (λ r. differs_from line_ends (versioned version (chars text.now))
-        (versioned r.version (S.content r.store))) revisions.now.items }
+        ≡ find (λ r. is_at version (versioned r.version (S.content r.store))) revisions.now.items }
 {
-    revisions
-        .iter()
-        .find(|r| r.differs(line_ends, version, text))
+    revisions.iter().find(|r| r.version == version)
 }
 
 /// Puts their numbers after others.

@@ -8,7 +8,7 @@ ghost use Rattle.lsp_text.specs.Changes.{edit_of, edits_of};
 ghost use Rattle.lsp_docs.specs.Documents.{versioned};
 ghost use Rattle.lsp_docs.specs.Rules.{differs};
 ghost use Rattle.lsp_docs.specs.Fault.{Breaks};
-ghost use Rattle.lsp_docs.specs.Others.{other_in};
+ghost use Rattle.lsp_docs.specs.Others.{text_in};
 
 use crate::fault::DocFault;
 use lsp_text::{TextStore, change, change_all};
@@ -80,13 +80,12 @@ impl<S: TextStore> Revision<S> {
         self.version == version && !has_text(line_ends, &self.store, text)
     }
 
-    /// Its text, where it is of this version and has another text.
-    pub(crate) fn other(&self, line_ends: LineEnds, version: i32, text: &str) -> Option<&S>
+    /// Its text, where it is of this version.
+    pub(crate) fn store_at(&self, version: i32) -> Option<&S>
         ensures { option_map (λ store. S.content store.now) result
-            ≡ other_in line_ends (versioned version (chars text.now))
-            (versioned self.now.version (S.content self.now.store) ∷ []) }
+            ≡ text_in version (versioned self.now.version (S.content self.now.store) ∷ []) }
     {
-        if self.differs(line_ends, version, text) {
+        if self.version == version {
             Some(&self.store)
         } else {
             None

@@ -6,7 +6,8 @@ use Rattle.std.proofs.Common.{sym, ap, ◌∙◌}
 use Rattle.std.proofs.lemmas.List.{map-append}
 use Rattle.std.proofs.lemmas.List.Elements.{filter-append}
 use Rattle.lsp_docs.specs.Terms.{Terms}
-use Rattle.lsp_survey.specs.Asking.{Numbered, numbered}
+use Rattle.lsp_explain.specs.Asking.{Numbered, numbered}
+use Rattle.lsp_verdict.specs.Heard.{Heard, Rests, notes_of}
 use Rattle.lsp_verdict.specs.Offences.{Noted, Offence, events_of, offences}
 use Rattle.lsp_verdict.specs.Outcome.{ending, log_terms}
 use Rattle.lsp_verdict.specs.Survey.{by_itself, ends_listed, found_in, shown_of}
@@ -15,10 +16,9 @@ use Rattle.lsp_verdict.specs.declared.completeness.Completeness.{Completeness}
 use Rattle.lsp_verdict.proofs.Offences.Offending.{first_listed, nothing_listed}
 use Rattle.lsp_verdict.proofs.Offences.Surveying.{survey_agrees}
 use Rattle.lsp_explain.specs.AllExplained.{causes, is_cause}
-use Rattle.lsp_explain.specs.Explained.{Heard, Breach, Explained, Explains, notes_of, breaches}
+use Rattle.lsp_explain.specs.Explained.{Breach, Explained, Explains, breaches}
 use Rattle.lsp_explain.specs.Explained.{end_explained}
 use Rattle.lsp_explain.specs.ExplainLaws.{CausesAreExplained, FirstIsVerdict}
-use Rattle.lsp_facts.specs.FlawFacts.{Rests}
 use Rattle.lsp_explain.proofs.Judged.{survey_in}
 use Rattle.lsp_explain.proofs.Explaining.{offence_of, offences_are}
 

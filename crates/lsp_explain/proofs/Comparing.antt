@@ -1,70 +1,57 @@
--- The two whole texts of the first offence that a run finds.
-use Rattle.std.specs.Prelude.{Box}
-use Rattle.std.specs.Prelude.{option_map, unwrap_or, if◌then◌else◌, Bool, true}
-use Rattle.std.specs.Prelude.{false, chars, string_bytes, ℤ, String, map}
-use Rattle.std.specs.Global.{Global}
-use Rattle.std.specs.List.{AllZip}
+-- The two whole texts of the first event that offends.
+use Rattle.std.specs.Prelude.{Bool, ℤ, chars, if◌then◌else◌, is_some, map, option_map, unwrap_or}
 use Rattle.std.specs.Option.{option_or}
-use Rattle.std.specs.declared.vec.Vec.{Vec}
-use Rattle.std.proofs.Common.{◌≡◌, ℕ, List, [], ◌∷◌, ◌++◌, Option, Some, None, refl, sym, ap, subst}
-use Rattle.std.proofs.Common.{◌∙◌, append_assoc}
+use Rattle.std.proofs.Common.{◌≡◌, ◌⊎◌, ℕ, true, false, List, [], ◌∷◌, ◌++◌, Option, Some, None, inl}
+use Rattle.std.proofs.Common.{inr, refl, sym, ap, subst, ◌∙◌, append-nil, Bor}
 use Rattle.std.proofs.lemmas.List.{map-append}
+use Rattle.lsp_docs.specs.State as docs
 use Rattle.lsp_docs.specs.Terms.{Terms}
 use Rattle.lsp_frame.specs.Bounds.{Bounds}
-use Rattle.lsp_frame.specs.Told.{Told}
 use Rattle.lsp_frame.specs.declared.format.Format.{Format}
-use Rattle.lsp_log.specs.Log.{Record}
 use Rattle.lsp_facts.specs.TwoTexts.{TwoTexts, is_of_texts, texts_at}
-use Rattle.lsp_replay.specs.LogEvents.{HasGiven}
+use Rattle.lsp_replay.specs.Run.{EndsAfter, IsPassed, SaysAll, StopsIn}
+use Rattle.lsp_replay.specs.Standing.{Holds}
+use Rattle.lsp_replay.specs.Telling.{IsSpoken, MaySpeak, Says, Stood, kept_before, rule_of}
+use Rattle.lsp_replay.specs.declared.seen.Flow.TheVariants.{GoOn, Stop}
+use Rattle.lsp_replay.proofs.PassEnds.{Boxed, IsQuiet, quiet_all}
+use Rattle.lsp_replay.proofs.Seeing.{events-push}
 use Rattle.lsp_rpc.specs.View.{act_view}
 use Rattle.lsp_rpc.specs.declared.act.Spoken.{Spoken}
 use Rattle.lsp_session.specs.Sent.{Sent}
-use Rattle.lsp_survey.specs.Reads.{Ended, Finds, GaveEvent, IsSurveyOf, SoFar}
-use Rattle.lsp_survey.specs.Walking.{IsOffending}
-use Rattle.lsp_survey.specs.declared.offending.FoundOffence.{FoundOffence}
-use Rattle.lsp_survey.specs.declared.offending.Judged.TheVariants as heard
-use Rattle.lsp_survey.specs.declared.offending.OffendingEvent.TheVariants as what
-use Rattle.lsp_survey.specs.declared.survey_reader.SurveyEnd.{SurveyEnd}
-use Rattle.lsp_survey.specs.declared.survey_reader.SurveyReader.{SurveyReader}
-use Rattle.lsp_survey.proofs.Reading.{editor_rest, join_notes, server_rest, so_far_failures}
-use Rattle.lsp_survey.proofs.Reading.{so_far_given, survey_of}
+use Rattle.lsp_session.specs.State as session
+use Rattle.lsp_survey.proofs.KeptTexts.{same_notes}
+use Rattle.lsp_survey.proofs.Told.{survey_told}
 use Rattle.lsp_types.specs.declared.side.Side.{Side}
-use Rattle.lsp_verdict.specs.Event.{Event, message, fault, snapshot}
-use Rattle.lsp_verdict.specs.Given.{offence_view, verdict_view}
+use Rattle.lsp_verdict.specs.Calls.{calls}
+use Rattle.lsp_verdict.specs.Event.{Event, fault, message, snapshot}
+use Rattle.lsp_verdict.specs.Heard.{Heard, Rests, heard_events, notes_of}
+use Rattle.lsp_verdict.specs.Lent.{raw_view}
 use Rattle.lsp_verdict.specs.LookBack.{first_from, first_of}
-use Rattle.lsp_verdict.specs.Offences.{IsNoted, IsNotedSession, Noted, Offence, events_of, kept_of}
-use Rattle.lsp_verdict.specs.Offences.{offences, rule_at}
+use Rattle.lsp_verdict.specs.Offences.{Noted, events_of, kept_of, offences, rule_at}
 use Rattle.lsp_verdict.specs.Outcome.{ending, log_terms}
-use Rattle.lsp_verdict.specs.Placed.{Placed, Raw, Reads, content, broken, show}
-use Rattle.lsp_verdict.specs.RunIo.{OfRead}
 use Rattle.lsp_verdict.specs.Shown.{TextAnswer}
 use Rattle.lsp_verdict.specs.Survey as survey
-use Rattle.lsp_verdict.specs.Verdict.{Verdict, bad_log_of, no_at, no_by, offence, summary, whose}
-use Rattle.lsp_verdict.specs.declared.completeness.Completeness.{Completeness}
+use Rattle.lsp_verdict.specs.Placed.{Reads, content}
+use Rattle.lsp_verdict.specs.TextAfter.{EndsAs, IsText, written_of}
+use Rattle.lsp_verdict.specs.Verdict.{Verdict, bad_log_of, first_no, no_at, no_by, offence, summary}
+use Rattle.lsp_verdict.specs.declared.counts.Counts.{Counts}
 use Rattle.lsp_verdict.specs.declared.completeness.Completeness.TheVariants.{Ignored}
+use Rattle.lsp_verdict.specs.declared.outcome.Outcome.{Outcome}
+use Rattle.lsp_verdict.specs.declared.raw.Raw as lent
+use Rattle.lsp_verdict.specs.declared.raw.Raw.TheVariants as lents
 use Rattle.lsp_verdict.proofs.Below.{one_log}
 use Rattle.lsp_verdict.proofs.LookBackLemmas.{first_of-append, or_none_parts}
 use Rattle.lsp_verdict.proofs.Offences.Offending.{all_are_kept, nothing_listed}
-use Rattle.lsp_verdict.proofs.Offences.Surveying.{one_notes, some_notes}
-use Rattle.lsp_verdict.proofs.OneEvent.{one_event}
-use Rattle.lsp_verdict.proofs.PlacedLemmas.{one_placed}
-use Rattle.lsp_verdict.proofs.RunReading.{read_map}
-use Rattle.lsp_explain.specs.Compared.{AnswersCompared, IsAnswer, OneComparedText, answer_at}
-use Rattle.lsp_explain.specs.Compared.{answer_of, compared_answer, sound_answer}
-use Rattle.lsp_explain.specs.Standing.{terms_in}
+use Rattle.lsp_verdict.proofs.Offences.Steps.{kept-refused}
+use Rattle.lsp_explain.specs.Compared.{AnswersCompared, OneComparedText, answer_after, answer_at}
+use Rattle.lsp_explain.specs.Compared.{answer_of, compared_answer, compared_run, sound_answer}
+use Rattle.lsp_explain.specs.Compared.{written_at}
 use Rattle.lsp_explain.specs.declared.compared.ComparedText.{ComparedText}
-use Rattle.lsp_explain.proofs.Standing.{stands_before}
-use Rattle.lsp_explain.proofs.Telling.{same_no}
+use Rattle.lsp_explain.proofs.AccountSteps.{clean_on}
+use Rattle.lsp_explain.proofs.Explaining.{notes-append, offence_of, offences_are}
+use Rattle.lsp_explain.proofs.ToldLogs.{clean_all, none_broken}
 
 -- ---- one answer
-
--- the records of a log have one list of events
-same_notes : (limits : Bounds) (rs us : List Record) (ms ns : List Noted) → rs ≡ us
-    → IsNotedSession limits rs ms → IsNotedSession limits us ns → ms ≡ ns
-same_notes limits rs us ms ns same p q =
-    let raws : p.0 ≡ q.0 = one_placed limits [] [] us p.0 q.0
-    (subst (λ (w : List Record). Placed limits w p.0) same p.1) q.1 in
-    one_notes q.0 ms ns (subst (λ (w : List Raw). AllZip IsNoted w ms) raws p.2) q.2
 
 pub one_compared : OneComparedText
 one_compared limits sizes log which a b (found, bad, s, p, is) (others, flaw, t, q, at) =
@@ -142,202 +129,199 @@ module _ (which : ComparedText) (terms : Terms) where
       → first_of (answer_at which terms) (events_of notes) ≡ None
   no_answer notes clean = none_from [] (events_of notes) (clean_events notes clean)
 
--- ---- a log
+-- ---- the run
 
--- these events were heard first of a log with these records
-compared_here : (which : ComparedText) (limits : Bounds) (format : Option Format)
-    (front : List Record) (past : List Raw) (notes : List Noted) (n : Noted) (rule : ℕ)
-    (answer : TextAnswer) → AllZip IsNoted past (notes ++ n ∷ [])
-    → offences (log_terms limits format) notes ≡ []
-    → rule_at (log_terms limits format) (events_of notes) n.event ≡ Some rule
-    → answer ≡ answer_of which (texts_at (log_terms limits format)
-    (kept_of (log_terms limits format) (events_of notes)) n.event rule)
-    → (log : List ℕ) → HasGiven limits format front past log
-    → AnswersCompared limits log which answer
-unfolding survey_of
-compared_here which limits format front past notes n rule answer are_noted clean offends is log
-    has =
-    let terms = log_terms limits format in
-    let extra = some_notes has.later in
-    let all = (notes ++ n ∷ []) ++ extra.0 in
-    let all_noted = join_notes past has.later (notes ++ n ∷ []) extra.0 are_noted extra.1 in
-    let editor = editor_rest Ignored limits log format has.records has.log_fault has.is_log
-    (past ++ has.later) has.placed all all_noted in
-    let server = server_rest Ignored limits log format has.records has.log_fault has.is_log
-    (past ++ has.later) has.placed all all_noted in
-    let found = survey.found_in Ignored terms all (ending has.log_fault editor.0 server.0) in
-    let bad = bad_log_of has.log_fault in
-    let joined : all ≡ notes ++ n ∷ extra.0 = append_assoc notes (n ∷ []) extra.0 in
-    let first : first_of (answer_at which terms) (events_of all) ≡ Some answer =
-    ap (λ (w : List Noted). first_of (answer_at which terms) (events_of w)) joined
-    ∙ first_answer which terms notes extra.0 n rule answer clean offends is in (
-      found,
+module _ (which : ComparedText) where
+  pub quiet : IsQuiet (compared_run which)
+  quiet terms rests before h said is goes =
+      let kept = kept_before terms before in
+      is ∙ ap (λ (o : Option ℕ). written_at
+      (option_map (λ rule. answer_of which (texts_at terms kept h.note.event rule)) o))
+      (none_broken (rule_of terms before h) goes)
+
+  module _ (limits : Bounds) (log out : List ℕ) (outcome : Outcome)
+      (p : IsPassed (compared_run which) limits log out outcome) where
+    abbrev terms : Terms
+    terms = log_terms limits p.format
+
+    abbrev bad : Option Verdict
+    bad = bad_log_of p.tail.fault
+
+    abbrev Text : Type 0
+    Text = IsText (λ l. AnswersCompared limits l which) log out outcome
+
+    -- nothing was said of these events, none of which offends
+    clean : (hs : List Heard) (front : List ℕ)
+        → SaysAll (compared_run which) terms p.tail.rests [] hs front
+        → offences terms (notes_of hs) ≡ []
+    clean hs front said = offences_are terms hs ∙ ap (map (offence_of terms))
+        (clean_all (compared_run which) (λ ts bs h. refl) terms p.tail.rests [] hs front said)
+
+    answered : (answer : TextAnswer) → compared_answer which terms bad (heard_events p.heard) ≡ answer
+        → AnswersCompared limits log which answer
+    unfolding survey_told
+    answered answer is = (
+      survey.found_in Ignored terms (notes_of p.heard)
+          (ending p.tail.fault p.tail.rests.editor p.tail.rests.server),
       bad,
-      summary terms (events_of all),
-      survey_of Ignored limits log format has.records has.log_fault has.is_log
-          (past ++ has.later) has.placed all all_noted found bad (summary terms (events_of all))
-          refl refl refl,
-      sym (ap (λ (o : Option TextAnswer). unwrap_or o (sound_answer bad)) first),
+      summary terms (heard_events p.heard),
+      survey_told Ignored limits log p.format p.records p.heard p.tail p.told,
+      sym is,
     )
 
--- no event of it offends
-compared_nowhere : (which : ComparedText) (limits : Bounds) (e : SurveyReader)
-    (found : List Offence) (bad : Option Verdict) (terms : Terms) (past : List Raw)
-    (notes : List Noted) → offences terms notes ≡ [] → (log : List ℕ)
-    → IsSurveyOf e Ignored limits log found bad terms past notes
-    → AnswersCompared limits log which (sound_answer bad)
-compared_nowhere which limits e found bad terms past notes clean log is = (
-  found,
-  bad,
-  summary terms (events_of notes),
-  is.survey,
-  sym (ap (λ (o : Option TextAnswer). unwrap_or o (sound_answer bad))
-      (ap (λ (t : Terms). first_of (answer_at which t) (events_of is.survey.notes)) is.terms_are
-      ∙ ap (λ (w : List Noted). first_of (answer_at which terms) (events_of w)) is.notes_are
-      ∙ no_answer which terms notes clean)),
-)
+    -- an event offends
+    first_text : (x : StopsIn (compared_run which) terms p.tail.rests p.heard out outcome)
+        (rule : ℕ) → rule_of terms x.first x.here ≡ Some rule → Text
+    first_text x rule offends =
+        let kept = kept_before terms x.first in
+        let ends = x.stop.ends in
+        let own : TextAnswer = answer_of which (texts_at terms kept x.here.note.event rule) in
+        let named : answer_after which terms x.first x.here ≡ Some own =
+        ap (option_map (λ r. answer_of which (texts_at terms kept x.here.note.event r))) offends in
+        let same : ends.0 ≡ own = cc (sym ends.1 ∙ named) in
+        let all : notes_of p.heard ≡ notes_of x.first ++ x.here.note ∷ notes_of x.later =
+        ap notes_of x.are ∙ notes-append x.first (x.here ∷ x.later) in
+        let first : first_of (answer_at which terms) (heard_events p.heard) ≡ Some ends.0 =
+        ap (λ (ns : List Noted). first_of (answer_at which terms) (events_of ns)) all
+        ∙ first_answer which terms (notes_of x.first) (notes_of x.later) x.here.note rule ends.0
+        (clean x.first x.front x.said) offends same in
+        record {
+          answer = ends.0;
+          answers = answered ends.0
+              (ap (λ (o : Option TextAnswer). unwrap_or o (sound_answer bad)) first);
+          written = x.is ∙ ap (λ w. w ++ x.last) (quiet_all (compared_run which) quiet terms
+              p.tail.rests [] x.first x.front x.said)
+              ∙ x.stop.says ∙ ap written_at ends.1;
+          ends = ends.2;
+        }
 
--- ---- a run
+    stopped : StopsIn (compared_run which) terms p.tail.rests p.heard out outcome → Text
+    stopped x = by_rule (rule_of terms x.first x.here) refl x.stop.stops
+      where
+        by_rule : (o : Option ℕ) → rule_of terms x.first x.here ≡ o → is_some o ≡ true → Text
+        by_rule None is some = absurd (cc some)
+        by_rule (Some rule) is some = first_text x rule is
 
--- these events of the log were heard, none of which offends
-pub record Reading (limits : Bounds) (e : SurveyReader) (start now : Told) : Type 0 where
-  pub past : List Raw
-  pub notes : List Noted
-  pub so_far : SoFar limits e start now past notes []
-  pub ignored : e.completeness ≡ Ignored
+    -- none does
+    ended : EndsAfter (compared_run which) terms p.tail p.heard out outcome → Text
+    ended x = record {
+      answer = sound_answer bad;
+      answers = answered (sound_answer bad)
+          (ap (λ (o : Option TextAnswer). unwrap_or o (sound_answer bad))
+          (no_answer which terms (notes_of p.heard) (clean p.heard x.front x.said)));
+      written = x.is ∙ ap (λ w. w ++ x.last) (quiet_all (compared_run which) quiet terms
+          p.tail.rests [] p.heard x.front x.said) ∙ x.closes.0;
+      ends = x.closes.1;
+    }
 
-pub reads_on : (limits : Bounds) (e : SurveyReader) (start now : Told) (past : List Raw)
-    (notes : List Noted) → e.completeness ≡ Ignored
-    → GaveEvent limits e start now past notes [] heard.Kept → Reading limits e start now
-reads_on limits e start now past notes ignored given = record {
-  past = past ++ given.raw ∷ [];
-  notes = notes ++ given.n ∷ [];
-  so_far = given.so_far;
-  ignored = ignored;
-}
+    pub passed_compared : Text
+    passed_compared = by_end p.is
+      where
+        by_end : StopsIn (compared_run which) terms p.tail.rests p.heard out outcome
+            ⊎ EndsAfter (compared_run which) terms p.tail p.heard out outcome → Text
+        by_end (inl x) = stopped x
+        by_end (inr x) = ended x
 
--- one of the texts is found
-pub text_found : (which : ComparedText) (limits : Bounds) (e : SurveyReader) (start now : Told)
-    (past : List Raw) (notes : List Noted) (boxed : Box FoundOffence Global) (answer : TextAnswer)
-    → offences (terms_in e) notes ≡ []
-    → GaveEvent limits e start now past notes [] (heard.Offence boxed)
-    → IsAnswer which e boxed.value answer
-    → OfRead limits start now (λ log. AnswersCompared limits log which answer)
-    × (now.failures ≡ start.failures)
-text_found which limits e start now past notes boxed answer clean given is =
-    let found : FoundOffence = boxed.value in
-    let own = e.log.log.format in
-    let terms = terms_in e in
-    let before : List Event = events_of notes in
-    let raws : List Raw = past ++ given.raw ∷ [] in
-    let all : List Noted = notes ++ given.n ∷ [] in
-    let so = given.so_far in
-    let f : Finds given.raw terms notes given.n found = given.is_heard in
-    let parts = same_no found.offence.rule f.rule found.offence.who (whose given.n.event)
-    found.offence.number _ found.offence.event _ (ap (λ (o : Offence). o.no) f.is) in
-    let such : IsOffending given.raw terms (kept_of terms before) found.offence.rule
-    found.offending = subst (λ r. IsOffending given.raw terms (kept_of terms before) r
-    found.offending) (sym parts.0) f.is_such in
-    let texts = is.1 given.raw given.n.event before
-    (stands_before e notes given.n f.rule so.walks f.offends) given.is_noted.0 such in
-    let answers : answer
-    ≡ answer_of which (texts_at terms (kept_of terms before) given.n.event f.rule) =
-    is.2 ∙ ap (answer_of which) texts
-    ∙ ap (λ r. answer_of which (texts_at terms (kept_of terms before) given.n.event r)) parts.0 in (
-      read_map limits start now (HasGiven limits own so.records raws)
-          (λ log. AnswersCompared limits log which answer)
-          (compared_here which limits own so.records raws notes given.n f.rule answer so.are_noted
-          (subst (λ (t : Terms). offences t notes ≡ []) so.terms_are clean)
-          (subst (λ (t : Terms). rule_at t before given.n.event ≡ Some f.rule) so.terms_are
-          f.offends)
-          (subst (λ (t : Terms).
-          answer ≡ answer_of which (texts_at t (kept_of t before) given.n.event f.rule))
-          so.terms_are answers))
-          (so_far_given Ignored limits e start now raws all (offence_view found.offence ∷ []) so),
-      so_far_failures Ignored limits e start now raws all (offence_view found.offence ∷ []) so,
-    )
+-- ---- what is compared of an event
 
--- the end of the log was met before an event that offends
-pub text_none : (completeness : Completeness) (which : ComparedText) (limits : Bounds)
-    (e : SurveyReader) (start now : Told) (past : List Raw) (notes : List Noted) (end : SurveyEnd)
-    (answer : TextAnswer) → completeness ≡ Ignored
-    → answer ≡ sound_answer (option_map verdict_view end.bad)
-    → Ended completeness limits e start now past notes [] end
-    → OfRead limits start now (λ log. AnswersCompared limits log which answer)
-    × (now.failures ≡ start.failures)
-text_none completeness which limits e start now past notes end answer ignored is ended =
-    let listed : List Offence = [] ++ map offence_view end.listed.items in
-    let bad = option_map verdict_view end.bad in
-    let terms = e.walk.events.docs.terms in (
-      read_map limits start now
-          (λ log. IsSurveyOf e completeness limits log listed bad terms past notes)
-          (λ log. AnswersCompared limits log which answer)
-          (λ log s. subst (AnswersCompared limits log which) (sym is)
-          (compared_nowhere which limits e listed bad terms past notes (sym ended.lists) log
-          (subst (λ (c : Completeness). IsSurveyOf e c limits log listed bad terms past notes)
-          ignored s))) ended.whole,
-      ended.failures,
-    )
+of_fault : (terms : Terms) (kept : List Event) (rule : ℕ) (side : Side) (code : ℕ)
+    → texts_at terms kept (fault side code) rule ≡ None
+of_fault terms kept rule side code = by_test (is_of_texts rule)
+  where
+    none : Option TwoTexts
+    none = None
 
--- ---- what was found
+    by_test : (b : Bool) → (if b then none else None) ≡ None
+    by_test true = refl
+    by_test false = refl
 
-module _ (terms : Terms) (kept : List Event) (rule : ℕ) where
-  of_fault : (side : Side) (code : ℕ) → texts_at terms kept (fault side code) rule ≡ None
-  of_fault side code = by_test (is_of_texts rule)
+module _ (terms : Terms) (before : List Heard) (h : Heard) (rule : ℕ) where
+  abbrev kept : List Event
+  kept = kept_before terms before
+
+  abbrev due : Option TwoTexts
+  due = texts_at terms kept h.note.event rule
+
+  -- a content that is no message and a fault of the frames compare none
+  pub unread_compared : (raw : lent.Raw)
+      → ((version : ℤ) (uri text : Bor (List ℕ)) → raw ≡ lents.Snapshot version uri text → ⊥)
+      → Reads (raw_view raw) h.note.event → MaySpeak kept h.note.event None → None ≡ due
+  unread_compared (lents.Content side bytes) not reads silent =
+      by_event h.note.event reads silent
     where
-      none : Option TwoTexts
-      none = None
+      by_event : (e : Event) → Reads (content side bytes.now) e → MaySpeak kept e None
+          → None ≡ texts_at terms kept e rule
+      by_event (fault by code) reads silent = sym (of_fault terms kept rule by code)
+      by_event (message m) reads silent = absurd (silent m refl)
+      by_event (snapshot uri number text) reads silent = absurd reads
+  unread_compared (lents.Broken side code rest) not reads silent =
+      sym (ap (λ (e : Event). texts_at terms kept e rule) reads ∙ of_fault terms kept rule side code)
+  unread_compared (lents.Snapshot version uri text) not reads silent =
+      absurd (not version uri text refl)
 
-      by_test : (b : Bool) → (if b then none else None) ≡ None
-      by_test true = refl
-      by_test false = refl
+  module _ (m : session.State) (d : docs.State) (c : Counts)
+      (stood : Stood terms m d c (before ++ h ∷ [])) (offends : rule_of terms before h ≡ Some rule)
+    where
+      -- what is held is that before it
+      held_before : Holds m d kept
+      held_before = subst (Holds m d) (ap (kept_of terms) (events-push before h)
+          ∙ kept-refused terms (heard_events before) h.note.event rule offends) stood.holds
 
-  -- a fault of the frames compares no texts
-  pub by_frames : (raw : Raw) (event : Event) (side : Side) → Reads raw event
-      → IsOffending raw terms kept rule (what.Frames side)
-      → texts_at terms kept event rule ≡ None
-  by_frames (broken side code) event by reads is =
-      ap (λ (e : Event). texts_at terms kept e rule) reads ∙ of_fault side code
-  by_frames (content side bytes) event by reads is = absurd is
-  by_frames (show number uri text) event by reads is = absurd is
+      -- a message compares what it says
+      pub message_compared : (side : Side) (s : Spoken) (texts : Option TwoTexts)
+          → IsSpoken kept h.note.event side s
+          → ((events : List Event) (sent : Sent) → Holds m d events → sent.act ≡ act_view s.act
+          → texts ≡ texts_at d.terms events (message sent) rule) → texts ≡ due
+      message_compared side s texts spoken are =
+          are kept spoken.sent held_before spoken.means
+          ∙ ap (λ (t : Terms). texts_at t kept (message spoken.sent) rule) stood.by
+          ∙ ap (λ (e : Event). texts_at terms kept e rule) (sym spoken.is)
 
-  -- nor does a content that is no message
-  pub by_content : (raw : Raw) (event : Event) (side : Side) (given : Vec ℕ Global)
-      → Reads raw event → IsOffending raw terms kept rule (what.Content side given)
-      → texts_at terms kept event rule ≡ None
-  by_content (content by bytes) event side given reads is =
-      ap (λ (e : Event). texts_at terms kept e rule)
-      (one_event by bytes event (fault by rule) reads is.2) ∙ of_fault by rule
-  by_content (broken by code) event side given reads is = absurd is
-  by_content (show number uri text) event side given reads is = absurd is
+      -- a snapshot its text
+      pub shown_compared : (version : ℤ) (uri text : List ℕ) (texts : Option TwoTexts)
+          → h.note.event ≡ snapshot uri version (chars text)
+          → ((events : List Event) → docs.Stands d (calls events)
+          → offence d.terms events (snapshot uri version (chars text)) ≡ Some rule
+          → texts ≡ texts_at d.terms events (snapshot uri version (chars text)) rule) → texts ≡ due
+      shown_compared version uri text texts own are =
+          are kept held_before.called
+          (ap (λ (t : Terms). offence t kept (snapshot uri version (chars text))) stood.by
+          ∙ ap (λ (e : Event). offence terms kept e) (sym own) ∙ offends)
+          ∙ ap (λ (t : Terms). texts_at t kept (snapshot uri version (chars text)) rule) stood.by
+          ∙ ap (λ (e : Event). texts_at terms kept e rule) (sym own)
 
-  -- a message compares what it says
-  pub by_message : (raw : Raw) (event : Event) (side : Side) (spoken : Spoken)
-      (texts : Option TwoTexts) → Reads raw event
-      → IsOffending raw terms kept rule (what.Message side spoken)
-      → ((sent : Sent) → sent.act ≡ act_view spoken.act
-      → texts ≡ texts_at terms kept (message sent) rule)
-      → texts ≡ texts_at terms kept event rule
-  by_message (content by bytes) event side spoken texts reads is says =
-      let refused = is.1 in
-      says refused.sent refused.means
-      ∙ ap (λ (e : Event). texts_at terms kept e rule)
-      (sym (one_event by bytes event (message refused.sent) reads refused.reads))
-  by_message (broken by code) event side spoken texts reads is says = absurd is
-  by_message (show number uri text) event side spoken texts reads is says = absurd is
+-- ---- the account
 
-  -- a snapshot its text
-  pub by_snapshot : (raw : Raw) (event : Event) (version : ℤ) (name shown : String Global)
-      (texts : Option TwoTexts) → Reads raw event
-      → IsOffending raw terms kept rule (what.Snapshot version name shown)
-      → texts ≡ texts_at terms kept
-      (snapshot (string_bytes name) version (chars (string_bytes shown))) rule
-      → texts ≡ texts_at terms kept event rule
-  by_snapshot (show number uri text) event version name shown texts reads is says =
-      let same : event ≡ snapshot (string_bytes name) version (chars (string_bytes shown)) =
-      reads ∙ ap (λ u. snapshot u number (chars text)) (sym is.1)
-      ∙ ap (λ n. snapshot (string_bytes name) n (chars text)) (sym is.0)
-      ∙ ap (λ t. snapshot (string_bytes name) version (chars t)) (sym is.2) in
-      says ∙ ap (λ (e : Event). texts_at terms kept e rule) (sym same)
-  by_snapshot (content by bytes) event version name shown texts reads is says = absurd is
-  by_snapshot (broken by code) event version name shown texts reads is says = absurd is
+module _ (which : ComparedText) (terms : Terms) (before : List Heard) (h : Heard)
+    (Fits : Rests → Type 0) (old : List ℕ) where
+  -- of an event that is kept nothing is said
+  pub kept_silent : first_no terms (heard_events before) ≡ None → rule_of terms before h ≡ None
+      → Says (compared_run which) terms before h Fits old old
+      (first_no terms (heard_events (before ++ h ∷ [])) ≡ None) GoOn
+  kept_silent clean kept = record {
+    said = [];
+    added = sym (append-nil old);
+    is = λ rests fits. sym (ap (λ (o : Option ℕ). written_at (option_map (λ rule.
+        answer_of which (texts_at terms (kept_before terms before) h.note.event rule)) o)) kept);
+    goes = (ap is_some kept, clean_on terms before h clean kept);
+  }
+
+  -- of one that offends one of its texts
+  pub told_text : (Stands : Type 0) (new : List ℕ) (answer : TextAnswer)
+      (texts : Option TwoTexts) (rule : ℕ) (boxed : Boxed) → rule_of terms before h ≡ Some rule
+      → texts ≡ texts_at terms (kept_before terms before) h.note.event rule
+      → answer ≡ answer_of which texts → new ≡ old ++ written_of answer
+      → EndsAs answer boxed.value
+      → Says (compared_run which) terms before h Fits old new Stands (Stop boxed)
+  told_text Stands new answer texts rule boxed offends are one added ends =
+      let named : answer_after which terms before h ≡ Some answer =
+      ap (option_map (λ r. answer_of which (texts_at terms (kept_before terms before) h.note.event
+      r))) offends
+      ∙ ap (λ (t : Option TwoTexts). Some (answer_of which t)) (sym are)
+      ∙ ap (λ (a : TextAnswer). Some a) (sym one) in
+      record {
+        said = written_of answer;
+        added = added;
+        is = λ rests fits. sym (ap written_at named);
+        goes = (ap is_some offends, (answer, named, ends));
+      }

@@ -4,13 +4,12 @@ use Rattle.std.specs.List.{AllZip, cons_option}
 use Rattle.std.proofs.Common.{◌≡◌, ℕ, List, [], ◌∷◌, ◌++◌, Option, Some, None, refl, sym, ap, ◌∙◌}
 use Rattle.std.proofs.lemmas.List.{map-append}
 use Rattle.lsp_docs.specs.Terms.{Terms}
+use Rattle.lsp_verdict.specs.Heard.{Heard, notes_of, raws_of}
 use Rattle.lsp_verdict.specs.LookBack.{each_from}
-use Rattle.lsp_verdict.specs.Offences.{Noted, Offence, IsNoted, events_of, rule_at, offence_by}
+use Rattle.lsp_verdict.specs.Offences.{Offence, IsNoted, events_of, rule_at, offence_by}
 use Rattle.lsp_verdict.specs.Offences.{offence_at, offences}
-use Rattle.lsp_verdict.specs.Placed.{Raw}
 use Rattle.lsp_verdict.proofs.LookBackLemmas.{each_from-append}
-use Rattle.lsp_explain.specs.Explained.{Heard, Breach, raws_of, notes_of, breach, breach_at}
-use Rattle.lsp_explain.specs.Explained.{breaches}
+use Rattle.lsp_explain.specs.Explained.{Breach, breach, breach_at, breaches}
 
 -- ---- events with what they were before they were read
 
@@ -20,28 +19,12 @@ raws-append hs more = map-append (λ (h : Heard). h.raw) hs more
 pub notes-append : (hs more : List Heard) → notes_of (hs ++ more) ≡ notes_of hs ++ notes_of more
 notes-append hs more = map-append (λ (h : Heard). h.note) hs more
 
-pub noted-append : (hs more : List Heard) → AllZip IsNoted (raws_of hs) (notes_of hs)
-    → AllZip IsNoted (raws_of more) (notes_of more)
+-- of the first of these events
+pub noted_front : (hs more : List Heard)
     → AllZip IsNoted (raws_of (hs ++ more)) (notes_of (hs ++ more))
-noted-append [] more p q = q
-noted-append (h ∷ hs) more p q = (p.0, noted-append hs more p.1 q)
-
--- such events of any raw ones
-pub record Hears (raws : List Raw) : Type 0 where
-  pub heard : List Heard
-  pub are : raws_of heard ≡ raws
-  pub noted : AllZip IsNoted (raws_of heard) (notes_of heard)
-
-pub hears : ((raw : Raw) → (n : Noted) × IsNoted raw n) → (raws : List Raw) → Hears raws
-hears note [] = record { heard = []; are = refl; noted = tt }
-hears note (raw ∷ raws) =
-    let first = note raw in
-    let rest = hears note raws in
-    record {
-      heard = record { raw = raw; note = first.0 } ∷ rest.heard;
-      are = ap (λ w. raw ∷ w) rest.are;
-      noted = (first.1, rest.noted);
-    }
+    → AllZip IsNoted (raws_of hs) (notes_of hs)
+noted_front [] more p = tt
+noted_front (h ∷ hs) more p = (p.0, noted_front hs more p.1)
 
 -- ---- those that offend
 

@@ -3,6 +3,7 @@ use Rattle.std.proofs.Common.{ℕ, List, Option, sym, ◌∙◌, subst}
 use Rattle.lsp_docs.specs.Terms.{Terms}
 use Rattle.lsp_frame.specs.Bounds.{Bounds, IsInRange}
 use Rattle.lsp_verdict.specs.Complete.{IsVerdictBy}
+use Rattle.lsp_verdict.specs.Heard.{Heard, notes_of, raws_of}
 use Rattle.lsp_verdict.specs.Offences.{Offence}
 use Rattle.lsp_verdict.specs.Survey.{IsSurvey}
 use Rattle.lsp_verdict.specs.Verdict.{Verdict, Summary}
@@ -11,8 +12,7 @@ use Rattle.lsp_verdict.specs.declared.completeness.Completeness.TheVariants.{Ign
 use Rattle.lsp_verdict.proofs.Completing.{some_complete_verdict}
 use Rattle.lsp_verdict.proofs.Logs.{some_verdict}
 use Rattle.lsp_verdict.proofs.Offences.Surveying.{survey_agrees}
-use Rattle.lsp_explain.specs.Explained.{AreExplained, Breach, Explained, Heard, IsWritten, notes_of}
-use Rattle.lsp_explain.specs.Explained.{raws_of}
+use Rattle.lsp_explain.specs.Explained.{AreExplained, Breach, Explained, IsWritten}
 use Rattle.lsp_facts.specs.Fact.{Fact}
 
 -- the survey that is explained

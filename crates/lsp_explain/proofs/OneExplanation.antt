@@ -9,9 +9,11 @@ use Rattle.lsp_frame.specs.Bounds.{Bounds, IsInRange}
 use Rattle.lsp_frame.specs.declared.format.Format.{Format}
 use Rattle.lsp_log.specs.Log.{Record, IsLog}
 use Rattle.lsp_log.specs.declared.fault.LogCode.{LogCode}
-use Rattle.lsp_survey.specs.Asking.{numbered}
+use Rattle.lsp_replay.proofs.FirstEvents.{some_heard}
+use Rattle.lsp_explain.specs.Asking.{numbered}
 use Rattle.lsp_types.specs.declared.side.Side.TheVariants.{Editor, Server}
 use Rattle.lsp_verdict.specs.Event.{Event}
+use Rattle.lsp_verdict.specs.Heard.{Heard, Rests, notes_of, raws_of}
 use Rattle.lsp_verdict.specs.LookBack.{each_from}
 use Rattle.lsp_verdict.specs.Offences.{Offence, IsNoted, events_of, kept_of, rule_at}
 use Rattle.lsp_verdict.specs.Outcome.{HasRest, ending, log_terms}
@@ -20,22 +22,21 @@ use Rattle.lsp_verdict.specs.Survey.{ends_listed, first_verdict, found_in}
 use Rattle.lsp_verdict.specs.Verdict.{Verdict, Ending, Summary, summary, bad_log_of, no_by}
 use Rattle.lsp_verdict.specs.declared.completeness.Completeness.{Completeness}
 use Rattle.lsp_verdict.proofs.Below.{one_log, some_log, some_stream}
-use Rattle.lsp_verdict.proofs.Offences.Surveying.{one_notes, some_note}
+use Rattle.lsp_verdict.proofs.Offences.Surveying.{one_notes}
 use Rattle.lsp_verdict.proofs.Outcomes.{one_rest}
 use Rattle.lsp_verdict.proofs.PlacedLemmas.{one_placed}
 use Rattle.lsp_verdict.proofs.Sessions.{some_placed}
 use Rattle.lsp_facts.specs.Fact.{Fact}
-use Rattle.lsp_facts.specs.FlawFacts.{Rests, log_facts}
+use Rattle.lsp_facts.specs.FlawFacts.{log_facts}
 use Rattle.lsp_facts.proofs.OneFacts.{one_facts}
 use Rattle.lsp_facts.proofs.SomeFacts.{some_facts}
 use Rattle.lsp_explain.specs.AllExplained.{all_explanation, causes, is_cause}
-use Rattle.lsp_explain.specs.Explained.{Heard, Breach, Explained, Explains, IsWritten, breach}
+use Rattle.lsp_explain.specs.Explained.{Breach, Explained, Explains, IsWritten, breach}
 use Rattle.lsp_explain.specs.Explained.{breach_at, breaches, end_explained, event_of}
-use Rattle.lsp_explain.specs.Explained.{first_breach, noted_explanation, notes_of, raws_of}
+use Rattle.lsp_explain.specs.Explained.{first_breach, noted_explanation}
 use Rattle.lsp_explain.specs.ExplainLaws.{SomeExplanation, OneExplanation, SomeExplanationOfAll}
 use Rattle.lsp_explain.specs.ExplainLaws.{OneExplanationOfAll}
 use Rattle.lsp_explain.specs.Traced.{setter_at, traced}
-use Rattle.lsp_explain.proofs.Explaining.{hears}
 
 -- ---- an event that offends
 
@@ -153,20 +154,20 @@ some_parts : (limits : Bounds) (log : List ℕ) → (x : Parts) × AreParts limi
 some_parts limits log =
     let whole = some_log limits log in
     let raws = some_placed limits [] [] whole.1 in
-    let heard = hears some_note raws.0 in
+    let heard = some_heard raws.0 in
     let editor = some_stream limits (joined Editor whole.1) in
     let server = some_stream limits (joined Server whole.1) in (
       record {
         format = whole.0;
         records = whole.1;
         log_fault = whole.2;
-        heard = heard.heard;
+        heard = heard.0;
         rests = record { editor = editor.1; server = server.1 };
       },
       record {
         is_log = whole.3;
-        placed_are = subst (Placed limits whole.1) (sym heard.are) raws.1;
-        noted = heard.noted;
+        placed_are = subst (Placed limits whole.1) (sym heard.1) raws.1;
+        noted = heard.2;
         editor_rest = (editor.0, editor.2, editor.3);
         server_rest = (server.0, server.2, server.3);
       },

@@ -1,186 +1,156 @@
--- What a run tells of the first offence that it finds.
-use Rattle.std.specs.Prelude.{Box}
-use Rattle.std.specs.Global.{Global}
-use Rattle.std.proofs.Common.{◌≡◌, ℕ, ◌+◌, ◌<◌, ◌^◌, List, [], ◌∷◌, ◌++◌, length, Option}
-use Rattle.std.proofs.Common.{Some, refl, sym, ap, ◌∙◌, subst, string_bytes, arith}
+-- What is told of an event that offends.
+use Rattle.std.proofs.Common.{◌≡◌, ℕ, ◌+◌, ◌<◌, ◌^◌, Bool, List, [], ◌∷◌, ◌++◌, length, Option, Some, refl, Bor}
+use Rattle.std.proofs.Common.{sym, ap, ◌∙◌, subst, arith, append_assoc}
+use Rattle.std.proofs.lemmas.List.{length-map}
+use Rattle.lsp_docs.specs.State as docs
 use Rattle.lsp_docs.specs.Terms.{Terms}
-use Rattle.lsp_frame.specs.Bounds.{Bounds}
-use Rattle.lsp_frame.specs.Told.{Told}
-use Rattle.lsp_log.specs.Log.{Record}
+use Rattle.lsp_replay.specs.Places.{place_of}
+use Rattle.lsp_replay.specs.Standing.{Holds}
+use Rattle.lsp_replay.specs.Streams.{decoder_of}
+use Rattle.lsp_replay.specs.Telling.{FitsRests, IsSeen, ShowsFault, Stood, rule_of}
+use Rattle.lsp_replay.specs.declared.log_events.LogEvents.{LogEvents}
+use Rattle.lsp_replay.specs.declared.seen.Seen.{Seen}
+use Rattle.lsp_replay.specs.declared.seen.Seen.TheVariants as variants
+use Rattle.lsp_replay.proofs.Seeing.{events-push}
+use Rattle.lsp_rpc.specs.declared.act.Spoken.{Spoken}
+use Rattle.lsp_session.specs.State as session
+use Rattle.lsp_verdict.specs.Event.{Event}
+use Rattle.lsp_verdict.specs.Given.{offence_view}
 use Rattle.lsp_types.specs.declared.side.Side.{Side}
 use Rattle.lsp_types.specs.declared.side.Side.TheVariants.{Editor, Server}
-use Rattle.lsp_replay.specs.Places.{place_of}
-use Rattle.lsp_survey.specs.Reads.{SoFar, Finds, GaveEvent, HasEnded, IsBroken, ShowsFront}
-use Rattle.lsp_survey.specs.Reads.{found_in}
-use Rattle.lsp_survey.specs.Walking.{IsOffending}
-use Rattle.lsp_survey.specs.declared.offending.FoundOffence.{FoundOffence}
-use Rattle.lsp_survey.specs.declared.offending.Judged.TheVariants as heard
-use Rattle.lsp_survey.specs.declared.offending.OffendingEvent.{OffendingEvent}
-use Rattle.lsp_survey.specs.declared.offending.OffendingEvent.TheVariants as what
-use Rattle.lsp_survey.specs.declared.survey_reader.SurveyReader.{SurveyReader}
-use Rattle.lsp_verdict.specs.Event.{Event}
-use Rattle.lsp_verdict.specs.Given.{offence_view, verdict_view}
-use Rattle.lsp_verdict.specs.Offences.{Noted, Offence, events_of, kept_of, rule_at}
-use Rattle.lsp_verdict.specs.Outcome.{HasRest}
-use Rattle.lsp_verdict.specs.Placed.{Raw, content, broken, show, joined, Reads}
+use Rattle.lsp_verdict.specs.Heard.{Heard, Rests, heard_events, notes_of, rest_of}
+use Rattle.lsp_verdict.specs.Offences as spec
+use Rattle.lsp_verdict.specs.Offences.{Noted, kept_of}
+use Rattle.lsp_verdict.specs.Placed.{Raw}
 use Rattle.lsp_verdict.specs.Report.{report}
-use Rattle.lsp_verdict.specs.Verdict.{belongs_to, count_of, no, whose}
+use Rattle.lsp_verdict.specs.Verdict.{belongs_to, count_of, no, no_by, whose}
+use Rattle.lsp_verdict.specs.declared.counts.Counts.{Counts}
+use Rattle.lsp_verdict.specs.declared.offence.Offence.{Offence}
+use Rattle.lsp_verdict.specs.declared.raw.Raw as lent
 use Rattle.lsp_verdict.specs.declared.verdict.Who.{Who}
 use Rattle.lsp_verdict.proofs.EventCounts.{count_few}
 use Rattle.lsp_verdict.proofs.ExactCounts.{capped_is}
-use Rattle.lsp_explain.specs.Explained.{Heard, Explained, raws_of, notes_of, place_in}
+use Rattle.lsp_verdict.proofs.Offences.Steps.{kept-refused}
 use Rattle.lsp_facts.specs.EventFacts.{AreFacts}
 use Rattle.lsp_facts.specs.Fact.{Fact}
-use Rattle.lsp_facts.specs.FlawFacts.{Rests, rest_of}
 use Rattle.lsp_facts.specs.Lines.{detail_lines, event_line}
-use Rattle.lsp_explain.specs.RunSteps.{RestsBehind, ShowsFault, Tells, side_of}
-use Rattle.lsp_explain.specs.Standing.{StandsAfter, terms_in}
+use Rattle.lsp_explain.specs.Accounts.{TellsOf, rests_held}
+use Rattle.lsp_explain.specs.Explained.{place_in}
+use Rattle.lsp_explain.specs.Standing.{StandsAfter}
 use Rattle.lsp_explain.specs.Traced.{AreTraced}
-use Rattle.lsp_explain.specs.declared.run.Explanation.{Explanation}
-use Rattle.lsp_explain.proofs.Standing.{few_before, stands_before}
+use Rattle.lsp_explain.specs.Trails.{IsTrail}
+use Rattle.lsp_explain.specs.declared.trail.Past.{Past}
 
-pub same_no : (r s : ℕ) (a b : Who) (m n k l : ℕ) → no r a m k ≡ no s b n l
+-- what the reader of a log holds of a side's bytes
+pub held_rest : (e : LogEvents) (side : Side)
+    → (decoder_of side e.streams).rest ≡ rest_of (rests_held e) side
+held_rest e Editor = refl
+held_rest e Server = refl
+
+same_no : (r s : ℕ) (a b : Who) (m n k l : ℕ) → no r a m k ≡ no s b n l
     → (r ≡ s) × (a ≡ b) × (m ≡ n) × (k ≡ l)
 same_no r s a b m n k l e = (cc e, cc e, cc e, cc e)
 
--- what is said of what was found, where the reader stands for the events before it, and these bytes
--- of its side are held
-abbrev pub SaidOf : SurveyReader → FoundOffence → List ℕ → List ℕ → Type 0
-SaidOf e found rest said =
-    (raw : Raw) (event : Event) (before : List Event) → StandsAfter e before
-    → place_in found.offence ≡ place_of before event → Reads raw event
-    → IsOffending raw (terms_in e) (kept_of (terms_in e) before) found.offence.rule found.offending
-    → rule_at (terms_in e) before event ≡ Some found.offence.rule
-    → (facts : List Fact)
-    × ((rests : Rests) → ShowsFault rests found.offending rest
-    → AreTraced (AreFacts rests (terms_in e) (kept_of (terms_in e) before) raw event
-    found.offence.rule) (terms_in e) before event found.offence.rule facts)
-    × (said ≡ event_line found.offence.event found.offence.who found.offence.number raw
-    ++ detail_lines facts (offence_view found.offence).no)
+pub few_before : (before : List Heard) → length before + 1 < 2 ^ 64
+    → length (heard_events before) + 1 < 2 ^ 64
+few_before before few = omega (
+  arith,
+  few,
+  length-map (notes_of before) (λ (n : Noted). n.event),
+  length-map before (λ (x : Heard). x.note),
+)
 
--- behind a fault of its frames these bytes show the header part that has it, whatever records
--- follow
-abbrev pub SeenOf : SurveyReader → FoundOffence → List ℕ → Type 0
-SeenOf e found rest =
-    (limits : Bounds) (start now : Told) (past : List Raw) (notes : List Noted)
-    (prior : List Offence) → (so : SoFar limits e start now past notes prior)
-    → IsBroken e (side_of found.offending)
-    → ShowsFront limits (side_of found.offending) so.records rest
+-- an offence by this rule at the last event that was counted
+pub by_rule_of : (o : Offence) (before : List Event) (event : Event) (rule : ℕ) (late : Bool)
+    → offence_view o ≡ record { no = no_by before event rule; follows = late }
+    → (o.rule ≡ rule) × ((offence_view o).no ≡ no_by before event o.rule)
+by_rule_of o before event rule late is =
+    let named : (offence_view o).no ≡ no_by before event rule = ap (λ (x : spec.Offence). x.no) is in
+    let same : o.rule ≡ rule =
+    (same_no o.rule rule o.who (whose event) o.number _ o.event _ named).0 in
+    (same, named ∙ ap (no_by before event) (sym same))
 
-rest_at : (limits : Bounds) (records : List Record) (rests : Rests) (side : Side)
-    (behind : RestsBehind limits records rests)
-    → HasRest limits (joined side (records ++ behind.more)) (rest_of rests side)
-rest_at limits records rests Editor behind = behind.editor
-rest_at limits records rests Server behind = behind.server
+-- the place that an offence names is that of its event
+pub placed_by : (o : Offence) (before : List Event) (event : Event)
+    → length before + 1 < 2 ^ 64 → (offence_view o).no ≡ no_by before event o.rule
+    → place_in o ≡ place_of before event
+placed_by o before event few is =
+    let by : Who = whose event in
+    let parts = same_no o.rule o.rule o.who by o.number _ o.event _ is in
+    λ i. record {
+      event = (parts.3 ∙ sym (capped_is (length before + 1) few)) i;
+      who = parts.1 i;
+      number = (parts.2 ∙ sym (capped_is (count_of (belongs_to by) before + 1)
+          (omega (arith, few, count_few (belongs_to by) before)))) i;
+    }
 
--- so the fault that was found is shown
-fault_shown : (limits : Bounds) (s : SurveyReader) (records : List Record) (rests : Rests)
-    (rest : List ℕ) (terms : Terms) (kept : List Event) (rule : ℕ) (raw : Raw) (o : OffendingEvent)
-    → IsOffending raw terms kept rule o → HasEnded s raw
-    → (IsBroken s (side_of o) → ShowsFront limits (side_of o) records rest)
-    → RestsBehind limits records rests → ShowsFault rests o rest
-fault_shown limits s records rests rest terms kept rule (broken side code) (what.Frames by) is ended
-    seen behind =
-    seen (subst (IsBroken s) (sym is) ended) behind.more (rest_of rests by)
-    (rest_at limits records rests by behind)
-fault_shown limits s records rests rest terms kept rule (content side bytes) (what.Frames by) is
-    ended seen behind = absurd is
-fault_shown limits s records rests rest terms kept rule (show number uri text) (what.Frames by) is
-    ended seen behind = absurd is
-fault_shown limits s records rests rest terms kept rule raw (what.Content by given) is ended seen
-    behind = tt
-fault_shown limits s records rests rest terms kept rule raw (what.Message by spoken) is ended seen
-    behind = tt
-fault_shown limits s records rests rest terms kept rule raw (what.Snapshot version uri text) is
-    ended seen behind = tt
+-- what is known of the past stands for the events before one that offends
+pub stands_before : (past : Past) (terms : Terms) (before : List Heard) (h : Heard) (rule : ℕ)
+    → IsTrail terms past.trail.now (heard_events before)
+    → Stood terms past.held.now.session past.held.now.docs past.held.now.counts
+    (before ++ h ∷ []) → rule_of terms before h ≡ Some rule
+    → StandsAfter past (heard_events before)
+stands_before past terms before h rule trail stood offends = record {
+  holds = subst (λ (t : Terms). Holds past.held.now.session past.held.now.docs
+      (kept_of t (heard_events before))) (sym stood.by)
+      (subst (Holds past.held.now.session past.held.now.docs)
+      (ap (kept_of terms) (events-push before h)
+      ∙ kept-refused terms (heard_events before) h.note.event rule offends) stood.holds);
+  trail = subst (λ (t : Terms). IsTrail t past.trail.now (heard_events before)) (sym stood.by) trail;
+}
 
--- what a box has was found
-pub finds_boxed : (limits : Bounds) (e : SurveyReader) (start now : Told) (past : List Raw)
-    (notes : List Noted) (prior : List Offence) (found : FoundOffence)
-    (boxed : Box FoundOffence Global) → boxed.value ≡ found
-    → (given : GaveEvent limits e start now past notes prior (heard.Offence boxed))
-    → Finds given.raw (terms_in e) notes given.n found
-finds_boxed limits e start now past notes prior found boxed same given =
-    subst (Finds given.raw (terms_in e) notes given.n) same given.is_heard
+-- what is said of such an event
+pub tells_of : (terms : Terms) (before : List Heard) (h : Heard) (o : Offence) (raw : Raw)
+    (Fits : Rests → Type 0) (facts : List Fact) (old mid next new : List ℕ) → h.raw ≡ raw
+    → (offence_view o).no ≡ no_by (heard_events before) h.note.event o.rule
+    → ((rests : Rests) → Fits rests → AreTraced (AreFacts rests terms
+    (kept_of terms (heard_events before)) raw h.note.event o.rule) terms (heard_events before)
+    h.note.event o.rule facts)
+    → mid ≡ old ++ report (offence_view o).no
+    → next ≡ mid ++ event_line o.event o.who o.number raw
+    → new ≡ next ++ detail_lines facts (offence_view o).no
+    → TellsOf terms before h o.rule Fits old new
+tells_of terms before h o raw Fits facts old mid next new raw_is no_is are first second third =
+    let v = (offence_view o).no in
+    let line = event_line o.event o.who o.number raw in
+    let details = detail_lines facts v in
+    record {
+      e = record { no = v; event = line; facts = facts };
+      no_is = no_is;
+      explains = λ rests fits. record {
+        no_is = no_is;
+        event_is = ap (event_line o.event o.who o.number) (sym raw_is);
+        facts_are = subst (λ (w : Raw). AreTraced (AreFacts rests terms
+            (kept_of terms (heard_events before)) w h.note.event o.rule) terms (heard_events before)
+            h.note.event o.rule facts) (sym raw_is) (are rests fits);
+      };
+      added = third ∙ ap (λ w. w ++ details) (second ∙ ap (λ w. w ++ line) first)
+          ∙ append_assoc (old ++ report v) line details
+          ∙ append_assoc old (report v) (line ++ details);
+    }
 
-module _ (e : SurveyReader) (found : FoundOffence) (x : Explanation) (rest said : List ℕ)
-    (text : string_bytes x.text ≡ report (offence_view found.offence).no ++ said)
-    (named : verdict_view x.verdict ≡ (offence_view found.offence).no)
-    (says : SaidOf e found rest said) where
-  module _ (limits : Bounds) (records : List Record) (hs : List Heard) (h : Heard)
-      (noted : Reads h.raw h.note.event) (few : length (events_of (notes_of hs)) + 1 < 2 ^ 64)
-      (shows_fault : (rests : Rests) → RestsBehind limits records rests
-      → ShowsFault rests found.offending rest) where
-    abbrev before : List Event
-    before = events_of (notes_of hs)
+-- what is seen of an offence is what is lent of it
+module _ (terms : Terms) (before : List Heard) (h : Heard) (s : Seen) (raw : lent.Raw) (rule : ℕ)
+    (spoken : Option (Bor Spoken)) (o : Offence) (is : s ≡ variants.Offence raw rule spoken)
+    (same : o.rule ≡ rule) where
+  pub seen_of : (m : session.State) (d : docs.State) (c : Counts) → IsSeen m d c s terms before h
+      → IsSeen m d c (variants.Offence raw o.rule spoken) terms before h
+  seen_of m d c seen = subst (λ r. IsSeen m d c (variants.Offence raw r spoken) terms before h)
+      (sym same) (subst (λ (x : Seen). IsSeen m d c x terms before h) is seen)
 
-    abbrev AreAll : Rests → Terms → ℕ → List Fact → Type 0
-    AreAll rests terms rule facts =
-        AreTraced (AreFacts rests terms (kept_of terms before) h.raw h.note.event rule) terms before
-        h.note.event rule facts
+  pub told_of : (old new : List ℕ) → TellsOf terms before h o.rule (ShowsFault raw) old new
+      → TellsOf terms before h rule (FitsRests s) old new
+  told_of old new told =
+      subst (λ (x : Seen). TellsOf terms before h rule (FitsRests x) old new) (sym is)
+      (subst (λ r. TellsOf terms before h r (ShowsFault raw) old new) same told)
 
-    under : (terms : Terms) → terms ≡ terms_in e → Finds h.raw terms (notes_of hs) h.note found
-        → StandsAfter e before → Tells limits records terms hs h found x
-    under terms same f stands =
-        let parts = same_no found.offence.rule f.rule found.offence.who (whose h.note.event)
-        found.offence.number _ found.offence.event _ (ap (λ (o : Offence). o.no) f.is) in
-        let such : IsOffending h.raw terms (kept_of terms before) found.offence.rule
-        found.offending = subst (λ r. IsOffending h.raw terms (kept_of terms before) r
-        found.offending) (sym parts.0) f.is_such in
-        let offends : rule_at terms before h.note.event ≡ Some found.offence.rule =
-        f.offends ∙ ap (λ r. let o : Option ℕ = Some r in o) (sym parts.0) in
-        let by : Who = whose h.note.event in
-        let place : place_in found.offence ≡ place_of before h.note.event = λ i. record {
-          event = (parts.3 ∙ sym (capped_is (length before + 1) few)) i;
-          who = parts.1 i;
-          number = (parts.2 ∙ sym (capped_is (count_of (belongs_to by) before + 1)
-              (omega (arith, few, count_few (belongs_to by) before)))) i;
-        } in
-        let told = says h.raw h.note.event before stands place noted
-        (subst (λ t. IsOffending h.raw t (kept_of t before) found.offence.rule found.offending) same
-        such)
-        (subst (λ t. rule_at t before h.note.event ≡ Some found.offence.rule) same offends) in
-        let y : Explained = record {
-          no = (offence_view found.offence).no;
-          event = event_line found.offence.event found.offence.who found.offence.number h.raw;
-          facts = told.0;
-        } in record {
-          rule = f.rule;
-          offends = f.offends;
-          told = y;
-          explains = λ rests behind. record {
-            no_is = ap (λ (o : Offence). o.no) f.is;
-            event_is = refl;
-            facts_are = subst (λ r. AreAll rests terms r told.0) parts.0
-                (subst (λ t. AreAll rests t found.offence.rule told.0) (sym same)
-                (told.1 rests (shows_fault rests behind)));
-          };
-          no_is = ap (λ (o : Offence). o.no) f.is;
-          is = refl;
-          verdict_is = named;
-          text_is = text ∙ ap (λ w. report (offence_view found.offence).no ++ w) told.2;
-        }
-
-  pub tells : SeenOf e found rest
-      → (limits : Bounds) (start now : Told) (hs : List Heard) (prior : List Offence)
-      (boxed : Box FoundOffence Global) (same : boxed.value ≡ found)
-      (given : GaveEvent limits e start now (raws_of hs) (notes_of hs) prior (heard.Offence boxed))
-      → Tells limits given.so_far.records (terms_in e) hs (record {
-        raw = given.raw;
-        note = given.n;
-      }) found x
-  tells seen limits start now hs prior boxed same given =
-      let terms = terms_in e in
-      let f = finds_boxed limits e start now (raws_of hs) (notes_of hs) prior found boxed same given in
-      let shows_fault : (rests : Rests) → RestsBehind limits given.so_far.records rests
-      → ShowsFault rests found.offending rest = λ rests behind.
-      fault_shown limits e given.so_far.records rests rest terms
-      (kept_of terms (events_of (notes_of hs))) f.rule given.raw found.offending f.is_such
-      given.ends (seen limits start now _ _ _ given.so_far) behind in
-      under limits given.so_far.records hs (record {
-        raw = given.raw;
-        note = given.n;
-      }) given.is_noted.0 (few_before limits e start now (raws_of hs ++ given.raw ∷ [])
-      (notes_of hs) given.n (prior ++ found_in (heard.Offence boxed)) given.so_far) shows_fault
-      terms refl f
-      (stands_before e (notes_of hs) given.n f.rule given.so_far.walks f.offends)
+-- what is known of the past stands for all events
+pub stands_at : (past : Past) (terms : Terms) (heard : List Heard)
+    → IsTrail terms past.trail.now (heard_events heard)
+    → Stood terms past.held.now.session past.held.now.docs past.held.now.counts heard
+    → StandsAfter past (heard_events heard)
+stands_at past terms heard trail stood = record {
+  holds = subst (λ (t : Terms). Holds past.held.now.session past.held.now.docs
+      (kept_of t (heard_events heard))) (sym stood.by) stood.holds;
+  trail = subst (λ (t : Terms). IsTrail t past.trail.now (heard_events heard)) (sym stood.by) trail;
+}

@@ -18,8 +18,8 @@ use Rattle.lsp_rpc.specs.Outline.{outline}
 use Rattle.lsp_session.specs.Sent.{Sent}
 use Rattle.lsp_types.specs.declared.side.Side.{Side}
 use Rattle.lsp_verdict.specs.Event.{Event, message, sent_in}
-use Rattle.lsp_survey.specs.Asking.{numbered}
-use Rattle.lsp_survey.specs.Marking.{Step, agreed, recent}
+use Rattle.lsp_explain.specs.Asking.{numbered}
+use Rattle.lsp_explain.specs.Marking.{Step, agreed, recent}
 use Rattle.lsp_replay.specs.Places.{place_of}
 use Rattle.lsp_replay.specs.declared.heard.EventPlace.{EventPlace}
 use Rattle.lsp_facts.specs.Fact.{Fact, cited}

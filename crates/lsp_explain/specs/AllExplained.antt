@@ -10,6 +10,7 @@ use Rattle.lsp_log.specs.Log.{Record, IsLog}
 use Rattle.lsp_log.specs.declared.fault.LogCode.{LogCode}
 use Rattle.lsp_types.specs.declared.side.Side.TheVariants.{Editor, Server}
 use Rattle.lsp_verdict.specs.Complete.{IsVerdictBy}
+use Rattle.lsp_verdict.specs.Heard.{Heard, Rests, notes_of, raws_of}
 use Rattle.lsp_verdict.specs.Offences.{Offence, IsNoted, follows}
 use Rattle.lsp_verdict.specs.Outcome.{HasRest, log_terms}
 use Rattle.lsp_verdict.specs.Placed.{Raw, Placed, joined}
@@ -22,9 +23,8 @@ use Rattle.lsp_verdict.specs.declared.completeness.Completeness.{Completeness}
 use Rattle.lsp_verdict.specs.declared.outcome.Outcome.{Outcome}
 use Rattle.lsp_verdict.specs.declared.outcome.RunFault.{RunFault}
 use Rattle.lsp_facts.specs.Fact.{Fact}
-use Rattle.lsp_facts.specs.FlawFacts.{Rests}
-use Rattle.lsp_explain.specs.Explained.{Heard, Breach, Explained, Explains, raws_of, notes_of}
-use Rattle.lsp_explain.specs.Explained.{AreExplained, IsWritten, breaches, said_of, flaw_lines}
+use Rattle.lsp_explain.specs.Explained.{Breach, Explained, Explains, AreExplained, IsWritten}
+use Rattle.lsp_explain.specs.Explained.{breaches, said_of, flaw_lines}
 
 -- ---- the events that are explained
 

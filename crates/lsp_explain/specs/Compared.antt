@@ -1,25 +1,29 @@
 -- The whole texts of a verdict that says that two texts differ: the one that the messages make, and
 -- the one that was recorded.
-use Rattle.std.specs.Prelude.{◌≡◌, ℕ, List, Option, Some, None, option_map, unwrap_or}
+use Rattle.std.specs.Prelude.{◌≡◌, ℕ, List, [], Option, Some, None, is_some, option_map}
+use Rattle.std.specs.Prelude.{unwrap_or}
 use Rattle.lsp_docs.specs.Terms.{Terms}
 use Rattle.lsp_docs.specs.Texts.{Text}
 use Rattle.lsp_frame.specs.Bounds.{Bounds, IsInRange}
 use Rattle.lsp_facts.specs.TwoTexts.{TwoTexts, texts_at}
+use Rattle.lsp_replay.specs.Run.{Run}
+use Rattle.lsp_replay.specs.Telling.{kept_before, rule_of}
 use Rattle.lsp_verdict.specs.Event.{Event}
 use Rattle.lsp_verdict.specs.LookBack.{first_of}
-use Rattle.lsp_verdict.specs.Offences.{Offence, events_of, kept_of}
+use Rattle.lsp_verdict.specs.Heard.{Heard}
+use Rattle.lsp_verdict.specs.Offences.{Offence, events_of}
 use Rattle.lsp_verdict.specs.Outcome.{log_terms}
 use Rattle.lsp_verdict.specs.Shown.{TextAnswer, text_is, no_difference, refused}
 use Rattle.lsp_verdict.specs.Survey.{IsSurvey}
-use Rattle.lsp_verdict.specs.Verdict.{Summary, Verdict, offence}
+use Rattle.lsp_verdict.specs.TextAfter.{EndsAs, written_of}
+use Rattle.lsp_verdict.specs.Verdict.{Summary, Verdict, bad_log_of, offence}
 use Rattle.lsp_verdict.specs.declared.completeness.Completeness.TheVariants.{Ignored}
-use Rattle.lsp_survey.specs.Walking.{IsOffending}
-use Rattle.lsp_survey.specs.declared.offending.FoundOffence.{FoundOffence}
-use Rattle.lsp_survey.specs.declared.survey_reader.SurveyReader.{SurveyReader}
-use Rattle.lsp_verdict.specs.Placed.{Raw, Reads}
-use Rattle.lsp_explain.specs.Standing.{StandsAfter, terms_in}
 use Rattle.lsp_explain.specs.declared.compared.ComparedText.{ComparedText}
 use Rattle.lsp_explain.specs.declared.compared.ComparedText.TheVariants.{ByMessages, InEditor}
+
+-- what is asked of the run
+abbrev pub ComparedAsked : Type 0
+ComparedAsked = ComparedText
 
 abbrev pub one_of : ComparedText → TwoTexts → Text
 one_of ByMessages texts = texts.by_messages
@@ -59,16 +63,23 @@ OneComparedText = (limits : Bounds) → IsInRange limits → (log : List ℕ) (w
     → (a b : TextAnswer) → AnswersCompared limits log which a → AnswersCompared limits log which b
     → a ≡ b
 
--- ---- a run
+-- ---- the run
 
--- these are the two texts of what was found, whatever was heard before it
-abbrev pub AreTexts : SurveyReader → FoundOffence → Option TwoTexts → Type 0
-AreTexts e found texts =
-    (raw : Raw) (event : Event) (before : List Event) → StandsAfter e before → Reads raw event
-    → IsOffending raw (terms_in e) (kept_of (terms_in e) before) found.offence.rule found.offending
-    → texts ≡ texts_at (terms_in e) (kept_of (terms_in e) before) event found.offence.rule
+-- the answer at the event after these, where it offends
+abbrev pub answer_after : ComparedText → Terms → List Heard → Heard → Option TextAnswer
+answer_after which terms before h = answer_at which terms (kept_before terms before) h.note.event
 
--- this is answered at what was found
-abbrev pub IsAnswer : ComparedText → SurveyReader → FoundOffence → TextAnswer → Type 0
-IsAnswer which e found answer =
-    (texts : Option TwoTexts) × AreTexts e found texts × (answer ≡ answer_of which texts)
+abbrev pub written_at : Option TextAnswer → List ℕ
+written_at answer = unwrap_or (option_map written_of answer) []
+
+-- **the run of the compared texts**: it says one at the first event that offends, and stops there
+abbrev pub compared_run : ComparedText → Run
+compared_run which = record {
+  says = λ terms rests before h out. out ≡ written_at (answer_after which terms before h);
+  stops = λ terms before h. is_some (rule_of terms before h);
+  ends = λ terms before h outcome. (answer : TextAnswer)
+      × (answer_after which terms before h ≡ Some answer) × EndsAs answer outcome;
+  closes = λ terms heard tail out outcome.
+      (out ≡ written_of (sound_answer (bad_log_of tail.fault)))
+      × EndsAs (sound_answer (bad_log_of tail.fault)) outcome;
+}

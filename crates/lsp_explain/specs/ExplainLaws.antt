@@ -3,13 +3,14 @@ use Rattle.std.specs.Prelude.{◌≡◌, List, [], ◌∷◌, ◌++◌, map, fal
 use Rattle.lsp_docs.specs.Terms.{Terms}
 use Rattle.lsp_frame.specs.Bounds.{Bounds, IsInRange}
 use Rattle.lsp_verdict.specs.Complete.{IsVerdictBy}
+use Rattle.lsp_verdict.specs.Heard.{Heard}
 use Rattle.lsp_verdict.specs.Offences.{Offence}
 use Rattle.lsp_verdict.specs.Report.{report}
 use Rattle.lsp_verdict.specs.Survey.{first_verdict, shown_of}
 use Rattle.lsp_verdict.specs.Verdict.{Verdict, Summary, yes}
 use Rattle.lsp_verdict.specs.declared.completeness.Completeness.{Completeness}
 use Rattle.lsp_explain.specs.AllExplained.{AreAllSaid, IsAllExplained}
-use Rattle.lsp_explain.specs.Explained.{Explained, Heard, noted_explanation, noticed_before}
+use Rattle.lsp_explain.specs.Explained.{Explained, noted_explanation, noticed_before}
 use Rattle.lsp_explain.specs.Explained.{IsExplanation}
 use Rattle.lsp_facts.specs.Fact.{Fact}
 use Rattle.lsp_explain.specs.Remarks.{remark_lines, remarks_of}

@@ -9,8 +9,9 @@ use Rattle.lsp_types.specs.declared.side.Side.TheVariants.{Editor, Server}
 use Rattle.lsp_docs.specs.Terms.{Terms}
 use Rattle.lsp_log.specs.Log.{Record, IsLog}
 use Rattle.lsp_log.specs.declared.fault.LogCode.{LogCode}
+use Rattle.lsp_verdict.specs.Heard.{Heard, Rests, notes_of, raws_of, rest_of}
 use Rattle.lsp_verdict.specs.LookBack.{each_of}
-use Rattle.lsp_verdict.specs.Offences.{Noted, Offence, IsNoted, events_of, kept_of, rule_at}
+use Rattle.lsp_verdict.specs.Offences.{Offence, IsNoted, events_of, kept_of, rule_at}
 use Rattle.lsp_verdict.specs.Outcome.{HasRest, ending, log_terms}
 use Rattle.lsp_verdict.specs.Placed.{Raw, Placed, joined}
 use Rattle.lsp_verdict.specs.Complete.{IsVerdictBy}
@@ -27,27 +28,16 @@ use Rattle.lsp_verdict.specs.declared.outcome.RunFault.{RunFault}
 use Rattle.lsp_verdict.specs.declared.outcome.RunFault.TheVariants as faults
 use Rattle.lsp_facts.specs.EventFacts.{AreFacts}
 use Rattle.lsp_facts.specs.Fact.{Fact}
-use Rattle.lsp_facts.specs.FlawFacts.{Rests, rest_of, side_by, log_facts}
+use Rattle.lsp_facts.specs.FlawFacts.{side_by, log_facts}
 use Rattle.lsp_facts.specs.MessageFacts.{front_facts}
 use Rattle.lsp_facts.specs.Lines.{detail_lines, event_line, end_event}
 use Rattle.lsp_explain.specs.Remarks.{Noticed, noticed, remark_lines, remarks_of}
 use Rattle.lsp_explain.specs.Traced.{AreTraced, lack_traced}
-use Rattle.lsp_survey.specs.Asking.{Numbered, numbered}
+use Rattle.lsp_explain.specs.Asking.{Numbered, numbered}
 use Rattle.lsp_replay.specs.declared.heard.EventPlace.{EventPlace}
 use Rattle.lsp_types.specs.declared.rules.TheConstants as rules
 
 -- ---- an event that offends
-
--- an event, and what it was before its content was read
-pub record Heard : Type 0 where
-  pub raw : Raw
-  pub note : Noted
-
-abbrev pub raws_of : List Heard → List Raw
-raws_of heard = map (λ (h : Heard). h.raw) heard
-
-abbrev pub notes_of : List Heard → List Noted
-notes_of heard = map (λ (h : Heard). h.note) heard
 
 -- after these events this one offends by this rule
 pub record Breach : Type 0 where

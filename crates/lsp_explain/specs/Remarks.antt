@@ -6,15 +6,15 @@ use Rattle.std.specs.Str.{bytes_eq}
 use Rattle.json.specs.Print.{quoted}
 use Rattle.lsp_session.specs.Negotiation.{encoding}
 use Rattle.lsp_docs.specs.Terms.{Terms}
-use Rattle.lsp_survey.specs.Asking.{Numbered, numbered, sents}
-use Rattle.lsp_survey.specs.Misuses.{Misused, misuses}
-use Rattle.lsp_survey.specs.Remarks.{abrupt_exit, older_encoding}
-use Rattle.lsp_survey.specs.Renames.{Renamed, renamed}
-use Rattle.lsp_survey.specs.Touched.{unshown}
+use Rattle.lsp_explain.specs.Asking.{Numbered, numbered, sents}
+use Rattle.lsp_explain.specs.Misuses.{Misused, misuses}
+use Rattle.lsp_explain.specs.SessionRemarks.{abrupt_exit, older_encoding}
+use Rattle.lsp_explain.specs.Renames.{Renamed, renamed}
+use Rattle.lsp_explain.specs.Touched.{unshown}
 use Rattle.lsp_verdict.specs.Event.{Event}
-use Rattle.lsp_survey.specs.declared.notes.misuses.Misuse.{Misuse}
-use Rattle.lsp_survey.specs.declared.notes.misuses.Misuse.TheVariants.{AsRequest, AsNotification}
-use Rattle.lsp_survey.specs.declared.notes.misuses.Misuse.TheVariants.{ByEditor, ByServer}
+use Rattle.lsp_explain.specs.declared.notes.misuses.Misuse.{Misuse}
+use Rattle.lsp_explain.specs.declared.notes.misuses.Misuse.TheVariants.{AsRequest, AsNotification}
+use Rattle.lsp_explain.specs.declared.notes.misuses.Misuse.TheVariants.{ByEditor, ByServer}
 use Rattle.lsp_types.specs.declared.position.Encoding.{Encoding}
 use Rattle.lsp_replay.specs.declared.heard.EventPlace.{EventPlace}
 use Rattle.lsp_facts.specs.Fact.{Fact, fact_lines, place_words}

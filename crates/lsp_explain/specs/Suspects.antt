@@ -4,10 +4,10 @@ use Rattle.std.specs.Prelude.{ℕ, ◌+◌, ◌-◌, int_lt, nat_lt, List, [], �
 use Rattle.std.specs.Prelude.{Bool, true, not, Option, Some, None, codes, decimal}
 use Rattle.std.specs.List.{prefix_len}
 use Rattle.lsp_docs.specs.Calls.{Call, opens, changes, closes, saves, shows}
-use Rattle.lsp_survey.specs.LastOnes.{last_ones}
-use Rattle.lsp_survey.specs.Marking.{next_rank, rank_or}
-use Rattle.lsp_survey.specs.declared.notes.mark.Setter.{Setter}
-use Rattle.lsp_survey.specs.declared.notes.mark.Shown.{Shown}
+use Rattle.lsp_explain.specs.LastOnes.{last_ones}
+use Rattle.lsp_explain.specs.Marking.{next_rank, rank_or}
+use Rattle.lsp_explain.specs.declared.notes.mark.Setter.{Setter}
+use Rattle.lsp_explain.specs.declared.notes.mark.Shown.{Shown}
 use Rattle.lsp_replay.specs.declared.heard.EventPlace.{EventPlace}
 use Rattle.lsp_facts.specs.Fact.{Fact, version_by}
 use Rattle.lsp_verdict.specs.Report.{line}

@@ -21,12 +21,12 @@ use Rattle.lsp_verdict.specs.Calls.{call_of, calls}
 use Rattle.lsp_verdict.specs.Report.{line}
 use Rattle.lsp_verdict.specs.Event.{Event, message, fault, snapshot, sent_in}
 use Rattle.lsp_verdict.specs.Offences.{is_within, kept_of, said_at}
-use Rattle.lsp_survey.specs.Asking.{Numbered, answered, asked, numbered, sents, since}
-use Rattle.lsp_survey.specs.Marking.{Step, agreed, last_setter, recent, steps}
-use Rattle.lsp_survey.specs.Marking.{waiting_for}
+use Rattle.lsp_explain.specs.Asking.{Numbered, answered, asked, numbered, sents, since}
+use Rattle.lsp_explain.specs.Marking.{Step, agreed, last_setter, recent, steps}
+use Rattle.lsp_explain.specs.Marking.{waiting_for}
 use Rattle.lsp_replay.specs.Places.{place_of}
-use Rattle.lsp_survey.specs.declared.notes.mark.Setter.{Setter}
-use Rattle.lsp_survey.specs.declared.notes.mark.Shown.{Shown}
+use Rattle.lsp_explain.specs.declared.notes.mark.Setter.{Setter}
+use Rattle.lsp_explain.specs.declared.notes.mark.Shown.{Shown}
 use Rattle.lsp_replay.specs.declared.heard.EventPlace.{EventPlace}
 use Rattle.lsp_facts.specs.Fact.{Fact, cited, in_phase, place_words, version_by, waits}
 use Rattle.lsp_facts.specs.MessageFacts.{id_in}

@@ -12,11 +12,11 @@ use Rattle.lsp_verdict.specs.Calls.{calls}
 use Rattle.lsp_verdict.specs.Event.{Event}
 use Rattle.lsp_verdict.specs.Offences.{kept_of}
 use Rattle.lsp_verdict.specs.Spelling.{folded}
-use Rattle.lsp_survey.specs.LastOnes.{last_ones}
-use Rattle.lsp_survey.specs.Openings.{OnDocument, closing_of, closings, last_on, most_openings}
-use Rattle.lsp_survey.specs.Openings.{openings}
-use Rattle.lsp_survey.specs.declared.notes.openings.Closing.{Closing}
-use Rattle.lsp_survey.specs.declared.notes.openings.Closing.TheVariants as closing
+use Rattle.lsp_explain.specs.LastOnes.{last_ones}
+use Rattle.lsp_explain.specs.Openings.{OnDocument, closing_of, closings, last_on, most_openings}
+use Rattle.lsp_explain.specs.Openings.{openings}
+use Rattle.lsp_explain.specs.declared.notes.openings.Closing.{Closing}
+use Rattle.lsp_explain.specs.declared.notes.openings.Closing.TheVariants as closing
 use Rattle.lsp_replay.specs.declared.heard.EventPlace.{EventPlace}
 use Rattle.lsp_facts.specs.Fact.{Fact, cited, place_words}
 use Rattle.lsp_verdict.specs.Report.{line}

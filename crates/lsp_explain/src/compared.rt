@@ -1,22 +1,24 @@
 //! The whole texts of a verdict that says that two texts differ.
-ghost use Rattle.std.specs.Prelude.{◌≡◌, Box, [], None, Ok, IfOk, IfSome, option_map};
-ghost use Rattle.lsp_frame.specs.Bounds.{Bounds};
-ghost use Rattle.lsp_frame.specs.Told.{Told};
-ghost use Rattle.lsp_facts.specs.TwoTexts.{texts_view};
-ghost use Rattle.lsp_replay.specs.TextAnswers.{FindsText, WritesText, answer_view};
-ghost use Rattle.lsp_survey.specs.Reads.{IsFresh, SoFar};
-ghost use Rattle.lsp_verdict.specs.Given.{verdict_view};
-ghost use Rattle.lsp_explain.specs.Compared as spec;
-ghost use Rattle.lsp_explain.specs.Compared.{AnswersCompared, AreTexts, IsAnswer, sound_answer};
-ghost use Rattle.lsp_explain.specs.RunSteps.{Boxed};
+ghost use Rattle.std.specs.Prelude.{◌≡◌, List, None, IfOk, option_map};
+ghost use Rattle.lsp_docs.specs.Terms.{Terms};
+ghost use Rattle.lsp_facts.specs.TwoTexts.{texts_at, texts_view};
+ghost use Rattle.lsp_replay.specs.LogEvents.{flaw_of};
+ghost use Rattle.lsp_replay.specs.Telling.{IsSeen, kept_before};
+ghost use Rattle.lsp_replay.specs.TextAnswers.{WritesText, answer_view};
+ghost use Rattle.lsp_replay.specs.declared.seen.Seen.TheVariants as variants;
+ghost use Rattle.lsp_verdict.specs.Heard.{Heard, heard_events};
 ghost use Rattle.lsp_verdict.specs.Ports.{ports};
+ghost use Rattle.lsp_verdict.specs.Verdict.{bad_log_of, first_no};
+ghost use Rattle.lsp_explain.specs.Compared as spec;
+ghost use Rattle.lsp_explain.specs.Compared.{AnswersCompared, ComparedAsked, compared_run};
+ghost use Rattle.lsp_explain.specs.Compared.{sound_answer};
 
 use lsp_facts::{TwoTexts, message_texts, shown_texts};
 use lsp_frame::{Limits, Sink, Source};
-use lsp_replay::TextAnswer;
-use lsp_rpc::Memory;
-use lsp_survey::{FoundOffence, Judged, NextJudged, OffendingEvent, SurveyEnd, SurveyReader};
-use lsp_verdict::{Completeness, Outcome, RunFault};
+use lsp_replay::{Account, End, Events, Flow, LogEvents, Seen, TextAnswer, pass};
+use lsp_rpc::{Memory, Spoken};
+use lsp_text::Lined;
+use lsp_verdict::{Outcome, Raw, RunFault, Verdict};
 use std::alloc::Global;
 
 /// Which of two texts that differ.
@@ -44,101 +46,76 @@ pub fn run_compared<R: Source, W: Sink>(
     ensures text { WritesText limits (ports (R.told reader.old) (R.told reader.new)
         (W.told writer.old) (W.told writer.new)) (λ log. AnswersCompared limits log which) result }
 {
-    let answer = text_of(alloc, reader, limits, which)?;
-    answer.write(writer)
+    let mut account = OneText { which };
+    pass(alloc, reader, writer, limits, &mut account)
 }
 
-/// Opens a log, and answers for one of the two texts of the verdict on it.
-fn text_of<R: Source>(
-    alloc: Global,
-    reader: &mut R,
-    limits: Limits,
+/// Says one of the two texts that differ at the first event that offends.
+#[derive(Drop)]
+struct OneText {
     which: ComparedText,
-) -> Result<TextAnswer, RunFault>
-    ensures { FindsText limits (R.told reader.old) (R.told reader.new)
-        (λ log. AnswersCompared limits log which) result }
-{
-    let mut events = SurveyReader::open(alloc, reader, limits, Completeness::Ignored)?;
-    text_by(alloc, &mut events, reader, which)
 }
 
-/// Hears the events of a log, of which none was heard, up to the first that offends, and answers
-/// for one of its two texts.
-fn text_by<R: Source>(
-    alloc: Global,
-    events: &mut SurveyReader,
-    reader: &mut R,
-    which: ComparedText,
-) -> Result<TextAnswer, RunFault>
-    requires ignored { events.old.completeness ≡ Completeness.Ignored }
-    requires fresh { IsFresh events.old (R.told reader.old) }
-    ensures { (limits : Bounds) (start : Told)
-        → SoFar limits events.old start (R.told reader.old) [] [] []
-        → FindsText limits start (R.told reader.new)
-        (λ log. AnswersCompared limits log which) result }
-{
-    loop {
-        match events.next(reader)? {
-            NextJudged::Event(heard) => {
-                if let Some(answer) = text_heard(alloc, events, heard, which)? {
-                    return Ok(answer);
-                }
-            }
-            NextJudged::End(end) => return Ok(answer_at(Box::into_inner(end))),
-        }
+impl Account for OneText {
+    ghost Asked = { ComparedAsked };
+
+    ghost asked = { λ account. account.which };
+
+    ghost run = { compared_run };
+
+    ghost stands = { λ account terms heard. first_no terms (heard_events heard) ≡ None };
+
+    fn event(
+        &mut self,
+        alloc: Global,
+        held: &Events<Lined>,
+        seen: Seen<'_>,
+        text: &mut String,
+    ) -> Result<Flow, Memory> {
+        let Seen::Offence { raw, rule, spoken } = seen else {
+            return Ok(Flow::GoOn);
+        };
+        let texts = texts_of(alloc, held, raw, rule, spoken)?;
+        let outcome = one_of(texts, self.which).add(text)?;
+        let boxed = Box::new(alloc, outcome)?;
+        Ok(Flow::Stop(boxed))
+    }
+
+    fn end(
+        &mut self,
+        _alloc: Global,
+        _held: &Events<Lined>,
+        _log: &LogEvents,
+        end: End,
+        text: &mut String,
+    ) -> Result<Outcome, Memory> {
+        let outcome = answer_at(end).add(text)?;
+        Ok(outcome)
     }
 }
 
-/// What is answered at an event that was heard, where it offends.
-fn text_heard(
-    alloc: Global,
-    events: &SurveyReader,
-    heard: Judged,
-    which: ComparedText,
-) -> Result<Option<TextAnswer>, Memory>
-    ensures kept { result ≡ Ok None → heard ≡ Judged.Kept }
-    ensures told { IfOk result
-        (λ answer. IfSome answer (λ x. (found : Boxed) × (heard ≡ Judged.Offence found)
-        × IsAnswer which events.now found.value (answer_view x))) }
-{
-    match heard {
-        Judged::Kept => Ok(None),
-        Judged::Offence(found) => Ok(Some(text_found(alloc, events, &found, which)?)),
-    }
-}
-
-/// What is answered at an offence that was found.
-fn text_found(
-    alloc: Global,
-    events: &SurveyReader,
-    found: &FoundOffence,
-    which: ComparedText,
-) -> Result<TextAnswer, Memory>
-    ensures { IfOk result (λ answer. IsAnswer which events.now found.now (answer_view answer)) }
-{
-    let texts = texts_of(alloc, events, found)?;
-    Ok(one_of(texts, which))
-}
-
-/// The two texts of an offence that was found.
+/// The two texts of an event that offends by this rule, and is a message or none, where it has any.
 fn texts_of(
     alloc: Global,
-    events: &SurveyReader,
-    found: &FoundOffence,
+    held: &Events<Lined>,
+    raw: Raw<'_>,
+    rule: u16,
+    spoken: Option<&Spoken>,
 ) -> Result<Option<TwoTexts>, Memory>
-    ensures { IfOk result (λ texts. AreTexts events.now found.now (option_map texts_view texts)) }
+    ensures { IfOk result (λ texts. (terms : Terms) (before : List Heard) (h : Heard)
+        → IsSeen held.now.session held.now.docs held.now.counts
+        (variants.Offence raw.entry rule spoken.entry) terms before h
+        → option_map texts_view texts
+        ≡ texts_at terms (kept_before terms before) h.note.event rule) }
 {
-    let docs = events.docs();
-    let rule = found.offence.rule;
-    match &found.offending {
-        OffendingEvent::Frames(_) => Ok(None),
-        OffendingEvent::Content { .. } => Ok(None),
-        OffendingEvent::Message { spoken, .. } => {
-            message_texts(alloc, events.session(), docs, &spoken.act, rule)
+    match raw {
+        Raw::Snapshot { version, uri, text } => {
+            shown_texts(alloc, &held.docs, version, uri, text, rule)
         }
-        OffendingEvent::Snapshot { version, uri, text } => {
-            shown_texts(alloc, docs, *version, uri.as_str(), text.as_str(), rule)
-        }
+        _ => match spoken {
+            Some(spoken) => message_texts(alloc, &held.session, &held.docs, &spoken.act, rule),
+            None => Ok(None),
+        },
     }
 }
 
@@ -160,13 +137,11 @@ fn one_of(texts: Option<TwoTexts>, which: ComparedText) -> TextAnswer
 }
 
 /// What is answered at the end of a log none of whose events offends.
-fn answer_at(end: SurveyEnd) -> TextAnswer
-    ensures { answer_view result ≡ sound_answer (option_map verdict_view end.bad) }
+fn answer_at(end: End) -> TextAnswer
+    ensures { answer_view result ≡ sound_answer (bad_log_of (flaw_of end)) }
 {
-    let SurveyEnd { listed, bad } = end;
-    drop(listed);
-    match bad {
-        Some(verdict) => TextAnswer::Refused(verdict),
-        None => TextAnswer::NoDifference,
+    match end {
+        End::Sound => TextAnswer::NoDifference,
+        End::Bad { number, fault } => TextAnswer::Refused(Verdict::BadLog { number, fault }),
     }
 }

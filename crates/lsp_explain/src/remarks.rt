@@ -1,10 +1,9 @@
 //! The notes on a session, which change no verdict.
-ghost use Rattle.std.specs.Prelude.{◌≡◌, ◌++◌, ◌∷◌, [], List, OnOk, IfOk, map, option_map, codes};
-ghost use Rattle.std.specs.Prelude.{option_to_list, string_bytes};
-ghost use Rattle.json.specs.Print.{quoted};
-ghost use Rattle.lsp_survey.specs.Misuses.{misused_views};
-ghost use Rattle.lsp_survey.specs.Renames.{renamed_view};
-ghost use Rattle.lsp_survey.specs.Touched.{names_view};
+ghost use Rattle.std.specs.Prelude.{◌≡◌, ◌++◌, List, OnOk, IfOk, map, option_map};
+ghost use Rattle.std.specs.Prelude.{string_bytes};
+ghost use Rattle.lsp_explain.specs.Misuses.{misused_views};
+ghost use Rattle.lsp_explain.specs.Renames.{renamed_view};
+ghost use Rattle.lsp_explain.specs.Touched.{names_view};
 ghost use Rattle.lsp_verdict.specs.Event.{Event};
 ghost use Rattle.lsp_verdict.specs.Given.{verdict_view};
 ghost use Rattle.lsp_explain.specs.Remarks as spec;
@@ -13,11 +12,12 @@ ghost use Rattle.lsp_explain.specs.Remarks.{noticed, old_name_remarks, remark_li
 ghost use Rattle.lsp_explain.specs.Remarks.{uncompared, unshown_line};
 ghost use Rattle.lsp_explain.specs.Standing.{StandsAfter, terms_in};
 
+use crate::notes::{Misuse, Misused, Renamed};
 use crate::trace::push_earlier;
+use crate::trail::Past;
 use lsp_facts::{Facts, encoding_name, push_facts};
 use lsp_replay::EventPlace;
 use lsp_rpc::{Encoding, Memory};
-use lsp_survey::{Misuse, Misused, Renamed, SurveyReader};
 use lsp_verdict::Verdict;
 use std::alloc::Global;
 use std::fmt::Write;
@@ -29,22 +29,23 @@ use std::fmt::Write;
 pub(crate) fn push_remarks(
     alloc: Global,
     lines: &mut String,
-    events: &SurveyReader,
+    past: Past<'_>,
     verdict: &Verdict,
 ) -> Result<(), Memory>
-    ensures { OnOk result ((before : List Event) → StandsAfter events.now before
+    ensures { OnOk result ((before : List Event) → StandsAfter past.entry before
         → string_bytes lines.new ≡ string_bytes lines.old ++ remark_lines
-        (remarks_of (verdict_view verdict.now) (noticed (terms_in events.now) before))) }
+        (remarks_of (verdict_view verdict.now) (noticed (terms_in past.entry) before))) }
 {
-    let notes = events.session_notes();
-    let name = other_name(notes.older_encoding(), events.session().encoding());
-    let unshown = events.openings().unshown()?;
+    let Past { held, trail } = past;
+    let said = &trail.said;
+    let name = other_name(said.older_encoding(), held.session.encoding());
+    let unshown = trail.openings.unshown()?;
     let remarks = remarks(
         alloc,
-        notes.misuses(),
-        notes.abrupt_exit(),
+        said.misuses(),
+        said.abrupt_exit(),
         name,
-        notes.renamed(),
+        said.renamed(),
         unshown.as_slice(),
         verdict,
     )?;

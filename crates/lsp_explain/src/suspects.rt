@@ -1,14 +1,14 @@
 //! Which messages may have made texts differ.
 ghost use Rattle.std.specs.Prelude.{◌≡◌, ◌≤◌, ◌++◌, OnOk, length};
 ghost use Rattle.std.specs.List.{prefix_len};
-ghost use Rattle.lsp_survey.specs.LastOnes.{last_ones};
-ghost use Rattle.lsp_survey.specs.Marking.{rank_or};
+ghost use Rattle.lsp_explain.specs.LastOnes.{last_ones};
+ghost use Rattle.lsp_explain.specs.Marking.{rank_or};
 ghost use Rattle.lsp_explain.specs.Suspects as spec;
 
+use crate::notes::{Setter, Shown};
 use lsp_facts::Facts;
 use lsp_replay::EventPlace;
 use lsp_rpc::Memory;
-use lsp_survey::{Setter, Shown};
 
 /// How many of the messages that set a version are named at most.
 const MOST_NAMED: usize = 17;

@@ -13,11 +13,11 @@ ghost use Rattle.lsp_verdict.specs.Event.{Event, message, snapshot};
 ghost use Rattle.lsp_verdict.specs.Offences.{kept_of, rule_at};
 ghost use Rattle.lsp_verdict.specs.Verdict.{who_of};
 ghost use Rattle.lsp_verdict.specs.declared.verdict.Who.{Who};
-ghost use Rattle.lsp_survey.specs.Asking.{numbered};
-ghost use Rattle.lsp_survey.specs.Marking.{steps, waiting_for};
-ghost use Rattle.lsp_survey.specs.Marks.{AreMarks};
+ghost use Rattle.lsp_explain.specs.Asking.{numbered};
+ghost use Rattle.lsp_explain.specs.Marking.{steps, waiting_for};
+ghost use Rattle.lsp_explain.specs.Marks.{AreMarks};
 ghost use Rattle.lsp_replay.specs.Places.{place_next};
-ghost use Rattle.lsp_survey.specs.SessionNoting.{AreNotes};
+ghost use Rattle.lsp_explain.specs.SessionNoting.{AreNotes};
 ghost use Rattle.lsp_facts.specs.EventFacts.{AreCallFacts, AreMessageFacts};
 ghost use Rattle.lsp_facts.specs.Fact.{cited};
 ghost use Rattle.lsp_facts.specs.MessageFacts.{id_in};
@@ -26,75 +26,75 @@ ghost use Rattle.lsp_explain.specs.Standing.{StandsAfter, terms_in};
 ghost use Rattle.lsp_explain.specs.Traced as spec;
 ghost use Rattle.lsp_explain.specs.Twins.{twin};
 
+use crate::notes::{Marks, SessionNotes, Setter, Shown};
 use crate::suspects::{Until, push_suspects};
+use crate::trail::Past;
 use crate::twins::twin_of;
 use crate::unopened::trace_unopened;
 use lsp_facts::{Facts, id_in, message_facts, refuting, shown_facts};
 use lsp_replay::EventPlace;
 use lsp_rpc::{Act, Encoding, Id, Memory, Message, Side, Spoken};
 use lsp_session::{OpenRequest, Pending};
-use lsp_survey::{Marks, SessionNotes, Setter, Shown, SurveyReader, uri_in};
+use lsp_survey::uri_in;
 use lsp_types::rules;
 use std::alloc::Global;
 
 /// What is said about a message of a side, the event of this place, that offends by this rule, 301
-/// to 702, with the events that brought it. The reader stands for the events before it.
+/// to 702, with the events that brought it. The past is of the events before it.
 pub(crate) fn message_traced(
     alloc: Global,
-    events: &SurveyReader,
+    past: Past<'_>,
     place: EventPlace,
     side: Side,
     spoken: &Spoken,
     rule: u16,
 ) -> Result<Facts, Memory>
     ensures { IfOk result (λ facts. (content : List ℕ) (before : List Event)
-        → StandsAfter events.now before → place ≡ place_next before (who_of side)
+        → StandsAfter past.entry before → place ≡ place_next before (who_of side)
         → (refused : RefusesMessage side content (message_view spoken.now.message)
-        (act_view spoken.now.act) (terms_in events.now)
-        (kept_of (terms_in events.now) before) rule)
-        → spec.AreTraced (AreMessageFacts (terms_in events.now)
-        (kept_of (terms_in events.now) before) refused.sent rule)
-        (terms_in events.now) before (message refused.sent) rule facts) }
+        (act_view spoken.now.act) (terms_in past.entry)
+        (kept_of (terms_in past.entry) before) rule)
+        → spec.AreTraced (AreMessageFacts (terms_in past.entry)
+        (kept_of (terms_in past.entry) before) refused.sent rule)
+        (terms_in past.entry) before (message refused.sent) rule facts) }
 {
-    let session = events.session();
-    let docs = events.docs();
-    let set_by = setter_of(events.marks(), uri_in(&spoken.act))?;
-    let mut facts = message_facts(alloc, session, docs, side, spoken, rule, set_by)?;
+    let Past { held, trail } = past;
+    let set_by = setter_of(&trail.marks, uri_in(&spoken.act))?;
+    let mut facts = message_facts(alloc, &held.session, &held.docs, side, spoken, rule, set_by)?;
     if rule < rules::FIRST_ON_DOCUMENTS {
-        let said = events.session_notes();
-        trace_message(alloc, &mut facts, said, side, &spoken.message, rule)?;
+        trace_message(alloc, &mut facts, &trail.said, side, &spoken.message, rule)?;
         return Ok(facts);
     }
-    trace_act(alloc, &mut facts, events, place, &spoken.act, rule)?;
-    trace_unopened(alloc, &mut facts, events, &spoken.act, rule)?;
+    trace_act(alloc, &mut facts, past, place, &spoken.act, rule)?;
+    trace_unopened(alloc, &mut facts, past, &spoken.act, rule)?;
     Ok(facts)
 }
 
 /// What is said about a snapshot, the event of this place, that offends by this rule, with the
-/// events that brought it. The reader stands for the events before it.
+/// events that brought it. The past is of the events before it.
 pub(crate) fn shown_traced(
     alloc: Global,
-    events: &SurveyReader,
+    past: Past<'_>,
     place: EventPlace,
     version: i32,
     uri: &str,
     text: &str,
     rule: u16,
 ) -> Result<Facts, Memory>
-    ensures { IfOk result (λ facts. (before : List Event) → StandsAfter events.now before
+    ensures { IfOk result (λ facts. (before : List Event) → StandsAfter past.entry before
         → place ≡ place_next before Who.Snapshot
-        → rule_at (terms_in events.now) before (snapshot uri.now version (chars text.now))
+        → rule_at (terms_in past.entry) before (snapshot uri.now version (chars text.now))
         ≡ Some rule
-        → spec.AreTraced (AreCallFacts (terms_in events.now)
-        (kept_of (terms_in events.now) before) rule
+        → spec.AreTraced (AreCallFacts (terms_in past.entry)
+        (kept_of (terms_in past.entry) before) rule
         (Some (shows uri.now version (chars text.now))))
-        (terms_in events.now) before (snapshot uri.now version (chars text.now)) rule facts) }
+        (terms_in past.entry) before (snapshot uri.now version (chars text.now)) rule facts) }
 {
-    let session = events.session();
-    let docs = events.docs();
-    let marks = events.marks();
+    let Past { held, trail } = past;
+    let marks = &trail.marks;
     let set_by = setter_of(marks, Some(uri))?;
-    let mut facts = shown_facts(alloc, session, docs, version, uri, text, rule, set_by)?;
+    let session = &held.session;
+    let mut facts = shown_facts(alloc, session, &held.docs, version, uri, text, rule, set_by)?;
     let until = Until::Version(version);
     trace_document(&mut facts, marks, uri, &[place], until, rule)?;
     Ok(facts)
@@ -129,24 +129,24 @@ fn last_place(setters: &[Setter]) -> Option<EventPlace>
 fn trace_act(
     alloc: Global,
     facts: &mut Facts,
-    events: &SurveyReader,
+    past: Past<'_>,
     place: EventPlace,
     act: &Act,
     rule: u16,
 ) -> Result<(), Memory>
-    ensures { OnOk result ((before : List Event) → StandsAfter events.now before
-        → facts.new ≡ facts.old ++ spec.call_traced (terms_in events.now) before place rule
-        (spec.act_call (terms_in events.now) before (act_view act.now))) }
+    ensures { OnOk result ((before : List Event) → StandsAfter past.entry before
+        → facts.new ≡ facts.old ++ spec.call_traced (terms_in past.entry) before place rule
+        (spec.act_call (terms_in past.entry) before (act_view act.now))) }
 {
-    let marks = events.marks();
+    let marks = &past.trail.marks;
     match act {
         Act::DidOpen { uri, version, .. } => {
             let uri = uri.as_str();
-            trace_text(alloc, facts, events, place, act, uri, *version, rule)
+            trace_text(alloc, facts, past, place, act, uri, *version, rule)
         }
         Act::DidChange { uri, version, .. } => {
             let uri = uri.as_str();
-            trace_text(alloc, facts, events, place, act, uri, *version, rule)
+            trace_text(alloc, facts, past, place, act, uri, *version, rule)
         }
         Act::DidClose { uri } => trace_document(facts, marks, uri.as_str(), &[], Until::Held, rule),
         Act::DidSave { uri, .. } => {
@@ -160,29 +160,30 @@ fn trace_act(
 fn trace_text(
     alloc: Global,
     facts: &mut Facts,
-    events: &SurveyReader,
+    past: Past<'_>,
     place: EventPlace,
     act: &Act,
     uri: &str,
     version: i32,
     rule: u16,
 ) -> Result<(), Memory>
-    ensures { OnOk result ((before : List Event) (call : Call) → StandsAfter events.now before
-        → spec.act_call (terms_in events.now) before (act_view act.now) ≡ Some call
+    ensures { OnOk result ((before : List Event) (call : Call) → StandsAfter past.entry before
+        → spec.act_call (terms_in past.entry) before (act_view act.now) ≡ Some call
         → facts.new ≡ facts.old
-        ++ spec.document_traced (steps (terms_in events.now) uri.now before)
-        (refuting (terms_in events.now) (calls (kept_of (terms_in events.now) before)) call
-        (waiting_for version (steps (terms_in events.now) uri.now before)))
+        ++ spec.document_traced (steps (terms_in past.entry) uri.now before)
+        (refuting (terms_in past.entry) (calls (kept_of (terms_in past.entry) before)) call
+        (waiting_for version (steps (terms_in past.entry) uri.now before)))
         (Until.Message place version) rule) }
 {
-    let marks = events.marks();
+    let Past { held, trail } = past;
+    let marks = &trail.marks;
     let until = Until::Message { place, version };
     if rule != rules::SNAPSHOT_DIFFERS {
         return trace_document(facts, marks, uri, &[], until, rule);
     }
-    let encoding = events.session().encoding().unwrap_or(Encoding::Utf16);
+    let encoding = held.session.encoding().unwrap_or(Encoding::Utf16);
     let waiting = marks.waiting(uri, version);
-    let snapshots = refuting(alloc, events.docs(), encoding, act, waiting)?;
+    let snapshots = refuting(alloc, &held.docs, encoding, act, waiting)?;
     trace_document(facts, marks, uri, snapshots.as_slice(), until, rule)
 }
 
@@ -360,18 +361,18 @@ fn other_side(side: Side) -> Side
 
 /// What is said about a session that ends and is not complete: the requests of the editor's that
 /// wait, in the order in which they were sent, with the events that sent them; how far the session
-/// has come, and the event that led there. The reader stands for all its events.
+/// has come, and the event that led there. The past is of all its events.
 ///
 /// # Errors
 /// `Memory` where memory was refused.
-pub(crate) fn lack_traced(alloc: Global, events: &SurveyReader) -> Result<Facts, Memory>
-    ensures { IfOk result (λ facts. (before : List Event) → StandsAfter events.now before
-        → facts ≡ spec.lack_traced (numbered (terms_in events.now) before)) }
+pub(crate) fn lack_traced(alloc: Global, past: Past<'_>) -> Result<Facts, Memory>
+    ensures { IfOk result (λ facts. (before : List Event) → StandsAfter past.entry before
+        → facts ≡ spec.lack_traced (numbered (terms_in past.entry) before)) }
 {
-    let session = events.session();
-    let said = events.session_notes();
-    let mut facts = requests(alloc, session.pending(Side::Editor), said)?;
-    facts.phase(session.phase())?;
+    let Past { held, trail } = past;
+    let said = &trail.said;
+    let mut facts = requests(alloc, held.session.pending(Side::Editor), said)?;
+    facts.phase(held.session.phase())?;
     push_earlier(&mut facts, "since", said.since())?;
     Ok(facts)
 }

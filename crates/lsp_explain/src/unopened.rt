@@ -2,33 +2,35 @@
 ghost use Rattle.std.specs.Prelude.{◌≡◌, ◌++◌, List, IfOk, OnOk};
 ghost use Rattle.std.specs.List.{flat_map};
 ghost use Rattle.lsp_rpc.specs.View.{act_view};
-ghost use Rattle.lsp_survey.specs.Openings.{on_view, ons_view};
+ghost use Rattle.lsp_explain.specs.Openings.{on_view, ons_view};
 ghost use Rattle.lsp_verdict.specs.Event.{Event};
 ghost use Rattle.lsp_explain.specs.Standing.{StandsAfter, terms_in};
 ghost use Rattle.lsp_explain.specs.Traced.{act_call};
 ghost use Rattle.lsp_explain.specs.Unopened as spec;
 
+use crate::notes::{Closing, DocumentEvent};
+use crate::trail::Past;
 use lsp_facts::Facts;
 use lsp_replay::EventPlace;
 use lsp_rpc::{Act, Memory};
-use lsp_survey::{Closing, DocumentEvent, SurveyReader, folded, uri_in};
+use lsp_survey::{folded, uri_in};
 use lsp_types::rules;
 use std::alloc::Global;
 
 /// Adds to the facts on an act that breaks this rule, under 602, how the document of which it
-/// speaks was closed, and which documents with a similar URI are open. The reader stands for the
-/// events before it.
+/// speaks was closed, and which documents with a similar URI are open. The past is of the events
+/// before it.
 pub(crate) fn trace_unopened(
     alloc: Global,
     facts: &mut Facts,
-    events: &SurveyReader,
+    past: Past<'_>,
     act: &Act,
     rule: u16,
 ) -> Result<(), Memory>
-    ensures { OnOk result ((before : List Event) → StandsAfter events.now before
+    ensures { OnOk result ((before : List Event) → StandsAfter past.entry before
         → facts.new ≡ facts.old
-        ++ spec.unopened_traced (terms_in events.now) before rule
-        (act_call (terms_in events.now) before (act_view act.now))) }
+        ++ spec.unopened_traced (terms_in past.entry) before rule
+        (act_call (terms_in past.entry) before (act_view act.now))) }
 {
     let Some(uri) = uri_in(act) else {
         return Ok(());
@@ -36,8 +38,8 @@ pub(crate) fn trace_unopened(
     if rule != rules::DOCUMENT_NOT_OPEN {
         return Ok(());
     }
-    push_closing(facts, events.openings().closing(uri))?;
-    push_similar(alloc, facts, events, uri)
+    push_closing(facts, past.trail.openings.closing(uri))?;
+    push_similar(alloc, facts, past, uri)
 }
 
 fn push_closing(facts: &mut Facts, closing: Closing) -> Result<(), Memory>
@@ -52,21 +54,16 @@ fn push_closing(facts: &mut Facts, closing: Closing) -> Result<(), Memory>
 }
 
 /// Adds the open documents of which the URI differs from this one in its spelling alone.
-fn push_similar(
-    alloc: Global,
-    facts: &mut Facts,
-    events: &SurveyReader,
-    uri: &str,
-) -> Result<(), Memory>
-    ensures { OnOk result ((before : List Event) → StandsAfter events.now before
-        → facts.new ≡ facts.old ++ spec.similar_facts (terms_in events.now) before uri.now) }
+fn push_similar(alloc: Global, facts: &mut Facts, past: Past<'_>, uri: &str) -> Result<(), Memory>
+    ensures { OnOk result ((before : List Event) → StandsAfter past.entry before
+        → facts.new ≡ facts.old ++ spec.similar_facts (terms_in past.entry) before uri.now) }
 {
     let size = uri.len();
     let spelling = folded(alloc, uri)?;
     let spelling = spelling.as_slice();
-    let (first, second) = events.openings().last_opened();
-    push_spelled(alloc, facts, events, size, spelling, first)?;
-    push_spelled(alloc, facts, events, size, spelling, second)
+    let (first, second) = past.trail.openings.last_opened();
+    push_spelled(alloc, facts, past, size, spelling, first)?;
+    push_spelled(alloc, facts, past, size, spelling, second)
 }
 
 /// Adds those of the open documents that these messages opened and that differ in their spelling
@@ -74,17 +71,17 @@ fn push_similar(
 fn push_spelled(
     alloc: Global,
     facts: &mut Facts,
-    events: &SurveyReader,
+    past: Past<'_>,
     size: usize,
     spelling: &[u8],
     opened: &[DocumentEvent],
 ) -> Result<(), Memory>
-    ensures { OnOk result ((before : List Event) → StandsAfter events.now before
-        → facts.new ≡ facts.old ++ flat_map (spec.similar_fact (terms_in events.now) before size
+    ensures { OnOk result ((before : List Event) → StandsAfter past.entry before
+        → facts.new ≡ facts.old ++ flat_map (spec.similar_fact (terms_in past.entry) before size
         spelling.now) (ons_view opened.now)) }
 {
     for on in opened {
-        push_spelled_one(alloc, facts, events, size, spelling, on)?;
+        push_spelled_one(alloc, facts, past, size, spelling, on)?;
     }
     Ok(())
 }
@@ -92,31 +89,32 @@ fn push_spelled(
 fn push_spelled_one(
     alloc: Global,
     facts: &mut Facts,
-    events: &SurveyReader,
+    past: Past<'_>,
     size: usize,
     spelling: &[u8],
     on: &DocumentEvent,
 ) -> Result<(), Memory>
-    ensures { OnOk result ((before : List Event) → StandsAfter events.now before
-        → facts.new ≡ facts.old ++ spec.similar_fact (terms_in events.now) before size
+    ensures { OnOk result ((before : List Event) → StandsAfter past.entry before
+        → facts.new ≡ facts.old ++ spec.similar_fact (terms_in past.entry) before size
         spelling.now (on_view on.now)) }
 {
     if !is_spelled(alloc, size, spelling, on.uri.as_str())? {
         return Ok(());
     }
-    if !is_standing(events, on) {
+    if !is_standing(past, on) {
         return Ok(());
     }
     facts.text_by("similar", on.uri.as_str(), on.place)
 }
 
 /// Whether the document is open that this message opened, and none opened it later.
-fn is_standing(events: &SurveyReader, on: &DocumentEvent) -> bool
-    ensures { (before : List Event) → StandsAfter events.now before
-        → result ≡ spec.is_standing (terms_in events.now) before (on_view on.now) }
+fn is_standing(past: Past<'_>, on: &DocumentEvent) -> bool
+    ensures { (before : List Event) → StandsAfter past.entry before
+        → result ≡ spec.is_standing (terms_in past.entry) before (on_view on.now) }
 {
+    let Past { held, trail } = past;
     let uri = on.uri.as_str();
-    events.docs().version_of(uri).is_some() && is_at(on.place, events.openings().opening(uri))
+    held.docs.version_of(uri).is_some() && is_at(on.place, trail.openings.opening(uri))
 }
 
 fn is_at(place: EventPlace, other: Option<EventPlace>) -> bool

@@ -16,17 +16,21 @@ use Rattle.lsp_text.specs.Edits.{Edit, changed, applied}
 use Rattle.lsp_text.specs.SameText.{SameText, compared, same_text}
 use Rattle.lsp_docs.specs.Texts.{Text}
 use Rattle.lsp_docs.specs.Terms.{Terms}
-use Rattle.lsp_docs.specs.Calls.{Call}
-use Rattle.lsp_docs.specs.Documents.{Version, versioned, is_after}
+use Rattle.lsp_docs.specs.Calls.{Call, shows}
+use Rattle.lsp_docs.specs.Documents.{Version, held, versioned, is_after}
+use Rattle.lsp_docs.specs.Kept.{kept}
 use Rattle.lsp_docs.specs.Rules.{differs, text_rule, fits_kind, change_rule, show_rule, call_rule}
-use Rattle.lsp_docs.specs.Others.{differs_from, other_than}
+use Rattle.lsp_docs.specs.Others.{differs_from, other_than, text_at}
+use Rattle.lsp_docs.specs.State as docs
 use Rattle.lsp_docs.specs.Snapshots.{texts_at}
 use Rattle.lsp_docs.proofs.SameVersions.{differs-texts}
+use Rattle.lsp_docs.proofs.Others.{held-at}
 use Rattle.lsp_facts.specs.Fact.{Fact}
 use Rattle.lsp_facts.specs.DocumentFacts.{IsRefused, IsRefuted, AreApart, AreOfChange, AreOfSnapshot, AreDocumentFacts}
 use Rattle.lsp_replay.specs.declared.heard.EventPlace.{EventPlace}
 use Rattle.lsp_facts.specs.Making.{IsRejected, IsMade}
 use Rattle.lsp_facts.specs.Refuting.{first_other, is_other}
+use Rattle.lsp_facts.specs.TwoTexts.{is_of_texts}
 use Rattle.lsp_facts.proofs.MadeChanges.{fails_there, makes_all}
 
 same_number : (a b : ℕ) → (let o : Option ℕ = Some a in o) ≡ Some b → a ≡ b
@@ -127,6 +131,37 @@ show_breaks ends number t ks (Some v) rule e =
           let found = find_some (differs_from ends s) (ks ++ v ∷ []) some in
           inr (is.0, found.0.text, some_text (find from (ks ++ v ∷ [])) found.0 found.1)
           )
+    ]
+
+-- the one of its number
+pub shown_other : (d : docs.State) (calls : List Call) → docs.Stands d calls → (uri : List ℕ)
+    (number : ℤ) (t : Text) (rule : ℕ) → (rule ≡ 701 → ⊥)
+    → call_rule d.terms calls (shows uri number t) ≡ Some rule → (o : Option Text)
+    → o ≡ text_at number (kept d.terms uri calls) (held d.terms uri calls)
+    → o ≡ other_than d.terms.line_ends (versioned number t) (kept d.terms uri calls)
+    (held d.terms uri calls)
+shown_other d calls stands uri number t rule no701 e o is =
+    let ends = d.terms.line_ends in
+    let ks = kept d.terms uri calls in
+    let h = held d.terms uri calls in
+    elim (show_breaks ends number t ks h rule e) [
+      | inl late ↦ absurd (no701 late)
+      | inr found ↦ is ∙ held-at d.terms uri calls ends number t found.1 stands.accepted found.2
+          ∙ sym found.2
+    ]
+
+-- a snapshot that differs is not a late one
+pub not_late : (rule : ℕ) → rule ≡ 702 → rule ≡ 701 → ⊥
+not_late rule differs late = true≢false (ap is_of_texts (sym differs ∙ late))
+
+-- 701 compares no texts
+pub shown_differs : (terms : Terms) (calls : List Call) (uri : List ℕ) (number : ℤ) (t : Text)
+    (rule : ℕ) → is_of_texts rule ≡ true → call_rule terms calls (shows uri number t) ≡ Some rule
+    → rule ≡ 702
+shown_differs terms calls uri number t rule of e =
+    elim (show_breaks terms.line_ends number t (kept terms uri calls) (held terms uri calls) rule e) [
+      | inl late ↦ absurd (true≢false (sym of ∙ ap is_of_texts late))
+      | inr found ↦ found.0
     ]
 
 pub show_explained : (ends : LineEnds) (enc : Encoding) (number : ℤ) (t : Text) (ks : List Version)

@@ -34,7 +34,7 @@ use Rattle.lsp_verdict.specs.Calls.{call_at, calls}
 use Rattle.lsp_verdict.specs.Event.{Event, message, fault, snapshot, sent_in}
 use Rattle.lsp_verdict.specs.Placed.{Raw}
 use Rattle.lsp_facts.specs.EventFacts.{AreCallFacts, AreFactsBy, AreFacts}
-use Rattle.lsp_facts.specs.FlawFacts.{Rests}
+use Rattle.lsp_verdict.specs.Heard.{Rests}
 use Rattle.lsp_facts.specs.Edges.{edges}
 use Rattle.lsp_facts.specs.Fact.{Fact, would_have, may_have, counts_in, fails}
 use Rattle.lsp_replay.specs.declared.heard.EventPlace.{EventPlace}

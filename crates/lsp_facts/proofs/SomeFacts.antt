@@ -34,7 +34,7 @@ use Rattle.lsp_verdict.specs.Event.{Event, message, fault, snapshot, sent_in}
 use Rattle.lsp_verdict.specs.Placed.{Raw}
 use Rattle.lsp_verdict.specs.Verdict.{offence}
 use Rattle.lsp_facts.specs.EventFacts.{fault_facts, AreCallFacts, AreFactsBy, AreFacts}
-use Rattle.lsp_facts.specs.FlawFacts.{Rests}
+use Rattle.lsp_verdict.specs.Heard.{Rests}
 use Rattle.lsp_facts.specs.Edges.{edges}
 use Rattle.lsp_facts.specs.MessageFacts.{session_facts}
 use Rattle.lsp_facts.specs.Fact.{Fact, would_have, may_have, counts_in, fails}

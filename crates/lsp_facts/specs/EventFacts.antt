@@ -9,12 +9,13 @@ use Rattle.lsp_docs.specs.Calls.{Call}
 use Rattle.lsp_docs.specs.Terms.{Terms}
 use Rattle.lsp_verdict.specs.Calls.{call_at, calls}
 use Rattle.lsp_verdict.specs.Event.{Event, message, fault, snapshot, sent_in}
+use Rattle.lsp_verdict.specs.Heard.{Rests, rest_of}
 use Rattle.lsp_verdict.specs.Placed as placed
 use Rattle.lsp_verdict.specs.Placed.{Raw, broken, show}
 use Rattle.lsp_facts.specs.ContentFacts.{content_facts}
 use Rattle.lsp_facts.specs.DocumentFacts.{AreDocumentFacts}
 use Rattle.lsp_facts.specs.Fact.{Fact}
-use Rattle.lsp_facts.specs.FlawFacts.{Rests, rest_of, frame_facts}
+use Rattle.lsp_facts.specs.FlawFacts.{frame_facts}
 use Rattle.lsp_facts.specs.MessageFacts.{session_facts}
 use Rattle.lsp_types.specs.declared.rules.TheConstants as rules
 

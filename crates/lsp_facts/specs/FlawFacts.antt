@@ -17,15 +17,6 @@ use Rattle.lsp_facts.specs.MessageFacts.{text_front, front_facts}
 
 -- ---- frames: 101 to 107
 
--- the bytes of each side after its last whole frame
-pub record Rests : Type 0 where
-  pub editor : List ℕ
-  pub server : List ℕ
-
-abbrev pub rest_of : Rests → Side → List ℕ
-rest_of rests Editor = rests.editor
-rest_of rests Server = rests.server
-
 -- the side whose event it is; a snapshot is the editor's
 abbrev pub side_by : Who → Side
 side_by who.Editor = Editor

@@ -358,7 +358,7 @@ fn of_snapshot<S: TextStore>(
     if rule == rules::LATE_SNAPSHOT {
         return kept_facts(alloc, docs, uri);
     }
-    let Some(store) = docs.other_of(uri, version, text) else {
+    let Some(store) = docs.store_at(uri, version) else {
         return Ok(Facts::new(alloc));
     };
     let held = store.to_text(alloc)?;

@@ -11,7 +11,10 @@ ghost use Rattle.lsp_docs.specs.State.{Stands};
 ghost use Rattle.lsp_replay.specs.Standing.{Holds};
 ghost use Rattle.lsp_session.specs.Sent.{Sent};
 ghost use Rattle.lsp_verdict.specs.Calls.{call_of, calls};
+ghost use Rattle.lsp_docs.specs.Rules.{call_rule};
+ghost use Rattle.lsp_types.specs.declared.rules.TheConstants as rules;
 ghost use Rattle.lsp_verdict.specs.Event.{Event, message, snapshot};
+ghost use Rattle.lsp_verdict.specs.Verdict.{offence};
 ghost use Rattle.lsp_facts.specs.TwoTexts as spec;
 ghost use Rattle.lsp_facts.specs.TwoTexts.{compared, texts_at, texts_view};
 
@@ -70,6 +73,7 @@ pub fn shown_texts<S: TextStore>(
 ) -> Result<Option<TwoTexts>, Memory>
     ensures { IfOk result (λ texts. (kept : List Event)
         → Stands docs.now (calls kept)
+        → offence docs.now.terms kept (snapshot uri.now version (chars text.now)) ≡ Some rule
         → option_map texts_view texts
         ≡ texts_at docs.now.terms kept (snapshot uri.now version (chars text.now)) rule) }
 {
@@ -178,7 +182,8 @@ fn saved_texts<S: TextStore>(
     }
 }
 
-/// The text that is held or kept of a version, and that of a snapshot, which is another.
+/// The text that is held or kept of the version of a snapshot, and the snapshot's, which breaks
+/// 702.
 fn snapshot_texts<S: TextStore>(
     alloc: Global,
     docs: &Docs<S>,
@@ -187,10 +192,12 @@ fn snapshot_texts<S: TextStore>(
     text: &str,
 ) -> Result<Option<TwoTexts>, Memory>
     ensures { IfOk result (λ texts. (calls : List Call) → Stands docs.now calls
+        → call_rule docs.now.terms calls (shows uri.now version (chars text.now))
+        ≡ Some rules.SNAPSHOT_DIFFERS
         → option_map texts_view texts
         ≡ compared docs.now.terms calls (shows uri.now version (chars text.now))) }
 {
-    match docs.other_of(uri, version, text) {
+    match docs.store_at(uri, version) {
         Some(store) => Ok(Some(stored(alloc, store, text)?)),
         None => Ok(None),
     }

@@ -1,15 +1,13 @@
--- What `check` answers follows from the verdict that it found, and from what it wrote.
-use Rattle.std.proofs.Common.{◌≡◌, ℕ, ◌+◌, List, [], Option, Result, Ok, Err, refl, subst, sym}
-use Rattle.std.proofs.Common.{◌∙◌}
+-- What `check` answers follows from the verdict on the log, and from what it wrote.
+use Rattle.std.proofs.Common.{◌≡◌, ℕ, ◌+◌, List, Option, Result, Ok, Err, refl, subst}
 use Rattle.std.specs.Io.KnownBytes.{IsAtEnd}
 use Rattle.lsp_frame.specs.Bounds.{Bounds, IsInRange}
-use Rattle.lsp_frame.specs.Sink.{Stopped, Wrote}
-use Rattle.lsp_frame.specs.Told.{Told, Took}
+use Rattle.lsp_frame.specs.Sink.{Wrote}
+use Rattle.lsp_frame.specs.Told.{Took}
 use Rattle.lsp_frame.specs.declared.format.Format.{Format}
 use Rattle.lsp_judge.specs.Answered.{IsClean}
 use Rattle.lsp_judge.specs.Checked.{Checked, YesMeans, NoMeans, EndsAsDue, IsCut, WritesVerdict}
-use Rattle.lsp_judge.specs.LogEvents.{BrokeOff}
-use Rattle.lsp_verdict.specs.Ports.{ports, IsSilent, OfInput, Ports}
+use Rattle.lsp_verdict.specs.Ports.{IsSilent, OfInput, Ports}
 use Rattle.lsp_log.specs.declared.fault.LogCode.{LogCode}
 use Rattle.lsp_verdict.specs.Complete.{IsVerdictBy}
 use Rattle.lsp_verdict.specs.Event.{Event}
@@ -34,7 +32,7 @@ use Rattle.lsp_verdict.proofs.Completing.{lack_is_named}
 use Rattle.lsp_verdict.proofs.Logs.Ends.{yes_at_end}
 use Rattle.lsp_verdict.proofs.Meanings.{yes_means_kept, no_names, bad_log_has}
 use Rattle.lsp_verdict.proofs.RunReading.{read_map, read_within}
-use Rattle.lsp_verdict.proofs.RunsJudged.{judged_as, unwritten_sink}
+use Rattle.lsp_verdict.proofs.RunsJudged.{judged_as}
 use Rattle.lsp_judge.proofs.Answering.{clean_yes, clean_complete, read_verdict}
 
 abbrev pub Reads : Completeness → Bounds → Ports → code.Verdict → Type 0
@@ -126,35 +124,6 @@ module _ (completeness : Completeness) (limits : Bounds) (due : Verdict → List
     write_fault = λ e. write (cc e);
     counts = record { source_failures = source; sink_failures = sink; limit = limit };
   }
-
-  -- it was not written whole
-  pub verdict_cut : (v : code.Verdict) (written : List ℕ) → Reads completeness limits io v
-      → io.source_after.failures ≡ io.source_before.failures
-      → written ≡ due (verdict_view v) → Stopped io.sink_before io.sink_after written
-      → WritesVerdict completeness limits due io (Err faults.Write)
-  verdict_cut v written says same is stopped = faulted faults.Write (λ e. absurd (cc e))
-      (λ e. absurd (cc e)) (λ e. record {
-        given = verdict_view v;
-        says = says;
-        writes = (stopped.front, stopped.back, sym is ∙ stopped.whole, stopped.took);
-      }) same stopped.failures (read_within _ _ _ _ says)
-
-module _ (completeness : Completeness) (limits : Bounds) (due : Verdict → List ℕ)
-    (before after told : Told) where
-  -- memory was refused before it was written
-  pub verdict_refused : (v : code.Verdict)
-      → Reads completeness limits (ports before after told told) v
-      → after.failures ≡ before.failures
-      → WritesVerdict completeness limits due (ports before after told told) (Err faults.Memory)
-  verdict_refused v says same = faulted completeness limits due _ faults.Memory (λ e. refl)
-      (λ e. refl) (λ e. absurd (cc e)) same refl (read_within _ _ _ _ says)
-
-  -- there is no verdict
-  pub broke : (fault : RunFault) → BrokeOff limits before after [] fault
-      → WritesVerdict completeness limits due (ports before after told told) (Err fault)
-  broke fault b = faulted completeness limits due _ fault (λ e. refl) (λ e. refl)
-      (λ e. absurd (b.unwritten e)) b.failures (unwritten_sink fault _ _ b.unwritten refl)
-      (read_within _ _ _ _ b.of_read)
 
 -- ---- what a report means
 

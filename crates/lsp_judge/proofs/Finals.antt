@@ -12,25 +12,30 @@ use Rattle.lsp_docs.specs.State as docs
 use Rattle.lsp_docs.specs.Terms.{Terms, terms_of}
 use Rattle.lsp_log.specs.declared.fault.LogCode.{LogCode}
 use Rattle.lsp_log.specs.Log.{Record}
+use Rattle.lsp_replay.specs.LogEvents.{flaw_of}
+use Rattle.lsp_replay.specs.declared.log_events.End.{End}
+use Rattle.lsp_replay.specs.declared.log_events.LogEvents.{LogEvents}
 use Rattle.lsp_replay.specs.Streams as frames
 use Rattle.lsp_replay.specs.Streams.{ends_inside}
-use Rattle.lsp_verdict.specs.Complete.{IsFinalBy, completed, lack_of}
+use Rattle.lsp_verdict.specs.Complete.{IsFinalBy, completed}
 use Rattle.lsp_verdict.specs.Event.{Event, sent_in}
 use Rattle.lsp_verdict.specs.Given.{summary_view, as_given}
 use Rattle.lsp_verdict.specs.Outcome.{IsFinal, is_rest}
-use Rattle.lsp_judge.specs.Ending.{end_by, lack_by}
-use Rattle.lsp_judge.specs.Rulings.{verdict_in, RestIs}
+use Rattle.lsp_judge.specs.Ending.{closed_by, end_by, end_rule, ends_with}
+use Rattle.lsp_judge.specs.JudgingRun.{completed_by}
+use Rattle.lsp_judge.specs.Rulings.{verdict_in}
 use Rattle.lsp_replay.specs.Standing.{Follows}
 use Rattle.lsp_judge.specs.Heard.{HasHeard}
 use Rattle.lsp_judge.specs.Standing.{State, HasOffence, Stands}
 use Rattle.lsp_verdict.specs.Placed.{Raw, IsSession}
-use Rattle.lsp_verdict.specs.Verdict.{Verdict, yes, bad_log, first_no, no_next, rest_of}
-use Rattle.lsp_verdict.specs.Verdict.{summary, verdict}
+use Rattle.lsp_verdict.specs.Verdict.{Verdict, yes, bad_log, bad_log_of, first_no, no_next}
+use Rattle.lsp_verdict.specs.Verdict.{rest_of, summary, verdict}
 use Rattle.lsp_verdict.specs.declared.counts.Counts.{Counts}
 use Rattle.lsp_verdict.specs.declared.completeness.Completeness.{Completeness}
 use Rattle.lsp_verdict.specs.declared.completeness.Completeness.TheVariants.{Ignored, Required}
 use Rattle.lsp_verdict.specs.declared.verdict.Summary as code
 use Rattle.lsp_judge.specs.declared.ruling.Ruling.{Ruling}
+use Rattle.lsp_verdict.specs.declared.verdict.Who.{Who}
 use Rattle.lsp_verdict.specs.declared.verdict.Who.TheVariants as who
 use Rattle.lsp_verdict.proofs.Completing.{completed_other}
 use Rattle.lsp_verdict.proofs.Logs.{final_more}
@@ -82,7 +87,7 @@ by_rest terms es editor server clean =
     ap (λ o. unwrap_or (option_or o (rest_of es editor server)) (yes (summary terms es))) clean
 
 -- nothing offends: the fault of the log decides
-by_log : (terms : Terms) (es : List Event) (editor server : Bool) (number : ℕ) (code : LogCode)
+pub by_log : (terms : Terms) (es : List Event) (editor server : Bool) (number : ℕ) (code : LogCode)
     → first_no terms es ≡ None
     → verdict terms es (record {
       log_fault = Some (number, code);
@@ -105,7 +110,26 @@ ends_complete : (terms : Terms) (es : List Event) (editor server : Bool)
     ≡ end_by Required terms es editor server
 ends_complete terms es true server = refl
 ends_complete terms es false true = refl
-ends_complete terms es false false = refl
+ends_complete terms es false false = by_lack (incomplete (sent_in es))
+  where
+    by_lack : (o : Option ℕ)
+        → unwrap_or (option_map (λ rule. no_next rule who.Editor es) o) (yes (summary terms es))
+        ≡ ends_with terms es (option_map (λ rule. (rule, who.Editor)) o)
+    by_lack None = refl
+    by_lack (Some rule) = refl
+
+-- whether or not the session has to be complete
+pub by_end : (completeness : Completeness) (terms : Terms) (es : List Event) (editor server : Bool)
+    → first_no terms es ≡ None
+    → completed_by completeness es (verdict terms es (record {
+      log_fault = None;
+      editor_rest = editor;
+      server_rest = server;
+    })) ≡ end_by completeness terms es editor server
+by_end Ignored terms es editor server clean =
+    by_rest terms es editor server clean ∙ ends_plain terms es editor server
+by_end Required terms es editor server clean =
+    ap (completed es) (by_rest terms es editor server clean) ∙ ends_complete terms es editor server
 
 module _ (limits : Bounds) (format : Format) (s : frames.State) (m : session.State) (d : docs.State)
     (c : Counts) (rs : List Record) (raws : List Raw) (events : List Event)
@@ -163,29 +187,22 @@ module _ (limits : Bounds) (format : Format) (s : frames.State) (m : session.Sta
       ∙ by_log terms events editor_inside server_inside number code clean
 
   -- the fault of the log is given
-  pub bad_final : (completeness : Completeness) (number : ℕ) (code : LogCode) (v : Verdict)
-      → number < 2 ^ 64 → IsFinalBy completeness limits format rs (Some (number, code)) v
-      → bad_log number code ≡ as_given v
-  bad_final Ignored number code v small final =
+  pub bad_final : (number : ℕ) (code : LogCode) (v : Verdict) → number < 2 ^ 64
+      → IsFinal limits format rs (Some (number, code)) v → bad_log number code ≡ as_given v
+  bad_final number code v small final =
       ap (λ n. bad_log n code) (sym (capped_is number small))
       ∙ ap as_given (sym (bad_is number code v final))
-  bad_final Required number code v small p =
-      let plain = bad_is number code p.plain p.final in
-      ap (λ n. bad_log n code) (sym (capped_is number small))
-      ∙ ap as_given (sym (sym p.says ∙ ap (completed p.final.events) plain))
 
   final_end : (completeness : Completeness) (v : Verdict)
       → IsFinalBy completeness limits format rs None v
       → v ≡ end_by completeness terms events editor_inside server_inside
   final_end Ignored v final =
-      final_is None v final ∙ by_rest terms events editor_inside server_inside clean
-      ∙ ends_plain terms events editor_inside server_inside
+      final_is None v final ∙ by_end Ignored terms events editor_inside server_inside clean
   final_end Required v p =
-      let plain = final_is None p.plain p.final
-      ∙ by_rest terms events editor_inside server_inside clean in
       let same = same_session limits rs rs p.final.events events refl p.final.session here in
-      sym p.says ∙ ap (λ es. completed es p.plain) same ∙ ap (completed events) plain
-      ∙ ends_complete terms events editor_inside server_inside
+      sym p.says ∙ ap (λ es. completed es p.plain) same
+      ∙ ap (completed events) (final_is None p.plain p.final)
+      ∙ by_end Required terms events editor_inside server_inside clean
 
   -- what is given where they end is the verdict
   pub end_final : (completeness : Completeness) (given v : Verdict)
@@ -195,6 +212,15 @@ module _ (limits : Bounds) (format : Format) (s : frames.State) (m : session.Sta
       told ∙ ap (λ (t : Terms). as_given (end_by completeness t events editor_inside server_inside))
       has.by ∙ ap as_given (sym (final_end completeness v final))
 
+  -- and where the log ends
+  pub closed_final : (flaw : Option (ℕ × LogCode)) (given v : Verdict)
+      → given ≡ unwrap_or (bad_log_of flaw)
+      (as_given (end_by Ignored d.terms events editor_inside server_inside))
+      → as_given v ≡ v → IsFinal limits format rs flaw v → given ≡ v
+  closed_final None given v told exact final = end_final Ignored given v told final ∙ exact
+  closed_final (Some (number, code)) given v told exact final =
+      told ∙ sym (bad_is number code v final)
+
 -- ---- a judge that gave none
 
 pub log_final : (s : State) (rs : List Record) (number : ℕ) (code : LogCode) (v : Verdict)
@@ -203,7 +229,7 @@ pub log_final : (s : State) (rs : List Record) (number : ℕ) (code : LogCode) (
 log_final s rs number code v none small stands final =
     let o = is_open s rs none stands in
     bad_final s.limits s.format s.streams s.messages s.documents s.counts rs o.1.past o.0 o.1.stands
-    o.1.has Ignored number code v small final
+    o.1.has number code v small final
 
 pub open_final : (completeness : Completeness) (s : State) (rs : List Record) (given v : Verdict)
     → s.given ≡ None
@@ -224,67 +250,27 @@ named_end ruling given v is told =
 
 -- ---- what is given at the end
 
-pub editor_rest : (events : List Event) (editor server : Bool) (ruling : Ruling) → true ≡ editor
-    → verdict_in ruling ≡ Some (as_given (no_next 107 who.Editor events))
-    → RestIs (Some ruling) (rest_of events editor server)
-editor_rest events editor server ruling e told =
-    (no_next 107 who.Editor events, ap (λ b. rest_of events b server) (sym e), told)
-
-pub server_rest : (events : List Event) (editor server : Bool) (ruling : Ruling) → false ≡ editor
-    → true ≡ server → verdict_in ruling ≡ Some (as_given (no_next 107 who.Server events))
-    → RestIs (Some ruling) (rest_of events editor server)
-server_rest events editor server ruling e f told = (
-  no_next 107 who.Server events,
-  ap (λ b. rest_of events b server) (sym e) ∙ ap (rest_of events false) (sym f),
-  told,
-)
-
-pub no_rest : (events : List Event) (editor server : Bool) → false ≡ editor → false ≡ server
-    → RestIs None (rest_of events editor server)
-no_rest events editor server e f =
-    ap (λ b. rest_of events b server) (sym e) ∙ ap (rest_of events false) (sym f)
-
-pub lacks_some : (events : List Event) (rule : ℕ) (ruling : Ruling)
-    → Some rule ≡ incomplete (sent_in events)
-    → verdict_in ruling ≡ Some (as_given (no_next rule who.Editor events))
-    → RestIs (Some ruling) (lack_of events)
-lacks_some events rule ruling is named = (
-  no_next rule who.Editor events,
-  ap (option_map (λ r. no_next r who.Editor events)) (sym is),
-  named,
-)
-
--- a refusal, or else what comes next
-refused_by : (ruling : Ruling) (given w : Verdict) → verdict_in ruling ≡ Some (as_given given)
-    → given ≡ w → IfSome (verdict_in ruling) (λ said. said ≡ as_given w)
-refused_by ruling given w is same =
-    subst (λ o. IfSome o (λ said. said ≡ as_given w)) (sym is) (ap as_given same)
+-- of a log without a fault
+pub sound_closed : (completeness : Completeness) (terms : Terms) (events : List Event)
+    (e : LogEvents) (end : End) (given : Verdict) → flaw_of end ≡ None
+    → given ≡ as_given (end_by completeness terms events (ends_inside e.streams.editor)
+    (ends_inside e.streams.server)) → given ≡ closed_by completeness terms events e end
+sound_closed completeness terms events e end given sound is =
+    is ∙ sym (ap (λ (f : Option (ℕ × LogCode)). unwrap_or (bad_log_of f) (as_given
+    (end_by completeness terms events (ends_inside e.streams.editor)
+    (ends_inside e.streams.server)))) sound)
 
 module _ (completeness : Completeness) (terms : Terms) (events : List Event) (editor server : Bool)
-  where
-    pub rest_ends : (ruling : Ruling) → RestIs (Some ruling) (rest_of events editor server)
-        → IfSome (verdict_in ruling)
-        (λ said. said ≡ as_given (end_by completeness terms events editor server))
-    rest_ends ruling (v, is, named) =
-        refused_by ruling v (end_by completeness terms events editor server) named
-        (ap (λ o. unwrap_or (option_or o (lack_by completeness events))
-        (yes (summary terms events))) (sym is))
+    (o : Option (ℕ × Who)) (is : o ≡ end_rule completeness events editor server) where
+  pub no_ends : (rule : ℕ) (by : Who) (ruling : Ruling) → o ≡ Some (rule, by)
+      → verdict_in ruling ≡ Some (as_given (no_next rule by events))
+      → IfSome (verdict_in ruling)
+      (λ said. said ≡ as_given (end_by completeness terms events editor server))
+  no_ends rule by ruling some named = subst (λ w. IfSome w
+      (λ said. said ≡ as_given (end_by completeness terms events editor server))) (sym named)
+      (ap (λ w. as_given (ends_with terms events w)) (sym some ∙ is))
 
-    pub lack_ends : (ruling : Ruling) → RestIs None (rest_of events editor server)
-        → RestIs (Some ruling) (lack_by completeness events)
-        → IfSome (verdict_in ruling)
-        (λ said. said ≡ as_given (end_by completeness terms events editor server))
-    lack_ends ruling none (v, is, named) =
-        refused_by ruling v (end_by completeness terms events editor server) named
-        (sym (ap (λ o. unwrap_or (option_or o (lack_by completeness events))
-        (yes (summary terms events))) none
-        ∙ ap (λ o. unwrap_or o (yes (summary terms events))) is))
-
-    pub yes_ends : (s : code.Summary) → RestIs None (rest_of events editor server)
-        → RestIs None (lack_by completeness events)
-        → yes (summary_view s) ≡ as_given (yes (summary terms events))
-        → yes (summary_view s) ≡ as_given (end_by completeness terms events editor server)
-    yes_ends s none whole told =
-        told ∙ ap as_given (sym (ap (λ o. unwrap_or (option_or o (lack_by completeness events))
-        (yes (summary terms events))) none
-        ∙ ap (λ o. unwrap_or o (yes (summary terms events))) whole))
+  pub yes_ends : (s : code.Summary) → o ≡ None
+      → yes (summary_view s) ≡ as_given (yes (summary terms events))
+      → yes (summary_view s) ≡ as_given (end_by completeness terms events editor server)
+  yes_ends s none told = told ∙ ap (λ w. as_given (ends_with terms events w)) (sym none ∙ is)

@@ -8,7 +8,6 @@ use Rattle.lsp_docs.specs.State as docs
 use Rattle.lsp_docs.specs.Terms.{Terms, terms_of}
 use Rattle.lsp_log.specs.Log.{Record}
 use Rattle.lsp_replay.specs.Standing.{Keeps as KeepsOne}
-use Rattle.lsp_replay.specs.declared.heard.Heard.{Heard}
 use Rattle.lsp_replay.specs.Streams as frames
 use Rattle.lsp_verdict.specs.Event.{Event}
 use Rattle.lsp_verdict.specs.Given.{as_given}
@@ -16,7 +15,7 @@ use Rattle.lsp_verdict.specs.Outcome.{Offends}
 use Rattle.lsp_verdict.specs.Placed.{Raw, Placed, Reads, IsSession}
 use Rattle.lsp_verdict.specs.Verdict.{Verdict, no, first_no, no_at}
 use Rattle.lsp_verdict.specs.declared.counts.Counts.{Counts}
-use Rattle.lsp_judge.specs.Heard.{HasHeard, HearsOne, IsHearing}
+use Rattle.lsp_judge.specs.Heard.{HasHeard, IsHearing}
 use Rattle.lsp_judge.specs.Rulings.{IsNoAt}
 use Rattle.lsp_judge.specs.Standing.{Rules}
 use Rattle.lsp_judge.specs.declared.ruling.Ruling.{Ruling}
@@ -29,17 +28,16 @@ use Rattle.lsp_verdict.proofs.Verdicts.{no_found}
 
 -- it is kept
 pub hears_one : (terms : Terms) (old_m new_m : session.State) (old_d new_d : docs.State)
-    (old_c new_c : Counts) (raws : List Raw) (heard : List Event) (raw : Raw) (given : Heard)
+    (old_c new_c : Counts) (raws : List Raw) (heard : List Event) (raw : Raw)
     → HasHeard terms old_m old_d old_c raws heard → new_d.terms ≡ old_d.terms
-    → KeepsOne raw old_d.terms old_c given new_m new_d new_c heard
-    → HearsOne terms new_m new_d new_c raws heard raw given
-hears_one terms old_m new_m old_d new_d old_c new_c raws heard raw given has same k = (
+    → KeepsOne raw old_d.terms old_c new_m new_d new_c heard
+    → (event : Event) × HasHeard terms new_m new_d new_c (raws ++ raw ∷ []) (heard ++ event ∷ [])
+hears_one terms old_m new_m old_d new_d old_c new_c raws heard raw has same k = (
   k.event,
-  k.is_heard,
   record {
     read = lists_join raws (raw ∷ []) heard (k.event ∷ []) has.read (k.reads, tt);
     by = same ∙ has.by;
-    follows = follows_on raw old_m new_m old_d new_d old_c new_c given heard has.follows same k;
+    follows = follows_on raw old_m new_m old_d new_d old_c new_c heard has.follows same k;
   },
 )
 

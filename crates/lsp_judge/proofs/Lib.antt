@@ -6,11 +6,14 @@ pub mod Records
 pub mod KeptEvents
 pub mod Answering
 pub mod Checking
-pub mod LogEvents
+pub mod Told
 pub mod ShownLogs
-pub mod UpgradedLogs
+pub mod JudgingRuns
 pub mod TextRuns
 pub mod Finals
+pub mod JudgingSteps
+pub mod TextSteps
+pub mod UpgradedLogs
 pub mod SameLimits
 pub mod Framing
 pub mod Forming

@@ -1,39 +1,55 @@
--- The text that is held after a message of the editor's, as the events of a log are heard.
-use Rattle.std.proofs.Common.{◌≡◌, ◌+◌, ◌<◌, ◌≤◌, ℕ, Bool, true, false, List, [], ◌∷◌, ◌++◌, length}
-use Rattle.std.proofs.Common.{drop, Option, Some, None, refl, sym, ap}
-use Rattle.std.proofs.Common.{subst, ◌∙◌, append_assoc, append-nil, arith}
-use Rattle.std.specs.Prelude.{is_some, if◌then◌else◌}
+-- What `text` answers and writes follows from what a pass does.
+use Rattle.std.specs.Global.{Global}
+use Rattle.std.specs.Io.KnownBytes.{Appends}
+use Rattle.std.proofs.Common.{◌≡◌, ◌⊎◌, ◌<◌, ◌+◌, ℕ, Bool, true, false, List, [], ◌∷◌, ◌++◌, inl, inr}
+use Rattle.std.proofs.Common.{drop, Option, Some, None, Result, Ok, Err, refl, sym, ap, subst, ◌∙◌}
+use Rattle.std.proofs.Common.{append_assoc, append-nil, arith, String}
+use Rattle.std.specs.Prelude.{is_some, if◌then◌else◌, string_bytes}
+use Rattle.std.proofs.lemmas.Bool.{eq-eqb}
+use Rattle.std.proofs.lemmas.Bool.Decides.{nat_tests}
 use Rattle.std.proofs.lemmas.List.{take-append-drop}
+use Rattle.std.proofs.lemmas.Str.{chars_from_encodes, IsUtf8-string_bytes}
 use Rattle.lsp_frame.specs.Bounds.{Bounds}
 use Rattle.lsp_frame.specs.Told.{Told}
 use Rattle.lsp_frame.specs.declared.format.Format.{Format}
 use Rattle.lsp_types.specs.declared.side.Side.TheVariants.{Editor}
 use Rattle.lsp_docs.specs.Documents.{held}
 use Rattle.lsp_docs.specs.Terms.{Terms}
+use Rattle.lsp_judge.specs.TextRun.{IsOpen, answer_at, answer_behind, answer_by, given_as, said_of}
+use Rattle.lsp_judge.specs.TextRun.{text_run}
+use Rattle.lsp_judge.proofs.JudgingRuns.{no_none}
+use Rattle.lsp_judge.proofs.KeptEvents.{kept_within, kept_clean, kept_no, kept_final}
+use Rattle.lsp_judge.proofs.Told.{BeginsBy, EndsAt, still_clean, told_at, told_end, told_front}
+use Rattle.lsp_replay.specs.Passes.{Passes}
+use Rattle.lsp_replay.specs.Run.{EndsAfter, IsPassed, IsTold, SaysAll, StopsIn}
+use Rattle.lsp_replay.specs.Telling.{no_of}
+use Rattle.lsp_replay.specs.TextAnswers.{FindsText, TextAsked, WritesText, answer_view, is_reached}
+use Rattle.lsp_replay.specs.declared.text_answer.TextAnswer as code
+use Rattle.lsp_replay.proofs.PassEnds.{IsQuiet, quiet_all}
+use Rattle.lsp_replay.proofs.Reached.{reached_last, still_few}
+use Rattle.lsp_replay.proofs.Seeing.{events-push}
+use Rattle.lsp_replay.proofs.TextRuns.{passed_text}
 use Rattle.lsp_verdict.specs.Calls.{calls}
 use Rattle.lsp_verdict.specs.Event.{Event}
+use Rattle.lsp_verdict.specs.Heard.{Heard, Rests, heard_events}
 use Rattle.lsp_verdict.specs.Outcome.{Offends, format_or_one, log_terms}
-use Rattle.lsp_verdict.specs.RunIo.{BreaksOff, OfRead}
-use Rattle.lsp_verdict.specs.declared.completeness.Completeness.{Completeness}
-use Rattle.lsp_verdict.specs.declared.completeness.Completeness.TheVariants.{Ignored}
-use Rattle.lsp_verdict.specs.declared.outcome.RunFault.{RunFault}
-use Rattle.lsp_verdict.specs.Shown.{TextAnswer, kept_count, up_to_editor}
-use Rattle.lsp_verdict.specs.Shown.{held_answer, missing_answer, text_answer}
-use Rattle.lsp_verdict.specs.TextAfter.{AnswersText}
+use Rattle.lsp_verdict.specs.Ports.{Ports, ports}
+use Rattle.lsp_verdict.specs.RunIo.{GaveAtMost, OfRead, failures_after}
+use Rattle.lsp_verdict.specs.Shown.{TextAnswer, text_is, no_document, no_difference, too_few}
+use Rattle.lsp_verdict.specs.Shown.{held_answer, kept_count, missing_answer, refused, text_answer}
+use Rattle.lsp_verdict.specs.Shown.{up_to_editor}
+use Rattle.lsp_verdict.specs.TextAfter.{AnswersText, EndsAs, IsText, written_of}
 use Rattle.lsp_verdict.specs.Verdict.{Verdict, first_no, no_at, is_of, count_of}
+use Rattle.lsp_verdict.specs.declared.completeness.Completeness.TheVariants.{Ignored}
+use Rattle.lsp_verdict.specs.declared.outcome.Outcome.{Outcome}
+use Rattle.lsp_verdict.specs.declared.outcome.RunFault.{RunFault}
+use Rattle.lsp_verdict.specs.declared.outcome.RunFault.TheVariants as faults
 use Rattle.lsp_verdict.proofs.Finding.{found}
 use Rattle.lsp_verdict.proofs.Logs.{final_more}
-use Rattle.lsp_verdict.proofs.RunReading.{read_map}
 use Rattle.lsp_verdict.proofs.Logs.Text.{text_missing}
 use Rattle.lsp_verdict.proofs.Logs.UpTo.{reached_more, reached_past}
+use Rattle.lsp_verdict.proofs.RunReading.{read_map}
 use Rattle.lsp_verdict.proofs.Verdicts.{no_found}
-use Rattle.lsp_replay.proofs.Reached.{count_within, reached_last, still_few}
-use Rattle.lsp_judge.specs.LogEvents.{BeginsWith, BrokeOff, EndsAt, EndsBy, Found, SoFar}
-use Rattle.lsp_replay.specs.Standing.{Follows}
-use Rattle.lsp_judge.specs.declared.event_reader.EventReader.{EventReader}
-use Rattle.lsp_judge.proofs.KeptEvents.{kept_within, kept_clean, kept_no, kept_final}
-use Rattle.lsp_judge.proofs.LogEvents.{BeginsBy, so_far_by, so_far_clean, so_far_failures}
-use Rattle.lsp_judge.proofs.LogEvents.{so_far_few, so_far_range}
 
 -- ---- the message came
 
@@ -119,79 +135,190 @@ text_ended limits n uri heard v few log (whole, is) =
 
 -- ---- a run
 
--- these events of the log were heard, among which are fewer messages of the editor's
-pub record Reading (limits : Bounds) (e : EventReader) (start now : Told) (n : ℕ) : Type 0 where
-  pub heard : List Event
-  pub so_far : SoFar limits e start now heard
-  pub ignored : e.completeness ≡ Ignored
-  pub few : count_of (is_of Editor) heard < n
+-- where there is no answer, no event offends, and the message is still to come
+pub still_open : (asked : TextAsked) (terms : Terms) (before : List Heard) (h : Heard)
+    → answer_at asked terms before h ≡ None → IsOpen asked.number terms before
+    → IsOpen asked.number terms (before ++ h ∷ [])
+still_open asked terms before h none (clean, few) = (
+  still_clean terms before h clean no,
+  subst (λ (es : List Event). count_of (is_of Editor) es < asked.number)
+      (sym (events-push before h)) (still_few asked.number (heard_events before) h.note.event few
+      (λ reached. let all = ap (count_of (is_of Editor)) (events-push before h) ∙ reached in
+      absurd (cc (sym (eq-eqb _ _ all) ∙ other)))),
+)
+  where
+    parts : (o : Option Verdict) (reached : Bool) (text : TextAnswer)
+        → answer_by o reached text ≡ None → (o ≡ None) × (reached ≡ false)
+    parts (Some v) reached text is = absurd (cc is)
+    parts None true text is = absurd (cc is)
+    parts None false text is = (refl, refl)
 
-pub nothing_read : (limits : Bounds) (e : EventReader) (start now : Told) (n : ℕ)
-    → SoFar limits e start now [] → e.completeness ≡ Ignored → 0 < n → Reading limits e start now n
-nothing_read limits e start now n so_far ignored positive = record {
-  heard = [];
-  so_far = so_far;
-  ignored = ignored;
-  few = positive;
-}
+    both : (no_of terms before h ≡ None) × (is_reached asked.number before h ≡ false)
+    both = parts (no_of terms before h) (is_reached asked.number before h)
+        (held_answer (held terms asked.uri (calls (heard_events (before ++ h ∷ []))))) none
 
-module _ (limits : Bounds) (e : EventReader) (start now : Told) (n : ℕ) (heard : List Event)
-    (event : Event) (few : count_of (is_of Editor) heard < n)
-    (s : SoFar limits e start now (heard ++ event ∷ [])) where
-  exact_count : e.events.counts.editor ≡ count_of (is_of Editor) (heard ++ event ∷ [])
-  exact_count =
-      let all = heard ++ event ∷ [] in
-      let few_all = so_far_few limits e start now all s in
-      let sizes = so_far_range limits e start now all s in
-      omega (arith, s.has.follows.counted.editor, few_all, sizes.log_high, count_within all)
+    no : no_of terms before h ≡ None
+    no = both.0
 
-  pub reads_on : e.completeness ≡ Ignored → (e.events.counts.editor ≡ n → ⊥)
-      → Reading limits e start now n
-  reads_on ignored unreached = record {
-    heard = heard ++ event ∷ [];
-    so_far = s;
-    ignored = ignored;
-    few = still_few n heard event few (λ is. unreached (exact_count ∙ is));
-  }
+    other : is_reached asked.number before h ≡ false
+    other = both.1
 
-  pub text_found : (uri : List ℕ) (answer : TextAnswer) → e.events.counts.editor ≡ n
-      → ((events : List Event) → Follows e.events.session e.events.docs e.events.counts events
-      → answer ≡ held_answer (held e.events.docs.terms uri (calls events)))
-      → OfRead limits start now (λ log. AnswersText limits log n uri answer)
-      × (now.failures ≡ start.failures)
-  text_found uri answer reached told =
-      let all = heard ++ event ∷ [] in
-      let own = e.log.log.format in
-      let is = told all s.has.follows ∙ ap (λ (t : Terms). held_answer (held t uri (calls all)))
-      s.has.by in (
-        read_map limits start now (BeginsBy limits own all)
-            (λ log. AnswersText limits log n uri answer)
-            (λ log begins. subst (AnswersText limits log n uri) (sym is)
-            (text_held limits own n uri all
-            (reached_last n heard event few (sym exact_count ∙ reached))
-            (so_far_clean limits e start now all s) log begins))
-            (so_far_by limits e start now all s),
-        so_far_failures limits e start now all s,
+module _ (asked : TextAsked) where
+  quiet : IsQuiet (text_run asked)
+  quiet terms rests before h said is goes =
+      is ∙ ap said_of (no_none (answer_at asked terms before h) goes)
+
+  open_after : (terms : Terms) (rests : Rests) (before hs : List Heard) (out : List ℕ)
+      → SaysAll (text_run asked) terms rests before hs out → IsOpen asked.number terms before
+      → IsOpen asked.number terms (before ++ hs)
+  open_after terms rests before [] out is waits =
+      subst (IsOpen asked.number terms) (sym (append-nil before)) waits
+  open_after terms rests before (h ∷ hs) out (said, left, is, own, goes, later) waits =
+      subst (IsOpen asked.number terms) (append_assoc before (h ∷ []) hs)
+      (open_after terms rests (before ++ h ∷ []) hs left later
+      (still_open asked terms before h (no_none (answer_at asked terms before h) goes) waits))
+
+  module _ (positive : 0 < asked.number) (limits : Bounds) (log out : List ℕ) (outcome : Outcome)
+      (p : IsPassed (text_run asked) limits log out outcome) where
+    abbrev terms : Terms
+    terms = log_terms limits p.format
+
+    -- the run stopped at this event, which has this answer
+    module _ (first later : List Heard) (here : Heard) (are : p.heard ≡ first ++ here ∷ later)
+        (waits : IsOpen asked.number terms first) where
+      told : IsTold limits log p.format p.records ((first ++ here ∷ []) ++ later) p.tail
+      told = subst (λ (w : List Heard). IsTold limits log p.format p.records w p.tail)
+          (are ∙ sym (append_assoc first (here ∷ []) later)) p.told
+
+      reached : no_of terms first here ≡ None → is_reached asked.number first here ≡ true
+          → AnswersText limits log asked.number asked.uri
+          (held_answer (held terms asked.uri (calls (heard_events (first ++ here ∷ [])))))
+      reached none at =
+          let on = heard_events (first ++ here ∷ []) in
+          let clean = still_clean terms first here waits.0 none in
+          let count : count_of (is_of Editor) on ≡ asked.number = grind (arith, nat_tests, at) in
+          let last = reached_last asked.number (heard_events first) here.note.event waits.1
+          (ap (count_of (is_of Editor)) (sym (events-push first here)) ∙ count) in
+          text_held limits p.format asked.number asked.uri on
+          (ap (up_to_editor asked.number []) (events-push first here) ∙ last
+          ∙ ap Some (sym (events-push first here))) clean log
+          (told_front limits log p.format p.records (first ++ here ∷ []) later p.tail told clean)
+
+      answers : (o : Option Verdict) (at : Bool) (answer : TextAnswer) → no_of terms first here ≡ o
+          → is_reached asked.number first here ≡ at
+          → answer_by o at
+          (held_answer (held terms asked.uri (calls (heard_events (first ++ here ∷ [])))))
+          ≡ Some answer → AnswersText limits log asked.number asked.uri answer
+      answers (Some v) at answer own is gives =
+          let same : missing_answer v ≡ answer = cc gives in
+          subst (AnswersText limits log asked.number asked.uri) same
+          (text_ended limits asked.number asked.uri (heard_events first) v waits.1 log
+          (told_at limits log p.format p.records p.heard p.tail p.told first later here are waits.0 v
+          own))
+      answers None true answer own is gives =
+          let same : held_answer (held terms asked.uri (calls (heard_events (first ++ here ∷ []))))
+          ≡ answer = cc gives in
+          subst (AnswersText limits log asked.number asked.uri) same (reached own is)
+      answers None false answer _ _ gives = absurd (cc gives)
+
+    is_text : IsText (λ l. AnswersText limits l asked.number asked.uri) log out outcome
+    is_text = by_end p.is
+      where
+        by_end : StopsIn (text_run asked) terms p.tail.rests p.heard out outcome
+            ⊎ EndsAfter (text_run asked) terms p.tail p.heard out outcome
+            → IsText (λ l. AnswersText limits l asked.number asked.uri) log out outcome
+        by_end (inl s) =
+            let (answer, is, ends) = s.stop.ends in
+            let waits = open_after terms p.tail.rests [] s.first s.front s.said (refl, positive) in
+            record {
+              answer = answer;
+              answers = answers s.first s.later s.here s.are waits (no_of terms s.first s.here)
+                  (is_reached asked.number s.first s.here) answer refl refl is;
+              written = s.is ∙ ap (λ w. w ++ s.last)
+                  (quiet_all (text_run asked) quiet terms p.tail.rests [] s.first s.front s.said)
+                  ∙ s.stop.says ∙ ap said_of is;
+              ends = ends;
+            }
+        by_end (inr e) =
+            let waits = open_after terms p.tail.rests [] p.heard e.front e.said (refl, positive) in
+            record {
+              answer = answer_behind terms p.heard p.tail;
+              answers = text_ended limits asked.number asked.uri (heard_events p.heard) _ waits.1 log
+                  (told_end limits log p.format p.records p.heard p.tail p.told Ignored waits.0);
+              written = e.is ∙ ap (λ w. w ++ e.last)
+                  (quiet_all (text_run asked) quiet terms p.tail.rests [] p.heard e.front e.said)
+                  ∙ e.closes.0;
+              ends = e.closes.1;
+            }
+
+  -- **what `text` answers and writes**
+  pub text_written : 0 < asked.number → (limits : Bounds) (io : Ports)
+      (result : Result Outcome RunFault) → Passes (text_run asked) limits io.source_before
+      io.source_after io.sink_before io.sink_after result
+      → WritesText limits io (λ log. AnswersText limits log asked.number asked.uri) result
+  text_written positive limits io =
+      passed_text (text_run asked) quiet limits
+      (λ log. AnswersText limits log asked.number asked.uri) (is_text positive limits) io
+
+-- ---- the text that was written is the answer
+
+pub answer_is : (answer : TextAnswer) (outcome : Outcome) (text : String Global) → EndsAs answer outcome
+    → string_bytes text ≡ written_of answer → given_as outcome (string_bytes text) ≡ answer
+answer_is (text_is t) outcome text ends is =
+    ap (λ (o : Outcome). given_as o (string_bytes text)) ends
+    ∙ ap text_is (sym (chars_from_encodes t (string_bytes text) (IsUtf8-string_bytes text) (sym is)))
+answer_is no_document outcome text ends is =
+    ap (λ (o : Outcome). given_as o (string_bytes text)) ends
+answer_is too_few outcome text ends is =
+    ap (λ (o : Outcome). given_as o (string_bytes text)) ends
+answer_is no_difference outcome text ends is =
+    ap (λ (o : Outcome). given_as o (string_bytes text)) ends
+answer_is (refused v) outcome text (given, ends, named) is =
+    ap (λ (o : Outcome). given_as o (string_bytes text)) ends ∙ ap refused named
+
+module _ (limits : Bounds) (start now old new : Told) (Answers : List ℕ → TextAnswer → Type 0) where
+  pub text_found : (outcome : Outcome) (bytes : List ℕ) (given : code.TextAnswer)
+      → WritesText limits (ports start now old new) Answers (Ok outcome) → old.bytes ≡ Some []
+      → new.bytes ≡ Some bytes
+      → ((answer : TextAnswer) → EndsAs answer outcome → bytes ≡ written_of answer
+      → answer_view given ≡ answer)
+      → FindsText limits start now Answers (Ok given)
+  text_found outcome bytes given w none all is =
+      let (out, took, due) = w.written in
+      let written : bytes ≡ out =
+      subst (λ (o : Option (List ℕ)). Appends o (Some bytes) out) none
+      (subst (λ (o : Option (List ℕ)). Appends old.bytes o out) all took.bytes) in (
+        read_map limits start now (λ log. IsText Answers log out outcome)
+            (λ log. Answers log (answer_view given))
+            (λ log t. subst (Answers log) (sym (is t.answer t.ends (written ∙ t.written)))
+            t.answers) due,
+        w.counts.source_failures,
       )
 
-pub text_none : (completeness : Completeness) (limits : Bounds) (start now : Told) (n : ℕ)
-    (uri : List ℕ) (heard : List Event) (v : Verdict) (answer : TextAnswer) → completeness ≡ Ignored
-    → count_of (is_of Editor) heard < n → answer ≡ missing_answer v
-    → Found completeness limits start now heard v
-    → OfRead limits start now (λ log. AnswersText limits log n uri answer)
-text_none completeness limits start now n uri heard v answer ignored few is found =
-    read_map limits start now (λ log. EndsBy completeness limits log heard v)
-    (λ log. AnswersText limits log n uri answer)
-    (λ log ends. subst (AnswersText limits log n uri) (sym is)
-    (text_ended limits n uri heard v few log
-    (subst (λ c. EndsBy c limits log heard v) ignored ends))) found.of_read
+  -- memory was refused for it
+  pub text_refused : (outcome : Outcome)
+      → WritesText limits (ports start now old new) Answers (Ok outcome)
+      → FindsText limits start now Answers (Err faults.Memory)
+  text_refused outcome w = record {
+    of_read = read_map limits start now (λ log. IsText Answers log w.written.0 outcome)
+        (λ log. Unit {0}) (λ log t. tt) w.written.2;
+    failures = w.counts.source_failures;
+    unwritten = λ same. absurd (cc same);
+  }
 
--- reading broke off
-pub no_answer : (limits : Bounds) (start now : Told) (heard : List Event) (fault : RunFault)
-    → BrokeOff limits start now heard fault → BreaksOff limits start now fault
-no_answer limits start now heard fault broke = record {
-  of_read = read_map limits start now (BeginsWith limits heard) (λ log. Unit {0})
-      (λ log begins. tt) broke.of_read;
-  failures = broke.failures;
-  unwritten = broke.unwritten;
-}
+  pub text_broke : (fault given : RunFault)
+      → WritesText limits (ports start now old new) Answers (Err fault)
+      → ((n : ℕ) → failures_after fault n ≡ failures_after given n)
+      → (given ≡ faults.Write → ⊥) → FindsText limits start now Answers (Err given)
+  text_broke fault given w same other = record {
+    of_read = within w.counts.limit;
+    failures = w.counts.source_failures ∙ same start.failures;
+    unwritten = other;
+  } where
+    within : GaveAtMost (limits.log + 1) start now → OfRead limits start now (λ log. Unit {0})
+    within (bytes, gave, most) = record {
+      bytes = bytes;
+      ended = false;
+      read = record { gave = gave; no_further = most; end = λ met. absurd (cc met) };
+      holds = λ stream goes. tt;
+    }

@@ -27,7 +27,6 @@ use Rattle.lsp_verdict.specs.RunIo.{OfRead}
 use Rattle.lsp_verdict.specs.Upgraded.{upgraded, AreAccepted, HasAccepted, IsUpgraded}
 use Rattle.lsp_verdict.specs.Upgraded.{BeginsUpgraded}
 use Rattle.lsp_verdict.specs.Verdict.{Verdict}
-use Rattle.lsp_verdict.specs.declared.completeness.Completeness.TheVariants.{Ignored}
 use Rattle.lsp_verdict.specs.declared.counts.Counts.{Counts}
 use Rattle.lsp_verdict.specs.declared.outcome.Outcome.TheVariants.{Judged}
 use Rattle.lsp_verdict.specs.declared.outcome.RunFault.{RunFault}
@@ -35,21 +34,35 @@ use Rattle.lsp_verdict.specs.declared.outcome.RunFault.TheVariants as faults
 use Rattle.lsp_verdict.specs.declared.verdict.Verdict as code
 use Rattle.lsp_verdict.proofs.Entries.{is_first}
 use Rattle.lsp_verdict.proofs.ExactCounts.{exact}
+use Rattle.lsp_verdict.proofs.Logs.{some_final}
 use Rattle.lsp_verdict.proofs.Outcomes.{offends_final}
 use Rattle.lsp_verdict.proofs.RunReading.{read_map}
 use Rattle.lsp_verdict.proofs.RunsJudged.{judged_not, judges, unwritten_sink}
 use Rattle.lsp_verdict.proofs.Upgrading.{accepted_on, accepted_here, accepted_all, upgraded_more}
 use Rattle.lsp_verdict.proofs.Upgrading.{accepted_none}
 use Rattle.lsp_judge.specs.Heard.{AreHeard, HasHeard}
-use Rattle.lsp_judge.specs.LogEvents.{Finishes}
 use Rattle.lsp_judge.specs.Rulings.{verdict_in}
 use Rattle.lsp_judge.specs.Standing.{Rules}
-use Rattle.lsp_judge.specs.UpgradedLog.{UpgradesLog, Upgrading}
+use Rattle.lsp_judge.specs.UpgradedLog.{UpgradesLog}
 use Rattle.lsp_verdict.specs.Ports.{ports}
-use Rattle.lsp_judge.specs.declared.event_reader.EventReader.{EventReader}
 use Rattle.lsp_judge.specs.declared.ruling.Ruling.{Ruling}
-use Rattle.lsp_judge.proofs.LogEvents.{whole_of}
 use Rattle.lsp_judge.proofs.Records.{accepted, rules_offence}
+
+-- a log of these records has a verdict, and these records
+abbrev whole_of : (limits : Bounds) (log : List ℕ) (format : Option Format)
+    (records : List Record) (flaw : Option (ℕ × LogCode)) → IsLog limits log format records flaw
+    → (v : Verdict) × IsVerdict limits log v
+whole_of limits log format records flaw is_log =
+    let final = some_final limits (format_or_one format) records flaw in (
+      final.0,
+      record {
+        format = format;
+        records = records;
+        fault = flaw;
+        is_log = is_log;
+        final = final.1;
+      },
+    )
 
 pub head_is : first_line Two ≡ upgraded []
 head_is = sym (append-nil (first_line Two))
@@ -152,11 +165,13 @@ module _ (limits : Bounds) (known : Option Format) (records : List Record)
   -- the log ends after them
   pub upgraded_end : (flaw : Option (ℕ × LogCode)) (log : List ℕ) (given : Verdict)
       → IsLog limits log known records flaw
-      → ((w : Verdict) → IsFinal limits (format_or_one known) records flaw w → given ≡ as_given w)
+      → ((w : Verdict) → as_given w ≡ w → IsFinal limits (format_or_one known) records flaw w
+      → given ≡ w)
       → IsUpgraded limits log given (upgraded records)
   upgraded_end flaw log given is_log says =
       let whole = whole_of limits log known records flaw is_log in
-      are_written log given whole (says whole.0 whole.1.final)
+      let exact_is = exact limits a.range log whole.0 whole.1 in
+      are_written log given whole (says whole.0 exact_is whole.1.final ∙ sym exact_is)
       (accepted_all limits (format_or_one known) records a.keeps)
 
   module _ (start now old mid : Told) where
@@ -221,7 +236,8 @@ module _ (limits : Bounds) (e : LogEvents) (records : List Record)
   -- the log ends
   pub all_upgraded : (end : End) (v : code.Verdict)
       → Ended limits e.log.format e start now records given end
-      → Finishes Ignored limits e.log.format records end (Ok v)
+      → ((w : Verdict) → as_given w ≡ w
+      → IsFinal limits (format_or_one e.log.format) records (flaw_of end) w → verdict_view v ≡ w)
       → UpgradesLog limits (ports start now old mid) (Ok (Judged v))
   all_upgraded end v ended says = all_written v
       (read_map limits start now (IsLogOf e.log limits records (flaw_of end))
@@ -252,15 +268,25 @@ module _ (limits : Bounds) (e : LogEvents) (records : List Record)
       known_self None = tt
       known_self (Some f) = refl
 
+-- these records of the log were accepted, and their upgrade is written; the log has this next
+pub record Upgrading (limits : Bounds) (e : LogEvents) (m : session.State) (d : docs.State)
+    (c : Counts) (next : Entry) (start now old new : Told) : Type 0 where
+  pub records : List Record
+  pub early : e.log.format ≡ None → records ≡ []
+  pub heard : AreHeard limits (format_or_one e.log.format) e.streams m d c records
+  pub next_is : IsNext limits e start now records heard.1.past next
+  pub wrote : Wrote old new (upgraded records)
+
 -- a record was written, and the next entry read
-pub one_written : (limits : Bounds) (e : EventReader) (next : Entry) (start now old new : Told)
-    (known : Option Format) (s : frames.State) (records : List Record) → IsSome known
-    → KeepsFormat known e.log.log.format → e.log.streams ≡ s
-    → (o : AreHeard limits (format_or_one known) s e.events.session e.events.docs e.events.counts
-    records) → IsNext limits e.log start now records o.1.past next → e.completeness ≡ Ignored
-    → Wrote old new (upgraded records) → Upgrading limits e next start now old new
-one_written limits e next start now old new known s records some keeps same o is ignored wrote =
-    let format : e.log.log.format ≡ known = kept known some keeps in
+pub one_written : (limits : Bounds) (e : LogEvents) (m : session.State) (d : docs.State)
+    (c : Counts) (next : Entry) (start now old new : Told) (known : Option Format)
+    (s : frames.State) (records : List Record) → IsSome known
+    → KeepsFormat known e.log.format → e.streams ≡ s
+    → (o : AreHeard limits (format_or_one known) s m d c records)
+    → IsNext limits e start now records o.1.past next → Wrote old new (upgraded records)
+    → Upgrading limits e m d c next start now old new
+one_written limits e m d c next start now old new known s records some keeps same o is wrote =
+    let format : e.log.format ≡ known = kept known some keeps in
     record {
       records = records;
       early = λ none. absurd (none_some known some (sym format ∙ none));
@@ -270,17 +296,16 @@ one_written limits e next start now old new known s records some keeps same o is
           past = o.1.past;
           stands = subst (λ (t : frames.State). frames.Stands limits t records o.1.past [])
               (sym same) o.1.stands;
-          has = subst (λ (f : Option Format). HasHeard (log_terms limits f) e.events.session
-              e.events.docs e.events.counts o.1.past o.0) (sym format) o.1.has;
+          has = subst (λ (f : Option Format). HasHeard (log_terms limits f) m d c o.1.past o.0)
+              (sym format) o.1.has;
         },
       );
       next_is = is;
-      ignored = ignored;
       wrote = wrote;
     }
   where
-    kept : (was : Option Format) → IsSome was → KeepsFormat was e.log.log.format
-        → e.log.log.format ≡ was
+    kept : (was : Option Format) → IsSome was → KeepsFormat was e.log.format
+        → e.log.format ≡ was
     kept None some keeps = absurd cc
     kept (Some format) some keeps = keeps format refl
 

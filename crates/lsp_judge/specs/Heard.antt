@@ -7,10 +7,8 @@ use Rattle.lsp_session.specs.State as session
 use Rattle.lsp_docs.specs.State as docs
 use Rattle.lsp_docs.specs.Terms.{Terms, terms_of}
 use Rattle.lsp_log.specs.Log.{Record}
-use Rattle.lsp_replay.specs.Lines.{IsHeard}
 use Rattle.lsp_replay.specs.Standing.{Follows}
 use Rattle.lsp_replay.specs.Streams as frames
-use Rattle.lsp_replay.specs.declared.heard.Heard.{Heard}
 use Rattle.lsp_verdict.specs.Event.{Event}
 use Rattle.lsp_verdict.specs.Placed.{Raw, Reads}
 use Rattle.lsp_verdict.specs.declared.counts.Counts.{Counts}
@@ -23,19 +21,13 @@ pub record HasHeard (terms : Terms) (messages : session.State) (documents : docs
   pub follows : Follows messages documents counts heard
 
 -- and so was one more
-abbrev pub HearsOne : Terms → session.State → docs.State → Counts → List Raw → List Event → Raw
-    → Heard → Type 0
-HearsOne terms messages documents counts raws heard raw given =
-    (event : Event) × IsHeard event given
-    × HasHeard terms messages documents counts (raws ++ raw ∷ []) (heard ++ event ∷ [])
-
--- and so was one more, as what it is heard as
 abbrev pub TakesOne : session.State → docs.State → Counts → session.State → docs.State → Counts
     → Raw → Type 0
 TakesOne old_messages old_documents before messages documents after raw =
-    (given : Heard) × ((terms : Terms) (raws : List Raw) (heard : List Event)
+    (terms : Terms) (raws : List Raw) (heard : List Event)
     → HasHeard terms old_messages old_documents before raws heard
-    → HearsOne terms messages documents after raws heard raw given)
+    → (event : Event)
+    × HasHeard terms messages documents after (raws ++ raw ∷ []) (heard ++ event ∷ [])
 
 -- **these events of the records were heard**, none of which offends, and those that are due are
 -- still to be heard

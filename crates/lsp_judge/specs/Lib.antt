@@ -2,12 +2,13 @@ pub mod Written
 pub mod Answered
 pub mod Checked
 pub mod CheckedLine
+pub mod JudgingRun
+pub mod TextRun
 pub mod Rulings
 pub mod Heard
 pub mod Standing
 pub mod Judging
 pub mod Ending
-pub mod LogEvents
 pub mod ShownLog
 pub mod UpgradedLog
 pub mod StreamParts

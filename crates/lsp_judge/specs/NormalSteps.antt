@@ -5,11 +5,9 @@ use Rattle.std.specs.List.{flat_map}
 use Rattle.lsp_frame.specs.Bounds.{Bounds}
 use Rattle.lsp_frame.specs.Sink.{Wrote}
 use Rattle.lsp_frame.specs.Told.{Told}
-use Rattle.lsp_frame.specs.declared.format.Format.{Format}
 use Rattle.lsp_types.specs.declared.side.Side.TheVariants.{Editor, Server}
 use Rattle.lsp_log.specs.Log.{Record, spelling, first_line}
-use Rattle.lsp_replay.specs.LogEvents.{Reads}
-use Rattle.lsp_judge.specs.Normal.{Carries, records_of, no_at, first_broken, fault_of}
+use Rattle.lsp_judge.specs.Normal.{Carries, records_of, no_at, fault_of}
 use Rattle.lsp_replay.specs.declared.log_events.End.{End}
 use Rattle.lsp_replay.specs.declared.log_events.End.TheVariants.{Sound, Bad}
 use Rattle.lsp_replay.specs.declared.log_events.LogEvents.{LogEvents}
@@ -80,14 +78,3 @@ EndsLog limits records raws (Bad number fault) outcome =
 -- the first line of the log's format is written
 abbrev pub WroteHead : LogEvents → Told → Told → Type 0
 WroteHead e old new = Wrote old new (first_line (format_or_one e.log.format))
-
--- the events given are written and counted, and none of them is a fault of the frames
-pub record SoFar (limits : Bounds) (format : Option Format) (e : LogEvents) (counts : Counts)
-    (start now old new : Told) : Type 0 where
-  pub records : List Record
-  pub given : List Raw
-  pub due : List Raw
-  pub reads : Reads limits format e start now records given due
-  pub sound : first_broken given ≡ None
-  pub counted : Counted counts given
-  pub wrote : Wrote old new (spelled limits.chunk given)

@@ -21,12 +21,6 @@ IsNoAt terms before IsSuch (No rule who number at) =
 IsNoAt terms before IsSuch (BadLog number code) = ⊥
 IsNoAt terms before IsSuch Memory = Unit {0}
 
--- the ruling is this refusal, and there is none where there is none
-abbrev pub RestIs : Option Ruling → Option Verdict → Type 0
-RestIs None refusal = refusal ≡ None
-RestIs (Some ruling) refusal =
-    (v : Verdict) × (refusal ≡ Some v) × (verdict_in ruling ≡ Some (as_given v))
-
 -- what is true of a verdict other than Yes
 abbrev pub IfRefused : Verdict → Type 0 → Type 0
 IfRefused (yes s) P = Unit {0}

@@ -1,14 +1,11 @@
 //! Judges a log and writes the report, whether or not its session must be complete.
-ghost use Rattle.lsp_frame.specs.Bounds.{IsInRange};
 ghost use Rattle.lsp_judge.specs.Checked.{Checked};
-ghost use Rattle.lsp_judge.specs.LogEvents.{GivesVerdict};
 ghost use Rattle.lsp_verdict.specs.Ports.{ports};
 
-use crate::contents::take;
-use crate::event_reader::EventReader;
-use lsp_frame::{Limits, Sink, Source, put_all};
-use lsp_replay::Next;
-use lsp_verdict::{Completeness, Outcome, RunFault, Verdict, report_of};
+use crate::judging::Judging;
+use lsp_frame::{Limits, Sink, Source};
+use lsp_replay::pass;
+use lsp_verdict::{Completeness, Outcome, RunFault};
 use std::alloc::Global;
 
 /// Reads a log up to the first event that offends, or to its end, and writes the report of the
@@ -61,32 +58,10 @@ fn check<R: Source, W: Sink>(
     ensures checked { Checked completeness limits (ports (R.told reader.old) (R.told reader.new)
         (W.told writer.old) (W.told writer.new)) result }
 {
-    let verdict = verdict_of(alloc, reader, limits, completeness)?;
-    let report = report_of(alloc, &verdict)?;
-    put_all(writer, report.as_slice())?;
-    Ok(Outcome::Judged(verdict))
-}
-
-/// Reads a log up to the first event that offends, or to its end, and gives the verdict on it.
-pub(crate) fn verdict_of<R: Source>(
-    alloc: Global,
-    reader: &mut R,
-    limits: Limits,
-    completeness: Completeness,
-) -> Result<Verdict, RunFault>
-    ensures range { IsInRange limits }
-    ensures answer { GivesVerdict completeness limits (R.told reader.old) (R.told reader.new)
-        result }
-{
-    let mut events = EventReader::open(alloc, reader, limits, completeness)?;
-    loop {
-        match events.log.next(reader) {
-            Err(fault) => return Err(fault),
-            Ok(Next::End(end)) => return Ok(events.finish(alloc, end)?),
-            Ok(Next::Event(raw)) => match take(&mut events.events, raw) {
-                Ok(()) => {}
-                Err(ruling) => return Ok(ruling.answer()?),
-            },
-        }
-    }
+    let mut account = Judging {
+        completeness,
+        lines: None,
+        name: None,
+    };
+    pass(alloc, reader, writer, limits, &mut account)
 }

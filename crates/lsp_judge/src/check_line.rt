@@ -1,14 +1,13 @@
 //! Judges one of several logs, and writes a line.
-ghost use Rattle.std.specs.Prelude.{◌≡◌, ◌==◌, IfOk};
-ghost use Rattle.std.specs.List.{position_or_len};
-ghost use Rattle.lsp_verdict.specs.Given.{verdict_view};
-ghost use Rattle.lsp_judge.specs.CheckedLine.{CheckedLine, line_for};
+ghost use Rattle.std.specs.Prelude.{◌≡◌, ◌++◌, ◌∷◌, [], OnOk, codes, string_bytes};
+ghost use Rattle.lsp_judge.specs.CheckedLine.{CheckedLine, first_line};
 ghost use Rattle.lsp_verdict.specs.Ports.{ports};
 
-use crate::check::verdict_of;
-use lsp_frame::{Limits, Sink, Source, put_all};
+use crate::judging::Judging;
+use lsp_frame::{Limits, Sink, Source};
+use lsp_replay::pass;
 use lsp_rpc::Memory;
-use lsp_verdict::{Completeness, Outcome, RunFault, Verdict, report_of};
+use lsp_verdict::{Completeness, Outcome, RunFault};
 use std::alloc::Global;
 
 /// Reads one of several logs as `run_check` does, or as `run_check_complete` where its session
@@ -30,30 +29,31 @@ pub fn run_check_line<R: Source, W: Sink>(
         (ports (R.told reader.old) (R.told reader.new) (W.told writer.old) (W.told writer.new))
         result }
 {
-    let verdict = verdict_of(alloc, reader, limits, completeness)?;
-    let line = line_for(alloc, name, &verdict)?;
-    put_all(writer, line.as_slice())?;
-    Ok(Outcome::Judged(verdict))
+    let mut account = Judging {
+        completeness,
+        lines: None,
+        name: Some(name),
+    };
+    pass(alloc, reader, writer, limits, &mut account)
 }
 
-/// How many bytes stand before the first LF.
-fn first_line_len(bytes: &[u8]) -> usize
-    ensures { result ≡ position_or_len (λ byte. byte == 10) bytes.now }
+/// What stands before the first LF.
+fn first_line(text: &str) -> &str
+    ensures { result.now ≡ first_line text.now }
 {
-    bytes.iter().take_while(|byte| **byte != b'\n').count()
+    match text.split_once('\n') {
+        Some((first, _)) => first,
+        None => text,
+    }
 }
 
-/// The line of one of several logs: its name, and the first line of the report of the verdict on
-/// it.
-fn line_for(alloc: Global, name: &str, verdict: &Verdict) -> Result<Vec<u8>, Memory>
-    ensures { IfOk result (λ line. line.items ≡ line_for name.now (verdict_view verdict.now)) }
+/// Adds the line of one of several logs: its name, and the first line of this report.
+pub(crate) fn push_line(text: &mut String, name: &str, report: &str) -> Result<(), Memory>
+    ensures { OnOk result (string_bytes text.new ≡ string_bytes text.old
+        ++ (name.now ++ codes ": " ++ first_line report.now ++ 10 ∷ [])) }
 {
-    let report = report_of(alloc, verdict)?;
-    let first = &report[..first_line_len(report.as_slice())];
-    let mut line = Vec::new(alloc);
-    line.extend_from_slice(name.as_bytes())?;
-    line.extend_from_slice(b": ")?;
-    line.extend_from_slice(first)?;
-    line.push(b'\n')?;
-    Ok(line)
+    text.push_str(name)?;
+    text.push_str(": ")?;
+    text.push_str(first_line(report))?;
+    Ok(text.push_str("\n")?)
 }

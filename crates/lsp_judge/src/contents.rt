@@ -1,5 +1,5 @@
-//! What the next event is heard as, after those before it.
-ghost use Rattle.std.specs.Prelude.{◌≡◌, ◌++◌, ◌∷◌, [], List, IfOk, IfErr, OnOk};
+//! The events that a record brings, heard one after another.
+ghost use Rattle.std.specs.Prelude.{◌≡◌, ◌++◌, ◌∷◌, [], List, IfErr, OnOk};
 ghost use Rattle.lsp_docs.specs.Terms.{Terms};
 ghost use Rattle.lsp_frame.specs.Bounds.{Bounds};
 ghost use Rattle.lsp_frame.specs.declared.format.Format.{Format};
@@ -9,14 +9,14 @@ ghost use Rattle.lsp_verdict.specs.Counting.{AreCounts};
 ghost use Rattle.lsp_verdict.specs.Event.{Event};
 ghost use Rattle.lsp_verdict.specs.Lent.{raw_view, whose_raw};
 ghost use Rattle.lsp_verdict.specs.Placed as placed;
-ghost use Rattle.lsp_replay.specs.Standing.{CanWantMemory, Follows, Refuses, RefusesFor};
+ghost use Rattle.lsp_replay.specs.Standing.{CanWantMemory, Follows, RefusesFor};
 ghost use Rattle.lsp_judge.specs.Rulings.{IsNoAt};
-ghost use Rattle.lsp_judge.specs.Heard.{AreHeard, HasHeard, HearsOne, TakesOne};
+ghost use Rattle.lsp_judge.specs.Heard.{AreHeard, TakesOne};
 ghost use Rattle.lsp_judge.specs.Standing.{Rules};
 
 use crate::ruling::Ruling;
 use lsp_log::Record;
-use lsp_replay::{Events, Fault, Heard, Refused, Streams};
+use lsp_replay::{Events, Fault, Streams};
 use lsp_text::TextStore;
 use lsp_verdict::{Counts, Raw, Who};
 
@@ -72,38 +72,5 @@ fn no_for(counts: &Counts, who: Who, fault: Fault) -> Ruling
     match fault {
         Fault::Rule(rule) => Ruling::no_next(counts, rule, who),
         Fault::Memory => Ruling::Memory,
-    }
-}
-
-/// Hears the next event, or gives the No at it.
-pub(crate) fn hear<'a, S: TextStore>(
-    events: &mut Events<S>,
-    raw: Raw<'a>,
-) -> Result<Heard<'a>, Ruling>
-    ensures ok { IfOk result (λ heard. (terms : Terms) (raws : List placed.Raw)
-        (so_far : List Event) → HasHeard terms events.old.session events.old.docs events.old.counts
-        raws so_far
-        → HearsOne terms events.new.session events.new.docs events.new.counts raws so_far
-        (raw_view raw.entry) heard) }
-    ensures no { IfErr result (λ ruling. (so_far : List Event)
-        → Follows events.old.session events.old.docs events.old.counts so_far
-        → IsNoAt events.old.docs.terms so_far (placed.Reads (raw_view raw.entry)) ruling) }
-{
-    let who = raw.who();
-    match events.hear(raw) {
-        Ok(heard) => Ok(heard),
-        Err(refused) => Err(no_at(&events.counts, who, refused)),
-    }
-}
-
-/// The No at the next event, of this origin, which was refused.
-fn no_at(counts: &Counts, who: Who, refused: Refused) -> Ruling
-    ensures { (raw : placed.Raw) (terms : Terms) (so_far : List Event) → AreCounts counts.now so_far
-        → who ≡ whose_raw raw → Refuses raw terms so_far refused
-        → IsNoAt terms so_far (placed.Reads raw) result }
-{
-    match refused.rule() {
-        Some(rule) => Ruling::no_next(counts, rule, who),
-        None => Ruling::Memory,
     }
 }

@@ -56,7 +56,7 @@ fn write_event<W: Sink>(
             counts.add(who_of(*side));
             Ok(None)
         }
-        Raw::Broken { side, rule } => Ok(Some(no_next(counts, *rule, *side))),
+        Raw::Broken { side, rule, .. } => Ok(Some(no_next(counts, *rule, *side))),
         Raw::Snapshot { version, uri, text } => {
             write_snapshot(writer, *version, uri, text)?;
             counts.add(Who::Snapshot);

@@ -5,13 +5,26 @@ ghost use Rattle.lsp_judge.specs.UpgradedLog.{UpgradesLog};
 ghost use Rattle.lsp_verdict.specs.Ports.{ports};
 
 use crate::contents::hear_record;
-use crate::event_reader::EventReader;
+use crate::ending::verdict_at;
 use lsp_frame::{Format, Limits, Sink, Source};
 use lsp_log::{Record, write_head_of, write_record};
-use lsp_replay::{Entry, LogEvents};
+use lsp_replay::{Entry, Events, LogEvents};
 use lsp_rpc::Memory;
+use lsp_text::Lined;
 use lsp_verdict::{Completeness, Outcome, RunFault};
 use std::alloc::Global;
+
+/// A log that is read, and what is held of its events.
+struct Reading {
+    log: LogEvents,
+    events: Events<Lined>,
+}
+
+impl Drop for Reading {
+    fn drop(self) {
+        let Reading { log: _, events: _ } = self;
+    }
+}
 
 /// Reads a log up to the first event that offends, or to its end, and writes it again in format 2:
 /// the first line of that format, and each record that brings no event which offends, up to the
@@ -34,19 +47,25 @@ pub fn run_upgrade<R: Source, W: Sink>(
     let mut log = LogEvents::new(alloc, limits);
     write_head_of(writer, Format::Two)?;
     let mut next = log.read(reader)?;
-    let mut events = EventReader::of(alloc, limits, log, Completeness::Ignored);
+    let format = log.format().unwrap_or(Format::One);
+    let events = Events::new(alloc, limits, format);
+    let mut reading = Reading { log, events };
     loop {
         match next {
-            Entry::End(end) => return Ok(Outcome::Judged(events.finish(alloc, end)?)),
+            Entry::End(end) => {
+                let held = &reading.events;
+                let verdict = verdict_at(alloc, held, &reading.log, end, Completeness::Ignored)?;
+                return Ok(Outcome::Judged(verdict));
+            }
             Entry::Record(record) => {
                 let copy = copy_of(&record)?;
-                match hear_record(&mut events.log.streams, &mut events.events, record) {
+                match hear_record(&mut reading.log.streams, &mut reading.events, record) {
                     Ok(()) => write_record(writer, &copy)?,
                     Err(ruling) => return Ok(Outcome::Judged(ruling.answer()?)),
                 }
             }
         }
-        next = events.log.read(reader)?;
+        next = reading.log.read(reader)?;
     }
 }
 

@@ -1,7 +1,7 @@
 -- One more event that doesn't offend.
 use Rattle.std.proofs.Common.{◌≡◌, ℕ, List, [], ◌∷◌, ◌++◌, None, sym, ap, subst, ◌∙◌, append-nil}
-use Rattle.lsp_rpc.specs.View.{act_view, message_view}
-use Rattle.lsp_rpc.specs.declared.act.Spoken.{Spoken}
+use Rattle.lsp_rpc.specs.Act.{Act}
+use Rattle.lsp_rpc.specs.Message as rpc
 use Rattle.std.specs.Prelude.{ℤ, option_map}
 use Rattle.std.specs.Option.{option_or}
 use Rattle.lsp_types.specs.declared.side.Side.{Side}
@@ -21,8 +21,6 @@ use Rattle.lsp_verdict.specs.declared.counts.Counts.{Counts}
 use Rattle.lsp_verdict.proofs.LookBackLemmas.{first_of-snoc, each_of-snoc}
 use Rattle.lsp_verdict.proofs.Messages.{sent_in-append}
 use Rattle.lsp_replay.specs.Standing.{Holds, Follows, Hears, Keeps}
-use Rattle.lsp_replay.specs.declared.heard.Heard.{Heard}
-use Rattle.lsp_replay.specs.declared.heard.Heard.TheVariants as heard
 
 -- an event that a content is read as is its side's
 pub whose_content : (side : Side) (bytes : List ℕ) (e : Event) → ReadsAs side bytes e
@@ -38,18 +36,15 @@ whose_read (broken side rule) e reads = ap whose reads
 whose_read (show n uri t) e reads = ap whose reads
 
 -- a message that was followed and counted is kept
-pub message_keeps : (side : Side) (bytes : List ℕ) (spoken : Spoken) (terms : Terms)
+pub message_keeps : (side : Side) (bytes : List ℕ) (said : rpc.Message) (act : Act) (terms : Terms)
     (before after : Counts) (m : session.State) (d : docs.State) (events : List Event)
-    → Hears side bytes (message_view spoken.message) (act_view spoken.act) terms m d events
+    → Hears side bytes said act terms m d events
     → ((all : List Event) (event : Event) → AreCounts before all → whose event ≡ who_of side
     → AreCounts after (all ++ event ∷ []))
-    → Keeps (content side bytes) terms before (heard.Message side spoken) m d after events
-message_keeps side bytes spoken terms before after m d events h counts = record {
+    → Keeps (content side bytes) terms before m d after events
+message_keeps side bytes said act terms before after m d events h counts = record {
   event = message h.sent;
   reads = h.reads;
-  is_heard = (h.reads.by, h.says, h.means);
-  answers = tt;
-  whole = h.has_value;
   accepted = h.accepted;
   holds = h.holds;
   counted = λ all counted. counts all (message h.sent) counted
@@ -64,11 +59,10 @@ clean_on terms events e none clean =
 
 -- one more event that is kept
 pub follows_on : (raw : Raw) (old_m new_m : session.State) (old_d new_d : docs.State)
-    (old_c new_c : Counts) (given : Heard) (events : List Event) → Follows old_m old_d old_c events
-    → new_d.terms ≡ old_d.terms
-    → (k : Keeps raw old_d.terms old_c given new_m new_d new_c events)
+    (old_c new_c : Counts) (events : List Event) → Follows old_m old_d old_c events
+    → new_d.terms ≡ old_d.terms → (k : Keeps raw old_d.terms old_c new_m new_d new_c events)
     → Follows new_m new_d new_c (events ++ k.event ∷ [])
-follows_on raw old_m new_m old_d new_d old_c new_c given events follows terms k = record {
+follows_on raw old_m new_m old_d new_d old_c new_c events follows terms k = record {
   clean = ap (λ l. first_no l (events ++ k.event ∷ [])) terms
       ∙ clean_on old_d.terms events k.event follows.clean k.accepted;
   holds = k.holds;

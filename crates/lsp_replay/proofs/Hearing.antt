@@ -7,8 +7,6 @@ use Rattle.std.specs.List.{cons_option}
 use Rattle.lsp_rpc.specs.Act.{Act}
 use Rattle.lsp_rpc.specs.Message.{Message}
 use Rattle.lsp_rpc.specs.Outline.{outline, without_params}
-use Rattle.lsp_rpc.specs.View.{act_view, message_view}
-use Rattle.lsp_rpc.specs.declared.act.Spoken.{Spoken}
 use Rattle.lsp_rpc.specs.declared.fault.RpcFault.{RpcFault}
 use Rattle.lsp_rpc.specs.declared.fault.RpcFault.TheVariants as contents
 use Rattle.lsp_types.specs.declared.position.Encoding.{Encoding}
@@ -33,29 +31,17 @@ use Rattle.lsp_docs.specs.declared.fault.DocFault.{DocFault}
 use Rattle.lsp_docs.specs.declared.fault.DocFault.TheVariants as faults
 use Rattle.lsp_docs.specs.Terms.{Terms}
 use Rattle.lsp_verdict.specs.Calls.{call_of, call_at, calls}
-use Rattle.lsp_verdict.specs.Contents.{IsSent, ReadsAs}
+use Rattle.lsp_verdict.specs.Contents.{IsSent}
 use Rattle.lsp_verdict.specs.Event.{Event, message, fault as broken, snapshot, sent_in}
-use Rattle.lsp_replay.specs.Faults.{of_content, of_message, of_call, of_snapshot, refused_by}
-use Rattle.lsp_replay.specs.Faults.{of_reading, rule_of}
-use Rattle.lsp_replay.specs.Standing.{HasValue, Hears, Refuses, RefusesBy, RefusesContent}
-use Rattle.lsp_replay.specs.Standing.{RefusesCall, RefusesFor, RefusesSnapshot, TakesCall}
+use Rattle.lsp_replay.specs.Faults.{of_call, of_message, of_reading}
+use Rattle.lsp_replay.specs.Standing.{HasValue, Hears, IsUnread, RefusesBy, RefusesCall, RefusesFor}
+use Rattle.lsp_replay.specs.Standing.{TakesCall}
 use Rattle.lsp_replay.specs.declared.fault.Fault.{Fault}
 use Rattle.lsp_replay.specs.declared.fault.Fault.TheVariants as own
-use Rattle.lsp_replay.specs.declared.fault.Refused.{Refused}
-use Rattle.lsp_replay.specs.declared.fault.Refused.TheVariants as refused
 use Rattle.lsp_verdict.specs.Placed as placed
-use Rattle.lsp_verdict.specs.Placed.{Raw, Reads}
 use Rattle.lsp_verdict.specs.Verdict.{offence, document_rule}
 use Rattle.lsp_verdict.proofs.LookBackLemmas.{each_of-snoc}
 use Rattle.lsp_verdict.proofs.Messages.{sent_in-append}
-
--- a content that says nothing
-pub unspoken : (side : Side) (bytes : List ℕ) (terms : Terms) (events : List Event) (f : RpcFault)
-    → IsUnspoken side bytes f → RefusesContent side bytes terms events (of_content f)
-unspoken side bytes terms events (contents.Rule rule) (inl breaks) = (refl, inl breaks)
-unspoken side bytes terms events (contents.Rule rule) (inr (is, params)) =
-    (refl, inr (is, record { of = params.0; reads = params.1; unread = params.2 }))
-unspoken side bytes terms events contents.Memory e = tt
 
 -- the document rule of a message, under what was agreed
 rule_is : (terms : Terms) (events : List Event) (m : Sent) (enc : Encoding) (kind : SyncKind) → enc ≡ unwrap_or (encoding (sent_in events)) Utf16 → kind ≡ unwrap_or (sync_kind (sent_in events)) Nothing
@@ -139,57 +125,20 @@ module _ (side : Side) (bytes : List ℕ) (terms : Terms) (events : List Event) 
       has_value = has_value;
     }
 
--- ---- refusals
-
--- a message that offends the rule of a fault is refused with it
-pub refused_as : (side : Side) (bytes : List ℕ) (terms : Terms) (events : List Event)
-    (spoken : Spoken) (f : Fault)
-    → RefusesBy side bytes (message_view spoken.message) (act_view spoken.act) terms events f
-    → RefusesContent side bytes terms events (refused_by f side spoken)
-refused_as side bytes terms events spoken (own.Rule rule) refuses = (refl, refuses)
-refused_as side bytes terms events spoken own.Memory refuses = tt
-
--- a snapshot that the documents don't accept
-pub snapshot_refused : (uri text : List ℕ) (number : ℤ) (terms : Terms) (events : List Event)
-    (f : DocFault) → docs_fault.Names (call_rule terms (calls events) (shows uri number text)) f
-    → RefusesSnapshot (snapshot uri number text) terms events (of_snapshot f)
-snapshot_refused uri text number terms events (faults.Rule rule) named = named
-snapshot_refused uri text number terms events faults.Memory named = tt
-
-content_event : (side : Side) (bytes : List ℕ) (terms : Terms) (events : List Event) (r : Refused)
-    (rule : ℕ) → rule_of r ≡ Some rule → RefusesContent side bytes terms events r
-    → (event : Event) × ReadsAs side bytes event × (offence terms events event ≡ Some rule)
-content_event side bytes terms events (refused.Rule code) rule is refuses =
-    (broken side code, refuses, is)
-content_event side bytes terms events (refused.Message by code spoken) rule is (same, refuses) =
-    (message refuses.sent, refuses.reads, refuses.offends ∙ is)
-content_event side bytes terms events refused.Memory rule is refuses = absurd (cc)
-
--- what is refused is an event that offends this rule
-pub refused_event : (raw : Raw) (terms : Terms) (events : List Event) (r : Refused) (rule : ℕ)
-    → rule_of r ≡ Some rule → Refuses raw terms events r
-    → (event : Event) × Reads raw event × (offence terms events event ≡ Some rule)
-refused_event (placed.content side bytes) terms events r rule is refuses =
-    content_event side bytes terms events r rule is refuses
-refused_event (placed.broken side code) terms events r rule is refuses =
-    (broken side code, refl, ap rule_of (sym refuses) ∙ is)
-refused_event (placed.show number uri text) terms events (refused.Rule code) rule is refuses =
-    (snapshot uri number (chars text), refl, refuses ∙ is)
-refused_event (placed.show number uri text) terms events (refused.Message by code spoken) rule is
-    refuses = absurd refuses
-refused_event (placed.show number uri text) terms events refused.Memory rule is refuses =
-    absurd (cc)
-
 -- ---- the rule of a fault
 
 -- a content that says nothing
-pub unspoken_for : (side : Side) (bytes : List ℕ) (terms : Terms) (events : List Event)
-    (f : RpcFault) → IsUnspoken side bytes f
-    → RefusesFor (placed.content side bytes) terms events (of_reading f)
-unspoken_for side bytes terms events (contents.Rule rule) is =
-    content_event side bytes terms events (refused.Rule rule) rule refl
-    (unspoken side bytes terms events (contents.Rule rule) is)
-unspoken_for side bytes terms events contents.Memory is = tt
+pub unread : (side : Side) (bytes : List ℕ) (f : RpcFault) → IsUnspoken side bytes f
+    → IsUnread side bytes (of_reading f)
+unread side bytes (contents.Rule rule) (inl breaks) = (refl, inl breaks)
+unread side bytes (contents.Rule rule) (inr (is, params)) =
+    (refl, inr (is, record { of = params.0; reads = params.1; unread = params.2 }))
+unread side bytes contents.Memory e = tt
+
+pub unread_for : (side : Side) (bytes : List ℕ) (terms : Terms) (events : List Event) (f : Fault)
+    → IsUnread side bytes f → RefusesFor (placed.content side bytes) terms events f
+unread_for side bytes terms events (own.Rule rule) is = (broken side rule, is, refl)
+unread_for side bytes terms events own.Memory is = tt
 
 -- a message that offends
 pub refused_for : (side : Side) (bytes : List ℕ) (said : Message) (act : Act) (terms : Terms)

@@ -4,7 +4,6 @@ pub mod Hearing
 pub mod Following
 pub mod Reached
 pub mod EventPlaces
-pub mod TextRuns
 pub mod Listing
 pub mod Giving
 pub mod FrameSteps
@@ -13,3 +12,15 @@ pub mod Streaming
 pub mod Pulling
 pub mod Owning
 pub mod Resting
+pub mod FrameRules
+pub mod Fronts
+pub mod SideEnds
+pub mod FirstEvents
+pub mod Passing
+pub mod LastEvents
+pub mod Seeing
+pub mod PassEnds
+pub mod JudgedRuns
+pub mod SeenLines
+pub mod AllHeard
+pub mod TextRuns

@@ -1,11 +1,17 @@
 -- Whether the editor's n-th message was heard: the last event is it, or it has still to come.
-use Rattle.std.proofs.Common.{◌≡◌, ◌<◌, ◌≤◌, ℕ, Bool, true, false, List, [], ◌∷◌, ◌++◌, length}
+use Rattle.std.proofs.Common.{◌≡◌, ◌<◌, ◌≤◌, ◌+◌, ◌^◌, ℕ, Bool, true, false, List, [], ◌∷◌, ◌++◌}
+use Rattle.std.proofs.Common.{length, length-append}
 use Rattle.std.proofs.Common.{Some, refl, sym, ap, ◌∙◌, arith}
 use Rattle.std.specs.Prelude.{filter, if◌then◌else◌}
+use Rattle.std.proofs.lemmas.List.{length-map}
 use Rattle.lsp_types.specs.declared.side.Side.TheVariants.{Editor}
+use Rattle.lsp_verdict.specs.Counting.{AreCounts}
 use Rattle.lsp_verdict.specs.Event.{Event}
+use Rattle.lsp_verdict.specs.Heard.{Heard, heard_events, notes_of}
+use Rattle.lsp_verdict.specs.Offences.{Noted}
 use Rattle.lsp_verdict.specs.Shown.{up_to_editor}
 use Rattle.lsp_verdict.specs.Verdict.{count_of, is_of}
+use Rattle.lsp_verdict.specs.declared.counts.Counts.{Counts}
 use Rattle.lsp_verdict.proofs.Logs.UpTo.{count-append, count_one, reached_now}
 
 -- not more events are the editor's than there are
@@ -45,3 +51,17 @@ still_few n xs e few unreached = by_own (is_of Editor e) refl
     by_own : (b : Bool) → is_of Editor e ≡ b → count_of (is_of Editor) (xs ++ e ∷ []) < n
     by_own true own = omega (arith, few, unreached, count_one xs e own)
     by_own false other = omega (arith, few, count_other xs e other)
+
+-- of so few events, the editor's are counted exactly
+pub count_exact : (c : Counts) (before : List Heard) (h : Heard)
+    → AreCounts c (heard_events (before ++ h ∷ [])) → length before + 1 < 2 ^ 64
+    → c.editor ≡ count_of (is_of Editor) (heard_events (before ++ h ∷ []))
+count_exact c before h counted few = omega (
+  arith,
+  counted.editor,
+  few,
+  count_within (heard_events (before ++ h ∷ [])),
+  length-map (before ++ h ∷ []) (λ (x : Heard). x.note),
+  length-map (notes_of (before ++ h ∷ [])) (λ (n : Noted). n.event),
+  length-append before (h ∷ []),
+)

@@ -8,3 +8,6 @@ pub mod Streams
 pub mod Lending
 pub mod LogEvents
 pub mod LogLending
+pub mod Run
+pub mod Telling
+pub mod Passes

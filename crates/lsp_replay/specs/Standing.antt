@@ -1,18 +1,13 @@
--- For which events the parts that hear them stand, and what the next event is heard as.
-use Rattle.std.specs.Prelude.{◌≡◌, ◌⊎◌, ℕ, List, [], ◌∷◌, ◌++◌, Option, Some, None, chars}
+-- For which events the parts that hear them stand, and what the next one makes of them.
+use Rattle.std.specs.Prelude.{◌≡◌, ◌⊎◌, ℕ, List, [], ◌∷◌, ◌++◌, Option, Some, None}
 use Rattle.lsp_rpc.specs.Act.{Act}
 use Rattle.lsp_rpc.specs.Message as rpc
 use Rattle.lsp_rpc.specs.Outline.{outline, without_params}
-use Rattle.lsp_rpc.specs.View.{act_view, message_view}
-use Rattle.lsp_rpc.specs.declared.act.Spoken.{Spoken}
 use Rattle.lsp_types.specs.declared.side.Side.{Side}
 use Rattle.lsp_session.specs.Handshake.{open_initializes}
 use Rattle.lsp_session.specs.Sent.{Sent}
 use Rattle.lsp_session.specs.State as session
-use Rattle.lsp_docs.specs.Answer.{answer_of}
 use Rattle.lsp_docs.specs.Calls.{Call}
-use Rattle.lsp_docs.specs.Documents.{held}
-use Rattle.lsp_docs.specs.Kept.{kept}
 use Rattle.lsp_docs.specs.State as docs
 use Rattle.lsp_docs.specs.Terms.{Terms}
 use Rattle.lsp_docs.specs.declared.fault.DocFault.{DocFault}
@@ -20,16 +15,11 @@ use Rattle.lsp_verdict.specs.declared.counts.Counts.{Counts}
 use Rattle.lsp_verdict.specs.Calls.{calls}
 use Rattle.lsp_verdict.specs.Contents.{IsSent, ReadsAs}
 use Rattle.lsp_verdict.specs.Counting.{AreCounts}
-use Rattle.lsp_verdict.specs.Event.{Event, message, fault, snapshot, sent_in}
+use Rattle.lsp_verdict.specs.Event.{Event, message, fault, sent_in}
 use Rattle.lsp_verdict.specs.Placed.{Raw, content, broken, show, Reads}
 use Rattle.lsp_verdict.specs.Verdict.{offence, first_no}
-use Rattle.lsp_replay.specs.Lines.{IsHeard}
 use Rattle.lsp_replay.specs.declared.fault.Fault.{Fault}
 use Rattle.lsp_replay.specs.declared.fault.Fault.TheVariants as faults
-use Rattle.lsp_replay.specs.declared.fault.Refused.{Refused}
-use Rattle.lsp_replay.specs.declared.fault.Refused.TheVariants.{Rule, Message, Memory}
-use Rattle.lsp_replay.specs.declared.heard.Heard.{Heard}
-use Rattle.lsp_replay.specs.declared.heard.Heard.TheVariants as heard
 
 -- ---- what is held
 
@@ -95,74 +85,31 @@ RefusesBy side bytes said act terms events (faults.Rule rule) =
     RefusesMessage side bytes said act terms events rule
 RefusesBy side bytes said act terms events faults.Memory = Unit {0}
 
--- the content breaks this rule, or is a message that offends it, unless memory ran out
-abbrev pub RefusesContent : Side → List ℕ → Terms → List Event → Refused → Type 0
-RefusesContent side bytes terms events (Rule rule) = ReadsAs side bytes (fault side rule)
-RefusesContent side bytes terms events (Message by rule spoken) =
-    (by ≡ side) × RefusesMessage side bytes (message_view spoken.message) (act_view spoken.act)
-    terms events rule
-RefusesContent side bytes terms events Memory = Unit {0}
+-- the content is no message that means something: it breaks the rule of this fault, unless memory
+-- ran out
+abbrev pub IsUnread : Side → List ℕ → Fault → Type 0
+IsUnread side bytes (faults.Rule rule) = ReadsAs side bytes (fault side rule)
+IsUnread side bytes faults.Memory = Unit {0}
 
 -- ---- an event
 
--- a snapshot was compared with what its document holds and keeps
-abbrev pub AnswersAs : Terms → List Event → Heard → Type 0
-AnswersAs terms events (heard.Message side spoken) = Unit {0}
-AnswersAs terms events (heard.Snapshot version uri text answer) =
-    answer ≡ answer_of version (kept terms uri.now (calls events))
-    (held terms uri.now (calls events))
-
--- a message that was heard has the value of its result, where that is read
-abbrev pub HeardWhole : List Event → Event → Heard → Type 0
-HeardWhole events (message sent) (heard.Message side spoken) =
-    HasValue events (message_view spoken.message) sent.message
-HeardWhole events event given = Unit {0}
-
 -- **the next event is kept**: it doesn't offend after these events, what is held is their
 -- result with it, and it is counted
-pub record Keeps (raw : Raw) (terms : Terms) (before : Counts) (given : Heard)
-    (messages : session.State) (documents : docs.State) (after : Counts)
-    (events : List Event) : Type 0 where
+pub record Keeps (raw : Raw) (terms : Terms) (before : Counts) (messages : session.State)
+    (documents : docs.State) (after : Counts) (events : List Event) : Type 0 where
   pub event : Event
   pub reads : Reads raw event
-  pub is_heard : IsHeard event given
-  pub answers : AnswersAs terms events given
-  pub whole : HeardWhole events event given
   pub accepted : offence terms events event ≡ None
   pub holds : Holds messages documents (events ++ event ∷ [])
   -- also where more events were counted, which were refused
   pub counted : (all : List Event) → AreCounts before all → AreCounts after (all ++ event ∷ [])
 
--- the snapshot breaks this rule, unless memory ran out
-abbrev pub RefusesSnapshot : Event → Terms → List Event → Refused → Type 0
-RefusesSnapshot event terms events (Rule rule) = offence terms events event ≡ Some rule
-RefusesSnapshot event terms events (Message by rule spoken) = ⊥
-RefusesSnapshot event terms events Memory = Unit {0}
-
--- **the next event is refused**, after these events
-abbrev pub Refuses : Raw → Terms → List Event → Refused → Type 0
-Refuses (content side bytes) terms events refused = RefusesContent side bytes terms events refused
-Refuses (broken side rule) terms events refused = refused ≡ Rule rule
-Refuses (show number uri text) terms events refused =
-    RefusesSnapshot (snapshot uri number (chars text)) terms events refused
-
--- ---- an event that is not given back
-
--- the content is a message that doesn't offend after any events with this result, and what is held
--- is their result with it
-abbrev pub TakesContent : Side → List ℕ → Terms → session.State → docs.State → session.State
-    → docs.State → Type 0
-TakesContent side bytes terms old_messages old_documents messages documents =
-    (spoken : Spoken) × ((events : List Event) → Holds old_messages old_documents events
-    → Hears side bytes (message_view spoken.message) (act_view spoken.act) terms messages documents
-    events)
-
--- **the next event is kept**, as what it is heard as
+-- it is kept, after whatever events have this result
 abbrev pub Takes : Raw → Terms → Counts → session.State → docs.State → session.State → docs.State
     → Counts → Type 0
 Takes raw terms before old_messages old_documents messages documents after =
-    (given : Heard) × ((events : List Event) → Holds old_messages old_documents events
-    → Keeps raw terms before given messages documents after events)
+    (events : List Event) → Holds old_messages old_documents events
+    → Keeps raw terms before messages documents after events
 
 -- memory may run out at this event: a fault of the frames wants none
 abbrev pub CanWantMemory : Raw → Type 0

@@ -17,6 +17,7 @@ use Rattle.lsp_verdict.specs.Lent.{raw_view}
 use Rattle.lsp_verdict.specs.Outcome.{is_rest}
 use Rattle.lsp_verdict.specs.Placed.{Raw, content, broken, show, new_fault, Placed, joined}
 use Rattle.lsp_verdict.specs.declared.raw.Raw as code
+use Rattle.lsp_verdict.specs.declared.raw.Raw.TheVariants as lent
 
 -- ---- what is held
 
@@ -55,6 +56,12 @@ abbrev pub IsRaw : State → Due → Raw → Type 0
 IsRaw s (due.Content side len) raw = raw ≡ content side (last_of (decoder_of side s).kept len)
 IsRaw s (due.Broken side rule) raw = raw ≡ broken side rule
 IsRaw s due.Snapshot raw = shown s.snapshot ≡ raw ∷ []
+
+-- with a fault of the frames the bytes of its side after the last whole one are lent
+abbrev pub LendsRest : State → code.Raw → Type 0
+LendsRest s (lent.Content side bytes) = Unit {0}
+LendsRest s (lent.Broken side rule rest) = rest.now ≡ (decoder_of side s).rest
+LendsRest s (lent.Snapshot version uri text) = Unit {0}
 
 -- ---- one step
 

@@ -1,5 +1,5 @@
 //! The events of a session, heard one after another.
-ghost use Rattle.std.specs.Prelude.{◌≡◌, [], ℕ, List, IfOk, IfErr, OnOk, OnErr};
+ghost use Rattle.std.specs.Prelude.{◌≡◌, [], ℕ, List, IfErr, OnOk, OnErr};
 ghost use Rattle.lsp_rpc.specs.View.{act_view, message_view};
 ghost use Rattle.lsp_docs.specs.Terms.{Terms, terms_of};
 ghost use Rattle.lsp_outline.specs.declared.outline.Results.TheVariants.{LeftOut};
@@ -10,13 +10,11 @@ ghost use Rattle.lsp_verdict.specs.Calls.{call_of};
 ghost use Rattle.lsp_verdict.specs.Event.{Event};
 ghost use Rattle.lsp_replay.specs.Apart.{Says};
 ghost use Rattle.lsp_verdict.specs.Lent.{raw_view};
-ghost use Rattle.lsp_replay.specs.Standing.{Follows, Holds, Hears, Keeps, Refuses, RefusesBy};
-ghost use Rattle.lsp_replay.specs.Standing.{RefusesCall, RefusesContent, RefusesFor, Takes};
-ghost use Rattle.lsp_replay.specs.Standing.{TakesCall, TakesContent};
+ghost use Rattle.lsp_replay.specs.Standing.{Follows, Hears, Holds, IsUnread, RefusesBy};
+ghost use Rattle.lsp_replay.specs.Standing.{RefusesCall, RefusesFor, Takes, TakesCall};
 ghost use Rattle.lsp_verdict.specs.Placed as placed;
 
-use crate::fault::{Fault, Refused};
-use crate::heard::Heard;
+use crate::fault::Fault;
 use lsp_docs::{DocFault, Docs};
 use lsp_frame::{Format, Limits};
 use lsp_outline::{MessageReader, Results};
@@ -35,7 +33,7 @@ pub struct Events<S: TextStore> {
     pub session: Session,
     pub docs: Docs<S>,
     pub counts: Counts,
-    messages: MessageReader,
+    pub(crate) messages: MessageReader,
 }
 
 impl<S: TextStore> Events<S> {
@@ -52,51 +50,7 @@ impl<S: TextStore> Events<S> {
         }
     }
 
-    /// Hears the next event and counts it, unless it breaks a rule after the events heard. A
-    /// message is given without its params, and without the value of a result that nothing reads.
-    ///
-    /// # Errors
-    /// `Message` by the least of the rules 301 to 702 that a message offends. `Rule` by that of a
-    /// fault of the frames, by the least of 201 to 209 that a content breaks, and by the least of
-    /// 701 and 702 that a snapshot breaks. `Memory` where memory was refused, instead of whatever
-    /// would be answered about a content or a snapshot. What is held and the counts stay, so that
-    /// the event after it can be heard.
-    pub fn hear<'a>(&mut self, raw: Raw<'a>) -> Result<Heard<'a>, Refused>
-        ensures terms { self.new.docs.terms ≡ self.old.docs.terms }
-        ensures ok { IfOk result (λ heard. (events : List Event)
-            → Holds self.old.session self.old.docs events
-            → Keeps (raw_view raw.entry) self.old.docs.terms self.old.counts heard
-            self.new.session self.new.docs self.new.counts events) }
-        ensures rule { IfErr result (λ refused. (events : List Event)
-            → Holds self.old.session self.old.docs events
-            → Refuses (raw_view raw.entry) self.old.docs.terms events refused) }
-        ensures err { OnErr result ((events : List Event)
-            → Holds self.old.session self.old.docs events
-            → Holds self.new.session self.new.docs events) }
-        ensures uncounted { OnErr result (self.new.counts ≡ self.old.counts) }
-    {
-        match raw {
-            Raw::Content { side, content } => {
-                let spoken = self.hear_content(side, content)?;
-                self.counts.add(who_of(side));
-                Ok(Heard::Message { side, spoken })
-            }
-            Raw::Broken { rule, .. } => Err(Refused::Rule(rule)),
-            Raw::Snapshot { version, uri, text } => {
-                let answer = self.docs.snapshot(uri, version, text)?;
-                self.counts.add(Who::Snapshot);
-                Ok(Heard::Snapshot {
-                    version,
-                    uri,
-                    text,
-                    answer,
-                })
-            }
-        }
-    }
-
-    /// Hears the next event and counts it as [`hear`](Events::hear) does, and does not give it back:
-    /// a message is never moved.
+    /// Hears the next event and counts it, unless it breaks a rule after the events heard.
     ///
     /// # Errors
     /// `Rule` by the least rule that the event breaks after the events heard, and `Memory` where
@@ -116,9 +70,8 @@ impl<S: TextStore> Events<S> {
     {
         match raw {
             Raw::Content { side, content } => {
-                self.take_content(side, content)?;
-                self.counts.add(who_of(side));
-                Ok(())
+                let mut spoken = self.messages.blank();
+                self.take_content(side, content, &mut spoken)
             }
             Raw::Broken { rule, .. } => Err(Fault::Rule(rule)),
             Raw::Snapshot { version, uri, text } => {
@@ -130,79 +83,24 @@ impl<S: TextStore> Events<S> {
         }
     }
 
-    /// Reads a content of a side, admits the message that it is, and takes over what that says
-    /// about a document. The message is read in one place and dropped there.
-    fn take_content(&mut self, side: Side, content: &[u8]) -> Result<(), Fault>
+    /// Takes a content of a side, which is read in the place of this message.
+    fn take_content(&mut self, side: Side, content: &[u8], spoken: &mut Spoken) -> Result<(), Fault>
         ensures terms { self.new.docs.terms ≡ self.old.docs.terms }
-        ensures counts { self.new.counts ≡ self.old.counts }
-        ensures ok { OnOk result (TakesContent side content.now self.old.docs.terms
-            self.old.session self.old.docs self.new.session self.new.docs) }
+        ensures ok { OnOk result (Takes (placed.content side content.now) self.old.docs.terms
+            self.old.counts self.old.session self.old.docs self.new.session self.new.docs
+            self.new.counts) }
         ensures rule { IfErr result (λ fault. (events : List Event)
             → Holds self.old.session self.old.docs events
             → RefusesFor (placed.content side content.now) self.old.docs.terms events fault) }
         ensures err { OnErr result ((events : List Event)
             → Holds self.old.session self.old.docs events
             → Holds self.new.session self.new.docs events) }
-    {
-        let mut spoken = self.messages.blank();
-        self.take_at(side, content, &mut spoken)
-    }
-
-    /// Takes a content as [`take_content`](Events::take_content) does, in the place of this message.
-    fn take_at(&mut self, side: Side, content: &[u8], spoken: &mut Spoken) -> Result<(), Fault>
-        ensures terms { self.new.docs.terms ≡ self.old.docs.terms }
-        ensures counts { self.new.counts ≡ self.old.counts }
-        ensures ok { OnOk result (TakesContent side content.now self.old.docs.terms
-            self.old.session self.old.docs self.new.session self.new.docs) }
-        ensures rule { IfErr result (λ fault. (events : List Event)
-            → Holds self.old.session self.old.docs events
-            → RefusesFor (placed.content side content.now) self.old.docs.terms events fault) }
-        ensures err { OnErr result ((events : List Event)
-            → Holds self.old.session self.old.docs events
-            → Holds self.new.session self.new.docs events) }
+        ensures uncounted { OnErr result (self.new.counts ≡ self.old.counts) }
     {
         read_into(&self.session, &mut self.messages, side, content, spoken)?;
-        self.follow(side, spoken)
-    }
-
-    /// Reads a content of a side with what it means. It is heard once it is followed.
-    ///
-    /// # Errors
-    /// `Rule` by the least of 201 to 209 that the content breaks, and `Memory` where memory was
-    /// refused.
-    pub fn read(&mut self, side: Side, content: &[u8]) -> Result<Spoken, Refused>
-        ensures session { self.new.session ≡ self.old.session }
-        ensures docs { self.new.docs ≡ self.old.docs }
-        ensures counts { self.new.counts ≡ self.old.counts }
-        ensures ok { IfOk result (λ spoken. Says self.old.session side content.now
-            (message_view spoken.message) (act_view spoken.act)) }
-        ensures rule { IfErr result (λ refused. (terms : Terms) (events : List Event)
-            → RefusesContent side content.now terms events refused) }
-    {
-        spoken_in(&self.session, &mut self.messages, side, content)
-    }
-
-    /// Reads a content of a side, admits the message that it is, and takes over what that says
-    /// about a document.
-    fn hear_content(&mut self, side: Side, content: &[u8]) -> Result<Spoken, Refused>
-        ensures terms { self.new.docs.terms ≡ self.old.docs.terms }
-        ensures counts { self.new.counts ≡ self.old.counts }
-        ensures ok { IfOk result
-            (λ spoken. (events : List Event) → Holds self.old.session self.old.docs events
-            → Hears side content.now (message_view spoken.message)
-            (act_view spoken.act) self.old.docs.terms self.new.session self.new.docs events) }
-        ensures rule { IfErr result
-            (λ refused. (events : List Event) → Holds self.old.session self.old.docs events
-            → RefusesContent side content.now self.old.docs.terms events refused) }
-        ensures err { OnErr result ((events : List Event)
-            → Holds self.old.session self.old.docs events
-            → Holds self.new.session self.new.docs events) }
-    {
-        let spoken = spoken_in(&self.session, &mut self.messages, side, content)?;
-        match self.follow(side, &spoken) {
-            Ok(()) => Ok(spoken),
-            Err(fault) => Err(fault.refuse(side, spoken)),
-        }
+        self.follow(side, spoken)?;
+        self.counts.add(who_of(side));
+        Ok(())
     }
 
     /// Admits the message that a content is, and takes over what it says about a document. The
@@ -254,24 +152,12 @@ fn wanted_results(session: &Session) -> Results
     }
 }
 
-/// Reads a content with what it means on its side.
-fn spoken_in(
-    session: &Session,
-    messages: &mut MessageReader,
-    side: Side,
-    content: &[u8],
-) -> Result<Spoken, Refused>
-    ensures ok { IfOk result (λ spoken. Says session.now side content.now
-        (message_view spoken.message) (act_view spoken.act)) }
-    ensures rule { IfErr result (λ refused. (terms : Terms) (events : List Event)
-        → RefusesContent side content.now terms events refused) }
-{
-    let spoken = messages.hear(side, content, wanted_results(session))?;
-    Ok(spoken)
-}
-
-/// Reads a content with what it means on its side, in the place of another message.
-fn read_into(
+/// Reads a content of a side with what it means, in the place of another message. It is heard once
+/// it is followed.
+///
+/// # Errors
+/// `Rule` by the least of 201 to 209 that the content breaks, and `Memory` where memory was refused.
+pub(crate) fn read_into(
     session: &Session,
     messages: &mut MessageReader,
     side: Side,
@@ -280,8 +166,7 @@ fn read_into(
 ) -> Result<(), Fault>
     ensures ok { OnOk result (Says session.now side content.now
         (message_view spoken.new.message) (act_view spoken.new.act)) }
-    ensures rule { IfErr result (λ fault. (terms : Terms) (events : List Event)
-        → RefusesFor (placed.content side content.now) terms events fault) }
+    ensures rule { IfErr result (IsUnread side content.now) }
 {
     messages.hear_into(side, content, wanted_results(session), spoken)?;
     Ok(())

@@ -2,24 +2,29 @@
 //! it breaks after the events before it, and the result of those that keep the rules.
 //!
 //! `LogEvents` gives the events of a log one after another. `Events` stands for the events that it
-//! heard. A content that breaks a rule is refused with what is known of it, and leaves what is held
-//! as it was, so that the next event can be heard after those before it.
+//! heard. An event that breaks a rule is refused, and leaves what is held as it was, so that the next
+//! event can be heard after those before it.
 #![tactic(auto)]
 
+mod account;
 mod events;
 mod fault;
 mod heard;
 mod lines;
 mod log_events;
+mod one_pass;
+mod seen;
 mod streams;
 mod summary;
 mod text_answer;
 
+pub use account::Account;
 pub use events::Events;
-pub use fault::{Fault, Refused};
-pub use heard::{EventPlace, Heard};
-pub use lines::{fill_event_line, write_event_line};
+pub use fault::Fault;
+pub use heard::EventPlace;
 pub use log_events::{End, Entry, LogEvents, Next};
+pub use one_pass::pass;
+pub use seen::{Flow, Seen, push_kept_line};
 pub use streams::Streams;
 pub use summary::summary_of;
 pub use text_answer::TextAnswer;

@@ -5,17 +5,14 @@ ghost use Rattle.json.specs.Print.{quoted};
 ghost use Rattle.lsp_docs.specs.Texts.{byte_len};
 ghost use Rattle.lsp_session.specs.View.{sent};
 ghost use Rattle.lsp_rpc.specs.View.{act_view};
-ghost use Rattle.lsp_verdict.specs.Event.{Event};
 ghost use Rattle.lsp_verdict.specs.Report.{line};
-ghost use Rattle.lsp_verdict.specs.RunIo.{Tells};
 ghost use Rattle.lsp_verdict.specs.Shown.{document_words, message_words, snapshot_words};
 ghost use Rattle.lsp_verdict.specs.Shown.{words_behind};
-ghost use Rattle.lsp_replay.specs.Lines.{IsHeard, line_of, row, spaced};
+ghost use Rattle.lsp_replay.specs.Lines.{row, spaced};
 
-use crate::heard::{EventPlace, Heard};
-use lsp_frame::{Sink, put_all};
+use crate::heard::EventPlace;
 use lsp_rpc::{Act, Memory, Side, Spoken, push_quoted, words_of};
-use lsp_verdict::{Lines, RunFault, side_name};
+use lsp_verdict::{Lines, side_name};
 use std::alloc::Global;
 use std::fmt::Write;
 
@@ -99,27 +96,29 @@ fn push_behind_snapshot(text: &mut String, lines: Lines, number: u64) -> Result<
     }
 }
 
-/// Makes the text the words of a message: the number of the event, the side that sent it, and its
+/// Adds the words of a message to a text: the number of the event, the side that sent it, and its
 /// words.
-fn fill_message_words(
+fn push_message_words(
     alloc: Global,
     text: &mut String,
     event: u64,
     side: Side,
     spoken: &Spoken,
 ) -> Result<(), Memory>
-    ensures { OnOk result (string_bytes text.new
-        ≡ row (message_words event (sent side spoken.now.message spoken.now.act))) }
+    ensures { OnOk result (string_bytes text.new ≡ string_bytes text.old
+        ++ row (message_words event (sent side spoken.now.message spoken.now.act))) }
 {
     let name = side_name(side);
     let words = words_of(alloc, &spoken.message)?;
-    text.clear();
     write!(text, "{event} {name} {words}")?;
     Ok(())
 }
 
-/// Makes the text the line of a message.
-fn fill_message_line(
+/// Adds the line of a message to a text, short or long.
+///
+/// # Errors
+/// `Memory` where memory was refused.
+pub(crate) fn push_message_line(
     alloc: Global,
     text: &mut String,
     lines: Lines,
@@ -127,11 +126,11 @@ fn fill_message_line(
     side: Side,
     spoken: &Spoken,
 ) -> Result<(), Memory>
-    ensures { OnOk result (string_bytes text.new
-        ≡ line (message_words place.event (sent side spoken.now.message spoken.now.act)
+    ensures { OnOk result (string_bytes text.new ≡ string_bytes text.old
+        ++ line (message_words place.event (sent side spoken.now.message spoken.now.act)
         ++ words_behind lines place.number (document_words (act_view spoken.now.act)))) }
 {
-    fill_message_words(alloc, text, place.event, side, spoken)?;
+    push_message_words(alloc, text, place.event, side, spoken)?;
     push_behind_message(alloc, text, lines, place.number, &spoken.act)?;
     Ok(text.push_str("\n")?)
 }
@@ -142,9 +141,9 @@ fn byte_count(text: &str) -> usize
     text.len()
 }
 
-/// Makes the text the words of a snapshot: the number of the event, and the snapshot's version,
+/// Adds the words of a snapshot to a text: the number of the event, and the snapshot's version,
 /// bytes and URI, which is JSON text.
-fn fill_snapshot_words(
+fn push_snapshot_words(
     alloc: Global,
     text: &mut String,
     event: u64,
@@ -152,17 +151,19 @@ fn fill_snapshot_words(
     uri: &str,
     shown: &str,
 ) -> Result<(), Memory>
-    ensures { OnOk result (string_bytes text.new
-        ≡ row (snapshot_words event uri.now version (chars shown.now))) }
+    ensures { OnOk result (string_bytes text.new ≡ string_bytes text.old
+        ++ row (snapshot_words event uri.now version (chars shown.now))) }
 {
     let bytes = byte_count(shown);
-    text.clear();
     write!(text, "{event} snapshot {version} {bytes}")?;
     push_uri(alloc, text, uri)
 }
 
-/// Makes the text the line of a snapshot.
-fn fill_snapshot_line(
+/// Adds the line of a snapshot to a text, short or long.
+///
+/// # Errors
+/// `Memory` where memory was refused.
+pub(crate) fn push_snapshot_line(
     alloc: Global,
     text: &mut String,
     lines: Lines,
@@ -171,76 +172,11 @@ fn fill_snapshot_line(
     uri: &str,
     shown: &str,
 ) -> Result<(), Memory>
-    ensures { OnOk result (string_bytes text.new
-        ≡ line (snapshot_words place.event uri.now version (chars shown.now)
+    ensures { OnOk result (string_bytes text.new ≡ string_bytes text.old
+        ++ line (snapshot_words place.event uri.now version (chars shown.now)
         ++ words_behind lines place.number [])) }
 {
-    fill_snapshot_words(alloc, text, place.event, version, uri, shown)?;
+    push_snapshot_words(alloc, text, place.event, version, uri, shown)?;
     push_behind_snapshot(text, lines, place.number)?;
     Ok(text.push_str("\n")?)
-}
-
-/// Makes the text the line of an event, short or long.
-///
-/// # Errors
-/// `Memory` where memory was refused: what the text holds then is free.
-pub fn fill_event_line(
-    alloc: Global,
-    text: &mut String,
-    lines: Lines,
-    place: EventPlace,
-    heard: &Heard<'_>,
-) -> Result<(), Memory>
-    ensures { OnOk result ((event : Event) → IsHeard event heard.now
-        → string_bytes text.new ≡ line_of lines place event) }
-{
-    match heard {
-        Heard::Message { side, spoken } => {
-            fill_message_line(alloc, text, lines, place, *side, spoken)
-        }
-        Heard::Snapshot {
-            version,
-            uri,
-            text: shown,
-            answer: _,
-        } => {
-            let version = *version;
-            fill_snapshot_line(alloc, text, lines, place, version, *uri, *shown)
-        }
-    }
-}
-
-/// Writes the line of an event. The text is used to make it.
-fn write_line<W: Sink>(
-    alloc: Global,
-    writer: &mut W,
-    text: &mut String,
-    lines: Lines,
-    place: EventPlace,
-    heard: &Heard<'_>,
-) -> Result<(), RunFault>
-    ensures { (event : Event) → IsHeard event heard.now
-        → Tells (W.told writer.old) (W.told writer.new) (line_of lines place event) result }
-{
-    fill_event_line(alloc, text, lines, place, heard)?;
-    Ok(put_all(writer, text.as_bytes())?)
-}
-
-/// Writes the line of an event, short or long, and lets the event go. The text is used to make it.
-///
-/// # Errors
-/// `Write` is answered where the sink failed, and `Memory` where memory was refused: what was
-/// written then begins the line.
-pub fn write_event_line<W: Sink>(
-    alloc: Global,
-    writer: &mut W,
-    text: &mut String,
-    lines: Lines,
-    place: EventPlace,
-    heard: Heard<'_>,
-) -> Result<(), RunFault>
-    ensures { (event : Event) → IsHeard event heard.entry
-        → Tells (W.told writer.old) (W.told writer.new) (line_of lines place event) result }
-{
-    write_line(alloc, writer, text, lines, place, &heard)
 }

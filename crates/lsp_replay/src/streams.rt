@@ -5,7 +5,7 @@ ghost use Rattle.lsp_frame.specs.Bounds.{Bounds};
 ghost use Rattle.lsp_log.specs.Log as log;
 ghost use Rattle.lsp_log.specs.Records.{record_view};
 ghost use Rattle.lsp_verdict.specs.Placed as placed;
-ghost use Rattle.lsp_replay.specs.Streams.{Stands, Steps, StepsSide, IsHeld, IsRaw};
+ghost use Rattle.lsp_replay.specs.Streams.{Stands, Steps, StepsSide, IsHeld, IsRaw, LendsRest};
 ghost use Rattle.lsp_verdict.specs.Lent.{raw_view};
 ghost use Rattle.lsp_replay.specs.Streams.{decoder_of, ends_inside};
 ghost use Rattle.lsp_replay.specs.Lending.{LendsRaw};
@@ -180,7 +180,8 @@ impl Streams {
     /// The event that was skipped last.
     pub(crate) fn lend(&self, due: Due) -> Raw<'_>
         requires { IsHeld self.now due }
-        ensures { IsRaw self.now due (raw_view result) }
+        ensures raw { IsRaw self.now due (raw_view result) }
+        ensures rest { LendsRest self.now result }
     {
         match due {
             Due::Content {
@@ -197,7 +198,11 @@ impl Streams {
                 side: Side::Server,
                 content: self.server.last(len),
             },
-            Due::Broken { side, rule } => Raw::Broken { side, rule },
+            Due::Broken { side, rule } => Raw::Broken {
+                side,
+                rule,
+                rest: self.rest(side),
+            },
             Due::Snapshot => {
                 let snapshot = self.snapshot.as_ref().unwrap();
                 Raw::Snapshot {

@@ -1,18 +1,18 @@
-//! What is answered for the text held after a message, and what is written for it.
-ghost use Rattle.std.specs.Prelude.{◌≡◌, List, IfOk};
+//! What is answered for the text held after a message, and what is said for it.
+ghost use Rattle.std.specs.Prelude.{◌≡◌, ◌++◌, List, IfOk, string_bytes};
 ghost use Rattle.lsp_docs.specs.Calls.{Call};
 ghost use Rattle.lsp_docs.specs.Documents.{held};
 ghost use Rattle.lsp_docs.specs.State.{Stands};
-ghost use Rattle.lsp_replay.specs.TextAnswers.{WritesAnswer, answer_view};
+ghost use Rattle.lsp_replay.specs.TextAnswers.{answer_view};
 ghost use Rattle.lsp_verdict.specs.Given.{verdict_view};
 ghost use Rattle.lsp_verdict.specs.Shown.{held_answer, missing_answer};
+ghost use Rattle.lsp_verdict.specs.TextAfter.{EndsAs, written_of};
 
 use lsp_docs::Docs;
-use lsp_frame::{Sink, put_all};
 use lsp_rpc::Memory;
 use lsp_text::TextStore;
 use lsp_types::rules;
-use lsp_verdict::{Outcome, RunFault, Verdict};
+use lsp_verdict::{Outcome, Verdict};
 use std::alloc::Global;
 
 /// What is answered for the text that the server holds of a URI just after a message of the
@@ -62,16 +62,18 @@ impl TextAnswer {
         }
     }
 
-    /// Writes the text, or nothing where there is none, and says how a run ends by that.
+    /// Adds the text, or nothing where there is none, and says how a run ends by that.
     ///
     /// # Errors
-    /// `Write` where the sink failed.
-    pub fn write<W: Sink>(self, writer: &mut W) -> Result<Outcome, RunFault>
-        ensures { WritesAnswer (answer_view self) (W.told writer.old) (W.told writer.new) result }
+    /// `Memory` where memory was refused.
+    pub fn add(self, text: &mut String) -> Result<Outcome, Memory>
+        ensures { IfOk result (λ outcome.
+            (string_bytes text.new ≡ string_bytes text.old ++ written_of (answer_view self))
+            × EndsAs (answer_view self) outcome) }
     {
         match self {
-            TextAnswer::Text(text) => {
-                put_all(writer, text.as_bytes())?;
+            TextAnswer::Text(held) => {
+                text.push_str(held.as_str())?;
                 Ok(Outcome::Done)
             }
             TextAnswer::NoDocument => Ok(Outcome::NoDocument),

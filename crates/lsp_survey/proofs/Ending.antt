@@ -1,74 +1,23 @@
 -- What is listed of the end of a session.
-use Rattle.std.specs.Prelude.{map, not, ◌&&◌, ◌==◌, if◌then◌else◌, is_some, option_map}
-use Rattle.std.specs.Prelude.{option_to_list, Vec, vec_len}
+use Rattle.std.specs.Prelude.{map, ◌==◌, if◌then◌else◌, option_map, option_to_list, Vec, vec_len}
 use Rattle.std.specs.Global.{Global}
-use Rattle.std.specs.List.{AllZip, list_any}
+use Rattle.std.specs.List.{cons_option}
 use Rattle.std.proofs.lemmas.Bool.Decides.{nat_tests}
-use Rattle.std.proofs.Common.{◌≡◌, ℕ, ◌<◌, Bool, true, false, List, [], ◌∷◌, ◌++◌, length, Option}
-use Rattle.std.proofs.Common.{Some, None, refl, sym, ap, ◌∙◌, arith}
-use Rattle.std.proofs.Math.Bool.{and-false, and-true}
-use Rattle.lsp_frame.specs.Bounds.{Bounds}
-use Rattle.lsp_types.specs.declared.side.Side.{Side}
-use Rattle.lsp_log.specs.Log.{Record}
-use Rattle.lsp_replay.specs.Streams as streams
-use Rattle.lsp_replay.specs.Streams.{State, Stands, decoder_of, ends_at}
-use Rattle.lsp_replay.proofs.Resting.{whole_rest}
+use Rattle.std.proofs.Common.{◌≡◌, ℕ, ◌+◌, ◌<◌, ◌≤◌, ◌^◌, Bool, true, false, List, [], ◌∷◌, ◌++◌}
+use Rattle.std.proofs.Common.{length, Option, Some, None, refl, sym, ap, ◌∙◌, arith}
+use Rattle.lsp_log.specs.declared.fault.LogCode.{LogCode}
+use Rattle.lsp_session.specs.Incomplete.{incomplete}
 use Rattle.lsp_survey.specs.Ending.{given_by, lack_by}
-use Rattle.lsp_survey.proofs.FrameRules.{faults_are}
-use Rattle.lsp_verdict.specs.Event.{Event}
-use Rattle.lsp_verdict.specs.Offences.{Noted, Offence, IsNoted, events_of}
-use Rattle.lsp_verdict.specs.Placed.{Raw, joined}
-use Rattle.lsp_verdict.specs.Outcome.{HasRest, is_rest}
-use Rattle.lsp_verdict.specs.Offences.{is_frame_fault}
-use Rattle.lsp_verdict.specs.Survey.{ends_inside, rests_listed, lacks_listed}
-use Rattle.lsp_verdict.specs.Survey.{first_ends}
+use Rattle.lsp_verdict.specs.Event.{Event, sent_in}
+use Rattle.lsp_verdict.specs.LookBack.{each_from}
+use Rattle.lsp_verdict.specs.Offences.{Offence}
+use Rattle.lsp_verdict.specs.Survey.{by_itself, first_ends, lacks_listed, rests_listed}
 use Rattle.lsp_verdict.specs.Verdict.{Verdict, no_next}
 use Rattle.lsp_verdict.specs.declared.completeness.Completeness.{Completeness}
 use Rattle.lsp_verdict.specs.declared.completeness.Completeness.TheVariants.{Ignored, Required}
+use Rattle.lsp_verdict.specs.declared.verdict.Who.{Who}
 use Rattle.lsp_verdict.specs.declared.verdict.Who.TheVariants as who
-use Rattle.lsp_verdict.proofs.Below.{one_stream}
-
--- ---- whether a stream ends inside a frame
-
-module _ (limits : Bounds) (s : State) (records : List Record) (past : List Raw)
-    (notes : List Noted) (side : Side) (rest : List ℕ) (h : Stands limits s records past [])
-    (all : AllZip IsNoted past notes) (has : HasRest limits (joined side records) rest) where
-  -- of a stream whose frames have no fault the decoder holds the rest
-  held : (decoder_of side s).fault ≡ None → rest ≡ (decoder_of side s).rest
-  held whole =
-      let own = whole_rest limits s records past h side whole in
-      (one_stream limits (joined side records) has.0 own.0 rest (decoder_of side s).rest has.1 own.1
-      has.2 own.2).rest
-
-  pub rest_held : list_any (is_frame_fault side) (events_of notes) ≡ false
-      → rest ≡ (decoder_of side s).rest
-  rest_held none = held (no_fault (decoder_of side s).fault
-      (sym (faults_are limits s records past [] notes side h all) ∙ none))
-    where
-      no_fault : (f : Option ℕ) → is_some f ≡ false → f ≡ None
-      no_fault None e = refl
-      no_fault (Some rule) e = absurd cc
-
-  pub inside_is : streams.ends_inside (decoder_of side s)
-      ≡ ends_inside side (events_of notes) (is_rest rest)
-  inside_is = by_fault (decoder_of side s).fault refl
-    where
-      faults : (f : Option ℕ) → (decoder_of side s).fault ≡ f
-          → list_any (is_frame_fault side) (events_of notes) ≡ is_some f
-      faults f is = faults_are limits s records past [] notes side h all ∙ ap is_some is
-
-      by_fault : (f : Option ℕ) → (decoder_of side s).fault ≡ f
-          → streams.ends_inside (decoder_of side s)
-          ≡ ends_inside side (events_of notes) (is_rest rest)
-      by_fault None is =
-          ap (λ (f : Option ℕ). ends_at f (decoder_of side s).rest) is
-          ∙ ap is_rest (sym (held is))
-          ∙ sym (and-true (is_rest rest))
-          ∙ ap (λ b. is_rest rest && not b) (sym (faults None is))
-      by_fault (Some rule) is =
-          ap (λ (f : Option ℕ). ends_at f (decoder_of side s).rest) is
-          ∙ sym (and-false (is_rest rest))
-          ∙ ap (λ b. is_rest rest && not b) (sym (faults (Some rule) is))
+use Rattle.lsp_verdict.proofs.ExactCounts.{no_exact}
 
 -- ---- both rests
 
@@ -135,3 +84,63 @@ some_items f v empty is some = by_length f v.items v.ok.0
     by_length : {A B : Type 0} (f : A → B) (xs : List A) → vec_len v ≡ length xs → map f xs ≡ [] → ⊥
     by_length f [] e none = absurd (omega (arith, e, some_len (vec_len v) (sym some ∙ is)))
     by_length f (x ∷ xs) e none = absurd cc
+
+-- ---- exact numbers
+
+module _ (events : List Event) (small : length events + 1 < 2 ^ 64) where
+  one_exact : (rule : ℕ) (by : Who)
+      → given_by (no_next rule by events) ≡ by_itself (no_next rule by events)
+  one_exact rule by = ap (λ (v : Verdict). by_itself v) (no_exact events rule by small)
+
+  pub rests_exact : (editor server : Bool) (lacks : List Verdict)
+      → map given_by lacks ≡ map by_itself lacks
+      → map given_by (first_ends None (rests_listed events editor server) lacks)
+      ≡ map by_itself (first_ends None (rests_listed events editor server) lacks)
+  rests_exact false false lacks exact = exact
+  rests_exact true false lacks exact = ap (λ (o : Offence). o ∷ []) (one_exact 107 who.Editor)
+  rests_exact false true lacks exact = ap (λ (o : Offence). o ∷ []) (one_exact 107 who.Server)
+  rests_exact true true lacks exact =
+      ap (λ (o : Offence). o ∷ given_by (no_next 107 who.Server events) ∷ [])
+      (one_exact 107 who.Editor)
+      ∙ ap (λ (o : Offence). by_itself (no_next 107 who.Editor events) ∷ o ∷ [])
+      (one_exact 107 who.Server)
+
+  lack_exact : (rule : Option ℕ)
+      → map given_by (option_to_list (option_map (λ (r : ℕ). no_next r who.Editor events) rule))
+      ≡ map by_itself (option_to_list (option_map (λ (r : ℕ). no_next r who.Editor events) rule))
+  lack_exact None = refl
+  lack_exact (Some rule) = ap (λ (o : Offence). o ∷ []) (one_exact rule who.Editor)
+
+  pub lacks_exact : (completeness : Completeness) (kept : List Event)
+      → map given_by (lacks_listed completeness events kept)
+      ≡ map by_itself (lacks_listed completeness events kept)
+  lacks_exact Ignored kept = refl
+  lacks_exact Required kept = lack_exact (incomplete (sent_in kept))
+
+-- ---- few
+
+pub given_few : {A X : Type 0} (f : List A → A → Option X) (before xs : List A)
+    → length (each_from f before xs) ≤ length xs
+given_few f before [] = omega arith
+given_few {X = X} f before (x ∷ xs) = by_option (f before x) (given_few f (before ++ x ∷ []) xs)
+  where
+    by_option : (o : Option X) → length (each_from f (before ++ x ∷ []) xs) ≤ length xs
+        → length (cons_option o (each_from f (before ++ x ∷ []) xs)) ≤ length (x ∷ xs)
+    by_option None h = omega (arith, h)
+    by_option (Some y) h = omega (arith, h)
+
+pub ends_few : (flaw : Option (ℕ × LogCode)) (events kept : List Event) (editor server : Bool)
+    (completeness : Completeness)
+    → length (first_ends flaw (rests_listed events editor server)
+    (lacks_listed completeness events kept)) ≤ 2
+ends_few (Some flaw) events kept editor server completeness = omega arith
+ends_few None events kept true true completeness = omega arith
+ends_few None events kept true false completeness = omega arith
+ends_few None events kept false true completeness = omega arith
+ends_few None events kept false false Ignored = omega arith
+ends_few None events kept false false Required = by_rule (incomplete (sent_in kept))
+  where
+    by_rule : (o : Option ℕ)
+        → length (option_to_list (option_map (λ (r : ℕ). no_next r who.Editor events) o)) ≤ 2
+    by_rule None = omega arith
+    by_rule (Some rule) = omega arith

@@ -1,44 +1,41 @@
--- The text that is held after a message of the editor's, as the events of a log are heard past each
--- that offends.
-use Rattle.std.specs.Prelude.{map, option_map}
+-- The text that is held after a message of the editor's, where each event that offends is skipped.
+use Rattle.std.specs.Prelude.{if◌then◌else◌}
 use Rattle.std.specs.List.{AllZip}
-use Rattle.std.proofs.Common.{◌≡◌, ◌+◌, ◌<◌, ℕ, List, [], ◌∷◌, ◌++◌}
-use Rattle.std.proofs.Common.{Option, Some, refl, sym, ap, subst, ◌∙◌, arith}
-use Rattle.std.proofs.lemmas.List.{length-map, map-append}
-use Rattle.lsp_docs.specs.Documents.{held}
+use Rattle.std.proofs.Common.{◌≡◌, ◌⊎◌, ◌<◌, ℕ, List, [], ◌∷◌, ◌++◌, Option, Some, Result, inl, inr}
+use Rattle.std.proofs.Common.{sym, ap, subst, ◌∙◌, append-nil, append_assoc, arith}
+use Rattle.std.proofs.lemmas.Bool.{eq-eqb}
+use Rattle.std.proofs.lemmas.Bool.Decides.{nat_tests}
 use Rattle.lsp_docs.specs.Terms.{Terms}
-use Rattle.lsp_replay.specs.Standing.{Holds}
-use Rattle.lsp_replay.proofs.Reached.{count_within, reached_last, still_few}
 use Rattle.lsp_frame.specs.Bounds.{Bounds}
-use Rattle.lsp_frame.specs.Told.{Told}
 use Rattle.lsp_frame.specs.declared.format.Format.{Format}
 use Rattle.lsp_log.specs.Log.{Record}
-use Rattle.lsp_replay.specs.LogEvents.{HasGiven}
+use Rattle.lsp_replay.specs.Passes.{Passes}
+use Rattle.lsp_replay.specs.Run.{EndsAfter, IsPassed, SaysAll, StopsIn}
+use Rattle.lsp_replay.specs.TextAnswers.{TextAsked, WritesText}
+use Rattle.lsp_replay.proofs.PassEnds.{IsQuiet, quiet_all}
+use Rattle.lsp_replay.proofs.Reached.{reached_last, still_few}
+use Rattle.lsp_replay.proofs.Seeing.{events-join, events-push}
+use Rattle.lsp_replay.proofs.TextRuns.{passed_text}
 use Rattle.lsp_types.specs.declared.side.Side.TheVariants.{Editor}
-use Rattle.lsp_survey.specs.KeptText.{AnswersKept, OneKeptText, end_answer, kept_answer}
-use Rattle.lsp_survey.specs.Reads.{BeginsSurvey, BrokeOff, Ended, IsSurveyOf, SoFar}
-use Rattle.lsp_survey.specs.declared.survey_reader.SurveyEnd.{SurveyEnd}
-use Rattle.lsp_survey.specs.declared.survey_reader.SurveyReader.{SurveyReader}
-use Rattle.lsp_survey.proofs.Reading.{editor_rest, join_notes, server_rest, so_far_failures}
-use Rattle.lsp_survey.proofs.Reading.{so_far_few, so_far_given, survey_of}
-use Rattle.lsp_verdict.specs.Calls.{calls}
-use Rattle.lsp_verdict.specs.Event.{Event}
-use Rattle.lsp_verdict.specs.Given.{offence_view, verdict_view}
-use Rattle.lsp_verdict.specs.Offences.{IsNoted, IsNotedSession, Noted, Offence, events_of, kept_of}
+use Rattle.lsp_survey.specs.KeptText.{AnswersKept, OneKeptText, answer_after, end_answer}
+use Rattle.lsp_survey.specs.KeptText.{kept_answer, text_all_run}
+use Rattle.lsp_survey.proofs.Told.{survey_told}
+use Rattle.lsp_verdict.specs.Heard.{Heard, Rests, heard_events, notes_of}
+use Rattle.lsp_verdict.specs.Offences.{IsNoted, IsNotedSession, Noted, events_of}
 use Rattle.lsp_verdict.specs.Outcome.{ending, log_terms}
 use Rattle.lsp_verdict.specs.Placed.{Placed, Raw}
-use Rattle.lsp_verdict.specs.RunIo.{BreaksOff, OfRead}
-use Rattle.lsp_verdict.specs.Shown.{TextAnswer, held_answer, up_to_editor}
+use Rattle.lsp_verdict.specs.Ports.{Ports}
+use Rattle.lsp_verdict.specs.Shown.{up_to_editor}
 use Rattle.lsp_verdict.specs.Survey as survey
+use Rattle.lsp_verdict.specs.TextAfter.{IsText, written_of}
 use Rattle.lsp_verdict.specs.Verdict.{Verdict, bad_log_of, count_of, is_of, summary}
-use Rattle.lsp_verdict.specs.declared.completeness.Completeness.{Completeness}
 use Rattle.lsp_verdict.specs.declared.completeness.Completeness.TheVariants.{Ignored}
+use Rattle.lsp_verdict.specs.declared.outcome.Outcome.{Outcome}
 use Rattle.lsp_verdict.specs.declared.outcome.RunFault.{RunFault}
 use Rattle.lsp_verdict.proofs.Below.{one_log}
 use Rattle.lsp_verdict.proofs.Logs.UpTo.{none_yet, reached_more}
+use Rattle.lsp_verdict.proofs.Offences.Surveying.{one_notes}
 use Rattle.lsp_verdict.proofs.PlacedLemmas.{one_placed}
-use Rattle.lsp_verdict.proofs.Offences.Surveying.{one_notes, some_notes}
-use Rattle.lsp_verdict.proofs.RunReading.{read_map}
 
 -- ---- one answer
 
@@ -63,157 +60,114 @@ one_kept limits sizes log n uri a b (found, bad, s, p, is) (others, flaw, t, q, 
     ∙ ap (λ (w : List Noted). kept_answer (log_terms limits q.format) uri flaw
     (up_to_editor n [] (events_of w))) notes ∙ sym at
 
--- ---- the message came
+-- ---- the run
 
-events_join : (notes extra : List Noted)
-    → events_of (notes ++ extra) ≡ events_of notes ++ events_of extra
-events_join notes extra = map-append (λ (n : Noted). n.event) notes extra
+module _ (asked : TextAsked) where
+  quiet : IsQuiet (text_all_run asked)
+  quiet terms rests before h said is goes =
+      is ∙ ap (λ b. if b then written_of (answer_after terms asked.uri (before ++ h ∷ [])) else [])
+      goes
 
--- **the events heard are those up to it**, of a log with these records and events first
-kept_held : (limits : Bounds) (format : Option Format) (n : ℕ) (uri : List ℕ)
-    (front : List Record) (past : List Raw) (notes : List Noted) → AllZip IsNoted past notes
-    → up_to_editor n [] (events_of notes) ≡ Some (events_of notes)
-    → (log : List ℕ) → HasGiven limits format front past log
-    → AnswersKept limits log n uri (held_answer (held (log_terms limits format) uri
-    (calls (kept_of (log_terms limits format) (events_of notes)))))
-unfolding survey_of
-kept_held limits format n uri front past notes are_noted reached log has =
-    let terms = log_terms limits format in
-    let extra = some_notes has.later in
-    let all = notes ++ extra.0 in
-    let all_noted = join_notes past has.later notes extra.0 are_noted extra.1 in
-    let editor = editor_rest Ignored limits log format has.records has.log_fault has.is_log
-    (past ++ has.later) has.placed all all_noted in
-    let server = server_rest Ignored limits log format has.records has.log_fault has.is_log
-    (past ++ has.later) has.placed all all_noted in
-    let found = survey.found_in Ignored terms all (ending has.log_fault editor.0 server.0) in
-    let bad = bad_log_of has.log_fault in
-    let upto : up_to_editor n [] (events_of all) ≡ Some (events_of notes) =
-    ap (up_to_editor n []) (events_join notes extra.0)
-    ∙ reached_more n (events_of notes) (events_of extra.0) (events_of notes) reached in (
-      found,
-      bad,
-      summary terms (events_of all),
-      survey_of Ignored limits log format has.records has.log_fault has.is_log
-          (past ++ has.later) has.placed all all_noted found bad (summary terms (events_of all))
-          refl refl refl,
-      sym (ap (kept_answer terms uri bad) upto),
-    )
+  -- the message is still to come after events at none of which the run stops
+  few_after : (terms : Terms) (rests : Rests) (before hs : List Heard) (out : List ℕ)
+      → SaysAll (text_all_run asked) terms rests before hs out
+      → count_of (is_of Editor) (heard_events before) < asked.number
+      → count_of (is_of Editor) (heard_events (before ++ hs)) < asked.number
+  few_after terms rests before [] out is few =
+      subst (λ (w : List Heard). count_of (is_of Editor) (heard_events w) < asked.number)
+      (sym (append-nil before)) few
+  few_after terms rests before (h ∷ hs) out (said, left, is, own, goes, later) few =
+      subst (λ (w : List Heard). count_of (is_of Editor) (heard_events w) < asked.number)
+      (append_assoc before (h ∷ []) hs)
+      (few_after terms rests (before ++ h ∷ []) hs left later
+      (subst (λ es. count_of (is_of Editor) es < asked.number) (sym (events-push before h))
+      (still_few asked.number (heard_events before) h.note.event few (λ reached.
+      let all = ap (count_of (is_of Editor)) (events-push before h) ∙ reached in
+      absurd (cc (sym (eq-eqb _ _ all) ∙ goes))))))
 
--- ---- the message did not come
+  module _ (positive : 0 < asked.number) (limits : Bounds) (log out : List ℕ) (outcome : Outcome)
+      (p : IsPassed (text_all_run asked) limits log out outcome) where
+    abbrev terms : Terms
+    terms = log_terms limits p.format
 
-kept_none : (limits : Bounds) (e : SurveyReader) (n : ℕ) (uri : List ℕ) (found : List Offence)
-    (bad : Option Verdict) (terms : Terms) (past : List Raw) (notes : List Noted)
-    → count_of (is_of Editor) (events_of notes) < n → (log : List ℕ)
-    → IsSurveyOf e Ignored limits log found bad terms past notes
-    → AnswersKept limits log n uri (end_answer bad)
-kept_none limits e n uri found bad terms past notes few log is = (
-  found,
-  bad,
-  summary terms (events_of notes),
-  is.survey,
-  sym (ap (kept_answer (log_terms limits is.survey.format) uri bad)
-      (ap (λ (w : List Noted). up_to_editor n [] (events_of w)) is.notes_are
-      ∙ none_yet n (events_of notes) few)),
-)
+    abbrev bad : Option Verdict
+    bad = bad_log_of p.tail.fault
 
--- ---- a run
+    -- the message came
+    stopped : StopsIn (text_all_run asked) terms p.tail.rests p.heard out outcome
+        → IsText (λ l. AnswersKept limits l asked.number asked.uri) log out outcome
+    unfolding survey_told
+    stopped s =
+        let few = few_after terms p.tail.rests [] s.first s.front s.said positive in
+        let on = s.first ++ s.here ∷ [] in
+        let reached : count_of (is_of Editor) (heard_events on) ≡ asked.number =
+        grind (arith, nat_tests, s.stop.stops) in
+        let here = reached_last asked.number (heard_events s.first) s.here.note.event few
+        (ap (count_of (is_of Editor)) (sym (events-push s.first s.here)) ∙ reached) in
+        let front : up_to_editor asked.number [] (heard_events on) ≡ Some (heard_events on) =
+        ap (up_to_editor asked.number []) (events-push s.first s.here) ∙ here
+        ∙ ap Some (sym (events-push s.first s.here)) in
+        let all : heard_events p.heard ≡ heard_events on ++ heard_events s.later =
+        ap heard_events (s.are ∙ sym (append_assoc s.first (s.here ∷ []) s.later))
+        ∙ events-join on s.later in
+        let upto : up_to_editor asked.number [] (heard_events p.heard) ≡ Some (heard_events on) =
+        ap (up_to_editor asked.number []) all
+        ∙ reached_more asked.number (heard_events on) (heard_events s.later) (heard_events on)
+        front in
+        record {
+          answer = answer_after terms asked.uri on;
+          answers = (
+            survey.found_in Ignored terms (notes_of p.heard)
+                (ending p.tail.fault p.tail.rests.editor p.tail.rests.server),
+            bad,
+            summary terms (heard_events p.heard),
+            survey_told Ignored limits log p.format p.records p.heard p.tail p.told,
+            sym (ap (kept_answer terms asked.uri bad) upto),
+          );
+          written = s.is ∙ ap (λ w. w ++ s.last)
+              (quiet_all (text_all_run asked) quiet terms p.tail.rests [] s.first s.front s.said)
+              ∙ s.stop.says
+              ∙ ap (λ b. if b then written_of (answer_after terms asked.uri on) else [])
+              s.stop.stops;
+          ends = s.stop.ends;
+        }
 
--- these events of the log were heard, among which are fewer messages of the editor's
-pub record Reading (limits : Bounds) (e : SurveyReader) (start now : Told) (n : ℕ) : Type 0 where
-  pub past : List Raw
-  pub notes : List Noted
-  pub found : List Offence
-  pub so_far : SoFar limits e start now past notes found
-  pub ignored : e.completeness ≡ Ignored
-  pub few : count_of (is_of Editor) (events_of notes) < n
+    -- it did not
+    ended : EndsAfter (text_all_run asked) terms p.tail p.heard out outcome
+        → IsText (λ l. AnswersKept limits l asked.number asked.uri) log out outcome
+    unfolding survey_told
+    ended e =
+        let few = few_after terms p.tail.rests [] p.heard e.front e.said positive in
+        record {
+          answer = end_answer bad;
+          answers = (
+            survey.found_in Ignored terms (notes_of p.heard)
+                (ending p.tail.fault p.tail.rests.editor p.tail.rests.server),
+            bad,
+            summary terms (heard_events p.heard),
+            survey_told Ignored limits log p.format p.records p.heard p.tail p.told,
+            sym (ap (kept_answer terms asked.uri bad)
+                (none_yet asked.number (heard_events p.heard) few)),
+          );
+          written = e.is ∙ ap (λ w. w ++ e.last)
+              (quiet_all (text_all_run asked) quiet terms p.tail.rests [] p.heard e.front e.said)
+              ∙ e.closes.0;
+          ends = e.closes.1;
+        }
 
-module _ (limits : Bounds) (e : SurveyReader) (start now : Told) (n : ℕ) (past : List Raw)
-    (notes : List Noted) (note : Noted) (found : List Offence)
-    (few : count_of (is_of Editor) (events_of notes) < n)
-    (so : SoFar limits e start now past (notes ++ note ∷ []) found) where
-  abbrev all : List Noted
-  all = notes ++ note ∷ []
+    kept_text : IsText (λ l. AnswersKept limits l asked.number asked.uri) log out outcome
+    kept_text = by_end p.is
+      where
+        by_end : StopsIn (text_all_run asked) terms p.tail.rests p.heard out outcome
+            ⊎ EndsAfter (text_all_run asked) terms p.tail p.heard out outcome
+            → IsText (λ l. AnswersKept limits l asked.number asked.uri) log out outcome
+        by_end (inl s) = stopped s
+        by_end (inr e) = ended e
 
-  one_more : events_of all ≡ events_of notes ++ note.event ∷ []
-  one_more = events_join notes (note ∷ [])
-
-  exact_count : e.walk.events.counts.editor ≡ count_of (is_of Editor) (events_of all)
-  exact_count =
-      omega (
-        arith,
-        so.walks.counted.editor,
-        so_far_few Ignored limits e start now past all found so,
-        so.reads.stands.range.log_high,
-        length-map all (λ (w : Noted). w.event),
-        count_within (events_of all),
-      )
-
-  pub reads_on : e.completeness ≡ Ignored → (e.walk.events.counts.editor ≡ n → ⊥)
-      → Reading limits e start now n
-  reads_on ignored unreached = record {
-    past = past;
-    notes = all;
-    found = found;
-    so_far = so;
-    ignored = ignored;
-    few = subst (λ (es : List Event). count_of (is_of Editor) es < n) (sym one_more)
-        (still_few n (events_of notes) note.event few
-        (λ is. unreached (exact_count ∙ ap (count_of (is_of Editor)) one_more ∙ is)));
-  }
-
-  pub text_found : (uri : List ℕ) (answer : TextAnswer) → e.walk.events.counts.editor ≡ n
-      → ((events : List Event) → Holds e.walk.events.session e.walk.events.docs events
-      → answer ≡ held_answer (held e.walk.events.docs.terms uri (calls events)))
-      → OfRead limits start now (λ log. AnswersKept limits log n uri answer)
-      × (now.failures ≡ start.failures)
-  text_found uri answer reached told =
-      let own = e.log.log.format in
-      let here = reached_last n (events_of notes) note.event few
-      (ap (count_of (is_of Editor)) (sym one_more) ∙ sym exact_count ∙ reached) in
-      let upto : up_to_editor n [] (events_of all) ≡ Some (events_of all) =
-      ap (up_to_editor n []) one_more ∙ here ∙ ap Some (sym one_more) in
-      let is = told (kept_of e.walk.events.docs.terms (events_of all)) so.walks.holds
-      ∙ ap (λ (t : Terms). held_answer (held t uri (calls (kept_of t (events_of all)))))
-      so.terms_are in (
-        read_map limits start now (HasGiven limits own so.records past)
-            (λ log. AnswersKept limits log n uri answer)
-            (λ log has. subst (AnswersKept limits log n uri) (sym is)
-            (kept_held limits own n uri so.records past all so.are_noted upto log has))
-            (so_far_given Ignored limits e start now past all found so),
-        so_far_failures Ignored limits e start now past all found so,
-      )
-
--- the end of the log was met before it
-pub text_none : (completeness : Completeness) (limits : Bounds) (e : SurveyReader)
-    (start now : Told) (n : ℕ) (uri : List ℕ) (past : List Raw) (notes : List Noted)
-    (found : List Offence) (end : SurveyEnd) (answer : TextAnswer) → completeness ≡ Ignored
-    → count_of (is_of Editor) (events_of notes) < n
-    → answer ≡ end_answer (option_map verdict_view end.bad)
-    → Ended completeness limits e start now past notes found end
-    → OfRead limits start now (λ log. AnswersKept limits log n uri answer)
-    × (now.failures ≡ start.failures)
-text_none completeness limits e start now n uri past notes found end answer ignored few is ended =
-    let listed = found ++ map offence_view end.listed.items in
-    let bad = option_map verdict_view end.bad in
-    let terms = e.walk.events.docs.terms in (
-      read_map limits start now
-          (λ log. IsSurveyOf e completeness limits log listed bad terms past notes)
-          (λ log. AnswersKept limits log n uri answer)
-          (λ log s. subst (AnswersKept limits log n uri) (sym is)
-          (kept_none limits e n uri listed bad terms past notes few log
-          (subst (λ (c : Completeness). IsSurveyOf e c limits log listed bad terms past notes)
-          ignored s))) ended.whole,
-      ended.failures,
-    )
-
--- reading broke off
-pub broke_off : (completeness : Completeness) (limits : Bounds) (start now : Told)
-    (found : List Offence) (fault : RunFault)
-    → BrokeOff completeness limits start now found fault → BreaksOff limits start now fault
-broke_off completeness limits start now found fault broke = record {
-  of_read = read_map limits start now (BeginsSurvey completeness limits found)
-      (λ log. Unit {0}) (λ log begins. tt) broke.of_read;
-  failures = broke.failures;
-  unwritten = broke.unwritten;
-}
+  -- **what `text --all` answers and writes** follows from what a pass does
+  pub writes_text : 0 < asked.number → (limits : Bounds) (io : Ports)
+      → (result : Result Outcome RunFault) → Passes (text_all_run asked) limits io.source_before
+      io.source_after io.sink_before io.sink_after result
+      → WritesText limits io (λ log. AnswersKept limits log asked.number asked.uri) result
+  writes_text positive limits io = passed_text (text_all_run asked) quiet limits
+      (λ log. AnswersKept limits log asked.number asked.uri) (kept_text positive limits) io

@@ -13,7 +13,7 @@ use Rattle.lsp_rpc.specs.declared.message.Message as lent
 use Rattle.lsp_rpc.specs.declared.message.Message.TheVariants as sends
 use Rattle.lsp_session.specs.Sent.{answered_from, other_side, response_id, same_side}
 use Rattle.lsp_survey.specs.Passed.{ArePassed, Passes, Sets, SetsAny, has_any, has_passed}
-use Rattle.lsp_survey.specs.Walking.{IsMessageOf}
+use Rattle.lsp_survey.specs.Lost.{IsMessageOf}
 use Rattle.lsp_survey.specs.declared.notes.passed.Passed.{Passed}
 use Rattle.lsp_types.specs.declared.rules.TheConstants as rules
 use Rattle.lsp_types.specs.declared.side.Side.{Side}

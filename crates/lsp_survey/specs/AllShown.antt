@@ -1,44 +1,24 @@
 -- What is due where all events of a log are shown, and what the steps of the run write.
-use Rattle.std.specs.Prelude.{◌≡◌, ℕ, List, [], ◌∷◌, ◌++◌, map, Bool, true, false, Option, option_map}
-use Rattle.std.specs.Prelude.{Result, Ok, Err, filter}
+use Rattle.std.specs.Prelude.{◌≡◌, ℕ, List, ◌++◌, map, Bool, true, false, Option, option_map}
+use Rattle.std.specs.Prelude.{Result, filter}
 use Rattle.std.specs.List.{flat_map}
 use Rattle.std.specs.Option.{option_or}
 use Rattle.lsp_docs.specs.Terms.{Terms}
 use Rattle.lsp_frame.specs.Bounds.{Bounds, IsInRange}
-use Rattle.lsp_frame.specs.Sink.{Wrote}
-use Rattle.lsp_frame.specs.Told.{Told}
-use Rattle.lsp_frame.specs.declared.format.Format.{Format}
-use Rattle.lsp_log.specs.Log.{Record}
-use Rattle.lsp_replay.specs.LogEvents.{HasGiven}
-use Rattle.lsp_survey.specs.Reads.{BrokeOff, Ended, GaveEvent}
-use Rattle.lsp_survey.specs.Reported.{IsReported, IsTally, PartWritten, WritesReport, closing}
-use Rattle.lsp_survey.specs.Reported.{lines_of}
-use Rattle.lsp_survey.specs.Walking.{IsLine}
-use Rattle.lsp_survey.specs.declared.offence_count.OffenceCount.{OffenceCount}
-use Rattle.lsp_survey.specs.declared.offending.Judged.{Judged}
-use Rattle.lsp_survey.specs.declared.offending.Judged.TheVariants as heard
-use Rattle.lsp_survey.specs.declared.survey_reader.NextJudged.{NextJudged}
-use Rattle.lsp_survey.specs.declared.survey_reader.NextJudged.TheVariants as next
-use Rattle.lsp_survey.specs.declared.survey_reader.SurveyEnd.{SurveyEnd}
-use Rattle.lsp_survey.specs.declared.survey_reader.SurveyReader.{SurveyReader}
-use Rattle.lsp_verdict.specs.Given.{offence_view}
+use Rattle.lsp_survey.specs.Reported.{IsReported, closing}
 use Rattle.lsp_verdict.specs.LookBack.{each_of}
 use Rattle.lsp_verdict.specs.Offences.{Noted, Offence, events_of, offence_at}
 use Rattle.lsp_verdict.specs.Outcome.{IsVerdict, ending, log_terms}
-use Rattle.lsp_verdict.specs.Placed.{Raw}
 use Rattle.lsp_verdict.specs.Ports.{Ports}
-use Rattle.lsp_verdict.specs.RunIo.{OfRead}
 use Rattle.lsp_verdict.specs.Runs.{Judges}
 use Rattle.lsp_verdict.specs.Shown.{line_at}
 use Rattle.lsp_verdict.specs.Survey.{IsSurvey, by_itself, ends_listed, first_verdict, offence_lines}
 use Rattle.lsp_verdict.specs.Verdict.{Ending, Summary, Verdict}
-use Rattle.lsp_verdict.specs.declared.completeness.Completeness.{Completeness}
 use Rattle.lsp_verdict.specs.declared.completeness.Completeness.TheVariants.{Ignored}
 use Rattle.lsp_verdict.specs.declared.lines.Lines.{Lines}
 use Rattle.lsp_verdict.specs.declared.listing.Listing.TheVariants.{Every}
 use Rattle.lsp_verdict.specs.declared.outcome.Outcome.{Outcome}
 use Rattle.lsp_verdict.specs.declared.outcome.RunFault.{RunFault}
-use Rattle.lsp_verdict.specs.declared.verdict.Verdict as code
 
 -- ---- a log
 
@@ -115,56 +95,3 @@ abbrev pub ShowsReport : Type 0
 ShowsReport = (lines : Lines) (limits : Bounds) → IsInRange limits
     → (log : List ℕ) (v w : Verdict) (out other : List ℕ) → IsAllShown lines limits log v out
     → IsReported Ignored limits Every log w other → (v ≡ w) × LeavesOutLines out other
-
--- ---- the next event
-
--- one more event was heard, and this is its line where it is kept; or the log has ended
-abbrev pub GivesLine : Lines → Completeness → Bounds → SurveyReader → Told → Told → List Raw
-    → List Noted → List Offence → List ℕ → NextJudged → Type 0
-GivesLine lines completeness limits e start now past before found text (next.Event given) =
-    (gave : GaveEvent limits e start now past before found given)
-    × IsLine lines (events_of before) gave.n.event given text
-GivesLine lines completeness limits e start now past before found text (next.End end) =
-    Ended completeness limits e start now past before found end.value
-
--- or reading broke off, of a log of this format that has these records first
-abbrev pub PullsLine : Lines → Option Format → List Record → Completeness → Bounds → SurveyReader
-    → Told → Told → List Raw → List Noted → List Offence → List ℕ → Result NextJudged RunFault
-    → Type 0
-PullsLine lines format front completeness limits e start now past before found text (Ok given) =
-    GivesLine lines completeness limits e start now past before found text given
-PullsLine lines format front completeness limits e start now past before found text (Err fault) =
-    BrokeOff completeness limits start now found fault
-    × OfRead limits start now (HasGiven limits format front past)
-
--- what is written of an event: this line where it is kept, or its offence
-abbrev pub lines_by : List ℕ → Judged → List ℕ
-lines_by text heard.Kept = text
-lines_by text (heard.Offence found) = lines_of Every (offence_view found.value.offence ∷ [])
-
--- ---- the run
-
--- the events were shown up to the log's end
-pub record ShownToEnd (lines : Lines) (limits : Bounds) (e : SurveyReader) (t : OffenceCount)
-    (start now old new : Told) (end : SurveyEnd) : Type 0 where
-  pub past : List Raw
-  pub notes : List Noted
-  pub found : List Offence
-  pub ended : Ended Ignored limits e start now past notes found end
-  pub tally : IsTally t found
-  pub wrote : Wrote old new (bytes_of (events_shown lines e.walk.events.docs.terms notes))
-
--- all events of the log read were shown, with the verdict on it; or what was written begins that
-abbrev pub ShowsLog : Lines → Bounds → Told → Told → Told → Told → Result code.Verdict RunFault
-    → Type 0
-ShowsLog lines limits start now old new result =
-    WritesReport limits (IsAllShown lines limits) (BeginsAllShown lines limits) start now old new
-    result
-
--- the events were shown up to the log's end, or what was written begins what is due
-abbrev pub ShowsToEnd : Lines → Bounds → SurveyReader → OffenceCount → Told → Told → Told → Told
-    → Result SurveyEnd RunFault → Type 0
-ShowsToEnd lines limits e t start now old new (Ok end) =
-    ShownToEnd lines limits e t start now old new end
-ShowsToEnd lines limits e t start now old new (Err fault) =
-    PartWritten limits (BeginsAllShown lines limits) start now old new fault

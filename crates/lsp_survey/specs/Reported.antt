@@ -1,31 +1,23 @@
 -- What is due where all that is wrong with a log is reported, and what the steps of the run write.
 use Rattle.std.specs.Prelude.{◌≡◌, ℕ, List, [], ◌∷◌, ◌++◌, filter, length, Bool, true, false}
-use Rattle.std.specs.Prelude.{Option, Some, None, option_map, Result, Ok, Err}
+use Rattle.std.specs.Prelude.{Option, Some, None, option_map, Result}
 use Rattle.std.specs.List.{flat_map}
 use Rattle.lsp_docs.specs.State.{capped}
 use Rattle.lsp_frame.specs.Bounds.{Bounds}
-use Rattle.lsp_frame.specs.Sink.{Wrote}
-use Rattle.lsp_frame.specs.Told.{Told, Took}
-use Rattle.lsp_survey.specs.Reads.{Ended}
 use Rattle.lsp_verdict.specs.declared.listing.Listing.{Listing}
 use Rattle.lsp_verdict.specs.declared.listing.Listing.TheVariants.{Causes, Every}
-use Rattle.lsp_survey.specs.declared.survey_reader.SurveyEnd.{SurveyEnd}
-use Rattle.lsp_survey.specs.declared.survey_reader.SurveyReader.{SurveyReader}
 use Rattle.lsp_survey.specs.declared.offence_count.OffenceCount.{OffenceCount}
 use Rattle.lsp_verdict.specs.Complete.{IsVerdictBy}
-use Rattle.lsp_verdict.specs.Given.{offence_view, verdict_view}
-use Rattle.lsp_verdict.specs.Offences.{Noted, Offence}
-use Rattle.lsp_verdict.specs.Placed.{Raw}
+use Rattle.lsp_verdict.specs.Given.{offence_view}
+use Rattle.lsp_verdict.specs.Offences.{Offence}
 use Rattle.lsp_verdict.specs.Ports.{Ports}
 use Rattle.lsp_verdict.specs.Runs.{Judges}
-use Rattle.lsp_verdict.specs.RunIo.{OfRead, TellsSome, failures_after, sink_failures_after}
 use Rattle.lsp_verdict.specs.Survey.{IsSurvey, all_report, bad_lines, first_verdict, found_line}
 use Rattle.lsp_verdict.specs.Survey.{offence_lines, shown_of}
 use Rattle.lsp_verdict.specs.Report.{report}
 use Rattle.lsp_verdict.specs.Verdict.{Summary, Verdict}
 use Rattle.lsp_verdict.specs.declared.outcome.Outcome.{Outcome}
 use Rattle.lsp_verdict.specs.declared.outcome.RunFault.{RunFault}
-use Rattle.lsp_verdict.specs.declared.verdict.Verdict as code
 use Rattle.lsp_verdict.specs.declared.completeness.Completeness.{Completeness}
 
 -- ---- the report of a log
@@ -56,7 +48,7 @@ SurveysLog completeness listing limits io result =
     Judges limits io (IsVerdictBy completeness limits) (IsReported completeness limits listing)
     (BeginsReported completeness limits listing) result
 
--- ---- steps
+-- ---- its lines
 
 -- the lines of these offences, as far as they are listed
 abbrev pub lines_of : Listing → List Offence → List ℕ
@@ -67,6 +59,17 @@ abbrev pub closing : List Offence → Option Verdict → Summary → List ℕ
 closing [] bad s = report (first_verdict [] bad s)
 closing (o ∷ found) bad s = bad_lines bad ++ found_line (o ∷ found)
 
+-- the first of them: the report of the verdict where nothing is listed, else those of a fault of the
+-- log
+abbrev pub verdict_lines : List Offence → Option Verdict → Summary → List ℕ
+verdict_lines [] bad s = report (first_verdict [] bad s)
+verdict_lines (o ∷ found) bad s = bad_lines bad
+
+-- the last of them
+abbrev pub count_line : List Offence → List ℕ
+count_line [] = []
+count_line (o ∷ found) = found_line (o ∷ found)
+
 abbrev pub head_of : List Offence → Option Offence
 head_of [] = None
 head_of (o ∷ found) = Some o
@@ -76,67 +79,3 @@ pub record IsTally (t : OffenceCount) (found : List Offence) : Type 0 where
   pub first : option_map offence_view t.first ≡ head_of found
   pub all : t.found ≡ capped (length found)
   pub following : t.following ≡ capped (length (filter (λ (o : Offence). o.follows) found))
-
--- what is due for the log read and this verdict was written
-pub record AllWritten (limits : Bounds) (IsDue : List ℕ → Verdict → List ℕ → Type 0)
-    (start now old new : Told) (v : Verdict) : Type 0 where
-  pub out : List ℕ
-  pub wrote : Wrote old new out
-  pub due : OfRead limits start now (λ log. IsDue log v out)
-  pub failures : now.failures ≡ start.failures
-
--- this was written, which begins what is due for it, and then a fault met
-pub record PartWritten (limits : Bounds) (Begins : List ℕ → List ℕ → Type 0)
-    (start now old new : Told) (fault : RunFault) : Type 0 where
-  pub out : List ℕ
-  pub took : Took old new out
-  pub due : OfRead limits start now (λ log. Begins log out)
-  pub source : now.failures ≡ failures_after fault start.failures
-  pub sink : new.failures ≡ sink_failures_after fault old.failures
-
-abbrev pub WritesReport : Bounds → (List ℕ → Verdict → List ℕ → Type 0)
-    → (List ℕ → List ℕ → Type 0) → Told → Told → Told → Told → Result code.Verdict RunFault
-    → Type 0
-WritesReport limits IsDue Begins start now old new (Ok v) =
-    AllWritten limits IsDue start now old new (verdict_view v)
-WritesReport limits IsDue Begins start now old new (Err fault) =
-    PartWritten limits Begins start now old new fault
-
-abbrev pub Reports : Completeness → Bounds → Listing → Told → Told → Told → Told
-    → Result code.Verdict RunFault → Type 0
-Reports completeness limits listing start now old new result =
-    WritesReport limits (IsReported completeness limits listing)
-    (BeginsReported completeness limits listing) start now old new result
-
--- the offences of the events were listed up to the log's end
-pub record Listed (completeness : Completeness) (limits : Bounds) (listing : Listing)
-    (e : SurveyReader) (t : OffenceCount) (start now old new : Told) (end : SurveyEnd) : Type 0
-  where
-    pub past : List Raw
-    pub notes : List Noted
-    pub found : List Offence
-    pub ended : Ended completeness limits e start now past notes found end
-    pub tally : IsTally t found
-    pub wrote : Wrote old new (lines_of listing found)
-
-abbrev pub Lists : Completeness → Bounds → Listing → SurveyReader → OffenceCount → Told → Told
-    → Told
-    → Told → Result SurveyEnd RunFault → Type 0
-Lists completeness limits listing e t start now old new (Ok end) =
-    Listed completeness limits listing e t start now old new end
-Lists completeness limits listing e t start now old new (Err fault) =
-    PartWritten limits (BeginsReported completeness limits listing) start now old new fault
-
--- what comes after the offences of the events: these of the end are listed, and the report is
--- closed
-abbrev pub end_lines : Listing → List Offence → List Offence → Option Verdict → Summary → List ℕ
-end_lines listing found ends bad s = lines_of listing ends ++ closing (found ++ ends) bad s
-
--- it is written, with this verdict; or a front of it
-abbrev pub Closes : Listing → List Offence → List Offence → Option Verdict → Summary → Told → Told
-    → Result code.Verdict RunFault → Type 0
-Closes listing found ends bad s old new (Ok v) =
-    Wrote old new (end_lines listing found ends bad s)
-    × (verdict_view v ≡ first_verdict (found ++ ends) bad s)
-Closes listing found ends bad s old new (Err fault) =
-    TellsSome old new (end_lines listing found ends bad s) (Err fault)

@@ -1,17 +1,18 @@
 //! The text that is held after a message of the editor, where each event that offends is skipped.
-ghost use Rattle.std.specs.Prelude.{◌≡◌, ◌<◌, [], option_map};
-ghost use Rattle.lsp_replay.specs.TextAnswers.{FindsText, WritesText, answer_view};
-ghost use Rattle.lsp_frame.specs.Bounds.{Bounds};
-ghost use Rattle.lsp_frame.specs.Told.{Told};
-ghost use Rattle.lsp_survey.specs.KeptText.{AnswersKept, end_answer};
-ghost use Rattle.lsp_survey.specs.Reads.{IsFresh, SoFar};
-ghost use Rattle.lsp_verdict.specs.Given.{verdict_view};
+ghost use Rattle.std.specs.Prelude.{◌≡◌, ◌<◌};
+ghost use Rattle.lsp_replay.specs.LogEvents.{flaw_of};
+ghost use Rattle.lsp_replay.specs.TextAnswers.{TextAsked, WritesText, answer_view};
+ghost use Rattle.lsp_survey.specs.KeptText.{AnswersKept, end_answer, text_all_run};
+ghost use Rattle.lsp_types.specs.declared.side.Side.TheVariants.{Editor};
+ghost use Rattle.lsp_verdict.specs.Heard.{heard_events};
 ghost use Rattle.lsp_verdict.specs.Ports.{ports};
+ghost use Rattle.lsp_verdict.specs.Verdict.{bad_log_of, count_of, is_of};
 
-use crate::survey_reader::{NextJudged, SurveyEnd, SurveyReader};
 use lsp_frame::{Limits, Sink, Source};
-use lsp_replay::TextAnswer;
-use lsp_verdict::{Completeness, Outcome, RunFault};
+use lsp_replay::{Account, End, Events, Flow, LogEvents, Seen, TextAnswer, pass};
+use lsp_rpc::Memory;
+use lsp_text::Lined;
+use lsp_verdict::{Outcome, RunFault, Verdict};
 use std::alloc::Global;
 
 /// Reads a log up to the editor's message of this number, from 1, and writes the text that the
@@ -36,63 +37,62 @@ pub fn run_text_all<R: Source, W: Sink>(
         (ports (R.told reader.old) (R.told reader.new) (W.told writer.old) (W.told writer.new))
         (λ log. AnswersKept limits log number uri.now) result }
 {
-    let answer = text_of(alloc, reader, limits, number, uri)?;
-    answer.write(writer)
+    let mut account = HeldText { number, uri };
+    pass(alloc, reader, writer, limits, &mut account)
 }
 
-/// Opens a log, and answers for the text that is held just after the editor's message of this
-/// number.
-fn text_of<R: Source>(
-    alloc: Global,
-    reader: &mut R,
-    limits: Limits,
+/// Says the text that is held of a URI just after the editor's message of this number, from 1.
+#[derive(Drop)]
+struct HeldText<'a> {
     number: u64,
-    uri: &str,
-) -> Result<TextAnswer, RunFault>
-    requires { 0 < number }
-    ensures { FindsText limits (R.told reader.old) (R.told reader.new)
-        (λ log. AnswersKept limits log number uri.now) result }
-{
-    let mut events = SurveyReader::open(alloc, reader, limits, Completeness::Ignored)?;
-    text_by(alloc, &mut events, reader, number, uri)
+    uri: &'a str,
 }
 
-/// Hears the events of a log, of which none was heard, up to the editor's message of this number,
-/// and answers for the text that is held just after it.
-fn text_by<R: Source>(
-    alloc: Global,
-    events: &mut SurveyReader,
-    reader: &mut R,
-    number: u64,
-    uri: &str,
-) -> Result<TextAnswer, RunFault>
-    requires positive { 0 < number }
-    requires ignored { events.old.completeness ≡ Completeness.Ignored }
-    requires fresh { IsFresh events.old (R.told reader.old) }
-    ensures { (limits : Bounds) (start : Told)
-        → SoFar limits events.old start (R.told reader.old) [] [] []
-        → FindsText limits start (R.told reader.new)
-        (λ log. AnswersKept limits log number uri.now) result }
-{
-    loop {
-        match events.next(reader)? {
-            NextJudged::Event(heard) => drop(heard),
-            NextJudged::End(end) => return Ok(answer_at(Box::into_inner(end))),
+impl Account for HeldText<'_> {
+    ghost Asked = { TextAsked };
+
+    ghost asked = { λ account. record { number = account.number; uri = account.uri.now } };
+
+    ghost run = { text_all_run };
+
+    ghost stands = { λ account terms heard.
+        count_of (is_of Editor) (heard_events heard) < account.number };
+
+    fn event(
+        &mut self,
+        alloc: Global,
+        held: &Events<Lined>,
+        _seen: Seen<'_>,
+        text: &mut String,
+    ) -> Result<Flow, Memory> {
+        if held.counts.editor != self.number {
+            return Ok(Flow::GoOn);
         }
-        if events.walk.events.counts.editor == number {
-            return Ok(TextAnswer::held(alloc, &events.walk.events.docs, uri)?);
-        }
+        let answer = TextAnswer::held(alloc, &held.docs, self.uri)?;
+        let outcome = answer.add(text)?;
+        let boxed = Box::new(alloc, outcome)?;
+        Ok(Flow::Stop(boxed))
+    }
+
+    fn end(
+        &mut self,
+        _alloc: Global,
+        _held: &Events<Lined>,
+        _log: &LogEvents,
+        end: End,
+        text: &mut String,
+    ) -> Result<Outcome, Memory> {
+        let outcome = missing(end).add(text)?;
+        Ok(outcome)
     }
 }
 
 /// What the end of a log says where the message is missing in it.
-fn answer_at(end: SurveyEnd) -> TextAnswer
-    ensures { answer_view result ≡ end_answer (option_map verdict_view end.bad) }
+fn missing(end: End) -> TextAnswer
+    ensures { answer_view result ≡ end_answer (bad_log_of (flaw_of end)) }
 {
-    let SurveyEnd { listed, bad } = end;
-    drop(listed);
-    match bad {
-        Some(verdict) => TextAnswer::Refused(verdict),
-        None => TextAnswer::TooFew,
+    match end {
+        End::Sound => TextAnswer::TooFew,
+        End::Bad { number, fault } => TextAnswer::Refused(Verdict::BadLog { number, fault }),
     }
 }

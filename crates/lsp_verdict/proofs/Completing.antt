@@ -1,5 +1,5 @@
 -- The verdict where a session has to be complete: that there is one, and what it means.
-use Rattle.std.proofs.Common.{◌≡◌, ◌⊎◌, ◌<◌, ◌+◌, ◌^◌, ℕ, Bool, true, false, not, true≢false, List, [], ◌∷◌, length, Option, Some, None, inl, inr, refl, sym, ap, subst, ◌∙◌, arith}
+use Rattle.std.proofs.Common.{◌≡◌, ◌⊎◌, ℕ, Bool, true, false, not, true≢false, List, [], ◌∷◌, Option, Some, None, inl, inr, refl, sym, ap, subst, ◌∙◌}
 use Rattle.std.specs.Prelude.{option_map, unwrap_or}
 use Rattle.lsp_frame.specs.Bounds.{Bounds, IsInRange}
 use Rattle.lsp_frame.specs.declared.format.Format.{Format}
@@ -17,7 +17,6 @@ use Rattle.lsp_verdict.specs.BroughtToEnd.{IsBroughtToEnd, NamesLack, AreComplet
 use Rattle.lsp_verdict.specs.Complete.{lack_of, completed, IsCompleteFinal, IsCompleteVerdict}
 use Rattle.lsp_verdict.specs.CompleteLaws.{SomeCompleteVerdict, OneCompleteVerdict, CompleteMeansEnded, EndedMeansComplete, LackIsNamed, CompleteMeansFault}
 use Rattle.lsp_verdict.specs.Event.{Event, sent_in}
-use Rattle.lsp_verdict.specs.Given.{as_given}
 use Rattle.lsp_verdict.specs.Headline.{Names, HasRest107}
 use Rattle.lsp_verdict.specs.Kept.{NothingOffends, AreFrames}
 use Rattle.lsp_verdict.specs.Laws.{merged}
@@ -27,7 +26,6 @@ use Rattle.lsp_verdict.specs.Verdict.{Verdict, Summary, yes, no, bad_log, no_nex
 use Rattle.lsp_verdict.specs.declared.verdict.Who.{Who}
 use Rattle.lsp_verdict.specs.declared.verdict.Who.TheVariants as who
 use Rattle.lsp_verdict.proofs.Below.{one_log}
-use Rattle.lsp_verdict.proofs.ExactCounts.{events_within, exact, no_exact}
 use Rattle.lsp_verdict.proofs.Finding.{map_some}
 use Rattle.lsp_verdict.proofs.Logs.{some_final, some_verdict, one_verdict, same_events}
 use Rattle.lsp_verdict.proofs.Meanings.{are_kept, final_yes, final_no, yes_means_kept, no_names, bad_log_has, IsNo}
@@ -207,21 +205,3 @@ lack_is_named limits sizes log rule by number event p = elim (completed_no p.who
 
 pub complete_means_fault : CompleteMeansFault
 complete_means_fault limits log number code p = bad_log_has limits log number code (subst (IsVerdict limits log) (completed_bad p.whole.final.events p.plain number code p.says) p.whole)
-
--- ---- as it is given
-
-completed_exact : (events : List Event) (v : Verdict) → length events + 1 < 2 ^ 64 → as_given v ≡ v → as_given (completed events v) ≡ completed events v
-completed_exact events (yes s) small is = by_rule (incomplete (sent_in events))
-  where
-    by_rule : (o : Option ℕ) → as_given (unwrap_or (option_map (λ rule. no_next rule who.Editor events) o) (yes s)) ≡ unwrap_or (option_map (λ rule. no_next rule who.Editor events) o) (yes s)
-    by_rule None = is
-    by_rule (Some rule) = no_exact events rule who.Editor small
-completed_exact events (no rule by number event) small is = is
-completed_exact events (bad_log number code) small is = is
-
--- a verdict on a log is given as it is
-pub complete_exact : (limits : Bounds) → IsInRange limits → (log : List ℕ) (v : Verdict) → IsCompleteVerdict limits log v → as_given v ≡ v
-complete_exact limits sizes log v p =
-    let within = events_within limits log p.whole.format p.whole.records p.whole.fault p.whole.final.events p.whole.is_log p.whole.final.session in
-    subst (λ w. as_given w ≡ w) p.says
-    (completed_exact p.whole.final.events p.plain (omega (arith, sizes.log_high, within)) (exact limits sizes log p.plain p.whole))

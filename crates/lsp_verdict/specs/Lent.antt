@@ -8,7 +8,7 @@ use Rattle.lsp_verdict.specs.declared.verdict.Who.TheVariants.{Snapshot}
 
 abbrev pub raw_view : code.Raw → Raw
 raw_view (raws.Content side bytes) = content side bytes.now
-raw_view (raws.Broken side rule) = broken side rule
+raw_view (raws.Broken side rule rest) = broken side rule
 raw_view (raws.Snapshot version uri text) = show version uri.now text.now
 
 abbrev pub whose_raw : Raw → Who

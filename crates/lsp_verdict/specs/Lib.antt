@@ -30,3 +30,4 @@ pub mod Spelling
 pub mod Offences
 pub mod Survey
 pub mod OffenceLaws
+pub mod Heard

@@ -42,20 +42,6 @@ Tells old new bytes (Err faults.Write) = Stopped old new bytes
 Tells old new bytes (Err faults.Memory) = new ≡ old
 Tells old new bytes (Err faults.Read) = ⊥
 
--- a prefix of these bytes is written, and no write failed
-pub record WroteSome (old new : Told) (due : List ℕ) : Type 0 where
-  pub front : List ℕ
-  pub back : List ℕ
-  pub whole : due ≡ front ++ back
-  pub wrote : Wrote old new front
-
--- these bytes are written, or a prefix of them after a write fault or where memory was refused
-abbrev pub TellsSome : Told → Told → List ℕ → Result (Unit {0}) RunFault → Type 0
-TellsSome old new bytes (Ok u) = Wrote old new bytes
-TellsSome old new bytes (Err faults.Write) = Stopped old new bytes
-TellsSome old new bytes (Err faults.Memory) = WroteSome old new bytes
-TellsSome old new bytes (Err faults.Read) = ⊥
-
 -- ---- failures
 
 -- the fault of a run whose decoder could not pull

@@ -14,7 +14,7 @@ use Rattle.serde_json.specs.Read.{number_of}
 use Rattle.lsp_types.specs.declared.line_ends.LineEnds.TheVariants.{Exact}
 use Rattle.lsp_docs.specs.Terms.{Terms}
 use Rattle.lsp_rpc.specs.Ident.{number, text}
-use Rattle.lsp_survey.specs.Asking.{numbered}
+use Rattle.lsp_explain.specs.Asking.{numbered}
 use Rattle.lsp_verdict.specs.Event.{Event}
 use Rattle.lsp_verdict.proofs.Worked.Templates.{terms, I1, N1, START, OPEN, CHG, FULL, CLOSE, REQ}
 use Rattle.lsp_verdict.proofs.Worked.Templates.{RES, ERR, T}

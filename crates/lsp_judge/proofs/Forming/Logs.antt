@@ -13,11 +13,11 @@ use Rattle.lsp_frame.proofs.Writing.{stopped_then, wrote_nothing, wrote_then}
 use Rattle.lsp_log.specs.Log.{Record, first_line}
 use Rattle.lsp_log.specs.declared.fault.LogCode.{LogCode}
 use Rattle.lsp_replay.specs.LogEvents as log_events
-use Rattle.lsp_replay.specs.LogEvents.{Gives, HasGiven, IsLogOf, Opens, flaw_of}
+use Rattle.lsp_replay.specs.LogEvents.{Gives, HasGiven, IsLogOf, Opens, Reads, flaw_of}
 use Rattle.lsp_judge.specs.Normal.{form_of, fault_of, EndsNormal, BeginsNormal, IsNormal}
-use Rattle.lsp_judge.specs.Normal.{Carries, Normalizes}
+use Rattle.lsp_judge.specs.Normal.{Carries, Normalizes, first_broken}
 use Rattle.lsp_judge.specs.NormalSteps.{mark, CarriesCapped, spelled, EndsLog, EndsWhole}
-use Rattle.lsp_judge.specs.NormalSteps.{WritesEvent, SoFar}
+use Rattle.lsp_judge.specs.NormalSteps.{Counted, WritesEvent}
 use Rattle.lsp_verdict.specs.Ports.{ports}
 use Rattle.lsp_verdict.specs.Given.{as_given}
 use Rattle.lsp_verdict.specs.Lent.{raw_view}
@@ -69,6 +69,19 @@ cut_at old mid new before due faults.Memory wrote same =
     let all = subst (λ (t : Told). Wrote old t before) (sym same) wrote in
     (before, due, refl, all.took, all.failures, λ n. refl)
 cut_at old mid new before due faults.Read wrote told = absurd told
+
+-- ---- the events so far
+
+-- the events given are written and counted, and none of them is a fault of the frames
+pub record SoFar (limits : Bounds) (format : Option Format) (e : LogEvents) (counts : Counts)
+    (start now old new : Told) : Type 0 where
+  pub records : List Record
+  pub given : List Raw
+  pub due : List Raw
+  pub reads : Reads limits format e start now records given due
+  pub sound : first_broken given ≡ None
+  pub counted : Counted counts given
+  pub wrote : Wrote old new (spelled limits.chunk given)
 
 -- ---- nothing was written
 
@@ -134,23 +147,24 @@ module _ (limits : Bounds) (format : Option Format) (old new : LogEvents) (count
       (Ok (next.Event raw)) → WritesEvent size counted_now sink_now sink_new so.given (raw_view raw)
       (Ok None)
       → SoFar limits format new counted_now start now sink_before sink_new
-  one_formed raw counted_now size sink_new is (more, due, reads) (none, counted, wrote) = record {
-    records = so.records ++ more;
-    given = so.given ++ raw_view raw ∷ [];
-    due = due;
-    reads = reads;
-    sound = one_sound (raw_view raw) so.given none so.sound;
-    counted = counted;
-    wrote = wrote_more (raw_view raw) sink_new
-        (subst (λ (n : ℕ). Wrote sink_now sink_new (spelled n (raw_view raw ∷ []))) is wrote);
-  }
+  one_formed raw counted_now size sink_new is (more, due, reads, lent) (none, counted, wrote) =
+      record {
+        records = so.records ++ more;
+        given = so.given ++ raw_view raw ∷ [];
+        due = due;
+        reads = reads;
+        sound = one_sound (raw_view raw) so.given none so.sound;
+        counted = counted;
+        wrote = wrote_more (raw_view raw) sink_new
+            (subst (λ (n : ℕ). Wrote sink_now sink_new (spelled n (raw_view raw ∷ []))) is wrote);
+      }
 
   -- and it is one more than before, of no more than the log has bytes
   pub fewer : (raw : code.Raw) (counted_now : Counts) (size : ℕ) (sink_new : Told)
       → Gives limits format new start now so.records so.given (Ok (next.Event raw))
       → WritesEvent size counted_now sink_now sink_new so.given (raw_view raw) (Ok None)
       → (limits.log + 1) - counted_now.all < (limits.log + 1) - counts.all
-  fewer raw counted_now size sink_new (more, due, reads) (none, counted, wrote) =
+  fewer raw counted_now size sink_new (more, due, reads, lent) (none, counted, wrote) =
       let given : List Raw = so.given ++ raw_view raw ∷ [] in
       let of_log = reads_given limits format new start now (so.records ++ more) given due reads in
       let has : HasGiven limits format (so.records ++ more) given of_log.bytes =
@@ -180,7 +194,7 @@ module _ (limits : Bounds) (format : Option Format) (old new : LogEvents) (count
         (raw_view raw) (Ok (Some outcome))
         → Normalizes limits (ports start now sink sink_new) (Ok outcome)
     unfolding line
-    fault_ends raw counted_now size outcome sink_new (more, due, reads)
+    fault_ends raw counted_now size outcome sink_new (more, due, reads, lent)
         (stays, (verdict, is, carries)) =
         let given : List Raw = so.given ++ raw_view raw ∷ [] in
         let form : List ℕ = form_of (format_or_one format) limits.chunk given in
@@ -218,7 +232,7 @@ module _ (limits : Bounds) (format : Option Format) (old new : LogEvents) (count
         → WritesEvent size counted_now sink_now sink_new so.given (raw_view raw) (Err fault)
         → Normalizes limits (ports start now sink sink_new) (Err fault)
     unfolding line
-    part_written raw counted_now size fault sink_new is (more, due, reads) (none, told) =
+    part_written raw counted_now size fault sink_new is (more, due, reads, lent) (none, told) =
         let given : List Raw = so.given ++ raw_view raw ∷ [] in
         let before_it : List ℕ = line ++ spelled limits.chunk so.given in
         let wrote : Wrote sink sink_now before_it =

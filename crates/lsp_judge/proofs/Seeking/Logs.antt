@@ -173,7 +173,7 @@ module _ (limits : Bounds) (old new : LogEvents) (start before now : Told) (n le
       → Gives limits p.format new start now p.records p.given (Ok (next.Event raw))
       → Wrote sink written (content_of (raw_view raw))
       → GivesEvent limits (ports start now sink written) n (Ok (outcome_of (raw_view raw)))
-  last_given sink written raw last (more, due, reads) wrote =
+  last_given sink written raw last (more, due, reads, lent) wrote =
       event_given limits p.format new start now sink written (p.records ++ more) p.given due
       (raw_view raw) reads n (omega (arith, last, p.count)) wrote
 
@@ -181,7 +181,7 @@ module _ (limits : Bounds) (old new : LogEvents) (start before now : Told) (n le
       → Gives limits p.format new start now p.records p.given (Ok (next.Event raw))
       → Stopped sink written (content_of (raw_view raw))
       → GivesEvent limits (ports start now sink written) n (Err faults.Write)
-  last_cut sink written raw last (more, due, reads) stopped =
+  last_cut sink written raw last (more, due, reads, lent) stopped =
       event_cut limits p.format new start now sink written (p.records ++ more) p.given due
       (raw_view raw) reads n (omega (arith, last, p.count)) stopped
 
@@ -189,7 +189,7 @@ module _ (limits : Bounds) (old new : LogEvents) (start before now : Told) (n le
   pub one_passed : (raw : code.Raw)
       → Gives limits p.format new start now p.records p.given (Ok (next.Event raw))
       → HasPassed limits new start now n (left - 1)
-  one_passed raw (more, due, reads) = record {
+  one_passed raw (more, due, reads, lent) = record {
     format = p.format;
     records = p.records ++ more;
     given = p.given ++ raw_view raw ∷ [];

@@ -2,7 +2,7 @@
 ghost use Rattle.std.specs.Prelude.{◌≡◌, None, OnOk, Some, if◌then◌else◌};
 ghost use Rattle.lsp_rpc.specs.Ident.{id_view, same_id};
 ghost use Rattle.lsp_rpc.specs.declared.message.Id.{Id as AnId};
-ghost use Rattle.lsp_survey.specs.SessionNoting.{asked_in};
+ghost use Rattle.lsp_survey.specs.ById.{asked_in};
 
 use indexmap::IndexMap;
 use lsp_rpc::{Id, Memory, copy_id};
@@ -19,7 +19,7 @@ pub(crate) fn put<V: Drop>(map: &mut IndexMap<Id, V>, id: &Id, value: V) -> Resu
 }
 
 /// Takes away what is held of a request.
-pub(crate) fn forget<V: Drop>(map: &mut IndexMap<Id, V>, id: &Id)
+pub fn forget<V: Drop>(map: &mut IndexMap<Id, V>, id: &Id)
     ensures { (k : AnId) → asked_in map.new.entries (id_view k)
         ≡ (if same_id (id_view id.now) (id_view k) then None else asked_in map.old.entries
         (id_view k)) }

@@ -172,7 +172,7 @@ some_malformed (content side bytes) (snapshot uri n t) = (None, refl)
 some_malformed (broken side rule) e = (None, refl)
 some_malformed (show n uri t) e = (None, refl)
 
-one_malformed : (raw : Raw) (e : Event) (a b : Option Message) → IsMalformed raw e a
+pub one_malformed : (raw : Raw) (e : Event) (a b : Option Message) → IsMalformed raw e a
     → IsMalformed raw e b → a ≡ b
 one_malformed (content side bytes) (fault by rule) a b p q = one_reading bytes a b p q
 one_malformed (content side bytes) (message m) a b p q = p ∙ sym q

@@ -1,44 +1,22 @@
-use Rattle.std.proofs.Common.{◌∙◌, ◌++◌, ap, subst, string_bytes}
-use Rattle.std.proofs.lemmas.Result.{IfOk-weaker}
-use Rattle.lsp_facts.specs.Lines.{content_event, content_message}
-use Rattle.lsp_survey.specs.Walking.{IsOffending}
-use Rattle.lsp_explain.proofs.SaidFacts.{line_said}
+use Rattle.std.proofs.Common.{◌∙◌, ◌++◌, ap, string_bytes}
+use Rattle.std.proofs.lemmas.Result.{on_ok_weaker}
+use Rattle.lsp_explain.proofs.SaidFacts.{bare_said, line_said}
 use Rattle.lsp_explain.proofs.offence_facts.push_event.Goals as goal
 
-pub returns-in-Frames : goal.returns-in-Frames
-returns-in-Frames c = IfOk-weaker c.push_bare_event.result _ _
-    (λ u says raw event terms kept rule reads is.
-    let o = c.args.offence.now in
-    says ∙ ap (λ w. string_bytes c.args.lines.now ++ w)
-    (line_said terms kept rule o.event o.who o.number raw event _ reads
-    (subst (IsOffending raw terms kept rule) c.in-Frames.is is))) c.push_bare_event.ensures
+pub returns-in-Some : goal.returns-in-Some
+returns-in-Some c = rw (c.in-Content.is, c.in-Some.is) (on_ok_weaker c.push_message_event.result
+    (λ said event kept reads speaks.
+    said ∙ ap (λ w. string_bytes c.args.lines.now ++ w)
+    (line_said kept _ c.in-Content.content.now event c.in-Some.spoken.now speaks.0
+    c.args.offence.now.event c.args.offence.now.number c.args.offence.now.who reads speaks.1))
+    c.push_message_event.ensures)
 
-pub returns-in-Content : goal.returns-in-Content
-returns-in-Content c = IfOk-weaker c.push_content_event.result _ _
-    (λ u says raw event terms kept rule reads is.
-    let o = c.args.offence.now in
-    let such = subst (IsOffending raw terms kept rule) c.in-Content.is is in
-    says
-    ∙ ap (λ w. string_bytes c.args.lines.now ++ content_event o.event o.who o.number
-    (content_message w))
-    c.as_slice.ensures.value
-    ∙ ap (λ w. string_bytes c.args.lines.now ++ w)
-    (line_said terms kept rule o.event o.who o.number raw event _ reads such))
-    c.push_content_event.ensures
+pub returns-in-None : goal.returns-in-None
+returns-in-None c = rw (c.in-Content.is, c.in-None.is) (on_ok_weaker c.push_content_event.result
+    (λ said event kept reads speaks. said) c.push_content_event.ensures)
 
-pub returns-in-Message : goal.returns-in-Message
-returns-in-Message c = IfOk-weaker c.push_message_event.result _ _
-    (λ u says raw event terms kept rule reads is.
-    let o = c.args.offence.now in
-    says ∙ ap (λ w. string_bytes c.args.lines.now ++ w)
-    (line_said terms kept rule o.event o.who o.number raw event _ reads
-    (subst (IsOffending raw terms kept rule) c.in-Message.is is))) c.push_message_event.ensures
-
-pub returns-in-Snapshot : goal.returns-in-Snapshot
-returns-in-Snapshot c = IfOk-weaker c.push_bare_event-in-Snapshot.result _ _
-    (λ u says raw event terms kept rule reads is.
-    let o = c.args.offence.now in
-    says ∙ ap (λ w. string_bytes c.args.lines.now ++ w)
-    (line_said terms kept rule o.event o.who o.number raw event _ reads
-    (subst (IsOffending raw terms kept rule) c.in-Snapshot.is is)))
-    c.push_bare_event-in-Snapshot.ensures
+pub returns-in_default : goal.returns-in_default
+returns-in_default c = on_ok_weaker c.push_bare_event.result (λ said event kept reads speaks.
+    said ∙ ap (λ w. string_bytes c.args.lines.now ++ w)
+    (bare_said c.args.offence.now.event c.args.offence.now.number c.args.offence.now.who c.args.raw
+    c.in_default.not-Content)) c.push_bare_event.ensures

@@ -2,8 +2,8 @@ use Rattle.std.specs.Prelude.{codes, option_map}
 use Rattle.std.proofs.Common.{◌++◌, ◌∷◌, [], List, ℕ, Option, Bor, sym, ap, ◌∙◌}
 use Rattle.std.proofs.lemmas.Result.{on_ok_weaker}
 use Rattle.json.specs.Print.{quoted}
-use Rattle.lsp_survey.specs.Renames.{renamed_view}
-use Rattle.lsp_survey.specs.declared.notes.renames.Renamed.{Renamed}
+use Rattle.lsp_explain.specs.Renames.{renamed_view}
+use Rattle.lsp_explain.specs.declared.notes.renames.Renamed.{Renamed}
 use Rattle.lsp_verdict.specs.Report.{line}
 use Rattle.lsp_facts.specs.Fact.{place_words}
 use Rattle.lsp_explain.specs.Remarks.{old_name_remarks}

@@ -2,13 +2,9 @@ use Rattle.std.specs.Prelude.{codes, map}
 use Rattle.std.proofs.Common.{◌∷◌, [], ◌++◌, Option, List, sym, ap, ◌∙◌, subst, append_assoc}
 use Rattle.lsp_session.specs.Sent.{Sent}
 use Rattle.lsp_session.specs.State.{Stands}
-use Rattle.lsp_verdict.specs.Event.{sent_in}
-use Rattle.lsp_verdict.specs.Offences.{kept_of}
-use Rattle.lsp_survey.specs.Asking.{numbered, sents, since}
-use Rattle.lsp_survey.specs.SessionNoting.{AreNotes}
+use Rattle.lsp_explain.specs.Asking.{numbered, sents, since}
 use Rattle.lsp_replay.specs.declared.heard.EventPlace.{EventPlace}
-use Rattle.lsp_survey.specs.declared.notes.session_notes.SessionNotes.{SessionNotes}
-use Rattle.lsp_survey.proofs.SessionSteps.{sents-numbered}
+use Rattle.lsp_explain.proofs.SessionSteps.{sents-numbered}
 use Rattle.lsp_facts.specs.Fact.{Fact, in_phase}
 use Rattle.lsp_explain.specs.Standing.{terms_in}
 use Rattle.lsp_explain.specs.Traced.{place_facts, waiting_by}
@@ -16,15 +12,11 @@ use Rattle.lsp_explain.proofs.trace.lack_traced.Goals as goal
 
 pub returns : goal.returns
 returns c = λ before stands.
-    let e = c.args.events.now in
-    let terms = terms_in e in
+    let terms = terms_in c.args.past in
     let said = numbered terms before in
-    let noted = subst (λ (s : SessionNotes). AreNotes terms s before)
-    (sym c.session_notes-said.ensures) stands.noted in
-    let sent = subst (λ (ms : List Sent). Stands c.session-session.result.now ms)
-    (sym (sents-numbered terms before))
-    (subst (λ s. Stands s (sent_in (kept_of terms before))) (sym c.session-session.ensures)
-    stands.holds.sent) in
+    let noted = stands.trail.noted in
+    let sent = subst (λ (ms : List Sent). Stands c.args.past.held.now.session ms)
+    (sym (sents-numbered terms before)) stands.holds.sent in
     let asked = c.in_ok-facts.ensures terms before noted
     ∙ ap (map (waiting_by said)) (c.pending.ensures (sents said) sent) in
     let phase = c.phase.ensures (sents said) sent in

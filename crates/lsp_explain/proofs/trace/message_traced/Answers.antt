@@ -2,13 +2,9 @@ use Rattle.std.proofs.Common.{◌++◌, ◌∙◌, ap, append_assoc, sym, subst}
 use Rattle.lsp_replay.specs.Places.{place_next}
 use Rattle.lsp_verdict.specs.Verdict.{who_of}
 use Rattle.lsp_rpc.specs.View.{act_view, message_view}
-use Rattle.lsp_survey.specs.Marks.{AreMarks}
-use Rattle.lsp_survey.specs.declared.notes.marks.Marks.{Marks}
 use Rattle.lsp_verdict.specs.Offences.{kept_of}
 use Rattle.lsp_facts.specs.EventFacts.{AreMessageFacts}
 use Rattle.lsp_explain.specs.Standing.{terms_in}
-use Rattle.lsp_survey.specs.SessionNoting.{AreNotes}
-use Rattle.lsp_survey.specs.declared.notes.session_notes.SessionNotes.{SessionNotes}
 use Rattle.lsp_explain.specs.Traced.{act_call}
 use Rattle.lsp_explain.specs.Unopened.{unopened_traced}
 use Rattle.lsp_explain.proofs.Tracing.{documents_traced, same_setter, session_traced}
@@ -16,21 +12,16 @@ use Rattle.lsp_explain.proofs.trace.message_traced.Goals as goal
 
 pub returns-then-rule-lt-FIRST_ON_DOCUMENTS : goal.returns-then-rule-lt-FIRST_ON_DOCUMENTS
 returns-then-rule-lt-FIRST_ON_DOCUMENTS c = λ content before stands next refused.
-    let terms = terms_in c.args.events.now in
+    let terms = terms_in c.args.past in
     let kept = kept_of terms before in
-    let told = rw (c.session-session.ensures, c.docs-docs.ensures) at c.in_ok-facts.ensures in
-    let marked = subst (λ (m : Marks). AreMarks terms m.map.entries before) (sym c.marks.ensures)
-    stands.marked in
-    let noted = subst (λ (s : SessionNotes). AreNotes terms s before)
-    (sym c.session_notes-said.ensures) stands.noted in
     let plain = c.in_ok-facts.facts in
-    let setter = c.in_ok-set_by.ensures terms before marked
+    let setter = c.in_ok-set_by.ensures terms before stands.trail.marked
     ∙ same_setter terms before refused.sent (act_view c.args.spoken.now.act) _ refused.means
     c.uri_in.ensures in (
       plain,
       subst (λ o. AreMessageFacts terms kept refused.sent c.args.rule o plain) setter
-          (told content kept stands.holds refused),
-      c.in_ok-trace_message.ensures terms before noted
+          (c.in_ok-facts.ensures content kept stands.holds refused),
+      c.in_ok-trace_message.ensures terms before stands.trail.noted
           ∙ ap (λ l. plain ++ l) (session_traced terms before c.args.place c.args.rule refused.sent
           c.args.side (message_view c.args.spoken.now.message) (act_view c.args.spoken.now.act)
           refused.reads.by refused.says refused.means
@@ -40,19 +31,16 @@ returns-then-rule-lt-FIRST_ON_DOCUMENTS c = λ content before stands next refuse
 
 pub returns : goal.returns
 returns c = λ content before stands next refused.
-    let terms = terms_in c.args.events.now in
+    let terms = terms_in c.args.past in
     let kept = kept_of terms before in
-    let told = rw (c.session-session.ensures, c.docs-docs.ensures) at c.in_ok-facts.ensures in
-    let marked = subst (λ (m : Marks). AreMarks terms m.map.entries before) (sym c.marks.ensures)
-    stands.marked in
     let act = act_view c.args.spoken.now.act in
     let plain = c.in_ok-facts.facts in
-    let setter = c.in_ok-set_by.ensures terms before marked
+    let setter = c.in_ok-set_by.ensures terms before stands.trail.marked
     ∙ same_setter terms before refused.sent act _ refused.means c.uri_in.ensures in
     let unopened = unopened_traced terms before c.args.rule (act_call terms before act) in (
       plain,
       subst (λ o. AreMessageFacts terms kept refused.sent c.args.rule o plain) setter
-          (told content kept stands.holds refused),
+          (c.in_ok-facts.ensures content kept stands.holds refused),
       c.in_ok-trace_unopened.ensures before stands
           ∙ ap (λ l. l ++ unopened) (c.in_ok-trace_act.ensures before stands)
           ∙ append_assoc plain _ unopened

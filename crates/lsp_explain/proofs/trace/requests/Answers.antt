@@ -1,7 +1,7 @@
 use Rattle.std.proofs.Common.{◌≡◌, List, [], ◌∷◌, ◌++◌, map, None, refl, sym, ap, ◌∙◌, append-nil}
 use Rattle.std.specs.Prelude.{slice_get}
 use Rattle.std.proofs.lemmas.Option.{none-some}
-use Rattle.lsp_survey.specs.Asking.{numbered}
+use Rattle.lsp_explain.specs.Asking.{numbered}
 use Rattle.lsp_explain.specs.Traced.{waiting_by}
 use Rattle.lsp_explain.proofs.trace.requests.Goals as goal
 

@@ -1,8 +1,8 @@
 use Rattle.std.proofs.Common.{◌≡◌, ◌++◌, List, length, map}
 use Rattle.lsp_docs.specs.Terms.{Terms}
 use Rattle.lsp_verdict.specs.Event.{Event}
-use Rattle.lsp_survey.specs.Asking.{numbered}
-use Rattle.lsp_survey.specs.SessionNoting.{AreNotes}
+use Rattle.lsp_explain.specs.Asking.{numbered}
+use Rattle.lsp_explain.specs.SessionNoting.{AreNotes}
 use Rattle.lsp_explain.specs.Traced.{waiting_by}
 use Rattle.lsp_explain.proofs.trace.requests.Given as goal
 

@@ -12,7 +12,7 @@ use Rattle.lsp_types.specs.declared.position.Encoding.TheVariants.{Utf16}
 use Rattle.lsp_verdict.specs.Calls.{calls, edit_of}
 use Rattle.lsp_verdict.specs.Event.{sent_in}
 use Rattle.lsp_verdict.specs.Offences.{kept_of}
-use Rattle.lsp_survey.specs.Marking.{steps, waiting_for}
+use Rattle.lsp_explain.specs.Marking.{steps, waiting_for}
 use Rattle.lsp_facts.specs.Refuting.{refuting}
 use Rattle.lsp_explain.specs.Standing.{terms_in}
 use Rattle.lsp_explain.specs.Traced.{act_call, call_traced, document_traced}
@@ -22,7 +22,7 @@ use Rattle.lsp_explain.proofs.trace.trace_act.Goals as goal
 pub returns-in-DidOpen : goal.returns-in-DidOpen
 returns-in-DidOpen c =
     let fits : SFits w32 c.in-DidOpen.version = search rules in
-    let terms = terms_in c.args.events.now in
+    let terms = terms_in c.args.past in
     let old = c.args.facts.now in
     let number = c.in-DidOpen.version in
     let call : Call = opens (string_bytes c.in-DidOpen.uri) number
@@ -42,7 +42,7 @@ returns-in-DidOpen c =
 pub returns-in-DidChange : goal.returns-in-DidChange
 returns-in-DidChange c =
     let fits : SFits w32 c.in-DidChange.version = search rules in
-    let terms = terms_in c.args.events.now in
+    let terms = terms_in c.args.past in
     let old = c.args.facts.now in
     let number = c.in-DidChange.version in
     let told = simp to_z-of_z at c.trace_text-in-DidChange.ensures in

@@ -3,7 +3,7 @@ use Rattle.std.proofs.Common.{◌++◌, sym, ap, ◌∙◌, append_assoc}
 use Rattle.std.proofs.lemmas.Result.{on_ok_weaker}
 use Rattle.lsp_rpc.specs.Ident.{id_view}
 use Rattle.lsp_session.specs.Sent.{other_side}
-use Rattle.lsp_survey.specs.Asking.{answered, numbered}
+use Rattle.lsp_explain.specs.Asking.{answered, numbered}
 use Rattle.lsp_explain.specs.Traced.{id_trace, place_facts, twin_facts}
 use Rattle.lsp_explain.specs.Twins.{twin}
 use Rattle.lsp_explain.proofs.trace.trace_id.Goals as goal

@@ -2,7 +2,7 @@ use Rattle.std.specs.Prelude.{codes, if◌then◌else◌, option_map, unwrap_or}
 use Rattle.std.proofs.Common.{◌++◌, [], sym, ap, ◌∙◌}
 use Rattle.std.proofs.lemmas.Result.{on_ok_weaker}
 use Rattle.lsp_rpc.specs.View.{message_view}
-use Rattle.lsp_survey.specs.Asking.{numbered, since}
+use Rattle.lsp_explain.specs.Asking.{numbered, since}
 use Rattle.lsp_facts.specs.MessageFacts.{id_in}
 use Rattle.lsp_explain.specs.Traced.{id_trace, place_facts}
 use Rattle.lsp_explain.proofs.trace.trace_message.Goals as goal

@@ -1,20 +1,16 @@
 use Rattle.std.specs.Prelude.{unwrap_or}
-use Rattle.std.proofs.Common.{[], ◌++◌, List, sym, ap, ◌∙◌, subst, w32}
+use Rattle.std.proofs.Common.{[], ◌++◌, List, ap, ◌∙◌, w32}
 use Rattle.std.proofs.lemmas.Int.{to_z-of_z}
 use Rattle.std.proofs.lemmas.Result.{on_ok_weaker}
 use mir.Val.{SFits}
-use Rattle.lsp_docs.specs.State.{Stands as DocsStand}
 use Rattle.lsp_rpc.specs.View.{act_view}
 use Rattle.lsp_session.specs.Negotiation.{encoding, sync_kind}
-use Rattle.lsp_session.specs.State.{Stands as SessionStands}
 use Rattle.lsp_types.specs.declared.change.SyncKind.TheVariants.{Nothing}
 use Rattle.lsp_types.specs.declared.position.Encoding.TheVariants.{Utf16}
 use Rattle.lsp_verdict.specs.Calls.{calls, call_of}
 use Rattle.lsp_verdict.specs.Event.{sent_in}
 use Rattle.lsp_verdict.specs.Offences.{kept_of}
-use Rattle.lsp_survey.specs.Marking.{steps, waiting_for}
-use Rattle.lsp_survey.specs.Marks.{AreMarks}
-use Rattle.lsp_survey.specs.declared.notes.marks.Marks.{Marks}
+use Rattle.lsp_explain.specs.Marking.{steps, waiting_for}
 use Rattle.lsp_replay.specs.declared.heard.EventPlace.{EventPlace}
 use Rattle.lsp_facts.specs.Refuting.{refuting}
 use Rattle.lsp_explain.specs.Standing.{terms_in}
@@ -27,13 +23,12 @@ use Rattle.lsp_explain.proofs.trace.trace_text.Goals as goal
 pub returns-then-rule-ne-SNAPSHOT_DIFFERS : goal.returns-then-rule-ne-SNAPSHOT_DIFFERS
 returns-then-rule-ne-SNAPSHOT_DIFFERS c =
     let fits : SFits w32 c.args.version = c.ranges.version in
-    let terms = terms_in c.args.events.now in
+    let terms = terms_in c.args.past in
     let until : Until = untils.Message c.args.place c.args.version in
     let uri = c.args.uri.now in
     on_ok_weaker c.trace_document.result
     (λ says before call stands is.
-    says terms before (subst (λ (m : Marks). AreMarks terms m.map.entries before)
-    (sym c.marks-marks.ensures) stands.marked)
+    says terms before stands.trail.marked
     ∙ ap (λ l. c.args.facts.now ++ l) (names_no_texts (steps terms uri before) []
     (refuting terms (calls (kept_of terms before)) call
     (waiting_for c.args.version (steps terms uri before))) until c.args.rule
@@ -43,27 +38,22 @@ returns-then-rule-ne-SNAPSHOT_DIFFERS c =
 pub returns : goal.returns
 returns c =
     let fits : SFits w32 c.args.version = c.ranges.version in
-    let terms = terms_in c.args.events.now in
+    let terms = terms_in c.args.past in
     let uri = c.args.uri.now in
     let until : Until = untils.Message c.args.place c.args.version in
     let waits = simp to_z-of_z at c.waiting-waiting.ensures in
     on_ok_weaker c.trace_document-2.result
     (λ says before call stands is.
     let kept = kept_of terms before in
-    let marked = subst (λ (m : Marks). AreMarks terms m.map.entries before)
-    (sym c.marks-marks.ensures) stands.marked in
-    let sent = subst (λ s. SessionStands s (sent_in kept)) (sym c.session.ensures)
-    stands.holds.sent in
-    let called = subst (λ d. DocsStand d (calls kept)) (sym c.docs.ensures) stands.holds.called in
+    let marked = stands.trail.marked in
     let kind = unwrap_or (sync_kind (sent_in kept)) Nothing in
     let agreed = c.unwrap_or-encoding.ensures
-    ∙ ap (λ o. unwrap_or o Utf16) (c.encoding.ensures (sent_in kept) sent) in
-    let found = c.in_ok-snapshots.ensures kind (calls kept) call called
+    ∙ ap (λ o. unwrap_or o Utf16) (c.encoding.ensures (sent_in kept) stands.holds.sent) in
+    let found = c.in_ok-snapshots.ensures kind (calls kept) call stands.holds.called
     (ap (λ e. call_of e kind (act_view c.args.act.now)) agreed ∙ is) in
     says terms before marked
     ∙ ap (λ (ns : List EventPlace). c.args.facts.now
     ++ document_traced (steps terms uri before) ns until c.args.rule)
     (c.as_slice.ensures.value ∙ found
-    ∙ ap (λ d. refuting d.terms (calls kept) call c.waiting-waiting.result.now) c.docs.ensures
     ∙ ap (refuting terms (calls kept) call) (waits terms before marked)))
     (simp to_z-of_z at c.trace_document-2.ensures)

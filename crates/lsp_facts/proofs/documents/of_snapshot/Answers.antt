@@ -5,14 +5,15 @@ use Rattle.std.specs.Str.{chars}
 use mir.Val.{SFits}
 use Rattle.lsp_types.specs.declared.line_ends.LineEnds.{LineEnds}
 use Rattle.lsp_facts.specs.DocumentFacts.{AreApart}
-use Rattle.lsp_facts.proofs.DocumentRules.{IsOther, show_explained, show_absurd}
+use Rattle.lsp_facts.proofs.DocumentRules.{IsOther, show_explained, show_absurd, shown_other}
 use Rattle.lsp_facts.proofs.documents.of_snapshot.Goals as goal
 
 pub returns-in_default : goal.returns-in_default
 returns-in_default g c = λ calls h e.
     let fits : SFits w32 c.args.version = c.ranges.version in
     let none = simp to_z-of_z at c.in_default.ensures in
-    absurd (show_absurd c.args.docs.now.terms.line_ends c.args.version (chars c.args.text.now) _ _ c.args.rule c.if-rule-eq-LATE_SNAPSHOT.false e (sym (none calls h)))
+    absurd (show_absurd c.args.docs.now.terms.line_ends c.args.version (chars c.args.text.now) _ _ c.args.rule c.if-rule-eq-LATE_SNAPSHOT.false e (sym (shown_other c.args.docs.now calls h c.args.uri.now c.args.version (chars c.args.text.now)
+    c.args.rule c.if-rule-eq-LATE_SNAPSHOT.false e _ (none calls h))))
 
 pub returns : goal.returns
 returns g c =
@@ -26,4 +27,5 @@ returns g c =
     → AreApart x c.args.encoding held text (codes "in-editor") c.in_ok-facts.facts)
     c.line_ends.ensures c.in_ok-facts.ensures in
     λ calls h e.
-    show_explained c.args.docs.now.terms.line_ends c.args.encoding c.args.version (chars c.args.text.now) _ _ c.args.rule held c.in_ok-facts.facts c.if-rule-eq-LATE_SNAPSHOT.false e (sym (found calls h) ∙ ap Some (sym same)) apart
+    show_explained c.args.docs.now.terms.line_ends c.args.encoding c.args.version (chars c.args.text.now) _ _ c.args.rule held c.in_ok-facts.facts c.if-rule-eq-LATE_SNAPSHOT.false e (sym (shown_other c.args.docs.now calls h c.args.uri.now c.args.version text c.args.rule
+    c.if-rule-eq-LATE_SNAPSHOT.false e _ (found calls h)) ∙ ap Some (sym same)) apart

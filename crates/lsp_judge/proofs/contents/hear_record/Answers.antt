@@ -29,13 +29,13 @@ loop-raw-preserved g c = λ limits format records o.
     let next = rw c.in-Some.is at c.next.follows.holds-at-none in
     let (heard, due, h) = c.loop-raw.invariant limits format records o in
     let gives = next.gives limits _ h.past due h.stands in
-    let one = c.in_ok-take.ensures.ok.1 _ h.past heard h.has in (
+    let one = c.in_ok-take.ensures.ok _ h.past heard h.has in (
       heard ++ one.0 ∷ [],
       gives.0,
       record {
         past = h.past ++ raw_view c.in-Some.raw ∷ [];
         stands = gives.2;
-        has = one.2;
+        has = one.1;
       },
     )
 

@@ -6,12 +6,9 @@ use Rattle.lsp_judge.proofs.Hearing.{hears_one}
 use Rattle.lsp_judge.proofs.contents.take.Goals as goal
 
 pub returns-in-Ok-clause-ok : goal.returns-in-Ok-clause-ok
-returns-in-Ok-clause-ok g c = (
-  c.in-Ok.ensures.ok.0,
-  λ terms raws so_far has.
-      hears_one terms _ _ _ _ _ _ raws so_far (raw_view c.args.raw) _ has c.in-Ok.ensures.terms
-      (c.in-Ok.ensures.ok.1 so_far has.follows.holds),
-)
+returns-in-Ok-clause-ok g c = λ terms raws so_far has.
+    hears_one terms _ _ _ _ _ _ raws so_far (raw_view c.args.raw) has c.in-Ok.ensures.terms
+    (c.in-Ok.ensures.ok so_far has.follows.holds)
 
 pub returns-in-Err-clause-no : goal.returns-in-Err-clause-no
 returns-in-Err-clause-no g c = λ so_far follows.

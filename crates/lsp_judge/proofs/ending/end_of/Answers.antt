@@ -1,23 +1,14 @@
-use Rattle.lsp_judge.proofs.Finals.{rest_ends, lack_ends, yes_ends}
+use Rattle.lsp_judge.proofs.Finals.{no_ends, yes_ends}
 use Rattle.lsp_judge.proofs.ending.end_of.Goals as goal
 
 pub returns-in-Some : goal.returns-in-Some
 returns-in-Some g c = λ so_far follows.
-    let terms = c.args.events.now.docs.terms in
-    rest_ends c.args.completeness terms so_far c.args.editor c.args.server c.in-Some.ruling
-    (rw c.in-Some.is at (c.rest_in.ensures so_far follows.counted))
+    no_ends c.args.completeness c.args.events.now.docs.terms so_far c.args.editor c.args.server _
+    (c.end_rule.ensures so_far follows) c.in-Some.rule c.in-Some.who c.no_next.result c.in-Some.is
+    (c.no_next.ensures.no so_far follows.counted)
 
-pub returns-in-Some-lack_in : goal.returns-in-Some-lack_in
-returns-in-Some-lack_in g c = λ so_far follows.
-    let terms = c.args.events.now.docs.terms in
-    lack_ends c.args.completeness terms so_far c.args.editor c.args.server c.in-Some-lack_in.ruling
-    (rw c.in_default.is at (c.rest_in.ensures so_far follows.counted))
-    (rw c.in-Some-lack_in.is at (c.lack_in.ensures so_far follows))
-
-pub returns : goal.returns
-returns g c = λ so_far follows.
-    let terms = c.args.events.now.docs.terms in
-    yes_ends c.args.completeness terms so_far c.args.editor c.args.server c.in_ok-summary_of.field-0
-    (rw c.in_default.is at (c.rest_in.ensures so_far follows.counted))
-    (rw c.in_default-lack_in.is at (c.lack_in.ensures so_far follows))
-    (c.in_ok-summary_of.ensures so_far follows)
+pub returns-in_ok-summary_of-in-None : goal.returns-in_ok-summary_of-in-None
+returns-in_ok-summary_of-in-None g c = λ so_far follows.
+    yes_ends c.args.completeness c.args.events.now.docs.terms so_far c.args.editor c.args.server _
+    (c.end_rule.ensures so_far follows) c.in_ok-summary_of-in-None.field-0 c.in-None.is
+    (c.in_ok-summary_of-in-None.ensures so_far follows)

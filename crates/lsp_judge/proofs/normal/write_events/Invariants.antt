@@ -1,7 +1,7 @@
 use Rattle.std.proofs.Common.{◌+◌, ◌-◌}
 use Rattle.lsp_frame.specs.Told.{Told}
 use Rattle.lsp_replay.specs.LogEvents.{Opens}
-use Rattle.lsp_judge.specs.NormalSteps.{SoFar}
+use Rattle.lsp_judge.proofs.Forming.Logs.{SoFar}
 use Rattle.lsp_judge.proofs.normal.write_events.Given as goal
 
 abbrev pub invariant-loop-fault : goal.invariant-loop-fault

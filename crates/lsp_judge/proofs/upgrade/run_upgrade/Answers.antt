@@ -7,9 +7,13 @@ use Rattle.lsp_frame.proofs.Telling.{took_then}
 use Rattle.lsp_frame.proofs.Writing.{wrote_then}
 use Rattle.lsp_log.specs.Log.{Fits}
 use Rattle.lsp_log.specs.Records.{record_view}
+use Rattle.lsp_docs.specs.Terms.{terms_of}
+use Rattle.lsp_replay.specs.LogEvents.{flaw_of}
 use Rattle.lsp_replay.proofs.Pulling.{known_record, refused_record}
 use Rattle.lsp_verdict.proofs.Entries.{is_first, record_fits}
+use Rattle.lsp_verdict.proofs.Outcomes.{judged_by}
 use Rattle.lsp_verdict.specs.Upgraded.{upgraded}
+use Rattle.lsp_judge.proofs.Finals.{closed_final}
 use Rattle.lsp_judge.proofs.UpgradedLogs.{all_accepted, all_upgraded, broke, head_is, none_accepted}
 use Rattle.lsp_judge.proofs.UpgradedLogs.{offended, one_more, one_written, refused_end, unwritten}
 use Rattle.lsp_judge.proofs.upgrade.run_upgrade.Goals as goal
@@ -45,7 +49,7 @@ loop-next-init g c =
     let start = g.R.Source.told c.args.reader.now in
     let idle = c.new-log.ensures.idle start in
     let read = c.in_ok-next.ensures in
-    let of = c.of-events.ensures in
+    let new = c.new-events.ensures in
     record {
       records = [];
       early = λ none. refl;
@@ -53,12 +57,16 @@ loop-next-init g c =
         [],
         record {
           past = [];
-          stands = rw (of.log, read.streams) idle.stands;
-          has = rw of.log of.has;
+          stands = rw read.streams idle.stands;
+          has = record {
+            read = tt;
+            by = new.terms ∙ ap (terms_of c.args.limits)
+                (judged_by _ _ _ c.unwrap_or-format.ensures c.format.ensures);
+            follows = new.follows;
+          };
         },
       );
-      next_is = rw of.log (read.answer c.args.limits start [] [] idle);
-      ignored = of.completeness;
+      next_is = read.answer c.args.limits start [] [] idle;
       wrote = subst (Wrote _ _) head_is c.in_ok-write_head_of.ensures;
     }
 
@@ -66,21 +74,18 @@ loop-next-init g c =
 pub returns-in-End : goal.returns-in-End
 returns-in-End g c =
     let u = rw c.in-End.is at c.loop-next.invariant in
+    let told = c.in_ok-verdict-in-End.ensures u.heard.0 u.heard.1.has.follows in
     record {
-      upgraded = all_upgraded _ _ u.records (all_accepted _ _ _ _ _ _ _ u.heard u.early) _ _ _ _ u.heard.1.past
-          u.wrote c.in-End.end _ u.next_is
-          (rw u.ignored at (c.in_ok-finish-in-End.ensures _ _ _ u.heard.0 (record {
-            records = u.records;
-            given = u.heard.1.past;
-            ended = u.next_is;
-            has = u.heard.1.has;
-          })));
+      upgraded = all_upgraded _ _ u.records (all_accepted _ _ _ _ _ _ _ u.heard u.early) _ _ _ _
+          u.heard.1.past u.wrote c.in-End.end _ u.next_is
+          (λ w exact final. closed_final _ _ _ _ _ _ u.records u.heard.1.past u.heard.0
+          u.heard.1.stands u.heard.1.has (flaw_of c.in-End.end) _ w told exact final);
     }
 
-pub returns-in_err-finish-in-End : goal.returns-in_err-finish-in-End
-returns-in_err-finish-in-End g c =
+pub returns-in_err-verdict-in-End : goal.returns-in_err-verdict-in-End
+returns-in_err-verdict-in-End g c =
     let u = rw c.in-End.is at c.loop-next.invariant in
-    let from = c.from_residual-in_err-finish-in-End in
+    let from = c.from_residual-in_err-verdict-in-End in
     let p = err_from_is_err_and from.result from.ensures.1 in
     rw (p.1, p.2) (record {
       upgraded = refused_end _ _ u.records (all_accepted _ _ _ _ _ _ _ u.heard u.early) _ _ _ _
@@ -175,13 +180,13 @@ loop-next-preserved g c =
     let heard = c.in-Ok.ensures.ok _ _ u.records u.heard in
     let all = u.records ++ record_view c.in-Record.record ∷ [] in
     let read = c.in_ok-next-2.ensures in
-    one_written _ _ _ _ _ _ _ _ _ all (known_record _ u.records _ u.next_is.at.early) read.format
+    one_written _ _ _ _ _ _ _ _ _ _ _ _ all (known_record _ u.records _ u.next_is.at.early) read.format
     read.streams heard
     (read.answer _ _ all heard.1.past (record {
       same = u.next_is.same;
       goes_on = u.next_is.goes_on;
       at = u.next_is.at;
       stands = heard.1.stands;
-    })) u.ignored
+    }))
     (subst (Wrote _ _) (sym (one_more u.records _ _ c.in_ok-copy-in-Record.ensures))
     (wrote_then _ _ _ _ _ u.wrote c.in_ok-write_record-in-Ok.ensures))

@@ -1,32 +1,18 @@
-use Rattle.std.proofs.Common.{refl, sym, subst, ◌∙◌, w32, rules, chars}
+use Rattle.std.proofs.Common.{refl, w32, rules, chars}
 use Rattle.std.proofs.lemmas.Int.{to_z-of_z}
 use Rattle.std.proofs.lemmas.Result.{err_from_is_err_and}
 use mir.Val.{SFits}
 use Rattle.lsp_verdict.specs.Calls.{calls}
-use Rattle.lsp_verdict.specs.Counting.{AreCounts}
 use Rattle.lsp_verdict.specs.Event.{fault, snapshot}
-use Rattle.lsp_verdict.specs.declared.counts.Counts.{Counts}
-use Rattle.lsp_replay.specs.declared.heard.Heard.TheVariants as heard
-use Rattle.lsp_replay.proofs.Following.{message_keeps, shown_holds}
+use Rattle.lsp_replay.proofs.Following.{shown_holds}
 use Rattle.lsp_replay.proofs.Hearing.{shown_for}
 use Rattle.lsp_replay.proofs.events.Events.take.Goals as goal
 
-pub returns-in_ok-take_content-in-Content-clause-ok :
-    goal.returns-in_ok-take_content-in-Content-clause-ok
-returns-in_ok-take_content-in-Content-clause-ok g c =
-    let at = c.in-Content in
-    let hear = c.in_ok-take_content-in-Content in
-    let took = hear.ensures.ok in
-    rw at.is (
-      heard.Message at.side took.0,
-      λ events holds.
-          message_keeps at.side at.content.now took.0 c.args.self.now.docs.terms
-          c.args.self.now.counts c.add.new.self c.take_content.new.self.session
-          c.take_content.new.self.docs events (took.1 events holds)
-          (λ all event counts own. c.add.ensures all event
-          (subst (λ (w : Counts). AreCounts w all) (sym hear.ensures.counts) counts)
-          (own ∙ sym c.who_of.ensures)),
-    )
+pub returns-in-Content-clause-ok : goal.returns-in-Content-clause-ok
+returns-in-Content-clause-ok g c = rw c.in-Content.is c.take_content.ensures.ok
+
+pub returns-in-Content-clause-rule : goal.returns-in-Content-clause-rule
+returns-in-Content-clause-rule g c = rw c.in-Content.is c.take_content.ensures.rule
 
 pub returns-in-Broken-clause-rule : goal.returns-in-Broken-clause-rule
 returns-in-Broken-clause-rule g c =
@@ -39,25 +25,18 @@ returns-in_ok-_answer-in-Snapshot-clause-ok g c =
     let shown = c.in_ok-_answer-in-Snapshot in
     let fits : SFits w32 at.version = search rules in
     let accepts = simp to_z-of_z at shown.ensures.accepts in
-    let answer = simp to_z-of_z at shown.ensures.answer in
     let uri = at.uri.now in
     let text = chars at.text.now in
-    rw at.is (
-      heard.Snapshot at.version at.uri at.text shown._answer,
-      λ events holds.
-          record {
-            event = snapshot uri at.version text;
-            reads = refl;
-            is_heard = (refl, refl, refl);
-            answers = answer (calls events) holds.called;
-            whole = tt;
-            accepted = accepts.accepted (calls events) holds.called;
-            holds = shown_holds c.args.self.now.session c.snapshot.new.self events uri at.version text
-                holds.sent (accepts.stands (calls events) holds.called);
-            counted = λ all counts.
-                c.add-in-Snapshot.ensures all (snapshot uri at.version text) counts refl;
-          },
-    )
+    rw at.is (λ events holds.
+    record {
+      event = snapshot uri at.version text;
+      reads = refl;
+      accepted = accepts.accepted (calls events) holds.called;
+      holds = shown_holds c.args.self.now.session c.snapshot.new.self events uri at.version text
+          holds.sent (accepts.stands (calls events) holds.called);
+      counted = λ all counts.
+          c.add.ensures all (snapshot uri at.version text) counts refl;
+    })
 
 pub returns-in_err-_answer-in-Snapshot-clause-rule :
     goal.returns-in_err-_answer-in-Snapshot-clause-rule
@@ -65,8 +44,7 @@ returns-in_err-_answer-in-Snapshot-clause-rule g c =
     let at = c.in-Snapshot in
     let fits : SFits w32 at.version = search rules in
     let told = simp to_z-of_z at c.in_err-_answer-in-Snapshot.ensures.refuses in
-    let from = c.from_residual-in_err-_answer-in-Snapshot in
-    let p = err_from_is_err_and from.result from.ensures.1 in
+    let p = err_from_is_err_and c.from_residual.result c.from_residual.ensures.1 in
     rw (p.1, at.is) (λ events holds.
     rw p.2 (shown_for at.uri.now at.text.now at.version c.args.self.now.docs.terms
     events _ (told (calls events) holds.called)))

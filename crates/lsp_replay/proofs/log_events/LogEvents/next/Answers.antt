@@ -10,8 +10,9 @@ returns-in-Ok-Event g c = (
     λ limits format start records given due h.
         let finds = rw c.in-Ok-Event.field-0-is at
         (c.in-Ok-Event.ensures.answer limits format start records given due h) in
-        lent_event limits format c.find.new.self start _ records given c.in-Ok-Event.due _
-        c.lend.ensures finds,
+        let gave = lent_event limits format c.find.new.self start _ records given c.in-Ok-Event.due _
+        c.lend.ensures.raw finds in
+        (gave.0, gave.1, gave.2, c.lend.ensures.rest),
   ),
   record { lends = tt },
 )

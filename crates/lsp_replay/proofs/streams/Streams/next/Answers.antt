@@ -30,7 +30,7 @@ returns-in-Some c =
         λ s. tt,
         record {
           gives = λ limits records given left h.
-              lent limits new records given left due _ c.lend.ensures
+              lent limits new records given left due _ c.lend.ensures.raw
               (stepped limits records given left old new (Some due) steps h);
           less = fewer old new due steps;
         },

@@ -1,0 +1,209 @@
+-- The steps of the accounts that explain a log.
+use Rattle.std.specs.Prelude.{filter, is_some, not, option_map, unwrap_or, if◌then◌else◌}
+use Rattle.std.specs.List.{cons_option}
+use Rattle.std.specs.Option.{option_or}
+use Rattle.std.proofs.Common.{◌≡◌, ℕ, Bool, true, false, List, [], ◌∷◌, ◌++◌, Option, Some, None, refl}
+use Rattle.std.proofs.Common.{sym, ap, ◌∙◌, subst, append_assoc, append-nil}
+use Rattle.std.proofs.lemmas.List.{map-append}
+use Rattle.lsp_docs.specs.Terms.{Terms}
+use Rattle.lsp_replay.specs.Telling.{Says, rule_of}
+use Rattle.lsp_replay.specs.declared.seen.Flow.TheVariants.{GoOn, Stop}
+use Rattle.lsp_replay.proofs.PassEnds.{Boxed}
+use Rattle.lsp_replay.proofs.Seeing.{events-push}
+use Rattle.lsp_survey.specs.Lost.{WasTold, follows_at}
+use Rattle.lsp_survey.specs.Reported.{IsTally}
+use Rattle.lsp_survey.specs.declared.offence_count.OffenceCount.{OffenceCount}
+use Rattle.lsp_verdict.specs.Event.{Event}
+use Rattle.lsp_verdict.specs.Given.{verdict_view}
+use Rattle.lsp_verdict.specs.Heard.{Heard, Rests, heard_events, notes_of}
+use Rattle.lsp_verdict.specs.Offences.{Offence, follows, kept_of, offence_by, offences}
+use Rattle.lsp_verdict.specs.Verdict.{Verdict, first_no, no_at, no_by, offence}
+use Rattle.lsp_verdict.specs.declared.outcome.Outcome.TheVariants.{Judged}
+use Rattle.lsp_verdict.specs.declared.verdict.Verdict as code
+use Rattle.lsp_verdict.proofs.LookBackLemmas.{first_of-snoc}
+use Rattle.lsp_verdict.proofs.Offences.Offending.{all_are_kept}
+use Rattle.lsp_verdict.proofs.Offences.Steps.{offences-push}
+use Rattle.lsp_explain.specs.Accounts.{AllStands, FirstStands, TellsOf}
+use Rattle.lsp_explain.specs.AllExplained.{cause_lines, is_cause}
+use Rattle.lsp_explain.specs.ExplainRuns.{SaysCauses, SaysFirst, all_run, cause_at, explain_run}
+use Rattle.lsp_explain.specs.ExplainRuns.{first_lines}
+use Rattle.lsp_explain.specs.Explained.{Breach, breach}
+use Rattle.lsp_explain.specs.Remarks.{noticed, remark_lines, remarks_of}
+use Rattle.lsp_explain.specs.Trails.{IsTrail}
+use Rattle.lsp_explain.specs.declared.run.FirstOffence.{FirstOffence}
+use Rattle.lsp_explain.specs.declared.run_all.AllCauses.{AllCauses}
+
+module _ (terms : Terms) (before : List Heard) (h : Heard) where
+  abbrev events : List Event
+  events = heard_events before
+
+  -- where no event before it offends, nor does this one
+  pub clean_on : first_no terms events ≡ None → rule_of terms before h ≡ None
+      → first_no terms (heard_events (before ++ h ∷ [])) ≡ None
+  clean_on clean kept =
+      let same : kept_of terms events ≡ events = all_are_kept terms events clean in
+      ap (first_no terms) (events-push before h)
+      ∙ first_of-snoc (no_at terms) events h.note.event
+      ∙ ap (λ o. option_or o (no_at terms events h.note.event)) clean
+      ∙ ap (option_map (no_by events h.note.event))
+      (ap (λ es. offence terms es h.note.event) (sym same) ∙ kept)
+
+  -- ---- `explain`
+
+  module _ (account next : FirstOffence) (stands : FirstStands account terms before)
+      (Fits : Rests → Type 0) (old : List ℕ) where
+    -- an event that is kept says nothing
+    pub first_kept : rule_of terms before h ≡ None
+        → IsTrail terms next.trail (heard_events (before ++ h ∷ []))
+        → Says (explain_run account.completeness) terms before h Fits old old
+        (FirstStands next terms (before ++ h ∷ [])) GoOn
+    first_kept kept trail = record {
+      said = [];
+      added = sym (append-nil old);
+      is = λ rests fits. subst (λ (o : Option ℕ). SaysFirst rests terms
+          (option_map (breach before h) o) []) (sym kept) refl;
+      goes = (ap is_some kept, record { noted = trail; clean = clean_on stands.clean kept });
+    }
+
+    -- one that offends is explained
+    pub first_told : (Stands : Type 0) (rule : ℕ) (given : code.Verdict) (boxed : Boxed)
+        (mid new : List ℕ) → boxed.value ≡ Judged given → rule_of terms before h ≡ Some rule
+        → verdict_view given ≡ no_by events h.note.event rule
+        → TellsOf terms before h rule Fits old mid
+        → new ≡ mid ++ remark_lines (remarks_of (verdict_view given) (noticed terms events))
+        → Says (explain_run account.completeness) terms before h Fits old new Stands
+        (Stop boxed)
+    first_told Stands rule given boxed mid new is_boxed offends verdict told noted =
+        let e = told.e in
+        let notes : Verdict → List ℕ = λ v. remark_lines (remarks_of v (noticed terms events)) in
+        record {
+          said = first_lines terms before e;
+          added = noted ∙ ap (λ w. w ++ notes (verdict_view given)) told.added
+              ∙ append_assoc old (cause_lines e) (notes (verdict_view given))
+              ∙ ap (λ v. old ++ (cause_lines e ++ notes v)) (verdict ∙ sym told.no_is);
+          is = λ rests fits. subst (λ (o : Option ℕ). SaysFirst rests terms
+              (option_map (breach before h) o) (first_lines terms before e)) (sym offends)
+              (e, told.explains rests fits, refl);
+          goes = (
+            ap is_some offends,
+            (
+              no_by events h.note.event rule,
+              ap (option_map (no_by events h.note.event)) offends,
+              (given, is_boxed, verdict),
+            ),
+          );
+        }
+
+  -- ---- `explain --all`
+
+  -- it is kept
+  no_cause : rule_of terms before h ≡ None → cause_at terms before h ≡ []
+  no_cause kept = ap (λ (o : Option ℕ). filter (is_cause terms)
+      (cons_option (option_map (breach before h) o) [])) kept
+
+  -- it offends, and follows or not
+  by_following : (rule : ℕ) (late : Bool) → rule_of terms before h ≡ Some rule
+      → late ≡ follows_at terms before h
+      → cause_at terms before h ≡ (if not late then breach before h rule ∷ [] else [])
+  by_following rule late offends is =
+      let same : follows terms (notes_of before) h.note rule ≡ late =
+      sym (is ∙ ap (λ (o : Option ℕ). unwrap_or
+      (option_map (follows terms (notes_of before) h.note) o) false) offends) in
+      ap (λ (o : Option ℕ). filter (is_cause terms) (cons_option (option_map (breach before h) o) []))
+      offends
+      ∙ ap (λ (b : Bool). if not b then breach before h rule ∷ [] else []) same
+
+  -- what is found with it
+  found_on : (rule : Option ℕ) → rule_of terms before h ≡ rule
+      → offences terms (notes_of (before ++ h ∷ []))
+      ≡ offences terms (notes_of before)
+      ++ cons_option (option_map (offence_by terms (notes_of before) h.note) rule) []
+  found_on rule is =
+      ap (offences terms) (map-append (λ (x : Heard). x.note) before (h ∷ []))
+      ∙ offences-push terms (notes_of before) h.note
+      ∙ ap (λ (o : Option ℕ). offences terms (notes_of before)
+      ++ cons_option (option_map (offence_by terms (notes_of before) h.note) o) []) is
+
+  module _ (account next : AllCauses) (stands : AllStands account terms before)
+      (Fits : Rests → Type 0) (old : List ℕ) (late : Bool)
+      (told : WasTold next.losses terms before h late) where
+    -- of no cause nothing is said
+    says_none : (Stands : Type 0) → cause_at terms before h ≡ [] → Stands
+        → Says (all_run account.completeness) terms before h Fits old old Stands GoOn
+    says_none Stands none on = record {
+      said = [];
+      added = sym (append-nil old);
+      is = λ rests fits. subst (λ (bs : List Breach). SaysCauses rests terms bs []) (sym none)
+          ([], tt, refl);
+      goes = (refl, on);
+    }
+
+    -- an event that is kept says nothing
+    pub all_kept : rule_of terms before h ≡ None → next.tally ≡ account.tally
+        → IsTrail terms next.trail (heard_events (before ++ h ∷ []))
+        → Says (all_run account.completeness) terms before h Fits old old
+        (AllStands next terms (before ++ h ∷ [])) GoOn
+    all_kept kept same trail =
+        says_none (AllStands next terms (before ++ h ∷ [])) (no_cause kept) (record {
+          lost = told.losses;
+          tallied = subst (λ (t : OffenceCount).
+              IsTally t (offences terms (notes_of (before ++ h ∷ [])))) (sym same)
+              (subst (IsTally account.tally)
+              (sym (found_on None kept ∙ append-nil (offences terms (notes_of before))))
+              stands.tallied);
+          noted = trail;
+        })
+
+    -- it stands for one that offends
+    offends_on : (rule : ℕ) (o : Offence) → rule_of terms before h ≡ Some rule
+        → o ≡ offence_by terms (notes_of before) h.note rule
+        → ((found : List Offence) → IsTally account.tally found
+        → IsTally next.tally (found ++ o ∷ []))
+        → IsTrail terms next.trail (heard_events (before ++ h ∷ []))
+        → AllStands next terms (before ++ h ∷ [])
+    offends_on rule o offends own counts trail = record {
+      lost = told.losses;
+      tallied = subst (IsTally next.tally)
+          (ap (λ (x : Offence). offences terms (notes_of before) ++ x ∷ []) own
+          ∙ sym (found_on (Some rule) offends))
+          (counts (offences terms (notes_of before)) stands.tallied);
+      noted = trail;
+    }
+
+    -- one that follows from an earlier one says nothing
+    pub all_late : (rule : ℕ) (o : Offence) → late ≡ true → rule_of terms before h ≡ Some rule
+        → o ≡ offence_by terms (notes_of before) h.note rule
+        → ((found : List Offence) → IsTally account.tally found
+        → IsTally next.tally (found ++ o ∷ []))
+        → IsTrail terms next.trail (heard_events (before ++ h ∷ []))
+        → Says (all_run account.completeness) terms before h Fits old old
+        (AllStands next terms (before ++ h ∷ [])) GoOn
+    all_late rule o follows_is offends own counts trail =
+        says_none (AllStands next terms (before ++ h ∷ []))
+        (by_following rule late offends told.late_is
+        ∙ ap (λ (b : Bool). if not b then breach before h rule ∷ [] else []) follows_is)
+        (offends_on rule o offends own counts trail)
+
+    -- a cause is explained
+    pub all_told : (rule : ℕ) (o : Offence) (new : List ℕ) → late ≡ false
+        → rule_of terms before h ≡ Some rule
+        → o ≡ offence_by terms (notes_of before) h.note rule
+        → ((found : List Offence) → IsTally account.tally found
+        → IsTally next.tally (found ++ o ∷ []))
+        → IsTrail terms next.trail (heard_events (before ++ h ∷ []))
+        → TellsOf terms before h rule Fits old new
+        → Says (all_run account.completeness) terms before h Fits old new
+        (AllStands next terms (before ++ h ∷ [])) GoOn
+    all_told rule o new follows_is offends own counts trail tells =
+        let e = tells.e in
+        let one : cause_at terms before h ≡ breach before h rule ∷ [] =
+        by_following rule late offends told.late_is
+        ∙ ap (λ (b : Bool). if not b then breach before h rule ∷ [] else []) follows_is in
+        record {
+          said = cause_lines e;
+          added = tells.added;
+          is = λ rests fits. subst (λ (bs : List Breach).
+              SaysCauses rests terms bs (cause_lines e)) (sym one)
+              (e ∷ [], (tells.explains rests fits, tt), sym (append-nil (cause_lines e)));
+          goes = (refl, offends_on rule o offends own counts trail);
+        }

@@ -1,0 +1,106 @@
+-- What is said where the verdict on a log is explained, or all that is wrong with it.
+use Rattle.std.specs.Prelude.{◌≡◌, ℕ, List, [], ◌++◌, map, take, filter, false, is_some}
+use Rattle.std.specs.Prelude.{Option, Some, None}
+use Rattle.std.specs.List.{AllZip, cons_option, flat_map}
+use Rattle.lsp_docs.specs.Terms.{Terms}
+use Rattle.lsp_log.specs.declared.fault.LogCode.{LogCode}
+use Rattle.lsp_replay.specs.Run.{IsJudged, Run}
+use Rattle.lsp_replay.specs.Telling.{no_of, rule_of}
+use Rattle.lsp_explain.specs.Asking.{numbered}
+use Rattle.lsp_survey.specs.SessionEnds.{all_found, all_verdict, ends_of}
+use Rattle.lsp_verdict.specs.Heard.{Heard, Rests, heard_events}
+use Rattle.lsp_verdict.specs.Survey.{by_itself, first_verdict}
+use Rattle.lsp_verdict.specs.Verdict.{Verdict, bad_log_of, summary}
+use Rattle.lsp_verdict.specs.declared.completeness.Completeness.{Completeness}
+use Rattle.lsp_facts.specs.Fact.{Fact}
+use Rattle.lsp_facts.specs.FlawFacts.{flaw_facts}
+use Rattle.lsp_explain.specs.AllExplained.{all_closing, cause_lines, is_cause}
+use Rattle.lsp_explain.specs.Explained.{Breach, Explained, Explains, breach_at}
+use Rattle.lsp_explain.specs.Explained.{end_explained, explanation}
+use Rattle.lsp_explain.specs.Remarks.{noticed, remark_lines, remarks_of}
+
+-- ---- an event that offends
+
+-- what is said about it, and the notes on the messages before it
+abbrev pub first_lines : Terms → List Heard → Explained → List ℕ
+first_lines terms before e =
+    cause_lines e ++ remark_lines (remarks_of e.no (noticed terms (heard_events before)))
+
+-- where an event offends, this is said
+abbrev pub SaysFirst : Rests → Terms → Option Breach → List ℕ → Type 0
+SaysFirst rests terms None out = out ≡ []
+SaysFirst rests terms (Some b) out =
+    (e : Explained) × Explains rests terms b e × (out ≡ first_lines terms b.before e)
+
+-- the cause that an event is after these, if it is one
+abbrev pub cause_at : Terms → List Heard → Heard → List Breach
+cause_at terms before h = filter (is_cause terms) (cons_option (breach_at terms before h) [])
+
+-- of these causes this is said
+abbrev pub SaysCauses : Rests → Terms → List Breach → List ℕ → Type 0
+SaysCauses rests terms found out =
+    (said : List Explained) × AllZip (Explains rests terms) found said
+    × (out ≡ flat_map cause_lines said)
+
+-- ---- the end
+
+-- the facts on a fault of the log, which comes after so many of its bytes, where this line is
+abbrev pub flaw_at : ℕ → List ℕ → Option (ℕ × LogCode) → List Fact
+flaw_at place line None = []
+flaw_at place line (Some (number, code)) = flaw_facts number place line
+
+-- what is said about these ends
+abbrev pub ends_said : Terms → List Heard → Rests → List Verdict → List Explained
+ends_said terms heard rests ends =
+    map (end_explained rests (numbered terms (heard_events heard))) ends
+
+-- the verdict where no event offends
+abbrev pub end_verdict : Terms → List Heard → Option (ℕ × LogCode) → List Verdict → Verdict
+end_verdict terms heard fault ends =
+    first_verdict (map by_itself ends) (bad_log_of fault) (summary terms (heard_events heard))
+
+-- and what explains it
+abbrev pub end_explanation : Terms → List Heard → Rests → Option (ℕ × LogCode) → List Fact
+    → List Verdict → List ℕ
+end_explanation terms heard rests fault flaw ends =
+    explanation (map by_itself ends) (take 1 (ends_said terms heard rests ends))
+    (bad_log_of fault) flaw (summary terms (heard_events heard))
+    ++ remark_lines (remarks_of (end_verdict terms heard fault ends)
+    (noticed terms (heard_events heard)))
+
+-- what is said of the ends, and what closes the explanation
+abbrev pub all_end : Terms → List Heard → Rests → Option (ℕ × LogCode) → List Fact → List Verdict
+    → List ℕ
+all_end terms heard rests fault flaw ends =
+    flat_map cause_lines (ends_said terms heard rests ends)
+    ++ all_closing (all_found terms heard ends) (bad_log_of fault) flaw
+    (summary terms (heard_events heard))
+
+-- ---- the runs
+
+-- **the run `explain`**: it explains the first event that offends, and stops there
+abbrev pub explain_run : Completeness → Run
+explain_run completeness = record {
+  says = λ terms rests before h out. SaysFirst rests terms (breach_at terms before h) out;
+  stops = λ terms before h. is_some (rule_of terms before h);
+  ends = λ terms before h outcome.
+      (v : Verdict) × (no_of terms before h ≡ Some v) × IsJudged v outcome;
+  closes = λ terms heard tail out outcome.
+      (out ≡ end_explanation terms heard tail.rests tail.fault
+      (flaw_at tail.place tail.line tail.fault) (ends_of completeness terms heard tail))
+      × IsJudged (end_verdict terms heard tail.fault (ends_of completeness terms heard tail))
+      outcome;
+}
+
+-- **the run `explain --all`**: it explains each event that offends and follows from no earlier one
+abbrev pub all_run : Completeness → Run
+all_run completeness = record {
+  says = λ terms rests before h out. SaysCauses rests terms (cause_at terms before h) out;
+  stops = λ terms before h. false;
+  ends = λ terms before h outcome. ⊥;
+  closes = λ terms heard tail out outcome.
+      (out ≡ all_end terms heard tail.rests tail.fault
+      (flaw_at tail.place tail.line tail.fault) (ends_of completeness terms heard tail))
+      × IsJudged (all_verdict terms heard tail.fault (ends_of completeness terms heard tail))
+      outcome;
+}

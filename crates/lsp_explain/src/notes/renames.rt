@@ -1,0 +1,334 @@
+//! Documents that are opened or changed under a URI that they lost when their file was renamed.
+ghost use Rattle.std.specs.Prelude.{◌≡◌, [], ◌∷◌, IfOk, OnOk, option_map};
+ghost use Rattle.std.specs.List.{filter_map};
+ghost use Rattle.std.specs.Option.{option_or};
+ghost use Rattle.serde_json.specs.Find.{as_str};
+ghost use Rattle.serde_json.specs.View.{items_view, view};
+ghost use Rattle.lsp_rpc.specs.Message.{Message as AMessage};
+ghost use Rattle.lsp_rpc.specs.Params.{all_of, required};
+ghost use Rattle.lsp_rpc.specs.Reading.{Reads};
+ghost use Rattle.lsp_rpc.specs.View.{act_view, message_view};
+ghost use Rattle.lsp_verdict.specs.Offences.{last_or};
+ghost use Rattle.lsp_explain.specs.Renames as spec;
+ghost use Rattle.lsp_explain.specs.Renames.{AreRenames, Moves, RenamesIn, creations_in, each_move};
+ghost use Rattle.lsp_explain.specs.Renames.{gone_by, moves_in, moves_of, moves_view, or_none};
+ghost use Rattle.lsp_explain.specs.Renames.{renamed_held, renamed_view, renames_in, tells_files};
+ghost use Rattle.lsp_explain.specs.Touched.{names_view};
+
+use crate::notes::last_ones::make_room;
+use lsp_replay::EventPlace;
+use lsp_rpc::{Act, Memory, Message, RpcFault, Side, Spoken, read};
+use serde_json::Value;
+use std::alloc::Global;
+use std::collections::VecDeque;
+
+/// How many of the last moves are held at most.
+const MOST_MOVES: usize = 128;
+
+/// What a notification of the editor says about the file of a URI.
+#[derive(Drop)]
+pub(crate) struct Move {
+    uri: String,
+    /// The file was renamed, and has another URI now; otherwise there is a file of this URI.
+    is_gone: bool,
+}
+
+/// A message that opens or changes a document under a URI that its file lost when it was renamed.
+#[derive(Debug, Drop)]
+pub struct Renamed {
+    /// The URI of the document.
+    pub uri: String,
+    /// The place of the message's event.
+    pub place: EventPlace,
+}
+
+/// The last files that were renamed or created, by `workspace/didRenameFiles` and
+/// `workspace/didCreateFiles` of LSP 3.17, and the first message that opens or changes a document
+/// under a URI whose file was renamed.
+#[derive(Drop)]
+pub(crate) struct Renames {
+    moves: VecDeque<Move>,
+    renamed: Option<Renamed>,
+}
+
+impl Renames {
+    /// No message was heard.
+    pub(crate) fn new(alloc: Global) -> Renames
+        ensures { AreRenames result [] }
+    {
+        Renames {
+            moves: VecDeque::new(alloc),
+            renamed: None,
+        }
+    }
+
+    /// The first message that opens or changes a document under a URI that is gone.
+    pub(crate) fn renamed(&self) -> Option<&Renamed>
+        ensures { option_map (λ r. renamed_view r.now) result ≡ renamed_held self.now }
+    {
+        self.renamed.as_ref()
+    }
+
+    /// Takes over a message that is kept, the event of this place, which was read from this
+    /// content.
+    ///
+    /// # Errors
+    /// `Memory` where memory was refused.
+    pub(crate) fn keep(
+        &mut self,
+        place: EventPlace,
+        side: Side,
+        content: &[u8],
+        spoken: &Spoken,
+    ) -> Result<(), Memory>
+        ensures { OnOk result (RenamesIn place side content.now
+            (message_view spoken.now.message) (act_view spoken.now.act) self.old self.new) }
+    {
+        self.keep_act(place, &spoken.act)?;
+        if tells_files(side, &spoken.message) {
+            return add_content(&mut self.moves, content);
+        }
+        Ok(())
+    }
+
+    /// Notes an act, of the event of this place, if it is the first under a URI that is gone.
+    /// Usually nothing is held about files.
+    fn keep_act(&mut self, place: EventPlace, act: &Act) -> Result<(), Memory>
+        ensures moves { self.new.moves ≡ self.old.moves }
+        ensures renamed { OnOk result (renamed_held self.new ≡ option_or (renamed_held self.old)
+            (spec.renamed_by place (moves_view self.old.moves.items) (act_view act.now))) }
+    {
+        if self.moves.is_empty() {
+            return Ok(());
+        }
+        self.keep_first(place, act)
+    }
+
+    /// Notes the same where something is held about files.
+    #[inline(never)]
+    fn keep_first(&mut self, place: EventPlace, act: &Act) -> Result<(), Memory>
+        ensures moves { self.new.moves ≡ self.old.moves }
+        ensures renamed { OnOk result (renamed_held self.new ≡ option_or (renamed_held self.old)
+            (spec.renamed_by place (moves_view self.old.moves.items) (act_view act.now))) }
+    {
+        if self.renamed.is_some() {
+            return Ok(());
+        }
+        self.renamed = renamed_by(&self.moves, place, act)?;
+        Ok(())
+    }
+}
+
+/// The act, of the event of this place, if it opens or changes a document under a URI that is gone
+/// after these moves.
+fn renamed_by(
+    moves: &VecDeque<Move>,
+    place: EventPlace,
+    act: &Act,
+) -> Result<Option<Renamed>, Memory>
+    ensures { IfOk result (λ found. option_map renamed_view found
+        ≡ spec.renamed_by place (moves_view moves.now.items) (act_view act.now)) }
+{
+    let Some(uri) = edited_by(act) else {
+        return Ok(None);
+    };
+    if !is_gone(moves, uri) {
+        return Ok(None);
+    }
+    let uri = String::from_str(*moves.allocator(), uri)?;
+    Ok(Some(Renamed { uri, place }))
+}
+
+/// The URI of the document that an act opens or changes.
+fn edited_by(act: &Act) -> Option<&str>
+    ensures { option_map (λ uri. uri.now) result ≡ spec.edited_by (act_view act.now) }
+{
+    match act {
+        Act::DidOpen { uri, .. } => Some(uri.as_str()),
+        Act::DidChange { uri, .. } => Some(uri.as_str()),
+        _ => None,
+    }
+}
+
+/// Whether the file of this URI was renamed, and none has the URI since.
+fn is_gone(moves: &VecDeque<Move>, uri: &str) -> bool
+    ensures { result ≡ spec.is_gone uri.now (moves_view moves.now.items) }
+{
+    let (first, second) = moves.as_slices();
+    gone_after(gone_after(false, first, uri), second, uri)
+}
+
+/// Whether it is gone after these moves, given whether it was before them.
+fn gone_after(before: bool, moves: &[Move], uri: &str) -> bool
+    ensures { result ≡ last_or before (filter_map (gone_by uri.now) (moves_view moves.now)) }
+{
+    let mut gone = before;
+    for one in moves {
+        if one.uri.as_str() == uri {
+            gone = one.is_gone;
+        }
+    }
+    gone
+}
+
+/// Whether a message of this side says that files were renamed or created.
+fn tells_files(side: Side, message: &Message) -> bool
+    ensures { result ≡ tells_files side (message_view message.now) }
+{
+    match side {
+        Side::Editor => notifies_files(message),
+        Side::Server => false,
+    }
+}
+
+fn notifies_files(message: &Message) -> bool
+    ensures { result ≡ spec.notifies_files (message_view message.now) }
+{
+    match message {
+        Message::Request { .. } => false,
+        Message::Notification { method, .. } => is_on_files(method.as_str()),
+        Message::Response { .. } => false,
+    }
+}
+
+fn is_on_files(method: &str) -> bool
+    ensures { result ≡ spec.is_on_files method.now }
+{
+    method == "workspace/didRenameFiles" || method == "workspace/didCreateFiles"
+}
+
+/// Adds what the message of a content says about files: reads it again, with its params.
+fn add_content(moves: &mut VecDeque<Move>, content: &[u8]) -> Result<(), Memory>
+    ensures { OnOk result ((m : AMessage) → Reads content.now m
+        → Moves (moves_in m) moves.old.items moves.new.items) }
+{
+    match read(*moves.allocator(), content) {
+        Ok(message) => {
+            let added = add_message(moves, &message);
+            drop(message);
+            added
+        }
+        Err(RpcFault::Rule(_)) => Ok(()),
+        Err(RpcFault::Memory) => Err(Memory),
+    }
+}
+
+/// Adds what a message says about files.
+fn add_message(moves: &mut VecDeque<Move>, message: &Message) -> Result<(), Memory>
+    ensures { OnOk result (Moves (moves_in (message_view message.now)) moves.old.items
+        moves.new.items) }
+{
+    match message {
+        Message::Notification {
+            method,
+            params: Some(params),
+        } => add_params(moves, method.as_str(), params),
+        _ => Ok(()),
+    }
+}
+
+/// Adds what a notification of this method with these params says about files.
+fn add_params(moves: &mut VecDeque<Move>, method: &str, params: &Value) -> Result<(), Memory>
+    ensures { OnOk result (Moves (or_none (moves_of method.now (view params.now)))
+        moves.old.items moves.new.items) }
+{
+    if method == "workspace/didRenameFiles" {
+        return add_renames(moves, params);
+    }
+    if method == "workspace/didCreateFiles" {
+        return add_creations(moves, params);
+    }
+    Ok(())
+}
+
+/// Adds the files that were renamed: their old URIs are gone, and their new ones exist.
+fn add_renames(moves: &mut VecDeque<Move>, params: &Value) -> Result<(), Memory>
+    ensures { OnOk result (Moves (or_none (renames_in (view params.now))) moves.old.items
+        moves.new.items) }
+{
+    let alloc = *moves.allocator();
+    let Some(old) = uris_at(alloc, params, "oldUri")? else {
+        return Ok(());
+    };
+    let Some(new) = uris_at(alloc, params, "newUri")? else {
+        return Ok(());
+    };
+    add_all(moves, true, old.as_slice())?;
+    add_all(moves, false, new.as_slice())
+}
+
+/// Adds the files that were created.
+fn add_creations(moves: &mut VecDeque<Move>, params: &Value) -> Result<(), Memory>
+    ensures { OnOk result (Moves (or_none (creations_in (view params.now))) moves.old.items
+        moves.new.items) }
+{
+    let Some(created) = uris_at(*moves.allocator(), params, "uri")? else {
+        return Ok(());
+    };
+    add_all(moves, false, created.as_slice())
+}
+
+/// The member of this name of each file that params list, if every file has it.
+fn uris_at(alloc: Global, params: &Value, name: &str) -> Result<Option<Vec<String>>, Memory>
+    ensures { IfOk result (λ uris. option_map (λ us. names_view us.items) uris
+        ≡ spec.uris_at name.now (view params.now)) }
+{
+    let Some(files) = files_in(params) else {
+        return Ok(None);
+    };
+    each_uri(alloc, files, name)
+}
+
+/// The files that params list.
+fn files_in(params: &Value) -> Option<&[Value]>
+    ensures { option_map (λ files. items_view files.now) result
+        ≡ spec.files_in (view params.now) }
+{
+    let files = params.get("files")?.as_array()?;
+    Some(files.as_slice())
+}
+
+/// The member of this name of each of these files, if every file has it.
+fn each_uri(alloc: Global, files: &[Value], name: &str) -> Result<Option<Vec<String>>, Memory>
+    ensures { IfOk result (λ uris. option_map (λ us. names_view us.items) uris
+        ≡ all_of (required name.now as_str) (items_view files.now)) }
+{
+    let mut uris = Vec::new(alloc);
+    for file in files {
+        let Some(uri) = text_at(file, name) else {
+            return Ok(None);
+        };
+        uris.push(String::from_str(alloc, uri)?)?;
+    }
+    Ok(Some(uris))
+}
+
+/// The member of this name, if it is a text.
+fn text_at<'a>(value: &'a Value, name: &str) -> Option<&'a str>
+    ensures { option_map (λ text. text.now) result ≡ required name.now as_str (view value.now) }
+{
+    value.get(name)?.as_str()
+}
+
+/// Adds that the files of these URIs are gone, or that they exist.
+fn add_all(moves: &mut VecDeque<Move>, is_gone: bool, uris: &[String]) -> Result<(), Memory>
+    ensures { OnOk result (Moves (each_move is_gone (names_view uris.now)) moves.old.items
+        moves.new.items) }
+{
+    for uri in uris {
+        add(moves, is_gone, uri.as_str())?;
+    }
+    Ok(())
+}
+
+/// Adds after the others, of which the last ones stay, that the file of this URI is gone, or that
+/// it exists.
+fn add(moves: &mut VecDeque<Move>, is_gone: bool, uri: &str) -> Result<(), Memory>
+    ensures { OnOk result (Moves (spec.move is_gone uri.now ∷ []) moves.old.items
+        moves.new.items) }
+{
+    let uri = String::from_str(*moves.allocator(), uri)?;
+    make_room(moves, MOST_MOVES);
+    moves.push_back(Move { uri, is_gone })?;
+    Ok(())
+}

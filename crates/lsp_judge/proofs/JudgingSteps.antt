@@ -1,0 +1,203 @@
+-- The steps of the accounts that end with the verdict on a log.
+use Rattle.std.specs.Prelude.{◌&&◌, is_some, not, option_map, unwrap_or}
+use Rattle.std.proofs.Common.{◌≡◌, ℕ, ◌+◌, ◌<◌, ◌^◌, Bool, List, [], ◌∷◌, ◌++◌, length}
+use Rattle.std.proofs.Common.{Bor, Option, Some, None, refl, sym, ap, ◌∙◌, arith}
+use Rattle.std.proofs.Math.Bool.{and-true}
+use Rattle.std.proofs.lemmas.List.{length-map}
+use Rattle.lsp_docs.specs.State as docs
+use Rattle.lsp_docs.specs.Terms.{Terms}
+use Rattle.lsp_log.specs.declared.fault.LogCode.{LogCode}
+use Rattle.lsp_rpc.specs.declared.act.Spoken.{Spoken}
+use Rattle.lsp_session.specs.State as session
+use Rattle.lsp_types.specs.declared.side.Side.{Side}
+use Rattle.lsp_types.specs.declared.side.Side.TheVariants.{Editor, Server}
+use Rattle.lsp_judge.specs.Ending.{closed_by, end_by, end_rule, ends_with}
+use Rattle.lsp_judge.specs.JudgingRun.{JudgingAsked, completed_by, due_for, judging_run, said_by}
+use Rattle.lsp_judge.specs.JudgingRun.{shown_by, verdict_of}
+use Rattle.lsp_judge.proofs.Finals.{by_end, by_log}
+use Rattle.lsp_judge.proofs.Told.{still_clean}
+use Rattle.lsp_replay.specs.Run.{Tail}
+use Rattle.lsp_replay.specs.Standing.{Follows}
+use Rattle.lsp_replay.specs.Streams.{decoder_of, ends_inside}
+use Rattle.lsp_replay.specs.Telling.{Closes, IsEnd, Says, SeenAs, Stood, no_of, rule_of}
+use Rattle.lsp_replay.specs.declared.log_events.End.{End}
+use Rattle.lsp_replay.specs.declared.log_events.LogEvents.{LogEvents}
+use Rattle.lsp_replay.specs.declared.seen.Flow.TheVariants.{GoOn, Stop}
+use Rattle.lsp_replay.specs.declared.seen.Seen.{Seen}
+use Rattle.lsp_replay.specs.declared.seen.Seen.TheVariants as seen
+use Rattle.lsp_replay.proofs.AllHeard.{few_events, follows_all}
+use Rattle.lsp_replay.proofs.PassEnds.{Boxed}
+use Rattle.lsp_verdict.specs.Event.{Event}
+use Rattle.lsp_verdict.specs.Given.{as_given, verdict_view}
+use Rattle.lsp_verdict.specs.Heard.{Heard, Rests, heard_events, notes_of, rest_of}
+use Rattle.lsp_verdict.specs.Offences.{Noted}
+use Rattle.lsp_verdict.specs.Outcome.{ending, is_rest}
+use Rattle.lsp_verdict.specs.Verdict.{Verdict, bad_log, bad_log_of, first_no, no_by}
+use Rattle.lsp_verdict.specs.Verdict.{verdict, whose}
+use Rattle.lsp_verdict.specs.declared.completeness.Completeness.{Completeness}
+use Rattle.lsp_verdict.specs.declared.completeness.Completeness.TheVariants.{Ignored, Required}
+use Rattle.lsp_verdict.specs.declared.counts.Counts.{Counts}
+use Rattle.lsp_verdict.specs.declared.outcome.Outcome.TheVariants.{Judged}
+use Rattle.lsp_verdict.specs.declared.raw.Raw.{Raw}
+use Rattle.lsp_verdict.specs.declared.verdict.Verdict as code
+use Rattle.lsp_verdict.specs.declared.verdict.Who.{Who}
+use Rattle.lsp_verdict.proofs.ExactCounts.{no_exact, yes_exact}
+use Rattle.lsp_verdict.proofs.Offences.Offending.{no_frame_fault}
+
+-- ---- an event
+
+-- it was seen as one that does not offend
+pub kept_rule : (s : Seen) (terms : Terms) (before : List Heard) (h : Heard)
+    → ((raw : Raw) (rule : ℕ) (spoken : Option (Bor Spoken)) → s ≡ seen.Offence raw rule spoken → ⊥)
+    → SeenAs s terms before h → rule_of terms before h ≡ None
+kept_rule (seen.Message side bytes spoken) terms before h other is = is.1
+kept_rule (seen.Snapshot version uri text answer) terms before h other is = is.1
+kept_rule (seen.Offence raw rule spoken) terms before h other is =
+    absurd (other raw rule spoken refl)
+
+module _ (terms : Terms) (before : List Heard) (h : Heard) where
+  abbrev no_by_rule : Option ℕ → Option Verdict
+  no_by_rule o = option_map (no_by (heard_events before) h.note.event) o
+
+  few_before : length before + 1 < 2 ^ 64 → length (heard_events before) + 1 < 2 ^ 64
+  few_before few = omega (
+    arith,
+    few,
+    length-map (notes_of before) (λ (n : Noted). n.event),
+    length-map before (λ (x : Heard). x.note),
+  )
+
+  -- it is kept
+  pub none_is : rule_of terms before h ≡ None → no_of terms before h ≡ None
+  none_is is = ap no_by_rule is
+
+  -- it offends
+  pub given_is : (rule : ℕ) (given : Verdict) → rule_of terms before h ≡ Some rule
+      → length before + 1 < 2 ^ 64
+      → given ≡ as_given (no_by (heard_events before) h.note.event rule)
+      → no_of terms before h ≡ Some given
+  given_is rule given is few named =
+      ap no_by_rule is
+      ∙ ap Some (sym (named ∙ no_exact (heard_events before) rule (whose h.note.event)
+      (few_before few)))
+
+  module _ (clean : first_no terms (heard_events before) ≡ None) (asked : JudgingAsked)
+      (Fits : Rests → Type 0) (old new : List ℕ) where
+    pub kept_says : rule_of terms before h ≡ None → new ≡ old ++ shown_by asked.lines before h
+        → Says (judging_run asked) terms before h Fits old new
+        (first_no terms (heard_events (before ++ h ∷ [])) ≡ None) GoOn
+    kept_says is added =
+        let none = none_is is in
+        record {
+          said = shown_by asked.lines before h;
+          added = added;
+          is = λ rests fits. ap (said_by asked before h) (sym none);
+          goes = (ap is_some none, still_clean terms before h clean none);
+        }
+
+    pub offence_says : (rule : ℕ) (given : code.Verdict) (boxed : Boxed)
+        → boxed.value ≡ Judged given → rule_of terms before h ≡ Some rule
+        → length before + 1 < 2 ^ 64
+        → verdict_view given ≡ as_given (no_by (heard_events before) h.note.event rule)
+        → new ≡ old ++ due_for asked.name (verdict_view given)
+        → Says (judging_run asked) terms before h Fits old new
+        (first_no terms (heard_events (before ++ h ∷ [])) ≡ None) (Stop boxed)
+    offence_says rule given boxed in_box is few named added =
+        let some = given_is rule (verdict_view given) is few named in
+        record {
+          said = due_for asked.name (verdict_view given);
+          added = added;
+          is = λ rests fits. ap (said_by asked before h) (sym some);
+          goes = (ap is_some some, (verdict_view given, some, (given, in_box, refl)));
+        }
+
+-- ---- the end
+
+-- of so few events what is given where a session ends is exact
+end_exact : (completeness : Completeness) (terms : Terms) (events : List Event)
+    (editor server : Bool) → length events + 1 < 2 ^ 64
+    → as_given (end_by completeness terms events editor server)
+    ≡ end_by completeness terms events editor server
+end_exact completeness terms events editor server few =
+    by_rule (end_rule completeness events editor server)
+  where
+    by_rule : (o : Option (ℕ × Who))
+        → as_given (ends_with terms events o) ≡ ends_with terms events o
+    by_rule None = yes_exact terms events (omega (arith, few))
+    by_rule (Some broken) = no_exact events broken.0 broken.1 few
+
+bad_stays : (completeness : Completeness) (events : List Event) (number : ℕ) (code : LogCode)
+    → bad_log number code ≡ completed_by completeness events (bad_log number code)
+bad_stays Ignored events number code = refl
+bad_stays Required events number code = refl
+
+module _ (completeness : Completeness) (terms : Terms) (heard : List Heard) (e : LogEvents)
+    (end : End) (clean : first_no terms (heard_events heard) ≡ None) (tail : Tail)
+    (fits : IsEnd e end heard tail) where
+  inside_is : (side : Side)
+      → ends_inside (decoder_of side e.streams) ≡ is_rest (rest_of tail.rests side)
+  inside_is side = fits.inside side
+      ∙ ap (λ b. is_rest (rest_of tail.rests side) && not b)
+      (no_frame_fault terms side [] (heard_events heard) clean)
+      ∙ and-true (is_rest (rest_of tail.rests side))
+
+  -- what is given where the log ends so is the verdict on it
+  closed_is : length (heard_events heard) + 1 < 2 ^ 64
+      → closed_by completeness terms (heard_events heard) e end
+      ≡ verdict_of completeness terms heard tail
+  closed_is few = ap closed (sym fits.fault) ∙ by_flaw tail.fault
+    where
+      closed : Option (ℕ × LogCode) → Verdict
+      closed flaw = unwrap_or (bad_log_of flaw)
+          (as_given (end_by completeness terms (heard_events heard)
+          (ends_inside e.streams.editor) (ends_inside e.streams.server)))
+
+      by_flaw : (flaw : Option (ℕ × LogCode)) → closed flaw
+          ≡ completed_by completeness (heard_events heard) (verdict terms (heard_events heard)
+          (ending flaw tail.rests.editor tail.rests.server))
+      by_flaw None =
+          end_exact completeness terms (heard_events heard) (ends_inside e.streams.editor)
+          (ends_inside e.streams.server) few
+          ∙ ap (λ b. end_by completeness terms (heard_events heard) b
+          (ends_inside e.streams.server)) (inside_is Editor)
+          ∙ ap (end_by completeness terms (heard_events heard) (is_rest tail.rests.editor))
+          (inside_is Server)
+          ∙ sym (by_end completeness terms (heard_events heard) (is_rest tail.rests.editor)
+          (is_rest tail.rests.server) clean)
+      by_flaw (Some (number, code)) =
+          bad_stays completeness (heard_events heard) number code
+          ∙ ap (completed_by completeness (heard_events heard)) (sym (by_log terms
+          (heard_events heard) (is_rest tail.rests.editor) (is_rest tail.rests.server) number code
+          clean))
+
+module _ (completeness : Completeness) (terms : Terms) (heard : List Heard) (m : session.State)
+    (d : docs.State) (c : Counts) (e : LogEvents) (end : End) (given : code.Verdict)
+    (stood : Stood terms m d c heard) (few : length heard < 2 ^ 63)
+    (clean : first_no terms (heard_events heard) ≡ None)
+    (told : (events : List Event) → Follows m d c events
+    → verdict_view given ≡ closed_by completeness d.terms events e end) where
+  -- **it is the verdict, whatever end the log has that fits**
+  pub ends_given : (tail : Tail) → IsEnd e end heard tail
+      → verdict_view given ≡ verdict_of completeness terms heard tail
+  ends_given tail fits =
+      told (heard_events heard) (follows_all terms heard m d c stood clean)
+      ∙ ap (λ (t : Terms). closed_by completeness t (heard_events heard) e end) stood.by
+      ∙ closed_is completeness terms heard e end clean tail fits
+      (few_events heard few)
+
+  pub verdict_closes : (asked : JudgingAsked) (old new : List ℕ)
+      → completeness ≡ asked.completeness
+      → new ≡ old ++ due_for asked.name (verdict_view given)
+      → Closes (judging_run asked) terms heard (IsEnd e end heard) old new (Judged given)
+  verdict_closes asked old new wanted added = record {
+    said = due_for asked.name (verdict_view given);
+    added = added;
+    is = λ tail fits. (
+      ap (due_for asked.name) (same tail fits),
+      (given, refl, same tail fits),
+    );
+  } where
+    same : (tail : Tail) → IsEnd e end heard tail
+        → verdict_view given ≡ verdict_of asked.completeness terms heard tail
+    same tail fits = ends_given tail fits
+        ∙ ap (λ c. verdict_of c terms heard tail) wanted

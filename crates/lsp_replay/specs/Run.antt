@@ -1,0 +1,106 @@
+-- **What a run writes of a log**: what it says of each event up to the one where it stops, and else
+-- of the end. One definition for all runs.
+use Rattle.std.specs.Prelude.{◌≡◌, ◌⊎◌, ℕ, List, [], ◌∷◌, ◌++◌, Bool, true, false, Option}
+use Rattle.lsp_docs.specs.Terms.{Terms}
+use Rattle.lsp_frame.specs.Bounds.{Bounds}
+use Rattle.lsp_frame.specs.declared.format.Format.{Format}
+use Rattle.lsp_log.specs.Log.{Record, IsLog}
+use Rattle.lsp_log.specs.Place.{place_of, found_behind}
+use Rattle.lsp_log.specs.declared.fault.LogCode.{LogCode}
+use Rattle.lsp_verdict.specs.Given.{verdict_view}
+use Rattle.lsp_verdict.specs.Heard.{AreRests, Heard, IsHeardSession, Rests}
+use Rattle.lsp_verdict.specs.Outcome.{log_terms}
+use Rattle.lsp_verdict.specs.Verdict.{Verdict}
+use Rattle.lsp_verdict.specs.declared.outcome.Outcome.{Outcome}
+use Rattle.lsp_verdict.specs.declared.outcome.Outcome.TheVariants.{Judged}
+use Rattle.lsp_verdict.specs.declared.verdict.Verdict as code
+
+-- how a log ends: with this fault or none, which comes after so many of its bytes, where this line
+-- is; and what is left of the bytes of its sides
+pub record Tail : Type 0 where
+  pub fault : Option (ℕ × LogCode)
+  pub place : ℕ
+  pub line : List ℕ
+  pub rests : Rests
+
+-- **a run**: what it says of an event after these, whether it stops there, and how it ends then;
+-- and what it says at the end of the log after all of them, and how it ends there
+pub record Run : Type 1 where
+  pub says : Terms → Rests → List Heard → Heard → List ℕ → Type 0
+  pub stops : Terms → List Heard → Heard → Bool
+  pub ends : Terms → List Heard → Heard → Outcome → Type 0
+  pub closes : Terms → List Heard → Tail → List ℕ → Outcome → Type 0
+
+-- this is said of these events after those before them, and the run stops at none
+abbrev pub SaysAll : Run → Terms → Rests → List Heard → List Heard → List ℕ → Type 0
+SaysAll run terms rests before [] out = out ≡ []
+SaysAll run terms rests before (h ∷ later) out =
+    (said : List ℕ) × (left : List ℕ) × (out ≡ said ++ left) × run.says terms rests before h said
+    × (run.stops terms before h ≡ false) × SaysAll run terms rests (before ++ h ∷ []) later left
+
+-- ---- how a run ends
+
+-- it stops at the event after these
+pub record StopsAt (run : Run) (terms : Terms) (rests : Rests) (before : List Heard) (h : Heard)
+    (said : List ℕ) (outcome : Outcome) : Type 0 where
+  pub says : run.says terms rests before h said
+  pub stops : run.stops terms before h ≡ true
+  pub ends : run.ends terms before h outcome
+
+-- it stops at one of these events
+pub record StopsIn (run : Run) (terms : Terms) (rests : Rests) (heard : List Heard)
+    (out : List ℕ) (outcome : Outcome) : Type 0 where
+  pub first : List Heard
+  pub here : Heard
+  pub later : List Heard
+  pub are : heard ≡ first ++ here ∷ later
+  pub front : List ℕ
+  pub last : List ℕ
+  pub is : out ≡ front ++ last
+  pub said : SaysAll run terms rests [] first front
+  pub stop : StopsAt run terms rests first here last outcome
+
+-- it stops at none, and ends with the log
+pub record EndsAfter (run : Run) (terms : Terms) (tail : Tail) (heard : List Heard)
+    (out : List ℕ) (outcome : Outcome) : Type 0 where
+  pub front : List ℕ
+  pub last : List ℕ
+  pub is : out ≡ front ++ last
+  pub said : SaysAll run terms tail.rests [] heard front
+  pub closes : run.closes terms heard tail last outcome
+
+-- it ends with this verdict
+abbrev pub IsJudged : Verdict → Outcome → Type 0
+IsJudged v outcome = (given : code.Verdict) × (outcome ≡ Judged given) × (verdict_view given ≡ v)
+
+-- ---- a log
+
+-- a log of this format, its records, its events, and how it ends
+pub record IsTold (limits : Bounds) (log : List ℕ) (format : Option Format)
+    (records : List Record) (heard : List Heard) (tail : Tail) : Type 0 where
+  pub is_log : IsLog limits log format records tail.fault
+  pub session : IsHeardSession limits records heard
+  pub rests : AreRests limits records tail.rests
+  pub place : tail.place ≡ place_of format records
+  pub line : tail.line ≡ found_behind limits format records log
+
+-- **this is what a run writes of a log, and how it ends**
+pub record IsPassed (run : Run) (limits : Bounds) (log out : List ℕ) (outcome : Outcome) : Type 0
+  where
+    pub format : Option Format
+    pub records : List Record
+    pub heard : List Heard
+    pub tail : Tail
+    pub told : IsTold limits log format records heard tail
+    pub is : StopsIn run (log_terms limits format) tail.rests heard out outcome
+        ⊎ EndsAfter run (log_terms limits format) tail heard out outcome
+
+-- **this is what a run says of the first events of a log**, at none of which it stops
+pub record HasSaid (run : Run) (limits : Bounds) (log out : List ℕ) : Type 0 where
+  pub format : Option Format
+  pub records : List Record
+  pub first : List Heard
+  pub later : List Heard
+  pub tail : Tail
+  pub told : IsTold limits log format records (first ++ later) tail
+  pub says : SaysAll run (log_terms limits format) tail.rests [] first out

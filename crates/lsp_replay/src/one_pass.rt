@@ -1,0 +1,347 @@
+//! One pass over a log.
+ghost use Rattle.std.specs.Prelude.{◌≡◌, ◌++◌, ◌∷◌, ◌+◌, ◌<◌, ◌^◌, [], List, IfOk, IfErr, length};
+ghost use Rattle.std.specs.Prelude.{None, OnErr, OnOk, Option, Some, option_map, string_bytes};
+ghost use Rattle.lsp_docs.specs.Terms.{Terms};
+ghost use Rattle.lsp_frame.specs.Bounds.{IsInRange};
+ghost use Rattle.lsp_frame.specs.Sink.{Writes};
+ghost use Rattle.lsp_frame.specs.Told.{Told};
+ghost use Rattle.lsp_rpc.specs.View.{act_view, message_view};
+ghost use Rattle.lsp_replay.specs.Apart as apart;
+ghost use Rattle.lsp_replay.specs.LogEvents.{Opens};
+ghost use Rattle.lsp_replay.specs.Passes.{Passes, Steps};
+ghost use Rattle.lsp_replay.specs.Telling.{Comes, DueAtEnd, DueOf, MaySpeak, Saw, ShowsFault};
+ghost use Rattle.lsp_replay.specs.Telling.{Stood};
+ghost use Rattle.lsp_replay.specs.Telling.{kept_before, rule_of};
+ghost use Rattle.lsp_verdict.specs.Heard.{Heard};
+ghost use Rattle.lsp_verdict.specs.Lent.{raw_view};
+ghost use Rattle.lsp_verdict.specs.Outcome.{log_terms};
+ghost use Rattle.lsp_verdict.specs.Placed as placed;
+ghost use Rattle.lsp_verdict.specs.RunIo.{BreaksOff};
+
+use crate::account::Account;
+use crate::events::{Events, read_into};
+use crate::fault::Fault;
+use crate::log_events::{End, LogEvents, Next};
+use crate::seen::{Flow, Seen};
+use lsp_frame::{Format, Limits, Sink, Source, WriteFault, put_all};
+use lsp_rpc::{Memory, Side, Spoken};
+use lsp_text::Lined;
+use lsp_verdict::{Outcome, Raw, RunFault, Who, who_of};
+use std::alloc::Global;
+
+/// A log that is read, what is held of its events, and what is said of one.
+pub(crate) struct Reading {
+    log: LogEvents,
+    held: Events<Lined>,
+    text: String,
+}
+
+impl Drop for Reading {
+    fn drop(self) {
+        let Reading {
+            log: _,
+            held: _,
+            text: _,
+        } = self;
+    }
+}
+
+/// Reads a log, and writes what an account says of it.
+///
+/// # Errors
+/// `Read` where the source failed, `Write` where the sink did, and `Memory` where memory was
+/// refused; what was written before stays written.
+pub fn pass<R: Source, W: Sink, A: Account>(
+    alloc: Global,
+    reader: &mut R,
+    writer: &mut W,
+    limits: Limits,
+    account: &mut A,
+) -> Result<Outcome, RunFault>
+    requires begins { (terms : Terms) → A.stands account.old terms [] }
+    ensures range { IsInRange limits }
+    ensures passes { Passes (A.run (A.asked account.old)) limits (R.told reader.old)
+        (R.told reader.new) (W.told writer.old) (W.told writer.new) result }
+{
+    let mut reading = open(alloc, reader, limits)?;
+    read_log(alloc, &mut reading, reader, writer, limits, account)
+}
+
+/// A log that is read up to its first record, of which nothing was heard.
+fn open<R: Source>(alloc: Global, reader: &mut R, limits: Limits) -> Result<Reading, RunFault>
+    ensures ok { IfOk result (λ reading.
+        Opens limits (R.told reader.old) (R.told reader.new) reading.log
+        × Stood (log_terms limits reading.log.log.format) reading.held.session reading.held.docs
+        reading.held.counts []) }
+    ensures err { IfErr result (BreaksOff limits (R.told reader.old) (R.told reader.new)) }
+{
+    let log = LogEvents::open(alloc, reader, limits)?;
+    let format = log.format().unwrap_or(Format::One);
+    Ok(Reading {
+        log,
+        held: Events::new(alloc, limits, format),
+        text: String::new(alloc),
+    })
+}
+
+/// Reads a log that was opened, and writes what an account says of it.
+fn read_log<R: Source, W: Sink, A: Account>(
+    alloc: Global,
+    reading: &mut Reading,
+    reader: &mut R,
+    writer: &mut W,
+    limits: Limits,
+    account: &mut A,
+) -> Result<Outcome, RunFault>
+    requires begins { (terms : Terms) → A.stands account.old terms [] }
+    requires stood { Stood (log_terms limits reading.old.log.log.format) reading.old.held.session
+        reading.old.held.docs reading.old.held.counts [] }
+    requires opens { (start : Told) × Opens limits start (R.told reader.old) reading.old.log }
+    ensures { (start : Told) → Opens limits start (R.told reader.old) reading.old.log
+        → Passes (A.run (A.asked account.old)) limits start (R.told reader.new)
+        (W.told writer.old) (W.told writer.new) result }
+{
+    loop {
+        match reading.log.next(reader) {
+            Err(fault) => return Err(fault),
+            Ok(Next::End(end)) => return close(alloc, reading, writer, account, end),
+            Ok(Next::Event(raw)) => {
+                let text = &mut reading.text;
+                match tell(alloc, &mut reading.held, text, writer, account, raw)? {
+                    Flow::GoOn => {}
+                    Flow::Stop(outcome) => return Ok(Box::into_inner(outcome)),
+                }
+            }
+        }
+    }
+}
+
+/// Writes what an account says at the end of a log.
+fn close<W: Sink, A: Account>(
+    alloc: Global,
+    reading: &mut Reading,
+    writer: &mut W,
+    account: &mut A,
+    end: End,
+) -> Result<Outcome, RunFault>
+    ensures { (terms : Terms) (heard : List Heard) → A.stands account.old terms heard
+        → Stood terms reading.old.held.session reading.old.held.docs reading.old.held.counts heard
+        → length heard < 2 ^ 63
+        → Steps (W.told writer.old) (W.told writer.new)
+        (DueAtEnd (A.run (A.asked account.old)) terms heard reading.old.log end) result }
+{
+    let text = &mut reading.text;
+    text.clear();
+    let outcome = account.end(alloc, &reading.held, &reading.log, end, text)?;
+    put_text(writer, text.as_str())?;
+    Ok(outcome)
+}
+
+/// Writes what an account says of the next event.
+fn tell<W: Sink, A: Account>(
+    alloc: Global,
+    held: &mut Events<Lined>,
+    text: &mut String,
+    writer: &mut W,
+    account: &mut A,
+    raw: Raw<'_>,
+) -> Result<Flow, RunFault>
+    ensures asked { A.asked account.new ≡ A.asked account.old }
+    ensures steps { (terms : Terms) (before : List Heard) (h : Heard)
+        → Comes (raw_view raw.entry) terms held.old.session held.old.docs held.old.counts before h
+        (A.stands account.old terms before)
+        → Steps (W.told writer.old) (W.told writer.new)
+        (DueOf (A.run (A.asked account.old)) terms before h (ShowsFault raw.entry)
+        (A.stands account.new terms (before ++ h ∷ [])) held.new.session held.new.docs
+        held.new.counts) result }
+{
+    text.clear();
+    let flow = see(alloc, held, account, raw, text)?;
+    put_text(writer, text.as_str())?;
+    Ok(flow)
+}
+
+/// Hears the next event, and adds to a text what an account says of it.
+fn see<A: Account>(
+    alloc: Global,
+    held: &mut Events<Lined>,
+    account: &mut A,
+    raw: Raw<'_>,
+    text: &mut String,
+) -> Result<Flow, Memory>
+    ensures asked { A.asked account.new ≡ A.asked account.old }
+    ensures saw { IfOk result (λ flow. (terms : Terms) (before : List Heard) (h : Heard)
+        → Comes (raw_view raw.entry) terms held.old.session held.old.docs held.old.counts before h
+        (A.stands account.old terms before)
+        → Saw (A.run (A.asked account.old)) terms before h (ShowsFault raw.entry)
+        (string_bytes text.old) (string_bytes text.new)
+        (A.stands account.new terms (before ++ h ∷ [])) held.new.session held.new.docs
+        held.new.counts flow) }
+{
+    match raw {
+        Raw::Content { side, content } => {
+            let mut spoken = held.messages.blank();
+            see_content(alloc, held, account, side, content, &mut spoken, text)
+        }
+        Raw::Broken { rule, .. } => skip(alloc, held, account, raw, rule, None, text),
+        Raw::Snapshot {
+            version,
+            uri,
+            text: shown,
+        } => see_shown(alloc, held, account, version, uri, shown, text),
+    }
+}
+
+/// Hears a content of a side, in the place of this message, and adds what an account says of it.
+fn see_content<A: Account>(
+    alloc: Global,
+    held: &mut Events<Lined>,
+    account: &mut A,
+    side: Side,
+    content: &[u8],
+    spoken: &mut Spoken,
+    text: &mut String,
+) -> Result<Flow, Memory>
+    ensures asked { A.asked account.new ≡ A.asked account.old }
+    ensures saw { IfOk result (λ flow. (terms : Terms) (before : List Heard) (h : Heard)
+        → Comes (placed.content side content.now) terms held.old.session held.old.docs
+        held.old.counts before h (A.stands account.old terms before)
+        → Saw (A.run (A.asked account.old)) terms before h (λ rests. Unit {0})
+        (string_bytes text.old) (string_bytes text.new)
+        (A.stands account.new terms (before ++ h ∷ [])) held.new.session held.new.docs
+        held.new.counts flow) }
+{
+    match read_into(&held.session, &mut held.messages, side, content, spoken) {
+        Ok(()) => see_message(alloc, held, account, side, content, spoken, text),
+        Err(fault) => {
+            let rule = fault.rule()?;
+            let raw = Raw::Content { side, content };
+            skip(alloc, held, account, raw, rule, None, text)
+        }
+    }
+}
+
+/// Hears a message of a side, which this content is, and adds what an account says of it.
+fn see_message<A: Account>(
+    alloc: Global,
+    held: &mut Events<Lined>,
+    account: &mut A,
+    side: Side,
+    content: &[u8],
+    spoken: &Spoken,
+    text: &mut String,
+) -> Result<Flow, Memory>
+    ensures asked { A.asked account.new ≡ A.asked account.old }
+    ensures saw { IfOk result (λ flow. (terms : Terms) (before : List Heard) (h : Heard)
+        → Comes (placed.content side content.now) terms held.old.session held.old.docs
+        held.old.counts before h (A.stands account.old terms before)
+        → apart.Says held.old.session side content.now (message_view spoken.now.message)
+        (act_view spoken.now.act)
+        → Saw (A.run (A.asked account.old)) terms before h (λ rests. Unit {0})
+        (string_bytes text.old) (string_bytes text.new)
+        (A.stands account.new terms (before ++ h ∷ [])) held.new.session held.new.docs
+        held.new.counts flow) }
+{
+    match held.follow(side, spoken) {
+        Ok(()) => {
+            held.counts.add(who_of(side));
+            let seen = Seen::Message {
+                side,
+                content,
+                spoken,
+            };
+            let flow = account.event(alloc, held, seen, text)?;
+            Ok(flow)
+        }
+        Err(fault) => {
+            let rule = fault.rule()?;
+            let raw = Raw::Content { side, content };
+            skip(alloc, held, account, raw, rule, Some(spoken), text)
+        }
+    }
+}
+
+/// Hears a text that the editor showed, and adds what an account says of it.
+fn see_shown<A: Account>(
+    alloc: Global,
+    held: &mut Events<Lined>,
+    account: &mut A,
+    version: i32,
+    uri: &str,
+    shown: &str,
+    text: &mut String,
+) -> Result<Flow, Memory>
+    ensures asked { A.asked account.new ≡ A.asked account.old }
+    ensures saw { IfOk result (λ flow. (terms : Terms) (before : List Heard) (h : Heard)
+        → Comes (placed.show version uri.now shown.now) terms held.old.session held.old.docs
+        held.old.counts before h (A.stands account.old terms before)
+        → Saw (A.run (A.asked account.old)) terms before h (λ rests. Unit {0})
+        (string_bytes text.old) (string_bytes text.new)
+        (A.stands account.new terms (before ++ h ∷ [])) held.new.session held.new.docs
+        held.new.counts flow) }
+{
+    match held.docs.snapshot(uri, version, shown) {
+        Ok(answer) => {
+            held.counts.add(Who::Snapshot);
+            let seen = Seen::Snapshot {
+                version,
+                uri,
+                text: shown,
+                answer,
+            };
+            let flow = account.event(alloc, held, seen, text)?;
+            Ok(flow)
+        }
+        Err(fault) => {
+            let rule = Fault::from(fault).rule()?;
+            let raw = Raw::Snapshot {
+                version,
+                uri,
+                text: shown,
+            };
+            skip(alloc, held, account, raw, rule, None, text)
+        }
+    }
+}
+
+/// Counts an event that breaks this rule, and adds what an account says of it.
+#[cold]
+#[inline(never)]
+fn skip<A: Account>(
+    alloc: Global,
+    held: &mut Events<Lined>,
+    account: &mut A,
+    raw: Raw<'_>,
+    rule: u16,
+    spoken: Option<&Spoken>,
+    text: &mut String,
+) -> Result<Flow, Memory>
+    ensures asked { A.asked account.new ≡ A.asked account.old }
+    ensures saw { IfOk result (λ flow. (terms : Terms) (before : List Heard) (h : Heard)
+        → Comes (raw_view raw.entry) terms held.old.session held.old.docs held.old.counts before h
+        (A.stands account.old terms before)
+        → rule_of terms before h ≡ Some rule
+        → MaySpeak (kept_before terms before) h.note.event
+        (option_map (λ s. s.now) spoken.entry)
+        → Saw (A.run (A.asked account.old)) terms before h (ShowsFault raw.entry)
+        (string_bytes text.old) (string_bytes text.new)
+        (A.stands account.new terms (before ++ h ∷ [])) held.new.session held.new.docs
+        held.new.counts flow) }
+{
+    held.counts.add(raw.who());
+    let seen = Seen::Offence { raw, rule, spoken };
+    let flow = account.event(alloc, held, seen, text)?;
+    Ok(flow)
+}
+
+/// Writes a text; one that is empty takes no call of the sink.
+fn put_text<W: Sink>(writer: &mut W, text: &str) -> Result<(), WriteFault>
+    ensures writes { Writes (W.told writer.old) (W.told writer.new) result text.now }
+    ensures quiet { OnOk result (text.now ≡ [] → W.told writer.new ≡ W.told writer.old) }
+    ensures some { OnErr result (text.now ≡ [] → ⊥) }
+{
+    if text.is_empty() {
+        return Ok(());
+    }
+    put_all(writer, text.as_bytes())
+}

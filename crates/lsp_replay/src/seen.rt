@@ -1,0 +1,84 @@
+//! What happened at an event, as an account is told it.
+ghost use Rattle.std.specs.Prelude.{◌≡◌, ◌++◌, List, None, OnOk, string_bytes};
+ghost use Rattle.lsp_docs.specs.Terms.{Terms};
+ghost use Rattle.lsp_replay.specs.Lines.{heard_line};
+ghost use Rattle.lsp_replay.specs.Telling.{IsSeen, rule_of};
+ghost use Rattle.lsp_verdict.specs.Heard.{Heard};
+
+use crate::events::Events;
+use crate::heard::EventPlace;
+use crate::lines::{push_message_line, push_snapshot_line};
+use lsp_docs::Match;
+use lsp_rpc::{Memory, Side, Spoken};
+use lsp_text::Lined;
+use lsp_verdict::{Lines, Outcome, Raw, Who, who_of};
+use std::alloc::Global;
+
+/// What happened at an event, which is counted. All of it is lent.
+#[derive(Clone, Copy)]
+pub enum Seen<'a> {
+    /// A message that is kept, of this content: without its params and the value of a result that
+    /// nothing reads, with what it means. Session and documents are those after it.
+    Message {
+        side: Side,
+        content: &'a [u8],
+        spoken: &'a Spoken,
+    },
+    /// A text that the editor showed, which is kept, and how it was compared.
+    Snapshot {
+        version: i32,
+        uri: &'a str,
+        text: &'a str,
+        answer: Match,
+    },
+    /// An event that offends, by its least rule, and is skipped: session and documents are those
+    /// before it. Where it is a message (301 to 702), it is given as one that is kept.
+    Offence {
+        raw: Raw<'a>,
+        rule: u16,
+        spoken: Option<&'a Spoken>,
+    },
+}
+
+/// Whether a pass goes on after an event.
+#[derive(Drop)]
+pub enum Flow {
+    /// It does.
+    GoOn,
+    /// It ends so, and nothing more is read. The outcome is large, and rarely given.
+    Stop(Box<Outcome>),
+}
+
+/// Adds the line of an event that is kept to a text, short or long.
+///
+/// # Errors
+/// `Memory` where memory was refused.
+pub fn push_kept_line(
+    alloc: Global,
+    text: &mut String,
+    lines: Lines,
+    held: &Events<Lined>,
+    seen: Seen<'_>,
+) -> Result<(), Memory>
+    ensures { OnOk result ((terms : Terms) (before : List Heard) (h : Heard)
+        → IsSeen held.now.session held.now.docs held.now.counts seen.entry terms before h
+        → rule_of terms before h ≡ None
+        → string_bytes text.new ≡ string_bytes text.old ++ heard_line lines before h) }
+{
+    match seen {
+        Seen::Message { side, spoken, .. } => {
+            let place = EventPlace::last(&held.counts, who_of(side));
+            push_message_line(alloc, text, lines, place, side, spoken)
+        }
+        Seen::Snapshot {
+            version,
+            uri,
+            text: shown,
+            ..
+        } => {
+            let place = EventPlace::last(&held.counts, Who::Snapshot);
+            push_snapshot_line(alloc, text, lines, place, version, uri, shown)
+        }
+        Seen::Offence { .. } => Ok(()),
+    }
+}

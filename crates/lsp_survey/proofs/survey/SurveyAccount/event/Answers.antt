@@ -1,0 +1,55 @@
+use Rattle.std.proofs.Common.{◌∙◌, ◌++◌, ◌∷◌, [], ap, refl, string_bytes, subst, sym}
+use Rattle.lsp_replay.proofs.Following.{whose_read}
+use Rattle.lsp_replay.proofs.SeenLines.{counted_on, few_on}
+use Rattle.lsp_survey.specs.Reported.{lines_of}
+use Rattle.lsp_survey.specs.SurveyRun.{event_said}
+use Rattle.lsp_survey.proofs.SurveySteps.{kept_said, kept_seen, kept_stands, offence_is, offence_said}
+use Rattle.lsp_survey.proofs.SurveySteps.{offence_seen, offence_stands}
+use Rattle.lsp_verdict.specs.Heard.{heard_events}
+use Rattle.lsp_verdict.specs.Offences.{IsNoted, Offence}
+use Rattle.lsp_verdict.specs.Placed.{Raw}
+use Rattle.lsp_survey.proofs.survey.SurveyAccount.event.Goals as goal
+
+-- it is kept
+pub returns-in_default : goal.returns-in_default
+returns-in_default c = record {
+  asked = refl;
+  says = λ terms before h stands seen.
+      let old = c.args.self.now in
+      let told = c.in_ok-follows.ensures terms before h stands.losses seen in
+      let rule = kept_seen terms before h c.args.seen c.in_default.not-Offence seen.as_is in
+      record {
+        said = event_said old.options terms before h;
+        added = c.in_ok-show.ensures terms before h seen rule
+            ∙ ap (λ w. string_bytes c.args.text.now ++ w) (kept_said terms before h old.options rule);
+        is = λ rests fits. refl;
+        goes = (refl, kept_stands terms before h old _ _ stands told rule refl);
+      };
+}
+
+-- it offends
+pub returns-clause-says : goal.returns-clause-says
+returns-clause-says c = λ terms before h stands seen.
+    let old = c.args.self.now in
+    let told = c.in_ok-follows.ensures terms before h stands.losses seen in
+    let own = offence_seen terms before h c.args.seen _ _ _ c.in-Offence.is seen.as_is in
+    let noted = subst (λ (w : Raw). IsNoted w h.note) own.0 seen.noted in
+    let is = offence_is terms before h c.in-Offence.rule _ _ own.1 told.late_is
+    (c.last_offence-offence.ensures (heard_events before) h.note.event
+    (counted_on before h _ seen.few seen.stood.counted)
+    (c.who.ensures ∙ sym (whose_read _ h.note.event noted.0))
+    (few_on before h _ seen.few seen.stood.counted)) in
+    record {
+      said = event_said old.options terms before h;
+      added = c.in_ok-list.ensures.said
+          ∙ ap (λ (o : Offence). string_bytes c.args.text.now
+          ++ lines_of old.options.listing (o ∷ [])) is
+          ∙ ap (λ w. string_bytes c.args.text.now ++ w)
+          (offence_said terms before h old.options c.in-Offence.rule own.1);
+      is = λ rests fits. refl;
+      goes = (
+        refl,
+        offence_stands terms before h old _ _ stands told c.in-Offence.rule _ own.1 is
+            c.in_ok-list.ensures.tally,
+      );
+    }

@@ -1,0 +1,101 @@
+-- What the offences so far have left lost.
+use Rattle.std.specs.Prelude.{◌≡◌, ◌&&◌, ◌||◌, ◌∷◌, ◌++◌, [], ℕ, List, Bool, false, Option, None}
+use Rattle.std.specs.Prelude.{Some, is_some, option_and_then, option_map, unwrap_or}
+use Rattle.lsp_docs.specs.Calls.{Call}
+use Rattle.lsp_docs.specs.State as docs
+use Rattle.lsp_docs.specs.Terms.{Terms}
+use Rattle.lsp_replay.specs.Telling.{MaySpeak, Stood, kept_before, rule_of}
+use Rattle.lsp_rpc.specs.Ident.{id_view}
+use Rattle.lsp_rpc.specs.Message.{Message}
+use Rattle.lsp_rpc.specs.Outline.{outline}
+use Rattle.lsp_rpc.specs.declared.act.Spoken.{Spoken}
+use Rattle.lsp_rpc.specs.declared.message.Id.{Id}
+use Rattle.lsp_session.specs.Sent.{Sent}
+use Rattle.lsp_session.specs.State as session
+use Rattle.lsp_session.specs.State.{Stands}
+use Rattle.lsp_survey.specs.Notes.{Leaves, is_noted}
+use Rattle.lsp_survey.specs.Passed.{ArePassed, has_passed}
+use Rattle.lsp_survey.specs.Sides.{sides_after, sides_of}
+use Rattle.lsp_survey.specs.declared.losses.Losses.{Losses}
+use Rattle.lsp_types.specs.declared.side.Side.{Side}
+use Rattle.lsp_verdict.specs.Calls.{calls}
+use Rattle.lsp_verdict.specs.Event.{Event, message, sent_in}
+use Rattle.lsp_verdict.specs.Heard.{Heard, notes_of}
+use Rattle.lsp_verdict.specs.LookBack.{first_of}
+use Rattle.lsp_verdict.specs.Offences.{IsNoted, Noted, asks, breaks_handshake, broken_by}
+use Rattle.lsp_verdict.specs.Offences.{brought_by, events_of, follows, is_handshake_lost}
+use Rattle.lsp_verdict.specs.Offences.{is_initialized_by, is_lost, is_passed, is_reopened}
+use Rattle.lsp_verdict.specs.Offences.{is_unheard, kept_of, may_answer, wants_handshake}
+use Rattle.lsp_verdict.specs.Offences.{wants_text}
+use Rattle.lsp_verdict.specs.Placed.{Raw}
+use Rattle.lsp_verdict.specs.declared.counts.Counts.{Counts}
+
+-- **on these terms this is lost after these events**
+pub record AreLosses (terms : Terms) (l : Losses) (notes : List Noted) : Type 0 where
+  pub noted : (uri : List ℕ) → is_noted l.documents.map.entries uri ≡ is_lost terms uri notes
+  pub is_broken : l.handshake ≡ is_some (first_of (broken_by terms) notes)
+  pub sided : l.sides ≡ sides_of (events_of notes)
+  pub passed : (side : Side) (k : Id) → has_passed l.passed side (id_view k)
+      ≡ is_passed terms side (id_view k) notes
+  pub unheard : l.unheard ≡ is_unheard terms notes
+
+-- the session holds the messages of the kept ones of these events
+abbrev pub HoldsSent : session.State → Terms → List Noted → Type 0
+HoldsSent s terms before = Stands s (sent_in (kept_of terms (events_of before)))
+
+-- an offence by this rule, which speaks of a lost document or doesn't, and arises from bytes that
+-- failed or from a message that was passed over or doesn't, follows from an earlier one
+abbrev pub follows_of : Terms → List Noted → ℕ → Bool → Bool → Bool
+follows_of terms before rule on_lost late =
+    wants_handshake rule && is_handshake_lost terms before || (wants_text rule && on_lost || late)
+
+-- this message of the side, up to its params
+abbrev pub IsMessageOf : Side → Message → Event → Type 0
+IsMessageOf side said event =
+    (sent : Sent) × (event ≡ message sent) × (sent.side ≡ side)
+    × (outline sent.message ≡ outline said)
+
+-- an event that offends by this rule, or is kept, breaks the handshake
+abbrev pub breaks_by : Option ℕ → Option Message → Bool → Bool
+breaks_by None malformed answers = false
+breaks_by (Some rule) malformed answers = breaks_handshake (asks malformed) rule || answers
+
+-- it is an `initialized` that is passed over
+abbrev pub unheard_with : Option ℕ → Event → Bool
+unheard_with None event = false
+unheard_with (Some rule) event = is_initialized_by event
+
+-- **this event, which offends by this rule or is kept, was noted after these**: where its content
+-- is malformed it is this message, and it says this about a document
+pub record IsNotedIn (terms : Terms) (before : List Noted) (event : Event)
+    (malformed : Option Message) (said : Option Call) (rule : Option ℕ) (old new : Losses) : Type 0
+  where
+    pub is_broken : new.handshake ≡ (old.handshake || breaks_by rule malformed
+        (may_answer (kept_of terms (events_of before)) event))
+    pub sides : new.sides ≡ sides_after event old.sides
+    pub passed : ArePassed rule event malformed old.passed new.passed
+    pub unheard : new.unheard ≡ (old.unheard || unheard_with rule event)
+    pub noted : Leaves rule (option_and_then brought_by malformed)
+        (is_reopened terms (calls (kept_of terms (events_of before))) said) said
+        old.documents.map.entries new.documents.map.entries
+
+-- **this event after these offends by this rule**, and is this message or none; what is held is
+-- that before it
+pub record Offends (messages : session.State) (documents : docs.State) (counts : Counts)
+    (raw : Raw) (rule : ℕ) (spoken : Option Spoken) (terms : Terms) (before : List Heard)
+    (h : Heard) : Type 0 where
+  pub stood : Stood terms messages documents counts (before ++ h ∷ [])
+  pub noted : IsNoted raw h.note
+  pub breaks : rule_of terms before h ≡ Some rule
+  pub speaks : MaySpeak (kept_before terms before) h.note.event spoken
+
+-- whether an event after these offends and follows from an earlier one
+abbrev pub follows_at : Terms → List Heard → Heard → Bool
+follows_at terms before h =
+    unwrap_or (option_map (follows terms (notes_of before) h.note) (rule_of terms before h)) false
+
+-- **it was told of this event after these**, which was found to follow from an earlier one or not
+pub record WasTold (l : Losses) (terms : Terms) (before : List Heard) (h : Heard) (late : Bool)
+    : Type 0 where
+  pub late_is : late ≡ follows_at terms before h
+  pub losses : AreLosses terms l (notes_of (before ++ h ∷ []))

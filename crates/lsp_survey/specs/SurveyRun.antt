@@ -1,0 +1,61 @@
+-- What is said where all that is wrong with a log is listed.
+use Rattle.std.specs.Prelude.{◌≡◌, List, [], ◌∷◌, ◌++◌, ℕ, map, false, Option, Some, None}
+use Rattle.std.specs.Prelude.{unwrap_or}
+use Rattle.lsp_docs.specs.Terms.{Terms}
+use Rattle.lsp_log.specs.declared.fault.LogCode.{LogCode}
+use Rattle.lsp_replay.specs.Run.{IsJudged, Run}
+use Rattle.lsp_survey.specs.Lost.{AreLosses}
+use Rattle.lsp_survey.specs.Reported.{IsTally, closing, lines_of}
+use Rattle.lsp_survey.specs.SessionEnds.{all_found, all_verdict, ends_of}
+use Rattle.lsp_survey.specs.declared.survey.Options.{Options}
+use Rattle.lsp_survey.specs.declared.survey.Survey.{Survey}
+use Rattle.lsp_verdict.specs.Event.{Event}
+use Rattle.lsp_verdict.specs.Heard.{Heard, heard_events, notes_of}
+use Rattle.lsp_verdict.specs.Offences.{Offence, offence_at, offences}
+use Rattle.lsp_verdict.specs.Shown.{line_at}
+use Rattle.lsp_verdict.specs.Survey.{by_itself}
+use Rattle.lsp_verdict.specs.Verdict.{Verdict, bad_log_of, summary}
+use Rattle.lsp_verdict.specs.declared.lines.Lines.{Lines}
+
+-- what is asked of it
+abbrev pub SurveyAsked : Type 0
+SurveyAsked = Options
+
+-- the line of an event after these that is kept, where those are shown
+abbrev pub kept_line : Option Lines → List Event → Event → List ℕ
+kept_line None before event = []
+kept_line (Some lines) before event = unwrap_or (line_at lines before event) []
+
+-- the lines of its offence, as far as that is listed, else its own
+abbrev pub said_by : Options → List Event → Event → Option Offence → List ℕ
+said_by options before event None = kept_line options.lines before event
+said_by options before event (Some o) = lines_of options.listing (o ∷ [])
+
+abbrev pub event_said : Options → Terms → List Heard → Heard → List ℕ
+event_said options terms before h =
+    said_by options (heard_events before) h.note.event
+    (offence_at terms (notes_of before) h.note)
+
+-- the lines of the end, where this is listed of it, and what closes the report
+abbrev pub end_said : Options → Terms → List Heard → Option (ℕ × LogCode) → List Verdict → List ℕ
+end_said options terms heard fault ends =
+    lines_of options.listing (map by_itself ends)
+    ++ closing (all_found terms heard ends) (bad_log_of fault) (summary terms (heard_events heard))
+
+-- **the runs `check --all` and `show --all`**, which stop at no event
+abbrev pub survey_run : Options → Run
+survey_run options = record {
+  says = λ terms rests before h out. out ≡ event_said options terms before h;
+  stops = λ terms before h. false;
+  ends = λ terms before h outcome. ⊥;
+  closes = λ terms heard tail out outcome.
+      (out ≡ end_said options terms heard tail.fault
+      (ends_of options.completeness terms heard tail))
+      × IsJudged (all_verdict terms heard tail.fault
+      (ends_of options.completeness terms heard tail)) outcome;
+}
+
+-- **the account stands for these events**
+pub record SurveyStands (s : Survey) (terms : Terms) (heard : List Heard) : Type 0 where
+  pub losses : AreLosses terms s.losses (notes_of heard)
+  pub tally : IsTally s.tally (offences terms (notes_of heard))

@@ -1,0 +1,117 @@
+//! What is said where all that is wrong with a log is listed, and its kept events are shown or
+//! aren't.
+ghost use Rattle.std.specs.Prelude.{◌≡◌, ◌++◌, [], List, None, OnOk, string_bytes};
+ghost use Rattle.lsp_docs.specs.Terms.{Terms};
+ghost use Rattle.lsp_replay.specs.Telling.{IsSeen, rule_of};
+ghost use Rattle.lsp_survey.specs.SurveyRun.{SurveyAsked, SurveyStands, kept_line, survey_run};
+ghost use Rattle.lsp_verdict.specs.Heard.{Heard, heard_events};
+
+use crate::end_of_session::{SessionEnd, session_end};
+use crate::losses::Losses;
+use crate::offence_count::{OffenceCount, last_offence};
+use lsp_replay::{Account, End, Events, Flow, LogEvents, Seen, push_kept_line};
+use lsp_rpc::Memory;
+use lsp_text::Lined;
+use lsp_verdict::{Completeness, Lines, Listing, Outcome};
+use std::alloc::Global;
+
+/// What is listed of a log, and what is shown.
+#[derive(Clone, Copy)]
+pub(crate) struct Options {
+    /// Whether the session must be complete.
+    pub(crate) completeness: Completeness,
+    /// Which offences are listed.
+    pub(crate) listing: Listing,
+    /// By which lines the kept events are shown, if they are.
+    pub(crate) lines: Option<Lines>,
+}
+
+/// Lists the offences of a log in their places and how it ends, and may show the events that are
+/// kept.
+#[derive(Drop)]
+pub(crate) struct Survey {
+    options: Options,
+    losses: Losses,
+    tally: OffenceCount,
+}
+
+impl Survey {
+    /// A survey that was told of nothing.
+    pub(crate) fn new(alloc: Global, options: Options) -> Survey
+        ensures options { result.options ≡ options }
+        ensures stands { (terms : Terms) → SurveyStands result terms [] }
+    {
+        Survey {
+            options,
+            losses: Losses::new(alloc),
+            tally: OffenceCount::new(),
+        }
+    }
+
+    /// Adds the line of an event that is kept to a text, where those are shown.
+    fn show(
+        &self,
+        alloc: Global,
+        held: &Events<Lined>,
+        seen: Seen<'_>,
+        text: &mut String,
+    ) -> Result<(), Memory>
+        ensures { OnOk result ((terms : Terms) (before : List Heard) (h : Heard)
+            → IsSeen held.now.session held.now.docs held.now.counts seen.entry terms before h
+            → rule_of terms before h ≡ None
+            → string_bytes text.new ≡ string_bytes text.old
+            ++ kept_line self.now.options.lines (heard_events before) h.note.event) }
+    {
+        match self.options.lines {
+            Some(lines) => push_kept_line(alloc, text, lines, held, seen),
+            None => Ok(()),
+        }
+    }
+}
+
+impl Account for Survey {
+    ghost Asked = { SurveyAsked };
+
+    ghost asked = { λ s. s.options };
+
+    ghost run = { survey_run };
+
+    ghost stands = { SurveyStands };
+
+    #[inline(always)]
+    fn event(
+        &mut self,
+        alloc: Global,
+        held: &Events<Lined>,
+        seen: Seen<'_>,
+        text: &mut String,
+    ) -> Result<Flow, Memory> {
+        let follows = self.losses.tell(alloc, held, seen)?;
+        let Seen::Offence { raw, rule, .. } = seen else {
+            self.show(alloc, held, seen, text)?;
+            return Ok(Flow::GoOn);
+        };
+        let offence = last_offence(&held.counts, raw.who(), rule, follows);
+        let listing = self.options.listing;
+        self.tally.list(alloc, listing, &offence, text)?;
+        Ok(Flow::GoOn)
+    }
+
+    fn end(
+        &mut self,
+        alloc: Global,
+        held: &Events<Lined>,
+        log: &LogEvents,
+        end: End,
+        text: &mut String,
+    ) -> Result<Outcome, Memory> {
+        let completeness = self.options.completeness;
+        let listing = self.options.listing;
+        let SessionEnd { listed, bad } = session_end(alloc, held, log, end, completeness)?;
+        self.tally
+            .list_all(alloc, listing, listed.as_slice(), text)?;
+        let verdict = self.tally.push_verdict(alloc, held, bad, text)?;
+        self.tally.push_count(alloc, text)?;
+        Ok(Outcome::Judged(verdict))
+    }
+}
