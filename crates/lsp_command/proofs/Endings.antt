@@ -2,12 +2,11 @@
 use Rattle.std.proofs.Common.{◌≡◌, Result, Ok, Err, subst, sym}
 use Rattle.lsp_frame.specs.Bounds.{Bounds}
 use Rattle.lsp_judge.specs.declared.event.EventOutcome.{EventOutcome}
-use Rattle.lsp_verdict.specs.Ports.{CountsFaults, Ports}
-use Rattle.lsp_verdict.specs.RunIo.{source_failures, sink_failures}
+use Rattle.lsp_verdict.specs.Runs.{CountsFaults, Ports, failures_read as source_failures}
+use Rattle.lsp_verdict.specs.Runs.{failures_written as sink_failures}
 use Rattle.lsp_verdict.specs.declared.outcome.Outcome.{Outcome}
 use Rattle.lsp_verdict.specs.declared.outcome.RunFault.{RunFault}
-use Rattle.lsp_command.specs.Ended.{of_event, of_run}
-use Rattle.lsp_command.specs.Tasks.{Answers, RanTask}
+use Rattle.lsp_command.specs.Tasks.{of_event, of_run, Answers, RanTask}
 use Rattle.lsp_command.specs.declared.command_line.task.Task.{Task}
 use Rattle.lsp_command.specs.declared.task_outcome.TaskOutcome.{TaskOutcome}
 

@@ -1,4 +1,5 @@
--- The command line: the commands of the program, with their arguments and options, as `clap` reads words by them.
+-- The command line: the commands of the program, with their arguments and options, by which `clap`
+-- reads words.
 use Rattle.std.specs.Prelude.{◌≡◌, List, [], ◌∷◌, ◌++◌, Some, true, false, codes}
 use Rattle.std.specs.Borrow.{Bor}
 use Rattle.clap.specs.Words.{App, Rule, Shape, Text, new_rule, rule_of}

@@ -1,5 +1,3 @@
-pub mod Beginnings
-pub mod Ended
 pub mod Hints
 pub mod Ports
 pub mod Remarks

@@ -1,10 +1,18 @@
--- What is known of an input and an output.
-use Rattle.std.specs.Prelude.{ℕ, List, Option}
+-- What is known of an input, with its first bytes, and of an output.
+use Rattle.std.specs.Prelude.{ℕ, List, take, Option}
 use Rattle.std.specs.Io.Buffered.{writer_buffer}
 use Rattle.std.specs.declared.io.Error.{Error}
-use Rattle.lsp_command.specs.Beginnings.{kept}
+use Rattle.lsp_command.specs.declared.beginning.Beginning.{Beginning}
 use Rattle.lsp_command.specs.declared.input.BufferedInput.{BufferedInput}
 use Rattle.lsp_command.specs.declared.output.BufferedOutput.{BufferedOutput}
+
+-- ---- the first bytes of an input
+
+-- the bytes that are kept
+abbrev pub kept : Beginning → List ℕ
+kept b = take b.count b.bytes
+
+-- ---- what is known of an input and an output
 
 -- the bytes that an output took and has not written
 abbrev pub unwritten : {W : Type 0} → BufferedOutput W → List ℕ

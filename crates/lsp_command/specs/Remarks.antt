@@ -1,8 +1,7 @@
 -- What is said on standard error of how a run ended.
 use Rattle.std.specs.Prelude.{ℕ, List, Option, Some, None, Result, Ok, Err, codes}
 use Rattle.lsp_verdict.specs.Given.{verdict_view}
-use Rattle.lsp_verdict.specs.Report.{report}
-use Rattle.lsp_verdict.specs.StreamReport.{stream_report}
+use Rattle.lsp_verdict.specs.Report.{report, stream_report}
 use Rattle.lsp_verdict.specs.declared.outcome.Mode.TheVariants.{Canonical}
 use Rattle.lsp_verdict.specs.Verdict.{bad_log}
 use Rattle.lsp_judge.specs.declared.event.EventOutcome.TheVariants as events

@@ -1,38 +1,47 @@
--- What each task answers and writes: what the run of its name does with its arguments.
-use Rattle.std.specs.Prelude.{◌≡◌, ℕ, List, [], Result, Ok, Err, OnOk}
+-- What each task answers and writes, and how it ends.
+use Rattle.std.specs.Prelude.{Result, Ok, Err, ◌≡◌, ℕ, List, [], OnOk}
 use Rattle.std.specs.Int.NonZero.{non_zero_u64_get}
+use Rattle.lsp_judge.specs.declared.event.EventOutcome.{EventOutcome}
+use Rattle.lsp_judge.specs.Event.{GivesEvent}
+use Rattle.lsp_judge.specs.Normal.{Normalizes}
+use Rattle.lsp_judge.specs.Checked.{Checked, CheckedLine}
+use Rattle.lsp_judge.specs.ShownLog.{Showed, UpgradesLog}
+use Rattle.lsp_judge.specs.Stream.{RunsFrames}
+use Rattle.lsp_verdict.specs.declared.outcome.Outcome.{Outcome}
+use Rattle.lsp_verdict.specs.declared.outcome.RunFault.{RunFault}
+use Rattle.lsp_verdict.specs.Runs.{Ports, failures_read as source_failures}
+use Rattle.lsp_verdict.specs.Runs.{failures_written as sink_failures}
+use Rattle.lsp_verdict.specs.Shown.{AnswersText}
+use Rattle.lsp_verdict.specs.declared.outcome.RunFault.TheVariants as faults
 use Rattle.lsp_frame.specs.Bounds.{Bounds}
 use Rattle.lsp_frame.specs.Told.{Told, CountsFailure, KeepsBytes}
 use Rattle.lsp_frame.specs.declared.io.Failed.{Failed}
-use Rattle.lsp_judge.specs.Event.{GivesEvent}
-use Rattle.lsp_judge.specs.Normal.{Normalizes}
-use Rattle.lsp_verdict.specs.Ports.{Ports}
-use Rattle.lsp_verdict.specs.RunIo.{source_failures, sink_failures}
-use Rattle.lsp_verdict.specs.TextAfter.{AnswersText}
-use Rattle.lsp_judge.specs.Checked.{Checked}
-use Rattle.lsp_judge.specs.CheckedLine.{CheckedLine}
-use Rattle.lsp_judge.specs.ShownLog.{Showed}
-use Rattle.lsp_judge.specs.UpgradedLog.{UpgradesLog}
-use Rattle.lsp_judge.specs.StreamRun.{RunsFrames}
 use Rattle.lsp_replay.specs.TextAnswers.{WritesText}
-use Rattle.lsp_explain.specs.AllExplained.{ExplainsAll}
+use Rattle.lsp_explain.specs.Explained.{ExplainsAll, WritesExplanation}
 use Rattle.lsp_explain.specs.Compared.{AnswersCompared}
-use Rattle.lsp_explain.specs.Explained.{WritesExplanation}
 use Rattle.lsp_survey.specs.AllShown.{ShowsAll}
 use Rattle.lsp_survey.specs.KeptText.{AnswersKept}
 use Rattle.lsp_survey.specs.Reported.{SurveysLog}
-use Rattle.lsp_verdict.specs.declared.outcome.Outcome.{Outcome}
-use Rattle.lsp_verdict.specs.declared.outcome.RunFault.{RunFault}
-use Rattle.lsp_verdict.specs.declared.outcome.RunFault.TheVariants as faults
-use Rattle.lsp_judge.specs.declared.event.EventOutcome.{EventOutcome}
-use Rattle.lsp_command.specs.Ended.{of_event, of_run}
 use Rattle.lsp_command.specs.declared.task_outcome.TaskOutcome.{TaskOutcome}
+use Rattle.lsp_command.specs.declared.task_outcome.TaskOutcome.TheVariants as outcomes
 use Rattle.lsp_command.specs.declared.command_line.task.Task.{Task}
 use Rattle.lsp_command.specs.declared.command_line.task.Task.TheVariants.{Check, CheckLine, Survey}
-use Rattle.lsp_command.specs.declared.command_line.task.Task.TheVariants.{Explain, ExplainAll, Compared}
-use Rattle.lsp_command.specs.declared.command_line.task.Task.TheVariants.{Show, ShowAll, Text}
-use Rattle.lsp_command.specs.declared.command_line.task.Task.TheVariants.{TextAll, Event}
+use Rattle.lsp_command.specs.declared.command_line.task.Task.TheVariants.{Explain, ExplainAll}
+use Rattle.lsp_command.specs.declared.command_line.task.Task.TheVariants.{Compared, Show, ShowAll}
+use Rattle.lsp_command.specs.declared.command_line.task.Task.TheVariants.{Text, TextAll, Event}
 use Rattle.lsp_command.specs.declared.command_line.task.Task.TheVariants.{Normal, Upgrade, Frames}
+
+-- ---- how a task ends, by how its run ended
+
+abbrev pub of_run : Result Outcome RunFault → Result TaskOutcome RunFault
+of_run (Ok outcome) = Ok (outcomes.Run outcome)
+of_run (Err fault) = Err fault
+
+abbrev pub of_event : Result EventOutcome RunFault → Result TaskOutcome RunFault
+of_event (Ok outcome) = Ok (outcomes.Event outcome)
+of_event (Err fault) = Err fault
+
+-- ---- each task: what the run of its name does with its arguments
 
 -- the run over a log or a stream answers so, and the task as it does
 abbrev pub EndsRun : (Result Outcome RunFault → Type 0) → Result TaskOutcome RunFault → Type 0

@@ -11,7 +11,7 @@ pub struct Beginning {
 
 impl Beginning {
     ghost use Rattle.std.specs.Prelude.{◌≡◌, ◌++◌, [], take};
-    ghost use Rattle.lsp_command.specs.Beginnings.{kept};
+    ghost use Rattle.lsp_command.specs.Ports.{kept};
 
     /// Of an input that has given nothing yet.
     pub fn new() -> Beginning

@@ -4,8 +4,7 @@ ghost use Rattle.std.specs.Prelude.{length, take, vec_len, vec_capacity};
 ghost use Rattle.std.specs.Io.{ReadsAtMost, appended_bytes};
 ghost use Rattle.std.specs.Io.KnownBytes.{Consumes, IsAtEnd};
 ghost use Rattle.lsp_frame.specs.Told.{CountsFailure, Gave, GaveOnto, KeepsBytes};
-ghost use Rattle.lsp_command.specs.Beginnings.{kept};
-ghost use Rattle.lsp_command.specs.Ports.{first_bytes, input_error};
+ghost use Rattle.lsp_command.specs.Ports.{kept, first_bytes, input_error};
 
 use crate::beginning::Beginning;
 use crate::command_line::Task;

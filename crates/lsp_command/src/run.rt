@@ -1,6 +1,6 @@
 //! Does what the words ask for.
 ghost use Rattle.std.specs.Prelude.{◌≡◌, [], None, Err, OnOk, IsSome};
-ghost use Rattle.lsp_verdict.specs.Ports.{ports};
+ghost use Rattle.lsp_verdict.specs.Runs.{ports};
 ghost use Rattle.lsp_verdict.specs.declared.outcome.RunFault.TheVariants as faults;
 ghost use Rattle.lsp_command.specs.Ports.{input_error, late_error, output_error, unwritten};
 ghost use Rattle.lsp_command.specs.Tasks.{RanTask, RanThrough, handed_on};
@@ -40,14 +40,10 @@ pub fn run_task<R: Source, W: Sink>(
             let ended = run_check_line(alloc, source, sink, limits, completeness, name);
             of_run(ended)
         }
-        Task::Survey(completeness, listing) => of_run(run_survey(
-            alloc,
-            source,
-            sink,
-            limits,
-            completeness,
-            listing,
-        )),
+        Task::Survey(completeness, listing) => {
+            let ended = run_survey(alloc, source, sink, limits, completeness, listing);
+            of_run(ended)
+        }
         Task::Explain(completeness) => {
             of_run(run_explain(alloc, source, sink, limits, completeness))
         }

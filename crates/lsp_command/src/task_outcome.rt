@@ -1,6 +1,6 @@
 //! How a task ends.
 ghost use Rattle.std.specs.Prelude.{◌≡◌};
-ghost use Rattle.lsp_command.specs.Ended.{of_event, of_run};
+ghost use Rattle.lsp_command.specs.Tasks.{of_event, of_run};
 
 use lsp_judge::{EventOutcome, Outcome, RunFault};
 

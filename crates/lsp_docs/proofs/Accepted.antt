@@ -8,10 +8,9 @@ use Rattle.std.specs.Str.{bytes_eq}
 use Rattle.std.proofs.lemmas.Bool.{or_parts, cases_Bool}
 use Rattle.std.proofs.lemmas.Option.{same_Some}
 use Rattle.lsp_text.specs.Edits.{applied}
-use Rattle.lsp_docs.specs.Terms.{Terms}
+use Rattle.lsp_docs.specs.Documents.{Terms, Version, versioned, text_or, held}
 use Rattle.lsp_docs.specs.Calls.{Bytes, Call, opens, changes, closes, saves, shows, is_close}
 use Rattle.lsp_docs.specs.Calls.{is_change}
-use Rattle.lsp_docs.specs.Documents.{Version, versioned, text_or, held}
 use Rattle.lsp_docs.specs.Rules.{call_rule, AreAcceptedFrom}
 use Rattle.lsp_docs.proofs.Words.{uri_is, lt_trans}
 use Rattle.lsp_docs.proofs.HeldSteps.{next_held, held-snoc}

@@ -13,13 +13,12 @@ use Rattle.std.proofs.lemmas.Cmp.{int_eq_equiv}
 use Rattle.std.proofs.lemmas.List.Folds.{list_any-append}
 use Rattle.std.proofs.lemmas.Option.{same_Some}
 use Rattle.std.proofs.lemmas.Slice.Eq.{bytes_eq-Decides}
-use Rattle.lsp_docs.specs.Texts.{Text, byte_len}
-use Rattle.lsp_docs.specs.Terms.{Terms}
+use Rattle.lsp_docs.specs.Calls.{Text, byte_len, Bytes, Call, opens, changes, closes, saves, shows}
+use Rattle.lsp_docs.specs.Calls.{is_close}
+use Rattle.lsp_docs.specs.Documents.{Terms, Version, versioned, is_after, text_or, held}
 use Rattle.lsp_text.specs.Edits.{applied}
-use Rattle.lsp_docs.specs.Calls.{Bytes, Call, opens, changes, closes, saves, shows, is_close}
-use Rattle.lsp_docs.specs.Documents.{Version, versioned, is_after, text_or, held}
-use Rattle.lsp_docs.specs.Kept.{past, kept}
-use Rattle.lsp_docs.specs.Snapshots.{is_ahead, waits, shown_entry, waiting_in, waiting, versions_of}
+use Rattle.lsp_docs.specs.Snapshots.{past, kept, is_ahead, waits, shown_entry, waiting_in, waiting}
+use Rattle.lsp_docs.specs.Snapshots.{versions_of}
 use Rattle.lsp_docs.specs.Rules.{differs, version_rule, show_rule, call_rule, AreAcceptedFrom}
 use Rattle.lsp_docs.specs.Rules.{AreAccepted}
 use Rattle.lsp_docs.proofs.Words.{no_some, unchanged, uri_is, uri_same}

@@ -10,12 +10,10 @@ use Rattle.std.proofs.lemmas.Bool.{or_parts, cases_Bool}
 use Rattle.std.proofs.lemmas.List.Folds.{list_any-append}
 use Rattle.std.proofs.lemmas.Option.{same_Some, none-some}
 use Rattle.lsp_text.specs.SameText.{SameText}
-use Rattle.lsp_docs.specs.Texts.{Text}
-use Rattle.lsp_docs.specs.Terms.{Terms}
-use Rattle.lsp_docs.specs.Calls.{Bytes, Call, opens, changes, closes, saves, shows, is_close}
-use Rattle.lsp_docs.specs.Documents.{Version, opening, held_since, held}
+use Rattle.lsp_docs.specs.Calls.{Text, Bytes, Call, opens, changes, closes, saves, shows, is_close}
+use Rattle.lsp_docs.specs.Documents.{Terms, Version, opening, held_since, held}
 use Rattle.lsp_docs.specs.Rules.{call_rule, AreAcceptedFrom, AreAccepted}
-use Rattle.lsp_docs.specs.Binding.{standing, next_opening, binding}
+use Rattle.lsp_docs.specs.Laws.{standing, next_opening, binding}
 use Rattle.lsp_docs.proofs.Words.{no_some, uri_is}
 use Rattle.lsp_docs.proofs.HeldSteps.{next_held, held-snoc}
 use Rattle.lsp_docs.proofs.Accepted.{accepted-split}

@@ -11,12 +11,10 @@ use Rattle.std.proofs.lemmas.List.Elements.{filter-append}
 use Rattle.std.proofs.lemmas.List.{map-append}
 use Rattle.lsp_types.specs.declared.position.Encoding.{Encoding}
 use Rattle.lsp_types.specs.declared.change.SyncKind.{SyncKind}
-use Rattle.lsp_docs.specs.Texts.{Text}
-use Rattle.lsp_docs.specs.Terms.{Terms}
+use Rattle.lsp_docs.specs.Calls.{Text, Bytes, Call, opens, changes, closes, saves, shows, is_close}
+use Rattle.lsp_docs.specs.Documents.{Terms, Version, versioned, revised, held_since, held, Held}
+use Rattle.lsp_docs.specs.Documents.{as_held, held_entry, documents}
 use Rattle.lsp_text.specs.Edits.{Edit, applied}
-use Rattle.lsp_docs.specs.Calls.{Bytes, Call, opens, changes, closes, saves, shows, is_close}
-use Rattle.lsp_docs.specs.Documents.{Version, versioned, revised, held_since, held, Held, as_held}
-use Rattle.lsp_docs.specs.Documents.{held_entry, documents}
 use Rattle.lsp_docs.specs.State.{held_in, set_in, without}
 use Rattle.lsp_docs.proofs.Words.{uri_is, uri_flip}
 use Rattle.lsp_docs.proofs.HeldSteps.{since, held_since-snoc}

@@ -7,6 +7,7 @@ use Rattle.std.proofs.lemmas.Int.{ints}
 use Rattle.std.proofs.lemmas.Option.{none-some}
 use Rattle.std.proofs.lemmas.List.Folds.{list_any-append}
 use Rattle.std.specs.Prelude.{ℤ, int_lt, min, ◌-◌, ◌^◌}
+use Rattle.std.specs.Prelude.{unwrap_or}
 use Rattle.std.specs.List.{list_any, AllByRecursion}
 use Rattle.std.specs.List.Sorted.{IsStrictlySortedBy}
 use Rattle.std.specs.Map.{lookup, set_value, keys_of}
@@ -14,12 +15,11 @@ use Rattle.std.specs.declared.cmp.Ordering.{Ordering}
 use Rattle.std.specs.Ordering.{int_eq, int_cmp, is_lt, is_eq, match_ordering}
 use Rattle.std.specs.declared.cmp.Ordering.TheVariants.{Less, Equal, Greater}
 use Rattle.std.specs.BTreeMap.{insert_entry}
-use Rattle.lsp_docs.specs.Texts.{Text}
+use Rattle.lsp_docs.specs.Calls.{Text}
 use Rattle.lsp_docs.specs.Documents.{Version, versioned, is_after, is_at, is_before}
 use Rattle.lsp_docs.specs.Snapshots.{texts_at}
 use Rattle.lsp_docs.specs.State.{SameOrder, capped}
 use Rattle.lsp_docs.specs.Stored.{versions_in, is_first_within, rest_of, first_before}
-use Rattle.std.specs.Prelude.{unwrap_or}
 use Rattle.std.proofs.lemmas.Bool.Decides.{Decides-int_eq}
 use Rattle.std.proofs.lemmas.Bool.{cases_Bool, not-true, not-false}
 use Rattle.std.proofs.lemmas.List.Elements.{filter-append}

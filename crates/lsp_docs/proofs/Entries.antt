@@ -13,9 +13,9 @@ use Rattle.std.proofs.lemmas.Bool.{cases_Bool}
 use Rattle.lsp_types.specs.Texts.{is_text}
 use Rattle.lsp_docs.specs.Calls.{Bytes}
 use Rattle.lsp_docs.specs.Documents.{Version}
-use Rattle.lsp_docs.specs.Kept.{last_of}
+use Rattle.lsp_docs.specs.Snapshots.{last_of}
 use Rattle.lsp_docs.specs.State.{held_in, queue_of, set_in, without, KeepsSame, KeepsOn, KeepsNone}
-use Rattle.lsp_docs.specs.Opened.{held_of, kept_of}
+use Rattle.lsp_docs.specs.Stored.{held_of, kept_of}
 use Rattle.lsp_docs.proofs.Queues.{queue_of-there, written-others, written-there}
 use Rattle.lsp_docs.proofs.Words.{uri_is, uri_flip}
 

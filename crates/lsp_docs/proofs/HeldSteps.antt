@@ -6,10 +6,9 @@ use Rattle.std.specs.Str.{bytes_eq}
 use Rattle.std.specs.Option.{option_or}
 use Rattle.std.specs.List.{list_any}
 use Rattle.std.proofs.lemmas.List.Folds.{list_any-append}
-use Rattle.lsp_docs.specs.Terms.{Terms}
+use Rattle.lsp_docs.specs.Documents.{Terms, Version, versioned, opening, revised, revised_by}
+use Rattle.lsp_docs.specs.Documents.{held_since, held}
 use Rattle.lsp_docs.specs.Calls.{Bytes, Call, opens, changes, closes, saves, shows, is_close}
-use Rattle.lsp_docs.specs.Documents.{Version, versioned, opening, revised, revised_by, held_since}
-use Rattle.lsp_docs.specs.Documents.{held}
 
 -- what is held after one more call
 abbrev pub next_held : Terms → Bytes → Option Version → Call → Option Version

@@ -1,16 +1,14 @@
-pub mod Words
 pub mod Mixed
 pub mod SameVersions
-pub mod Queues
 pub mod Due
 pub mod HeldSteps
 pub mod DocumentSteps
 pub mod WaitingSteps
-pub mod QueueSteps
+pub mod Queues
 pub mod Standing
 pub mod Stepping
 pub mod Entries
-pub mod Faults
+pub mod Words
 pub mod Accepted
 pub mod Rising
 pub mod Past
@@ -20,4 +18,5 @@ pub mod SetVersions
 pub mod Setters
 pub mod Unmatched
 pub mod Others
+pub mod Trying
 pub mod Sessions

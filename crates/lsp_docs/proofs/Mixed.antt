@@ -12,7 +12,7 @@ use Rattle.std.proofs.Math.Bool.{or-false, or-true}
 use Rattle.lsp_types.specs.declared.line_ends.LineEnds.{LineEnds}
 use Rattle.lsp_text.specs.SameText.{SameText, compared, same_text}
 use Rattle.lsp_docs.specs.Stored.{are_mixed, text_of, texts_of}
-use Rattle.lsp_docs.specs.Texts.{Text}
+use Rattle.lsp_docs.specs.Calls.{Text}
 use Rattle.lsp_docs.proofs.Words.{uri_flip, uri_is}
 
 -- texts that a comparison says are the same

@@ -13,14 +13,11 @@ use Rattle.std.specs.Str.{bytes_eq, chars, IsUtf8}
 use Rattle.std.proofs.lemmas.Slice.Eq.{bytes_eq-Decides}
 use Rattle.lsp_text.proofs.Counting.{chars_same}
 use Rattle.lsp_types.specs.declared.line_ends.LineEnds.{LineEnds}
-use Rattle.lsp_docs.specs.Texts.{Text}
-use Rattle.lsp_docs.specs.Calls.{Bytes, Call}
-use Rattle.lsp_docs.specs.Documents.{Version, held, is_after, is_at, versioned}
+use Rattle.lsp_docs.specs.Calls.{Text, Bytes, Call}
+use Rattle.lsp_docs.specs.Documents.{Version, held, is_after, is_at, versioned, Terms}
 use Rattle.lsp_docs.specs.Laws.{rises}
-use Rattle.lsp_docs.specs.Others.{differs_from, other_in, other_than, text_at, text_in}
-use Rattle.lsp_docs.specs.Kept.{kept}
-use Rattle.lsp_docs.specs.Rules.{AreAccepted}
-use Rattle.lsp_docs.specs.Terms.{Terms}
+use Rattle.lsp_docs.specs.Rules.{differs_from, other_in, other_than, text_at, text_in, AreAccepted}
+use Rattle.lsp_docs.specs.Snapshots.{kept}
 use Rattle.lsp_docs.proofs.Past.{kept-rises}
 use Rattle.lsp_docs.proofs.Due.{apart, eq_flip}
 use Rattle.lsp_text.specs.SameText.{SameText, compared, same_text}

@@ -9,14 +9,13 @@ use Rattle.std.specs.Str.{bytes_eq}
 use Rattle.std.proofs.lemmas.Bool.{or_parts, cases_Bool, or_cases}
 use Rattle.std.proofs.lemmas.List.Folds.{list_any-append}
 use Rattle.std.proofs.lemmas.Option.{none-some}
-use Rattle.lsp_docs.specs.Texts.{Text}
-use Rattle.lsp_docs.specs.Terms.{Terms}
-use Rattle.lsp_docs.specs.Calls.{Bytes, Call, opens, changes, closes, saves, shows, is_close}
+use Rattle.lsp_docs.specs.Calls.{Text, Bytes, Call, opens, changes, closes, saves, shows, is_close}
 use Rattle.lsp_docs.specs.Calls.{is_change}
+use Rattle.lsp_docs.specs.Documents.{Terms, Version, versioned, is_at, opening, text_or, revised}
+use Rattle.lsp_docs.specs.Documents.{held}
 use Rattle.lsp_text.specs.Edits.{applied}
-use Rattle.lsp_docs.specs.Documents.{Version, versioned, is_at, opening, text_or, revised, held}
-use Rattle.lsp_docs.specs.Kept.{past_entry, past_in, past, last_of, kept}
-use Rattle.lsp_docs.specs.Snapshots.{is_ahead, holds_number, has_number, comes_to, is_compared}
+use Rattle.lsp_docs.specs.Snapshots.{past_entry, past_in, past, last_of, kept, is_ahead}
+use Rattle.lsp_docs.specs.Snapshots.{holds_number, has_number, comes_to, is_compared}
 use Rattle.lsp_docs.specs.Rules.{show_rule, call_rule, AreAcceptedFrom, AreAccepted}
 use Rattle.lsp_docs.specs.Laws.{rises, held_rule}
 use Rattle.lsp_docs.proofs.Words.{no_some, int_is, unchanged, uri_is, equal_behind, less_behind}

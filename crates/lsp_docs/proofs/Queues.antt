@@ -1,28 +1,54 @@
--- The map of the waiting snapshots beside the queues that it stands for.
-use Rattle.std.proofs.Common.{◌≡◌, ℕ, List, [], ◌∷◌, ◌++◌, ◌+◌, length, map, Option, Some, None}
-use Rattle.std.proofs.Common.{inl, inr, Bool, true, false, cond, refl, sym, ap, ◌∙◌, string_bytes}
-use Rattle.std.proofs.Common.{String, Global, filter, true≢false, subst, arith, length-append, zero}
+-- The snapshots that wait, as queues by URI: what is kept, and what is added.
+use Rattle.std.proofs.Common.{◌≡◌, ◌+◌, Bool, false, List, [], ◌∷◌, filter, length, refl, sym, ap}
+use Rattle.std.proofs.Common.{◌∙◌, inl, inr, arith, ℕ, ◌++◌, map, Option, Some, None, true, cond}
+use Rattle.std.proofs.Common.{string_bytes, String, Global, true≢false, subst, length-append, zero}
 use Rattle.std.proofs.Common.{suc}
+use Rattle.std.specs.Str.{bytes_eq}
+use Rattle.std.proofs.lemmas.Bool.{cases_Bool}
 use Rattle.std.proofs.lemmas.Option.{same_Some, none-some}
 use Rattle.std.specs.String.{string_eq}
-use Rattle.std.specs.Map.{lookup, set_value}
-use Rattle.std.specs.Str.{bytes_eq}
-use Rattle.std.specs.Map.{keys_of, values_of, KeepsOthers}
+use Rattle.std.specs.Map.{lookup, set_value, keys_of, values_of, KeepsOthers}
 use Rattle.std.specs.Prelude.{option_map, slice_get, unwrap_or}
 use Rattle.std.specs.List.{position, sum_by, swap_remove}
 use Rattle.std.proofs.Math.ListN.{get_or}
 use Rattle.std.proofs.lemmas.List.Sums.{sum_by-cons, sum_by-swap_remove}
 use Rattle.indexmap.specs.IndexMap.{insert_entry, swap_remove_entry}
 use Rattle.indexmap.proofs.MapLemmas.{Found-position, Missing-position, swap_remove_entry-found}
-use Rattle.std.proofs.lemmas.Bool.{cases_Bool}
 use Rattle.lsp_types.specs.Texts.{is_text}
 use Rattle.lsp_docs.specs.Calls.{Bytes}
 use Rattle.lsp_docs.specs.Documents.{Version}
-use Rattle.lsp_docs.specs.State.{Queue, queue_of, keep_in, total, SameOrder, IsAdded}
-use Rattle.lsp_docs.specs.State.{IsReleased}
-use Rattle.lsp_docs.specs.Stored.{queues_in, lengths}
+use Rattle.lsp_docs.specs.State.{Queue, queue_of, keep_in, total, SameOrder, IsAdded, IsReleased}
 use Rattle.lsp_docs.proofs.Words.{uri_is, uri_same}
+use Rattle.lsp_docs.specs.Stored.{queues_in, lengths}
 use Rattle.lsp_docs.proofs.SameVersions.{order-length, order-of}
+
+pub queue-kept : (u : Bytes) (p : Version → Bool) (ns : List Queue)
+    → queue_of u (keep_in u p ns) ≡ filter p (queue_of u ns)
+queue-kept u p [] = refl
+queue-kept u p (n ∷ ns) =
+    elim (cases_Bool (bytes_eq u n.uri))
+    [ inl h ↦ rw (h, h) refl | inr h ↦ rw (h, h) (queue-kept u p ns) ]
+
+pub queue-others : (x u : Bytes) (p : Version → Bool) (ns : List Queue) → bytes_eq x u ≡ false
+    → queue_of x (keep_in u p ns) ≡ queue_of x ns
+queue-others x u p [] e = refl
+queue-others x u p (n ∷ ns) e =
+    elim (cases_Bool (bytes_eq u n.uri)) [
+      | inl h ↦ rw (h, ap (bytes_eq x) (sym (uri_is u n.uri h)) ∙ e) refl
+      | inr h ↦ rw h (elim (cases_Bool (bytes_eq x n.uri))
+          [ inl k ↦ rw k refl | inr k ↦ rw k (queue-others x u p ns e) ])
+    ]
+
+pub total-kept : (u : Bytes) (p : Version → Bool) (ns : List Queue)
+    → total (keep_in u p ns) + length (queue_of u ns) ≡ total ns + length (filter p (queue_of u ns))
+total-kept u p [] = refl
+total-kept u p (n ∷ ns) =
+    elim (cases_Bool (bytes_eq u n.uri)) [
+      | inl h ↦ rw h (omega arith)
+      | inr h ↦ rw h (omega (arith, total-kept u p ns))
+    ]
+
+-- ---- the map that holds them, beside the queues that it stands for
 
 -- a key other than the first entry's finds what it finds in the rest
 pub rest_of : {D : Type 0} (b : Bool) (d : D) (rest x : Option D) → cond b (Some d) rest ≡ x

@@ -10,7 +10,7 @@ use Rattle.std.proofs.lemmas.List.{drop-append-le, drop_all, length-take-le, tak
 use Rattle.std.proofs.lemmas.List.Folds.{list_all-append}
 use Rattle.std.proofs.Math.Bool.{or-true}
 use Rattle.lsp_docs.specs.Documents.{Version, is_after}
-use Rattle.lsp_docs.specs.Kept.{last_of}
+use Rattle.lsp_docs.specs.Snapshots.{last_of}
 use Rattle.lsp_docs.specs.Laws.{rises}
 use Rattle.lsp_docs.proofs.Words.{lt_trans}
 

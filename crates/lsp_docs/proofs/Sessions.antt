@@ -8,10 +8,8 @@ use Rattle.lsp_types.specs.declared.position.Encoding.TheVariants.{Utf8, Utf16, 
 use Rattle.lsp_types.specs.declared.change.SyncKind.TheVariants.{Nothing, Full, Incremental}
 use Rattle.lsp_text.specs.Edits.{Edit}
 use Rattle.lsp_types.specs.declared.line_ends.LineEnds.TheVariants.{Exact, Ignored}
-use Rattle.lsp_docs.specs.Texts.{Text}
-use Rattle.lsp_docs.specs.Terms.{Terms}
-use Rattle.lsp_docs.specs.Calls.{Call, opens, changes, closes, saves, shows}
-use Rattle.lsp_docs.specs.Documents.{Version, versioned, held, documents}
+use Rattle.lsp_docs.specs.Calls.{Text, Call, opens, changes, closes, saves, shows}
+use Rattle.lsp_docs.specs.Documents.{Terms, Version, versioned, held, documents}
 use Rattle.lsp_docs.specs.Snapshots.{waiting, unmatched}
 use Rattle.lsp_docs.specs.Rules.{call_rule}
 

@@ -11,15 +11,12 @@ use Rattle.std.proofs.lemmas.Bool.{or_parts, cases_Bool, and_parts}
 use Rattle.std.proofs.lemmas.Cmp.{int_eq_equiv}
 use Rattle.std.proofs.lemmas.List.Folds.{list_any-append}
 use Rattle.std.proofs.lemmas.Option.{same_Some, none-some}
-use Rattle.lsp_docs.specs.Texts.{Text}
-use Rattle.lsp_docs.specs.Terms.{Terms}
+use Rattle.lsp_docs.specs.Calls.{Text, Bytes, Call, opens, changes, closes, saves, shows, is_close}
+use Rattle.lsp_docs.specs.Documents.{Terms, Version, versioned, opening, text_or, held}
 use Rattle.lsp_text.specs.Edits.{applied}
-use Rattle.lsp_docs.specs.Calls.{Bytes, Call, opens, changes, closes, saves, shows, is_close}
-use Rattle.lsp_docs.specs.Documents.{Version, versioned, opening, text_or, held}
-use Rattle.lsp_docs.specs.Kept.{kept}
-use Rattle.lsp_docs.specs.Snapshots.{sets}
+use Rattle.lsp_docs.specs.Snapshots.{kept, sets}
 use Rattle.lsp_docs.specs.Rules.{call_rule, AreAcceptedFrom}
-use Rattle.lsp_docs.specs.Binding.{standing, next_opening, binding, IsSet}
+use Rattle.lsp_docs.specs.Laws.{standing, next_opening, binding, IsSet}
 use Rattle.lsp_docs.proofs.Words.{no_some, int_is, unchanged, uri_is}
 use Rattle.lsp_docs.proofs.HeldSteps.{next_held, held-snoc}
 use Rattle.lsp_docs.proofs.WaitingSteps.{none_row, change_parts}

@@ -11,14 +11,12 @@ use Rattle.std.proofs.lemmas.Cmp.{int_eq_equiv}
 use Rattle.std.proofs.lemmas.List.Folds.{list_any-append}
 use Rattle.std.proofs.lemmas.Option.{none-some}
 use Rattle.std.proofs.Math.Bool.{or-true}
-use Rattle.lsp_docs.specs.Texts.{Text}
-use Rattle.lsp_docs.specs.Terms.{Terms}
-use Rattle.lsp_docs.specs.Calls.{Bytes, Call, shows, is_close}
-use Rattle.lsp_docs.specs.Documents.{Version, is_at, held}
-use Rattle.lsp_docs.specs.Kept.{past, kept}
-use Rattle.lsp_docs.specs.Snapshots.{holds_number, has_number, sets, comes_to, is_compared}
+use Rattle.lsp_docs.specs.Calls.{Text, Bytes, Call, shows, is_close}
+use Rattle.lsp_docs.specs.Documents.{Terms, Version, is_at, held}
+use Rattle.lsp_docs.specs.Snapshots.{past, kept, holds_number, has_number, sets, comes_to}
+use Rattle.lsp_docs.specs.Snapshots.{is_compared}
 use Rattle.lsp_docs.specs.Rules.{show_rule, AreAccepted}
-use Rattle.lsp_docs.specs.Binding.{standing, next_opening, binding, IsSet}
+use Rattle.lsp_docs.specs.Laws.{standing, next_opening, binding, IsSet}
 use Rattle.lsp_docs.proofs.Words.{int_is}
 use Rattle.lsp_docs.proofs.Accepted.{accepted-split, risen}
 use Rattle.lsp_docs.proofs.Rising.{Among, among-any, among-drop, among-below, among-last, any-among}

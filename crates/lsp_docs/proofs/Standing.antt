@@ -8,15 +8,13 @@ use Rattle.std.proofs.lemmas.Option.{none-some, same_Some}
 use Rattle.std.proofs.lemmas.Bool.{cases_Bool, and_left}
 use Rattle.lsp_types.specs.declared.position.Encoding.{Encoding}
 use Rattle.lsp_types.specs.declared.change.SyncKind.{SyncKind}
-use Rattle.lsp_docs.specs.Texts.{Text}
-use Rattle.lsp_docs.specs.Terms.{Terms}
+use Rattle.lsp_docs.specs.Calls.{Text, Bytes, Call, opens, changes, closes, saves, shows}
+use Rattle.lsp_docs.specs.Documents.{Terms, Version, versioned, held, Held, documents, is_after}
+use Rattle.lsp_docs.specs.Documents.{is_at, is_before}
 use Rattle.lsp_text.specs.Edits.{Edit}
-use Rattle.lsp_docs.specs.Calls.{Bytes, Call, opens, changes, closes, saves, shows}
-use Rattle.lsp_docs.specs.Documents.{Version, versioned, held, Held, documents, is_after, is_at}
-use Rattle.lsp_docs.specs.Documents.{is_before}
-use Rattle.lsp_docs.specs.Snapshots.{Shown, shown_entry, waiting, versions_of}
+use Rattle.lsp_docs.specs.Snapshots.{Shown, shown_entry, waiting, versions_of, ends_waiting}
+use Rattle.lsp_docs.specs.Snapshots.{missed_at, missed}
 use Rattle.lsp_docs.specs.Rules.{call_rule, AreAcceptedFrom, AreAccepted}
-use Rattle.lsp_docs.specs.Missed.{ends_waiting, missed_at, missed}
 use Rattle.lsp_docs.specs.State.{Queue, Waits, held_in, queue_of, keep_in, total, capped, reached}
 use Rattle.lsp_docs.specs.State.{missed_one, SameOrder, IsAdded, IsReleased, AreWaits}
 use Rattle.lsp_docs.proofs.Words.{no_some, filter-none, filter-all, capped-add, uri_is, uri_same}
@@ -26,7 +24,7 @@ use Rattle.lsp_docs.proofs.DocumentSteps.{IsDistinct, all_stay}
 use Rattle.lsp_docs.proofs.WaitingSteps.{still, waiting-push, missed-push, missed-quiet}
 use Rattle.lsp_docs.proofs.WaitingSteps.{versions-kept, count-kept, count-ended, versions_of-append}
 use Rattle.lsp_docs.proofs.WaitingSteps.{none_row}
-use Rattle.lsp_docs.proofs.QueueSteps.{queue-kept, queue-others, total-kept}
+use Rattle.lsp_docs.proofs.Queues.{queue-kept, queue-others, total-kept}
 use Rattle.lsp_docs.proofs.SameVersions.{order-of, order-then, order-behind, order-filtered}
 use Rattle.lsp_docs.proofs.SameVersions.{order-length, order-count}
 

@@ -10,15 +10,12 @@ use Rattle.lsp_types.specs.declared.position.Encoding.{Encoding}
 use Rattle.lsp_types.specs.declared.change.SyncKind.{SyncKind}
 use Rattle.lsp_docs.specs.declared.fault.DocFault.{DocFault}
 use Rattle.lsp_docs.specs.declared.fault.DocFault.TheVariants.{Rule}
-use Rattle.lsp_docs.specs.Texts.{Text}
-use Rattle.lsp_docs.specs.Terms.{Terms}
-use Rattle.lsp_text.specs.Edits.{Edit, applied}
-use Rattle.lsp_docs.specs.Calls.{Bytes, Call, opens, changes, closes, saves, shows, uri_of}
+use Rattle.lsp_docs.specs.Calls.{Text, Bytes, Call, opens, changes, closes, saves, shows, uri_of}
 use Rattle.lsp_docs.specs.Calls.{is_close, is_change}
-use Rattle.lsp_docs.specs.Documents.{Version, versioned, held, Held, documents}
-use Rattle.lsp_docs.specs.Kept.{past, last_of, kept}
-use Rattle.lsp_docs.specs.Snapshots.{is_ahead, has_number, shown_entry, waiting, versions_of}
-use Rattle.lsp_docs.specs.Missed.{missed_at}
+use Rattle.lsp_docs.specs.Documents.{Terms, Version, versioned, held, Held, documents}
+use Rattle.lsp_text.specs.Edits.{Edit, applied}
+use Rattle.lsp_docs.specs.Snapshots.{past, last_of, kept, is_ahead, has_number, shown_entry}
+use Rattle.lsp_docs.specs.Snapshots.{waiting, versions_of, missed_at}
 use Rattle.lsp_types.specs.declared.line_ends.LineEnds.{LineEnds}
 use Rattle.lsp_text.specs.SameText.{same_text}
 use Rattle.lsp_docs.specs.Rules.{rule_of, call_rule}
@@ -26,9 +23,8 @@ use Rattle.lsp_docs.specs.State.{State, Waits, held_in, set_in, without, queue_o
 use Rattle.lsp_docs.specs.State.{missed_one, Queue, KeepsSame, KeepsOn, KeepsNone, Stands}
 use Rattle.lsp_docs.specs.State.{rule_at, text_in, IsAdded, IsReleased, AreWaits}
 use Rattle.lsp_docs.specs.State.{capped, Allows, Accepts, Refuses}
-use Rattle.lsp_docs.specs.Opened.{IsChanged, Opened}
+use Rattle.lsp_docs.specs.Stored.{IsChanged, Opened, answer_of, IsAnswer}
 use Rattle.lsp_docs.specs.Fault.{Names}
-use Rattle.lsp_docs.specs.Answer.{answer_of, IsAnswer}
 use Rattle.lsp_docs.specs.declared.snapshot.Match.{Match}
 use Rattle.lsp_docs.specs.declared.snapshot.Match.TheVariants as matches
 use Rattle.lsp_docs.proofs.Words.{uri_is, uri_flip, unchanged}

@@ -10,16 +10,12 @@ use Rattle.std.proofs.lemmas.Bool.{or_parts, cases_Bool, and_parts, or_cases}
 use Rattle.std.proofs.lemmas.Int.{ints}
 use Rattle.std.proofs.lemmas.List.Elements.{filter-append}
 use Rattle.std.proofs.Math.Bool.{and-false, or-false}
-use Rattle.lsp_docs.specs.Texts.{Text}
-use Rattle.lsp_docs.specs.Terms.{Terms}
-use Rattle.lsp_docs.specs.Calls.{Bytes, Call, opens, changes, closes, saves, shows, is_close}
-use Rattle.lsp_docs.specs.Documents.{versioned, held}
-use Rattle.lsp_docs.specs.Kept.{kept}
-use Rattle.lsp_docs.specs.Snapshots.{Shown, is_ahead, shown_entry, waiting_in, waiting, has_number}
-use Rattle.lsp_docs.specs.Snapshots.{sets, comes_to, is_compared, unmatched_entry, unmatched_in}
-use Rattle.lsp_docs.specs.Snapshots.{unmatched}
+use Rattle.lsp_docs.specs.Calls.{Text, Bytes, Call, opens, changes, closes, saves, shows, is_close}
+use Rattle.lsp_docs.specs.Documents.{Terms, versioned, held}
+use Rattle.lsp_docs.specs.Snapshots.{kept, Shown, is_ahead, shown_entry, waiting_in, waiting}
+use Rattle.lsp_docs.specs.Snapshots.{has_number, sets, comes_to, is_compared, unmatched_entry}
+use Rattle.lsp_docs.specs.Snapshots.{unmatched_in, unmatched, ends_waiting, missed_at, missed}
 use Rattle.lsp_docs.specs.Rules.{call_rule, AreAcceptedFrom, AreAccepted}
-use Rattle.lsp_docs.specs.Missed.{ends_waiting, missed_at, missed}
 use Rattle.lsp_docs.proofs.Words.{no_some, int_is, uri_is, uri_flip, equal_behind}
 use Rattle.lsp_docs.proofs.HeldSteps.{next_held, held-snoc}
 use Rattle.lsp_docs.proofs.WaitingSteps.{still, still_at, ahead-step, none_row, change_parts}

@@ -14,15 +14,13 @@ use Rattle.std.proofs.lemmas.List.{map-append}
 use Rattle.std.proofs.Math.Bool.{and-true, and-false, or-false}
 use Rattle.lsp_types.specs.declared.position.Encoding.{Encoding}
 use Rattle.lsp_types.specs.declared.change.SyncKind.{SyncKind}
-use Rattle.lsp_docs.specs.Texts.{Text}
-use Rattle.lsp_docs.specs.Terms.{Terms}
+use Rattle.lsp_docs.specs.Calls.{Text, Bytes, Call, opens, changes, closes, saves, shows, is_close}
+use Rattle.lsp_docs.specs.Documents.{Terms, Version, versioned, revised, held}
 use Rattle.lsp_text.specs.Edits.{Edit, applied}
-use Rattle.lsp_docs.specs.Calls.{Bytes, Call, opens, changes, closes, saves, shows, is_close}
-use Rattle.lsp_docs.specs.Documents.{Version, versioned, revised, held}
 use Rattle.lsp_docs.specs.Snapshots.{Shown, is_ahead, waits, shown_entry, waiting_in, waiting}
-use Rattle.lsp_docs.specs.Snapshots.{is_of, versions_of}
+use Rattle.lsp_docs.specs.Snapshots.{is_of, versions_of, ends_waiting, missed_at, missed_from}
+use Rattle.lsp_docs.specs.Snapshots.{missed}
 use Rattle.lsp_docs.specs.Rules.{fits_kind, version_rule, text_rule, change_rule, call_rule}
-use Rattle.lsp_docs.specs.Missed.{ends_waiting, missed_at, missed_from, missed}
 use Rattle.lsp_docs.proofs.Words.{no_some, uri_is, uri_flip, lt_trans}
 use Rattle.lsp_docs.proofs.HeldSteps.{next_held, held-snoc}
 

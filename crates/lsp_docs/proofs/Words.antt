@@ -1,9 +1,9 @@
--- Small lemmas on Booleans, lists and counts.
-use Rattle.std.proofs.Common.{◌≡◌, Option, Some, None, is_some, true≢false, ℕ, List, [], ◌∷◌, map}
-use Rattle.std.proofs.Common.{inl, inr, Bool, true, false, ◌||◌, refl, sym, ap, ◌∙◌, filter, arith}
-use Rattle.std.proofs.Common.{◌+◌, ◌&&◌}
+-- Small lemmas on results, Booleans, lists and counts.
+use Rattle.std.proofs.Common.{Result, Ok, Err, ◌≡◌, Option, Some, None, is_some, true≢false, ℕ}
+use Rattle.std.proofs.Common.{List, [], ◌∷◌, map, inl, inr, Bool, true, false, ◌||◌, refl, sym, ap}
+use Rattle.std.proofs.Common.{◌∙◌, filter, arith, ◌+◌, ◌&&◌}
+use Rattle.std.specs.Prelude.{OnOk, ℤ, int_lt, min, ◌-◌, ◌^◌, option_map}
 use Rattle.std.proofs.lemmas.Int.{ints}
-use Rattle.std.specs.Prelude.{ℤ, int_lt, min, ◌-◌, ◌^◌, option_map}
 use Rattle.std.specs.List.{list_any}
 use Rattle.std.specs.Str.{bytes_eq}
 use Rattle.std.specs.Option.{option_or}
@@ -12,6 +12,11 @@ use Rattle.std.proofs.lemmas.Bool.Decides.{Decides-int_eq}
 use Rattle.std.proofs.lemmas.Slice.Eq.{bytes_eq-Decides}
 use Rattle.std.proofs.lemmas.Bool.{cases_Bool}
 use Rattle.lsp_docs.specs.State.{capped}
+
+pub on_ok_four : {U E : Type 0} {P Q R S T : Type 0} (r : Result U E) → (P → Q → R → S → T)
+    → OnOk r P → OnOk r Q → OnOk r R → OnOk r S → OnOk r T
+on_ok_four (Ok u) f p q r s = f p q r s
+on_ok_four (Err e) f p q r s = tt
 
 pub filter-none : {A : Type 0} (xs : List A) → filter (λ _. false) xs ≡ []
 filter-none [] = refl

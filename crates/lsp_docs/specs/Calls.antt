@@ -1,11 +1,23 @@
--- What is said about documents, one call after another: a URI, and then what the message or the
--- snapshot says about it.
-use Rattle.std.specs.Prelude.{ℕ, ℤ, List, Bool, false, Option}
+-- Texts as characters, and what is said about documents: one call after another.
+use Rattle.std.specs.Prelude.{ℕ, List, ℤ, Bool, false, Option}
 use Rattle.std.specs.Str.{bytes_eq}
+use Rattle.lsp_types.specs.declared.position.Encoding.TheVariants.{Utf8}
 use Rattle.lsp_types.specs.declared.position.Encoding.{Encoding}
 use Rattle.lsp_types.specs.declared.change.SyncKind.{SyncKind}
-use Rattle.lsp_docs.specs.Texts.{Text}
+use Rattle.lsp_text.specs.Places.{units}
 use Rattle.lsp_text.specs.Edits.{Edit}
+
+-- ---- texts as characters
+
+-- the characters of a text
+abbrev pub Text : Type 0
+Text = List ℕ
+
+-- the bytes of UTF-8 that a text has
+abbrev pub byte_len : Text → ℕ
+byte_len t = units Utf8 t
+
+-- ---- calls: a URI, and then what the message or the snapshot says about it
 
 -- a URI, as the bytes of its UTF-8
 abbrev pub Bytes : Type 0

@@ -1,14 +1,36 @@
--- What is held of each document, read off the calls that were made.
+-- What is held of each document after calls, and the terms on which it is held.
 use Rattle.std.specs.Prelude.{ℕ, ℤ, int_lt, Bool, List, [], ◌∷◌, ◌++◌, if◌then◌else◌, Option, Some}
 use Rattle.std.specs.Prelude.{None, Result, Ok, Err}
 use Rattle.std.specs.List.{list_any}
 use Rattle.std.specs.Option.{option_or}
 use Rattle.std.specs.Ordering.{int_eq}
 use Rattle.std.specs.Str.{bytes_eq}
-use Rattle.lsp_docs.specs.Terms.{Terms}
-use Rattle.lsp_docs.specs.Texts.{Text}
+use Rattle.lsp_types.specs.declared.line_ends.LineEnds.{LineEnds}
+use Rattle.lsp_frame.specs.Bounds.{Bounds}
+use Rattle.lsp_frame.specs.declared.format.Format.{Format}
+use Rattle.lsp_frame.specs.declared.format.Format.TheVariants.{One, Two}
 use Rattle.lsp_text.specs.Edits.{applied}
-use Rattle.lsp_docs.specs.Calls.{Bytes, Call, opens, changes, is_close}
+use Rattle.lsp_docs.specs.Calls.{Text, Bytes, Call, opens, changes, is_close}
+
+-- ---- terms, which a log's format and the limits give
+
+-- the greatest length of a text in bytes of UTF-8, how many versions that an opening held before
+-- the present one are kept, and whether texts are compared with their line ends
+pub record Terms : Type 0 where
+  pub limit : ℕ
+  pub kept : ℕ
+  pub line_ends : LineEnds
+
+-- how many versions a format keeps
+abbrev pub kept_of : Format → ℕ
+kept_of One = 0
+kept_of Two = 16
+
+abbrev pub terms_of : Bounds → Format → Terms
+terms_of b format =
+    record { limit = b.document; kept = kept_of format; line_ends = b.line_ends }
+
+-- ---- what is held of each document, read off the calls that were made
 
 -- a text at a version
 pub record Version : Type 0 where

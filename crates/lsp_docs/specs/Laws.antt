@@ -1,18 +1,51 @@
 -- Laws of the definitions, over any list of accepted calls.
-use Rattle.std.specs.Prelude.{◌≡◌, ℕ, ℤ, List, [], ◌∷◌, ◌++◌, int_lt, Bool, true, false, ◌&&◌, ◌||◌}
-use Rattle.std.specs.Prelude.{Option, Some, None, slice_get, option_to_list}
+use Rattle.std.specs.Prelude.{◌≡◌, ℕ, ℤ, ◌+◌, List, [], ◌∷◌, ◌++◌, ◌&&◌, true, not, length}
+use Rattle.std.specs.Prelude.{if◌then◌else◌, Option, Some, None, is_some, option_map, int_lt, Bool}
+use Rattle.std.specs.Prelude.{false, ◌||◌, slice_get, option_to_list}
 use Rattle.std.specs.List.{list_any, list_all}
+use Rattle.std.specs.Option.{option_or}
 use Rattle.lsp_types.specs.declared.line_ends.LineEnds.{LineEnds}
-use Rattle.lsp_text.specs.SameText.{SameText}
-use Rattle.lsp_docs.specs.Terms.{Terms}
-use Rattle.lsp_docs.specs.Texts.{Text}
-use Rattle.lsp_docs.specs.Calls.{Bytes, Call, shows, is_close, is_change}
-use Rattle.lsp_docs.specs.Documents.{Version, versioned, is_after, held, Held, documents}
-use Rattle.lsp_docs.specs.Kept.{kept}
-use Rattle.lsp_docs.specs.Rules.{first_row, differs, call_rule, AreAccepted}
-use Rattle.lsp_docs.specs.Snapshots.{holds_number, comes_to, is_compared}
-use Rattle.lsp_docs.specs.Binding.{standing, binding, IsSet}
 use Rattle.lsp_types.specs.declared.rules.TheConstants as rules
+use Rattle.lsp_text.specs.SameText.{SameText}
+use Rattle.lsp_docs.specs.Calls.{Bytes, Call, is_close, shows, is_change, Text}
+use Rattle.lsp_docs.specs.Documents.{opening, Version, versioned, is_after, held, Held, documents}
+use Rattle.lsp_docs.specs.Documents.{Terms}
+use Rattle.lsp_docs.specs.Snapshots.{sets, holds_number, comes_to, is_compared, kept}
+use Rattle.lsp_docs.specs.Rules.{first_row, differs, call_rule, AreAccepted}
+
+-- ---- the opening that a snapshot belongs to, and the call that sets its version
+
+-- the place of the opening of this URI that stands after the calls
+abbrev pub standing : Bytes → List Call → Option ℕ
+standing uri [] = None
+standing uri (c ∷ after) =
+    if is_some (opening uri c) && not (list_any (is_close uri) after) then Some 0 else option_map
+    (λ i. i + 1) (standing uri after)
+
+-- the place of the first opening of this URI
+abbrev pub next_opening : Bytes → List Call → Option ℕ
+next_opening uri [] = None
+next_opening uri (c ∷ after) =
+    if is_some (opening uri c) then Some 0 else option_map (λ i. i + 1) (next_opening uri after)
+
+-- the opening that a snapshot between these calls binds to: the one that stands there, else the
+-- next one
+abbrev pub binding : Bytes → List Call → List Call → Option ℕ
+binding uri before after =
+    option_or (standing uri before)
+    (option_map (λ i. length before + 1 + i) (next_opening uri after))
+
+-- a call that brings the URI to this version, after which the opening at this place stands: it sets
+-- the version of the opening's snapshots
+pub record IsSet (uri : Bytes) (number : ℤ) (calls : List Call) (place : ℕ) : Type 0 where
+  pub before : List Call
+  pub call : Call
+  pub after : List Call
+  pub whole : calls ≡ before ++ call ∷ after
+  pub comes : sets uri number call ≡ true
+  pub stands : standing uri (before ++ call ∷ []) ≡ Some place
+
+-- ---- laws
 
 -- **Versions rise.** Of one opening, with no close between: each change raises the version, and
 -- without a change version and text stay.

@@ -1,22 +1,21 @@
 -- The rules of documents and snapshots: which one a call breaks, and which calls are accepted.
 use Rattle.std.specs.Prelude.{◌≡◌, ℕ, ℤ, int_lt, List, [], ◌∷◌, ◌++◌, Bool, true, false, ◌&&◌, ◌||◌}
 use Rattle.std.specs.Prelude.{not, if◌then◌else◌, Option, Some, None, is_some, is_none, Result, Ok}
-use Rattle.std.specs.Prelude.{Err, nat_lt}
-use Rattle.std.specs.List.{list_any, list_all}
+use Rattle.std.specs.Prelude.{Err, nat_lt, option_to_list, option_map}
+use Rattle.std.specs.List.{list_any, list_all, find}
 use Rattle.std.specs.Ordering.{int_eq}
 use Rattle.lsp_types.specs.declared.line_ends.LineEnds.{LineEnds}
 use Rattle.lsp_types.specs.declared.position.Encoding.{Encoding}
 use Rattle.lsp_types.specs.declared.change.SyncKind.{SyncKind}
 use Rattle.lsp_types.specs.declared.change.SyncKind.TheVariants.{Nothing, Full, Incremental}
-use Rattle.lsp_docs.specs.Terms.{Terms}
-use Rattle.lsp_docs.specs.Texts.{Text, byte_len}
+use Rattle.lsp_types.specs.declared.rules.TheConstants as rules
 use Rattle.lsp_text.specs.Edits.{Edit, applied}
 use Rattle.lsp_text.specs.SameText.{same_text}
-use Rattle.lsp_docs.specs.Calls.{Call, opens, changes, closes, saves, shows, uri_of}
-use Rattle.lsp_docs.specs.Documents.{Version, versioned, is_after, held}
-use Rattle.lsp_docs.specs.Kept.{kept}
-use Rattle.lsp_docs.specs.Snapshots.{waiting, versions_of}
-use Rattle.lsp_types.specs.declared.rules.TheConstants as rules
+use Rattle.lsp_docs.specs.Documents.{Terms, Version, versioned, is_after, held, is_at}
+use Rattle.lsp_docs.specs.Calls.{Text, byte_len, Call, opens, changes, closes, saves, shows, uri_of}
+use Rattle.lsp_docs.specs.Snapshots.{kept, waiting, versions_of}
+
+-- ---- the least rule that a call breaks, and the calls that break none
 
 -- the rule of the first row whose test holds
 abbrev pub first_row : List (Bool × Option ℕ) → Option ℕ
@@ -111,3 +110,24 @@ AreAcceptedFrom terms before (c ∷ after) =
 -- no call breaks a rule after those before it
 abbrev pub AreAccepted : Terms → List Call → Type 0
 AreAccepted terms calls = AreAcceptedFrom terms [] calls
+
+-- ---- the text at a version, and one that differs from a snapshot's
+
+-- the text of the first of these versions that is of this number
+abbrev pub text_in : ℤ → List Version → Option Text
+text_in number vs = option_map (λ (v : Version). v.text) (find (is_at number) vs)
+
+-- the same of the kept versions and the held one
+abbrev pub text_at : ℤ → List Version → Option Version → Option Text
+text_at number kept h = text_in number (kept ++ option_to_list h)
+
+abbrev pub differs_from : LineEnds → Version → Version → Bool
+differs_from ends s v = differs ends v s
+
+-- the text of the first of these versions that is of the snapshot's number and has another text
+abbrev pub other_in : LineEnds → Version → List Version → Option Text
+other_in ends s vs = option_map (λ (v : Version). v.text) (find (differs_from ends s) vs)
+
+-- the same of the kept versions and the held one
+abbrev pub other_than : LineEnds → Version → List Version → Option Version → Option Text
+other_than ends s kept h = other_in ends s (kept ++ option_to_list h)

@@ -1,21 +1,45 @@
--- Which snapshots wait for their version, and which were never compared.
-use Rattle.std.specs.Prelude.{ℕ, ℤ, int_lt, ◌+◌, List, [], ◌∷◌, ◌++◌, map, filter, Bool, true}
-use Rattle.std.specs.Prelude.{false, ◌&&◌, ◌||◌, not, if◌then◌else◌, Option, Some, None}
+-- The versions that an opening keeps, and the snapshots that wait or were never compared.
+use Rattle.std.specs.Prelude.{ℕ, ◌-◌, List, [], ◌∷◌, ◌++◌, drop, length, ◌&&◌, not, if◌then◌else◌}
+use Rattle.std.specs.Prelude.{option_to_list, ℤ, int_lt, ◌+◌, map, filter, Bool, true, false, ◌||◌}
+use Rattle.std.specs.Prelude.{Option, Some, None}
 use Rattle.std.specs.List.{list_any}
 use Rattle.std.specs.Ordering.{int_eq}
 use Rattle.std.specs.Str.{bytes_eq}
-use Rattle.lsp_docs.specs.Terms.{Terms}
-use Rattle.lsp_docs.specs.Texts.{Text}
-use Rattle.lsp_docs.specs.Calls.{Bytes, Call, opens, changes, shows, is_close}
-use Rattle.lsp_docs.specs.Documents.{Version, versioned, is_at, held}
-use Rattle.lsp_docs.specs.Kept.{kept}
+use Rattle.lsp_docs.specs.Documents.{Terms, Version, held, versioned, is_at}
+use Rattle.lsp_docs.specs.Calls.{Bytes, Call, is_close, is_change, opens, changes, shows, closes}
+use Rattle.lsp_docs.specs.Calls.{Text}
+
+-- ---- the versions that an opening held before the present one, and which of them are kept
+
+-- the version that a `didChange` of the URI replaced, where no `didClose` follows it
+abbrev pub past_entry : Terms → Bytes → List Call → Call → List Call → List Version
+past_entry terms uri before c after =
+    if is_change uri c && not (list_any (is_close uri) after) then option_to_list
+    (held terms uri before) else []
+
+abbrev pub past_in : Terms → Bytes → List Call → List Call → List Version
+past_in terms uri before [] = []
+past_in terms uri before (c ∷ after) =
+    past_entry terms uri before c after ++ past_in terms uri (before ++ c ∷ []) after
+
+-- the versions that the standing opening of this URI held before the present one, oldest first
+abbrev pub past : Terms → Bytes → List Call → List Version
+past terms uri calls = past_in terms uri [] calls
+
+-- the last versions, at most this many
+abbrev pub last_of : ℕ → List Version → List Version
+last_of n vs = drop (length vs - n) vs
+
+-- those of them that are kept: the last ones, as many as the terms say
+abbrev pub kept : Terms → Bytes → List Call → List Version
+kept terms uri calls = last_of terms.kept (past terms uri calls)
+
+-- ---- snapshots that wait for their version
 
 -- a snapshot that was shown
 pub record Shown : Type 0 where
   pub uri : Bytes
   pub version : Version
-
--- ---- snapshots that wait
 
 -- no opening stands, or it holds a lesser version
 abbrev pub is_ahead : ℤ → Option Version → Bool
@@ -98,3 +122,34 @@ unmatched_in terms before (c ∷ after) =
 -- opening, or waiting still
 abbrev pub unmatched : Terms → List Call → ℕ
 unmatched terms calls = unmatched_in terms [] calls
+
+-- ---- the snapshots that can be compared no more: a count that only rises
+
+-- a call skips a snapshot that waits, or closes its opening
+abbrev pub ends_waiting : Call → Shown → Bool
+ends_waiting (opens uri number t) s = bytes_eq uri s.uri && int_lt s.version.number number
+ends_waiting (changes enc kind uri number cs) s =
+    bytes_eq uri s.uri && int_lt s.version.number number
+ends_waiting (closes uri) s = bytes_eq uri s.uri
+ends_waiting _ s = false
+
+-- the version was skipped before the snapshot came, and is neither held nor kept
+abbrev pub is_missed : ℤ → List Version → Option Version → Bool
+is_missed number kept h = not (is_ahead number h) && not (has_number number kept h)
+
+-- one snapshot, where it is shown when its version was skipped
+abbrev pub missed_at : Terms → List Call → Call → ℕ
+missed_at terms before (shows uri number t) =
+    if is_missed number (kept terms uri before) (held terms uri before) then 1 else 0
+missed_at terms before _ = 0
+
+abbrev pub missed_from : Terms → List Call → List Call → ℕ
+missed_from terms before [] = 0
+missed_from terms before (c ∷ after) =
+    missed_at terms before c + length (filter (ends_waiting c) (waiting terms before)) + missed_from
+    terms (before ++ c ∷ []) after
+
+-- how many snapshots were skipped before they were shown, or were skipped or lost their opening
+-- while they waited
+abbrev pub missed : Terms → List Call → ℕ
+missed terms calls = missed_from terms [] calls

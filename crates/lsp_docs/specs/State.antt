@@ -7,19 +7,15 @@ use Rattle.std.specs.Str.{bytes_eq}
 use Rattle.lsp_types.specs.declared.line_ends.LineEnds.{LineEnds}
 use Rattle.lsp_types.specs.declared.position.Encoding.{Encoding}
 use Rattle.lsp_types.specs.declared.change.SyncKind.{SyncKind}
-use Rattle.lsp_docs.specs.Terms.{Terms}
-use Rattle.lsp_docs.specs.Texts.{Text}
+use Rattle.lsp_docs.specs.Documents.{Terms, Version, versioned, is_after, is_at, is_before, Held}
+use Rattle.lsp_docs.specs.Documents.{documents}
+use Rattle.lsp_docs.specs.Calls.{Text, Bytes, Call, uri_of}
 use Rattle.lsp_text.specs.Edits.{Edit, applied}
 use Rattle.lsp_text.specs.SameText.{same_text}
-use Rattle.lsp_docs.specs.Calls.{Bytes, Call, uri_of}
-use Rattle.lsp_docs.specs.Documents.{Version, versioned, is_after, is_at, is_before, Held}
-use Rattle.lsp_docs.specs.Documents.{documents}
-use Rattle.lsp_docs.specs.Kept.{kept, last_of}
-use Rattle.lsp_docs.specs.Snapshots.{waiting, versions_of}
+use Rattle.lsp_docs.specs.Snapshots.{kept, last_of, waiting, versions_of, missed}
 use Rattle.lsp_docs.specs.Rules.{rule_of, rule_of_change, call_rule, AreAccepted}
 use Rattle.lsp_docs.specs.Fault.{Names}
 use Rattle.lsp_docs.specs.declared.fault.DocFault.{DocFault}
-use Rattle.lsp_docs.specs.Missed.{missed}
 use Rattle.lsp_types.specs.declared.rules.TheConstants as rules
 
 -- versions of one URI: those that are kept of it, or those of its snapshots that wait

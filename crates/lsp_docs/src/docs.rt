@@ -5,20 +5,18 @@ ghost use Rattle.std.specs.Prelude.{length, map, slice_get, nat_lt, IfErr, IfOk}
 ghost use Rattle.std.specs.Prelude.{OnOk, OnErr, option_map, unwrap_or};
 ghost use Rattle.std.specs.List.{list_any};
 ghost use Rattle.std.specs.Str.{chars};
-ghost use Rattle.lsp_docs.specs.Texts.{byte_len};
-ghost use Rattle.lsp_docs.specs.Terms.{terms_of, kept_of as kept_by};
-ghost use Rattle.lsp_docs.specs.Calls.{Call, opens, changes as changes_by, closes, saves, shows};
-ghost use Rattle.lsp_docs.specs.Documents.{versioned, held, documents};
-ghost use Rattle.lsp_docs.specs.Kept.{kept};
-ghost use Rattle.lsp_docs.specs.Snapshots.{texts_at, waiting, unmatched, versions_of};
-ghost use Rattle.lsp_docs.specs.Others.{text_at};
-ghost use Rattle.lsp_docs.specs.Rules.{differs};
-ghost use Rattle.lsp_docs.specs.Stored.{texts_of};
+ghost use Rattle.lsp_docs.specs.Calls.{byte_len, Call, opens, changes as changes_by, closes, saves};
+ghost use Rattle.lsp_docs.specs.Calls.{shows};
+ghost use Rattle.lsp_docs.specs.Documents.{terms_of, kept_of as kept_by, versioned, held};
+ghost use Rattle.lsp_docs.specs.Documents.{documents};
+ghost use Rattle.lsp_docs.specs.Snapshots.{kept, texts_at, waiting, unmatched, versions_of};
+ghost use Rattle.lsp_docs.specs.Rules.{text_at, differs};
+ghost use Rattle.lsp_docs.specs.Stored.{texts_of, answer_of, IsAnswer};
 ghost use Rattle.lsp_docs.specs.State.{capped, held_in, queue_of, early_rule, rule_at};
 ghost use Rattle.lsp_docs.specs.State.{Stands, Allows, Accepts, Refuses};
 ghost use Rattle.lsp_docs.specs.Fault.{Names, IsRule};
+ghost use Rattle.lsp_docs.specs.Tried.{IsTried, tried_in};
 ghost use Rattle.lsp_text.specs.Changes.{edits_of};
-ghost use Rattle.lsp_docs.specs.Answer.{answer_of, IsAnswer};
 
 use crate::document::Document;
 use crate::fault::DocFault;
@@ -27,6 +25,7 @@ use crate::opened::OpenDocuments;
 use crate::revision::has_text;
 use crate::snapshot::Match;
 use crate::terms::Terms;
+use crate::tried::Tried;
 use crate::waiting::Waiting;
 use lsp_frame::{Format, Limits};
 use lsp_text::TextStore;
@@ -89,6 +88,11 @@ impl<S: TextStore> Docs<S> {
             documents: OpenDocuments::new(alloc),
             waiting: Waiting::new(alloc),
         }
+    }
+
+    /// The allocator of the documents.
+    pub fn alloc(&self) -> Global {
+        self.documents.alloc()
     }
 
     /// How many documents are open.
@@ -258,9 +262,37 @@ impl<S: TextStore> Docs<S> {
             ≡ None) }
         ensures err { OnErr result (self.new ≡ self.old) }
     {
+        self.try_change(encoding, kind, uri, version, changes, &mut None)
+    }
+
+    /// Makes changes as [`did_change`](Docs::did_change) does, and puts there what was tried of
+    /// those that are refused.
+    pub fn try_change(
+        &mut self,
+        encoding: Encoding,
+        kind: SyncKind,
+        uri: &str,
+        version: i32,
+        changes: &[Change],
+        tried: &mut Option<Tried<S>>,
+    ) -> Result<(), DocFault>
+        ensures accepts { OnOk result (Accepts self.old self.new
+            (changes_by encoding kind uri.now version (edits_of changes.now))) }
+        ensures refuses { IfErr result (Refuses self.old
+            (changes_by encoding kind uri.now version (edits_of changes.now))) }
+        ensures memory { result ≡ Err DocFault.Memory → ((calls : List Call) → Stands self.old calls
+            → early_rule kind version (edits_of changes.now) (held self.old.terms uri.now calls)
+            ≡ None) }
+        ensures tried { IfErr result (λ fault. (calls : List Call)
+            → Stands self.old calls → IsRule fault → IsTried self.old.terms calls
+            (changes_by encoding kind uri.now version (edits_of changes.now))
+            (tried_in S.content tried.new)) }
+        ensures err { OnErr result (self.new ≡ self.old) }
+    {
         let due = self.waiting.texts(uri, version);
-        self.documents
-            .change(self.terms, encoding, kind, uri, version, changes, due)?;
+        self.documents.change(
+            self.terms, encoding, kind, uri, version, changes, due, tried,
+        )?;
         self.waiting.reach(uri, version);
         Ok(())
     }

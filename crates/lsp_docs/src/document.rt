@@ -7,12 +7,12 @@ ghost use Rattle.std.specs.Str.{chars};
 ghost use Rattle.lsp_text.specs.Changes.{edits_of};
 ghost use Rattle.lsp_text.specs.Edits.{applied};
 ghost use Rattle.lsp_docs.specs.Documents.{versioned};
-ghost use Rattle.lsp_docs.specs.Kept.{last_of};
-ghost use Rattle.lsp_docs.specs.Rules.{show_rule};
-ghost use Rattle.lsp_docs.specs.Answer.{answer_of};
+ghost use Rattle.lsp_docs.specs.Snapshots.{last_of};
+ghost use Rattle.lsp_docs.specs.Rules.{show_rule, text_at};
+ghost use Rattle.lsp_docs.specs.Stored.{answer_of};
 ghost use Rattle.lsp_docs.specs.Fault.{IsRule, Names};
-ghost use Rattle.lsp_docs.specs.Others.{text_at};
 ghost use Rattle.lsp_docs.specs.State.{early_rule, rule_with};
+ghost use Rattle.lsp_docs.specs.Tried.{AreTried, tried_in};
 
 use crate::fault::DocFault;
 use crate::history::History;
@@ -20,6 +20,7 @@ use crate::kind::fits_kind;
 use crate::revision::Revision;
 use crate::snapshot::{Match, Texts, refutes};
 use crate::terms::Terms;
+use crate::tried::Tried;
 use lsp_text::TextStore;
 use lsp_types::{Change, Encoding, LineEnds, SyncKind, rules};
 use std::alloc::{AllocError, Global};
@@ -66,7 +67,7 @@ impl<S: TextStore> Document<S> {
     ///
     /// They are made in a copy, which replaces the held store if no text that is due contradicts
     /// it. Where no version is kept, one change is made in the held store itself, which a refused
-    /// change leaves as it is.
+    /// change leaves as it is. What was tried in a copy that is refused is put there.
     pub(crate) fn change(
         &mut self,
         terms: Terms,
@@ -75,6 +76,7 @@ impl<S: TextStore> Document<S> {
         version: i32,
         changes: &[Change],
         due: Option<&Texts>,
+        tried: &mut Option<Tried<S>>,
     ) -> Result<(), DocFault>
         ensures version { OnOk result (self.new.held.version ≡ version) }
         ensures store { OnOk result
@@ -94,6 +96,11 @@ impl<S: TextStore> Document<S> {
         ensures memory { result ≡ Err DocFault.Memory
             → early_rule kind version (edits_of changes.now)
             (Some (versioned self.old.held.version (S.content self.old.held.store))) ≡ None }
+        ensures tried { IfErr result (λ fault. IsRule fault
+            → early_rule kind version (edits_of changes.now)
+            (Some (versioned self.old.held.version (S.content self.old.held.store))) ≡ None
+            → AreTried terms.limit encoding (S.content self.old.held.store) (edits_of changes.now)
+            (tried_in S.content tried.new)) }
         ensures err { OnErr result ((self.new.kept ≡ self.old.kept)
             × (versioned self.new.held.version (S.content self.new.held.store)
             ≡ versioned self.old.held.version (S.content self.old.held.store))) }
@@ -102,13 +109,21 @@ impl<S: TextStore> Document<S> {
             return Err(DocFault::Rule(rule));
         }
         if terms.kept == 0 && changes.len() == 1 && due.is_none() {
-            return self
-                .held
-                .change(terms.limit, encoding, version, &changes[0]);
+            let change = &changes[0];
+            if let Err(fault) = self.held.change(terms.limit, encoding, version, change) {
+                *tried = None;
+                return Err(fault);
+            }
+            return Ok(());
         }
         let alloc = self.kept.alloc();
-        let changed = self.held.changed(alloc, terms.limit, encoding, changes)?;
+        let held = &self.held;
+        let changed = held.changed(alloc, terms.limit, encoding, changes, tried)?;
         if refutes(due, terms.line_ends, &changed) {
+            *tried = Some(Tried {
+                store: changed,
+                count: changes.len(),
+            });
             return Err(DocFault::Rule(rules::SNAPSHOT_DIFFERS));
         }
         self.revise(terms.kept, version, changed)?;

@@ -5,9 +5,8 @@ ghost use Rattle.std.specs.Prelude.{OnErr};
 ghost use Rattle.std.specs.List.{find, list_all, list_any};
 ghost use Rattle.std.specs.Str.{chars};
 ghost use Rattle.lsp_docs.specs.Documents.{versioned, is_after, is_at};
-ghost use Rattle.lsp_docs.specs.Kept.{last_of};
-ghost use Rattle.lsp_docs.specs.Rules.{differs};
-ghost use Rattle.lsp_docs.specs.Others.{text_in};
+ghost use Rattle.lsp_docs.specs.Snapshots.{last_of};
+ghost use Rattle.lsp_docs.specs.Rules.{differs, text_in};
 
 use crate::revision::Revision;
 use lsp_text::TextStore;

@@ -20,6 +20,7 @@ mod queue;
 mod revision;
 mod snapshot;
 mod terms;
+mod tried;
 mod waiting;
 
 pub use docs::Docs;
@@ -31,3 +32,4 @@ pub use laws::{
 pub use open_uris::OpenUris;
 pub use revision::has_text;
 pub use snapshot::{Match, is_other_text};
+pub use tried::Tried;

@@ -6,16 +6,18 @@ ghost use Rattle.std.specs.Option.{option_copied};
 ghost use Rattle.lsp_text.specs.Changes.{edits_of};
 ghost use Rattle.lsp_text.specs.Edits.{applied};
 ghost use Rattle.lsp_docs.specs.Documents.{versioned};
-ghost use Rattle.lsp_docs.specs.Fault.{Names};
-ghost use Rattle.lsp_docs.specs.Opened.{IsChanged};
+ghost use Rattle.lsp_docs.specs.Fault.{IsRule, Names};
+ghost use Rattle.lsp_docs.specs.Stored.{IsChanged};
 ghost use Rattle.lsp_docs.specs.State.{KeepsNone, KeepsSame, held_in, queue_of};
 ghost use Rattle.lsp_docs.specs.State.{early_rule, rule_with, text_in, without};
+ghost use Rattle.lsp_docs.specs.Tried.{AreTriedOn, tried_in};
 
 use crate::document::Document;
 use crate::fault::DocFault;
 use crate::open_uris::OpenUris;
 use crate::snapshot::Texts;
 use crate::terms::Terms;
+use crate::tried::Tried;
 use lsp_text::TextStore;
 use lsp_types::{Change, Encoding, OrderedMap, SyncKind, rules};
 use std::alloc::{AllocError, Global};
@@ -30,7 +32,7 @@ pub(crate) struct OpenDocuments<S: TextStore> {
 
 impl<S: TextStore> Model for OpenDocuments<S> {
     ghost use Rattle.lsp_docs.specs.Documents.{versioned};
-    ghost use Rattle.lsp_docs.specs.Opened.{Opened, held_of, kept_of};
+    ghost use Rattle.lsp_docs.specs.Stored.{Opened, held_of, kept_of};
 
     ghost Value = { Opened };
 
@@ -116,7 +118,8 @@ impl<S: TextStore> OpenDocuments<S> {
     }
 
     /// Makes the changes of a document, where `due` are the texts of the snapshots that wait for
-    /// the version. A refused change leaves the document as it is.
+    /// the version. A refused change leaves the document as it is, and what was tried of it is put
+    /// there.
     pub(crate) fn change(
         &mut self,
         terms: Terms,
@@ -126,6 +129,7 @@ impl<S: TextStore> OpenDocuments<S> {
         version: i32,
         changes: &[Change],
         due: Option<&Texts>,
+        tried: &mut Option<Tried<S>>,
     ) -> Result<(), DocFault>
         ensures accepts { OnOk result (IsChanged
             (rule_with terms.limit terms.line_ends (unwrap_or (option_copied due.entry) [])
@@ -138,11 +142,16 @@ impl<S: TextStore> OpenDocuments<S> {
         ensures memory { result ≡ Err DocFault.Memory
             → early_rule kind version (edits_of changes.now) (held_in uri.now self.old.held)
             ≡ None }
+        ensures tried { IfErr result (λ fault. IsRule fault
+            → early_rule kind version (edits_of changes.now) (held_in uri.now self.old.held)
+            ≡ None
+            → AreTriedOn terms.limit encoding (held_in uri.now self.old.held)
+            (edits_of changes.now) (tried_in S.content tried.new)) }
         ensures err { OnErr result (self.new ≡ self.old) }
     {
         let Some(document) = self.documents.get_str_mut(uri) else {
             return Err(DocFault::Rule(rules::DOCUMENT_NOT_OPEN));
         };
-        document.change(terms, encoding, kind, version, changes, due)
+        document.change(terms, encoding, kind, version, changes, due, tried)
     }
 }

@@ -6,11 +6,12 @@ ghost use Rattle.lsp_text.specs.Edits.{applied};
 ghost use Rattle.lsp_text.specs.SameText.{same_text};
 ghost use Rattle.lsp_text.specs.Changes.{edit_of, edits_of};
 ghost use Rattle.lsp_docs.specs.Documents.{versioned};
-ghost use Rattle.lsp_docs.specs.Rules.{differs};
-ghost use Rattle.lsp_docs.specs.Fault.{Breaks};
-ghost use Rattle.lsp_docs.specs.Others.{text_in};
+ghost use Rattle.lsp_docs.specs.Rules.{differs, text_in};
+ghost use Rattle.lsp_docs.specs.Fault.{Breaks, IsRule};
+ghost use Rattle.lsp_docs.specs.Tried.{AreTried, tried_in};
 
 use crate::fault::DocFault;
+use crate::tried::Tried;
 use lsp_text::{TextStore, change, change_all};
 use lsp_types::{Change, Encoding, LineEnds};
 use std::alloc::Global;
@@ -52,23 +53,33 @@ impl<S: TextStore> Revision<S> {
         Ok(())
     }
 
-    /// A copy of its store with the changes made.
+    /// A copy of its store with the changes made; where one fails, it is put there instead.
     pub(crate) fn changed(
         &self,
         alloc: Global,
         limit: u64,
         encoding: Encoding,
         changes: &[Change],
+        tried: &mut Option<Tried<S>>,
     ) -> Result<S, DocFault>
         ensures ok { IfOk result
             (λ store. applied limit encoding (S.content self.now.store) (edits_of changes.now)
             ≡ Ok (S.content store)) }
         ensures fault { IfErr result
             (Breaks (applied limit encoding (S.content self.now.store) (edits_of changes.now))) }
+        ensures tried { IfErr result (λ fault. IsRule fault
+            → AreTried limit encoding (S.content self.now.store) (edits_of changes.now)
+            (tried_in S.content tried.new)) }
     {
         let mut store = self.store.copy(alloc)?;
-        change_all(&mut store, encoding, changes, limit)?;
-        Ok(store)
+        match change_all(&mut store, encoding, changes, limit) {
+            Ok(()) => Ok(store),
+            Err(failed) => {
+                let count = failed.made;
+                *tried = Some(Tried { store, count });
+                Err(DocFault::from(failed.fault))
+            }
+        }
     }
 
     /// Whether it is of this version and has another text.

@@ -37,7 +37,7 @@ pub(crate) struct Texts {
 
 impl Model for Texts {
     ghost use Rattle.std.specs.Prelude.{◌≡◌, List};
-    ghost use Rattle.lsp_docs.specs.Texts.{Text};
+    ghost use Rattle.lsp_docs.specs.Calls.{Text};
     ghost use Rattle.lsp_docs.specs.Stored.{AreMixed, texts_of};
 
     ghost Value = { List Text };

@@ -1,33 +1,26 @@
 -- The steps of the accounts that explain a log.
 use Rattle.std.specs.Prelude.{filter, is_some, not, option_map, unwrap_or, if◌then◌else◌}
 use Rattle.std.specs.List.{cons_option}
-use Rattle.std.specs.Option.{option_or}
 use Rattle.std.proofs.Common.{◌≡◌, ℕ, Bool, true, false, List, [], ◌∷◌, ◌++◌, Option, Some, None, refl}
 use Rattle.std.proofs.Common.{sym, ap, ◌∙◌, subst, append_assoc, append-nil}
-use Rattle.std.proofs.lemmas.List.{map-append}
-use Rattle.lsp_docs.specs.Terms.{Terms}
+use Rattle.lsp_docs.specs.Documents.{Terms}
 use Rattle.lsp_replay.specs.Telling.{Says, rule_of}
 use Rattle.lsp_replay.specs.declared.seen.Flow.TheVariants.{GoOn, Stop}
 use Rattle.lsp_replay.proofs.PassEnds.{Boxed}
-use Rattle.lsp_replay.proofs.Seeing.{events-push}
+use Rattle.lsp_replay.proofs.AllHeard.{first_after, none_is}
 use Rattle.lsp_survey.specs.Lost.{WasTold, follows_at}
 use Rattle.lsp_survey.specs.Reported.{IsTally}
-use Rattle.lsp_survey.specs.declared.offence_count.OffenceCount.{OffenceCount}
+use Rattle.lsp_survey.proofs.SurveySteps.{kept_tally, offence_tally}
 use Rattle.lsp_verdict.specs.Event.{Event}
 use Rattle.lsp_verdict.specs.Given.{verdict_view}
 use Rattle.lsp_verdict.specs.Heard.{Heard, Rests, heard_events, notes_of}
-use Rattle.lsp_verdict.specs.Offences.{Offence, follows, kept_of, offence_by, offences}
-use Rattle.lsp_verdict.specs.Verdict.{Verdict, first_no, no_at, no_by, offence}
+use Rattle.lsp_verdict.specs.Offences.{Offence, follows, offence_by}
+use Rattle.lsp_verdict.specs.Verdict.{Verdict, no_by}
 use Rattle.lsp_verdict.specs.declared.outcome.Outcome.TheVariants.{Judged}
 use Rattle.lsp_verdict.specs.declared.verdict.Verdict as code
-use Rattle.lsp_verdict.proofs.LookBackLemmas.{first_of-snoc}
-use Rattle.lsp_verdict.proofs.Offences.Offending.{all_are_kept}
-use Rattle.lsp_verdict.proofs.Offences.Steps.{offences-push}
-use Rattle.lsp_explain.specs.Accounts.{AllStands, FirstStands, TellsOf}
-use Rattle.lsp_explain.specs.AllExplained.{cause_lines, is_cause}
-use Rattle.lsp_explain.specs.ExplainRuns.{SaysCauses, SaysFirst, all_run, cause_at, explain_run}
-use Rattle.lsp_explain.specs.ExplainRuns.{first_lines}
-use Rattle.lsp_explain.specs.Explained.{Breach, breach}
+use Rattle.lsp_explain.specs.ExplainRuns.{AllStands, FirstStands, TellsOf, SaysCauses, SaysFirst}
+use Rattle.lsp_explain.specs.ExplainRuns.{all_run, cause_at, explain_run, first_lines}
+use Rattle.lsp_explain.specs.Explained.{cause_lines, is_cause, Breach, breach}
 use Rattle.lsp_explain.specs.Remarks.{noticed, remark_lines, remarks_of}
 use Rattle.lsp_explain.specs.Trails.{IsTrail}
 use Rattle.lsp_explain.specs.declared.run.FirstOffence.{FirstOffence}
@@ -36,17 +29,6 @@ use Rattle.lsp_explain.specs.declared.run_all.AllCauses.{AllCauses}
 module _ (terms : Terms) (before : List Heard) (h : Heard) where
   abbrev events : List Event
   events = heard_events before
-
-  -- where no event before it offends, nor does this one
-  pub clean_on : first_no terms events ≡ None → rule_of terms before h ≡ None
-      → first_no terms (heard_events (before ++ h ∷ [])) ≡ None
-  clean_on clean kept =
-      let same : kept_of terms events ≡ events = all_are_kept terms events clean in
-      ap (first_no terms) (events-push before h)
-      ∙ first_of-snoc (no_at terms) events h.note.event
-      ∙ ap (λ o. option_or o (no_at terms events h.note.event)) clean
-      ∙ ap (option_map (no_by events h.note.event))
-      (ap (λ es. offence terms es h.note.event) (sym same) ∙ kept)
 
   -- ---- `explain`
 
@@ -62,7 +44,13 @@ module _ (terms : Terms) (before : List Heard) (h : Heard) where
       added = sym (append-nil old);
       is = λ rests fits. subst (λ (o : Option ℕ). SaysFirst rests terms
           (option_map (breach before h) o) []) (sym kept) refl;
-      goes = (ap is_some kept, record { noted = trail; clean = clean_on stands.clean kept });
+      goes = (
+        ap is_some kept,
+        record {
+          noted = trail;
+          clean = first_after terms before h stands.clean ∙ none_is terms before h kept;
+        },
+      );
     }
 
     -- one that offends is explained
@@ -113,17 +101,6 @@ module _ (terms : Terms) (before : List Heard) (h : Heard) where
       offends
       ∙ ap (λ (b : Bool). if not b then breach before h rule ∷ [] else []) same
 
-  -- what is found with it
-  found_on : (rule : Option ℕ) → rule_of terms before h ≡ rule
-      → offences terms (notes_of (before ++ h ∷ []))
-      ≡ offences terms (notes_of before)
-      ++ cons_option (option_map (offence_by terms (notes_of before) h.note) rule) []
-  found_on rule is =
-      ap (offences terms) (map-append (λ (x : Heard). x.note) before (h ∷ []))
-      ∙ offences-push terms (notes_of before) h.note
-      ∙ ap (λ (o : Option ℕ). offences terms (notes_of before)
-      ++ cons_option (option_map (offence_by terms (notes_of before) h.note) o) []) is
-
   module _ (account next : AllCauses) (stands : AllStands account terms before)
       (Fits : Rests → Type 0) (old : List ℕ) (late : Bool)
       (told : WasTold next.losses terms before h late) where
@@ -146,11 +123,7 @@ module _ (terms : Terms) (before : List Heard) (h : Heard) where
     all_kept kept same trail =
         says_none (AllStands next terms (before ++ h ∷ [])) (no_cause kept) (record {
           lost = told.losses;
-          tallied = subst (λ (t : OffenceCount).
-              IsTally t (offences terms (notes_of (before ++ h ∷ [])))) (sym same)
-              (subst (IsTally account.tally)
-              (sym (found_on None kept ∙ append-nil (offences terms (notes_of before))))
-              stands.tallied);
+          tallied = kept_tally terms before h account.tally next.tally stands.tallied kept same;
           noted = trail;
         })
 
@@ -163,10 +136,8 @@ module _ (terms : Terms) (before : List Heard) (h : Heard) where
         → AllStands next terms (before ++ h ∷ [])
     offends_on rule o offends own counts trail = record {
       lost = told.losses;
-      tallied = subst (IsTally next.tally)
-          (ap (λ (x : Offence). offences terms (notes_of before) ++ x ∷ []) own
-          ∙ sym (found_on (Some rule) offends))
-          (counts (offences terms (notes_of before)) stands.tallied);
+      tallied = offence_tally terms before h account.tally next.tally stands.tallied rule o offends
+          own counts;
       noted = trail;
     }
 

@@ -5,10 +5,10 @@ use Rattle.std.proofs.Common.{◌≡◌, ◌⊎◌, ℕ, List, [], ◌∷◌, �
 use Rattle.std.proofs.Common.{subst, ◌∙◌, append_assoc}
 use Rattle.std.proofs.lemmas.List.Concat.{flat_map-append}
 use Rattle.std.proofs.lemmas.List.Elements.{filter-append}
-use Rattle.lsp_docs.specs.Terms.{Terms}
+use Rattle.lsp_docs.specs.Documents.{Terms}
 use Rattle.lsp_frame.specs.Bounds.{Bounds, IsInRange}
-use Rattle.lsp_replay.specs.Passes.{Passes}
-use Rattle.lsp_replay.specs.Run.{EndsAfter, HasSaid, IsPassed, SaysAll, StopsIn}
+use Rattle.lsp_replay.specs.Run.{Passes, EndsAfter, HasSaid, IsPassed, SaysAll, StopsIn}
+use Rattle.lsp_replay.proofs.FirstEvents.{raws-push}
 use Rattle.lsp_replay.proofs.JudgedRuns.{IsDueOf, judged_run}
 use Rattle.lsp_survey.specs.SessionEnds.{all_found, ends_of}
 use Rattle.lsp_verdict.specs.Complete.{IsVerdictBy}
@@ -16,21 +16,18 @@ use Rattle.lsp_verdict.specs.Heard.{Heard, Rests, heard_events, raws_of}
 use Rattle.lsp_verdict.specs.LookBack.{each_from}
 use Rattle.lsp_verdict.specs.Outcome.{log_terms}
 use Rattle.lsp_verdict.specs.Placed.{Placed, Raw}
-use Rattle.lsp_verdict.specs.Ports.{Ports}
+use Rattle.lsp_verdict.specs.Runs.{Ports}
 use Rattle.lsp_verdict.specs.Verdict.{Verdict, bad_log_of, summary}
 use Rattle.lsp_verdict.specs.declared.completeness.Completeness.{Completeness}
 use Rattle.lsp_verdict.specs.declared.outcome.Outcome.{Outcome}
 use Rattle.lsp_verdict.specs.declared.outcome.RunFault.{RunFault}
 use Rattle.lsp_verdict.proofs.LookBackLemmas.{cons_append}
 use Rattle.lsp_verdict.proofs.RunsJudged.{plain_by}
-use Rattle.lsp_explain.specs.AllExplained.{AreFirstSaid, BeginsAllExplained, ExplainsAll}
-use Rattle.lsp_explain.specs.AllExplained.{IsAllExplained, all_closing, cause_lines, causes, is_cause}
-use Rattle.lsp_explain.specs.ExplainRuns.{all_run, cause_at, ends_said}
-use Rattle.lsp_explain.specs.ExplainRuns.{flaw_at}
+use Rattle.lsp_explain.specs.Explained.{AreFirstSaid, BeginsAllExplained, ExplainsAll}
+use Rattle.lsp_explain.specs.Explained.{IsAllExplained, all_closing, cause_lines, causes, is_cause}
 use Rattle.lsp_explain.specs.Explained.{Breach, Explained, Explains, breach_at}
-use Rattle.lsp_explain.proofs.Explaining.{noted_front, raws-append}
-use Rattle.lsp_explain.proofs.Judged.{written_verdict}
-use Rattle.lsp_explain.proofs.ToldLogs.{explained_told}
+use Rattle.lsp_explain.specs.ExplainRuns.{all_run, cause_at, ends_said, flaw_at}
+use Rattle.lsp_explain.proofs.Explaining.{noted_front, written_verdict, explained_told}
 
 pub zip_append : {A B : Type 0} (R : A → B → Type 0) (xs ys : List A) (es fs : List B)
     → AllZip R xs es → AllZip R ys fs → AllZip R (xs ++ ys) (es ++ fs)
@@ -145,7 +142,7 @@ module _ (completeness : Completeness) where
           rests = h.tail.rests;
           is_log = h.told.is_log;
           placed_are = subst (λ (w : List Raw). Placed limits h.records w)
-              (raws-append h.first h.later) h.told.session.placed;
+              (raws-push h.first h.later) h.told.session.placed;
           noted = noted_front h.first h.later h.told.session.noted;
           editor_rest = h.told.rests.editor;
           server_rest = h.told.rests.server;

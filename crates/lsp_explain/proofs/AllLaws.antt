@@ -5,7 +5,7 @@ use Rattle.std.proofs.Common.{◌≡◌, Bool, true, false, List, [], ◌∷◌,
 use Rattle.std.proofs.Common.{sym, ap, ◌∙◌}
 use Rattle.std.proofs.lemmas.List.{map-append}
 use Rattle.std.proofs.lemmas.List.Elements.{filter-append}
-use Rattle.lsp_docs.specs.Terms.{Terms}
+use Rattle.lsp_docs.specs.Documents.{Terms}
 use Rattle.lsp_explain.specs.Asking.{Numbered, numbered}
 use Rattle.lsp_verdict.specs.Heard.{Heard, Rests, notes_of}
 use Rattle.lsp_verdict.specs.Offences.{Noted, Offence, events_of, offences}
@@ -15,12 +15,9 @@ use Rattle.lsp_verdict.specs.Verdict.{Verdict, Ending, first_no}
 use Rattle.lsp_verdict.specs.declared.completeness.Completeness.{Completeness}
 use Rattle.lsp_verdict.proofs.Offences.Offending.{first_listed, nothing_listed}
 use Rattle.lsp_verdict.proofs.Offences.Surveying.{survey_agrees}
-use Rattle.lsp_explain.specs.AllExplained.{causes, is_cause}
-use Rattle.lsp_explain.specs.Explained.{Breach, Explained, Explains, breaches}
-use Rattle.lsp_explain.specs.Explained.{end_explained}
-use Rattle.lsp_explain.specs.ExplainLaws.{CausesAreExplained, FirstIsVerdict}
-use Rattle.lsp_explain.proofs.Judged.{survey_in}
-use Rattle.lsp_explain.proofs.Explaining.{offence_of, offences_are}
+use Rattle.lsp_explain.specs.Explained.{causes, is_cause, Breach, Explained, Explains, breaches}
+use Rattle.lsp_explain.specs.Explained.{end_explained, CausesAreExplained, FirstIsVerdict}
+use Rattle.lsp_explain.proofs.Explaining.{survey_in, offence_of, offences_are}
 
 abbrev nos : List Offence → List Verdict
 nos found = map (λ (o : Offence). o.no) found

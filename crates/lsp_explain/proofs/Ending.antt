@@ -1,13 +1,12 @@
 -- How a log ends whose reader tells it, and what is said of that.
 use Rattle.std.specs.Prelude.{map, take, slice_get, not, option_map, option_to_list}
 use Rattle.std.specs.List.{flat_map}
-use Rattle.std.proofs.Common.{◌≡◌, ◌⊎◌, ℕ, ◌+◌, Bool, true, false, ◌&&◌, IsSome}
-use Rattle.std.proofs.Common.{List, [], ◌∷◌, ◌++◌, Option, Some, None, inl, inr, refl, sym, ap, ◌∙◌}
-use Rattle.std.proofs.Common.{append_assoc, append-nil, subst, arith, length, length-append}
-use Rattle.std.proofs.Common.{◌<◌, ◌^◌}
+use Rattle.std.proofs.Common.{◌≡◌, ◌⊎◌, ℕ, ◌+◌, Bool, true, false, ◌&&◌, IsSome, List, [], ◌∷◌}
+use Rattle.std.proofs.Common.{◌++◌, Option, Some, None, inl, inr, refl, sym, ap, ◌∙◌, append_assoc}
+use Rattle.std.proofs.Common.{append-nil, subst, arith, length, length-append, ◌<◌, ◌^◌}
 use Rattle.std.proofs.lemmas.List.{length-map, map-append}
 use Rattle.std.proofs.lemmas.List.Concat.{flat_map-append}
-use Rattle.lsp_docs.specs.Terms.{Terms}
+use Rattle.lsp_docs.specs.Documents.{Terms}
 use Rattle.lsp_log.specs.Reader.{shown_by}
 use Rattle.lsp_log.specs.declared.fault.LogCode.{LogCode}
 use Rattle.lsp_replay.specs.LogEvents.{flaw_of}
@@ -24,9 +23,8 @@ use Rattle.lsp_session.specs.Requests.{open_requests}
 use Rattle.lsp_session.specs.Sent.{is_exit}
 use Rattle.lsp_explain.specs.Asking.{Numbered, numbered}
 use Rattle.lsp_survey.specs.Reported.{count_line, verdict_lines}
-use Rattle.lsp_survey.proofs.Ending.{ends_few, given_few}
-use Rattle.lsp_survey.proofs.SessionEnds.{ends_fit}
-use Rattle.lsp_survey.specs.SessionEnds.{all_found, all_verdict, ends_held, ends_of}
+use Rattle.lsp_survey.proofs.SessionEnds.{ends_few, given_few, ends_fit}
+use Rattle.lsp_survey.specs.SessionEnds.{all_found, ends_held, ends_of}
 use Rattle.lsp_types.specs.declared.side.Side.TheVariants.{Editor, Server}
 use Rattle.lsp_verdict.specs.Event.{Event, sent_in}
 use Rattle.lsp_verdict.specs.Given.{offence_view, verdict_view}
@@ -43,15 +41,13 @@ use Rattle.lsp_verdict.specs.declared.offence.Offence as code_offence
 use Rattle.lsp_verdict.specs.declared.outcome.Outcome.TheVariants.{Judged}
 use Rattle.lsp_verdict.specs.declared.verdict.Verdict as code
 use Rattle.lsp_verdict.specs.declared.verdict.Who.TheVariants as who
-use Rattle.lsp_verdict.proofs.ByIndex.{map_one}
+use Rattle.lsp_verdict.proofs.Finding.{map_one}
 use Rattle.lsp_facts.specs.Fact.{Fact}
-use Rattle.lsp_facts.specs.FlawFacts.{flaw_facts}
-use Rattle.lsp_explain.specs.Accounts.{flaw_held, rests_held}
-use Rattle.lsp_explain.specs.AllExplained.{all_closing, cause_lines}
-use Rattle.lsp_explain.specs.ExplainRuns.{all_run}
-use Rattle.lsp_explain.specs.ExplainRuns.{end_verdict, ends_said}
+use Rattle.lsp_facts.specs.EventFacts.{flaw_facts}
+use Rattle.lsp_explain.specs.ExplainRuns.{flaw_held, rests_held, all_run, end_verdict, ends_said}
 use Rattle.lsp_explain.specs.ExplainRuns.{explain_run, flaw_at}
-use Rattle.lsp_explain.specs.Explained.{Explained, end_explained, explanation, flaw_lines, said_of}
+use Rattle.lsp_explain.specs.Explained.{all_closing, cause_lines, Explained, end_explained}
+use Rattle.lsp_explain.specs.Explained.{explanation, flaw_lines, said_of}
 use Rattle.lsp_explain.specs.Remarks.{noticed, remark_lines, remarks_of}
 
 -- ---- what is listed of the end says nothing of a side whose frames have a fault
@@ -71,16 +67,13 @@ module _ (rests held : Rests) (sent : List Numbered) (events : List Event) where
   abbrev Alike : List Verdict → Type 0
   Alike vs = map (end_explained held sent) vs ≡ map (end_explained rests sent) vs
 
-  lacks_by : (o : Option ℕ) → (o ≡ None) ⊎ ((o ≡ Some 303) ⊎ (o ≡ Some 407))
-      → Alike (option_to_list (option_map (λ rule. no_next rule who.Editor events) o))
-  lacks_by o (inl is) = subst (λ (w : Option ℕ).
-      Alike (option_to_list (option_map (λ rule. no_next rule who.Editor events) w))) (sym is) refl
-  lacks_by o (inr (inl is)) =
-      subst (λ (w : Option ℕ). Alike (option_to_list
-      (option_map (λ rule. no_next rule who.Editor events) w))) (sym is) refl
-  lacks_by o (inr (inr is)) =
-      subst (λ (w : Option ℕ). Alike (option_to_list
-      (option_map (λ rule. no_next rule who.Editor events) w))) (sym is) refl
+  abbrev Lacks : Option ℕ → Type 0
+  Lacks o = Alike (option_to_list (option_map (λ rule. no_next rule who.Editor events) o))
+
+  lacks_by : (o : Option ℕ) → (o ≡ None) ⊎ ((o ≡ Some 303) ⊎ (o ≡ Some 407)) → Lacks o
+  lacks_by o (inl is) = subst Lacks (sym is) refl
+  lacks_by o (inr (inl is)) = subst Lacks (sym is) refl
+  lacks_by o (inr (inr is)) = subst Lacks (sym is) refl
 
   lacks_alike : (completeness : Completeness) (kept_events : List Event)
       → Alike (lacks_listed completeness events kept_events)
@@ -192,29 +185,18 @@ module _ (completeness : Completeness) (terms : Terms) (heard : List Heard) (e :
             ∙ append_assoc old plain (notes (verdict_view given))
             ∙ ap (λ (x : Verdict). old ++ (plain ++ notes x)) verdict;
         is = λ tail fits. (
-          ap (λ f. first_end f (flaw_held e end) told (ends_said terms heard (rests_held e) told))
-              (sym fits.fault)
-              ∙ ap (λ fs. first_end tail.fault fs told
-              (ends_said terms heard (rests_held e) told)) (flaw_fit tail fits)
-              ∙ ap (λ vs. first_end tail.fault (due_flaw tail fits) vs
-              (ends_said terms heard (rests_held e) told)) (ends_fit completeness terms heard e end tail fits)
-              ∙ ap (first_end tail.fault (due_flaw tail fits) (due tail fits))
-              (said_fit tail fits),
+          λ i. first_end ((sym fits.fault) i) (flaw_fit tail fits i)
+              (ends_fit completeness terms heard e end tail fits i) (said_fit tail fits i),
           (
             given,
             refl,
-            verdict ∙ ap (λ f. end_verdict terms heard f told) (sym fits.fault)
-                ∙ ap (end_verdict terms heard tail.fault) (ends_fit completeness terms heard e end tail fits),
+            verdict ∙ (λ i. end_verdict terms heard ((sym fits.fault) i)
+                (ends_fit completeness terms heard e end tail fits i)),
           ),
         );
       }
 
   -- ---- `explain --all`
-
-  abbrev whole_end : Option (ℕ × LogCode) → List Fact → List Verdict → List Explained → List ℕ
-  whole_end fault flaw ends said =
-      flat_map cause_lines said
-      ++ all_closing (all_found terms heard ends) (bad_log_of fault) flaw (summary terms all)
 
   closing_said : (found : List Offence) (bad : Option Verdict) (flaw : List Fact) (s : Summary)
       → verdict_lines found bad s ++ (flaw_lines bad flaw ++ count_line found)
@@ -247,30 +229,17 @@ module _ (completeness : Completeness) (terms : Terms) (heard : List Heard) (e :
             ∙ append_assoc ((old ++ said) ++ own) fault count
             ∙ append_assoc (old ++ said) own (fault ++ count)
             ∙ append_assoc old said (own ++ (fault ++ count));
-        is = λ tail fits. (
-          ap (λ (b : Option Verdict). said ++ (own ++ (flaw_lines b (flaw_held e end) ++ count)))
-              (sym bad_is)
-              ∙ ap (λ w. said ++ w) (closing_said found bad (flaw_held e end) s)
-              ∙ ap (λ fs. said ++ all_closing fs bad (flaw_held e end) s) are
-              ∙ ap (λ (b : Option Verdict).
-              said ++ all_closing (all_found terms heard told) b (flaw_held e end) s) bad_is
-              ∙ ap (λ f. whole_end f (flaw_held e end) told
-              (ends_said terms heard (rests_held e) told)) (sym fits.fault)
-              ∙ ap (λ fs. whole_end tail.fault fs told
-              (ends_said terms heard (rests_held e) told)) (flaw_fit tail fits)
-              ∙ ap (λ vs. whole_end tail.fault (due_flaw tail fits) vs
-              (ends_said terms heard (rests_held e) told)) (ends_fit completeness terms heard e end tail fits)
-              ∙ ap (whole_end tail.fault (due_flaw tail fits) (due tail fits))
-              (said_fit tail fits),
-          (
-            given,
-            refl,
-            verdict ∙ ap (λ fs. first_verdict fs bad s) are
-                ∙ ap (λ b. first_verdict (all_found terms heard told) b s) bad_is
-                ∙ ap (λ f. all_verdict terms heard f told) (sym fits.fault)
-                ∙ ap (all_verdict terms heard tail.fault) (ends_fit completeness terms heard e end tail fits),
-          ),
-        );
+        is = λ tail fits.
+            let founds : found ≡ all_found terms heard (due tail fits) =
+            are ∙ ap (all_found terms heard) (ends_fit completeness terms heard e end tail fits) in
+            let bads : bad ≡ bad_log_of tail.fault = bad_is ∙ ap bad_log_of (sym fits.fault) in (
+              ap (λ (b : Option Verdict). said ++ (own ++ (flaw_lines b (flaw_held e end)
+                  ++ count))) (sym bad_is)
+                  ∙ ap (λ w. said ++ w) (closing_said found bad (flaw_held e end) s)
+                  ∙ (λ i. flat_map cause_lines (said_fit tail fits i)
+                  ++ all_closing (founds i) (bads i) (flaw_fit tail fits i) s),
+              (given, refl, verdict ∙ (λ i. first_verdict (founds i) (bads i) s)),
+            );
       }
 
 -- ---- what is listed

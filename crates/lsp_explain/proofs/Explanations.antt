@@ -2,13 +2,12 @@
 use Rattle.std.specs.Prelude.{map, option_map, is_some, take}
 use Rattle.std.specs.List.{AllZip}
 use Rattle.std.proofs.Common.{◌≡◌, ◌⊎◌, ℕ, true, false, List, [], ◌∷◌, ◌++◌, Option, Some, None, inl}
-use Rattle.std.proofs.Common.{inr, Result, Ok, Err, refl, sym, ap, subst, ◌∙◌, append-nil}
-use Rattle.lsp_docs.specs.Terms.{Terms}
+use Rattle.std.proofs.Common.{inr, Result, refl, sym, ap, subst, ◌∙◌, append-nil}
+use Rattle.lsp_docs.specs.Documents.{Terms}
 use Rattle.lsp_frame.specs.Bounds.{Bounds, IsInRange}
-use Rattle.lsp_replay.specs.Passes.{Passes}
-use Rattle.lsp_replay.specs.Run.{EndsAfter, HasSaid, IsPassed, StopsIn}
+use Rattle.lsp_replay.specs.Run.{Passes, EndsAfter, HasSaid, IsPassed, StopsIn}
 use Rattle.lsp_replay.proofs.JudgedRuns.{IsDueOf, judged_run}
-use Rattle.lsp_replay.proofs.PassEnds.{IsQuiet, quiet_all, silent}
+use Rattle.lsp_replay.proofs.PassEnds.{IsQuiet, quiet_all, silent_after}
 use Rattle.lsp_replay.specs.Telling.{no_of, rule_of}
 use Rattle.lsp_survey.specs.SessionEnds.{ends_of}
 use Rattle.lsp_verdict.specs.Complete.{IsVerdictBy}
@@ -16,7 +15,7 @@ use Rattle.lsp_verdict.specs.Heard.{heard_events, notes_of}
 use Rattle.lsp_verdict.specs.LookBack.{each_from}
 use Rattle.lsp_verdict.specs.Offences.{Offence, offences}
 use Rattle.lsp_verdict.specs.Outcome.{log_terms}
-use Rattle.lsp_verdict.specs.Ports.{IsSilent, Ports}
+use Rattle.lsp_verdict.specs.Runs.{Ports}
 use Rattle.lsp_verdict.specs.Report.{report}
 use Rattle.lsp_verdict.specs.Survey.{by_itself}
 use Rattle.lsp_verdict.specs.Verdict.{Summary, Verdict, bad_log_of, no_by, summary}
@@ -26,17 +25,16 @@ use Rattle.lsp_verdict.specs.declared.outcome.RunFault.{RunFault}
 use Rattle.lsp_verdict.specs.declared.outcome.RunFault.TheVariants as faults
 use Rattle.lsp_verdict.proofs.RunsJudged.{plain_by}
 use Rattle.lsp_facts.specs.Fact.{Fact}
-use Rattle.lsp_explain.specs.ExplainRuns.{SaysFirst, end_verdict, ends_said}
-use Rattle.lsp_explain.specs.ExplainRuns.{explain_run, first_lines, flaw_at}
+use Rattle.lsp_explain.specs.ExplainRuns.{SaysFirst, end_verdict, ends_said, explain_run}
+use Rattle.lsp_explain.specs.ExplainRuns.{first_lines, flaw_at}
 use Rattle.lsp_explain.specs.Explained.{BeginsExplanation, Breach, Explained, Explains}
 use Rattle.lsp_explain.specs.Explained.{IsExplanation, WritesExplanation, before_first, breach}
 use Rattle.lsp_explain.specs.Explained.{breach_at, breaches, explanation, first_breach}
 use Rattle.lsp_explain.specs.Explained.{noticed_before, said_of}
 use Rattle.lsp_explain.specs.Remarks.{Noticed, noticed, remark_lines, remarks_of}
-use Rattle.lsp_explain.proofs.Explaining.{breaches-first, offence_of, offences_are}
-use Rattle.lsp_explain.proofs.Judged.{written_verdict}
+use Rattle.lsp_explain.proofs.Explaining.{breaches-first, offence_of, offences_are, written_verdict}
+use Rattle.lsp_explain.proofs.Explaining.{clean_all, explained_told}
 use Rattle.lsp_explain.proofs.OneExplanation.{some_explanation}
-use Rattle.lsp_explain.proofs.ToldLogs.{clean_all, explained_told}
 
 module _ (completeness : Completeness) where
   -- ---- what is said of events
@@ -107,31 +105,25 @@ module _ (completeness : Completeness) where
       said_here : (e : Explained) → Explains p.tail.rests terms own e
           → x.last ≡ first_lines terms x.first e → Due own_no out
       unfolding explained_told
-      said_here e explains last =
-          let plain : List ℕ = report own_no ++ (said_of e ++ []) in
-          record {
-            found = found;
-            explained = e ∷ [];
-            bad = bad;
-            flaw = flaw;
-            s = s;
-            is = explained_told first_breach (take 1) completeness limits log p.format p.records
-                p.heard p.tail p.told found (e ∷ []) (e ∷ []) lists
-                (subst (λ (w : List Breach).
-                AllZip (Explains p.tail.rests terms) (take 1 w) (e ∷ [])) (sym all) (explains, tt))
-                refl;
-            judges = refl;
-            says = x.is
-                ∙ ap (λ w. w ++ x.last) (quiet_all (explain_run completeness) quiet terms
-                p.tail.rests [] x.first x.front x.said)
-                ∙ last
-                ∙ ap (λ (v : Verdict). (report v ++ said_of e)
-                ++ notes_on v (noticed terms (heard_events x.first))) explains.no_is
-                ∙ ap (λ w. (report own_no ++ w)
-                ++ notes_on own_no (noticed terms (heard_events x.first)))
-                (sym (append-nil (said_of e)))
-                ∙ ap (λ (n : Noticed). plain ++ notes_on own_no n) (sym noticed_is);
-          }
+      said_here e explains last = record {
+        found = found;
+        explained = e ∷ [];
+        bad = bad;
+        flaw = flaw;
+        s = s;
+        is = explained_told first_breach (take 1) completeness limits log p.format p.records
+            p.heard p.tail p.told found (e ∷ []) (e ∷ []) lists
+            (subst (λ (w : List Breach).
+            AllZip (Explains p.tail.rests terms) (take 1 w) (e ∷ [])) (sym all) (explains, tt))
+            refl;
+        judges = refl;
+        says = x.is
+            ∙ ap (λ w. w ++ x.last) (quiet_all (explain_run completeness) quiet terms
+            p.tail.rests [] x.first x.front x.said)
+            ∙ last
+            ∙ (λ i. (report (explains.no_is i) ++ (sym (append-nil (said_of e))) i)
+            ++ notes_on (explains.no_is i) ((sym noticed_is) i));
+      }
 
       first_due : IsDueOf Due out outcome
       first_due =
@@ -226,16 +218,6 @@ module _ (completeness : Completeness) where
         no_front [] ys is = refl
         no_front (x ∷ xs) ys is = absurd (cc is)
 
-    after_fault : (result : Result Outcome RunFault) (fault : RunFault)
-        → (fault ≡ faults.Write → ⊥)
-        → Passes (explain_run completeness) limits io.source_before io.source_after io.sink_before
-        io.sink_after result → result ≡ Err fault → IsSilent io
-    after_fault (Ok outcome) fault never a e = absurd (cc e)
-    after_fault (Err own) fault never p e =
-        let same : own ≡ fault = cc e in
-        silent (explain_run completeness) quiet limits io.source_before io.source_after
-        io.sink_before io.sink_after own (λ write. never (sym same ∙ write)) p
-
     pub explains : (result : Result Outcome RunFault) → Passes (explain_run completeness) limits
         io.source_before io.source_after io.sink_before io.sink_after result
         → WritesExplanation completeness limits io result
@@ -247,6 +229,8 @@ module _ (completeness : Completeness) where
           (λ log t is. plain_by completeness limits log t is)
           (λ log out outcome p. passed_explained limits log out outcome p) said_begins
           (λ log front left v is. (v, left, is)) io result passes;
-      read_fault = after_fault result faults.Read (λ e. cc) passes;
-      memory = after_fault result faults.Memory (λ e. cc) passes;
+      read_fault = silent_after (explain_run completeness) quiet limits _ _ _ _ result faults.Read
+          (λ e. cc) passes;
+      memory = silent_after (explain_run completeness) quiet limits _ _ _ _ result faults.Memory
+          (λ e. cc) passes;
     }

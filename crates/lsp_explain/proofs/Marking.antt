@@ -1,332 +1,232 @@
--- What is marked of a document, with one step more.
-use Rattle.std.specs.Prelude.{ℤ, int_lt, option_map, is_none, ◌&&◌, ◌||◌, not, filter, length}
-use Rattle.std.specs.Prelude.{if◌then◌else◌, ◌+◌}
-use Rattle.std.specs.List.{cons_option, list_any}
+-- What is marked of a document, and the marks by URI, with one step more.
+use Rattle.std.specs.Prelude.{ℤ, int_lt, not, length, if◌then◌else◌, ◌+◌, filter, unwrap_or, String}
+use Rattle.std.specs.List.{cons_option, filter_map, fold}
 use Rattle.std.specs.Ordering.{int_eq}
-use Rattle.std.proofs.lemmas.List.{length-append}
-use Rattle.std.proofs.lemmas.List.Elements.{filter-append}
-use Rattle.std.proofs.lemmas.List.Folds.{list_any-append}
-use Rattle.std.proofs.lemmas.Int.{ints}
 use Rattle.std.proofs.Common.{◌≡◌, ℕ, Bool, true, false, List, [], ◌∷◌, ◌++◌, Option, Some, None}
-use Rattle.std.proofs.Common.{refl, sym, ap, ◌∙◌, append_assoc, append-nil, arith}
+use Rattle.std.proofs.Common.{refl, sym, ap, ◌∙◌, append-nil, arith}
+use Rattle.std.proofs.lemmas.List.{length_push}
+use Rattle.std.proofs.lemmas.List.Elements.{filter_map-append, filter-append}
+use Rattle.std.proofs.lemmas.List.Sums.{fold_push}
+use Rattle.std.specs.Global.{Global}
+use Rattle.std.specs.Str.{bytes_eq}
 use Rattle.lsp_docs.specs.State.{capped}
-use Rattle.lsp_docs.specs.Terms.{Terms}
-use Rattle.lsp_docs.proofs.Words.{capped-add}
-use Rattle.lsp_verdict.specs.Event.{Event}
+use Rattle.lsp_docs.specs.declared.snapshot.Match.{Match}
+use Rattle.lsp_docs.specs.declared.snapshot.Match.TheVariants.{Equal, Waits, Missed}
+use Rattle.lsp_docs.proofs.Words.{capped-add, uri_is}
 use Rattle.lsp_verdict.specs.LookBack.{each_of}
 use Rattle.lsp_verdict.proofs.LookBackLemmas.{each_of-snoc}
-use Rattle.lsp_explain.specs.LastOnes.{last_ones, with_room}
-use Rattle.lsp_explain.specs.Marking.{Step, touches, closed, step_at, steps, is_end, standing, sets}
-use Rattle.lsp_explain.specs.Marking.{rank_after, setter_at, setters, most_setters, recent}
-use Rattle.lsp_explain.specs.Marking.{next_rank}
-use Rattle.lsp_explain.specs.Marking.{ends_waiting, waiting_entry, waiting_for, last_shown}
-use Rattle.lsp_explain.specs.Marking.{finds, newer, newer_of, newest, agreed, marked, stepped}
-use Rattle.lsp_explain.specs.declared.notes.mark.Setter.{Setter}
-use Rattle.lsp_explain.specs.declared.notes.mark.Shown.{Shown}
-use Rattle.lsp_explain.specs.declared.notes.mark.Touch.{Touch}
-use Rattle.lsp_explain.specs.declared.notes.mark.Touch.TheVariants.{Reached, Compared, Awaited}
 use Rattle.lsp_replay.specs.declared.heard.EventPlace.{EventPlace}
-use Rattle.lsp_explain.proofs.LastOnes.{last_behind_all}
-
--- ---- the messages that set versions
-
-any-last : {A : Type 0} (p : A → Bool) (xs : List A) (x : A)
-    → list_any p (xs ++ x ∷ []) ≡ (list_any p xs || p x)
-any-last p xs x = list_any-append p xs (x ∷ []) ∙ by_tests (list_any p xs) (p x)
-  where
-    by_tests : (a b : Bool) → (a || (b || false)) ≡ (a || b)
-    by_tests true b = refl
-    by_tests false true = refl
-    by_tests false false = refl
-
-or_none : (b : Bool) → (b || false) ≡ b
-or_none true = refl
-or_none false = refl
-
-or_all : (b : Bool) → (b || true) ≡ true
-or_all true = refl
-or_all false = refl
-
--- closed, nothing stands
-standing-closed : (done : List Step) → standing (done ++ closed ∷ []) ≡ []
-standing-closed [] = refl
-standing-closed (s ∷ done) =
-    ap cut (any-last is_end (s ∷ done) closed ∙ or_all (list_any is_end (s ∷ done)))
-    ∙ standing-closed done
-  where
-    cut : Bool → List Step
-    cut b = if b then standing (done ++ closed ∷ []) else s ∷ (done ++ closed ∷ [])
-
-standing-touch : (done : List Step) (touch : Touch) (p : EventPlace) (own : ℤ)
-    → standing (done ++ touches touch p own ∷ []) ≡ standing done ++ touches touch p own ∷ []
-standing-touch [] touch p own = refl
-standing-touch (s ∷ done) touch p own =
-    ap cut (any-last is_end (s ∷ done) (touches touch p own)
-    ∙ or_none (list_any is_end (s ∷ done)))
-    ∙ ap (λ (l : List Step). if list_any is_end (s ∷ done) then l else s ∷ (done ++ touches touch p
-    own ∷ [])) (standing-touch done touch p own)
-    ∙ by_cut (list_any is_end (s ∷ done))
-  where
-    cut : Bool → List Step
-    cut b =
-        if b then standing (done ++ touches touch p own ∷ []) else s ∷ (done ++ touches touch p
-        own ∷ [])
-
-    by_cut : (b : Bool)
-        → (if b then standing done ++ touches touch p own ∷ [] else s ∷ (done ++ touches touch p
-        own ∷ []))
-        ≡ (if b then standing done else s ∷ done) ++ touches touch p own ∷ []
-    by_cut true = refl
-    by_cut false = refl
-
--- those that an opening had, with one step more
-setters_with : (done : List Step) (touch : Touch) (p : EventPlace) (own : ℤ)
-    → setters (done ++ touches touch p own ∷ [])
-    ≡ setters done ++ cons_option (setter_at (standing done) (touches touch p own)) []
-setters_with done touch p own =
-    ap (each_of setter_at) (standing-touch done touch p own)
-    ∙ each_of-snoc setter_at (standing done) (touches touch p own)
-
-recent-kept : (done : List Step) (touch : Touch) (p : EventPlace) (own : ℤ)
-    → setter_at (standing done) (touches touch p own) ≡ None
-    → recent (done ++ touches touch p own ∷ []) ≡ recent done
-recent-kept done touch p own none =
-    ap (last_ones most_setters) (setters_with done touch p own
-    ∙ ap (λ (o : Option Setter). setters done ++ cons_option o []) none
-    ∙ append-nil (setters done))
-
--- how many there are
-count-more : (xs : List Step) (p : EventPlace) (own : ℤ)
-    → length (filter sets (xs ++ touches Reached p own ∷ [])) ≡ length (filter sets xs) + 1
-count-more xs p own =
-    ap length (filter-append sets xs (touches Reached p own ∷ []))
-    ∙ length-append (filter sets xs) (touches Reached p own ∷ [])
-
-rank-more : (xs : List Step) (p : EventPlace) (own : ℤ)
-    → rank_after (xs ++ touches Reached p own ∷ []) ≡ next_rank (rank_after xs)
-rank-more xs p own =
-    ap capped (count-more xs p own) ∙ sym (capped-add (length (filter sets xs)) 1)
-
-rank-same : (done : List Step) (touch : Touch) (p : EventPlace) (own : ℤ)
-    → sets (touches touch p own) ≡ false
-    → rank_after (standing (done ++ touches touch p own ∷ [])) ≡ rank_after (standing done)
-rank-same done touch p own none =
-    ap rank_after (standing-touch done touch p own)
-    ∙ ap (λ (l : List Step). capped (length l))
-    (filter-append sets (standing done) (touches touch p own ∷ [])
-    ∙ ap (λ (b : Bool). filter sets (standing done) ++ (if b then touches touch p own ∷ [] else []))
-    none
-    ∙ append-nil (filter sets (standing done)))
-
--- one more sets a version
-recent-more : (done : List Step) (p : EventPlace) (own : ℤ)
-    → recent (done ++ touches Reached p own ∷ [])
-    ≡ with_room most_setters (recent done) ++ record {
-      place = p;
-      version = own;
-      rank = next_rank
-          (rank_after (standing done));
-    } ∷ []
-recent-more done p own =
-    ap (last_ones most_setters) (setters_with done Reached p own)
-    ∙ last_behind_all most_setters (setters done) _ (omega arith)
-    ∙ ap (λ (r : ℕ). with_room most_setters (recent done) ++ record {
-      place = p;
-      version = own;
-      rank = r;
-    } ∷ []) (rank-more (standing done) p own)
+use Rattle.lsp_survey.specs.Notes.{held_by}
+use Rattle.lsp_survey.proofs.Noting.{PutsUnder}
+use Rattle.lsp_explain.specs.History.{KeptCall, is_closing, kept_call, last_ones, since_last}
+use Rattle.lsp_explain.specs.History.{with_room}
+use Rattle.lsp_explain.specs.Marking.{agreed, at_version, ends_waiting, found_at, last_shown}
+use Rattle.lsp_explain.specs.Marking.{marked, most_setters, newer_of, next_rank, rank_after}
+use Rattle.lsp_explain.specs.Marking.{reached, recent, setter_at, setters, stepped, waiting_at}
+use Rattle.lsp_explain.specs.Marking.{waiting_for, Marked, closes, is_about, unmarked, MarkedBy}
+use Rattle.lsp_explain.specs.Marking.{StepsOn, mark_view, marked_in}
+use Rattle.lsp_explain.specs.declared.notes.mark.VersionEvent.{VersionEvent}
+use Rattle.lsp_explain.specs.declared.notes.step.Step.{Step}
+use Rattle.lsp_explain.specs.declared.notes.step.Step.TheVariants.{Reaches, Closes, Shows}
+use Rattle.lsp_explain.proofs.History.{last_behind_all, since_last-push}
+use Rattle.lsp_explain.specs.declared.notes.mark.Mark.{Mark}
 
 -- ---- the equal snapshot of the greatest version
 
-newer-assoc : (a b c : Shown) → newer a (newer b c) ≡ newer (newer a b) c
-newer-assoc a b c = by_tests (int_lt c.version b.version) refl (int_lt b.version a.version) refl
+newer_none : (best : Option VersionEvent) → newer_of best None ≡ best
+newer_none None = refl
+newer_none (Some s) = refl
+
+agreed-push : (done : List KeptCall) (k : KeptCall)
+    → agreed (done ++ k ∷ []) ≡ newer_of (agreed done) (found_at done k)
+agreed-push done k =
+    ap newest (each_of-snoc found_at done k) ∙ by_one (each_of found_at done) (found_at done k)
   where
-    by_tests : (x : Bool) → int_lt c.version b.version ≡ x → (y : Bool)
-        → int_lt b.version a.version ≡ y
-        → newer a (newer b c) ≡ newer (newer a b) c
-    by_tests true cb true ba =
-        let ca : int_lt c.version a.version ≡ true = grind (arith, ints) in
-        rw (cb, ba, ca) refl
-    by_tests true cb false ba = rw (cb, ba, cb) refl
-    by_tests false cb true ba = rw (cb, ba) refl
-    by_tests false cb false ba =
-        let ca : int_lt c.version a.version ≡ false = grind (arith, ints) in
-        rw (cb, ba, ca, cb) refl
+    newest : List VersionEvent → Option VersionEvent
+    newest found = fold (λ best s. newer_of best (Some s)) None found
 
-newer_of-assoc : (a b : Option Shown) (c : Shown)
-    → newer_of a (newer_of b (Some c)) ≡ newer_of (newer_of a b) (Some c)
-newer_of-assoc None b c = refl
-newer_of-assoc (Some a) None c = refl
-newer_of-assoc (Some a) (Some b) c = ap (λ (s : Shown). Some s) (newer-assoc a b c)
+    by_one : (found : List VersionEvent) (o : Option VersionEvent)
+        → newest (found ++ cons_option o []) ≡ newer_of (newest found) o
+    by_one found None = ap newest (append-nil found) ∙ sym (newer_none (newest found))
+    by_one found (Some s) = fold_push (λ best s. newer_of best (Some s)) None found s
 
--- nothing is left
-newest-none : (xs : List (Option Shown)) → newest (xs ++ None ∷ []) ≡ None
-newest-none [] = refl
-newest-none (x ∷ xs) = ap cut (any-last is_none xs None ∙ by_test (list_any is_none xs))
-    ∙ newest-none xs
-  where
-    cut : Bool → Option Shown
-    cut b = if b then newest (xs ++ None ∷ []) else newer_of x (newest (xs ++ None ∷ []))
+-- ---- a message that sets a version
 
-    by_test : (a : Bool) → (a || true) ≡ true
-    by_test true = refl
-    by_test false = refl
+module _ (done : List KeptCall) (uri : List ℕ) (p : EventPlace) (own : ℤ) (first : Bool) where
+  abbrev setting : KeptCall
+  setting = kept_call uri p (Reaches own first)
 
-newest-some : (xs : List (Option Shown)) (s : Shown)
-    → newest (xs ++ Some s ∷ []) ≡ newer_of (newest xs) (Some s)
-newest-some [] s = refl
-newest-some (x ∷ xs) s =
-    ap cut (any-last is_none xs (Some s) ∙ by_test (list_any is_none xs))
-    ∙ ap under (newest-some xs s)
-    ∙ by_cut (list_any is_none xs)
-  where
-    cut : Bool → Option Shown
-    cut b = if b then newest (xs ++ Some s ∷ []) else newer_of x (newest (xs ++ Some s ∷ []))
+  rank-more : rank_after (done ++ setting ∷ []) ≡ next_rank (rank_after done)
+  rank-more =
+      ap (λ (l : List ℤ). capped (length l))
+      (filter_map-append (λ (k : KeptCall). reached k.step) done (setting ∷ []))
+      ∙ ap capped (length_push (filter_map (λ (k : KeptCall). reached k.step) done) own)
+      ∙ sym (capped-add (length (filter_map (λ (k : KeptCall). reached k.step) done)) 1)
 
-    under : Option Shown → Option Shown
-    under o = if list_any is_none xs then o else newer_of x o
+  recent-more : recent (done ++ setting ∷ [])
+      ≡ with_room most_setters (recent done) ++ at_version (next_rank (rank_after done)) p own ∷ []
+  recent-more =
+      ap (last_ones most_setters) (each_of-snoc setter_at done setting)
+      ∙ last_behind_all most_setters (setters done)
+      (at_version (rank_after (done ++ setting ∷ [])) p own) (omega arith)
+      ∙ ap (λ (r : ℕ). with_room most_setters (recent done) ++ at_version r p own ∷ []) rank-more
 
-    by_test : (a : Bool) → (a || false) ≡ a
-    by_test true = refl
-    by_test false = refl
+  -- those of a greater version wait on
+  waits_above : (number : ℤ) → waiting_for number (done ++ setting ∷ [])
+      ≡ (if int_lt own number then waiting_for number done else [])
+  waits_above number =
+      ap (filter_map (waiting_at number)) (since_last-push (ends_waiting number) done setting)
+      ∙ by_test (int_lt own number)
+    where
+      by_test : (b : Bool)
+          → filter_map (waiting_at number) (if not b then [] else
+          since_last (ends_waiting number) done ++ setting ∷ [])
+          ≡ (if b then waiting_for number done else [])
+      by_test true =
+          filter_map-append (waiting_at number) (since_last (ends_waiting number) done)
+          (setting ∷ [])
+          ∙ append-nil (waiting_for number done)
+      by_test false = refl
 
-    by_cut : (b : Bool)
-        → (if b then newer_of (newest xs) (Some s) else newer_of x (newer_of (newest xs) (Some s)))
-        ≡ newer_of (if b then newest xs else newer_of x (newest xs)) (Some s)
-    by_cut true = refl
-    by_cut false = newer_of-assoc x (newest xs) s
+  reached-push : marked (done ++ setting ∷ []) ≡ stepped p (Reaches own first) (marked done)
+  reached-push = λ i. record {
+    setters = recent-more i;
+    rank = rank-more i;
+    agreed = (agreed-push done setting
+        ∙ ap (λ (r : ℕ). newer_of (agreed done) (last_shown own r (waiting_for own done)))
+        rank-more) i;
+    waiting = λ number. waits_above number i;
+  }
 
--- what one step more makes of it
-abbrev pub newest_with : Option (Option Shown) → Option Shown → Option Shown
-newest_with None o = o
-newest_with (Some None) o = None
-newest_with (Some (Some s)) o = newer_of o (Some s)
+-- ---- a snapshot
 
-newest-push : (xs : List (Option Shown)) (found : Option (Option Shown))
-    → newest (xs ++ cons_option found []) ≡ newest_with found (newest xs)
-newest-push xs None = ap newest (append-nil xs)
-newest-push xs (Some None) = newest-none xs
-newest-push xs (Some (Some s)) = newest-some xs s
+module _ (done : List KeptCall) (uri : List ℕ) (p : EventPlace) (own : ℤ) (answer : Match) where
+  abbrev showing : KeptCall
+  showing = kept_call uri p (Shows own answer)
 
-pub agreed-push : (done : List Step) (step : Step)
-    → agreed (done ++ step ∷ []) ≡ newest_with (finds done step) (agreed done)
-agreed-push done step =
-    ap newest (each_of-snoc finds done step) ∙ newest-push (each_of finds done) (finds done step)
+  rank-same : rank_after (done ++ showing ∷ []) ≡ rank_after done
+  rank-same = ap (λ (l : List ℤ). capped (length l))
+      (filter_map-append (λ (k : KeptCall). reached k.step) done (showing ∷ [])
+      ∙ append-nil (filter_map (λ (k : KeptCall). reached k.step) done))
 
--- what waited for the version counts, where anything did
-reached_with : (waited o : Option Shown)
-    → newest_with (option_map (λ s. Some s) waited) o ≡ newer_of o waited
-reached_with None None = refl
-reached_with None (Some s) = refl
-reached_with (Some s) o = refl
+  recent-same : recent (done ++ showing ∷ []) ≡ recent done
+  recent-same = ap (last_ones most_setters)
+      (each_of-snoc setter_at done showing ∙ append-nil (setters done))
 
--- a snapshot waits on, unless the step ends its waiting
-entry_more : (number : ℤ) (s : Step) (later : List Step) (step : Step)
-    → waiting_entry number s (later ++ step ∷ [])
-    ≡ (if ends_waiting number step then [] else waiting_entry number s later)
-entry_more number s later step = by_step s
-  where
-    none : (b : Bool) → ◌≡◌ {A = List EventPlace} [] (if b then [] else [])
-    none true = refl
-    none false = refl
+  waits-more : (number : ℤ) → waiting_for number (done ++ showing ∷ [])
+      ≡ waiting_for number done ++ filter_map (waiting_at number) (showing ∷ [])
+  waits-more number =
+      ap (filter_map (waiting_at number)) (since_last-push (ends_waiting number) done showing)
+      ∙ filter_map-append (waiting_at number) (since_last (ends_waiting number) done) (showing ∷ [])
 
-    by_tests : (a b e : Bool) (p : EventPlace)
-        → (if not (a || (b || false)) && e then p ∷ [] else [])
-        ≡ (if b then [] else (if not a && e then p ∷ [] else []))
-    by_tests true true e p = refl
-    by_tests true false e p = refl
-    by_tests false true e p = refl
-    by_tests false false e p = refl
+awaited : (b : Bool) (p : EventPlace) → cons_option (if b then Some p else None) []
+    ≡ (if b then p ∷ [] else [])
+awaited true p = refl
+awaited false p = refl
 
-    by_step : (s : Step) → waiting_entry number s (later ++ step ∷ [])
-        ≡ (if ends_waiting number step then [] else waiting_entry number s later)
-    by_step (touches Reached p own) = none (ends_waiting number step)
-    by_step (touches Compared p own) = none (ends_waiting number step)
-    by_step (touches Awaited p own) =
-        ap (λ (b : Bool). if not b && int_eq own number then p ∷ [] else [])
-        (list_any-append (ends_waiting number) later (step ∷ []))
-        ∙ by_tests (list_any (ends_waiting number) later) (ends_waiting number step)
-        (int_eq own number) p
-    by_step closed = none (ends_waiting number step)
-
-pub waiting_for-push : (number : ℤ) (done : List Step) (step : Step)
-    → waiting_for number (done ++ step ∷ [])
-    ≡ (if ends_waiting number step then [] else waiting_for number done) ++ waiting_entry number
-    step []
-waiting_for-push number [] step =
-    append-nil (waiting_entry number step []) ∙ by_test (ends_waiting number step)
-  where
-    by_test : (b : Bool) → waiting_entry number step []
-        ≡ (if b then [] else []) ++ waiting_entry number step []
-    by_test true = refl
-    by_test false = refl
-waiting_for-push number (s ∷ done) step =
-    ap (λ (l : List EventPlace). l ++ waiting_for number (done ++ step ∷ []))
-    (entry_more number s done step)
-    ∙ ap (λ (l : List EventPlace). (if ends_waiting number step then [] else waiting_entry number s
-    done) ++ l) (waiting_for-push number done step)
-    ∙ by_test (ends_waiting number step)
-  where
-    by_test : (b : Bool)
-        → (if b then [] else waiting_entry number s
-        done) ++ ((if b then [] else waiting_for number done) ++ waiting_entry number step [])
-        ≡ (if b then [] else waiting_entry number s done ++ waiting_for number
-        done) ++ waiting_entry number step []
-    by_test true = refl
-    by_test false = sym (append_assoc (waiting_entry number s done) (waiting_for number done)
-        (waiting_entry number step []))
-
--- those of a greater version wait on
-waits_above : (own number : ℤ) (waiting : List EventPlace)
-    → (if not (int_lt own number) then [] else waiting) ++ []
-    ≡ (if int_lt own number then waiting else [])
-waits_above own number waiting = by_test (int_lt own number)
-  where
-    by_test : (b : Bool) → (if not b then [] else waiting) ++ [] ≡ (if b then waiting else [])
-    by_test true = append-nil waiting
-    by_test false = refl
-
--- **what is marked of a document, with one step more**
-pub marked-push : (done : List Step) (step : Step)
-    → marked (done ++ step ∷ []) ≡ stepped step (marked done)
-marked-push done (touches Reached p own) = λ i. record {
-  setters = recent-more done p own i;
-  rank =
-      (ap rank_after (standing-touch done Reached p own) ∙ rank-more (standing done) p own) i;
-  agreed =
-      (agreed-push done (touches Reached p own)
-      ∙ reached_with (last_shown own (rank_after (standing done ++ touches Reached p own ∷ []))
-      (waiting_for own done)) (agreed done)
-      ∙ ap (λ (r : ℕ). newer_of (agreed done) (last_shown own r (waiting_for own done)))
-      (rank-more (standing done) p own)) i;
-  waiting = λ number.
-      (waiting_for-push number done (touches Reached p own)
-      ∙ waits_above own number (waiting_for number done)) i;
-}
-marked-push done (touches Compared p own) = λ i. record {
-  setters = recent-kept done Compared p own refl i;
-  rank = rank-same done Compared p own refl i;
-  agreed = agreed-push done (touches Compared p own) i;
-  waiting = λ number. (waiting_for-push number done (touches Compared p own)
+shown-push : (done : List KeptCall) (uri : List ℕ) (p : EventPlace) (own : ℤ) (answer : Match)
+    → marked (done ++ kept_call uri p (Shows own answer) ∷ [])
+    ≡ stepped p (Shows own answer) (marked done)
+shown-push done uri p own Equal = λ i. record {
+  setters = recent-same done uri p own Equal i;
+  rank = rank-same done uri p own Equal i;
+  agreed = agreed-push done (kept_call uri p (Shows own Equal)) i;
+  waiting = λ number. (waits-more done uri p own Equal number
       ∙ append-nil (waiting_for number done)) i;
 }
-marked-push done (touches Awaited p own) = λ i. record {
-  setters = recent-kept done Awaited p own refl i;
-  rank = rank-same done Awaited p own refl i;
-  agreed = agreed-push done (touches Awaited p own) i;
-  waiting = λ number. waiting_for-push number done (touches Awaited p own) i;
+shown-push done uri p own Waits = λ i. record {
+  setters = recent-same done uri p own Waits i;
+  rank = rank-same done uri p own Waits i;
+  agreed = (agreed-push done (kept_call uri p (Shows own Waits)) ∙ newer_none (agreed done)) i;
+  waiting = λ number. (waits-more done uri p own Waits number
+      ∙ ap (λ (l : List EventPlace). waiting_for number done ++ l) (awaited (int_eq own number) p))
+      i;
 }
-marked-push done closed = λ i. record {
-  setters = ap (λ (l : List Step). last_ones most_setters (each_of setter_at l))
-      (standing-closed done) i;
-  rank = ap rank_after (standing-closed done) i;
-  agreed = agreed-push done closed i;
-  waiting = λ number. waiting_for-push number done closed i;
+shown-push done uri p own Missed = λ i. record {
+  setters = recent-same done uri p own Missed i;
+  rank = rank-same done uri p own Missed i;
+  agreed = (agreed-push done (kept_call uri p (Shows own Missed)) ∙ newer_none (agreed done)) i;
+  waiting = λ number. (waits-more done uri p own Missed number
+      ∙ append-nil (waiting_for number done)) i;
 }
 
--- ---- one event more
+-- **what is marked of a document, with one step more**
+pub marked-push : (done : List KeptCall) (uri : List ℕ) (p : EventPlace) (step : Step)
+    → marked (if is_closing step then [] else done ++ kept_call uri p step ∷ [])
+    ≡ stepped p step (marked done)
+marked-push done uri p (Reaches own first) = reached-push done uri p own first
+marked-push done uri p Closes = refl
+marked-push done uri p (Shows own answer) = shown-push done uri p own answer
 
-pub steps-push : (terms : Terms) (uri : List ℕ) (events : List Event) (e : Event)
-    → steps terms uri (events ++ e ∷ [])
-    ≡ steps terms uri events ++ cons_option (step_at terms uri events e) []
-steps-push terms uri events e = each_of-snoc (step_at terms uri) events e
+-- ---- the marks by URI
+
+abbrev Entries : Type 0
+Entries = List (String Global × Mark)
+
+-- ---- the marks by URI: one document
+
+chosen : (b : Bool) (o x : Option Marked)
+    → unwrap_or (if b then o else x) unmarked
+    ≡ (if b then unwrap_or o unmarked else unwrap_or x unmarked)
+chosen true o x = refl
+chosen false o x = refl
+
+-- what is put under the URI is what the step makes of it
+pub steps_on : (uri : List ℕ) (p : EventPlace) (step : Step) (o : Option Marked)
+    (old new : Entries) → PutsUnder uri o (held_by mark_view old) (held_by mark_view new)
+    → unwrap_or o unmarked ≡ stepped p step (marked_in old uri) → StepsOn uri p step old new
+steps_on uri p step o old new put is u =
+    ap (λ (x : Option Marked). unwrap_or x unmarked) (put u)
+    ∙ chosen (bytes_eq uri u) o (held_by mark_view old u)
+    ∙ by_test (bytes_eq uri u) refl
+  where
+    by_test : (b : Bool) → bytes_eq uri u ≡ b
+        → (if b then unwrap_or o unmarked else marked_in old u)
+        ≡ (if b then stepped p step (marked_in old u) else marked_in old u)
+    by_test true own = is ∙ ap (λ (x : List ℕ). stepped p step (marked_in old x)) (uri_is uri u own)
+    by_test false own = refl
+
+-- a mark that was there was made anew by the step
+pub step_there : (uri : List ℕ) (p : EventPlace) (step : Step) (was now : Mark)
+    (old new : Entries) → held_by mark_view old uri ≡ Some (mark_view was)
+    → mark_view now ≡ stepped p step (mark_view was)
+    → PutsUnder uri (Some (mark_view now)) (held_by mark_view old) (held_by mark_view new)
+    → StepsOn uri p step old new
+step_there uri p step was now old new there is put =
+    steps_on uri p step (Some (mark_view now)) old new put
+    (is ∙ ap (stepped p step) (sym (ap (λ (o : Option Marked). unwrap_or o unmarked) there)))
+
+-- a step that marks nothing
+pub none_marked : (uri : List ℕ) (p : EventPlace) (step : Step) (es : Entries)
+    → ((m : Marked) → stepped p step m ≡ m) → StepsOn uri p step es es
+none_marked uri p step es none u = by_test (bytes_eq uri u)
+  where
+    by_test : (b : Bool)
+        → marked_in es u ≡ (if b then stepped p step (marked_in es u) else marked_in es u)
+    by_test true = sym (none (marked_in es u))
+    by_test false = refl
+
+-- ---- the marks by URI: all of them
+
+-- **what is marked stands for one more kept call too**
+pub marks_more : (old new : Entries) (calls : List KeptCall) (uri : List ℕ) (p : EventPlace)
+    (step : Step) → MarkedBy old calls → StepsOn uri p step old new
+    → MarkedBy new (calls ++ kept_call uri p step ∷ [])
+marks_more old new calls uri p step are steps u =
+    steps u
+    ∙ by_test (bytes_eq uri u)
+    ∙ ap (λ (l : List KeptCall). marked (since_last closes l))
+    (sym (filter-append (is_about u) calls (kept_call uri p step ∷ [])))
+  where
+    mine : List KeptCall
+    mine = filter (is_about u) calls
+
+    by_test : (b : Bool)
+        → (if b then stepped p step (marked_in old u) else marked_in old u)
+        ≡ marked (since_last closes (mine ++ (if b then kept_call uri p step ∷ [] else [])))
+    by_test true =
+        ap (stepped p step) (are u)
+        ∙ sym (ap marked (since_last-push closes mine (kept_call uri p step))
+        ∙ marked-push (since_last closes mine) uri p step)
+    by_test false = are u
+        ∙ ap (λ (l : List KeptCall). marked (since_last closes l)) (sym (append-nil mine))

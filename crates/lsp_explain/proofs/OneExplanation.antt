@@ -4,7 +4,7 @@ use Rattle.std.specs.List.{AllByRecursion, AllZip, cons_option}
 use Rattle.std.specs.Option.{option_map}
 use Rattle.std.proofs.Common.{◌≡◌, ◌+◌, ℕ, Bool, true, false, List, [], ◌∷◌, ◌++◌, Option, Some}
 use Rattle.std.proofs.Common.{None, refl, sym, ap, subst, ◌∙◌}
-use Rattle.lsp_docs.specs.Terms.{Terms}
+use Rattle.lsp_docs.specs.Documents.{Terms}
 use Rattle.lsp_frame.specs.Bounds.{Bounds, IsInRange}
 use Rattle.lsp_frame.specs.declared.format.Format.{Format}
 use Rattle.lsp_log.specs.Log.{Record, IsLog}
@@ -27,15 +27,14 @@ use Rattle.lsp_verdict.proofs.Outcomes.{one_rest}
 use Rattle.lsp_verdict.proofs.PlacedLemmas.{one_placed}
 use Rattle.lsp_verdict.proofs.Sessions.{some_placed}
 use Rattle.lsp_facts.specs.Fact.{Fact}
-use Rattle.lsp_facts.specs.FlawFacts.{log_facts}
+use Rattle.lsp_facts.specs.EventFacts.{log_facts}
 use Rattle.lsp_facts.proofs.OneFacts.{one_facts}
 use Rattle.lsp_facts.proofs.SomeFacts.{some_facts}
-use Rattle.lsp_explain.specs.AllExplained.{all_explanation, causes, is_cause}
-use Rattle.lsp_explain.specs.Explained.{Breach, Explained, Explains, IsWritten, breach}
-use Rattle.lsp_explain.specs.Explained.{breach_at, breaches, end_explained, event_of}
-use Rattle.lsp_explain.specs.Explained.{first_breach, noted_explanation}
-use Rattle.lsp_explain.specs.ExplainLaws.{SomeExplanation, OneExplanation, SomeExplanationOfAll}
-use Rattle.lsp_explain.specs.ExplainLaws.{OneExplanationOfAll}
+use Rattle.lsp_explain.specs.Explained.{all_explanation, causes, is_cause, Breach, Explained}
+use Rattle.lsp_explain.specs.Explained.{Explains, IsWritten, breach, breach_at, breaches}
+use Rattle.lsp_explain.specs.Explained.{end_explained, event_of, first_breach, noted_explanation}
+use Rattle.lsp_explain.specs.Explained.{SomeExplanation, OneExplanation, SomeExplanationOfAll}
+use Rattle.lsp_explain.specs.Explained.{OneExplanationOfAll}
 use Rattle.lsp_explain.specs.Traced.{setter_at, traced}
 
 -- ---- an event that offends
@@ -112,17 +111,10 @@ module _ (rests : Rests) (terms : Terms) where
       (one_facts terms (kept_of terms before) b.rule (setter_at terms before b.here.note.event)
       p.facts_are.0 q.facts_are.0 rests b.here.raw b.here.note.event p.facts_are.1 q.facts_are.1)
       ∙ sym q.facts_are.2 in
-      ap (λ v. let x : Explained = record {
-        no = v;
-        event = d.event;
-        facts = d.facts;
-      } in x) (p.no_is ∙ sym q.no_is)
-      ∙ ap (λ l. let x : Explained = record {
-        no = e.no;
-        event = l;
-        facts = d.facts;
-      } in x) (p.event_is ∙ ap (λ v. event_of v b.here.raw) (p.no_is ∙ sym q.no_is) ∙ sym q.event_is)
-      ∙ ap (λ fs. let x : Explained = record { no = e.no; event = e.event; facts = fs } in x) facts
+      let no : d.no ≡ e.no = p.no_is ∙ sym q.no_is in
+      let event : d.event ≡ e.event =
+      p.event_is ∙ ap (λ v. event_of v b.here.raw) no ∙ sym q.event_is in
+      λ i. record { no = no i; event = event i; facts = facts i }
 
   one_each : (bs : List Breach) (ds es : List Explained) → AllZip (Explains rests terms) bs ds
       → AllZip (Explains rests terms) bs es → ds ≡ es
@@ -184,9 +176,8 @@ same_heard (h ∷ hs) (k ∷ ks) raws notes =
     let note : h.note ≡ k.note = cc in
     let later_raws : raws_of hs ≡ raws_of ks = cc in
     let later_notes : notes_of hs ≡ notes_of ks = cc in
-    ap (λ r. (let x : Heard = record { raw = r; note = h.note } in x) ∷ hs) raw
-    ∙ ap (λ n. (let x : Heard = record { raw = k.raw; note = n } in x) ∷ hs) note
-    ∙ ap (λ l. k ∷ l) (same_heard hs ks later_raws later_notes)
+    let later = same_heard hs ks later_raws later_notes in
+    λ i. (let x : Heard = record { raw = raw i; note = note i } in x) ∷ later i
 
 abbrev parts_of : Option Format → List Record → Option (ℕ × LogCode) → List Heard → List ℕ → List ℕ
     → Parts
@@ -215,13 +206,8 @@ one_parts limits sizes log x y p q =
     let server : x.rests.server ≡ y.rests.server =
     one_rest limits (joined Server x.records) (joined Server y.records) x.rests.server
     y.rests.server (ap (joined Server) same.1) p.server_rest q.server_rest in
-    ap (λ w. parts_of w x.records x.log_fault x.heard x.rests.editor x.rests.server) same.0
-    ∙ ap (λ w. parts_of y.format w x.log_fault x.heard x.rests.editor x.rests.server) same.1
-    ∙ ap (λ w. parts_of y.format y.records w x.heard x.rests.editor x.rests.server) same.2
-    ∙ ap (λ w. parts_of y.format y.records y.log_fault w x.rests.editor x.rests.server)
-    (same_heard x.heard y.heard raws notes)
-    ∙ ap (λ w. parts_of y.format y.records y.log_fault y.heard w x.rests.server) editor
-    ∙ ap (λ w. parts_of y.format y.records y.log_fault y.heard y.rests.editor w) server
+    let hears = same_heard x.heard y.heard raws notes in
+    λ i. parts_of (same.0 i) (same.1 i) (same.2 i) (hears i) (editor i) (server i)
 
 -- ---- what is read off them
 
@@ -252,23 +238,6 @@ ends_of completeness limits x =
 abbrev verdict_of : Completeness → Bounds → Parts → Verdict
 verdict_of completeness limits x =
     first_verdict (found_of completeness limits x) (bad_log_of x.log_fault) (sum_of limits x)
-
--- what is written of them, where each is what it comes to
-same_written : (write : List Offence → List Explained → Option Verdict → List Fact → Summary
-    → List ℕ) (found fs : List Offence) (explained es : List Explained) (bad b : Option Verdict)
-    (flaw l : List Fact) (s t : Summary)
-    → found ≡ fs → explained ≡ es → bad ≡ b → flaw ≡ l → s ≡ t
-    → write found explained bad flaw s ≡ write fs es b l t
-same_written write found fs explained es bad b flaw l s t e1 e2 e3 e4 e5 =
-    ap (λ x. write x explained bad flaw s) e1 ∙ ap (λ x. write fs x bad flaw s) e2
-    ∙ ap (λ x. write fs es x flaw s) e3 ∙ ap (λ x. write fs es b x s) e4
-    ∙ ap (write fs es b l) e5
-
-same_verdict : (found fs : List Offence) (bad b : Option Verdict) (s t : Summary) → found ≡ fs
-    → bad ≡ b → s ≡ t → first_verdict found bad s ≡ first_verdict fs b t
-same_verdict found fs bad b s t e1 e2 e3 =
-    ap (λ x. first_verdict x bad s) e1 ∙ ap (λ x. first_verdict fs x s) e2
-    ∙ ap (first_verdict fs b) e3
 
 -- ---- what is explained of them
 
@@ -325,9 +294,9 @@ module _ (pick : Terms → List Heard → List Breach) (wanted : List Explained 
         (
           i.of_events,
           i.explains,
-          e.judges ∙ same_verdict _ _ _ _ _ _ i.lists i.bad_is i.comes_to,
-          e.says ∙ same_written (write (log_terms limits i.format) i.heard) _ _ _ _ _ _ _ _ _ _
-              i.lists i.shows i.bad_is i.flaw_is i.comes_to,
+          e.judges ∙ λ x. first_verdict (i.lists x) (i.bad_is x) (i.comes_to x),
+          e.says ∙ λ x. write (log_terms limits i.format) i.heard (i.lists x) (i.shows x)
+              (i.bad_is x) (i.flaw_is x) (i.comes_to x),
         ),
       )
 

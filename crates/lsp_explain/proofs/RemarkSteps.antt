@@ -1,6 +1,6 @@
 -- What is remarkable about messages, with one message more.
 use Rattle.std.specs.Prelude.{◌⊎◌, ◌&&◌, ◌||◌, not, string_bytes, option_and_then, unwrap_or}
-use Rattle.std.specs.Prelude.{is_some, if◌then◌else◌, Result, Ok, Err, OnOk}
+use Rattle.std.specs.Prelude.{is_some, if◌then◌else◌}
 use Rattle.std.specs.List.{cons_option, filter_map, list_any}
 use Rattle.std.specs.Option.{option_or}
 use Rattle.std.specs.Str.{bytes_eq}
@@ -14,8 +14,7 @@ use Rattle.lsp_rpc.specs.Act.{Offer}
 use Rattle.lsp_rpc.specs.Message.{Message, request, notification, response, result, error}
 use Rattle.lsp_rpc.specs.Outline.{outline, without_params}
 use Rattle.lsp_session.specs.Handshake.{Settled, first_settled, is_done, offer_to, open_initializes}
-use Rattle.lsp_session.specs.Handshake.{phase, result_of, settled_among}
-use Rattle.lsp_session.specs.Handshake.{settled_at, settled_by}
+use Rattle.lsp_session.specs.Handshake.{phase, result_of, settled_among, settled_at, settled_by}
 use Rattle.lsp_session.specs.OpenInitialize.{Initialize}
 use Rattle.lsp_session.specs.Sent.{Sent, answered_from}
 use Rattle.lsp_session.proofs.Steps.{first_settled_from-push}
@@ -26,18 +25,13 @@ use Rattle.lsp_verdict.specs.Offences.{last_or}
 use Rattle.lsp_verdict.proofs.LookBackLemmas.{each_of-snoc}
 use Rattle.lsp_verdict.proofs.Offences.Steps.{last_behind}
 use Rattle.lsp_explain.specs.Asking.{Numbered, numbered_as, sents}
-use Rattle.lsp_explain.specs.Misuses.{Misused, has_method, misuse_at, misuse_in, misused_views}
-use Rattle.lsp_explain.specs.Misuses.{misuses, misuses_after, with_misuse}
-use Rattle.lsp_explain.specs.SessionRemarks.{AreRemarks, Remarked, abrupt_by}
-use Rattle.lsp_explain.specs.SessionRemarks.{older_held, older_in, older_of}
+use Rattle.lsp_explain.specs.SessionRemarks.{Misused, has_method, misuse_at, misuse_in}
+use Rattle.lsp_explain.specs.SessionRemarks.{misused_views, misuses, misuses_after, with_misuse}
+use Rattle.lsp_explain.specs.SessionRemarks.{AreRemarks, Remarked, abrupt_by, older_held, older_in}
+use Rattle.lsp_explain.specs.SessionRemarks.{older_of}
 use Rattle.lsp_replay.specs.declared.heard.EventPlace.{EventPlace}
 use Rattle.lsp_explain.specs.declared.notes.misuses.Misused as code
 use Rattle.lsp_explain.specs.declared.notes.remarks.Remarks.{Remarks}
-
-pub on_ok_four : {U E : Type 0} {P Q R S T : Type 0} (r : Result U E) → (P → Q → R → S → T)
-    → OnOk r P → OnOk r Q → OnOk r R → OnOk r S → OnOk r T
-on_ok_four (Ok u) f p q r s = f p q r s
-on_ok_four (Err e) f p q r s = tt
 
 pub filter_map-snoc : {A X : Type 0} (f : A → Option X) (xs : List A) (x : A)
     → filter_map f (xs ++ x ∷ []) ≡ filter_map f xs ++ cons_option (f x) []
@@ -53,7 +47,7 @@ held_named name [] = refl
 held_named name (x ∷ xs) =
     ap (λ b. bytes_eq (string_bytes x.method) name || b) (held_named name xs)
 
-misuse-outline : (p : EventPlace) (side : Side) (m : Message)
+pub misuse-outline : (p : EventPlace) (side : Side) (m : Message)
     → misuse_in p side m ≡ misuse_in p side (outline m)
 misuse-outline p side (request own method params) = refl
 misuse-outline p side (notification method params) = refl

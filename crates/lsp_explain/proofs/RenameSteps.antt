@@ -1,8 +1,6 @@
 -- What is noted of renamed files, with one message more.
-use Rattle.std.specs.Prelude.{◌||◌, if◌then◌else◌}
-use Rattle.std.specs.Prelude.{string_bytes, String}
+use Rattle.std.specs.Prelude.{◌||◌, if◌then◌else◌, string_bytes, String}
 use Rattle.std.specs.Global.{Global}
-use Rattle.std.specs.List.{filter_map}
 use Rattle.std.specs.Option.{option_or}
 use Rattle.std.specs.Str.{bytes_eq}
 use Rattle.std.proofs.Common.{◌≡◌, ◌<◌, ◌+◌, ℕ, Bool, true, false, List, [], ◌∷◌, ◌++◌, Option}
@@ -10,7 +8,6 @@ use Rattle.std.proofs.Common.{Some, None, refl, sym, ap, subst, ◌∙◌, appen
 use Rattle.std.proofs.Common.{codes, take, get_or, length}
 use Rattle.std.proofs.lemmas.List.{map-append, take_more}
 use Rattle.std.proofs.lemmas.List.Concat.{flat_map-append}
-use Rattle.std.proofs.lemmas.List.Elements.{filter_map-append}
 use Rattle.serde_json.specs.Data.{Data}
 use Rattle.lsp_rpc.specs.Act.{Act}
 use Rattle.lsp_rpc.specs.Message.{Message, request, notification, response, result, error}
@@ -20,17 +17,16 @@ use Rattle.lsp_rpc.specs.Reading.{Reads}
 use Rattle.lsp_session.specs.Sent.{Sent}
 use Rattle.lsp_types.specs.declared.side.Side.{Side}
 use Rattle.lsp_types.specs.declared.side.Side.TheVariants.{Editor, Server}
-use Rattle.lsp_verdict.specs.Offences.{last_or}
 use Rattle.lsp_verdict.proofs.LookBackLemmas.{first_of-snoc}
 use Rattle.lsp_replay.specs.declared.heard.EventPlace.{EventPlace}
 use Rattle.lsp_explain.specs.Asking.{Numbered, numbered_as}
-use Rattle.lsp_explain.specs.LastOnes.{last_ones}
+use Rattle.lsp_explain.specs.History.{last_ones}
 use Rattle.lsp_explain.specs.Renames.{AreRenames, Move, Moves, RenamesBy, RenamesIn, creations_in}
-use Rattle.lsp_explain.specs.Renames.{each_move, gone_by, most_moves, moves}
+use Rattle.lsp_explain.specs.Renames.{each_move, most_moves, moves}
 use Rattle.lsp_explain.specs.Renames.{moves_at, moves_by, moves_in, moves_view}
 use Rattle.lsp_explain.specs.Renames.{notifies_files, or_none, renamed_at, renamed_by, renamed_held}
 use Rattle.lsp_explain.specs.Renames.{renames, renames_in, tells_files, uris_at}
-use Rattle.lsp_explain.specs.Touched.{names_view}
+use Rattle.lsp_explain.specs.Openings.{names_view}
 use Rattle.lsp_explain.specs.declared.notes.renames.Move as held
 use Rattle.lsp_explain.specs.declared.notes.renames.Renames.{Renames}
 
@@ -80,7 +76,7 @@ renames_given params olds news is_old is_new old mid new first second =
 
 -- ---- a message that says nothing of files
 
-notifies-outline : (m : Message) → notifies_files m ≡ notifies_files (outline m)
+pub notifies-outline : (m : Message) → notifies_files m ≡ notifies_files (outline m)
 notifies-outline (request own method params) = refl
 notifies-outline (notification method params) = refl
 notifies-outline (response own (result value)) = refl
@@ -139,24 +135,6 @@ module _ (p : EventPlace) (side : Side) (bytes : List ℕ) (said : Message) (act
       moves = told_by side is more m reads;
       renamed = kept ∙ noted;
     }
-
--- ---- a URI that is gone
-
-pub last-append : {A : Type 0} (none : A) (xs ys : List A)
-    → last_or (last_or none xs) ys ≡ last_or none (xs ++ ys)
-last-append none [] ys = refl
-last-append none (x ∷ xs) ys = last-append x xs ys
-
-pub gone-append : (uri : List ℕ) (before : Bool) (first second : List held.Move)
-    → last_or (last_or before (filter_map (gone_by uri) (moves_view first)))
-    (filter_map (gone_by uri) (moves_view second))
-    ≡ last_or before (filter_map (gone_by uri) (moves_view (first ++ second)))
-gone-append uri before first second =
-    last-append before (filter_map (gone_by uri) (moves_view first))
-    (filter_map (gone_by uri) (moves_view second))
-    ∙ ap (last_or before)
-    (sym (filter_map-append (gone_by uri) (moves_view first) (moves_view second))
-    ∙ ap (filter_map (gone_by uri)) (sym (map-append _ first second)))
 
 -- ---- files one after another
 

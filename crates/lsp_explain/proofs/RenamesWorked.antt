@@ -10,7 +10,8 @@ use Rattle.lsp_types.specs.declared.side.Side.TheVariants as sides
 use Rattle.lsp_verdict.specs.declared.verdict.Who.TheVariants.{Editor}
 use Rattle.lsp_replay.specs.declared.heard.EventPlace.{EventPlace}
 use Rattle.lsp_explain.specs.Asking.{Numbered}
-use Rattle.lsp_explain.specs.Renames.{renamed, renamed_to}
+use Rattle.lsp_explain.specs.History.{on_document}
+use Rattle.lsp_explain.specs.Renames.{renamed}
 
 abbrev at : ℕ → EventPlace
 at n = record { event = n; who = Editor; number = n }
@@ -62,11 +63,11 @@ one file = item file no_items
 
 -- the first message under the old URI
 old_name : renamed (has_renamed 1 (one (from_to a b)) ∷ closes 2 a ∷ opens 3 b ∷ changes 4 a
-    ∷ changes 5 a ∷ []) ≡ Some (renamed_to (at 4) a)
+    ∷ changes 5 a ∷ []) ≡ Some (on_document a (at 4))
 old_name = refl
 
 opened_again : renamed (has_renamed 1 (one (from_to a b)) ∷ closes 2 a ∷ opens 3 a ∷ [])
-    ≡ Some (renamed_to (at 3) a)
+    ≡ Some (on_document a (at 3))
 opened_again = refl
 
 -- before the rename, and under the new URI
@@ -76,7 +77,7 @@ new_name = refl
 
 -- renamed back: now the other URI is gone
 back : renamed (has_renamed 1 (one (from_to a b)) ∷ has_renamed 2 (one (from_to b a))
-    ∷ changes 3 a ∷ opens 4 b ∷ []) ≡ Some (renamed_to (at 4) b)
+    ∷ changes 3 a ∷ opens 4 b ∷ []) ≡ Some (on_document b (at 4))
 back = refl
 
 -- created again

@@ -2,7 +2,7 @@
 use Rattle.std.specs.Prelude.{chars, ℤ}
 use Rattle.std.proofs.Common.{◌≡◌, ℕ, Bor, List, Some, None, append-nil, refl, sym, ap, ◌∙◌, subst}
 use Rattle.lsp_docs.specs.Calls.{shows}
-use Rattle.lsp_docs.specs.Terms.{Terms}
+use Rattle.lsp_docs.specs.Documents.{Terms}
 use Rattle.lsp_frame.specs.Front.{header_front}
 use Rattle.lsp_replay.specs.Standing.{RefusesMessage}
 use Rattle.lsp_replay.specs.Telling.{IsSpoken, MaySpeak}
@@ -11,20 +11,16 @@ use Rattle.lsp_rpc.specs.declared.act.Spoken.{Spoken}
 use Rattle.lsp_types.specs.declared.side.Side.{Side}
 use Rattle.lsp_verdict.specs.Event.{Event, message, fault, snapshot}
 use Rattle.lsp_verdict.specs.Heard.{Rests, rest_of}
-use Rattle.lsp_verdict.specs.Lent.{raw_view}
+use Rattle.lsp_verdict.specs.Given.{raw_view}
 use Rattle.lsp_verdict.specs.Offences.{kept_of, rule_at}
 use Rattle.lsp_verdict.specs.Placed.{Raw, Reads, broken, content, show}
 use Rattle.lsp_verdict.specs.declared.raw.Raw as lent
 use Rattle.lsp_verdict.specs.declared.raw.Raw.TheVariants as lents
 use Rattle.lsp_verdict.specs.declared.verdict.Who.{Who}
-use Rattle.lsp_facts.specs.ContentFacts.{content_facts}
-use Rattle.lsp_facts.specs.EventFacts.{AreCallFacts, AreFacts, AreMessageFacts}
-use Rattle.lsp_facts.specs.Fact.{Fact}
-use Rattle.lsp_facts.specs.FlawFacts.{frame_facts}
-use Rattle.lsp_facts.specs.Lines.{bare_event, content_event, event_line, message_event}
-use Rattle.lsp_facts.specs.MessageFacts.{front_facts}
-use Rattle.lsp_facts.proofs.Naming.{message_named}
-use Rattle.lsp_facts.proofs.Spoken.{same_line}
+use Rattle.lsp_facts.specs.EventFacts.{content_facts, AreCallFacts, AreFacts, AreMessageFacts}
+use Rattle.lsp_facts.specs.EventFacts.{frame_facts, front_facts}
+use Rattle.lsp_facts.specs.Fact.{Fact, bare_event, content_event, event_line, message_event}
+use Rattle.lsp_facts.proofs.SomeFacts.{message_named, same_line}
 use Rattle.lsp_explain.specs.Traced.{AreTraced}
 
 module _ (terms : Terms) (before : List Event) (rule : ℕ) where

@@ -1,10 +1,9 @@
 -- What is noted of requests and phases, with one event more.
-use Rattle.std.specs.Prelude.{◌⊎◌, option_map, option_to_list, unwrap_or, is_some}
-use Rattle.std.specs.Prelude.{if◌then◌else◌}
+use Rattle.std.specs.Prelude.{◌⊎◌, option_map, option_to_list, unwrap_or, is_some, if◌then◌else◌}
 use Rattle.std.specs.List.{cons_option, filter_map}
 use Rattle.std.proofs.Common.{◌≡◌, ℕ, List, [], ◌∷◌, ◌++◌, Option, Some, None, refl, sym, ap, ◌∙◌}
 use Rattle.std.proofs.Common.{subst, append-nil}
-use Rattle.lsp_docs.specs.Terms.{Terms}
+use Rattle.lsp_docs.specs.Documents.{Terms}
 use Rattle.lsp_rpc.specs.Act.{Act}
 use Rattle.lsp_rpc.specs.Ident.{Ident, id_view}
 use Rattle.lsp_rpc.specs.Message.{Message, request, notification, response, result, error}
@@ -18,23 +17,24 @@ use Rattle.lsp_types.specs.declared.side.Side.{Side}
 use Rattle.lsp_types.specs.declared.side.Side.TheVariants.{Editor, Server}
 use Rattle.lsp_verdict.specs.Event.{Event, message, sent_in, sent_of}
 use Rattle.lsp_verdict.specs.LookBack.{each_from, each_of}
-use Rattle.lsp_verdict.specs.OffenceLaws.{kept_at}
+use Rattle.lsp_verdict.specs.Laws.{kept_at}
 use Rattle.lsp_verdict.specs.Offences.{kept_of, last_or, rule_at}
 use Rattle.lsp_verdict.proofs.LookBackLemmas.{each_of-snoc}
 use Rattle.lsp_verdict.proofs.Offences.Offending.{kept_are_others}
 use Rattle.lsp_verdict.proofs.Offences.Steps.{last_behind}
-use Rattle.lsp_explain.specs.Asking.{Numbered, Reply, numbered_as, numbered_by, numbered_at}
-use Rattle.lsp_explain.specs.Asking.{numbered, sents, asks, asks_by, reply_by, reply_of, replies}
-use Rattle.lsp_explain.specs.Asking.{most_replies, leads, leads_by}
-use Rattle.lsp_explain.specs.LastOnes.{last_ones}
-use Rattle.lsp_replay.specs.Places.{place_of}
+use Rattle.lsp_explain.specs.Asking.{Numbered, Reply, asks, asks_by, leads, leads_by, message_kept}
+use Rattle.lsp_explain.specs.Asking.{most_replies, numbered, numbered_as, replies, reply_by, reply_of}
+use Rattle.lsp_explain.specs.Asking.{sents}
+use Rattle.lsp_explain.specs.History.{kept_as, last_ones}
+use Rattle.lsp_replay.specs.Lines.{place_of}
 use Rattle.lsp_explain.specs.SessionRemarks.{Remarked}
-use Rattle.lsp_explain.specs.Renames.{RenamesBy}
-use Rattle.lsp_explain.specs.SessionNoting.{place_in, Exchanges, IsExchange, SaysOn, SessionStands}
-use Rattle.lsp_explain.specs.SessionNoting.{AreNotes}
+use Rattle.lsp_explain.specs.Renames.{RenamesBy, RenamesIn}
+use Rattle.lsp_explain.specs.SessionNoting.{AreNotes, Exchanges, IsExchange, Says, SessionStands}
+use Rattle.lsp_explain.specs.SessionNoting.{place_in}
 use Rattle.lsp_explain.specs.declared.notes.exchange.Exchange.{Exchange}
 use Rattle.lsp_replay.specs.declared.heard.EventPlace.{EventPlace}
 use Rattle.lsp_explain.specs.declared.notes.session_notes.SessionNotes.{SessionNotes}
+use Rattle.lsp_explain.proofs.History.{kept_more, refused_more}
 use Rattle.lsp_explain.proofs.RemarkSteps.{filter_map-snoc, remarked}
 use Rattle.lsp_explain.proofs.RenameSteps.{renames_more}
 
@@ -44,7 +44,7 @@ sent_more : (p : EventPlace) (rule : Option ℕ) (e : Event) (kept : List Event)
     (said : List Numbered)
     → sent_in kept ≡ sents said
     → sent_in (cons_option (if is_some rule then None else Some e) kept)
-    ≡ sents (cons_option (numbered_by p rule (sent_of e)) said)
+    ≡ sents (cons_option (if is_some rule then None else message_kept p [] e) said)
 sent_more p (Some rule) e kept said same = same
 sent_more p None e kept said same = by_sent (sent_of e)
   where
@@ -54,12 +54,12 @@ sent_more p None e kept said same = by_sent (sent_of e)
     by_sent (Some m) = ap (λ (ms : List Sent). m ∷ ms) same
 
 sents_from : (terms : Terms) (front xs : List Event)
-    → sent_in (each_from (kept_at terms) front xs) ≡ sents (each_from (numbered_at terms) front xs)
+    → sent_in (each_from (kept_at terms) front xs) ≡ sents (each_from (kept_as message_kept terms) front xs)
 sents_from terms front [] = refl
 sents_from terms front (e ∷ xs) =
     sent_more (place_of front e) (rule_at terms front e) e
     (each_from (kept_at terms) (front ++ e ∷ []) xs)
-    (each_from (numbered_at terms) (front ++ e ∷ []) xs) (sents_from terms (front ++ e ∷ []) xs)
+    (each_from (kept_as message_kept terms) (front ++ e ∷ []) xs) (sents_from terms (front ++ e ∷ []) xs)
 
 -- without their numbers they are those of the events that are kept
 pub sents-numbered : (terms : Terms) (events : List Event)
@@ -69,14 +69,14 @@ sents-numbered terms events =
 
 -- ---- what a message says of requests, apart from its params and its result
 
-asks-outline : (side : Side) (id : Ident) (p : EventPlace) (sender : Side) (m : Message)
+pub asks-outline : (side : Side) (id : Ident) (p : EventPlace) (sender : Side) (m : Message)
     → asks side id p sender m ≡ asks side id p sender (outline m)
 asks-outline side id p sender (request own method params) = refl
 asks-outline side id p sender (notification method params) = refl
 asks-outline side id p sender (response own (result value)) = refl
 asks-outline side id p sender (response own (error code)) = refl
 
-answered-outline : (side sender : Side) (m : Message)
+pub answered-outline : (side sender : Side) (m : Message)
     → answered_from side sender m ≡ answered_from side sender (outline m)
 answered-outline side sender (request own method params) = refl
 answered-outline side sender (notification method params) = refl
@@ -125,39 +125,21 @@ module _ (side : Side) (p : EventPlace) (m : Sent) (said : Message)
 
 -- ---- one event more
 
-numbered-push : (terms : Terms) (events : List Event) (e : Event)
-    → numbered terms (events ++ e ∷ [])
-    ≡ numbered terms events ++ cons_option (numbered_at terms events e) []
-numbered-push terms events e = each_of-snoc (numbered_at terms) events e
-
--- it says nothing
-said_none : (terms : Terms) (s : SessionNotes) (before : List Event) (e : Event)
-    → AreNotes terms s before → numbered_at terms before e ≡ None
-    → AreNotes terms s (before ++ e ∷ [])
-said_none terms s before e are none =
-    subst (SessionStands s) (sym (numbered-push terms before e
-    ∙ ap (λ (o : Option Numbered). numbered terms before ++ cons_option o []) none
-    ∙ append-nil (numbered terms before))) are
-
 -- **an event that offends leaves all notes**
 pub refused_unsaid : (terms : Terms) (s : SessionNotes) (before : List Event) (e : Event) (rule : ℕ)
     → AreNotes terms s before → rule_at terms before e ≡ Some rule
     → AreNotes terms s (before ++ e ∷ [])
 refused_unsaid terms s before e rule are is =
-    said_none terms s before e are
-    (ap (λ (o : Option ℕ). numbered_by (place_of before e) o (sent_of e)) is)
+    subst (SessionStands s) (sym (refused_more message_kept terms before e rule is)) are
 
--- so does one that is no message
+-- so does one that is kept and no message
 pub other_unsaid : (terms : Terms) (s : SessionNotes) (before : List Event) (e : Event)
-    → AreNotes terms s before → sent_of e ≡ None → AreNotes terms s (before ++ e ∷ [])
-other_unsaid terms s before e are is =
-    said_none terms s before e are
-    (ap (numbered_by (place_of before e) (rule_at terms before e)) is
-    ∙ by_rule (rule_at terms before e))
-  where
-    by_rule : (o : Option ℕ) → numbered_by (place_of before e) o None ≡ None
-    by_rule None = refl
-    by_rule (Some rule) = refl
+    → AreNotes terms s before → rule_at terms before e ≡ None → sent_of e ≡ None
+    → AreNotes terms s (before ++ e ∷ [])
+other_unsaid terms s before e are kept is =
+    subst (SessionStands s) (sym (kept_more message_kept terms before e (place_of before e) None kept
+    refl (ap (option_map (numbered_as (place_of before e))) is)
+    ∙ append-nil (numbered terms before))) are
 
 -- **a message that is kept**, which this content is
 pub message_noted : (terms : Terms) (old new : SessionNotes) (before : List Event) (m : Sent)
@@ -165,10 +147,12 @@ pub message_noted : (terms : Terms) (old new : SessionNotes) (before : List Even
     → rule_at terms before (message m) ≡ None
     → p ≡ place_of before (message m) → Reads bytes m.message → outline m.message ≡ outline said
     → m.act ≡ act → HasValue (kept_of terms before) said m.message
-    → SaysOn p m.side bytes said act (sent_in (kept_of terms (before ++ message m ∷ []))) old new
+    → Says p m.side said (phase (sent_in (kept_of terms (before ++ message m ∷ []))))
+    (is_done (sent_in (kept_of terms (before ++ message m ∷ [])))) old new
+    → RenamesIn p m.side bytes said act old.renames new.renames
     → AreNotes terms new (before ++ message m ∷ [])
 message_noted terms old new before m bytes said act p are kept number reads same means has_value
-    says =
+    says renamed =
     subst (SessionStands new) (sym whole) (record {
       editor = exchanged Editor p m said same old.editor new.editor ms are.editor says.editor;
       server = exchanged Server p m said same old.server new.server ms are.server says.server;
@@ -183,19 +167,15 @@ message_noted terms old new before m bytes said act p are kept number reads same
           (is_done sents_behind) old.remarks new.remarks) are.phase_is more);
       renames_are = renames_more p m ms old.renames new.renames are.renames_are
           (subst (λ (a : Act). RenamesBy p m.side m.message a old.renames new.renames) (sym means)
-          (says.renamed m.message reads same));
+          (renamed m.message reads same));
     })
   where
     ms : List Numbered
     ms = numbered terms before
 
     whole : numbered terms (before ++ message m ∷ []) ≡ ms ++ numbered_as p m ∷ []
-    whole =
-        numbered-push terms before (message m)
-        ∙ ap (λ (o : Option ℕ). ms ++ cons_option
-        (numbered_by (place_of before (message m)) o (Some m)) [])
-        kept
-        ∙ ap (λ (k : EventPlace). ms ++ numbered_as k m ∷ []) (sym number)
+    whole = kept_more message_kept terms before (message m) p (Some (numbered_as p m)) kept number
+        refl
 
     sents_behind : List Sent
     sents_behind = sents (ms ++ numbered_as p m ∷ [])

@@ -1,31 +1,35 @@
--- A message that says something of a document is sent as LSP 3.17 defines it.
+-- A message that says something of a document is a notification, sent as LSP 3.17 defines it, and
+-- says nothing of files.
 use Rattle.std.specs.Prelude.{codes, if◌then◌else◌, option_and_then, option_map}
 use Rattle.std.specs.Str.{bytes_eq}
 use Rattle.std.proofs.Common.{◌≡◌, ◌⊎◌, ◌∙◌, ℕ, Bool, true, false, List, [], ◌∷◌, Option, Some, None}
 use Rattle.std.proofs.Common.{inl, inr, refl, sym, ap, subst}
 use Rattle.std.proofs.lemmas.Slice.Eq.{bytes_eq-Decides}
 use Rattle.serde_json.specs.Data.{Data}
+use Rattle.lsp_docs.specs.Calls.{Call}
 use Rattle.lsp_rpc.specs.Act.{Act, cancel, early, exit, initialized, other, progress}
 use Rattle.lsp_rpc.specs.Ident.{Ident}
-use Rattle.lsp_rpc.specs.Message.{Message, notification, request, response}
+use Rattle.lsp_rpc.specs.Message.{Message, notification}
 use Rattle.lsp_rpc.specs.Outline.{outline}
 use Rattle.lsp_rpc.specs.Params.{Row, act_at, act_by, cancel_at, notifications, progress_at}
 use Rattle.lsp_rpc.specs.View.{act_view, message_view}
 use Rattle.lsp_rpc.specs.declared.act.Spoken.{Spoken}
 use Rattle.lsp_session.specs.Sent.{Sent}
+use Rattle.lsp_types.specs.declared.change.SyncKind.{SyncKind}
+use Rattle.lsp_types.specs.declared.position.Encoding.{Encoding}
 use Rattle.lsp_types.specs.declared.side.Side.{Side}
 use Rattle.lsp_types.specs.declared.side.Side.TheVariants.{Editor, Server}
 use Rattle.lsp_replay.specs.Telling.{IsSpoken}
-use Rattle.lsp_replay.specs.declared.heard.EventPlace.{EventPlace}
-use Rattle.lsp_verdict.specs.Event.{Event}
+use Rattle.lsp_verdict.specs.Event.{call_of, Event}
 use Rattle.lsp_verdict.specs.Placed.{Reads, content}
 use Rattle.lsp_verdict.proofs.Offences.Quiet.{IsNotified, IsPlain, is_notified}
-use Rattle.lsp_explain.specs.Misuses.{IsStandard, misuse_in, misused, notification_misuse}
-use Rattle.lsp_explain.specs.StandardMethods.{use_among, use_of}
+use Rattle.lsp_explain.specs.SessionRemarks.{notification_misuse, use_among, use_of}
+use Rattle.lsp_explain.specs.Renames.{is_on_files}
 
--- a row whose messages say nothing of a document, or whose method has no misuse
+-- a row whose messages say nothing of a document, or whose method has no misuse and is none on files
 abbrev IsRight : Side → List ℕ → Act → Type 0
-IsRight side method act = IsPlain act ⊎ (notification_misuse side method ≡ None)
+IsRight side method act =
+    IsPlain act ⊎ ((notification_misuse side method ≡ None) × (is_on_files method ≡ false))
 
 abbrev AreRight : Side → List Row → Type 0
 AreRight side [] = Unit {0}
@@ -93,12 +97,12 @@ right_rows Editor = (
   (
     λ params act e. inl (plain exit act (λ enc kind. refl) e),
     (
-      λ params act e. inr open_right,
+      λ params act e. inr (open_right, refl),
       (
-        λ params act e. inr change_right,
+        λ params act e. inr (change_right, refl),
         (
-          λ params act e. inr close_right,
-          (λ params act e. inr save_right, (λ params act e. inl (cancels params act e), tt)),
+          λ params act e. inr (close_right, refl),
+          (λ params act e. inr (save_right, refl), (λ params act e. inl (cancels params act e), tt)),
         ),
       ),
     ),
@@ -118,22 +122,20 @@ right_rows Server = (
   ),
 )
 
--- a message that is this notification, apart from its params
-named : (method : List ℕ) (m : Message) → notification method None ≡ outline m → (side : Side)
-    → notification_misuse side method ≡ None → (p : EventPlace) → misuse_in p side m ≡ None
-named method (request id name params) same side right p = absurd (cc same)
-named method (response id reply) same side right p = refl
-named method (notification name params) same side right p =
-    let own : method ≡ name = cc same in
-    ap (option_map (misused p name)) (ap (notification_misuse side) (sym own) ∙ right)
+-- **what is heard of such a message**
+pub record IsOnDocument (side : Side) (said : Message) : Type 0 where
+  pub method : List ℕ
+  pub is : outline said ≡ notification method None
+  pub standard : notification_misuse side method ≡ None
+  pub no_files : is_on_files method ≡ false
 
--- **so is one that was heard**
-pub spoken_standard : (kept : List Event) (event : Event) (side : Side) (bytes : List ℕ) (s : Spoken)
+pub on_document_heard : (kept : List Event) (event : Event) (side : Side) (bytes : List ℕ)
+    (s : Spoken) (enc : Encoding) (kind : SyncKind) (call : Call)
     → Reads (content side bytes) event → IsSpoken kept event side s
-    → IsStandard side (message_view s.message) (act_view s.act)
-spoken_standard kept event side bytes s reads spoken enc kind call says p =
+    → call_of enc kind (act_view s.act) ≡ Some call → IsOnDocument side (message_view s.message)
+on_document_heard kept event side bytes s enc kind call reads spoken says =
     by_row (right_by side (notifications side) (right_rows side) told.method told.params
-    (act_view s.act) named_so)
+    (act_view s.act) (ap (act_at side) (sym told.is) ∙ here))
   where
     sent : Sent
     sent = spoken.sent
@@ -145,14 +147,12 @@ spoken_standard kept event side bytes s reads spoken enc kind call says p =
     told : IsNotified sent.message
     told = is_notified side sent.message (act_view s.act) enc kind call here says
 
-    named_so : act_by (notifications side) told.method told.params ≡ Some (act_view s.act)
-    named_so = ap (act_at side) (sym told.is) ∙ here
-
-    same : notification told.method None ≡ outline (message_view s.message)
-    same = ap outline (sym told.is) ∙ spoken.says
-
-    by_row : IsRight side told.method (act_view s.act)
-        → misuse_in p side (message_view s.message) ≡ None
-    by_row (inr right) = named told.method (message_view s.message) same side right p
+    by_row : IsRight side told.method (act_view s.act) → IsOnDocument side (message_view s.message)
+    by_row (inr right) = record {
+      method = told.method;
+      is = sym spoken.says ∙ ap outline told.is;
+      standard = right.0;
+      no_files = right.1;
+    }
     by_row (inl is_plain) =
         let none : None ≡ Some call = sym (is_plain enc kind) ∙ says in absurd (cc none)

@@ -3,8 +3,9 @@ use Rattle.std.proofs.Common.{◌≡◌, ℕ, ◌+◌, ◌<◌, ◌^◌, Bool, L
 use Rattle.std.proofs.Common.{sym, ap, ◌∙◌, subst, arith, append_assoc}
 use Rattle.std.proofs.lemmas.List.{length-map}
 use Rattle.lsp_docs.specs.State as docs
-use Rattle.lsp_docs.specs.Terms.{Terms}
-use Rattle.lsp_replay.specs.Places.{place_of}
+use Rattle.lsp_docs.specs.Documents.{Terms}
+use Rattle.lsp_docs.specs.declared.tried.Tried.{Tried}
+use Rattle.lsp_replay.specs.Lines.{place_of}
 use Rattle.lsp_replay.specs.Standing.{Holds}
 use Rattle.lsp_replay.specs.Streams.{decoder_of}
 use Rattle.lsp_replay.specs.Telling.{FitsRests, IsSeen, ShowsFault, Stood, rule_of}
@@ -14,6 +15,7 @@ use Rattle.lsp_replay.specs.declared.seen.Seen.TheVariants as variants
 use Rattle.lsp_replay.proofs.Seeing.{events-push}
 use Rattle.lsp_rpc.specs.declared.act.Spoken.{Spoken}
 use Rattle.lsp_session.specs.State as session
+use Rattle.lsp_text.specs.Counted.{Counted}
 use Rattle.lsp_verdict.specs.Event.{Event}
 use Rattle.lsp_verdict.specs.Given.{offence_view}
 use Rattle.lsp_types.specs.declared.side.Side.{Side}
@@ -32,13 +34,11 @@ use Rattle.lsp_verdict.proofs.EventCounts.{count_few}
 use Rattle.lsp_verdict.proofs.ExactCounts.{capped_is}
 use Rattle.lsp_verdict.proofs.Offences.Steps.{kept-refused}
 use Rattle.lsp_facts.specs.EventFacts.{AreFacts}
-use Rattle.lsp_facts.specs.Fact.{Fact}
-use Rattle.lsp_facts.specs.Lines.{detail_lines, event_line}
-use Rattle.lsp_explain.specs.Accounts.{TellsOf, rests_held}
+use Rattle.lsp_facts.specs.Fact.{Fact, detail_lines, event_line}
+use Rattle.lsp_explain.specs.ExplainRuns.{TellsOf, rests_held}
 use Rattle.lsp_explain.specs.Explained.{place_in}
-use Rattle.lsp_explain.specs.Standing.{StandsAfter}
+use Rattle.lsp_explain.specs.Trails.{StandsAfter, IsTrail}
 use Rattle.lsp_explain.specs.Traced.{AreTraced}
-use Rattle.lsp_explain.specs.Trails.{IsTrail}
 use Rattle.lsp_explain.specs.declared.trail.Past.{Past}
 
 -- what the reader of a log holds of a side's bytes
@@ -61,7 +61,7 @@ few_before before few = omega (
 )
 
 -- an offence by this rule at the last event that was counted
-pub by_rule_of : (o : Offence) (before : List Event) (event : Event) (rule : ℕ) (late : Bool)
+by_rule_of : (o : Offence) (before : List Event) (event : Event) (rule : ℕ) (late : Bool)
     → offence_view o ≡ record { no = no_by before event rule; follows = late }
     → (o.rule ≡ rule) × ((offence_view o).no ≡ no_by before event o.rule)
 by_rule_of o before event rule late is =
@@ -129,20 +129,26 @@ tells_of terms before h o raw Fits facts old mid next new raw_is no_is are first
           ∙ append_assoc old (report v) (line ++ details);
     }
 
--- what is seen of an offence is what is lent of it
-module _ (terms : Terms) (before : List Heard) (h : Heard) (s : Seen) (raw : lent.Raw) (rule : ℕ)
-    (spoken : Option (Bor Spoken)) (o : Offence) (is : s ≡ variants.Offence raw rule spoken)
-    (same : o.rule ≡ rule) where
-  pub seen_of : (m : session.State) (d : docs.State) (c : Counts) → IsSeen m d c s terms before h
-      → IsSeen m d c (variants.Offence raw o.rule spoken) terms before h
-  seen_of m d c seen = subst (λ r. IsSeen m d c (variants.Offence raw r spoken) terms before h)
-      (sym same) (subst (λ (x : Seen). IsSeen m d c x terms before h) is seen)
-
-  pub told_of : (old new : List ℕ) → TellsOf terms before h o.rule (ShowsFault raw) old new
-      → TellsOf terms before h rule (FitsRests s) old new
-  told_of old new told =
-      subst (λ (x : Seen). TellsOf terms before h rule (FitsRests x) old new) (sym is)
-      (subst (λ r. TellsOf terms before h r (ShowsFault raw) old new) same told)
+-- what is told of what is lent of an offence is told of what is seen of it
+pub told_of : (terms : Terms) (before : List Heard) (h : Heard) (s : Seen) (raw : lent.Raw)
+    (rule : ℕ) (spoken : Option (Bor Spoken)) (tried : Option (Bor (Tried Counted)))
+    (o : Offence) (late : Bool) (m : session.State) (d : docs.State) (c : Counts)
+    (old new : List ℕ) → s ≡ variants.Offence raw rule spoken tried
+    → offence_view o ≡ record {
+      no = no_by (heard_events before) h.note.event rule;
+      follows = late;
+    }
+    → IsSeen m d c s terms before h
+    → (IsSeen m d c (variants.Offence raw o.rule spoken tried) terms before h
+    → (offence_view o).no ≡ no_by (heard_events before) h.note.event o.rule
+    → TellsOf terms before h o.rule (ShowsFault raw) old new)
+    → TellsOf terms before h rule (FitsRests s) old new
+told_of terms before h s raw rule spoken tried o late m d c old new is last seen tells =
+    let named = by_rule_of o (heard_events before) h.note.event rule late last in
+    subst (λ (x : Seen). TellsOf terms before h rule (FitsRests x) old new) (sym is)
+    (subst (λ r. TellsOf terms before h r (ShowsFault raw) old new) named.0
+    (tells (subst (λ r. IsSeen m d c (variants.Offence raw r spoken tried) terms before h)
+    (sym named.0) (subst (λ (x : Seen). IsSeen m d c x terms before h) is seen)) named.1))
 
 -- what is known of the past stands for all events
 pub stands_at : (past : Past) (terms : Terms) (heard : List Heard)

@@ -4,30 +4,30 @@ use Rattle.std.proofs.Common.{◌≡◌, ◌<◌, ◌≤◌, ℕ, Bool, true, fa
 use Rattle.std.proofs.Common.{◌∙◌, arith}
 use Rattle.std.proofs.lemmas.Bool.Decides.{nat_tests}
 use Rattle.lsp_docs.specs.Calls.{uri_of}
-use Rattle.lsp_docs.specs.Terms.{Terms}
+use Rattle.lsp_docs.specs.Documents.{Terms}
 use Rattle.lsp_session.specs.Negotiation.{encoding, sync_kind}
 use Rattle.lsp_types.specs.declared.change.SyncKind.{SyncKind}
 use Rattle.lsp_types.specs.declared.change.SyncKind.TheVariants.{Nothing}
 use Rattle.lsp_types.specs.declared.position.Encoding.{Encoding}
 use Rattle.lsp_types.specs.declared.position.Encoding.TheVariants.{Utf16}
-use Rattle.lsp_verdict.specs.Calls.{call_of}
+use Rattle.lsp_verdict.specs.Event.{call_of, Event, message, sent_in}
 use Rattle.lsp_verdict.specs.Offences.{kept_of}
 use Rattle.lsp_rpc.specs.Act.{Act}
 use Rattle.lsp_rpc.specs.Message.{Message}
 use Rattle.lsp_rpc.specs.Outline.{outline}
 use Rattle.lsp_session.specs.Sent.{Sent}
 use Rattle.lsp_types.specs.declared.side.Side.{Side}
-use Rattle.lsp_verdict.specs.Event.{Event, message, sent_in}
 use Rattle.lsp_explain.specs.Asking.{numbered}
-use Rattle.lsp_explain.specs.Marking.{Step, agreed, recent}
-use Rattle.lsp_replay.specs.Places.{place_of}
+use Rattle.lsp_explain.specs.History.{KeptCall}
+use Rattle.lsp_explain.specs.Marking.{agreed, recent}
+use Rattle.lsp_replay.specs.Lines.{place_of}
 use Rattle.lsp_replay.specs.declared.heard.EventPlace.{EventPlace}
 use Rattle.lsp_facts.specs.Fact.{Fact, cited}
-use Rattle.lsp_facts.specs.MessageFacts.{id_in}
+use Rattle.lsp_facts.specs.EventFacts.{id_in}
 use Rattle.lsp_explain.specs.Traced.{act_call, apart_facts, document_traced, message_traced}
 use Rattle.lsp_explain.specs.Traced.{session_trace, setter_at, setter_of, traced}
 use Rattle.lsp_explain.specs.declared.suspects.Until.{Until}
-use Rattle.lsp_facts.proofs.Spoken.{id_in-outline}
+use Rattle.lsp_facts.proofs.SomeFacts.{id_in-outline}
 
 module _ (terms : Terms) (before : List Event) (place : EventPlace) (rule : ℕ) (m : Sent)
     (side : Side) (said : Message) (act : Act) (by : m.side ≡ side)
@@ -70,7 +70,7 @@ same_setter terms before m act uri means is =
     ∙ ap (λ a. option_map uri_of (call_of enc kind a)) (sym means))
 
 -- under another rule than 702 no snapshot that differs is named
-pub names_no_texts : (done : List Step) (ps qs : List EventPlace) (until : Until) (rule : ℕ)
+pub names_no_texts : (done : List KeptCall) (ps qs : List EventPlace) (until : Until) (rule : ℕ)
     → (rule ≡ 702 → ⊥) → document_traced done ps until rule ≡ document_traced done qs until rule
 names_no_texts done ps qs until rule other =
     let is : (rule == 702) ≡ false = grind (arith, nat_tests) in

@@ -6,7 +6,7 @@ use Rattle.std.specs.Ordering.{int_eq, int_cmp, is_gt}
 use Rattle.std.proofs.lemmas.Int.{ints}
 use Rattle.std.proofs.Common.{◌≡◌, true, false, List, Option, Some, None, Vec, refl, sym, ◌∙◌}
 use Rattle.std.proofs.Common.{arith, true≢false}
-use Rattle.lsp_explain.specs.Marks.{waiting_in}
+use Rattle.lsp_explain.specs.Marking.{waiting_in}
 use Rattle.lsp_replay.specs.declared.heard.EventPlace.{EventPlace}
 
 abbrev Entries : Type 0

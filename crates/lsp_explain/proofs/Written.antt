@@ -12,7 +12,7 @@ use Rattle.std.specs.Fmt.{signed_decimal}
 use Rattle.std.specs.Str.{bytes_eq}
 use Rattle.std.specs.Str.Parse.{ParsesSigned, signed_digits_value}
 use Rattle.lsp_rpc.specs.Shape.{small}
-use Rattle.lsp_explain.specs.Twins.{if_same, written}
+use Rattle.lsp_explain.specs.Traced.{if_same, written}
 
 -- a number of 32 bits is one, and no other number is
 fits_small : (z : ℤ) → FitsSigned w32 z → small z ≡ Some z

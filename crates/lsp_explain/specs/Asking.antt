@@ -2,7 +2,7 @@
 use Rattle.std.specs.Prelude.{ℕ, List, [], ◌∷◌, ◌++◌, length, map, Bool, true, ◌==◌, nat_le}
 use Rattle.std.specs.Prelude.{if◌then◌else◌, Option, Some, None, option_map}
 use Rattle.std.specs.List.{filter_map}
-use Rattle.lsp_docs.specs.Terms.{Terms}
+use Rattle.lsp_docs.specs.Documents.{Terms}
 use Rattle.lsp_rpc.specs.Ident.{Ident, number, text, same_id}
 use Rattle.lsp_rpc.specs.Message.{Message}
 use Rattle.lsp_session.specs.Handshake.{phase}
@@ -14,9 +14,8 @@ use Rattle.lsp_session.specs.declared.phase.Phase.TheVariants.{Stopping, Exited}
 use Rattle.lsp_types.specs.declared.side.Side.{Side}
 use Rattle.lsp_verdict.specs.Event.{Event, sent_of}
 use Rattle.lsp_verdict.specs.LookBack.{each_of}
-use Rattle.lsp_verdict.specs.Offences.{asked_from, last_or, rule_at}
-use Rattle.lsp_explain.specs.LastOnes.{last_ones}
-use Rattle.lsp_replay.specs.Places.{place_of}
+use Rattle.lsp_verdict.specs.Offences.{asked_from, last_or}
+use Rattle.lsp_explain.specs.History.{each_kept, last_ones, last_that}
 use Rattle.lsp_replay.specs.declared.heard.EventPlace.{EventPlace}
 
 -- ---- the kept messages
@@ -29,18 +28,13 @@ pub record Numbered : Type 0 where
 abbrev pub numbered_as : EventPlace → Sent → Numbered
 numbered_as p m = record { place = p; sent = m }
 
--- the message that an event is, where it offends by the rule or is kept
-abbrev pub numbered_by : EventPlace → Option ℕ → Option Sent → Option Numbered
-numbered_by p (Some rule) m = None
-numbered_by p None m = option_map (numbered_as p) m
-
-abbrev pub numbered_at : Terms → List Event → Event → Option Numbered
-numbered_at terms before event =
-    numbered_by (place_of before event) (rule_at terms before event) (sent_of event)
+-- the message that a kept event is
+abbrev pub message_kept : EventPlace → List Event → Event → Option Numbered
+message_kept p before event = option_map (numbered_as p) (sent_of event)
 
 -- **the messages that are kept**, with the places of their events
 abbrev pub numbered : Terms → List Event → List Numbered
-numbered terms events = each_of (numbered_at terms) events
+numbered terms events = each_kept message_kept terms events
 
 abbrev pub sents : List Numbered → List Sent
 sents said = map (λ (m : Numbered). m.sent) said
@@ -91,12 +85,12 @@ replies side said = filter_map (reply_by side) said
 abbrev pub most_replies : ℕ
 most_replies = 1024
 
-abbrev pub reply_to : Ident → Reply → Option (Option EventPlace)
-reply_to id reply = if same_id id reply.id then Some (Some reply.place) else None
+abbrev pub is_reply_to : Ident → Reply → Bool
+is_reply_to id reply = same_id id reply.id
 
 -- the event of the last of these that has this id
 abbrev pub last_reply : Ident → List Reply → Option EventPlace
-last_reply id given = last_or None (filter_map (reply_to id) given)
+last_reply id given = option_map (λ (r : Reply). r.place) (last_that (is_reply_to id) given)
 
 -- **the event that answered this side's request with this id last**, where it is one of the last
 -- answers and the id is short

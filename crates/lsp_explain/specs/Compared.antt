@@ -1,13 +1,15 @@
 -- The whole texts of a verdict that says that two texts differ: the one that the messages make, and
 -- the one that was recorded.
-use Rattle.std.specs.Prelude.{◌≡◌, ℕ, List, [], Option, Some, None, is_some, option_map}
-use Rattle.std.specs.Prelude.{unwrap_or}
-use Rattle.lsp_docs.specs.Terms.{Terms}
-use Rattle.lsp_docs.specs.Texts.{Text}
+use Rattle.std.specs.Prelude.{◌≡◌, ℕ, List, Option, Some, None, option_map, unwrap_or}
+use Rattle.lsp_docs.specs.Documents.{Terms}
+use Rattle.lsp_docs.specs.Calls.{Text}
 use Rattle.lsp_frame.specs.Bounds.{Bounds, IsInRange}
-use Rattle.lsp_facts.specs.TwoTexts.{TwoTexts, texts_at}
-use Rattle.lsp_replay.specs.Run.{Run}
-use Rattle.lsp_replay.specs.Telling.{kept_before, rule_of}
+use Rattle.lsp_facts.specs.TwoTexts.{TwoTexts, texts_at, texts_view}
+use Rattle.lsp_facts.specs.declared.two_texts.TwoTexts as code
+use Rattle.lsp_replay.specs.Run.{Run, Tail}
+use Rattle.lsp_replay.specs.Telling.{kept_before}
+use Rattle.lsp_replay.specs.TextAnswers.{answer_run}
+use Rattle.lsp_text.specs.Counted.{Counted}
 use Rattle.lsp_verdict.specs.Event.{Event}
 use Rattle.lsp_verdict.specs.LookBack.{first_of}
 use Rattle.lsp_verdict.specs.Heard.{Heard}
@@ -15,7 +17,6 @@ use Rattle.lsp_verdict.specs.Offences.{Offence, events_of}
 use Rattle.lsp_verdict.specs.Outcome.{log_terms}
 use Rattle.lsp_verdict.specs.Shown.{TextAnswer, text_is, no_difference, refused}
 use Rattle.lsp_verdict.specs.Survey.{IsSurvey}
-use Rattle.lsp_verdict.specs.TextAfter.{EndsAs, written_of}
 use Rattle.lsp_verdict.specs.Verdict.{Summary, Verdict, bad_log_of, offence}
 use Rattle.lsp_verdict.specs.declared.completeness.Completeness.TheVariants.{Ignored}
 use Rattle.lsp_explain.specs.declared.compared.ComparedText.{ComparedText}
@@ -24,6 +25,10 @@ use Rattle.lsp_explain.specs.declared.compared.ComparedText.TheVariants.{ByMessa
 -- what is asked of the run
 abbrev pub ComparedAsked : Type 0
 ComparedAsked = ComparedText
+
+-- two texts, where one is lent with its lines
+abbrev pub seen_texts : code.TwoTexts Counted → TwoTexts
+seen_texts texts = texts_view (λ (s : Counted). s.content) texts
 
 abbrev pub one_of : ComparedText → TwoTexts → Text
 one_of ByMessages texts = texts.by_messages
@@ -69,17 +74,10 @@ OneComparedText = (limits : Bounds) → IsInRange limits → (log : List ℕ) (w
 abbrev pub answer_after : ComparedText → Terms → List Heard → Heard → Option TextAnswer
 answer_after which terms before h = answer_at which terms (kept_before terms before) h.note.event
 
-abbrev pub written_at : Option TextAnswer → List ℕ
-written_at answer = unwrap_or (option_map written_of answer) []
+-- what the end says, where none does
+abbrev pub answer_behind : Terms → List Heard → Tail → TextAnswer
+answer_behind terms heard tail = sound_answer (bad_log_of tail.fault)
 
 -- **the run of the compared texts**: it says one at the first event that offends, and stops there
 abbrev pub compared_run : ComparedText → Run
-compared_run which = record {
-  says = λ terms rests before h out. out ≡ written_at (answer_after which terms before h);
-  stops = λ terms before h. is_some (rule_of terms before h);
-  ends = λ terms before h outcome. (answer : TextAnswer)
-      × (answer_after which terms before h ≡ Some answer) × EndsAs answer outcome;
-  closes = λ terms heard tail out outcome.
-      (out ≡ written_of (sound_answer (bad_log_of tail.fault)))
-      × EndsAs (sound_answer (bad_log_of tail.fault)) outcome;
-}
+compared_run which = answer_run (answer_after which) answer_behind

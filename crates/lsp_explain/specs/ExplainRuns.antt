@@ -1,23 +1,32 @@
 -- What is said where the verdict on a log is explained, or all that is wrong with it.
-use Rattle.std.specs.Prelude.{◌≡◌, ℕ, List, [], ◌++◌, map, take, filter, false, is_some}
-use Rattle.std.specs.Prelude.{Option, Some, None}
+use Rattle.std.specs.Prelude.{◌≡◌, ℕ, List, [], ◌++◌, map, take, filter, false, is_some, Option}
+use Rattle.std.specs.Prelude.{Some, None}
 use Rattle.std.specs.List.{AllZip, cons_option, flat_map}
-use Rattle.lsp_docs.specs.Terms.{Terms}
+use Rattle.lsp_docs.specs.Documents.{Terms}
 use Rattle.lsp_log.specs.declared.fault.LogCode.{LogCode}
+use Rattle.lsp_log.specs.Reader.{shown_by}
 use Rattle.lsp_replay.specs.Run.{IsJudged, Run}
 use Rattle.lsp_replay.specs.Telling.{no_of, rule_of}
-use Rattle.lsp_explain.specs.Asking.{numbered}
+use Rattle.lsp_replay.specs.LogEvents.{flaw_of}
+use Rattle.lsp_replay.specs.declared.log_events.End.{End}
+use Rattle.lsp_replay.specs.declared.log_events.LogEvents.{LogEvents}
 use Rattle.lsp_survey.specs.SessionEnds.{all_found, all_verdict, ends_of}
-use Rattle.lsp_verdict.specs.Heard.{Heard, Rests, heard_events}
+use Rattle.lsp_survey.specs.Lost.{AreLosses}
+use Rattle.lsp_survey.specs.Reported.{IsTally}
+use Rattle.lsp_verdict.specs.Heard.{Heard, Rests, heard_events, notes_of}
 use Rattle.lsp_verdict.specs.Survey.{by_itself, first_verdict}
-use Rattle.lsp_verdict.specs.Verdict.{Verdict, bad_log_of, summary}
+use Rattle.lsp_verdict.specs.Verdict.{Verdict, bad_log_of, summary, first_no, no_by}
 use Rattle.lsp_verdict.specs.declared.completeness.Completeness.{Completeness}
+use Rattle.lsp_verdict.specs.Offences.{offences}
 use Rattle.lsp_facts.specs.Fact.{Fact}
-use Rattle.lsp_facts.specs.FlawFacts.{flaw_facts}
-use Rattle.lsp_explain.specs.AllExplained.{all_closing, cause_lines, is_cause}
-use Rattle.lsp_explain.specs.Explained.{Breach, Explained, Explains, breach_at}
-use Rattle.lsp_explain.specs.Explained.{end_explained, explanation}
+use Rattle.lsp_facts.specs.EventFacts.{flaw_facts}
+use Rattle.lsp_explain.specs.Asking.{numbered}
+use Rattle.lsp_explain.specs.Explained.{all_closing, cause_lines, is_cause, Breach, Explained}
+use Rattle.lsp_explain.specs.Explained.{Explains, breach_at, end_explained, explanation, breach}
 use Rattle.lsp_explain.specs.Remarks.{noticed, remark_lines, remarks_of}
+use Rattle.lsp_explain.specs.Trails.{IsTrail}
+use Rattle.lsp_explain.specs.declared.run.FirstOffence.{FirstOffence}
+use Rattle.lsp_explain.specs.declared.run_all.AllCauses.{AllCauses}
 
 -- ---- an event that offends
 
@@ -104,3 +113,34 @@ all_run completeness = record {
       × IsJudged (all_verdict terms heard tail.fault (ends_of completeness terms heard tail))
       outcome;
 }
+
+-- ---- what their accounts hold, and what they add
+
+-- **the account of `explain` stands for these events**, none of which offends
+pub record FirstStands (a : FirstOffence) (terms : Terms) (heard : List Heard) : Type 0 where
+  pub noted : IsTrail terms a.trail (heard_events heard)
+  pub clean : first_no terms (heard_events heard) ≡ None
+
+-- **that of `explain --all`**, which may offend
+pub record AllStands (a : AllCauses) (terms : Terms) (heard : List Heard) : Type 0 where
+  pub lost : AreLosses terms a.losses (notes_of heard)
+  pub tallied : IsTally a.tally (offences terms (notes_of heard))
+  pub noted : IsTrail terms a.trail (heard_events heard)
+
+-- it is said what the event is that offends by this rule, whatever rests the log has that fit
+pub record TellsOf (terms : Terms) (before : List Heard) (h : Heard) (rule : ℕ)
+    (Fits : Rests → Type 0) (old new : List ℕ) : Type 0 where
+  pub e : Explained
+  pub no_is : e.no ≡ no_by (heard_events before) h.note.event rule
+  pub explains : (rests : Rests) → Fits rests → Explains rests terms (breach before h rule) e
+  pub added : new ≡ old ++ cause_lines e
+
+-- ---- the end, as the reader of the log tells it
+
+-- the bytes of both sides after their last whole frames
+abbrev pub rests_held : LogEvents → Rests
+rests_held e = record { editor = e.streams.editor.rest; server = e.streams.server.rest }
+
+-- the facts on a fault
+abbrev pub flaw_held : LogEvents → End → List Fact
+flaw_held e end = flaw_at e.log.place (shown_by e.log) (flaw_of end)

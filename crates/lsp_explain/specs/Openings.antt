@@ -1,67 +1,29 @@
--- Which documents were opened and closed last.
-use Rattle.std.specs.Prelude.{◌≡◌, ℤ, ℕ, List, ◌++◌, map, length, nat_lt, Bool, true, false}
-use Rattle.std.specs.Prelude.{Option, Some, None, option_and_then, [], string_bytes}
-use Rattle.std.specs.Prelude.{if◌then◌else◌}
-use Rattle.std.specs.List.{cons_option, filter_map}
+-- Which documents were opened and closed last, and which were changed and shown first.
+use Rattle.std.specs.Prelude.{◌≡◌, ◌||◌, ℕ, List, [], ◌∷◌, ◌++◌, map, filter, length, nat_lt}
+use Rattle.std.specs.Prelude.{Bool, true, false, not, if◌then◌else◌, Option, Some, None, option_map}
+use Rattle.std.specs.Prelude.{string_bytes, String}
+use Rattle.std.specs.Global.{Global}
+use Rattle.std.specs.List.{fold, list_any}
 use Rattle.std.specs.Str.{bytes_eq}
-use Rattle.lsp_docs.specs.Calls.{Call, opens, changes, closes, saves, shows}
-use Rattle.lsp_docs.specs.Terms.{Terms}
+use Rattle.lsp_docs.specs.Documents.{Terms}
 use Rattle.lsp_verdict.specs.Event.{Event}
-use Rattle.lsp_verdict.specs.LookBack.{each_of}
-use Rattle.lsp_verdict.specs.Offences.{last_or, rule_at, said_at}
-use Rattle.lsp_explain.specs.LastOnes.{last_ones}
-use Rattle.lsp_explain.specs.Touched.{AreTouched, TouchesOn}
-use Rattle.lsp_replay.specs.Places.{place_of}
+use Rattle.lsp_explain.specs.History.{KeptCall, OnDocument, doing, is_change, is_closing}
+use Rattle.lsp_explain.specs.History.{is_opening, is_showing, kept_calls, last_ones, last_that}
 use Rattle.lsp_explain.specs.declared.notes.openings.Closing.{Closing}
 use Rattle.lsp_explain.specs.declared.notes.openings.Closing.TheVariants as closing
 use Rattle.lsp_explain.specs.declared.notes.openings.DocumentEvent.{DocumentEvent}
 use Rattle.lsp_explain.specs.declared.notes.openings.Openings.{Openings}
 use Rattle.lsp_replay.specs.declared.heard.EventPlace.{EventPlace}
 
--- ---- the kept messages that open and close documents
-
--- a message about the document of this URI, and the place of its event
-pub record OnDocument : Type 0 where
-  pub uri : List ℕ
-  pub place : EventPlace
-
-abbrev pub on_document : List ℕ → EventPlace → OnDocument
-on_document uri p = record { uri = uri; place = p }
-
--- the opening that a call is, by the event of this place
-abbrev pub opened_by : EventPlace → Call → Option OnDocument
-opened_by p (opens uri number text) = Some (on_document uri p)
-opened_by p (changes enc kind uri number edits) = None
-opened_by p (closes uri) = None
-opened_by p (saves uri text) = None
-opened_by p (shows uri number text) = None
-
--- the closing that it is
-abbrev pub closed_by : EventPlace → Call → Option OnDocument
-closed_by p (opens uri number text) = None
-closed_by p (changes enc kind uri number edits) = None
-closed_by p (closes uri) = Some (on_document uri p)
-closed_by p (saves uri text) = None
-closed_by p (shows uri number text) = None
-
--- what this makes of an event that offends by the rule or is kept, and says this of a document
-abbrev pub taken_by : (EventPlace → Call → Option OnDocument) → EventPlace → Option ℕ → Option Call
-    → Option OnDocument
-taken_by takes p (Some rule) said = None
-taken_by takes p None said = option_and_then (takes p) said
-
-abbrev pub taken_at : (EventPlace → Call → Option OnDocument) → Terms → List Event → Event
-    → Option OnDocument
-taken_at takes terms before event =
-    taken_by takes (place_of before event) (rule_at terms before event) (said_at terms before event)
+-- ---- opened and closed
 
 -- **the messages that are kept and open documents**, in order
 abbrev pub openings : Terms → List Event → List OnDocument
-openings terms events = each_of (taken_at opened_by terms) events
+openings terms events = doing is_opening (kept_calls terms events)
 
 -- **those that close documents**
 abbrev pub closings : Terms → List Event → List OnDocument
-closings terms events = each_of (taken_at closed_by terms) events
+closings terms events = doing is_closing (kept_calls terms events)
 
 -- how many of the last ones are looked at
 abbrev pub most_openings : ℕ
@@ -70,17 +32,12 @@ most_openings = 64
 abbrev pub most_closings : ℕ
 most_closings = 1024
 
--- ---- how a document was closed
-
 abbrev pub is_on : List ℕ → OnDocument → Bool
-is_on uri on = bytes_eq uri on.uri
-
-abbrev pub event_on : List ℕ → OnDocument → Option (Option EventPlace)
-event_on uri on = if is_on uri on then Some (Some on.place) else None
+is_on uri on = bytes_eq on.uri uri
 
 -- the place of the last of these on the document of this URI
 abbrev pub last_on : List ℕ → List OnDocument → Option EventPlace
-last_on uri ons = last_or None (filter_map (event_on uri) ons)
+last_on uri ons = option_map (λ (on : OnDocument). on.place) (last_that (is_on uri) ons)
 
 -- the event is known, or, where all closings are looked at, that there is none
 abbrev pub closing_by : Bool → Option EventPlace → Closing
@@ -93,6 +50,40 @@ abbrev pub closing_of : List ℕ → List OnDocument → Closing
 closing_of uri ons =
     closing_by (nat_lt (length ons) most_closings) (last_on uri (last_ones most_closings ons))
 
+-- ---- changed and shown
+
+-- how many documents are looked at
+abbrev pub most_touched : ℕ
+most_touched = 64
+
+abbrev pub has_name : List ℕ → List (List ℕ) → Bool
+has_name uri names = list_any (λ name. bytes_eq name uri) names
+
+-- after these one more, where it is another, and there is room
+abbrev pub with_name : List (List ℕ) → List ℕ → List (List ℕ)
+with_name names uri =
+    if not (nat_lt (length names) most_touched) || has_name uri names then names
+    else names ++ uri ∷ []
+
+-- **the first 64 documents of these**
+abbrev pub touched : List OnDocument → List (List ℕ)
+touched ons = fold (λ names (on : OnDocument). with_name names on.uri) [] ons
+
+-- those of these documents that are not among the others
+abbrev pub others : List (List ℕ) → List (List ℕ) → List (List ℕ)
+others names known = filter (λ uri. not (has_name uri known)) names
+
+-- the same, where all the others are known
+abbrev pub unshown_of : List (List ℕ) → List (List ℕ) → List (List ℕ)
+unshown_of changed shown =
+    if nat_lt (length shown) most_touched then others changed shown else []
+
+-- **the documents that were changed and have no snapshot**, where fewer than 64 have one
+abbrev pub unshown : Terms → List Event → List (List ℕ)
+unshown terms events =
+    unshown_of (touched (doing is_change (kept_calls terms events)))
+    (touched (doing is_showing (kept_calls terms events)))
+
 -- ---- what is held of them
 
 abbrev pub on_view : DocumentEvent → OnDocument
@@ -101,29 +92,33 @@ on_view d = record { uri = string_bytes d.uri; place = d.place }
 abbrev pub ons_view : List DocumentEvent → List OnDocument
 ons_view held = map on_view held
 
--- one more is held, or none
-abbrev pub Holds : ℕ → Option OnDocument → List DocumentEvent → List DocumentEvent → Type 0
+abbrev pub names_view : List (String Global) → List (List ℕ)
+names_view names = map string_bytes names
+
+-- these more are held, of which the last ones stay
+abbrev pub Holds : ℕ → List OnDocument → List DocumentEvent → List DocumentEvent → Type 0
 Holds most more old new =
     (ons : List OnDocument) → ons_view old ≡ last_ones most ons
-    → ons_view new ≡ last_ones most (ons ++ cons_option more [])
+    → ons_view new ≡ last_ones most (ons ++ more)
 
--- a message, the event of this place, that says this of a document
-pub record OpensBy (p : EventPlace) (said : Option Call) (old new : Openings) : Type 0 where
-  pub opened : Holds most_openings (option_and_then (opened_by p) said) old.opened.items
-      new.opened.items
-  pub closed : Holds most_closings (option_and_then (closed_by p) said) old.closed.items
-      new.closed.items
-  pub touched : TouchesOn said old.touched new.touched
+-- the documents of these more are touched
+abbrev pub Touches : List OnDocument → List (String Global) → List (String Global) → Type 0
+Touches more old new =
+    names_view new ≡ fold (λ names (on : OnDocument). with_name names on.uri) (names_view old) more
 
--- a snapshot of the URI
-pub record OpeningsShown (uri : List ℕ) (old new : Openings) : Type 0 where
-  pub opened : new.opened.items ≡ old.opened.items
-  pub closed : new.closed.items ≡ old.closed.items
-  pub touched : (number : ℤ) (text : List ℕ)
-      → TouchesOn (Some (shows uri number text)) old.touched new.touched
+-- one more kept call
+pub record OpensBy (k : KeptCall) (old new : Openings) : Type 0 where
+  pub opened : Holds most_openings (doing is_opening (k ∷ [])) old.opened.items new.opened.items
+  pub closed : Holds most_closings (doing is_closing (k ∷ [])) old.closed.items new.closed.items
+  pub changed : Touches (doing is_change (k ∷ [])) old.changed.items new.changed.items
+  pub shown : Touches (doing is_showing (k ∷ [])) old.shown.items new.shown.items
 
--- **the last ones of these events are held**, and which documents they touched
-pub record AreOpenings (terms : Terms) (o : Openings) (events : List Event) : Type 0 where
-  pub opened_are : ons_view o.opened.items ≡ last_ones most_openings (openings terms events)
-  pub closed_are : ons_view o.closed.items ≡ last_ones most_closings (closings terms events)
-  pub touched_are : AreTouched terms o.touched events
+-- **the last ones of these kept calls are held**, and the first documents that they touched
+pub record OpenedBy (o : Openings) (calls : List KeptCall) : Type 0 where
+  pub opened_are : ons_view o.opened.items ≡ last_ones most_openings (doing is_opening calls)
+  pub closed_are : ons_view o.closed.items ≡ last_ones most_closings (doing is_closing calls)
+  pub changed_are : names_view o.changed.items ≡ touched (doing is_change calls)
+  pub shown_are : names_view o.shown.items ≡ touched (doing is_showing calls)
+
+abbrev pub AreOpenings : Terms → Openings → List Event → Type 0
+AreOpenings terms o events = OpenedBy o (kept_calls terms events)

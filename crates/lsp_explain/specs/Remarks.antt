@@ -1,16 +1,15 @@
 -- The notes on a session, which change no verdict.
-use Rattle.std.specs.Prelude.{ℕ, List, [], ◌∷◌, ◌++◌, map, length, ◌==◌}
-use Rattle.std.specs.Prelude.{Option, Some, None, if◌then◌else◌, option_to_list, option_map, codes}
-use Rattle.std.specs.Prelude.{decimal}
+use Rattle.std.specs.Prelude.{ℕ, List, [], ◌∷◌, ◌++◌, map, length, ◌==◌, Option, Some, None}
+use Rattle.std.specs.Prelude.{if◌then◌else◌, option_to_list, option_map, codes, decimal}
 use Rattle.std.specs.Str.{bytes_eq}
 use Rattle.json.specs.Print.{quoted}
 use Rattle.lsp_session.specs.Negotiation.{encoding}
-use Rattle.lsp_docs.specs.Terms.{Terms}
+use Rattle.lsp_docs.specs.Documents.{Terms}
 use Rattle.lsp_explain.specs.Asking.{Numbered, numbered, sents}
-use Rattle.lsp_explain.specs.Misuses.{Misused, misuses}
-use Rattle.lsp_explain.specs.SessionRemarks.{abrupt_exit, older_encoding}
-use Rattle.lsp_explain.specs.Renames.{Renamed, renamed}
-use Rattle.lsp_explain.specs.Touched.{unshown}
+use Rattle.lsp_explain.specs.SessionRemarks.{Misused, misuses, abrupt_exit, older_encoding}
+use Rattle.lsp_explain.specs.History.{OnDocument}
+use Rattle.lsp_explain.specs.Renames.{renamed}
+use Rattle.lsp_explain.specs.Openings.{unshown}
 use Rattle.lsp_verdict.specs.Event.{Event}
 use Rattle.lsp_explain.specs.declared.notes.misuses.Misuse.{Misuse}
 use Rattle.lsp_explain.specs.declared.notes.misuses.Misuse.TheVariants.{AsRequest, AsNotification}
@@ -68,9 +67,9 @@ name_remarks name = option_to_list
     (option_map (λ own. line (codes "note offset-encoding" ∷ quoted own ∷ [])) name)
 
 -- a message about a document under a URI that its file lost when it was renamed
-abbrev pub old_name_remarks : Option Renamed → List Fact
+abbrev pub old_name_remarks : Option OnDocument → List Fact
 old_name_remarks found = option_to_list (option_map
-    (λ (x : Renamed). line (codes "note renamed" ∷ quoted x.uri ∷ place_words x.place)) found)
+    (λ (x : OnDocument). line (codes "note renamed" ∷ quoted x.uri ∷ place_words x.place)) found)
 
 -- what the notes are on: messages, and the documents that were changed and have no snapshot
 pub record Noticed : Type 0 where

@@ -1,9 +1,8 @@
 -- Which document was opened or changed under a URI that it lost when its file was renamed.
-use Rattle.std.specs.Prelude.{◌≡◌, ◌||◌, ℕ, List, [], ◌++◌, map, Bool, true, false}
-use Rattle.std.specs.Prelude.{if◌then◌else◌}
+use Rattle.std.specs.Prelude.{◌≡◌, ◌||◌, ℕ, List, [], ◌++◌, map, Bool, true, false, if◌then◌else◌}
 use Rattle.std.specs.Prelude.{Option, Some, None, option_map, option_and_then, codes, string_bytes}
 use Rattle.std.specs.Prelude.{unwrap_or}
-use Rattle.std.specs.List.{filter_map, flat_map}
+use Rattle.std.specs.List.{flat_map}
 use Rattle.std.specs.Option.{option_or}
 use Rattle.std.specs.Str.{bytes_eq}
 use Rattle.serde_json.specs.Data.{Data, Items}
@@ -16,12 +15,11 @@ use Rattle.lsp_rpc.specs.Reading.{Reads}
 use Rattle.lsp_types.specs.declared.side.Side.{Side}
 use Rattle.lsp_types.specs.declared.side.Side.TheVariants.{Editor, Server}
 use Rattle.lsp_verdict.specs.LookBack.{first_of}
-use Rattle.lsp_verdict.specs.Offences.{last_or}
 use Rattle.lsp_replay.specs.declared.heard.EventPlace.{EventPlace}
 use Rattle.lsp_explain.specs.Asking.{Numbered}
-use Rattle.lsp_explain.specs.LastOnes.{last_ones}
+use Rattle.lsp_explain.specs.History.{OnDocument, on_document, last_ones, last_that}
+use Rattle.lsp_explain.specs.Openings.{on_view}
 use Rattle.lsp_explain.specs.declared.notes.renames.Move as held
-use Rattle.lsp_explain.specs.declared.notes.renames.Renamed as code
 use Rattle.lsp_explain.specs.declared.notes.renames.Renames.{Renames}
 
 -- ---- what the editor says of files
@@ -92,12 +90,13 @@ recent_moves said = last_ones most_moves (moves said)
 
 -- ---- a URI that is gone
 
-abbrev pub gone_by : List ℕ → Move → Option Bool
-gone_by uri m = if bytes_eq m.uri uri then Some m.is_gone else None
+abbrev pub is_of : List ℕ → Move → Bool
+is_of uri m = bytes_eq m.uri uri
 
 -- **the file of this URI was renamed**, and none has the URI since
 abbrev pub is_gone : List ℕ → List Move → Bool
-is_gone uri moved = last_or false (filter_map (gone_by uri) moved)
+is_gone uri moved =
+    unwrap_or (option_map (λ (m : Move). m.is_gone) (last_that (is_of uri) moved)) false
 
 -- ---- a message about a document of such a URI
 
@@ -107,24 +106,16 @@ edited_by (did_open uri version text) = Some uri
 edited_by (did_change uri version changes) = Some uri
 edited_by _ = None
 
--- the document of this URI is opened or changed by the event of this place
-pub record Renamed : Type 0 where
-  pub uri : List ℕ
-  pub place : EventPlace
-
-abbrev pub renamed_to : EventPlace → List ℕ → Renamed
-renamed_to p uri = record { uri = uri; place = p }
-
-abbrev pub renamed_by : EventPlace → List Move → Act → Option Renamed
+abbrev pub renamed_by : EventPlace → List Move → Act → Option OnDocument
 renamed_by p moved act =
-    option_and_then (λ uri. if is_gone uri moved then Some (renamed_to p uri) else None)
+    option_and_then (λ uri. if is_gone uri moved then Some (on_document uri p) else None)
     (edited_by act)
 
-abbrev pub renamed_at : List Numbered → Numbered → Option Renamed
+abbrev pub renamed_at : List Numbered → Numbered → Option OnDocument
 renamed_at before m = renamed_by m.place (recent_moves before) m.sent.act
 
 -- **the first message that opens or changes a document under a URI that is gone**
-abbrev pub renamed : List Numbered → Option Renamed
+abbrev pub renamed : List Numbered → Option OnDocument
 renamed said = first_of renamed_at said
 
 -- ---- as it is held
@@ -135,11 +126,8 @@ move_view m = record { uri = string_bytes m.uri; is_gone = m.is_gone }
 abbrev pub moves_view : List held.Move → List Move
 moves_view moved = map move_view moved
 
-abbrev pub renamed_view : code.Renamed → Renamed
-renamed_view r = record { uri = string_bytes r.uri; place = r.place }
-
-abbrev pub renamed_held : Renames → Option Renamed
-renamed_held r = option_map renamed_view r.renamed
+abbrev pub renamed_held : Renames → Option OnDocument
+renamed_held r = option_map on_view r.renamed
 
 -- these more are held, of which the last ones stay
 abbrev pub Moves : List Move → List held.Move → List held.Move → Type 0

@@ -1,37 +1,36 @@
 -- What is noted of requests and phases, and for which messages it stands.
-use Rattle.std.specs.Prelude.{◌≡◌, ℕ, List, ◌++◌, map, Option, Some, None, if◌then◌else◌}
+use Rattle.std.specs.Prelude.{◌≡◌, Bool, List, ◌++◌, map, Option, Some, None, if◌then◌else◌}
 use Rattle.std.specs.Prelude.{unwrap_or, option_to_list}
 use Rattle.std.specs.Option.{option_or}
-use Rattle.lsp_docs.specs.Terms.{Terms}
-use Rattle.lsp_rpc.specs.Act.{Act}
+use Rattle.lsp_docs.specs.Documents.{Terms}
 use Rattle.lsp_rpc.specs.Ident.{Ident, id_view, same_id}
 use Rattle.lsp_rpc.specs.Message.{Message}
 use Rattle.lsp_rpc.specs.declared.message.Id.{Id}
-use Rattle.lsp_session.specs.Handshake.{is_done, phase}
-use Rattle.lsp_session.specs.Sent.{Sent, answered_from}
+use Rattle.lsp_session.specs.Handshake.{phase}
+use Rattle.lsp_session.specs.Sent.{answered_from}
+use Rattle.lsp_session.specs.declared.phase.Phase.{Phase}
 use Rattle.lsp_types.specs.declared.side.Side.{Side}
 use Rattle.lsp_types.specs.declared.side.Side.TheVariants.{Editor, Server}
 use Rattle.lsp_verdict.specs.Event.{Event}
-use Rattle.lsp_survey.specs.ById.{asked_in}
+use Rattle.lsp_survey.specs.Notes.{asked_in}
 use Rattle.lsp_explain.specs.Asking.{Numbered, Reply, asks, asked, replies, reply_of}
 use Rattle.lsp_explain.specs.Asking.{most_replies, leads, numbered, sents, since}
-use Rattle.lsp_explain.specs.LastOnes.{last_ones}
+use Rattle.lsp_explain.specs.History.{last_ones}
 use Rattle.lsp_explain.specs.SessionRemarks.{AreRemarks, Remarked}
-use Rattle.lsp_explain.specs.Renames.{AreRenames, RenamesIn}
-use Rattle.lsp_explain.specs.declared.notes.asked.Asked.{Asked}
+use Rattle.lsp_explain.specs.Renames.{AreRenames}
 use Rattle.lsp_explain.specs.declared.notes.asked.AskedRequests.{AskedRequests}
+use Rattle.lsp_explain.specs.declared.notes.asked.RequestEvent.{RequestEvent}
 use Rattle.lsp_explain.specs.declared.notes.exchange.Exchange.{Exchange}
-use Rattle.lsp_explain.specs.declared.notes.exchange.Given.{Given}
 use Rattle.lsp_replay.specs.declared.heard.EventPlace.{EventPlace}
 use Rattle.lsp_explain.specs.declared.notes.session_notes.SessionNotes.{SessionNotes}
 
 -- ---- the requests of one side
 
-abbrev pub given_view : Given → Reply
+abbrev pub given_view : RequestEvent → Reply
 given_view g = record { id = id_view g.id; place = g.place }
 
 -- the place of the request that was asked last, if it has this id
-abbrev pub last_at : Option Asked → Ident → Option EventPlace
+abbrev pub last_at : Option RequestEvent → Ident → Option EventPlace
 last_at None id = None
 last_at (Some a) id = if same_id (id_view a.id) id then Some a.place else None
 
@@ -68,18 +67,15 @@ pub record SessionStands (s : SessionNotes) (said : List Numbered) : Type 0 wher
   pub remarks_are : AreRemarks s.remarks said
   pub renames_are : AreRenames s.renames said
 
--- one more message of the sender, the event of this place, which this content is and means this
--- act, with which the session has these
-pub record SaysOn (p : EventPlace) (sender : Side) (bytes : List ℕ) (m : Message) (act : Act)
-    (behind : List Sent)
+-- one more message of the sender, the event of this place, after which the session is in this phase,
+-- and the handshake is settled or is not
+pub record Says (p : EventPlace) (sender : Side) (m : Message) (after : Phase) (done : Bool)
     (old new : SessionNotes) : Type 0 where
   pub editor : Exchanges Editor p sender m old.editor new.editor
   pub server : Exchanges Server p sender m old.server new.server
-  pub phase_is : new.phase ≡ phase behind
-  pub since_is : new.since ≡ unwrap_or (leads p old.phase (phase behind)) old.since
-  pub remarked : Remarked p sender m old.phase (phase behind) (is_done behind) old.remarks
-      new.remarks
-  pub renamed : RenamesIn p sender bytes m act old.renames new.renames
+  pub phase_is : new.phase ≡ after
+  pub since_is : new.since ≡ unwrap_or (leads p old.phase after) old.since
+  pub remarked : Remarked p sender m old.phase after done old.remarks new.remarks
 
 -- **they stand for the kept messages of these events**
 abbrev pub AreNotes : Terms → SessionNotes → List Event → Type 0

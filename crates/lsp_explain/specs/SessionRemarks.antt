@@ -1,22 +1,117 @@
--- What is remarkable about the kept messages of a session, though it breaks no rule.
-use Rattle.std.specs.Prelude.{◌≡◌, ℕ, List, [], ◌∷◌, ◌++◌, Bool, ◌&&◌, ◌||◌, not, Option, Some}
-use Rattle.std.specs.Prelude.{None, if◌then◌else◌, option_and_then, option_map, codes, string_bytes}
-use Rattle.std.specs.Prelude.{unwrap_or}
+-- What is remarkable about the messages of a session, though it breaks no rule.
+use Rattle.std.specs.Prelude.{ℕ, List, [], ◌∷◌, map, if◌then◌else◌, Option, Some, None, ◌++◌, Bool}
+use Rattle.std.specs.Prelude.{option_and_then, option_map, string_bytes, ◌≡◌, ◌&&◌, ◌||◌, not}
+use Rattle.std.specs.Prelude.{codes, unwrap_or}
+use Rattle.std.specs.Str.{bytes_eq}
+use Rattle.std.specs.List.{filter_map, list_any}
+use Rattle.lsp_rpc.specs.Message.{Message, request, notification, response}
+use Rattle.lsp_rpc.specs.Params.{required}
+use Rattle.lsp_types.specs.declared.side.Side.{Side}
+use Rattle.lsp_types.specs.declared.side.Side.TheVariants.{Editor, Server}
+use Rattle.lsp_replay.specs.declared.heard.EventPlace.{EventPlace}
 use Rattle.serde_json.specs.Data.{Data}
 use Rattle.serde_json.specs.Find.{as_str}
-use Rattle.lsp_rpc.specs.Message.{Message}
-use Rattle.lsp_rpc.specs.Params.{required}
 use Rattle.lsp_session.specs.Handshake.{first_settled, is_done, phase, result_of}
 use Rattle.lsp_session.specs.Sent.{Sent}
 use Rattle.lsp_session.specs.declared.phase.Phase.{Phase}
 use Rattle.lsp_session.specs.declared.phase.Phase.TheVariants.{Stopping, Exited}
-use Rattle.lsp_types.specs.declared.side.Side.{Side}
 use Rattle.lsp_verdict.specs.LookBack.{each_of}
 use Rattle.lsp_verdict.specs.Offences.{last_or}
+use Rattle.lsp_explain.specs.declared.notes.standard_methods.MethodUse.{MethodUse}
+use Rattle.lsp_explain.specs.declared.notes.standard_methods.TheConstants.{METHODS}
 use Rattle.lsp_explain.specs.Asking.{Numbered, same_phase, sents}
-use Rattle.lsp_explain.specs.Misuses.{misuse_in, misused_views, misuses, with_misuse}
-use Rattle.lsp_replay.specs.declared.heard.EventPlace.{EventPlace}
+use Rattle.lsp_explain.specs.declared.notes.misuses.Misuse.{Misuse}
+use Rattle.lsp_explain.specs.declared.notes.misuses.Misuse.TheVariants.{AsRequest, AsNotification}
+use Rattle.lsp_explain.specs.declared.notes.misuses.Misuse.TheVariants.{ByEditor, ByServer}
+use Rattle.lsp_explain.specs.declared.notes.misuses.Misused as code
+use Rattle.lsp_explain.specs.declared.notes.standard_methods.MethodUse.TheVariants as uses
 use Rattle.lsp_explain.specs.declared.notes.remarks.Remarks.{Remarks}
+
+-- ---- what LSP 3.17 has a method for, by the table of the code
+
+-- what the first of these rows with this method says
+unfoldable pub use_among : List (List ℕ × MethodUse) → List ℕ → Option MethodUse
+use_among [] name = None
+use_among (row ∷ rows) name = if bytes_eq row.0 name then Some row.1 else use_among rows name
+
+-- **what has this method**
+unfoldable pub use_of : List ℕ → Option MethodUse
+use_of name = use_among (map (λ row. (row.0.now, row.1)) METHODS) name
+
+-- ---- a call that is misused
+
+-- a call that this side sends in LSP 3.17, and that side did
+abbrev pub sent_by : Side → Side → Option Misuse
+sent_by Server Editor = Some ByEditor
+sent_by Editor Server = Some ByServer
+sent_by by side = None
+
+abbrev pub as_request : Side → MethodUse → Option Misuse
+as_request side (uses.Request by) = sent_by by side
+as_request side other = Some AsRequest
+
+abbrev pub as_notification : Side → MethodUse → Option Misuse
+as_notification side (uses.Notification by) = sent_by by side
+as_notification side uses.Shared = None
+as_notification side (uses.Request by) = Some AsNotification
+
+abbrev pub request_misuse : Side → List ℕ → Option Misuse
+request_misuse side name = option_and_then (as_request side) (use_of name)
+
+abbrev pub notification_misuse : Side → List ℕ → Option Misuse
+notification_misuse side name = option_and_then (as_notification side) (use_of name)
+
+-- a call of this method, the event of this place, that was sent in another way than LSP 3.17 has
+-- it
+pub record Misused : Type 0 where
+  pub misuse : Misuse
+  pub method : List ℕ
+  pub place : EventPlace
+
+abbrev pub misused : EventPlace → List ℕ → Misuse → Misused
+misused p name misuse = record { misuse = misuse; method = name; place = p }
+
+-- the misuse that a message of the side is; of no method that LSP 3.17 does not have
+abbrev pub misuse_in : EventPlace → Side → Message → Option Misused
+misuse_in p side (request id name params) = option_map (misused p name) (request_misuse side name)
+misuse_in p side (notification name params) =
+    option_map (misused p name) (notification_misuse side name)
+misuse_in p side (response id reply) = None
+
+abbrev pub misuse_at : Numbered → Option Misused
+misuse_at m = misuse_in m.place m.sent.side m.sent.message
+
+-- ---- all such calls
+
+-- one of these has the method
+abbrev pub has_method : List ℕ → List Misused → Bool
+has_method name found = list_any (λ (x : Misused). bytes_eq x.method name) found
+
+-- after these one more, where its method is new
+abbrev pub with_misuse : List Misused → Option Misused → List Misused
+with_misuse found None = found
+with_misuse found (Some x) = if has_method x.method found then found else found ++ x ∷ []
+
+-- after those found, the first of these of each other method
+abbrev pub misuses_after : List Misused → List Misused → List Misused
+misuses_after found [] = found
+misuses_after found (x ∷ xs) = misuses_after (with_misuse found (Some x)) xs
+
+-- **the calls that LSP 3.17 has in another way than they were sent**, of each method the first
+abbrev pub misuses : List Numbered → List Misused
+misuses said = misuses_after [] (filter_map misuse_at said)
+
+-- ---- such calls as they are held
+
+abbrev pub misused_view : code.Misused → Misused
+misused_view x = record {
+  misuse = x.misuse;
+  method = string_bytes x.method;
+  place = x.place;
+}
+
+abbrev pub misused_views : List code.Misused → List Misused
+misused_views found = map misused_view found
 
 -- ---- `exit` without `shutdown`
 
@@ -47,7 +142,7 @@ older_in d = required (codes "offsetEncoding") as_str d
 abbrev pub older_encoding : List Sent → Option (List ℕ)
 older_encoding before = option_and_then (λ s. older_in s.value) (first_settled before)
 
--- ---- as it is held
+-- ---- all remarks as they are held
 
 -- what a message answers names an encoding so
 abbrev pub older_of : Message → Option (List ℕ)

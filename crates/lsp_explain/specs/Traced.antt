@@ -1,51 +1,194 @@
--- Which event brought what: what is added to the facts on an offence, read off all events before
--- it.
-use Rattle.std.specs.Prelude.{◌≡◌, ℕ, codes, List, [], ◌∷◌, ◌++◌, map, nat_lt}
-use Rattle.std.specs.Prelude.{◌==◌, if◌then◌else◌, Bool, Option, Some, None, option_map}
-use Rattle.std.specs.Prelude.{option_and_then, option_to_list, unwrap_or}
-use Rattle.lsp_docs.specs.Calls.{Call, opens, changes, closes, saves, shows, uri_of}
-use Rattle.lsp_docs.specs.Terms.{Terms}
-use Rattle.lsp_rpc.specs.Act.{Act}
+-- Which event brought what: what is added to the facts on an offence.
+use Rattle.std.specs.Prelude.{ℕ, ℤ, List, Option, Some, option_and_then, option_map, ◌+◌, ◌-◌}
+use Rattle.std.specs.Prelude.{int_lt, nat_lt, [], ◌∷◌, ◌++◌, map, take, drop, Bool, true, not, None}
+use Rattle.std.specs.Prelude.{codes, decimal, ◌*◌, length, false, ◌&&◌, ◌==◌, if◌then◌else◌}
+use Rattle.std.specs.Prelude.{is_some, ◌≡◌, option_to_list, unwrap_or}
+use Rattle.std.specs.Bool.{then_some}
+use Rattle.std.specs.Fmt.{signed_decimal}
+use Rattle.std.specs.Str.{bytes_eq}
+use Rattle.std.specs.Str.Parse.{signed_digits_value}
+use Rattle.std.specs.List.{prefix_len, flat_map}
+use Rattle.lsp_rpc.specs.Ident as ident
 use Rattle.lsp_rpc.specs.Ident.{Ident}
+use Rattle.lsp_rpc.specs.Shape.{small}
+use Rattle.lsp_rpc.specs.Act.{Act}
 use Rattle.lsp_rpc.specs.Words.{id_text}
-use Rattle.lsp_session.specs.Entry.{Entry}
-use Rattle.lsp_session.specs.Handshake.{phase}
-use Rattle.lsp_session.specs.Negotiation.{encoding, sync_kind}
-use Rattle.lsp_session.specs.Requests.{open_requests}
-use Rattle.lsp_session.specs.Sent.{other_side}
-use Rattle.lsp_types.specs.declared.change.SyncKind.TheVariants.{Nothing}
-use Rattle.lsp_types.specs.declared.position.Encoding.TheVariants.{Utf16}
+use Rattle.lsp_docs.specs.Calls.{Call, opens, changes, closes, saves, shows, uri_of}
+use Rattle.lsp_docs.specs.Documents.{held, Terms}
+use Rattle.lsp_replay.specs.declared.heard.EventPlace.{EventPlace}
+use Rattle.lsp_replay.specs.Lines.{place_of}
+use Rattle.lsp_replay.specs.Tries.{said_after}
+use Rattle.lsp_facts.specs.Fact.{Fact, version_by, cited, place_words, in_phase, waits}
+use Rattle.lsp_facts.specs.EventFacts.{id_in}
+use Rattle.lsp_facts.specs.Refuting.{refuting}
+use Rattle.lsp_verdict.specs.Report.{line}
+use Rattle.lsp_verdict.specs.Event.{calls, Event, message, fault, snapshot}
+use Rattle.lsp_verdict.specs.Offences.{kept_of, is_within, said_at}
+use Rattle.lsp_verdict.specs.Spelling.{folded}
+use Rattle.json.specs.Print.{quoted}
+use Rattle.lsp_types.specs.declared.rules.TheConstants as rules
 use Rattle.lsp_types.specs.declared.side.Side.{Side}
 use Rattle.lsp_types.specs.declared.side.Side.TheVariants.{Editor}
-use Rattle.lsp_verdict.specs.Calls.{call_of, calls}
-use Rattle.lsp_verdict.specs.Report.{line}
-use Rattle.lsp_verdict.specs.Event.{Event, message, fault, snapshot, sent_in}
-use Rattle.lsp_verdict.specs.Offences.{is_within, kept_of, said_at}
-use Rattle.lsp_explain.specs.Asking.{Numbered, answered, asked, numbered, sents, since}
-use Rattle.lsp_explain.specs.Marking.{Step, agreed, last_setter, recent, steps}
+use Rattle.lsp_session.specs.Entry.{Entry}
+use Rattle.lsp_session.specs.Handshake.{phase}
+use Rattle.lsp_session.specs.Requests.{open_requests}
+use Rattle.lsp_session.specs.Sent.{other_side}
+use Rattle.lsp_explain.specs.History.{last_ones, OnDocument, KeptCall}
+use Rattle.lsp_explain.specs.Marking.{next_rank, rank_or, agreed, last_setter, recent, steps}
 use Rattle.lsp_explain.specs.Marking.{waiting_for}
-use Rattle.lsp_replay.specs.Places.{place_of}
-use Rattle.lsp_explain.specs.declared.notes.mark.Setter.{Setter}
-use Rattle.lsp_explain.specs.declared.notes.mark.Shown.{Shown}
-use Rattle.lsp_replay.specs.declared.heard.EventPlace.{EventPlace}
-use Rattle.lsp_facts.specs.Fact.{Fact, cited, in_phase, place_words, version_by, waits}
-use Rattle.lsp_facts.specs.MessageFacts.{id_in}
-use Rattle.lsp_facts.specs.Refuting.{refuting}
-use Rattle.lsp_types.specs.declared.rules.TheConstants as rules
-use Rattle.lsp_explain.specs.Suspects.{suspect_facts, until_of}
-use Rattle.lsp_explain.specs.Unopened.{unopened_traced}
-use Rattle.lsp_explain.specs.Twins.{twin}
+use Rattle.lsp_explain.specs.declared.notes.mark.VersionEvent.{VersionEvent}
 use Rattle.lsp_explain.specs.declared.suspects.Until.{Until}
+use Rattle.lsp_explain.specs.declared.suspects.Until.TheVariants as until
+use Rattle.lsp_explain.specs.Openings.{closing_of, closings, last_on, most_openings, openings}
+use Rattle.lsp_explain.specs.declared.notes.openings.Closing.{Closing}
+use Rattle.lsp_explain.specs.declared.notes.openings.Closing.TheVariants as closing
+use Rattle.lsp_explain.specs.Asking.{Numbered, answered, asked, numbered, sents, since}
+
+-- ---- ids that differ in their type alone
+
+-- the number, if it is written so
+abbrev pub if_same : ℤ → List ℕ → Option ℤ
+if_same z s = then_some (bytes_eq (signed_decimal z) s) z
+
+-- the integer of 32 bits that is written so
+abbrev pub written : List ℕ → Option ℤ
+written s = option_and_then small (if_same (signed_digits_value 10 s) s)
+
+-- **the id of the other type that is written in the same way**, if there is one
+abbrev pub twin : Ident → Option Ident
+twin (ident.number z) = Some (ident.text (signed_decimal z))
+twin (ident.text s) = option_map ident.number (written s)
+
+-- ---- which messages can have made texts differ: those that set a version after the one that was
+-- found equal, up to the one that differs
+
+-- by which message the text came about that differs, where a call has this place: the last one that
+-- set a version, the one that set the version of a snapshot, or the call itself
+abbrev pub until_of : EventPlace → Call → Until
+until_of p (opens uri number text) = until.Message p number
+until_of p (changes enc kind uri number edits) = until.Message p number
+until_of p (closes uri) = until.Held
+until_of p (saves uri text) = until.Held
+until_of p (shows uri number text) = until.Version number
+
+-- the rank of the version that was found equal; 0 where none was
+abbrev pub equal_rank : Option VersionEvent → ℕ
+equal_rank None = 0
+equal_rank (Some shown) = shown.rank
+
+-- it set the equal version, or one before it
+abbrev pub is_cleared : ℕ → VersionEvent → Bool
+is_cleared rank setter = not (nat_lt rank setter.rank)
+
+abbrev pub is_up_to : Until → VersionEvent → Bool
+is_up_to until.Held setter = true
+is_up_to (until.Version number) setter = not (int_lt number setter.version)
+is_up_to (until.Message p number) setter = true
+
+abbrev pub after_equal : ℕ → List VersionEvent → List VersionEvent
+after_equal rank done = drop (prefix_len (is_cleared rank) done) done
+
+abbrev pub up_to : Until → List VersionEvent → List VersionEvent
+up_to limit done = take (prefix_len (is_up_to limit) done) done
+
+-- how many of them are named at most
+abbrev pub most_named : ℕ
+most_named = 17
+
+-- the last of these messages that are suspects, where the version of this rank was equal
+abbrev pub suspected : ℕ → Until → List VersionEvent → List VersionEvent
+suspected rank limit done = last_ones most_named (up_to limit (after_equal rank done))
+
+-- the rank of the version that differs, of which the last suspect is the last of these or the call
+abbrev pub rank_at : ℕ → Until → List VersionEvent → ℕ
+rank_at rank (until.Message p number) named = next_rank (rank_or rank named)
+rank_at rank limit named = rank_or rank named
+
+-- how many there are, also those that are not named
+abbrev pub suspect_count : ℕ → Until → List VersionEvent → ℕ
+suspect_count rank limit named = rank_at rank limit named - rank
+
+abbrev pub named_facts : List VersionEvent → List Fact
+named_facts named = map (λ (s : VersionEvent). version_by (codes "suspect") s.version s.place) named
+
+-- the call itself
+abbrev pub own_facts : Until → List Fact
+own_facts (until.Message p number) = version_by (codes "suspect") number p ∷ []
+own_facts limit = []
+
+-- **the messages that can have made the texts differ**: how many, and each of those that are named
+abbrev pub suspect_facts : Option VersionEvent → Until → List VersionEvent → List Fact
+suspect_facts equal limit done =
+    let named = suspected (equal_rank equal) limit done in
+    line (codes "suspects" ∷ decimal (suspect_count (equal_rank equal) limit named) ∷ [])
+    ∷ (named_facts named ++ own_facts limit)
+
+-- ---- URIs that differ in their spelling
+
+abbrev pub is_long : ℕ → ℕ → Bool
+is_long size other = nat_lt (3 * size) other
+
+-- the other is at most three times as long as a URI of this size, and has the same in common with
+-- those that differ from it in their spelling alone
+abbrev pub is_spelled : ℕ → List ℕ → List ℕ → Bool
+is_spelled size spelling other =
+    not (is_long size (length other)) && bytes_eq spelling (folded other)
+
+-- ---- the documents that are open
+
+abbrev pub is_at : EventPlace → Option EventPlace → Bool
+is_at p None = false
+is_at p (Some other) = p.event == other.event
+
+-- the messages that opened documents last
+abbrev pub last_openings : Terms → List Event → List OnDocument
+last_openings terms before = last_ones most_openings (openings terms before)
+
+-- this one opened a document that is open, and none of them opened it later
+abbrev pub is_standing : Terms → List Event → OnDocument → Bool
+is_standing terms before on =
+    is_some (held terms on.uri (calls (kept_of terms before)))
+    && is_at on.place (last_on on.uri (last_openings terms before))
+
+abbrev pub similar_fact : Terms → List Event → ℕ → List ℕ → OnDocument → List Fact
+similar_fact terms before size spelling on =
+    if is_spelled size spelling on.uri && is_standing terms before on
+    then line (codes "similar" ∷ quoted on.uri ∷ place_words on.place) ∷ [] else []
+
+-- **the open documents of which the URI differs from this one in its spelling alone**, of those
+-- that were opened last
+abbrev pub similar_facts : Terms → List Event → List ℕ → List Fact
+similar_facts terms before uri =
+    flat_map (similar_fact terms before (length uri) (folded uri)) (last_openings terms before)
+
+-- ---- 602
+
+abbrev pub closing_facts : Closing → List Fact
+closing_facts (closing.Last p) = cited (codes "closed") p ∷ []
+closing_facts closing.Never = line (codes "opened" ∷ codes "never" ∷ []) ∷ []
+closing_facts closing.Forgotten = []
+
+abbrev pub unopened_facts : Terms → List Event → List ℕ → List Fact
+unopened_facts terms before uri =
+    closing_facts (closing_of uri (closings terms before)) ++ similar_facts terms before uri
+
+-- **what is said about the document of a call that breaks this rule after these events**
+abbrev pub unopened_traced : Terms → List Event → ℕ → Option Call → List Fact
+unopened_traced terms before rule None = []
+unopened_traced terms before rule (Some call) =
+    if rule == rules.DOCUMENT_NOT_OPEN then unopened_facts terms before (uri_of call) else []
+
+-- ---- what is added to the facts on an offence, read off all events before it
 
 -- an earlier event under this key, where there is one
 abbrev pub place_facts : List ℕ → Option EventPlace → List Fact
 place_facts key p = option_to_list (option_map (cited key) p)
 
--- ---- documents
+-- ---- about documents
 
 -- the place of the last of these messages
-abbrev pub last_place : List Setter → Option EventPlace
-last_place done = option_map (λ (s : Setter). s.place) (last_setter done)
+abbrev pub last_place : List VersionEvent → Option EventPlace
+last_place done = option_map (λ (s : VersionEvent). s.place) (last_setter done)
 
 -- the event that set the version that is held of a URI, if there is one
 abbrev pub setter_of : Terms → List Event → Option (List ℕ) → Option EventPlace
@@ -59,7 +202,7 @@ setter_at terms before event =
 
 -- the snapshots that differ from the text of a call after these, by their places: of those that
 -- wait for its version the ones with another text, or it is one itself, of this place
-abbrev pub differing : Terms → List Call → List Step → EventPlace → Call → List EventPlace
+abbrev pub differing : Terms → List Call → List KeptCall → EventPlace → Call → List EventPlace
 differing terms before done p (opens uri number text) =
     refuting terms before (opens uri number text) (waiting_for number done)
 differing terms before done p (changes enc kind uri number edits) =
@@ -69,9 +212,9 @@ differing terms before done p (saves uri text) = []
 differing terms before done p (shows uri number text) = p ∷ []
 
 -- the snapshot that was found equal, and the messages that can have made the texts differ
-abbrev pub apart_facts : Option Shown → Until → List Setter → List Fact
+abbrev pub apart_facts : Option VersionEvent → Until → List VersionEvent → List Fact
 apart_facts equal until done = option_to_list
-    (option_map (λ (s : Shown). version_by (codes "equal") s.version s.place) equal)
+    (option_map (λ (s : VersionEvent). version_by (codes "equal") s.version s.place) equal)
     ++ suspect_facts equal until done
 
 -- 702: these snapshots; and with 608 this
@@ -80,15 +223,13 @@ texts_traced snapshots apart rule =
     if rule == rules.SNAPSHOT_DIFFERS then map (cited (codes "snapshot")) snapshots ++ apart
     else (if rule == rules.SAVED_TEXT_DIFFERS then apart else [])
 
-abbrev pub document_traced : List Step → List EventPlace → Until → ℕ → List Fact
+abbrev pub document_traced : List KeptCall → List EventPlace → Until → ℕ → List Fact
 document_traced done snapshots until rule =
     texts_traced snapshots (apart_facts (agreed done) until (recent done)) rule
 
 -- what an act says about a document after these events, under what was agreed
 abbrev pub act_call : Terms → List Event → Act → Option Call
-act_call terms before act =
-    call_of (unwrap_or (encoding (sent_in (kept_of terms before))) Utf16)
-    (unwrap_or (sync_kind (sent_in (kept_of terms before))) Nothing) act
+act_call terms before act = said_after (kept_of terms before) act
 
 -- the events that brought a call, the event of this place, that breaks this rule after these events
 abbrev pub call_traced : Terms → List Event → EventPlace → ℕ → Option Call → List Fact
@@ -103,7 +244,7 @@ abbrev pub message_traced : Terms → List Event → EventPlace → ℕ → Opti
 message_traced terms before p rule said =
     call_traced terms before p rule said ++ unopened_traced terms before rule said
 
--- ---- messages
+-- ---- about messages
 
 -- the side's open request with this id, and the event that asked it, where there is an id
 abbrev pub twin_facts : Side → List Numbered → Option Ident → List Fact

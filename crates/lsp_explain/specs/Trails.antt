@@ -1,14 +1,42 @@
 -- What is noted of the events of a session on the way.
-use Rattle.std.specs.Prelude.{List}
-use Rattle.lsp_docs.specs.Terms.{Terms}
-use Rattle.lsp_explain.specs.Marks.{AreMarks}
-use Rattle.lsp_explain.specs.Openings.{AreOpenings}
-use Rattle.lsp_explain.specs.SessionNoting.{AreNotes}
+use Rattle.std.specs.Prelude.{[], ◌++◌, List, Option}
+use Rattle.std.specs.List.{cons_option}
+use Rattle.lsp_docs.specs.Documents.{Terms}
 use Rattle.lsp_verdict.specs.Event.{Event}
+use Rattle.lsp_verdict.specs.Offences.{kept_of}
+use Rattle.lsp_replay.specs.Standing.{Holds}
+use Rattle.lsp_explain.specs.History.{KeptCall}
+use Rattle.lsp_explain.specs.Marking.{AreMarks, MarkedBy}
+use Rattle.lsp_explain.specs.Openings.{AreOpenings, OpenedBy}
+use Rattle.lsp_explain.specs.SessionNoting.{AreNotes}
+use Rattle.lsp_explain.specs.declared.notes.marks.Marks.{Marks}
+use Rattle.lsp_explain.specs.declared.notes.openings.Openings.{Openings}
 use Rattle.lsp_explain.specs.declared.trail.Trail.{Trail}
+use Rattle.lsp_explain.specs.declared.trail.Past.{Past}
+
+-- ---- what is noted
 
 -- **what is noted is what these events left**
 pub record IsTrail (terms : Terms) (t : Trail) (events : List Event) : Type 0 where
   pub marked : AreMarks terms t.marks.map.entries events
   pub opened : AreOpenings terms t.openings events
   pub noted : AreNotes terms t.said events
+
+-- one more kept call is noted, or none
+pub record Keeps (more : Option KeptCall) (marks : Marks) (openings : Openings) (next : Marks)
+    (behind : Openings) : Type 0 where
+  pub marked : (calls : List KeptCall) → MarkedBy marks.map.entries calls
+      → MarkedBy next.map.entries (calls ++ cons_option more [])
+  pub opened : (calls : List KeptCall) → OpenedBy openings calls
+      → OpenedBy behind (calls ++ cons_option more [])
+
+-- ---- for which events it stands, where each that offends is skipped
+
+-- the terms of its log
+abbrev pub terms_in : Past → Terms
+terms_in p = p.held.now.docs.terms
+
+-- **what is held and noted is the result of these events**
+pub record StandsAfter (p : Past) (before : List Event) : Type 0 where
+  pub holds : Holds p.held.now.session p.held.now.docs (kept_of (terms_in p) before)
+  pub trail : IsTrail (terms_in p) p.trail.now before

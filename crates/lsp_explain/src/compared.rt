@@ -1,22 +1,23 @@
 //! The whole texts of a verdict that says that two texts differ.
 ghost use Rattle.std.specs.Prelude.{◌≡◌, List, None, IfOk, option_map};
-ghost use Rattle.lsp_docs.specs.Terms.{Terms};
-ghost use Rattle.lsp_facts.specs.TwoTexts.{texts_at, texts_view};
+ghost use Rattle.lsp_docs.specs.Documents.{Terms};
+ghost use Rattle.lsp_facts.specs.TwoTexts.{texts_at};
 ghost use Rattle.lsp_replay.specs.LogEvents.{flaw_of};
 ghost use Rattle.lsp_replay.specs.Telling.{IsSeen, kept_before};
 ghost use Rattle.lsp_replay.specs.TextAnswers.{WritesText, answer_view};
 ghost use Rattle.lsp_replay.specs.declared.seen.Seen.TheVariants as variants;
 ghost use Rattle.lsp_verdict.specs.Heard.{Heard, heard_events};
-ghost use Rattle.lsp_verdict.specs.Ports.{ports};
+ghost use Rattle.lsp_verdict.specs.Runs.{ports};
 ghost use Rattle.lsp_verdict.specs.Verdict.{bad_log_of, first_no};
 ghost use Rattle.lsp_explain.specs.Compared as spec;
 ghost use Rattle.lsp_explain.specs.Compared.{AnswersCompared, ComparedAsked, compared_run};
-ghost use Rattle.lsp_explain.specs.Compared.{sound_answer};
+ghost use Rattle.lsp_explain.specs.Compared.{seen_texts, sound_answer};
 
+use lsp_docs::Tried;
 use lsp_facts::{TwoTexts, message_texts, shown_texts};
 use lsp_frame::{Limits, Sink, Source};
 use lsp_replay::{Account, End, Events, Flow, LogEvents, Seen, TextAnswer, pass};
-use lsp_rpc::{Memory, Spoken};
+use lsp_rpc::{Result, Spoken};
 use lsp_text::Lined;
 use lsp_verdict::{Outcome, Raw, RunFault, Verdict};
 use std::alloc::Global;
@@ -65,75 +66,75 @@ impl Account for OneText {
 
     ghost stands = { λ account terms heard. first_no terms (heard_events heard) ≡ None };
 
-    fn event(
-        &mut self,
-        alloc: Global,
-        held: &Events<Lined>,
-        seen: Seen<'_>,
-        text: &mut String,
-    ) -> Result<Flow, Memory> {
-        let Seen::Offence { raw, rule, spoken } = seen else {
+    fn event(&mut self, held: &Events<Lined>, seen: Seen<'_>, text: &mut String) -> Result<Flow> {
+        let Seen::Offence {
+            raw,
+            rule,
+            spoken,
+            tried,
+        } = seen
+        else {
             return Ok(Flow::GoOn);
         };
-        let texts = texts_of(alloc, held, raw, rule, spoken)?;
-        let outcome = one_of(texts, self.which).add(text)?;
-        let boxed = Box::new(alloc, outcome)?;
-        Ok(Flow::Stop(boxed))
+        let texts = texts_of(held, raw, rule, spoken, tried);
+        one_of(*text.allocator(), texts, self.which)?.stop(text)
     }
 
     fn end(
         &mut self,
-        _alloc: Global,
         _held: &Events<Lined>,
         _log: &LogEvents,
         end: End,
         text: &mut String,
-    ) -> Result<Outcome, Memory> {
+    ) -> Result<Outcome> {
         let outcome = answer_at(end).add(text)?;
         Ok(outcome)
     }
 }
 
-/// The two texts of an event that offends by this rule, and is a message or none, where it has any.
-fn texts_of(
-    alloc: Global,
-    held: &Events<Lined>,
-    raw: Raw<'_>,
+/// The two texts of an event that offends by this rule, and is a message or none, where it has any;
+/// this was tried of its changes.
+fn texts_of<'a>(
+    held: &'a Events<Lined>,
+    raw: Raw<'a>,
     rule: u16,
-    spoken: Option<&Spoken>,
-) -> Result<Option<TwoTexts>, Memory>
-    ensures { IfOk result (λ texts. (terms : Terms) (before : List Heard) (h : Heard)
+    spoken: Option<&'a Spoken>,
+    tried: Option<&'a Tried<Lined>>,
+) -> Option<TwoTexts<'a, Lined>>
+    ensures { (terms : Terms) (before : List Heard) (h : Heard)
         → IsSeen held.now.session held.now.docs held.now.counts
-        (variants.Offence raw.entry rule spoken.entry) terms before h
-        → option_map texts_view texts
-        ≡ texts_at terms (kept_before terms before) h.note.event rule) }
+        (variants.Offence raw.entry rule spoken.entry tried.entry) terms before h
+        → option_map seen_texts result
+        ≡ texts_at terms (kept_before terms before) h.note.event rule }
 {
     match raw {
         Raw::Snapshot { version, uri, text } => {
-            shown_texts(alloc, &held.docs, version, uri, text, rule)
+            shown_texts(&held.docs, version, uri, text, rule)
         }
         _ => match spoken {
-            Some(spoken) => message_texts(alloc, &held.session, &held.docs, &spoken.act, rule),
-            None => Ok(None),
+            Some(spoken) => message_texts(&held.docs, &spoken.act, rule, tried),
+            None => None,
         },
     }
 }
 
 /// The one of two texts, where there are two.
-fn one_of(texts: Option<TwoTexts>, which: ComparedText) -> TextAnswer
-    ensures { answer_view result ≡ spec.answer_of which (option_map texts_view texts) }
+fn one_of(
+    alloc: Global,
+    texts: Option<TwoTexts<'_, Lined>>,
+    which: ComparedText,
+) -> Result<TextAnswer>
+    ensures { IfOk result (λ answer. answer_view answer
+        ≡ spec.answer_of which (option_map seen_texts texts.entry)) }
 {
     let Some(texts) = texts else {
-        return TextAnswer::NoDifference;
+        return Ok(TextAnswer::NoDifference);
     };
-    let TwoTexts {
-        by_messages,
-        in_editor,
-    } = texts;
-    match which {
-        ComparedText::ByMessages => TextAnswer::Text(by_messages),
-        ComparedText::InEditor => TextAnswer::Text(in_editor),
-    }
+    let text = match which {
+        ComparedText::ByMessages => texts.by_messages.to_text(alloc)?,
+        ComparedText::InEditor => String::from_str(alloc, texts.in_editor)?,
+    };
+    Ok(TextAnswer::Text(text))
 }
 
 /// What is answered at the end of a log none of whose events offends.

@@ -1,9 +1,8 @@
 //! Laws of what is explained.
 ghost use Rattle.lsp_explain.specs.Compared.{OneComparedText};
-ghost use Rattle.lsp_explain.specs.ExplainLaws.{BeginsWithReport, CausesAreExplained};
-ghost use Rattle.lsp_explain.specs.ExplainLaws.{FirstIsVerdict, OneExplanation};
-ghost use Rattle.lsp_explain.specs.ExplainLaws.{OneExplanationOfAll, SomeExplanation};
-ghost use Rattle.lsp_explain.specs.ExplainLaws.{SomeExplanationOfAll, YesIsReport};
+ghost use Rattle.lsp_explain.specs.Explained.{BeginsWithReport, CausesAreExplained, FirstIsVerdict};
+ghost use Rattle.lsp_explain.specs.Explained.{OneExplanation, OneExplanationOfAll, SomeExplanation};
+ghost use Rattle.lsp_explain.specs.Explained.{SomeExplanationOfAll, YesIsReport};
 
 /// An explanation begins with the report of the verdict.
 pub fn explanation_begins_with_report()

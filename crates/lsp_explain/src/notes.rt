@@ -16,11 +16,11 @@ mod remarks;
 mod renames;
 mod session_notes;
 mod standard_methods;
-mod touched;
+mod step;
 
-pub(crate) use mark::{Setter, Shown};
+pub(crate) use mark::VersionEvent;
 pub(crate) use marks::Marks;
 pub(crate) use misuses::{Misuse, Misused};
 pub(crate) use openings::{Closing, DocumentEvent, Openings};
-pub(crate) use renames::Renamed;
 pub(crate) use session_notes::SessionNotes;
+pub(crate) use step::{Step, step_in};

@@ -1,59 +1,53 @@
 //! The notes on a session, which change no verdict.
-ghost use Rattle.std.specs.Prelude.{◌≡◌, ◌++◌, List, OnOk, IfOk, map, option_map};
+ghost use Rattle.std.specs.Prelude.{◌≡◌, ◌++◌, List, OnOk, map, option_map};
 ghost use Rattle.std.specs.Prelude.{string_bytes};
-ghost use Rattle.lsp_explain.specs.Misuses.{misused_views};
-ghost use Rattle.lsp_explain.specs.Renames.{renamed_view};
-ghost use Rattle.lsp_explain.specs.Touched.{names_view};
+ghost use Rattle.lsp_explain.specs.SessionRemarks.{misused_views};
+ghost use Rattle.lsp_explain.specs.Openings.{names_view, on_view};
 ghost use Rattle.lsp_verdict.specs.Event.{Event};
 ghost use Rattle.lsp_verdict.specs.Given.{verdict_view};
 ghost use Rattle.lsp_explain.specs.Remarks as spec;
-ghost use Rattle.lsp_explain.specs.Remarks.{exit_remarks, misuse_line, name_remarks};
+ghost use Rattle.lsp_explain.specs.Remarks.{misuse_line, name_remarks};
 ghost use Rattle.lsp_explain.specs.Remarks.{noticed, old_name_remarks, remark_lines, remarks_of};
 ghost use Rattle.lsp_explain.specs.Remarks.{uncompared, unshown_line};
-ghost use Rattle.lsp_explain.specs.Standing.{StandsAfter, terms_in};
+ghost use Rattle.lsp_explain.specs.Trails.{StandsAfter, terms_in};
 
-use crate::notes::{Misuse, Misused, Renamed};
+use crate::notes::{DocumentEvent, Misuse, Misused};
 use crate::trace::push_earlier;
 use crate::trail::Past;
 use lsp_facts::{Facts, encoding_name, push_facts};
-use lsp_replay::EventPlace;
-use lsp_rpc::{Encoding, Memory};
+use lsp_rpc::{Encoding, Result};
 use lsp_verdict::Verdict;
-use std::alloc::Global;
 use std::fmt::Write;
 
 /// Adds the notes on the messages that were heard, each on a line, and how many they are.
 ///
 /// # Errors
 /// `Memory` where memory was refused.
-pub(crate) fn push_remarks(
-    alloc: Global,
-    lines: &mut String,
-    past: Past<'_>,
-    verdict: &Verdict,
-) -> Result<(), Memory>
+pub(crate) fn push_remarks(lines: &mut String, past: Past<'_>, verdict: &Verdict) -> Result<()>
     ensures { OnOk result ((before : List Event) → StandsAfter past.entry before
         → string_bytes lines.new ≡ string_bytes lines.old ++ remark_lines
         (remarks_of (verdict_view verdict.now) (noticed (terms_in past.entry) before))) }
 {
     let Past { held, trail } = past;
-    let said = &trail.said;
-    let name = other_name(said.older_encoding(), held.session.encoding());
+    let heard = &trail.said.remarks;
+    let name = other_name(heard.older_encoding(), held.session.encoding());
+    let renamed = trail.said.renames.renamed();
     let unshown = trail.openings.unshown()?;
-    let remarks = remarks(
-        alloc,
-        said.misuses(),
-        said.abrupt_exit(),
-        name,
-        said.renamed(),
-        unshown.as_slice(),
-        verdict,
+    let mut remarks = Facts::new(*lines.allocator());
+    push_misuses(&mut remarks, heard.misuses.as_slice())?;
+    push_earlier(
+        &mut remarks,
+        "note exit-without-shutdown",
+        heard.abrupt_exit,
     )?;
+    push_name(&mut remarks, name)?;
+    push_renamed(&mut remarks, renamed)?;
+    push_uncompared(&mut remarks, verdict, unshown.as_slice())?;
     push_counted(lines, &remarks)
 }
 
 /// Adds the lines of notes, and how many they are, if there are any.
-fn push_counted(lines: &mut String, remarks: &Facts) -> Result<(), Memory>
+fn push_counted(lines: &mut String, remarks: &Facts) -> Result<()>
     ensures { OnOk result (string_bytes lines.new
         ≡ string_bytes lines.old ++ remark_lines remarks.now) }
 {
@@ -65,33 +59,8 @@ fn push_counted(lines: &mut String, remarks: &Facts) -> Result<(), Memory>
     Ok(())
 }
 
-/// The notes of all kinds.
-fn remarks(
-    alloc: Global,
-    misuses: &[Misused],
-    exit: Option<EventPlace>,
-    name: Option<&str>,
-    renamed: Option<&Renamed>,
-    unshown: &[String],
-    verdict: &Verdict,
-) -> Result<Facts, Memory>
-    ensures { IfOk result (λ remarks. remarks
-        ≡ map misuse_line (misused_views misuses.now) ++ exit_remarks exit
-        ++ name_remarks (option_map (λ s. s.now) name.entry)
-        ++ old_name_remarks (option_map (λ r. renamed_view r.now) renamed.entry)
-        ++ uncompared (verdict_view verdict.now) (names_view unshown.now)) }
-{
-    let mut remarks = Facts::new(alloc);
-    push_misuses(&mut remarks, misuses)?;
-    push_earlier(&mut remarks, "note exit-without-shutdown", exit)?;
-    push_name(&mut remarks, name)?;
-    push_renamed(&mut remarks, renamed)?;
-    push_uncompared(&mut remarks, verdict, unshown)?;
-    Ok(remarks)
-}
-
 /// Adds the calls that were not sent as LSP 3.17 defines them.
-fn push_misuses(remarks: &mut Facts, misuses: &[Misused]) -> Result<(), Memory>
+fn push_misuses(remarks: &mut Facts, misuses: &[Misused]) -> Result<()>
     ensures { OnOk result (remarks.new
         ≡ remarks.old ++ map misuse_line (misused_views misuses.now)) }
 {
@@ -114,7 +83,7 @@ fn misuse_key(misuse: Misuse) -> &'static str
 }
 
 /// Adds the encoding that is named in the older way, if there is one.
-fn push_name(remarks: &mut Facts, name: Option<&str>) -> Result<(), Memory>
+fn push_name(remarks: &mut Facts, name: Option<&str>) -> Result<()>
     ensures { OnOk result (remarks.new
         ≡ remarks.old ++ name_remarks (option_map (λ s. s.now) name.entry)) }
 {
@@ -126,9 +95,9 @@ fn push_name(remarks: &mut Facts, name: Option<&str>) -> Result<(), Memory>
 
 /// Adds the message about a document under a URI that its file lost when it was renamed, if there
 /// is one.
-fn push_renamed(remarks: &mut Facts, renamed: Option<&Renamed>) -> Result<(), Memory>
+fn push_renamed(remarks: &mut Facts, renamed: Option<&DocumentEvent>) -> Result<()>
     ensures { OnOk result (remarks.new
-        ≡ remarks.old ++ old_name_remarks (option_map (λ r. renamed_view r.now) renamed.entry)) }
+        ≡ remarks.old ++ old_name_remarks (option_map (λ r. on_view r.now) renamed.entry)) }
 {
     match renamed {
         Some(renamed) => remarks.text_by("note renamed", renamed.uri.as_str(), renamed.place),
@@ -138,7 +107,7 @@ fn push_renamed(remarks: &mut Facts, renamed: Option<&Renamed>) -> Result<(), Me
 
 /// Adds of a Yes that no snapshot was compared, or else the documents that were changed and have
 /// none.
-fn push_uncompared(remarks: &mut Facts, verdict: &Verdict, unshown: &[String]) -> Result<(), Memory>
+fn push_uncompared(remarks: &mut Facts, verdict: &Verdict, unshown: &[String]) -> Result<()>
     ensures { OnOk result (remarks.new
         ≡ remarks.old ++ uncompared (verdict_view verdict.now) (names_view unshown.now)) }
 {
@@ -152,7 +121,7 @@ fn push_uncompared(remarks: &mut Facts, verdict: &Verdict, unshown: &[String]) -
 }
 
 /// Adds the documents that were changed and have no snapshot.
-fn push_unshown(remarks: &mut Facts, unshown: &[String]) -> Result<(), Memory>
+fn push_unshown(remarks: &mut Facts, unshown: &[String]) -> Result<()>
     ensures { OnOk result (remarks.new
         ≡ remarks.old ++ map unshown_line (names_view unshown.now)) }
 {

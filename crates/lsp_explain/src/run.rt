@@ -1,18 +1,18 @@
 //! Explains the verdict on a log.
 ghost use Rattle.std.specs.Prelude.{◌≡◌, ◌++◌, ◌<◌, ◌^◌, List, None, IfOk, length, string_bytes};
 ghost use Rattle.std.specs.Prelude.{map, take};
-ghost use Rattle.lsp_docs.specs.Terms.{Terms};
+ghost use Rattle.lsp_docs.specs.Documents.{Terms};
 ghost use Rattle.lsp_replay.specs.LogEvents.{flaw_of};
 ghost use Rattle.lsp_replay.specs.Telling.{Stood};
 ghost use Rattle.lsp_survey.specs.SessionEnds.{ends_held};
 ghost use Rattle.lsp_verdict.specs.Given.{verdict_view};
 ghost use Rattle.lsp_verdict.specs.Heard.{Heard, heard_events};
-ghost use Rattle.lsp_verdict.specs.Ports.{ports};
+ghost use Rattle.lsp_verdict.specs.Runs.{ports};
 ghost use Rattle.lsp_verdict.specs.Survey.{by_itself};
 ghost use Rattle.lsp_verdict.specs.Verdict.{bad_log_of, first_no, summary};
 ghost use Rattle.lsp_verdict.specs.declared.completeness.Completeness.{Completeness};
-ghost use Rattle.lsp_explain.specs.Accounts.{FirstStands, flaw_held, rests_held};
-ghost use Rattle.lsp_explain.specs.ExplainRuns.{end_verdict, ends_said, explain_run};
+ghost use Rattle.lsp_explain.specs.ExplainRuns.{FirstStands, flaw_held, rests_held, end_verdict};
+ghost use Rattle.lsp_explain.specs.ExplainRuns.{ends_said, explain_run};
 ghost use Rattle.lsp_explain.specs.Explained.{WritesExplanation, explanation};
 ghost use Rattle.lsp_explain.specs.Trails.{IsTrail};
 
@@ -20,9 +20,9 @@ use crate::offence_facts::{push_end, push_flaw, push_offence};
 use crate::remarks::push_remarks;
 use crate::trail::{Past, Trail};
 use lsp_frame::{Limits, Sink, Source};
-use lsp_replay::{Account, End, Events, Flow, LogEvents, Seen, pass};
-use lsp_rpc::Memory;
-use lsp_survey::{OffenceCount, SessionEnd, last_offence, session_end};
+use lsp_replay::{Account, End, Events, Flow, LogEvents, Seen, last_offence, pass};
+use lsp_rpc::Result;
+use lsp_survey::{OffenceCount, SessionEnd, session_end};
 use lsp_text::Lined;
 use lsp_verdict::{Completeness, Outcome, RunFault, Verdict};
 use std::alloc::Global;
@@ -72,56 +72,50 @@ impl Account for FirstOffence {
     ghost stands = { FirstStands };
 
     #[inline(always)]
-    fn event(
-        &mut self,
-        alloc: Global,
-        held: &Events<Lined>,
-        seen: Seen<'_>,
-        text: &mut String,
-    ) -> Result<Flow, Memory> {
-        let Seen::Offence { raw, rule, spoken } = seen else {
+    fn event(&mut self, held: &Events<Lined>, seen: Seen<'_>, text: &mut String) -> Result<Flow> {
+        let Seen::Offence {
+            raw,
+            rule,
+            spoken,
+            tried,
+        } = seen
+        else {
             self.trail.keep(held, seen)?;
             return Ok(Flow::GoOn);
         };
-        let past = Past {
-            held,
-            trail: &self.trail,
-        };
-        let offence = last_offence(&held.counts, raw.who(), rule, false);
+        let trail = &self.trail;
+        let past = Past { held, trail };
+        let offence = last_offence(&held.counts, raw, rule, false);
         let verdict = offence.verdict();
-        push_offence(alloc, text, past, &offence, raw, spoken)?;
-        push_remarks(alloc, text, past, &verdict)?;
-        let boxed = Box::new(alloc, Outcome::Judged(verdict))?;
+        push_offence(text, past, &offence, raw, spoken, tried)?;
+        push_remarks(text, past, &verdict)?;
+        let boxed = Box::new(*text.allocator(), Outcome::Judged(verdict))?;
         Ok(Flow::Stop(boxed))
     }
 
     fn end(
         &mut self,
-        alloc: Global,
         held: &Events<Lined>,
         log: &LogEvents,
         end: End,
         text: &mut String,
-    ) -> Result<Outcome, Memory> {
-        let past = Past {
-            held,
-            trail: &self.trail,
-        };
-        let verdict = push_ending(alloc, text, past, log, end, self.completeness)?;
-        push_remarks(alloc, text, past, &verdict)?;
+    ) -> Result<Outcome> {
+        let trail = &self.trail;
+        let past = Past { held, trail };
+        let verdict = push_ending(text, past, log, end, self.completeness)?;
+        push_remarks(text, past, &verdict)?;
         Ok(Outcome::Judged(verdict))
     }
 }
 
 /// Adds what explains how a log ends none of whose events offends, and gives the verdict.
 fn push_ending(
-    alloc: Global,
     text: &mut String,
     past: Past<'_>,
     log: &LogEvents,
     end: End,
     completeness: Completeness,
-) -> Result<Verdict, Memory>
+) -> Result<Verdict>
     ensures { IfOk result (λ verdict. (terms : Terms) (heard : List Heard)
         → IsTrail terms past.entry.trail.now (heard_events heard)
         → first_no terms (heard_events heard) ≡ None
@@ -136,12 +130,12 @@ fn push_ending(
         × (verdict_view verdict ≡ end_verdict terms heard (flaw_of end)
         (ends_held completeness terms heard log.now end))) }
 {
-    let SessionEnd { listed, bad } = session_end(alloc, past.held, log, end, completeness)?;
+    let SessionEnd { listed, bad } = session_end(past.held, log, end, completeness)?;
     if let Some(offence) = listed.first() {
-        push_end(alloc, text, past, log, offence)?;
+        push_end(text, past, log, offence)?;
         return Ok(offence.verdict());
     }
-    let verdict = OffenceCount::new().push_verdict(alloc, past.held, bad, text)?;
-    push_flaw(alloc, text, log, end)?;
+    let verdict = OffenceCount::new().push_verdict(past.held, bad, text)?;
+    push_flaw(text, log, end)?;
     Ok(verdict)
 }

@@ -1,25 +1,24 @@
 //! Explains all that is wrong with a log.
 ghost use Rattle.std.specs.Prelude.{◌≡◌, ◌++◌, [], List, OnOk, map, string_bytes};
 ghost use Rattle.std.specs.List.{flat_map};
-ghost use Rattle.lsp_docs.specs.Terms.{Terms};
+ghost use Rattle.lsp_docs.specs.Documents.{Terms};
 ghost use Rattle.lsp_replay.specs.Telling.{Stood};
 ghost use Rattle.lsp_survey.specs.Reported.{IsTally};
 ghost use Rattle.lsp_verdict.specs.Given.{offence_view};
 ghost use Rattle.lsp_verdict.specs.Heard.{Heard, heard_events};
 ghost use Rattle.lsp_verdict.specs.Offences.{Offence as SpecOffence};
-ghost use Rattle.lsp_verdict.specs.Ports.{ports};
+ghost use Rattle.lsp_verdict.specs.Runs.{ports};
 ghost use Rattle.lsp_verdict.specs.declared.completeness.Completeness.{Completeness};
-ghost use Rattle.lsp_explain.specs.Accounts.{AllStands, rests_held};
-ghost use Rattle.lsp_explain.specs.AllExplained.{ExplainsAll, cause_lines};
-ghost use Rattle.lsp_explain.specs.ExplainRuns.{all_run, ends_said};
+ghost use Rattle.lsp_explain.specs.ExplainRuns.{AllStands, rests_held, all_run, ends_said};
+ghost use Rattle.lsp_explain.specs.Explained.{ExplainsAll, cause_lines};
 ghost use Rattle.lsp_explain.specs.Trails.{IsTrail};
 
 use crate::offence_facts::{push_end, push_flaw, push_offence};
 use crate::trail::{Past, Trail};
 use lsp_frame::{Limits, Sink, Source};
-use lsp_replay::{Account, End, Events, Flow, LogEvents, Seen, pass};
-use lsp_rpc::Memory;
-use lsp_survey::{Losses, OffenceCount, SessionEnd, last_offence, session_end};
+use lsp_replay::{Account, End, Events, Flow, LogEvents, Seen, last_offence, pass};
+use lsp_rpc::Result;
+use lsp_survey::{Losses, OffenceCount, SessionEnd, session_end};
 use lsp_text::Lined;
 use lsp_verdict::{Completeness, Offence, Outcome, RunFault};
 use std::alloc::Global;
@@ -78,12 +77,11 @@ impl AllCauses {
     /// Explains and counts what is listed of the end of a session.
     fn explain_ends(
         &mut self,
-        alloc: Global,
         held: &Events<Lined>,
         log: &LogEvents,
         listed: &[Offence],
         text: &mut String,
-    ) -> Result<(), Memory>
+    ) -> Result<()>
         ensures completeness { self.new.completeness ≡ self.old.completeness }
         ensures losses { self.new.losses ≡ self.old.losses }
         ensures trail { self.new.trail ≡ self.old.trail }
@@ -98,11 +96,9 @@ impl AllCauses {
     {
         for offence in listed {
             self.tally.add(offence);
-            let past = Past {
-                held,
-                trail: &self.trail,
-            };
-            push_end(alloc, text, past, log, offence)?;
+            let trail = &self.trail;
+            let past = Past { held, trail };
+            push_end(text, past, log, offence)?;
         }
         Ok(())
     }
@@ -118,44 +114,41 @@ impl Account for AllCauses {
     ghost stands = { AllStands };
 
     #[inline(always)]
-    fn event(
-        &mut self,
-        alloc: Global,
-        held: &Events<Lined>,
-        seen: Seen<'_>,
-        text: &mut String,
-    ) -> Result<Flow, Memory> {
-        let follows = self.losses.tell(alloc, held, seen)?;
-        let Seen::Offence { raw, rule, spoken } = seen else {
+    fn event(&mut self, held: &Events<Lined>, seen: Seen<'_>, text: &mut String) -> Result<Flow> {
+        let follows = self.losses.tell(held, seen)?;
+        let Seen::Offence {
+            raw,
+            rule,
+            spoken,
+            tried,
+        } = seen
+        else {
             self.trail.keep(held, seen)?;
             return Ok(Flow::GoOn);
         };
-        let offence = last_offence(&held.counts, raw.who(), rule, follows);
+        let offence = last_offence(&held.counts, raw, rule, follows);
         self.tally.add(&offence);
         if follows {
             return Ok(Flow::GoOn);
         }
-        let past = Past {
-            held,
-            trail: &self.trail,
-        };
-        push_offence(alloc, text, past, &offence, raw, spoken)?;
+        let trail = &self.trail;
+        let past = Past { held, trail };
+        push_offence(text, past, &offence, raw, spoken, tried)?;
         Ok(Flow::GoOn)
     }
 
     fn end(
         &mut self,
-        alloc: Global,
         held: &Events<Lined>,
         log: &LogEvents,
         end: End,
         text: &mut String,
-    ) -> Result<Outcome, Memory> {
-        let SessionEnd { listed, bad } = session_end(alloc, held, log, end, self.completeness)?;
-        self.explain_ends(alloc, held, log, listed.as_slice(), text)?;
-        let verdict = self.tally.push_verdict(alloc, held, bad, text)?;
-        push_flaw(alloc, text, log, end)?;
-        self.tally.push_count(alloc, text)?;
+    ) -> Result<Outcome> {
+        let SessionEnd { listed, bad } = session_end(held, log, end, self.completeness)?;
+        self.explain_ends(held, log, listed.as_slice(), text)?;
+        let verdict = self.tally.push_verdict(held, bad, text)?;
+        push_flaw(text, log, end)?;
+        self.tally.push_count(text)?;
         Ok(Outcome::Judged(verdict))
     }
 }

@@ -1,14 +1,14 @@
 //! Which messages may have made texts differ.
 ghost use Rattle.std.specs.Prelude.{◌≡◌, ◌≤◌, ◌++◌, OnOk, length};
 ghost use Rattle.std.specs.List.{prefix_len};
-ghost use Rattle.lsp_explain.specs.LastOnes.{last_ones};
+ghost use Rattle.lsp_explain.specs.History.{last_ones};
 ghost use Rattle.lsp_explain.specs.Marking.{rank_or};
-ghost use Rattle.lsp_explain.specs.Suspects as spec;
+ghost use Rattle.lsp_explain.specs.Traced as spec;
 
-use crate::notes::{Setter, Shown};
+use crate::notes::VersionEvent;
 use lsp_facts::Facts;
 use lsp_replay::EventPlace;
-use lsp_rpc::Memory;
+use lsp_rpc::Result;
 
 /// How many of the messages that set a version are named at most.
 const MOST_NAMED: usize = 17;
@@ -27,10 +27,10 @@ pub(crate) enum Until {
 /// Adds how many messages can have made texts differ, and the last of them, in order.
 pub(crate) fn push_suspects(
     facts: &mut Facts,
-    equal: Option<Shown>,
+    equal: Option<VersionEvent>,
     until: Until,
-    setters: &[Setter],
-) -> Result<(), Memory>
+    setters: &[VersionEvent],
+) -> Result<()>
     ensures { OnOk result (facts.new ≡ facts.old
         ++ spec.suspect_facts equal until setters.now) }
 {
@@ -43,7 +43,7 @@ pub(crate) fn push_suspects(
 }
 
 /// The rank of the version that was found equal; 0 where none was.
-fn equal_rank(equal: Option<Shown>) -> u64
+fn equal_rank(equal: Option<VersionEvent>) -> u64
     ensures { result ≡ spec.equal_rank equal }
 {
     match equal {
@@ -53,13 +53,13 @@ fn equal_rank(equal: Option<Shown>) -> u64
 }
 
 /// Those of the messages that set a version after the one of this rank.
-fn after_equal(rank: u64, setters: &[Setter]) -> &[Setter]
+fn after_equal(rank: u64, setters: &[VersionEvent]) -> &[VersionEvent]
     ensures { result.now ≡ spec.after_equal rank setters.now }
 {
     &setters[count_cleared(rank, setters)..]
 }
 
-fn count_cleared(rank: u64, setters: &[Setter]) -> usize
+fn count_cleared(rank: u64, setters: &[VersionEvent]) -> usize
     ensures value { result ≡ prefix_len (spec.is_cleared rank) setters.now }
     ensures bound { result ≤ length setters.now }
 {
@@ -69,20 +69,20 @@ fn count_cleared(rank: u64, setters: &[Setter]) -> usize
         .count()
 }
 
-fn is_cleared(rank: u64, setter: &Setter) -> bool
+fn is_cleared(rank: u64, setter: &VersionEvent) -> bool
     ensures { result ≡ spec.is_cleared rank setter.now }
 {
     setter.rank <= rank
 }
 
 /// Those of the messages that come no later than the one by which the text came about.
-fn up_to(until: Until, setters: &[Setter]) -> &[Setter]
+fn up_to(until: Until, setters: &[VersionEvent]) -> &[VersionEvent]
     ensures { result.now ≡ spec.up_to until setters.now }
 {
     &setters[..count_up_to(until, setters)]
 }
 
-fn count_up_to(until: Until, setters: &[Setter]) -> usize
+fn count_up_to(until: Until, setters: &[VersionEvent]) -> usize
     ensures value { result ≡ prefix_len (spec.is_up_to until) setters.now }
     ensures bound { result ≤ length setters.now }
 {
@@ -92,7 +92,7 @@ fn count_up_to(until: Until, setters: &[Setter]) -> usize
         .count()
 }
 
-fn is_up_to(until: Until, setter: &Setter) -> bool
+fn is_up_to(until: Until, setter: &VersionEvent) -> bool
     ensures { result ≡ spec.is_up_to until setter.now }
 {
     match until {
@@ -102,21 +102,21 @@ fn is_up_to(until: Until, setter: &Setter) -> bool
 }
 
 /// The last of the suspects, as many as are named.
-fn last_named(setters: &[Setter]) -> &[Setter]
+fn last_named(setters: &[VersionEvent]) -> &[VersionEvent]
     ensures { result.now ≡ last_ones spec.most_named setters.now }
 {
     &setters[setters.len().saturating_sub(MOST_NAMED)..]
 }
 
 /// How many suspects there are, also those that are not named.
-fn suspect_count(rank: u64, until: Until, named: &[Setter]) -> u64
+fn suspect_count(rank: u64, until: Until, named: &[VersionEvent]) -> u64
     ensures { result ≡ spec.suspect_count rank until named.now }
 {
     rank_at(rank, until, named).saturating_sub(rank)
 }
 
 /// The rank of the version that differs.
-fn rank_at(rank: u64, until: Until, named: &[Setter]) -> u64
+fn rank_at(rank: u64, until: Until, named: &[VersionEvent]) -> u64
     ensures { result ≡ spec.rank_at rank until named.now }
 {
     let last = last_rank(rank, named);
@@ -127,7 +127,7 @@ fn rank_at(rank: u64, until: Until, named: &[Setter]) -> u64
 }
 
 /// The rank of the last of the messages, or this one where there is none.
-fn last_rank(rank: u64, named: &[Setter]) -> u64
+fn last_rank(rank: u64, named: &[VersionEvent]) -> u64
     ensures { result ≡ rank_or rank named.now }
 {
     match named.last() {
@@ -136,18 +136,18 @@ fn last_rank(rank: u64, named: &[Setter]) -> u64
     }
 }
 
-fn push_named(facts: &mut Facts, named: &[Setter]) -> Result<(), Memory>
+fn push_named(facts: &mut Facts, named: &[VersionEvent]) -> Result<()>
     ensures { OnOk result (facts.new ≡ facts.old ++ spec.named_facts named.now) }
 {
     for setter in named {
-        let Setter { place, version, .. } = *setter;
+        let VersionEvent { place, version, .. } = *setter;
         facts.version_by("suspect", version, place)?;
     }
     Ok(())
 }
 
 /// Adds the message that offends, where the text came about by it.
-fn push_own(facts: &mut Facts, until: Until) -> Result<(), Memory>
+fn push_own(facts: &mut Facts, until: Until) -> Result<()>
     ensures { OnOk result (facts.new ≡ facts.old
         ++ spec.own_facts until) }
 {

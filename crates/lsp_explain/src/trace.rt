@@ -2,55 +2,59 @@
 ghost use Rattle.std.specs.Prelude.{◌≡◌, ◌++◌, ℕ, Some, chars, ◌∷◌, []};
 ghost use Rattle.std.specs.Prelude.{List, IfOk, OnOk, codes, map, option_map};
 ghost use Rattle.lsp_docs.specs.Calls.{Call, shows};
-ghost use Rattle.lsp_docs.specs.Terms.{Terms};
+ghost use Rattle.lsp_docs.specs.Documents.{Terms};
 ghost use Rattle.lsp_rpc.specs.Ident.{id_view};
 ghost use Rattle.lsp_rpc.specs.View.{act_view, message_view};
 ghost use Rattle.lsp_session.specs.Entry.{request_view};
 ghost use Rattle.lsp_session.specs.Sent.{other_side};
-ghost use Rattle.lsp_verdict.specs.Calls.{calls};
+ghost use Rattle.lsp_verdict.specs.Event.{calls, Event, message, snapshot};
 ghost use Rattle.lsp_replay.specs.Standing.{RefusesMessage};
-ghost use Rattle.lsp_verdict.specs.Event.{Event, message, snapshot};
+ghost use Rattle.lsp_replay.specs.Tries.{Breaks, TriesCall, made_in, said_after};
 ghost use Rattle.lsp_verdict.specs.Offences.{kept_of, rule_at};
 ghost use Rattle.lsp_verdict.specs.Verdict.{who_of};
 ghost use Rattle.lsp_verdict.specs.declared.verdict.Who.{Who};
 ghost use Rattle.lsp_explain.specs.Asking.{numbered};
-ghost use Rattle.lsp_explain.specs.Marking.{steps, waiting_for};
-ghost use Rattle.lsp_explain.specs.Marks.{AreMarks};
-ghost use Rattle.lsp_replay.specs.Places.{place_next};
+ghost use Rattle.lsp_explain.specs.Marking.{steps, waiting_for, AreMarks};
+ghost use Rattle.lsp_replay.specs.Lines.{place_next};
 ghost use Rattle.lsp_explain.specs.SessionNoting.{AreNotes};
-ghost use Rattle.lsp_facts.specs.EventFacts.{AreCallFacts, AreMessageFacts};
+ghost use Rattle.lsp_facts.specs.EventFacts.{AreCallFacts, AreMessageFacts, id_in};
 ghost use Rattle.lsp_facts.specs.Fact.{cited};
-ghost use Rattle.lsp_facts.specs.MessageFacts.{id_in};
 ghost use Rattle.lsp_facts.specs.Refuting.{refuting};
-ghost use Rattle.lsp_explain.specs.Standing.{StandsAfter, terms_in};
+ghost use Rattle.lsp_explain.specs.Trails.{StandsAfter, terms_in};
 ghost use Rattle.lsp_explain.specs.Traced as spec;
-ghost use Rattle.lsp_explain.specs.Twins.{twin};
+ghost use Rattle.lsp_explain.specs.Traced.{twin};
 
-use crate::notes::{Marks, SessionNotes, Setter, Shown};
+use crate::notes::{Marks, SessionNotes, VersionEvent};
 use crate::suspects::{Until, push_suspects};
 use crate::trail::Past;
 use crate::twins::twin_of;
 use crate::unopened::trace_unopened;
+use lsp_docs::Tried;
 use lsp_facts::{Facts, id_in, message_facts, refuting, shown_facts};
 use lsp_replay::EventPlace;
-use lsp_rpc::{Act, Encoding, Id, Memory, Message, Side, Spoken};
+use lsp_rpc::{Act, Id, Message, Result, Side, Spoken};
 use lsp_session::{OpenRequest, Pending};
 use lsp_survey::uri_in;
+use lsp_text::Lined;
 use lsp_types::rules;
 use std::alloc::Global;
 
 /// What is said about a message of a side, the event of this place, that offends by this rule, 301
-/// to 702, with the events that brought it. The past is of the events before it.
+/// to 702, with the events that brought it. The past is of the events before it, and this was tried
+/// of its changes.
 pub(crate) fn message_traced(
-    alloc: Global,
     past: Past<'_>,
     place: EventPlace,
     side: Side,
     spoken: &Spoken,
     rule: u16,
-) -> Result<Facts, Memory>
+    tried: Option<&Tried<Lined>>,
+) -> Result<Facts>
     ensures { IfOk result (λ facts. (content : List ℕ) (before : List Event)
         → StandsAfter past.entry before → place ≡ place_next before (who_of side)
+        → TriesCall (terms_in past.entry) (kept_of (terms_in past.entry) before)
+        (said_after (kept_of (terms_in past.entry) before) (act_view spoken.now.act)) rule
+        (made_in (option_map (λ t. t.now) tried.entry))
         → (refused : RefusesMessage side content (message_view spoken.now.message)
         (act_view spoken.now.act) (terms_in past.entry)
         (kept_of (terms_in past.entry) before) rule)
@@ -60,27 +64,27 @@ pub(crate) fn message_traced(
 {
     let Past { held, trail } = past;
     let set_by = setter_of(&trail.marks, uri_in(&spoken.act))?;
-    let mut facts = message_facts(alloc, &held.session, &held.docs, side, spoken, rule, set_by)?;
+    let (session, docs) = (&held.session, &held.docs);
+    let mut facts = message_facts(session, docs, side, spoken, rule, tried, set_by)?;
     if rule < rules::FIRST_ON_DOCUMENTS {
-        trace_message(alloc, &mut facts, &trail.said, side, &spoken.message, rule)?;
+        trace_message(&mut facts, &trail.said, side, &spoken.message, rule)?;
         return Ok(facts);
     }
-    trace_act(alloc, &mut facts, past, place, &spoken.act, rule)?;
-    trace_unopened(alloc, &mut facts, past, &spoken.act, rule)?;
+    trace_act(&mut facts, past, place, &spoken.act, rule, tried)?;
+    trace_unopened(&mut facts, past, &spoken.act, rule)?;
     Ok(facts)
 }
 
 /// What is said about a snapshot, the event of this place, that offends by this rule, with the
 /// events that brought it. The past is of the events before it.
 pub(crate) fn shown_traced(
-    alloc: Global,
     past: Past<'_>,
     place: EventPlace,
     version: i32,
     uri: &str,
     text: &str,
     rule: u16,
-) -> Result<Facts, Memory>
+) -> Result<Facts>
     ensures { IfOk result (λ facts. (before : List Event) → StandsAfter past.entry before
         → place ≡ place_next before Who.Snapshot
         → rule_at (terms_in past.entry) before (snapshot uri.now version (chars text.now))
@@ -94,14 +98,14 @@ pub(crate) fn shown_traced(
     let marks = &trail.marks;
     let set_by = setter_of(marks, Some(uri))?;
     let session = &held.session;
-    let mut facts = shown_facts(alloc, session, &held.docs, version, uri, text, rule, set_by)?;
+    let mut facts = shown_facts(session, &held.docs, version, uri, text, rule, set_by)?;
     let until = Until::Version(version);
     trace_document(&mut facts, marks, uri, &[place], until, rule)?;
     Ok(facts)
 }
 
 /// The event that set the version that is held of a URI.
-fn setter_of(marks: &Marks, uri: Option<&str>) -> Result<Option<EventPlace>, Memory>
+fn setter_of(marks: &Marks, uri: Option<&str>) -> Result<Option<EventPlace>>
     ensures { IfOk result (λ place. (terms : Terms) (before : List Event)
         → AreMarks terms marks.now.map.entries before
         → place ≡ spec.setter_of terms before (option_map (λ u. u.now) uri.entry)) }
@@ -114,7 +118,7 @@ fn setter_of(marks: &Marks, uri: Option<&str>) -> Result<Option<EventPlace>, Mem
 }
 
 /// The place of the last of these messages, which set the held version.
-fn last_place(setters: &[Setter]) -> Option<EventPlace>
+fn last_place(setters: &[VersionEvent]) -> Option<EventPlace>
     ensures { result ≡ spec.last_place setters.now }
 {
     match setters.last() {
@@ -127,14 +131,17 @@ fn last_place(setters: &[Setter]) -> Option<EventPlace>
 /// 702 the snapshots that wait for the version in it and have another text; under 608 and 702 the
 /// snapshot that was found equal, and the messages that can have made the texts differ.
 fn trace_act(
-    alloc: Global,
     facts: &mut Facts,
     past: Past<'_>,
     place: EventPlace,
     act: &Act,
     rule: u16,
-) -> Result<(), Memory>
+    tried: Option<&Tried<Lined>>,
+) -> Result<()>
     ensures { OnOk result ((before : List Event) → StandsAfter past.entry before
+        → Breaks (terms_in past.entry) (calls (kept_of (terms_in past.entry) before))
+        (spec.act_call (terms_in past.entry) before (act_view act.now)) rule
+        (made_in (option_map (λ t. t.now) tried.entry))
         → facts.new ≡ facts.old ++ spec.call_traced (terms_in past.entry) before place rule
         (spec.act_call (terms_in past.entry) before (act_view act.now))) }
 {
@@ -142,11 +149,11 @@ fn trace_act(
     match act {
         Act::DidOpen { uri, version, .. } => {
             let uri = uri.as_str();
-            trace_text(alloc, facts, past, place, act, uri, *version, rule)
+            trace_text(facts, past, place, act, uri, *version, rule, tried)
         }
         Act::DidChange { uri, version, .. } => {
             let uri = uri.as_str();
-            trace_text(alloc, facts, past, place, act, uri, *version, rule)
+            trace_text(facts, past, place, act, uri, *version, rule, tried)
         }
         Act::DidClose { uri } => trace_document(facts, marks, uri.as_str(), &[], Until::Held, rule),
         Act::DidSave { uri, .. } => {
@@ -158,7 +165,6 @@ fn trace_act(
 
 /// The same of an act that brings this document to a version.
 fn trace_text(
-    alloc: Global,
     facts: &mut Facts,
     past: Past<'_>,
     place: EventPlace,
@@ -166,9 +172,12 @@ fn trace_text(
     uri: &str,
     version: i32,
     rule: u16,
-) -> Result<(), Memory>
+    tried: Option<&Tried<Lined>>,
+) -> Result<()>
     ensures { OnOk result ((before : List Event) (call : Call) → StandsAfter past.entry before
         → spec.act_call (terms_in past.entry) before (act_view act.now) ≡ Some call
+        → Breaks (terms_in past.entry) (calls (kept_of (terms_in past.entry) before)) (Some call)
+        rule (made_in (option_map (λ t. t.now) tried.entry))
         → facts.new ≡ facts.old
         ++ spec.document_traced (steps (terms_in past.entry) uri.now before)
         (refuting (terms_in past.entry) (calls (kept_of (terms_in past.entry) before)) call
@@ -181,9 +190,8 @@ fn trace_text(
     if rule != rules::SNAPSHOT_DIFFERS {
         return trace_document(facts, marks, uri, &[], until, rule);
     }
-    let encoding = held.session.encoding().unwrap_or(Encoding::Utf16);
     let waiting = marks.waiting(uri, version);
-    let snapshots = refuting(alloc, &held.docs, encoding, act, waiting)?;
+    let snapshots = refuting(&held.docs, act, tried, waiting)?;
     trace_document(facts, marks, uri, snapshots.as_slice(), until, rule)
 }
 
@@ -195,7 +203,7 @@ fn trace_document(
     snapshots: &[EventPlace],
     until: Until,
     rule: u16,
-) -> Result<(), Memory>
+) -> Result<()>
     ensures { OnOk result ((terms : Terms) (before : List Event)
         → AreMarks terms marks.now.map.entries before
         → facts.new ≡ facts.old
@@ -210,12 +218,12 @@ fn trace_document(
 /// made the texts differ.
 fn push_texts(
     facts: &mut Facts,
-    equal: Option<Shown>,
-    setters: &[Setter],
+    equal: Option<VersionEvent>,
+    setters: &[VersionEvent],
     snapshots: &[EventPlace],
     until: Until,
     rule: u16,
-) -> Result<(), Memory>
+) -> Result<()>
     ensures { OnOk result (facts.new ≡ facts.old ++ spec.texts_traced snapshots.now
         (spec.apart_facts equal until setters.now) rule) }
 {
@@ -229,7 +237,7 @@ fn push_texts(
     Ok(())
 }
 
-fn push_snapshots(facts: &mut Facts, snapshots: &[EventPlace]) -> Result<(), Memory>
+fn push_snapshots(facts: &mut Facts, snapshots: &[EventPlace]) -> Result<()>
     ensures { OnOk result (facts.new ≡ facts.old ++ map (cited (codes "snapshot")) snapshots.now) }
 {
     for place in snapshots {
@@ -241,13 +249,13 @@ fn push_snapshots(facts: &mut Facts, snapshots: &[EventPlace]) -> Result<(), Mem
 /// Adds the snapshot that was found equal, and the messages that can have made the texts differ.
 fn push_apart(
     facts: &mut Facts,
-    equal: Option<Shown>,
-    setters: &[Setter],
+    equal: Option<VersionEvent>,
+    setters: &[VersionEvent],
     until: Until,
-) -> Result<(), Memory>
+) -> Result<()>
     ensures { OnOk result (facts.new ≡ facts.old ++ spec.apart_facts equal until setters.now) }
 {
-    if let Some(Shown { place, version, .. }) = equal {
+    if let Some(VersionEvent { place, version, .. }) = equal {
         facts.version_by("equal", version, place)?;
     }
     push_suspects(facts, equal, until, setters)
@@ -256,13 +264,12 @@ fn push_apart(
 /// Adds to the facts on a message of a side that breaks this rule, 301 to 504, under 401 to 412 the
 /// event that led to the phase, under 301 and 302 the events that have to do with its id.
 fn trace_message(
-    alloc: Global,
     facts: &mut Facts,
     said: &SessionNotes,
     side: Side,
     message: &Message,
     rule: u16,
-) -> Result<(), Memory>
+) -> Result<()>
     ensures { OnOk result ((terms : Terms) (before : List Event) → AreNotes terms said.now before
         → facts.new ≡ facts.old ++ spec.session_trace rule (numbered terms before) side
         (id_in (message_view message.now))) }
@@ -271,7 +278,7 @@ fn trace_message(
         return push_earlier(facts, "since", said.since());
     }
     match id_in(message) {
-        Some(id) => trace_id(alloc, facts, said, side, id, rule),
+        Some(id) => trace_id(facts, said, side, id, rule),
         None => Ok(()),
     }
 }
@@ -289,14 +296,7 @@ fn is_on_phase(rule: u16) -> bool
 /// Adds to the facts on a message of a side with this id, under 301 the open request whose id
 /// differs in its type alone, under 302 the event that asked the request that is open, under both
 /// the one that answered a request of this id before.
-fn trace_id(
-    alloc: Global,
-    facts: &mut Facts,
-    said: &SessionNotes,
-    side: Side,
-    id: &Id,
-    rule: u16,
-) -> Result<(), Memory>
+fn trace_id(facts: &mut Facts, said: &SessionNotes, side: Side, id: &Id, rule: u16) -> Result<()>
     ensures { OnOk result ((terms : Terms) (before : List Event) → AreNotes terms said.now before
         → facts.new ≡ facts.old
         ++ spec.id_trace rule (numbered terms before) side (id_view id.now)) }
@@ -304,7 +304,7 @@ fn trace_id(
     match rule {
         rules::RESPONSE_TO_NO_OPEN_REQUEST => {
             let asker = other_side(side);
-            push_twin(alloc, facts, said, asker, id)?;
+            push_twin(facts, said, asker, id)?;
             push_earlier(facts, "answered", said.answered(asker, id))
         }
         rules::ID_ALREADY_OPEN => {
@@ -316,18 +316,12 @@ fn trace_id(
 }
 
 /// Adds this side's open request whose id differs from this one in its type alone.
-fn push_twin(
-    alloc: Global,
-    facts: &mut Facts,
-    said: &SessionNotes,
-    side: Side,
-    id: &Id,
-) -> Result<(), Memory>
+fn push_twin(facts: &mut Facts, said: &SessionNotes, side: Side, id: &Id) -> Result<()>
     ensures { OnOk result ((terms : Terms) (before : List Event) → AreNotes terms said.now before
         → facts.new ≡ facts.old
         ++ spec.twin_facts side (numbered terms before) (twin (id_view id.now))) }
 {
-    let Some(twin) = twin_of(alloc, id)? else {
+    let Some(twin) = twin_of(facts.alloc(), id)? else {
         return Ok(());
     };
     match said.asked(side, &twin) {
@@ -337,11 +331,7 @@ fn push_twin(
 }
 
 /// Adds an earlier event under this key, where there is one.
-pub(crate) fn push_earlier(
-    facts: &mut Facts,
-    key: &str,
-    place: Option<EventPlace>,
-) -> Result<(), Memory>
+pub(crate) fn push_earlier(facts: &mut Facts, key: &str, place: Option<EventPlace>) -> Result<()>
     ensures { OnOk result (facts.new ≡ facts.old ++ spec.place_facts key.now place) }
 {
     match place {
@@ -365,20 +355,20 @@ fn other_side(side: Side) -> Side
 ///
 /// # Errors
 /// `Memory` where memory was refused.
-pub(crate) fn lack_traced(alloc: Global, past: Past<'_>) -> Result<Facts, Memory>
+pub(crate) fn lack_traced(past: Past<'_>) -> Result<Facts>
     ensures { IfOk result (λ facts. (before : List Event) → StandsAfter past.entry before
         → facts ≡ spec.lack_traced (numbered (terms_in past.entry) before)) }
 {
     let Past { held, trail } = past;
     let said = &trail.said;
-    let mut facts = requests(alloc, held.session.pending(Side::Editor), said)?;
+    let mut facts = requests(held.docs.alloc(), held.session.pending(Side::Editor), said)?;
     facts.phase(held.session.phase())?;
     push_earlier(&mut facts, "since", said.since())?;
     Ok(facts)
 }
 
 /// The requests that wait, with the events that asked them.
-fn requests(alloc: Global, pending: &Pending, said: &SessionNotes) -> Result<Facts, Memory>
+fn requests(alloc: Global, pending: &Pending, said: &SessionNotes) -> Result<Facts>
     ensures { IfOk result (λ facts. (terms : Terms) (before : List Event)
         → AreNotes terms said.now before
         → facts ≡ map (spec.waiting_by (numbered terms before)) pending.now) }
@@ -391,7 +381,7 @@ fn requests(alloc: Global, pending: &Pending, said: &SessionNotes) -> Result<Fac
     Ok(facts)
 }
 
-fn push_request(facts: &mut Facts, request: &OpenRequest, said: &SessionNotes) -> Result<(), Memory>
+fn push_request(facts: &mut Facts, request: &OpenRequest, said: &SessionNotes) -> Result<()>
     ensures { OnOk result ((terms : Terms) (before : List Event) → AreNotes terms said.now before
         → facts.new ≡ facts.old
         ++ spec.waiting_by (numbered terms before) (request_view request.now) ∷ []) }

@@ -4,15 +4,15 @@ ghost use Rattle.std.specs.List.{flat_map};
 ghost use Rattle.lsp_rpc.specs.View.{act_view};
 ghost use Rattle.lsp_explain.specs.Openings.{on_view, ons_view};
 ghost use Rattle.lsp_verdict.specs.Event.{Event};
-ghost use Rattle.lsp_explain.specs.Standing.{StandsAfter, terms_in};
+ghost use Rattle.lsp_explain.specs.Trails.{StandsAfter, terms_in};
 ghost use Rattle.lsp_explain.specs.Traced.{act_call};
-ghost use Rattle.lsp_explain.specs.Unopened as spec;
+ghost use Rattle.lsp_explain.specs.Traced as spec;
 
 use crate::notes::{Closing, DocumentEvent};
 use crate::trail::Past;
 use lsp_facts::Facts;
 use lsp_replay::EventPlace;
-use lsp_rpc::{Act, Memory};
+use lsp_rpc::{Act, Result};
 use lsp_survey::{folded, uri_in};
 use lsp_types::rules;
 use std::alloc::Global;
@@ -20,13 +20,7 @@ use std::alloc::Global;
 /// Adds to the facts on an act that breaks this rule, under 602, how the document of which it
 /// speaks was closed, and which documents with a similar URI are open. The past is of the events
 /// before it.
-pub(crate) fn trace_unopened(
-    alloc: Global,
-    facts: &mut Facts,
-    past: Past<'_>,
-    act: &Act,
-    rule: u16,
-) -> Result<(), Memory>
+pub(crate) fn trace_unopened(facts: &mut Facts, past: Past<'_>, act: &Act, rule: u16) -> Result<()>
     ensures { OnOk result ((before : List Event) → StandsAfter past.entry before
         → facts.new ≡ facts.old
         ++ spec.unopened_traced (terms_in past.entry) before rule
@@ -39,10 +33,10 @@ pub(crate) fn trace_unopened(
         return Ok(());
     }
     push_closing(facts, past.trail.openings.closing(uri))?;
-    push_similar(alloc, facts, past, uri)
+    push_similar(facts, past, uri)
 }
 
-fn push_closing(facts: &mut Facts, closing: Closing) -> Result<(), Memory>
+fn push_closing(facts: &mut Facts, closing: Closing) -> Result<()>
     ensures { OnOk result (facts.new ≡ facts.old
         ++ spec.closing_facts closing) }
 {
@@ -54,51 +48,49 @@ fn push_closing(facts: &mut Facts, closing: Closing) -> Result<(), Memory>
 }
 
 /// Adds the open documents of which the URI differs from this one in its spelling alone.
-fn push_similar(alloc: Global, facts: &mut Facts, past: Past<'_>, uri: &str) -> Result<(), Memory>
+fn push_similar(facts: &mut Facts, past: Past<'_>, uri: &str) -> Result<()>
     ensures { OnOk result ((before : List Event) → StandsAfter past.entry before
         → facts.new ≡ facts.old ++ spec.similar_facts (terms_in past.entry) before uri.now) }
 {
     let size = uri.len();
-    let spelling = folded(alloc, uri)?;
+    let spelling = folded(facts.alloc(), uri)?;
     let spelling = spelling.as_slice();
     let (first, second) = past.trail.openings.last_opened();
-    push_spelled(alloc, facts, past, size, spelling, first)?;
-    push_spelled(alloc, facts, past, size, spelling, second)
+    push_spelled(facts, past, size, spelling, first)?;
+    push_spelled(facts, past, size, spelling, second)
 }
 
 /// Adds those of the open documents that these messages opened and that differ in their spelling
 /// alone from a URI of this size with this spelling.
 fn push_spelled(
-    alloc: Global,
     facts: &mut Facts,
     past: Past<'_>,
     size: usize,
     spelling: &[u8],
     opened: &[DocumentEvent],
-) -> Result<(), Memory>
+) -> Result<()>
     ensures { OnOk result ((before : List Event) → StandsAfter past.entry before
         → facts.new ≡ facts.old ++ flat_map (spec.similar_fact (terms_in past.entry) before size
         spelling.now) (ons_view opened.now)) }
 {
     for on in opened {
-        push_spelled_one(alloc, facts, past, size, spelling, on)?;
+        push_spelled_one(facts, past, size, spelling, on)?;
     }
     Ok(())
 }
 
 fn push_spelled_one(
-    alloc: Global,
     facts: &mut Facts,
     past: Past<'_>,
     size: usize,
     spelling: &[u8],
     on: &DocumentEvent,
-) -> Result<(), Memory>
+) -> Result<()>
     ensures { OnOk result ((before : List Event) → StandsAfter past.entry before
         → facts.new ≡ facts.old ++ spec.similar_fact (terms_in past.entry) before size
         spelling.now (on_view on.now)) }
 {
-    if !is_spelled(alloc, size, spelling, on.uri.as_str())? {
+    if !is_spelled(facts.alloc(), size, spelling, on.uri.as_str())? {
         return Ok(());
     }
     if !is_standing(past, on) {
@@ -128,7 +120,7 @@ fn is_at(place: EventPlace, other: Option<EventPlace>) -> bool
 
 /// Whether another URI differs in its spelling alone from one of this size with this spelling, and
 /// is at most three times as long.
-fn is_spelled(alloc: Global, size: usize, spelling: &[u8], other: &str) -> Result<bool, Memory>
+fn is_spelled(alloc: Global, size: usize, spelling: &[u8], other: &str) -> Result<bool>
     ensures { IfOk result (λ spelled. spelled ≡ spec.is_spelled size spelling.now other.now) }
 {
     if is_long(size, other.len()) {

@@ -7,7 +7,7 @@ use Rattle.lsp_types.specs.declared.position.Position.{Position}
 use Rattle.lsp_text.specs.InsideCharacter.{LiesInside}
 use Rattle.lsp_text.specs.Places.{place_of}
 use Rattle.lsp_text.proofs.Differing.InsideCharacter.{positions_lie_inside}
-use Rattle.lsp_docs.specs.Texts.{Text}
+use Rattle.lsp_docs.specs.Calls.{Text}
 
 none_where : (o : Option ℕ) (none : Bool) → is_some o ≡ not none → none ≡ is_none o
 none_where None true h = refl

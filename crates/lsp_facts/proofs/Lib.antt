@@ -1,14 +1,8 @@
-pub mod Spoken
-pub mod Differing
-pub mod Naming
 pub mod Offers
 pub mod MadeChanges
-pub mod Refusals
 pub mod AtEdges
-pub mod Finding
 pub mod OtherTexts
 pub mod DocumentRules
-pub mod Refused
 pub mod ShapedMembers
 pub mod SomeFacts
 pub mod TextsDiffer

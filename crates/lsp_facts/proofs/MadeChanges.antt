@@ -1,51 +1,53 @@
--- Changes made one after another, until one fails.
-use Rattle.std.proofs.Common.{◌≡◌, ◌<◌, ◌≤◌, ◌+◌, ℕ, zero, suc, List, [], ◌∷◌, ◌++◌, length, take, drop, get_or, cond, Option, Some, None, Ok, Err, refl, sym, ap, subst, ◌∙◌, arith}
-use Rattle.std.proofs.lemmas.List.{take-map, take_all, length-take-le}
+-- Changes made one after another, up to the first that denotes no place.
+use Rattle.std.proofs.Common.{◌≡◌, ℕ, true, None, sym, ap, ◌<◌, ◌≤◌, ◌+◌, zero, suc, List, [], ◌∷◌}
+use Rattle.std.proofs.Common.{◌++◌, length, take, drop, get_or, cond, Option, Some, Result, Ok, Err}
+use Rattle.std.proofs.Common.{refl, subst, ◌∙◌, arith}
+use Rattle.std.specs.Prelude.{is_some, if◌then◌else◌}
+use Rattle.std.proofs.lemmas.List.{take-map, take_all}
 use Rattle.std.proofs.lemmas.Option.{slice_get-map, slice_get-get_or}
 use Rattle.std.specs.List.{slice_get, prefix_len}
 use Rattle.std.specs.Option.{option_map}
 use Rattle.lsp_types.specs.declared.position.Encoding.{Encoding}
+use Rattle.lsp_types.specs.declared.position.Span.{Span}
 use Rattle.lsp_types.specs.declared.change.Change.{Change}
 use Rattle.lsp_types.specs.declared.change.SyncKind.{SyncKind}
-use Rattle.lsp_types.specs.declared.position.Span.{Span}
+use Rattle.lsp_text.specs.Places.{place_of}
+use Rattle.lsp_text.specs.InsideCharacter.{LiesInside}
+use Rattle.lsp_text.proofs.Differing.InsideCharacter.{positions_lie_inside}
 use Rattle.lsp_text.specs.Edits.{Edit, changed, and_then, applied}
 use Rattle.lsp_text.specs.Changes.{edit_of, edits_of}
-use Rattle.lsp_text.proofs.Edits.Applied.{AreMade, applied-append}
+use Rattle.lsp_text.proofs.Edits.Applied.{applied-append}
 use Rattle.lsp_text.proofs.Positions.{slice_get-past}
-use Rattle.lsp_docs.specs.Texts.{Text}
+use Rattle.lsp_docs.specs.Calls.{Text}
+use Rattle.lsp_docs.specs.Tried.{AreTried, AreTriedOn, IsMade, IsRejected, Made, made_of}
+use Rattle.lsp_docs.specs.Documents.{Version}
+use Rattle.lsp_facts.specs.DocumentFacts.{stray, fits, fitting, made_length, misfit_facts}
 use Rattle.lsp_facts.specs.Fact.{Fact, counts_in, fails}
-use Rattle.lsp_facts.specs.DocumentFacts.{fits, fitting, made_length, first_length, misfit_facts}
-use Rattle.lsp_facts.specs.Making.{IsRejected, IsMade}
+
+pub first_stray : (enc : Encoding) (t : Text) (span : Span) (char : ℕ) → LiesInside enc t span.first char → span.first ≡ stray enc t span
+first_stray enc t span char h =
+    let nowhere : place_of enc t span.first ≡ None = (positions_lie_inside.inside enc t span.first).1 (char, h) in
+    sym (ap (λ o. if is_some o then span.second else span.first) nowhere)
+
+pub second_stray : (enc : Encoding) (t : Text) (span : Span) → is_some (place_of enc t span.first) ≡ true → span.second ≡ stray enc t span
+second_stray enc t span h = sym (ap (λ b. if b then span.second else span.first) h)
+
+-- ---- changes until one fails
 
 pub seen_length : (cs : List Change) → length (edits_of cs) ≡ length cs
 seen_length [] = refl
 seen_length (c ∷ cs) = ap suc (seen_length cs)
 
-made_front : (limit : ℕ) (enc : Encoding) (t : Text) (cs : List Change) (n : ℕ) (u : Text) → AreMade limit enc t cs n u → applied limit enc t (take n (edits_of cs)) ≡ Ok u
-made_front limit enc t cs n u h = ap (applied limit enc t) (take-map edit_of n cs) ∙ h.made
-
--- all changes were made
-pub all_made : (limit : ℕ) (enc : Encoding) (t : Text) (cs : List Change) (n : ℕ) (u : Text) → AreMade limit enc t cs n u → n ≤ length cs → length cs ≤ n → IsMade limit enc t (edits_of cs) n u
-all_made limit enc t cs n u h le ge =
-    let len : length (edits_of cs) ≡ length cs = seen_length cs in
-    record {
-      within = omega (arith, len);
-      made = made_front limit enc t cs n u h;
-      next = subst (IsRejected limit enc u) (sym (slice_get-past (edits_of cs) n (omega (arith, len)))) tt;
-    }
-
--- the next one fails
-pub next_fails : (limit : ℕ) (enc : Encoding) (t : Text) (cs : List Change) (n : ℕ) (u v : Text) (c : Change) → AreMade limit enc t cs n u → n < length cs → c ≡ get_or cs n c → v ≡ u
-    → (rule : ℕ) × (changed enc u (edit_of c).span (edit_of c).text limit ≡ Err rule) → IsMade limit enc t (edits_of cs) n v
-next_fails limit enc t cs n u v c h lt is same refused =
-    let len : length (edits_of cs) ≡ length cs = seen_length cs in
-    let here : slice_get (edits_of cs) n ≡ Some (edit_of c) = slice_get-map edit_of cs n ∙ ap (option_map edit_of) (slice_get-get_or cs n c lt ∙ ap Some (sym is)) in
-    subst (IsMade limit enc t (edits_of cs) n) (sym same)
-    (record {
-      within = omega (arith, len);
-      made = made_front limit enc t cs n u h;
-      next = subst (IsRejected limit enc u) (sym here) refused;
-    })
+-- what was tried of the changes of a held text
+pub tried_there : (limit : ℕ) (enc : Encoding) (h : Option Version) (t : Text) (cs : List Edit)
+    (tried : Option Made) (text : Text) (n : ℕ) → Some t ≡ option_map (λ (v : Version). v.text) h
+    → (let m : Made = record { text = text; count = n } in m) ≡ made_of t tried
+    → AreTriedOn limit enc h cs tried → IsMade limit enc t cs n text
+tried_there limit enc None t cs tried text n holds is are = absurd (cc)
+tried_there limit enc (Some v) t cs tried text n holds is are =
+    let same : v.text ≡ t = (let k : Some t ≡ Some v.text = holds in cc) in
+    subst (λ (m : Made). IsMade limit enc t cs m.count m.text) (sym is)
+    (subst (λ (x : Text). AreTried limit enc x cs tried) same are)
 
 -- ---- what that says of all changes
 
@@ -93,22 +95,13 @@ fitting_seen kind (c ∷ cs) = ap (λ n. cond (fits kind (edit_of c)) (1 + n) 0)
 pub no_misfit : (limit : ℕ) (enc : Encoding) (t : Text) (cs : List Change) (n : ℕ) → length cs ≤ n → misfit_facts limit enc t (edits_of cs) n (slice_get (edits_of cs) n) ≡ []
 no_misfit limit enc t cs n le = ap (misfit_facts limit enc t (edits_of cs) n) (slice_get-past (edits_of cs) n (omega (arith, le, seen_length cs)))
 
--- the length of its line where fewer changes were made, and where all before it were
-module _ (limit : ℕ) (enc : Encoding) (t : Text) (cs : List Change) (n count : ℕ) (text : Text) (h : IsMade limit enc t (edits_of (take n cs)) count text) (lt : n < length cs) where
-  front : edits_of (take n cs) ≡ take n (edits_of cs)
-  front = sym (take-map edit_of n cs)
-
-  front_length : length (edits_of (take n cs)) ≡ n
-  front_length = seen_length (take n cs) ∙ length-take-le n cs (omega arith)
-
-  pub unmade_length : (span : Option Span) → count < n → made_length enc span (applied limit enc t (take n (edits_of cs))) ≡ []
-  unmade_length span fewer =
-      let fails = fails_some limit enc t (edits_of (take n cs)) count text h (omega (arith, front_length)) in
-      ap (λ (x : List Edit). made_length enc span (applied limit enc t x)) (sym front) ∙ ap (made_length enc span) fails.1
-
-  pub whole_length : (span : Option Span) → n ≤ count → made_length enc span (applied limit enc t (take n (edits_of cs))) ≡ first_length enc text span
-  whole_length span all =
-      ap (λ (x : List Edit). made_length enc span (applied limit enc t x)) (sym front) ∙ ap (made_length enc span) (makes_all limit enc t (edits_of (take n cs)) count text h (omega (arith, front_length)))
+-- the length of its line, by what the changes before it make
+pub length_made : (limit : ℕ) (enc : Encoding) (t : Text) (cs : List Change) (n : ℕ)
+    (span : Option Span) (made : Result Text ℕ) → applied limit enc t (edits_of (take n cs)) ≡ made
+    → made_length enc span (applied limit enc t (take n (edits_of cs))) ≡ made_length enc span made
+length_made limit enc t cs n span made is =
+    ap (λ (x : List Edit). made_length enc span (applied limit enc t x)) (take-map edit_of n cs)
+    ∙ ap (made_length enc span) is
 
 pub misfit_here : (limit : ℕ) (enc : Encoding) (t : Text) (cs : List Change) (n : ℕ) (c : Change) (more : List Fact) → n < length cs → c ≡ get_or cs n c
     → made_length enc (edit_of c).span (applied limit enc t (take n (edits_of cs))) ≡ more → counts_in enc ∷ fails (n + 1) (edit_of c).span ∷ more ≡ misfit_facts limit enc t (edits_of cs) n (slice_get (edits_of cs) n)

@@ -8,7 +8,7 @@ use Rattle.json.specs.Print.{quoted}
 use Rattle.lsp_rpc.specs.Act.{Text}
 use Rattle.lsp_rpc.specs.View.{texts_view}
 use Rattle.lsp_facts.specs.Fact.{Fact, more_words, spaced}
-use Rattle.lsp_facts.specs.MessageFacts.{names_fitting, offer_fact, offered_bytes}
+use Rattle.lsp_facts.specs.EventFacts.{names_fitting, offer_fact, offered_bytes}
 
 -- the first names, and how many more there are
 abbrev pub offers : List Text → ℕ → Fact

@@ -16,26 +16,21 @@ use Rattle.lsp_text.specs.Places.{units}
 use Rattle.lsp_text.specs.Sizes.{IsSizeWith}
 use Rattle.lsp_text.proofs.Differing.Differences.{one_place}
 use Rattle.lsp_text.proofs.Differing.InsideCharacter.{positions_lie_inside}
-use Rattle.lsp_docs.specs.Calls.{Call, opens, changes, closes, saves, shows, uri_of}
-use Rattle.lsp_docs.specs.Documents.{Version, versioned, held}
-use Rattle.lsp_docs.specs.Kept.{kept as versions_kept}
-use Rattle.lsp_docs.specs.Snapshots.{waiting, versions_of}
-use Rattle.lsp_docs.specs.Terms.{Terms}
-use Rattle.lsp_docs.specs.Texts.{Text}
-use Rattle.lsp_facts.specs.DocumentFacts.{falls_inside, fits_fact, head_facts, line_length, first_length, stray}
-use Rattle.lsp_facts.specs.DocumentFacts.{difference_facts, ends_facts, IsStray, IsTooLong}
-use Rattle.lsp_facts.specs.DocumentFacts.{IsLongWithLine, IsReason, IsRefused, IsFailing}
-use Rattle.lsp_facts.specs.DocumentFacts.{AreApart, AreOfDifference, IsRefuted, IsRefuting}
-use Rattle.lsp_facts.specs.DocumentFacts.{IsRefutedText, AreOfOpening, AreOfChange, AreOfSave}
-use Rattle.lsp_facts.specs.DocumentFacts.{AreOfSnapshot, AreDetails, AreFactsOf}
+use Rattle.lsp_docs.specs.Calls.{Call, opens, changes, closes, saves, shows, uri_of, Text}
+use Rattle.lsp_docs.specs.Documents.{Version, versioned, held, Terms}
+use Rattle.lsp_docs.specs.Snapshots.{kept as versions_kept, waiting, versions_of}
+use Rattle.lsp_facts.specs.DocumentFacts.{falls_inside, fits_fact, head_facts, line_length}
+use Rattle.lsp_facts.specs.DocumentFacts.{first_length, stray, difference_facts, ends_facts}
+use Rattle.lsp_facts.specs.DocumentFacts.{IsStray, IsTooLong, IsLongWithLine, IsReason, IsRefused}
+use Rattle.lsp_facts.specs.DocumentFacts.{IsFailing, AreApart, AreOfDifference, IsRefuted}
+use Rattle.lsp_facts.specs.DocumentFacts.{IsRefuting, IsRefutedText, AreOfOpening, AreOfChange}
+use Rattle.lsp_facts.specs.DocumentFacts.{AreOfSave, AreOfSnapshot, AreDetails, AreFactsOf, edges}
 use Rattle.lsp_session.specs.Negotiation.{encoding}
 use Rattle.lsp_session.specs.Sent.{Sent}
-use Rattle.lsp_verdict.specs.Calls.{call_at, calls}
-use Rattle.lsp_verdict.specs.Event.{Event, message, fault, snapshot, sent_in}
+use Rattle.lsp_verdict.specs.Event.{call_at, calls, Event, message, fault, snapshot, sent_in}
 use Rattle.lsp_verdict.specs.Placed.{Raw}
 use Rattle.lsp_facts.specs.EventFacts.{AreCallFacts, AreFactsBy, AreFacts}
 use Rattle.lsp_verdict.specs.Heard.{Rests}
-use Rattle.lsp_facts.specs.Edges.{edges}
 use Rattle.lsp_facts.specs.Fact.{Fact, would_have, may_have, counts_in, fails}
 use Rattle.lsp_replay.specs.declared.heard.EventPlace.{EventPlace}
 use Rattle.lsp_facts.proofs.MadeChanges.{fails_there}

@@ -1,22 +1,48 @@
--- The snapshots that refute a text, as they are looked for.
-use Rattle.std.proofs.Common.{◌≡◌, ◌<◌, ◌≤◌, ◌+◌, ℕ, zero, suc, Bool, true, false, List, [], ◌∷◌, ◌++◌, length, take, get_or, append-nil, Option, Some, None, Result, Ok, Err, refl, sym, ap, ◌∙◌, arith}
+-- The snapshots that refute a text, as a loop looks for the first of them.
+use Rattle.std.proofs.Common.{◌≡◌, ◌<◌, ◌+◌, ℕ, Bool, true, false, List, [], ◌∷◌, ◌++◌, length}
+use Rattle.std.proofs.Common.{get_or, take, drop, Some, None, sym, ap, ◌∙◌, ◌≤◌, zero, suc}
+use Rattle.std.proofs.Common.{append-nil, Option, Result, Ok, Err, refl, arith}
+use Rattle.std.proofs.lemmas.Bool.{cond-true, cond-false}
+use Rattle.std.proofs.lemmas.List.{take_more, take-append-drop, at_drop_more}
+use Rattle.std.proofs.lemmas.List.Folds.{find-append}
+use Rattle.std.specs.List.{find}
+use Rattle.std.specs.Option.{option_or, option_map}
 use Rattle.std.specs.Prelude.{ℤ, slice_get, if◌then◌else◌, unwrap_or}
-use Rattle.std.specs.Option.{option_map}
 use Rattle.std.specs.Result.{result_ok}
 use Rattle.std.proofs.lemmas.Option.{same_Some, slice_get-get_or}
 use Rattle.lsp_types.specs.declared.change.SyncKind.{SyncKind}
 use Rattle.lsp_types.specs.declared.position.Encoding.{Encoding}
 use Rattle.lsp_types.specs.declared.line_ends.LineEnds.{LineEnds}
 use Rattle.lsp_text.specs.Edits.{Edit, applied}
-use Rattle.lsp_docs.specs.Texts.{Text}
-use Rattle.lsp_docs.specs.Terms.{Terms}
-use Rattle.lsp_docs.specs.Calls.{Call, changes}
-use Rattle.lsp_docs.specs.Documents.{Version, held}
+use Rattle.lsp_docs.specs.Calls.{Text, Call, changes}
+use Rattle.lsp_docs.specs.Documents.{Terms, Version, held}
+use Rattle.lsp_docs.specs.Tried.{IsMade}
 use Rattle.lsp_replay.specs.declared.heard.EventPlace.{EventPlace}
 use Rattle.lsp_verdict.specs.declared.verdict.Who.TheVariants.{Editor}
-use Rattle.lsp_facts.specs.Making.{IsMade}
-use Rattle.lsp_facts.specs.Refuting.{is_other, is_other_at, others_of, made_text, refuting, waiting_texts}
+use Rattle.lsp_facts.specs.Refuting.{is_other, is_other_at, others_of, made_text, refuting}
+use Rattle.lsp_facts.specs.Refuting.{waiting_texts}
 use Rattle.lsp_facts.proofs.MadeChanges.{fails_some, makes_all}
+
+module _ {X : Type 0} (p : X → Bool) (xs : List X) (i : ℕ) (x : X) (lt : i < length xs)
+    (is : x ≡ get_or xs i x) where
+  parts : xs ≡ take i xs ++ x ∷ drop (i + 1) xs
+  parts = sym (take-append-drop i xs) ∙ (at_drop_more (λ (l : List X). take i xs ++ l) xs i x lt
+      ∙ ap (λ y. take i xs ++ y ∷ drop (i + 1) xs) (sym is))
+
+  -- one more that doesn't pass
+  pub find-more : find p (take i xs) ≡ None → p x ≡ false → find p (take (i + 1) xs) ≡ None
+  find-more none fails =
+      ap (find p) (take_more xs i x lt)
+      ∙ (find-append p (take i xs) (get_or xs i x ∷ [])
+      ∙ (ap (λ o. option_or o (find p (get_or xs i x ∷ []))) none
+      ∙ (ap (λ y. find p (y ∷ [])) (sym is) ∙ cond-false _ _ _ fails)))
+
+  -- the first that passes
+  pub find-here : find p (take i xs) ≡ None → p x ≡ true → find p xs ≡ Some x
+  find-here none passes =
+      ap (find p) parts
+      ∙ (find-append p (take i xs) (x ∷ drop (i + 1) xs)
+      ∙ (ap (λ o. option_or o (find p (x ∷ drop (i + 1) xs))) none ∙ cond-true _ _ _ passes))
 
 -- ---- one more snapshot
 
@@ -86,6 +112,12 @@ of_held terms enc cs None t r holds e = absurd (cc)
 of_held terms enc cs (Some v) t r holds e =
     let same : v.text ≡ t = (let k : Some t ≡ Some v.text = holds in cc) in
     ap (λ (x : Text). result_ok (applied terms.limit enc x cs)) same ∙ ap result_ok e
+
+-- none where nothing is held
+pub none_held : (terms : Terms) (enc : Encoding) (cs : List Edit) (h : Option Version)
+    → None ≡ option_map (λ (v : Version). v.text) h → None ≡ made_text terms enc cs h
+none_held terms enc cs None holds = refl
+none_held terms enc cs (Some v) holds = absurd (cc)
 
 module _ (terms : Terms) (enc : Encoding) (cs : List Edit) (h : Option Version) (t : Text) (n : ℕ) (text : Text) (holds : Some t ≡ option_map (λ (v : Version). v.text) h) (made : IsMade terms.limit enc t cs n text) where
   pub all_make : length cs ≤ n → Some text ≡ made_text terms enc cs h

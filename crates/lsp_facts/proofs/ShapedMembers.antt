@@ -23,10 +23,10 @@ use Rattle.lsp_rpc.specs.Params.{required, allowed, given, both, all_three, all_
 use Rattle.lsp_rpc.specs.Params.{array_of, as_uinteger}
 use Rattle.lsp_rpc.specs.Results as results
 use Rattle.lsp_rpc.specs.Shape.{as_id, as_integer, is_object, holds_unless_absent, member, unless_null}
-use Rattle.lsp_facts.specs.MemberLaws.{BadParamsHaveMember, BadResultHasMember}
+use Rattle.lsp_facts.specs.Members.{BadParamsHaveMember, BadResultHasMember, Part, Pointer, Row}
+use Rattle.lsp_facts.specs.Members.{fits, member_fits, row_fits, wrong_by, wrong_in, wrong_item}
+use Rattle.lsp_facts.specs.Members.{wrong_row, parts, result_rows}
 use Rattle.lsp_facts.specs.Members as wrong
-use Rattle.lsp_facts.specs.Members.{Part, Pointer, Row, fits, member_fits, row_fits, wrong_by, wrong_in}
-use Rattle.lsp_facts.specs.Members.{wrong_item, wrong_row, parts, result_rows}
 use Rattle.lsp_facts.specs.declared.shapes.Kind.{Kind}
 use Rattle.lsp_facts.specs.declared.shapes.Kind.TheVariants as kind
 use Rattle.lsp_facts.specs.declared.shapes.Need.TheVariants.{Must, May}

@@ -1,48 +1,110 @@
 -- Facts on each event that offends.
-use Rattle.std.proofs.Common.{◌≡◌, ◌≢◌, ◌+◌, ◌≤◌, ℕ, suc, Bool, true, false, cond, List, [], ◌∷◌, ◌++◌, take, Option, Some, None, Result, Ok, Err, inl, inr, refl, sym, ap, subst, ◌∙◌, arith, true≢false}
-use Rattle.std.specs.Prelude.{ℤ, codes, int_lt, nat_lt, not, is_some, slice_get, if◌then◌else◌, option_and_then, unwrap_or}
+use Rattle.std.proofs.Common.{◌≡◌, ℕ, List, [], ◌∷◌, refl, sym, ap, ◌∙◌, Bool, true, false, Option}
+use Rattle.std.proofs.Common.{Some, None, inl, inr, ◌≢◌, ◌+◌, ◌≤◌, suc, cond, ◌++◌, take, Result}
+use Rattle.std.proofs.Common.{Ok, Err, subst, arith, true≢false}
+use Rattle.std.specs.Prelude.{codes, decimal, if◌then◌else◌, is_none, option_and_then, ℤ, int_lt}
+use Rattle.std.specs.Prelude.{nat_lt, not, is_some, slice_get, unwrap_or}
+use Rattle.std.specs.Str.{is_utf8}
+use Rattle.std.proofs.lemmas.Str.{IsUtf8-from_is_utf8, is_utf8-from_IsUtf8}
 use Rattle.std.specs.List.{list_any}
 use Rattle.std.proofs.lemmas.Bool.Decides.{nat_tests}
 use Rattle.std.proofs.lemmas.Slice.Eq.{bytes_eq-Decides}
+use Rattle.lsp_rpc.specs.Message.{Message, request, notification, response, result, error}
+use Rattle.lsp_rpc.specs.Outline.{outline}
+use Rattle.lsp_rpc.specs.Words.{words_of}
+use Rattle.lsp_rpc.proofs.OutlineWords.{words_by_outline}
+use Rattle.lsp_rpc.specs.Reading.{message_in, parts_of, IsJson, Reads, BreaksRule}
+use Rattle.lsp_verdict.specs.Report.{line, who_name}
+use Rattle.lsp_verdict.specs.declared.verdict.Who.{Who}
+use Rattle.lsp_verdict.specs.Event.{call_at, calls, Event, message, fault, snapshot, sent_in}
+use Rattle.lsp_verdict.specs.Placed.{Raw}
+use Rattle.lsp_verdict.specs.Verdict.{offence}
+use Rattle.lsp_verdict.specs.Heard.{Rests}
+use Rattle.serde_json.specs.Data.{Data}
+use Rattle.serde_json.specs.Read.{read}
 use Rattle.lsp_types.specs.declared.change.SyncKind.{SyncKind}
 use Rattle.lsp_types.specs.declared.position.Encoding.{Encoding}
 use Rattle.lsp_types.specs.declared.position.Encoding.TheVariants.{Utf8, Utf16}
 use Rattle.lsp_types.specs.declared.position.Span.{Span}
-use Rattle.lsp_text.specs.Edits.{Edit, splice, limited, spliced, changed, and_then, applied}
 use Rattle.lsp_types.specs.declared.line_ends.LineEnds.{LineEnds}
+use Rattle.lsp_text.specs.Edits.{Edit, splice, limited, spliced, changed, and_then, applied}
 use Rattle.lsp_text.specs.InsideCharacter.{LiesInside}
 use Rattle.lsp_text.specs.SameText.{compared, same_text}
 use Rattle.lsp_text.specs.Places.{units, place_of}
 use Rattle.lsp_text.proofs.Differing.Differences.{one_difference}
 use Rattle.lsp_text.proofs.Differing.InsideCharacter.{positions_lie_inside}
-use Rattle.lsp_docs.specs.Calls.{Call, opens, changes, closes, saves, shows, uri_of}
-use Rattle.lsp_docs.specs.Documents.{Version, versioned, held}
-use Rattle.lsp_docs.specs.Kept.{kept as versions_kept}
-use Rattle.lsp_docs.specs.Rules.{differs, version_rule, text_rule, change_rule, fits_kind, rule_of, call_rule}
-use Rattle.lsp_docs.specs.Snapshots.{waiting, versions_of}
-use Rattle.lsp_docs.specs.Terms.{Terms}
-use Rattle.lsp_docs.specs.Texts.{Text, byte_len}
-use Rattle.lsp_facts.specs.DocumentFacts.{falls_inside, fits_fact, head_facts, first_length, line_length}
-use Rattle.lsp_facts.specs.DocumentFacts.{kept_fact, kind_facts, difference_facts, ends_facts}
-use Rattle.lsp_facts.specs.DocumentFacts.{stray, IsReason, IsFailing, AreApart, IsRefuted}
-use Rattle.lsp_facts.specs.DocumentFacts.{AreOfOpening, AreOfChange, AreOfSnapshot, AreDetails}
-use Rattle.lsp_facts.specs.DocumentFacts.{AreFactsOf}
+use Rattle.lsp_docs.specs.Calls.{Call, opens, changes, closes, saves, shows, uri_of, Text, byte_len}
+use Rattle.lsp_docs.specs.Documents.{Version, versioned, held, Terms}
+use Rattle.lsp_docs.specs.Snapshots.{kept as versions_kept, waiting, versions_of}
+use Rattle.lsp_docs.specs.Rules.{differs, version_rule, text_rule, change_rule, fits_kind, rule_of}
+use Rattle.lsp_docs.specs.Rules.{call_rule}
 use Rattle.lsp_session.specs.Negotiation.{encoding}
 use Rattle.lsp_session.specs.Sent.{Sent}
-use Rattle.lsp_verdict.specs.Calls.{call_at, calls}
-use Rattle.lsp_verdict.specs.Event.{Event, message, fault, snapshot, sent_in}
-use Rattle.lsp_verdict.specs.Placed.{Raw}
-use Rattle.lsp_verdict.specs.Verdict.{offence}
-use Rattle.lsp_facts.specs.EventFacts.{fault_facts, AreCallFacts, AreFactsBy, AreFacts}
-use Rattle.lsp_verdict.specs.Heard.{Rests}
-use Rattle.lsp_facts.specs.Edges.{edges}
-use Rattle.lsp_facts.specs.MessageFacts.{session_facts}
-use Rattle.lsp_facts.specs.Fact.{Fact, would_have, may_have, counts_in, fails}
 use Rattle.lsp_replay.specs.declared.heard.EventPlace.{EventPlace}
+use Rattle.lsp_facts.specs.Fact.{message_event, content_message, value_message, Fact, would_have}
+use Rattle.lsp_facts.specs.Fact.{may_have, counts_in, fails}
+use Rattle.lsp_facts.specs.EventFacts.{id_in, session_facts, fault_facts, AreCallFacts, AreFactsBy}
+use Rattle.lsp_facts.specs.EventFacts.{AreFacts}
+use Rattle.lsp_facts.specs.DocumentFacts.{falls_inside, fits_fact, head_facts, first_length}
+use Rattle.lsp_facts.specs.DocumentFacts.{line_length, kept_fact, kind_facts, difference_facts}
+use Rattle.lsp_facts.specs.DocumentFacts.{ends_facts, stray, IsReason, IsFailing, AreApart}
+use Rattle.lsp_facts.specs.DocumentFacts.{IsRefuted, AreOfOpening, AreOfChange, AreOfSnapshot}
+use Rattle.lsp_facts.specs.DocumentFacts.{AreDetails, AreFactsOf, edges}
 use Rattle.lsp_facts.proofs.DocumentRules.{IsOther, other_apart, show_breaks, version_breaks}
-use Rattle.lsp_facts.proofs.DocumentRules.{waiting_apart, waiting_some}
-use Rattle.lsp_facts.proofs.Refusals.{first_stray, second_stray}
-use Rattle.lsp_facts.proofs.Refused.{breaks_call}
+use Rattle.lsp_facts.proofs.DocumentRules.{waiting_apart, waiting_some, breaks_call}
+use Rattle.lsp_facts.proofs.MadeChanges.{first_stray, second_stray}
+
+-- ---- a message that was heard has the id and the line of the message
+
+pub id_in-outline : (m : Message) → id_in m ≡ id_in (outline m)
+id_in-outline (request id method params) = refl
+id_in-outline (notification method params) = refl
+id_in-outline (response id (result value)) = refl
+id_in-outline (response id (error code)) = refl
+
+module _ (event : ℕ) (by : Who) (number : ℕ) where
+  abbrev with_words : List ℕ → List ℕ
+  with_words words =
+      line (codes "event" ∷ decimal event ∷ who_name by ∷ decimal number ∷ words ∷ [])
+
+  -- the line of a message that was heard without its params and, in some cases, without the value
+  -- of its result
+  pub same_line : (m said : Message) → outline m ≡ outline said
+      → message_event event by number m ≡ message_event event by number said
+  same_line m said same =
+      ap with_words (words_by_outline m ∙ ap words_of same ∙ sym (words_by_outline said))
+
+-- ---- the message that a content is, if it is one
+
+-- what is read of a content, where it is text
+abbrev named : Bool → Option Data → Option Message
+named text value = if text then option_and_then value_message value else None
+
+-- a value under its least rule
+abbrev kept : Data → Option ℕ → Option Message
+kept d rule = if is_none rule then message_in (parts_of d) else None
+
+of_value : (bytes : List ℕ) (d : Data) → IsJson bytes d → content_message bytes ≡ value_message d
+of_value bytes d json =
+    ap (λ (b : Bool). named b (read bytes)) (is_utf8-from_IsUtf8 bytes json.0) ∙ ap (named true) json.1
+
+-- **a content that is a message is named by it**
+pub message_named : (bytes : List ℕ) (m : Message) → Reads bytes m → content_message bytes ≡ Some m
+message_named bytes m (d, json, is) =
+    of_value bytes d json ∙ ap (kept d) is.keeps_rules ∙ is.made
+
+-- **one that breaks a rule is not**
+pub none_named : (bytes : List ℕ) (rule : ℕ) → BreaksRule bytes rule → content_message bytes ≡ None
+none_named bytes rule (inl (d, json, breaks)) = of_value bytes d json ∙ ap (kept d) breaks
+none_named bytes rule (inr (is, none)) = by_text (is_utf8 bytes) (read bytes) refl refl
+  where
+    by_text : (text : Bool) (value : Option Data) → is_utf8 bytes ≡ text → read bytes ≡ value
+        → named text value ≡ None
+    by_text false value utf8 reads = refl
+    by_text true None utf8 reads = refl
+    by_text true (Some d) utf8 reads = absurd (none d (IsUtf8-from_is_utf8 bytes utf8, reads))
+
+-- ---- rules that are the same
 
 same_rule : (a b : ℕ) → (let r : Result Text ℕ = Err a in r) ≡ Err b → a ≡ b
 same_rule a b e = cc

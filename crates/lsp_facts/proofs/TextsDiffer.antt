@@ -1,29 +1,68 @@
 -- A call that breaks 608 or 702 compares two texts, and they differ.
-use Rattle.std.specs.Prelude.{option_map, option_and_then, if◌then◌else◌, Bool}
+use Rattle.std.proofs.Common.{◌≡◌, ℕ, [], ◌∷◌, List, Option, length, ap, subst, ◌∙◌, ℤ, true, false}
+use Rattle.std.proofs.Common.{Some, None, inl, inr, refl, sym, true≢false}
+use Rattle.std.specs.Prelude.{codes, option_map, option_and_then, if◌then◌else◌, Bool}
 use Rattle.std.specs.Result.{result_ok}
-use Rattle.std.proofs.Common.{◌≡◌, ℕ, ℤ, List, true, false, Option, Some, None}
-use Rattle.std.proofs.Common.{inl, inr, refl, sym, ap, ◌∙◌, true≢false}
 use Rattle.std.proofs.lemmas.Slice.Eq.{bytes_eq-Decides}
+use Rattle.lsp_types.specs.declared.position.Encoding.{Encoding}
+use Rattle.lsp_types.specs.declared.position.Position.{Position}
 use Rattle.lsp_types.specs.declared.change.SyncKind.{SyncKind}
 use Rattle.lsp_types.specs.declared.line_ends.LineEnds.{LineEnds}
-use Rattle.lsp_types.specs.declared.position.Encoding.{Encoding}
 use Rattle.lsp_types.specs.declared.position.Encoding.TheVariants.{Utf16}
+use Rattle.lsp_text.specs.Difference.{DifferFirst, position_at, line_around, line_before_place}
+use Rattle.lsp_text.proofs.Differing.Differences.{one_place}
 use Rattle.lsp_text.specs.Edits.{Edit}
 use Rattle.lsp_text.specs.SameText.{SameText, compared as compared_text, same_text}
-use Rattle.lsp_docs.specs.Calls.{Call, opens, changes, closes, saves, shows, uri_of}
-use Rattle.lsp_docs.specs.Documents.{Version, versioned, held}
-use Rattle.lsp_docs.specs.Kept.{kept}
+use Rattle.lsp_docs.specs.Calls.{Text, Call, opens, changes, closes, saves, shows, uri_of}
+use Rattle.lsp_docs.specs.Documents.{Version, versioned, held, Terms}
+use Rattle.lsp_docs.specs.Snapshots.{kept, waiting, versions_of}
 use Rattle.lsp_docs.specs.Rules.{call_rule, save_rule}
-use Rattle.lsp_docs.specs.Snapshots.{waiting, versions_of}
-use Rattle.lsp_docs.specs.Terms.{Terms}
-use Rattle.lsp_docs.specs.Texts.{Text}
-use Rattle.lsp_facts.specs.DocumentFacts.{AreDetails, AreOfChange, AreOfOpening, AreOfSnapshot}
-use Rattle.lsp_facts.specs.Fact.{Fact}
+use Rattle.lsp_facts.specs.DocumentFacts.{FindsDifference, AreOfDifference, differs_at, AreDetails}
+use Rattle.lsp_facts.specs.DocumentFacts.{AreOfChange, AreOfOpening, AreOfSnapshot}
+use Rattle.lsp_facts.specs.Fact.{Fact, counts_in, part_line, Part, part_around, part_at}
 use Rattle.lsp_facts.specs.Refuting.{first_other, made_text, waiting_texts}
 use Rattle.lsp_facts.specs.TwoTexts.{TextsDiffer, TwoTexts, against, compared, is_of_texts}
 use Rattle.lsp_facts.specs.TwoTexts.{saved_texts, two_texts}
 use Rattle.lsp_facts.proofs.DocumentRules.{other_apart, waiting_apart}
 use Rattle.lsp_facts.proofs.SomeFacts.{some_facts_of}
+
+-- the line of a text at the place where two texts first differ, and its front, found by themselves
+pub part_there : (a b t x front : Text)
+    → DifferFirst a b (λ n. x ≡ line_around t n)
+    → DifferFirst a b (λ n. front ≡ line_before_place t n)
+    → DifferFirst a b (λ n. part_at (length front) x ≡ part_around t n)
+part_there a b t x front h k =
+    let n = h.0 in
+    let before : front ≡ line_before_place t n =
+    k.2 ∙ ap (line_before_place t) (one_place a b k.0 n k.1 h.1) in (
+      n,
+      h.1,
+      ap (λ (l : Text). part_at (length l) x) before
+          ∙ ap (part_at (length (line_before_place t n))) h.2,
+    )
+
+-- the facts on two texts that differ, each found by itself
+pub are_apart : (enc : Encoding) (a b : Text) (key : List ℕ) (at : Position) (p q : Part)
+    → DifferFirst a b (λ n. at ≡ position_at enc a n)
+    → DifferFirst a b (λ n. p ≡ part_around a n) → DifferFirst a b (λ n. q ≡ part_around b n)
+    → AreOfDifference enc a b key
+    (counts_in enc ∷ differs_at at ∷ part_line (codes "by-messages") p ∷ part_line key q ∷ [])
+are_apart enc a b key at p q h k l =
+    let n = h.0 in
+    let held : p ≡ part_around a n = k.2 ∙ ap (part_around a) (one_place a b k.0 n k.1 h.1) in
+    let other : q ≡ part_around b n = l.2 ∙ ap (part_around b) (one_place a b l.0 n l.1 h.1) in
+    let facts : Position → Part → Part → List Fact = λ at p q.
+    counts_in enc ∷ differs_at at ∷ part_line (codes "by-messages") p ∷ part_line key q ∷ [] in
+    (n, h.1, λ i. facts (h.2 i) (held i) (other i))
+
+-- the same of texts that equal these
+pub found_moved : (enc : Encoding) (key : List ℕ) (found : Option (List Fact)) (x y a b : Text)
+    → x ≡ a → y ≡ b → FindsDifference enc x y key found → FindsDifference enc a b key found
+found_moved enc key found x y a b p q told =
+    subst (λ (v : Text). FindsDifference enc a v key found) q
+    (subst (λ (u : Text). FindsDifference enc u y key found) p told)
+
+-- ---- what a call compares
 
 -- there are two texts, which differ
 abbrev Differ : LineEnds → Option TwoTexts → Type 0

@@ -1,40 +1,56 @@
 -- The facts on a call that breaks a rule on documents: 601 to 608, 701, 702.
-use Rattle.std.specs.Prelude.{◌≡◌, ◌⊎◌, ◌+◌, ℕ, ℤ, List, [], ◌∷◌, ◌++◌, length, take, map}
-use Rattle.std.specs.Prelude.{slice_get, Bool, true, false, is_some, is_none, if◌then◌else◌, Option}
-use Rattle.std.specs.Prelude.{Some, None, option_map, option_to_list, Result, Ok, Err}
-use Rattle.std.specs.Prelude.{codes, decimal}
+use Rattle.std.specs.Prelude.{List, [], ◌∷◌, ◌++◌, slice_get, nat_lt, Bool, true, false, is_some}
+use Rattle.std.specs.Prelude.{if◌then◌else◌, option_map, unwrap_or, ◌≡◌, ◌⊎◌, ◌+◌, ℕ, ℤ, length}
+use Rattle.std.specs.Prelude.{take, map, is_none, Option, Some, None, option_to_list, Result, Ok}
+use Rattle.std.specs.Prelude.{Err, codes, decimal}
 use Rattle.std.specs.Fmt.{signed_decimal}
 use Rattle.std.specs.List.{flat_map, prefix_len}
-use Rattle.json.specs.Print.{quoted}
 use Rattle.lsp_types.specs.declared.position.Encoding.{Encoding}
+use Rattle.lsp_types.specs.declared.position.Encoding.TheVariants.{Utf8, Utf16, Utf32}
 use Rattle.lsp_types.specs.declared.position.Position.{Position}
 use Rattle.lsp_types.specs.declared.position.Span.{Span}
 use Rattle.lsp_types.specs.declared.change.SyncKind.{SyncKind}
 use Rattle.lsp_types.specs.declared.change.SyncKind.TheVariants.{Nothing, Full, Incremental}
 use Rattle.lsp_types.specs.declared.line_ends.LineEnds.{LineEnds}
 use Rattle.lsp_types.specs.declared.line_ends.LineEnds.TheVariants.{Ignored}
+use Rattle.lsp_types.specs.declared.rules.TheConstants as rules
 use Rattle.lsp_text.specs.Lines.{Line, lines_of}
 use Rattle.lsp_text.specs.Places.{units, place_of}
 use Rattle.lsp_text.specs.Edits.{Edit, changed, applied}
 use Rattle.lsp_text.specs.Difference.{DifferFirst, position_at}
 use Rattle.lsp_text.specs.InsideCharacter.{LiesInside}
-use Rattle.lsp_text.specs.SameText.{compared, same_text}
+use Rattle.lsp_text.specs.SameText.{compared, same_text, SameText}
 use Rattle.lsp_text.specs.Sizes.{IsSizeWith}
-use Rattle.lsp_docs.specs.Texts.{Text, byte_len}
-use Rattle.lsp_docs.specs.Terms.{Terms}
-use Rattle.lsp_docs.specs.Calls.{Call, opens, changes, closes, saves, shows, uri_of}
-use Rattle.lsp_docs.specs.Documents.{Version, versioned, held}
-use Rattle.lsp_docs.specs.Kept.{kept}
-use Rattle.lsp_docs.specs.Snapshots.{texts_at, waiting, versions_of}
-use Rattle.lsp_docs.specs.Others.{other_than}
+use Rattle.lsp_docs.specs.Calls.{Text, byte_len, Call, opens, changes, closes, saves, shows, uri_of}
+use Rattle.lsp_docs.specs.Documents.{Terms, Version, versioned, held}
+use Rattle.lsp_docs.specs.Snapshots.{kept, texts_at, waiting, versions_of}
+use Rattle.lsp_docs.specs.Rules.{other_than}
+use Rattle.json.specs.Print.{quoted}
 use Rattle.lsp_replay.specs.declared.heard.EventPlace.{EventPlace}
 use Rattle.lsp_verdict.specs.Report.{line, encoding_name, kind_name}
 use Rattle.lsp_facts.specs.Fact.{Fact, holds, sends, counts_in, fails, would_have, may_have}
-use Rattle.lsp_facts.specs.Fact.{part_line, position_words, quoted_text, spaced}
-use Rattle.lsp_facts.specs.Edges.{edges}
-use Rattle.lsp_facts.specs.Part.{part_around}
+use Rattle.lsp_facts.specs.Fact.{part_line, position_words, quoted_text, spaced, part_around}
 use Rattle.lsp_facts.specs.Refuting.{first_other}
-use Rattle.lsp_types.specs.declared.rules.TheConstants as rules
+
+-- ---- the encodings in which a column lies at the edge of a character
+
+-- it lies past the end of its line, or past the last line, where columns count units of the
+-- encoding
+abbrev pub is_past : Text → Position → Encoding → Bool
+is_past t p enc =
+    unwrap_or (option_map (λ (l : Line). nat_lt (units enc l.text) p.column)
+    (slice_get (lines_of t) p.line)) true
+
+-- it lies in its line, and denotes a place there
+abbrev pub is_edge : Text → Position → Encoding → Bool
+is_edge t p enc = if is_past t p enc then false else is_some (place_of enc t p)
+
+abbrev pub edge_in : Text → Position → Encoding → List Encoding
+edge_in t p enc = if is_edge t p enc then enc ∷ [] else []
+
+-- **the encodings in which a position lies at the edge of a character of its line**
+abbrev pub edges : Text → Position → List Encoding
+edges t p = edge_in t p Utf8 ++ edge_in t p Utf16 ++ edge_in t p Utf32
 
 -- ---- what is said under each rule
 
@@ -103,6 +119,12 @@ kind_facts limit enc kind t cs =
 -- the position of a span that lies inside a character: the first, unless that denotes a place
 abbrev pub stray : Encoding → Text → Span → Position
 stray enc t span = if is_some (place_of enc t span.first) then span.second else span.first
+
+-- one of the positions of a span lies inside a character
+pub record HasStray (enc : Encoding) (t : Text) (span : Option Span) : Type 0 where
+  pub of : Span
+  pub there : span ≡ Some of
+  pub nowhere : place_of enc t (stray enc t of) ≡ None
 
 -- the character into which a column falls
 abbrev pub falls_inside : ℕ → Fact
@@ -283,3 +305,17 @@ abbrev pub AreDocumentFacts : Terms → Encoding → List Call → Call → ℕ 
 AreDocumentFacts terms enc before call rule set_by facts =
     AreFactsOf terms enc (held terms (uri_of call) before) (kept terms (uri_of call) before)
     (versions_of (uri_of call) (waiting terms before)) call rule set_by facts
+
+-- ---- two texts that may differ
+
+-- nothing where they are equal, or where they differ
+abbrev pub FindsDifference : Encoding → Text → Text → List ℕ → Option (List Fact) → Type 0
+FindsDifference enc t other key None = t ≡ other
+FindsDifference enc t other key (Some facts) =
+    (t ≡ other → ⊥) × AreOfDifference enc t other key facts
+
+-- the same of texts as they are compared
+abbrev pub FindsApart : LineEnds → Encoding → Text → Text → List ℕ → Option (List Fact) → Type 0
+FindsApart ends enc t other key None = SameText ends t other
+FindsApart ends enc t other key (Some facts) =
+    (SameText ends t other → ⊥) × AreApart ends enc t other key facts

@@ -1,15 +1,7 @@
-pub mod Part
-pub mod Edges
 pub mod Fact
-pub mod Lines
-pub mod FlawFacts
-pub mod MessageFacts
-pub mod ContentFacts
 pub mod Grammar
 pub mod Refuting
+pub mod EventFacts
+pub mod Members
 pub mod TwoTexts
 pub mod DocumentFacts
-pub mod EventFacts
-pub mod Making
-pub mod Members
-pub mod MemberLaws

@@ -2,7 +2,7 @@
 -- shape that it must have: the first one of the tables, as a JSON pointer (RFC 6901) from there.
 use Rattle.std.specs.Prelude.{◌≡◌, ℕ, suc, List, [], ◌∷◌, ◌++◌, Bool, true, false, ◌||◌}
 use Rattle.std.specs.Prelude.{if◌then◌else◌, decimal, map, Option, Some, None, IfOk, Result, String}
-use Rattle.std.specs.Prelude.{is_some, option_map, option_and_then, string_bytes, unwrap_or}
+use Rattle.std.specs.Prelude.{is_some, option_map, option_and_then, string_bytes, unwrap_or, ◌↔◌}
 use Rattle.std.specs.Borrow.{Bor}
 use Rattle.std.specs.Option.{option_or}
 use Rattle.std.specs.Str.{bytes_eq}
@@ -10,9 +10,10 @@ use Rattle.std.specs.declared.alloc.Global.{Global}
 use Rattle.serde_json.specs.Data.{Data, Items, no_items, item}
 use Rattle.serde_json.specs.Find.{as_array, pointer}
 use Rattle.lsp_types.specs.declared.memory.Memory.{Memory}
+use Rattle.lsp_types.specs.declared.side.Side.{Side}
 use Rattle.lsp_rpc.specs.Message.{Message, request, notification, response}
-use Rattle.lsp_rpc.specs.Params.{as_uinteger, given}
-use Rattle.lsp_rpc.specs.Results.{kind_at}
+use Rattle.lsp_rpc.specs.Params.{as_uinteger, given, act_at}
+use Rattle.lsp_rpc.specs.Results.{kind_at, picked_at}
 use Rattle.lsp_rpc.specs.Shape.{as_integer, holds_unless_absent, is_id, is_object, is_string}
 use Rattle.lsp_facts.specs.declared.shapes.Kind.{Kind}
 use Rattle.lsp_facts.specs.declared.shapes.Kind.TheVariants as kind
@@ -134,3 +135,15 @@ result_rows = map (λ row. (row.0.now, row.1.now, row.2, row.3)) RESULT
 -- **the member of the result of `initialize` that does not have its shape**
 abbrev pub wrong_result : Data → Option Pointer
 wrong_result d = wrong_in kind.Object result_rows d
+
+-- ---- laws
+
+-- **Of a message whose params do not have the shape of its method (209) a member is named.**
+abbrev pub BadParamsHaveMember : Type 0
+BadParamsHaveMember = (side : Side) (message : Message)
+    → act_at side message ≡ None → (p : Pointer) × (wrong_member message ≡ Some p)
+
+-- **Of a result of `initialize` one is named just where it does not have its shape (501).**
+abbrev pub BadResultHasMember : Type 0
+BadResultHasMember =
+    (d : Data) → (picked_at d ≡ None) ↔ ((p : Pointer) × (wrong_result d ≡ Some p))

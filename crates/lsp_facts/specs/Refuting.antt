@@ -7,10 +7,8 @@ use Rattle.lsp_types.specs.declared.line_ends.LineEnds.{LineEnds}
 use Rattle.lsp_types.specs.declared.position.Encoding.{Encoding}
 use Rattle.lsp_text.specs.Edits.{Edit, applied}
 use Rattle.lsp_text.specs.SameText.{same_text}
-use Rattle.lsp_docs.specs.Texts.{Text}
-use Rattle.lsp_docs.specs.Terms.{Terms}
-use Rattle.lsp_docs.specs.Calls.{Bytes, Call, opens, changes, closes, saves, shows}
-use Rattle.lsp_docs.specs.Documents.{Version, held}
+use Rattle.lsp_docs.specs.Calls.{Text, Bytes, Call, opens, changes, closes, saves, shows}
+use Rattle.lsp_docs.specs.Documents.{Terms, Version, held}
 use Rattle.lsp_docs.specs.Snapshots.{texts_at, waiting, versions_of}
 use Rattle.lsp_replay.specs.declared.heard.EventPlace.{EventPlace}
 

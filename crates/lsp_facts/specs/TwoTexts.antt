@@ -1,23 +1,28 @@
--- The two texts of a 608 or 702: what the messages make of a document, and what the editor saved or
--- showed of it.
-use Rattle.std.specs.Prelude.{◌≡◌, ℕ, List, Bool, true, ◌||◌, ◌==◌, if◌then◌else◌, Option}
-use Rattle.std.specs.Prelude.{Some, None}
-use Rattle.std.specs.Prelude.{option_and_then, option_map}
+-- The two texts of a 608 or 702: what the messages make of a document, and what the editor saved
+-- or showed of it.
+use Rattle.std.specs.Prelude.{chars, ◌≡◌, ℕ, List, Bool, true, ◌||◌, ◌==◌, if◌then◌else◌, Option}
+use Rattle.std.specs.Prelude.{Some, None, option_and_then, option_map}
+use Rattle.lsp_docs.specs.Calls.{Text, Call, opens, changes, closes, saves, shows}
+use Rattle.lsp_docs.specs.Rules.{call_rule, other_than}
+use Rattle.lsp_docs.specs.Documents.{Terms, Version, versioned, held}
+use Rattle.lsp_docs.specs.Snapshots.{kept}
 use Rattle.lsp_types.specs.declared.line_ends.LineEnds.{LineEnds}
+use Rattle.lsp_types.specs.declared.rules.TheConstants as rules
 use Rattle.lsp_text.specs.SameText.{SameText}
-use Rattle.lsp_docs.specs.Rules.{call_rule}
-use Rattle.lsp_docs.specs.Texts.{Text}
-use Rattle.lsp_docs.specs.Terms.{Terms}
-use Rattle.lsp_docs.specs.Calls.{Call, opens, changes, closes, saves, shows}
-use Rattle.lsp_docs.specs.Documents.{Version, versioned, held}
-use Rattle.lsp_docs.specs.Kept.{kept}
-use Rattle.lsp_docs.specs.Others.{other_than}
-use Rattle.lsp_docs.specs.Stored.{text_of}
-use Rattle.lsp_verdict.specs.Calls.{call_at, calls}
-use Rattle.lsp_verdict.specs.Event.{Event}
+use Rattle.lsp_verdict.specs.Event.{call_at, calls, Event}
+use Rattle.lsp_facts.specs.declared.lent_text.LentText.{LentText}
+use Rattle.lsp_facts.specs.declared.lent_text.LentText.TheVariants.{Whole, Stored}
 use Rattle.lsp_facts.specs.Refuting.{first_other, made_text, waiting_texts}
 use Rattle.lsp_facts.specs.declared.two_texts.TwoTexts as code
-use Rattle.lsp_types.specs.declared.rules.TheConstants as rules
+
+-- ---- a text that is lent, whole or as it is stored
+
+-- its characters, where this is what a store holds
+abbrev pub lent_text : {S : Type 0} → (S → Text) → LentText S → Text
+lent_text content (Whole text) = chars text.now
+lent_text content (Stored store) = content store.now
+
+-- ---- two texts
 
 -- the one that the messages make, and the one that was saved or that a snapshot has
 pub record TwoTexts : Type 0 where
@@ -27,8 +32,8 @@ pub record TwoTexts : Type 0 where
 abbrev pub two_texts : Text → Text → TwoTexts
 two_texts made recorded = record { by_messages = made; in_editor = recorded }
 
-abbrev pub texts_view : code.TwoTexts → TwoTexts
-texts_view t = two_texts (text_of t.by_messages) (text_of t.in_editor)
+abbrev pub texts_view : {S : Type 0} → (S → Text) → code.TwoTexts S → TwoTexts
+texts_view content t = two_texts (lent_text content t.by_messages) (chars t.in_editor.now)
 
 -- ---- by what was called
 

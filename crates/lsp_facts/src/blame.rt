@@ -1,6 +1,6 @@
 //! Whose fault it usually is that a rule is broken.
 ghost use Rattle.std.specs.Prelude.{◌≡◌};
-ghost use Rattle.lsp_facts.specs.Lines as spec;
+ghost use Rattle.lsp_facts.specs.Fact as spec;
 
 use lsp_types::rules;
 use lsp_verdict::{Who, who_name};

@@ -2,14 +2,14 @@
 //! shape.
 ghost use Rattle.std.specs.Prelude.{◌≡◌, ◌≤◌, ◌-◌, ◌++◌, IfOk, IfSome, OnOk, length};
 ghost use Rattle.std.specs.List.{prefix_len};
-ghost use Rattle.lsp_facts.specs.ContentFacts as spec;
+ghost use Rattle.lsp_facts.specs.EventFacts as spec;
 ghost use Rattle.lsp_facts.specs.Members.{Finds};
 
 use crate::facts::Facts;
 use crate::json_text::json_break;
 use crate::members::wrong_member;
 use crate::messages::{front_facts, push_member, shown, text_front};
-use lsp_rpc::{Memory, RpcFault, read};
+use lsp_rpc::{Memory, Result, RpcFault, read};
 use lsp_types::rules;
 use std::alloc::Global;
 
@@ -22,7 +22,7 @@ const AROUND_BYTES: usize = 32;
 ///
 /// # Errors
 /// `Memory` where memory was refused.
-pub fn content_facts(alloc: Global, content: &[u8], rule: u16) -> Result<Facts, Memory>
+pub fn content_facts(alloc: Global, content: &[u8], rule: u16) -> Result<Facts>
     ensures { IfOk result (λ facts. facts ≡ spec.content_facts rule content.now) }
 {
     let mut facts = front_facts(alloc, content)?;
@@ -30,7 +30,7 @@ pub fn content_facts(alloc: Global, content: &[u8], rule: u16) -> Result<Facts, 
     Ok(facts)
 }
 
-fn push_reason(facts: &mut Facts, content: &[u8], rule: u16) -> Result<(), Memory>
+fn push_reason(facts: &mut Facts, content: &[u8], rule: u16) -> Result<()>
     ensures { OnOk result (facts.new ≡ facts.old ++ spec.reason_facts rule content.now) }
 {
     if rule == rules::CONTENT_NOT_JSON {
@@ -46,7 +46,7 @@ fn push_reason(facts: &mut Facts, content: &[u8], rule: u16) -> Result<(), Memor
 // ---- 209
 
 /// The member of the params that does not have its shape, if there is one.
-fn member_in(alloc: Global, content: &[u8]) -> Result<Option<String>, Memory>
+fn member_in(alloc: Global, content: &[u8]) -> Result<Option<String>>
     ensures { Finds result (spec.wrong_in content.now) }
 {
     match read(alloc, content) {
@@ -59,7 +59,7 @@ fn member_in(alloc: Global, content: &[u8]) -> Result<Option<String>, Memory>
 // ---- 201
 
 /// Where a content is no longer the front of a JSON text, and what is around that place.
-fn push_break(facts: &mut Facts, content: &[u8]) -> Result<(), Memory>
+fn push_break(facts: &mut Facts, content: &[u8]) -> Result<()>
     ensures { OnOk result (facts.new ≡ facts.old
         ++ spec.break_facts content.now (spec.content_break content.now)) }
 {
@@ -71,7 +71,7 @@ fn push_break(facts: &mut Facts, content: &[u8]) -> Result<(), Memory>
 
 /// How many bytes of a content come before the first one that a JSON text of UTF-8 does not allow
 /// there; all if it ends too early.
-fn content_break(alloc: Global, content: &[u8]) -> Result<Option<usize>, Memory>
+fn content_break(alloc: Global, content: &[u8]) -> Result<Option<usize>>
     ensures place { IfOk result (λ place. place ≡ spec.content_break content.now) }
     ensures within { IfOk result (λ place. IfSome place (λ n. n ≤ length content.now)) }
 {
@@ -83,7 +83,7 @@ fn content_break(alloc: Global, content: &[u8]) -> Result<Option<usize>, Memory>
 }
 
 /// A place, and what is before and after it.
-fn push_place(facts: &mut Facts, content: &[u8], place: usize) -> Result<(), Memory>
+fn push_place(facts: &mut Facts, content: &[u8], place: usize) -> Result<()>
     requires { place ≤ length content.now }
     ensures { OnOk result (facts.new ≡ facts.old ++ spec.place_facts content.now place) }
 {

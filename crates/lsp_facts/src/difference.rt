@@ -1,19 +1,39 @@
 //! Facts on two texts that differ.
 
-ghost use Rattle.std.specs.Prelude.{◌≡◌, ◌≢◌, IfOk};
+ghost use Rattle.std.specs.Prelude.{IfOk};
 ghost use Rattle.std.specs.Str.{chars};
 ghost use Rattle.lsp_types.specs.declared.line_ends.LineEnds.TheVariants.{Ignored};
 ghost use Rattle.lsp_text.specs.SameText.{SameText, compared};
-ghost use Rattle.lsp_facts.specs.DocumentFacts.{AreApart, AreOfDifference};
+ghost use Rattle.lsp_facts.specs.DocumentFacts.{AreApart, FindsApart, FindsDifference};
 
 use crate::facts::Facts;
 use crate::part::part_at;
+use lsp_rpc::Result;
 use lsp_text::{compared_lines, first_difference};
-use lsp_types::{Encoding, LineEnds, Memory};
+use lsp_types::{Encoding, LineEnds};
 use std::alloc::Global;
 
+/// The facts on a held text and another one, which differ.
+pub(crate) fn apart(
+    alloc: Global,
+    line_ends: LineEnds,
+    encoding: Encoding,
+    held: &str,
+    other: &str,
+    key: &str,
+) -> Result<Facts>
+    ensures { IfOk result (λ facts. (SameText line_ends (chars held.now) (chars other.now) → ⊥)
+        → AreApart line_ends encoding (chars held.now) (chars other.now)
+        key.now facts) }
+{
+    match difference(alloc, line_ends, encoding, held, other, key)? {
+        Some(facts) => Ok(facts),
+        None => Ok(Facts::new(alloc)),
+    }
+}
+
 /// Where a held text and another one first differ, as they are compared, the line of each there,
-/// and whether they differ in line ends alone.
+/// and whether they differ in line ends alone; none where they are the same.
 pub(crate) fn difference(
     alloc: Global,
     line_ends: LineEnds,
@@ -21,14 +41,15 @@ pub(crate) fn difference(
     held: &str,
     other: &str,
     key: &str,
-) -> Result<Facts, Memory>
-    ensures { IfOk result (λ facts. (SameText line_ends (chars held.now) (chars other.now) → ⊥)
-        → AreApart line_ends encoding (chars held.now) (chars other.now)
-        key.now facts) }
+) -> Result<Option<Facts>>
+    ensures { IfOk result (FindsApart line_ends encoding (chars held.now) (chars other.now)
+        key.now) }
 {
-    let mut facts = place(alloc, line_ends, encoding, held, other, key)?;
+    let Some(mut facts) = place(alloc, line_ends, encoding, held, other, key)? else {
+        return Ok(None);
+    };
     facts.line_ends(held, other)?;
-    Ok(facts)
+    Ok(Some(facts))
 }
 
 /// Where two texts first differ, as they are compared, and the line of each there.
@@ -39,10 +60,9 @@ fn place(
     held: &str,
     other: &str,
     key: &str,
-) -> Result<Facts, Memory>
-    ensures { IfOk result (λ facts. (SameText line_ends (chars held.now) (chars other.now) → ⊥)
-        → AreOfDifference encoding (compared line_ends (chars held.now))
-        (compared line_ends (chars other.now)) key.now facts) }
+) -> Result<Option<Facts>>
+    ensures { IfOk result (FindsDifference encoding (compared line_ends (chars held.now))
+        (compared line_ends (chars other.now)) key.now) }
 {
     match line_ends {
         LineEnds::Exact => at_difference(alloc, encoding, held, other, key),
@@ -57,16 +77,14 @@ fn by_lines(
     held: &str,
     other: &str,
     key: &str,
-) -> Result<Facts, Memory>
-    ensures { IfOk result (λ facts.
-        (SameText Ignored (chars held.now) (chars other.now) → ⊥)
-        → AreOfDifference encoding (compared Ignored (chars held.now))
-        (compared Ignored (chars other.now)) key.now facts) }
+) -> Result<Option<Facts>>
+    ensures { IfOk result (FindsDifference encoding (compared Ignored (chars held.now))
+        (compared Ignored (chars other.now)) key.now) }
 {
     let held = compared_lines(alloc, held)?;
     let other = compared_lines(alloc, other)?;
-    let facts = at_difference(alloc, encoding, held.as_str(), other.as_str(), key)?;
-    Ok(facts)
+    let found = at_difference(alloc, encoding, held.as_str(), other.as_str(), key)?;
+    Ok(found)
 }
 
 /// Where two texts first differ, and the line of each there; of a long one the part around the
@@ -77,20 +95,18 @@ fn at_difference(
     held: &str,
     other: &str,
     key: &str,
-) -> Result<Facts, Memory>
-    ensures { IfOk result (λ facts. chars held.now ≢ chars other.now
-        → AreOfDifference encoding (chars held.now) (chars other.now)
-        key.now facts) }
+) -> Result<Option<Facts>>
+    ensures { IfOk result (FindsDifference encoding (chars held.now) (chars other.now) key.now) }
 {
-    let mut facts = Facts::new(alloc);
     let Some(found) = first_difference(held, other, encoding) else {
-        return Ok(facts);
+        return Ok(None);
     };
+    let mut facts = Facts::new(alloc);
     facts.encoding(encoding)?;
     facts.place(found.at)?;
     let held = part_at(alloc, found.held, found.held_front)?;
     facts.part("by-messages", &held)?;
     let other = part_at(alloc, found.other, found.other_front)?;
     facts.part(key, &other)?;
-    Ok(facts)
+    Ok(Some(facts))
 }

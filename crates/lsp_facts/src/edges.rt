@@ -1,14 +1,15 @@
 //! The encodings in which a column lies at the edge of a character.
 ghost use Rattle.std.specs.Prelude.{◌≡◌, ◌++◌, IfOk, OnOk};
 ghost use Rattle.std.specs.Str.{chars};
-ghost use Rattle.lsp_facts.specs.Edges as spec;
+ghost use Rattle.lsp_facts.specs.DocumentFacts as spec;
 
+use lsp_rpc::Result;
 use lsp_text::{char_inside, line_at, width_of};
-use lsp_types::{Encoding, Memory, Position};
+use lsp_types::{Encoding, Position};
 use std::alloc::Global;
 
 /// The encodings in which a position lies in its line, and there at the edge of a character.
-pub(crate) fn edges(alloc: Global, text: &str, position: Position) -> Result<Vec<Encoding>, Memory>
+pub(crate) fn edges(alloc: Global, text: &str, position: Position) -> Result<Vec<Encoding>>
     ensures { IfOk result (λ names. names.items ≡ spec.edges (chars text.now) position) }
 {
     let mut names = Vec::new(alloc);
@@ -24,7 +25,7 @@ fn push_edge(
     text: &str,
     position: Position,
     encoding: Encoding,
-) -> Result<(), Memory>
+) -> Result<()>
     ensures { OnOk result (names.new.items ≡ names.old.items
         ++ spec.edge_in (chars text.now) position encoding) }
 {

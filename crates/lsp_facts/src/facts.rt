@@ -8,11 +8,11 @@ ghost use Rattle.lsp_rpc.specs.Ident.{id_view};
 ghost use Rattle.lsp_rpc.specs.Words.{id_text};
 ghost use Rattle.lsp_verdict.specs.Report.{line};
 ghost use Rattle.lsp_facts.specs.Fact as spec;
-ghost use Rattle.lsp_facts.specs.Part.{part_view};
+ghost use Rattle.lsp_facts.specs.Fact.{part_view};
 
 use crate::part::Excerpt;
 use lsp_replay::EventPlace;
-use lsp_rpc::{Id, Memory, push_id, push_quoted};
+use lsp_rpc::{Id, Result, push_id, push_quoted};
 use lsp_session::Phase;
 use lsp_types::Encoding;
 use lsp_verdict::who_name;
@@ -56,7 +56,7 @@ impl Facts {
     }
 
     /// Adds the lines of others.
-    pub(crate) fn append(&mut self, more: Facts) -> Result<(), Memory>
+    pub(crate) fn append(&mut self, more: Facts) -> Result<()>
         ensures { OnOk result (self.new ≡ self.old ++ more) }
     {
         let mut lines = more.lines;
@@ -65,7 +65,7 @@ impl Facts {
     }
 
     /// A key and a number.
-    pub fn number(&mut self, key: &str, number: u64) -> Result<(), Memory>
+    pub fn number(&mut self, key: &str, number: u64) -> Result<()>
         ensures ok { OnOk result (self.new ≡ self.old ++ line (key.now ∷ decimal number ∷ []) ∷ []) }
         ensures err { OnErr result (self.new ≡ self.old) }
     {
@@ -74,7 +74,7 @@ impl Facts {
     }
 
     /// A key and a version.
-    pub(crate) fn version(&mut self, key: &str, version: i32) -> Result<(), Memory>
+    pub(crate) fn version(&mut self, key: &str, version: i32) -> Result<()>
         ensures ok { OnOk result (self.new
             ≡ self.old ++ line (key.now ∷ signed_decimal version ∷ []) ∷ []) }
         ensures err { OnErr result (self.new ≡ self.old) }
@@ -84,7 +84,7 @@ impl Facts {
     }
 
     /// A key, a version, and an event.
-    pub fn version_by(&mut self, key: &str, version: i32, place: EventPlace) -> Result<(), Memory>
+    pub fn version_by(&mut self, key: &str, version: i32, place: EventPlace) -> Result<()>
         ensures ok { OnOk result (self.new ≡ self.old ++ spec.version_by key.now version place ∷ []) }
         ensures err { OnErr result (self.new ≡ self.old) }
     {
@@ -93,7 +93,7 @@ impl Facts {
     }
 
     /// The version that is held, and the event that set it, where it is known.
-    pub(crate) fn held(&mut self, version: i32, by: Option<EventPlace>) -> Result<(), Memory>
+    pub(crate) fn held(&mut self, version: i32, by: Option<EventPlace>) -> Result<()>
         ensures ok { OnOk result (self.new ≡ self.old ++ spec.holds version by ∷ []) }
         ensures err { OnErr result (self.new ≡ self.old) }
     {
@@ -104,7 +104,7 @@ impl Facts {
     }
 
     /// A key and a word.
-    pub fn word(&mut self, key: &str, word: &str) -> Result<(), Memory>
+    pub fn word(&mut self, key: &str, word: &str) -> Result<()>
         ensures ok { OnOk result (self.new ≡ self.old ++ line (key.now ∷ word.now ∷ []) ∷ []) }
         ensures err { OnErr result (self.new ≡ self.old) }
     {
@@ -113,7 +113,7 @@ impl Facts {
     }
 
     /// A key and a text.
-    pub fn text(&mut self, key: &str, text: &str) -> Result<(), Memory>
+    pub fn text(&mut self, key: &str, text: &str) -> Result<()>
         ensures ok { OnOk result (self.new
             ≡ self.old ++ line (key.now ∷ quoted text.now ∷ []) ∷ []) }
         ensures err { OnErr result (self.new ≡ self.old) }
@@ -123,7 +123,7 @@ impl Facts {
     }
 
     /// A key, a text, and an event.
-    pub fn text_by(&mut self, key: &str, text: &str, place: EventPlace) -> Result<(), Memory>
+    pub fn text_by(&mut self, key: &str, text: &str, place: EventPlace) -> Result<()>
         ensures ok { OnOk result (self.new
             ≡ self.old ++ line (key.now ∷ quoted text.now ∷ spec.place_words place) ∷ []) }
         ensures err { OnErr result (self.new ≡ self.old) }
@@ -133,7 +133,7 @@ impl Facts {
     }
 
     /// A key and an id.
-    pub(crate) fn id(&mut self, key: &str, id: &Id) -> Result<(), Memory>
+    pub(crate) fn id(&mut self, key: &str, id: &Id) -> Result<()>
         ensures ok { OnOk result (self.new
             ≡ self.old ++ line (key.now ∷ id_text (id_view id.now) ∷ []) ∷ []) }
         ensures err { OnErr result (self.new ≡ self.old) }
@@ -143,7 +143,7 @@ impl Facts {
     }
 
     /// A key, an id, and an event.
-    pub fn id_by(&mut self, key: &str, id: &Id, place: EventPlace) -> Result<(), Memory>
+    pub fn id_by(&mut self, key: &str, id: &Id, place: EventPlace) -> Result<()>
         ensures ok { OnOk result (self.new ≡ self.old
             ++ line (key.now ∷ id_text (id_view id.now) ∷ spec.place_words place) ∷ []) }
         ensures err { OnErr result (self.new ≡ self.old) }
@@ -153,7 +153,7 @@ impl Facts {
     }
 
     /// A request that waits for its response, and the event that sent it, where it is known.
-    pub fn request(&mut self, id: &Id, method: &str, by: Option<EventPlace>) -> Result<(), Memory>
+    pub fn request(&mut self, id: &Id, method: &str, by: Option<EventPlace>) -> Result<()>
         ensures ok { OnOk result (self.new
             ≡ self.old ++ spec.waits (id_view id.now) method.now by ∷ []) }
         ensures err { OnErr result (self.new ≡ self.old) }
@@ -166,7 +166,7 @@ impl Facts {
     }
 
     /// A key and an event.
-    pub fn event(&mut self, key: &str, place: EventPlace) -> Result<(), Memory>
+    pub fn event(&mut self, key: &str, place: EventPlace) -> Result<()>
         ensures ok { OnOk result (self.new ≡ self.old ++ spec.cited key.now place ∷ []) }
         ensures err { OnErr result (self.new ≡ self.old) }
     {
@@ -175,7 +175,7 @@ impl Facts {
     }
 
     /// How far the session has come.
-    pub fn phase(&mut self, phase: Phase) -> Result<(), Memory>
+    pub fn phase(&mut self, phase: Phase) -> Result<()>
         ensures ok { OnOk result (self.new ≡ self.old ++ spec.in_phase phase ∷ []) }
         ensures err { OnErr result (self.new ≡ self.old) }
     {
@@ -184,7 +184,7 @@ impl Facts {
 
     /// A key and a line of a document; of a part of one, how many characters are left out before
     /// and after it.
-    pub(crate) fn part(&mut self, key: &str, part: &Excerpt) -> Result<(), Memory>
+    pub(crate) fn part(&mut self, key: &str, part: &Excerpt) -> Result<()>
         ensures ok { OnOk result (self.new
             ≡ self.old ++ spec.part_line key.now (part_view part.now) ∷ []) }
         ensures err { OnErr result (self.new ≡ self.old) }
@@ -199,7 +199,7 @@ impl Facts {
     }
 
     /// Adds the line of these words and an event.
-    fn push_by(&mut self, mut words: String, place: EventPlace) -> Result<(), Memory>
+    fn push_by(&mut self, mut words: String, place: EventPlace) -> Result<()>
         ensures ok { OnOk result (self.new
             ≡ self.old ++ line (string_bytes words ∷ spec.place_words place) ∷ []) }
         ensures err { OnErr result (self.new ≡ self.old) }
@@ -211,7 +211,7 @@ impl Facts {
     }
 
     /// Adds the line of these words.
-    pub(crate) fn push_end(&mut self, mut words: String) -> Result<(), Memory>
+    pub(crate) fn push_end(&mut self, mut words: String) -> Result<()>
         ensures ok { OnOk result (self.new ≡ self.old ++ line (string_bytes words ∷ []) ∷ []) }
         ensures err { OnErr result (self.new ≡ self.old) }
     {
@@ -220,7 +220,7 @@ impl Facts {
     }
 
     /// Adds a line, which has its LF.
-    pub(crate) fn push(&mut self, line: String) -> Result<(), Memory>
+    pub(crate) fn push(&mut self, line: String) -> Result<()>
         ensures ok { OnOk result (self.new ≡ self.old ++ string_bytes line ∷ []) }
         ensures err { OnErr result (self.new ≡ self.old) }
     {
@@ -228,7 +228,8 @@ impl Facts {
         Ok(())
     }
 
-    pub(crate) fn alloc(&self) -> Global {
+    /// The allocator of the lines.
+    pub fn alloc(&self) -> Global {
         *self.lines.allocator()
     }
 }
@@ -237,14 +238,14 @@ impl Facts {
 ///
 /// # Errors
 /// `Memory` where memory was refused.
-pub fn push_facts(text: &mut String, facts: &Facts) -> Result<(), Memory>
+pub fn push_facts(text: &mut String, facts: &Facts) -> Result<()>
     ensures { OnOk result (string_bytes text.new
         ≡ string_bytes text.old ++ spec.fact_lines facts.now) }
 {
     push_lines(text, facts.lines.as_slice())
 }
 
-fn push_lines(text: &mut String, lines: &[String]) -> Result<(), Memory>
+fn push_lines(text: &mut String, lines: &[String]) -> Result<()>
     ensures { OnOk result (string_bytes text.new
         ≡ string_bytes text.old ++ spec.fact_lines (map string_bytes lines.now)) }
 {
@@ -255,7 +256,7 @@ fn push_lines(text: &mut String, lines: &[String]) -> Result<(), Memory>
 }
 
 /// A key and a text.
-fn text_words(alloc: Global, key: &str, text: &str) -> Result<String, Memory>
+fn text_words(alloc: Global, key: &str, text: &str) -> Result<String>
     ensures { IfOk result (λ words. string_bytes words ≡ key.now ++ 32 ∷ quoted text.now) }
 {
     let mut words = format!(in alloc; "{key} ")?;
@@ -264,7 +265,7 @@ fn text_words(alloc: Global, key: &str, text: &str) -> Result<String, Memory>
 }
 
 /// A key and characters of a document.
-fn line_words(alloc: Global, key: &str, text: &str) -> Result<String, Memory>
+fn line_words(alloc: Global, key: &str, text: &str) -> Result<String>
     ensures { IfOk result (λ words. string_bytes words
         ≡ key.now ++ 32 ∷ spec.quoted_text (chars text.now)) }
 {
@@ -272,7 +273,7 @@ fn line_words(alloc: Global, key: &str, text: &str) -> Result<String, Memory>
 }
 
 /// A key and an id.
-fn id_words(alloc: Global, key: &str, id: &Id) -> Result<String, Memory>
+fn id_words(alloc: Global, key: &str, id: &Id) -> Result<String>
     ensures { IfOk result (λ words. string_bytes words ≡ key.now ++ 32 ∷ id_text (id_view id.now)) }
 {
     let mut words = format!(in alloc; "{key} ")?;

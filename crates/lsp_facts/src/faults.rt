@@ -1,11 +1,11 @@
 //! Facts on streams of frames and on logs that have a fault.
 ghost use Rattle.std.specs.Prelude.{◌≡◌, IfOk};
-ghost use Rattle.lsp_facts.specs.FlawFacts as spec;
+ghost use Rattle.lsp_facts.specs.EventFacts as spec;
 
 use crate::facts::Facts;
 use crate::messages::{front_facts, text_front};
 use lsp_frame::header_front;
-use lsp_rpc::Memory;
+use lsp_rpc::Result;
 use std::alloc::Global;
 
 /// What is said about a stream that has a fault of its frames, 101 to 106: how the header part
@@ -13,7 +13,7 @@ use std::alloc::Global;
 ///
 /// # Errors
 /// `Memory` where memory was refused.
-pub fn frame_facts(alloc: Global, rest: &[u8]) -> Result<Facts, Memory>
+pub fn frame_facts(alloc: Global, rest: &[u8]) -> Result<Facts>
     ensures { IfOk result (λ facts. facts ≡ spec.frame_facts rest.now) }
 {
     front_facts(alloc, header_front(rest))
@@ -24,7 +24,7 @@ pub fn frame_facts(alloc: Global, rest: &[u8]) -> Result<Facts, Memory>
 ///
 /// # Errors
 /// `Memory` where memory was refused.
-pub fn flaw_facts(alloc: Global, number: u64, place: u64, line: &[u8]) -> Result<Facts, Memory>
+pub fn flaw_facts(alloc: Global, number: u64, place: u64, line: &[u8]) -> Result<Facts>
     ensures { IfOk result (λ facts. facts
         ≡ spec.flaw_facts number place line.now) }
 {

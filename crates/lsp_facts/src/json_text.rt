@@ -4,7 +4,7 @@ ghost use Rattle.lsp_facts.specs.Grammar as spec;
 
 use crate::grammar::Class::{self, Byte, CToF, D, Digit};
 use crate::grammar::{Around, Escape, Gap, Move, Number, Place, Row};
-use lsp_rpc::Memory;
+use lsp_rpc::Result;
 use std::alloc::Global;
 
 /// How deep arrays and objects nest at most.
@@ -196,7 +196,7 @@ fn move_in(place: Place, opened: &[Around], byte: u8) -> Option<Move>
 }
 
 /// What is open after a move, and the place that it leads to.
-fn make_move(opened: &mut Vec<Around>, by: Move) -> Result<Place, Memory>
+fn make_move(opened: &mut Vec<Around>, by: Move) -> Result<Place>
     ensures to { IfOk result (λ place. place ≡ spec.to by) }
     ensures opened { OnOk result (opened.new.items ≡ spec.left_open opened.old.items by) }
 {
@@ -232,7 +232,7 @@ fn is_whole(place: Place, opened: &[Around]) -> bool
 ///
 /// # Errors
 /// `Memory` where memory was refused.
-pub(crate) fn json_break(alloc: Global, text: &[u8]) -> Result<Option<usize>, Memory>
+pub(crate) fn json_break(alloc: Global, text: &[u8]) -> Result<Option<usize>>
     ensures place { IfOk result (λ place. place ≡ spec.json_break text.now) }
     ensures within { IfOk result (λ place. IfSome place (λ n. n ≤ length text.now)) }
 {

@@ -1,5 +1,5 @@
 //! Laws of the facts.
-ghost use Rattle.lsp_facts.specs.MemberLaws.{BadParamsHaveMember, BadResultHasMember};
+ghost use Rattle.lsp_facts.specs.Members.{BadParamsHaveMember, BadResultHasMember};
 ghost use Rattle.lsp_facts.specs.TwoTexts.{TextsDiffer};
 
 /// Of a message whose params do not have the shape of its method, a member is named.

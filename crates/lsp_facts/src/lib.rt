@@ -21,8 +21,9 @@ mod faults;
 mod grammar;
 mod json_text;
 mod laws;
+mod lent_text;
 mod lines;
-mod making;
+mod made;
 mod members;
 mod messages;
 mod offending;
@@ -38,6 +39,7 @@ pub use contents::content_facts;
 pub use facts::{Facts, push_facts};
 pub use faults::{flaw_facts, frame_facts};
 pub use laws::{bad_params_have_a_member, bad_result_has_a_member, compared_texts_differ};
+pub use lent_text::LentText;
 pub use lines::{
     push_bare_event, push_content_event, push_details, push_end_event, push_message_event,
 };

@@ -2,12 +2,11 @@
 ghost use Rattle.std.specs.Prelude.{◌≡◌, ◌++◌, OnOk, string_bytes};
 ghost use Rattle.lsp_rpc.specs.View.{message_view};
 ghost use Rattle.lsp_facts.specs.Fact.{fact_lines};
-ghost use Rattle.lsp_facts.specs.Lines as spec;
+ghost use Rattle.lsp_facts.specs.Fact as spec;
 
 use crate::facts::{Facts, push_facts};
-use lsp_rpc::{Memory, Message, RpcFault, read, words_of};
+use lsp_rpc::{Memory, Message, Result, RpcFault, read, words_of};
 use lsp_verdict::{Who, who_name};
-use std::alloc::Global;
 use std::fmt::Write;
 
 /// Adds the lines of facts, one each, and whose fault that usually is, as
@@ -15,7 +14,7 @@ use std::fmt::Write;
 ///
 /// # Errors
 /// `Memory` where memory was refused.
-pub fn push_details(lines: &mut String, facts: &Facts, usual: &str) -> Result<(), Memory>
+pub fn push_details(lines: &mut String, facts: &Facts, usual: &str) -> Result<()>
     ensures { OnOk result (string_bytes lines.new
         ≡ string_bytes lines.old ++ (fact_lines facts.now ++ spec.usual_line usual.now)) }
 {
@@ -23,7 +22,7 @@ pub fn push_details(lines: &mut String, facts: &Facts, usual: &str) -> Result<()
     push_usual(lines, usual)
 }
 
-fn push_usual(lines: &mut String, usual: &str) -> Result<(), Memory>
+fn push_usual(lines: &mut String, usual: &str) -> Result<()>
     ensures { OnOk result (string_bytes lines.new
         ≡ string_bytes lines.old ++ spec.usual_line usual.now) }
 {
@@ -37,18 +36,17 @@ fn push_usual(lines: &mut String, usual: &str) -> Result<(), Memory>
 /// # Errors
 /// `Memory` where memory was refused.
 pub fn push_message_event(
-    alloc: Global,
     lines: &mut String,
     event: u64,
     by: Who,
     number: u64,
     message: &Message,
-) -> Result<(), Memory>
+) -> Result<()>
     ensures { OnOk result (string_bytes lines.new ≡ string_bytes lines.old
         ++ spec.message_event event by number (message_view message.now)) }
 {
     let name = who_name(by);
-    let words = words_of(alloc, message)?;
+    let words = words_of(*lines.allocator(), message)?;
     writeln!(lines, "event {event} {name} {number} {words}")?;
     Ok(())
 }
@@ -59,35 +57,33 @@ pub fn push_message_event(
 /// # Errors
 /// `Memory` where memory was refused.
 pub fn push_content_event(
-    alloc: Global,
     lines: &mut String,
     event: u64,
     by: Who,
     number: u64,
     content: &[u8],
-) -> Result<(), Memory>
+) -> Result<()>
     ensures { OnOk result (string_bytes lines.new ≡ string_bytes lines.old
         ++ spec.content_event event by number (spec.content_message content.now)) }
 {
-    match read(alloc, content) {
-        Ok(message) => push_owned_event(alloc, lines, event, by, number, message),
+    match read(*lines.allocator(), content) {
+        Ok(message) => push_owned_event(lines, event, by, number, message),
         Err(RpcFault::Rule(_)) => push_bare_event(lines, event, by, number),
         Err(RpcFault::Memory) => Err(Memory),
     }
 }
 
 fn push_owned_event(
-    alloc: Global,
     lines: &mut String,
     event: u64,
     by: Who,
     number: u64,
     message: Message,
-) -> Result<(), Memory>
+) -> Result<()>
     ensures { OnOk result (string_bytes lines.new ≡ string_bytes lines.old
         ++ spec.message_event event by number (message_view message)) }
 {
-    push_message_event(alloc, lines, event, by, number, &message)
+    push_message_event(lines, event, by, number, &message)
 }
 
 /// Adds the line of an event without words: its number, from 1, whose it is, and its number among
@@ -95,7 +91,7 @@ fn push_owned_event(
 ///
 /// # Errors
 /// `Memory` where memory was refused.
-pub fn push_bare_event(lines: &mut String, event: u64, by: Who, number: u64) -> Result<(), Memory>
+pub fn push_bare_event(lines: &mut String, event: u64, by: Who, number: u64) -> Result<()>
     ensures { OnOk result (string_bytes lines.new
         ≡ string_bytes lines.old ++ spec.bare_event event by number) }
 {
@@ -109,7 +105,7 @@ pub fn push_bare_event(lines: &mut String, event: u64, by: Who, number: u64) -> 
 ///
 /// # Errors
 /// `Memory` where memory was refused.
-pub fn push_end_event(lines: &mut String, event: u64, by: Who) -> Result<(), Memory>
+pub fn push_end_event(lines: &mut String, event: u64, by: Who) -> Result<()>
     ensures { OnOk result (string_bytes lines.new
         ≡ string_bytes lines.old ++ spec.end_event event by) }
 {

@@ -9,12 +9,12 @@ ghost use Rattle.lsp_facts.specs.Members as spec;
 ghost use Rattle.lsp_facts.specs.Members.{Finds, part_view, row_view};
 
 use crate::shapes::{Kind, Need, PARAMS, Part, RESULT, Row};
-use lsp_rpc::{Memory, Message};
+use lsp_rpc::{Message, Result};
 use serde_json::Value;
 use std::alloc::Global;
 
 /// The member of the params of a message that does not have its shape.
-pub(crate) fn wrong_member(alloc: Global, message: &Message) -> Result<Option<String>, Memory>
+pub(crate) fn wrong_member(alloc: Global, message: &Message) -> Result<Option<String>>
     ensures { Finds result (spec.wrong_member (message_view message.now)) }
 {
     match message {
@@ -29,18 +29,14 @@ pub(crate) fn wrong_member(alloc: Global, message: &Message) -> Result<Option<St
 }
 
 /// The member of the result of `initialize` that does not have its shape.
-pub(crate) fn wrong_result(alloc: Global, answer: &Value) -> Result<Option<String>, Memory>
+pub(crate) fn wrong_result(alloc: Global, answer: &Value) -> Result<Option<String>>
     ensures { Finds result (spec.wrong_result (view answer.now)) }
 {
     wrong_in(alloc, Kind::Object, &RESULT, answer)
 }
 
 /// The same of the params of a method of this name.
-fn wrong_params(
-    alloc: Global,
-    method: &str,
-    params: Option<&Value>,
-) -> Result<Option<String>, Memory>
+fn wrong_params(alloc: Global, method: &str, params: Option<&Value>) -> Result<Option<String>>
     ensures { Finds result
         (spec.wrong_by spec.parts method.now (option_map (λ v. view v.now) params.entry)) }
 {
@@ -53,7 +49,7 @@ fn wrong_by(
     parts: &[Part],
     method: &str,
     params: Option<&Value>,
-) -> Result<Option<String>, Memory>
+) -> Result<Option<String>>
     ensures { Finds result (spec.wrong_by (map part_view parts.now) method.now
         (option_map (λ v. view v.now) params.entry)) }
 {
@@ -72,7 +68,7 @@ fn wrong_part(
     part: &Part,
     method: &str,
     params: Option<&Value>,
-) -> Result<Option<String>, Memory>
+) -> Result<Option<String>>
     ensures { Finds result (spec.wrong_part method.now
         (option_map (λ v. view v.now) params.entry) (part_view part.now)) }
 {
@@ -96,7 +92,7 @@ fn wrong_item(
     kind: Kind,
     rows: &[Row],
     items: &[Value],
-) -> Result<Option<String>, Memory>
+) -> Result<Option<String>>
     ensures { Finds result (option_map (λ rest. array.now ++ rest)
         (spec.wrong_item kind (map row_view rows.now) 0 (items_view items.now))) }
 {
@@ -109,12 +105,7 @@ fn wrong_item(
 }
 
 /// The value itself, unless it is of this kind, or the first of its members that is wrong.
-fn wrong_in(
-    alloc: Global,
-    kind: Kind,
-    rows: &[Row],
-    value: &Value,
-) -> Result<Option<String>, Memory>
+fn wrong_in(alloc: Global, kind: Kind, rows: &[Row], value: &Value) -> Result<Option<String>>
     ensures { Finds result (spec.wrong_in kind (map row_view rows.now) (view value.now)) }
 {
     if !kind.fits(value) {

@@ -14,11 +14,11 @@ ghost use Rattle.lsp_session.specs.State.{Stands};
 ghost use Rattle.lsp_session.specs.View.{sent};
 ghost use Rattle.lsp_facts.specs.Fact.{in_phase, more_words, spaced};
 ghost use Rattle.lsp_facts.specs.Members.{pointer_view};
-ghost use Rattle.lsp_facts.specs.MessageFacts as spec;
+ghost use Rattle.lsp_facts.specs.EventFacts as spec;
 
 use crate::facts::Facts;
 use crate::members::wrong_result;
-use lsp_rpc::{Act, Id, Memory, Message, Offer, RpcFault, Side, picked_of, push_quoted};
+use lsp_rpc::{Act, Id, Memory, Message, Offer, Result, RpcFault, Side, picked_of, push_quoted};
 use lsp_session::{Session, is_synchronisation};
 use lsp_types::rules;
 use serde_json::Value;
@@ -64,7 +64,7 @@ pub(crate) fn shown(bytes: &[u8], most: usize) -> &str
 ///
 /// # Errors
 /// `Memory` where memory was refused.
-pub fn front_facts(alloc: Global, bytes: &[u8]) -> Result<Facts, Memory>
+pub fn front_facts(alloc: Global, bytes: &[u8]) -> Result<Facts>
     ensures { IfOk result (λ facts. facts ≡ spec.front_facts bytes.now) }
 {
     let mut facts = Facts::new(alloc);
@@ -73,7 +73,7 @@ pub fn front_facts(alloc: Global, bytes: &[u8]) -> Result<Facts, Memory>
 }
 
 /// Adds a member that does not have its shape, where there is one.
-pub(crate) fn push_member(facts: &mut Facts, found: Option<String>) -> Result<(), Memory>
+pub(crate) fn push_member(facts: &mut Facts, found: Option<String>) -> Result<()>
     ensures { OnOk result (facts.new ≡ facts.old ++ spec.member_facts (pointer_view found)) }
 {
     match found {
@@ -93,7 +93,7 @@ pub fn id_in(message: &Message) -> Option<&Id>
     }
 }
 
-fn push_id(facts: &mut Facts, message: &Message) -> Result<(), Memory>
+fn push_id(facts: &mut Facts, message: &Message) -> Result<()>
     ensures { OnOk result (facts.new
         ≡ facts.old ++ spec.id_fact (message_view message.now) ∷ []) }
 {
@@ -122,7 +122,7 @@ fn count_fitting(names: &[String]) -> usize
 }
 
 /// Adds as many of the first names as fit, and how many more there are.
-fn push_names(facts: &mut Facts, names: &[String]) -> Result<(), Memory>
+fn push_names(facts: &mut Facts, names: &[String]) -> Result<()>
     ensures { OnOk result (facts.new
         ≡ facts.old ++ spec.offer_fact (texts_view names.now) ∷ []) }
 {
@@ -134,7 +134,7 @@ fn push_names(facts: &mut Facts, names: &[String]) -> Result<(), Memory>
 }
 
 /// Adds how many names are left out, where any are.
-fn push_more(words: &mut String, more: usize) -> Result<(), Memory>
+fn push_more(words: &mut String, more: usize) -> Result<()>
     ensures { OnOk result (string_bytes words.new ≡ string_bytes words.old ++ more_words more) }
 {
     if more == 0 {
@@ -145,7 +145,7 @@ fn push_more(words: &mut String, more: usize) -> Result<(), Memory>
 }
 
 /// Names that are offered.
-fn shown_names(alloc: Global, names: &[String]) -> Result<String, Memory>
+fn shown_names(alloc: Global, names: &[String]) -> Result<String>
     ensures { IfOk result (λ words. string_bytes words ≡ codes "offered"
         ++ flat_map (λ name. spaced (quoted name)) (texts_view names.now)) }
 {
@@ -156,7 +156,7 @@ fn shown_names(alloc: Global, names: &[String]) -> Result<String, Memory>
     Ok(words)
 }
 
-fn push_name(alloc: Global, words: &mut String, name: &str) -> Result<(), Memory>
+fn push_name(alloc: Global, words: &mut String, name: &str) -> Result<()>
     ensures { OnOk result (string_bytes words.new
         ≡ string_bytes words.old ++ spaced (quoted name.now)) }
 {
@@ -165,7 +165,7 @@ fn push_name(alloc: Global, words: &mut String, name: &str) -> Result<(), Memory
 }
 
 /// Adds the encodings that are offered; none where none is named.
-fn push_offered(facts: &mut Facts, offer: &Offer) -> Result<(), Memory>
+fn push_offered(facts: &mut Facts, offer: &Offer) -> Result<()>
     ensures { OnOk result (facts.new ≡ facts.old
         ++ spec.offer_fact (unwrap_or (offer_view offer.now).encodings []) ∷ []) }
 {
@@ -176,7 +176,7 @@ fn push_offered(facts: &mut Facts, offer: &Offer) -> Result<(), Memory>
 }
 
 /// Adds what the result of `initialize` picks, where it has the shape.
-fn push_picked(facts: &mut Facts, value: &Value) -> Result<(), Memory>
+fn push_picked(facts: &mut Facts, value: &Value) -> Result<()>
     ensures { OnOk result (facts.new ≡ facts.old ++ spec.pick_facts (picked_at (view value.now))) }
 {
     match picked_of(facts.alloc(), value) {
@@ -187,12 +187,7 @@ fn push_picked(facts: &mut Facts, value: &Value) -> Result<(), Memory>
 }
 
 /// Adds what a result of `initialize` agrees on, or would.
-fn push_settled(
-    facts: &mut Facts,
-    session: &Session,
-    side: Side,
-    message: &Message,
-) -> Result<(), Memory>
+fn push_settled(facts: &mut Facts, session: &Session, side: Side, message: &Message) -> Result<()>
     ensures { OnOk result ((before : List Sent) → Stands session.now before
         → facts.new ≡ facts.old ++ spec.settled_facts (settled_among (open_initializes before) side
         (message_view message.now))) }
@@ -227,7 +222,7 @@ fn registered(act: &Act) -> Option<&str>
     }
 }
 
-fn push_registered(facts: &mut Facts, act: &Act) -> Result<(), Memory>
+fn push_registered(facts: &mut Facts, act: &Act) -> Result<()>
     ensures { OnOk result (facts.new ≡ facts.old ++ spec.register_facts (act_view act.now)) }
 {
     match registered(act) {
@@ -246,7 +241,7 @@ fn expected(session: &Session) -> Option<&Id>
 }
 
 /// Adds the token of a progress, and the one that it may have.
-fn push_tokens(facts: &mut Facts, session: &Session, act: &Act) -> Result<(), Memory>
+fn push_tokens(facts: &mut Facts, session: &Session, act: &Act) -> Result<()>
     ensures { OnOk result ((before : List Sent) → Stands session.now before
         → facts.new ≡ facts.old ++ spec.token_facts before (act_view act.now)) }
 {
@@ -261,7 +256,7 @@ fn push_tokens(facts: &mut Facts, session: &Session, act: &Act) -> Result<(), Me
 }
 
 /// Adds how far the session has come, and under 412 the tokens of a progress before that.
-fn push_phase(facts: &mut Facts, session: &Session, act: &Act, rule: u16) -> Result<(), Memory>
+fn push_phase(facts: &mut Facts, session: &Session, act: &Act, rule: u16) -> Result<()>
     ensures { OnOk result ((before : List Sent) → Stands session.now before
         → facts.new ≡ facts.old ++ spec.early_facts rule before (act_view act.now)
         ++ in_phase (phase before) ∷ []) }
@@ -288,7 +283,7 @@ pub(crate) fn session_facts(
     message: &Message,
     act: &Act,
     rule: u16,
-) -> Result<Facts, Memory>
+) -> Result<Facts>
     ensures { IfOk result (λ facts. (before : List Sent) → Stands session.now before
         → facts ≡ spec.session_facts rule before (sent side message.now act.now)) }
 {

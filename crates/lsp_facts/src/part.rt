@@ -2,9 +2,9 @@
 ghost use Rattle.std.specs.Prelude.{◌≡◌, IfOk, length, string_bytes};
 ghost use Rattle.std.specs.Str.{chars};
 ghost use lib.Utf8.{encodes};
-ghost use Rattle.lsp_facts.specs.Part as spec;
+ghost use Rattle.lsp_facts.specs.Fact as spec;
 
-use lsp_types::Memory;
+use lsp_rpc::Result;
 use std::alloc::Global;
 
 /// How many characters of a line are shown at most.
@@ -24,7 +24,7 @@ pub struct Excerpt {
 }
 
 /// A line, or the part of it around the place behind this front of it.
-pub(crate) fn part_at(alloc: Global, line: &str, front: &str) -> Result<Excerpt, Memory>
+pub(crate) fn part_at(alloc: Global, line: &str, front: &str) -> Result<Excerpt>
     ensures { IfOk result (λ part.
         spec.part_view part ≡ spec.part_at (length (chars front.now)) (chars line.now)) }
 {
@@ -63,7 +63,7 @@ fn left_after(count: usize, before: usize) -> usize
 }
 
 /// The characters of a line that are shown, where this many are left out before them.
-fn shown_text(alloc: Global, line: &str, before: usize) -> Result<String, Memory>
+fn shown_text(alloc: Global, line: &str, before: usize) -> Result<String>
     ensures { IfOk result (λ text. string_bytes text
         ≡ encodes (spec.shown before (chars line.now))) }
 {

@@ -7,13 +7,12 @@ ghost use Rattle.std.specs.String.{string_bytes};
 ghost use Rattle.lsp_text.specs.Edits.{changed};
 ghost use Rattle.lsp_text.specs.Changes.{edit_of, edits_of};
 ghost use Rattle.lsp_facts.specs.DocumentFacts.{fits, misfit_facts, kind_facts, stray, IsStray};
-ghost use Rattle.lsp_facts.specs.DocumentFacts.{IsTooLong, IsReason, IsRefused};
-ghost use Rattle.lsp_facts.specs.Making.{HasStray};
+ghost use Rattle.lsp_facts.specs.DocumentFacts.{HasStray, IsTooLong, IsReason, IsRefused};
 ghost use Rattle.lsp_types.specs.declared.rules.TheConstants as rules;
 
 use crate::facts::Facts;
-use crate::making::make;
-use lsp_text::{TextStore, char_inside, size_with};
+use lsp_rpc::Result;
+use lsp_text::{TextFault, TextStore, change_all, char_inside, size_with};
 use lsp_types::{Change, Encoding, Memory, Position, Span, SyncKind, rules};
 use lsp_verdict::kind_name;
 use std::alloc::Global;
@@ -27,7 +26,7 @@ pub(crate) fn misfit<S: TextStore>(
     kind: SyncKind,
     changes: &[Change],
     limit: u64,
-) -> Result<Facts, Memory>
+) -> Result<Facts>
     ensures { IfOk result (λ facts. facts
         ≡ kind_facts limit encoding kind (S.content store.now) (edits_of changes.now)) }
 {
@@ -50,7 +49,7 @@ fn misfit_at<S: TextStore>(
     changes: &[Change],
     count: usize,
     limit: u64,
-) -> Result<Facts, Memory>
+) -> Result<Facts>
     requires { count < length changes.now }
     ensures { IfOk result (λ facts. facts
         ≡ misfit_facts limit encoding (S.content store.now) (edits_of changes.now) count
@@ -59,12 +58,18 @@ fn misfit_at<S: TextStore>(
     let mut facts = Facts::new(alloc);
     let span = changes[count].span;
     facts.change(encoding, count, span)?;
-    let made = make(alloc, store, encoding, &changes[..count], limit)?;
-    if made.count < count {
-        return Ok(facts);
+    let mut copy = store.copy(alloc)?;
+    match change_all(&mut copy, encoding, &changes[..count], limit) {
+        Ok(()) => {
+            let text = copy.to_text(alloc)?;
+            facts.first_length(text.as_str(), encoding, span)?;
+            Ok(facts)
+        }
+        Err(failed) => match failed.fault {
+            TextFault::Rule(_) => Ok(facts),
+            TextFault::Memory => Err(Memory),
+        },
     }
-    facts.first_length(made.text.as_str(), encoding, span)?;
-    Ok(facts)
 }
 
 /// How many changes come before the first that is not of the kind.
@@ -98,7 +103,7 @@ pub(crate) fn refused(
     change: &Change,
     rule: u16,
     limit: u64,
-) -> Result<Facts, Memory>
+) -> Result<Facts>
     requires { count + 1 < 2 ^ 64 }
     ensures { IfOk result (λ facts. changed encoding (chars text.now) change.now.span
         (chars (string_bytes change.now.text)) limit ≡ Err rule
@@ -118,7 +123,7 @@ fn reason(
     change: &Change,
     rule: u16,
     limit: u64,
-) -> Result<Facts, Memory>
+) -> Result<Facts>
     ensures { IfOk result (λ facts. changed encoding (chars text.now) change.now.span
         (chars (string_bytes change.now.text)) limit ≡ Err rule
         → IsReason limit encoding (chars text.now) (edit_of change.now) rule facts) }
@@ -136,12 +141,7 @@ fn reason(
 
 /// The line of the position of a span that lies inside a character, that character, and the other
 /// encodings in which the position lies at an edge.
-fn stray_facts(
-    alloc: Global,
-    encoding: Encoding,
-    text: &str,
-    span: Option<Span>,
-) -> Result<Facts, Memory>
+fn stray_facts(alloc: Global, encoding: Encoding, text: &str, span: Option<Span>) -> Result<Facts>
     ensures { IfOk result (λ facts. HasStray encoding (chars text.now) span
         → IsStray encoding (chars text.now) span facts) }
 {
@@ -176,7 +176,7 @@ fn size_facts(
     text: &str,
     change: &Change,
     limit: u64,
-) -> Result<Facts, Memory>
+) -> Result<Facts>
     ensures { IfOk result (λ facts. changed encoding (chars text.now) change.now.span
         (chars (string_bytes change.now.text)) limit ≡ Err rules.DOCUMENT_OVER_LIMIT
         → IsTooLong limit encoding (chars text.now) (edit_of change.now) facts) }

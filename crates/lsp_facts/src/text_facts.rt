@@ -10,18 +10,19 @@ ghost use Rattle.lsp_text.specs.SameText.{same_text};
 ghost use Rattle.lsp_verdict.specs.Report.{encoding_name};
 ghost use Rattle.lsp_facts.specs.Fact.{counts_in, fails, position_words, spaced};
 ghost use Rattle.lsp_facts.specs.DocumentFacts as spec;
-ghost use Rattle.lsp_facts.specs.Edges.{edges};
+ghost use Rattle.lsp_facts.specs.DocumentFacts.{edges};
 
 use crate::edges::edges;
 use crate::facts::Facts;
+use lsp_rpc::Result;
 use lsp_text::{line_at, same_lines, width_of};
-use lsp_types::{Encoding, Memory, Position, Span};
+use lsp_types::{Encoding, Position, Span};
 use std::alloc::Global;
 use std::fmt::Write;
 
 impl Facts {
     /// The encoding in which columns and lengths are counted.
-    pub(crate) fn encoding(&mut self, encoding: Encoding) -> Result<(), Memory>
+    pub(crate) fn encoding(&mut self, encoding: Encoding) -> Result<()>
         ensures { OnOk result (self.new ≡ self.old ++ counts_in encoding ∷ []) }
     {
         self.word("encoding", encoding_name(encoding))
@@ -33,7 +34,7 @@ impl Facts {
         encoding: Encoding,
         count: usize,
         span: Option<Span>,
-    ) -> Result<(), Memory>
+    ) -> Result<()>
         requires { count + 1 < 2 ^ 64 }
         ensures { OnOk result (self.new
             ≡ self.old ++ counts_in encoding ∷ fails (count + 1) span ∷ []) }
@@ -44,7 +45,7 @@ impl Facts {
     }
 
     /// Where two texts first differ.
-    pub(crate) fn place(&mut self, place: Position) -> Result<(), Memory>
+    pub(crate) fn place(&mut self, place: Position) -> Result<()>
         ensures { OnOk result (self.new ≡ self.old ++ spec.differs_at place ∷ []) }
     {
         let mut words = String::from_str(self.alloc(), "at")?;
@@ -53,7 +54,7 @@ impl Facts {
     }
 
     /// The versions that are kept in addition to the held one.
-    pub(crate) fn kept(&mut self, versions: &[i32]) -> Result<(), Memory>
+    pub(crate) fn kept(&mut self, versions: &[i32]) -> Result<()>
         ensures { OnOk result (self.new ≡ self.old ++ spec.keeps versions.now ∷ []) }
     {
         let mut words = String::from_str(self.alloc(), "kept")?;
@@ -64,7 +65,7 @@ impl Facts {
     }
 
     /// The character into which a column falls.
-    pub(crate) fn inside(&mut self, c: char) -> Result<(), Memory>
+    pub(crate) fn inside(&mut self, c: char) -> Result<()>
         ensures { OnOk result (self.new ≡ self.old ++ spec.falls_inside c ∷ []) }
     {
         let mut text = String::new(self.alloc());
@@ -73,7 +74,7 @@ impl Facts {
     }
 
     /// The encodings in which a position lies at the edge of a character, where there are any.
-    pub(crate) fn fits(&mut self, text: &str, position: Position) -> Result<(), Memory>
+    pub(crate) fn fits(&mut self, text: &str, position: Position) -> Result<()>
         ensures { OnOk result (self.new ≡ self.old
             ++ spec.fits_fact (edges (chars text.now) position)) }
     {
@@ -86,7 +87,7 @@ impl Facts {
     }
 
     /// That two texts differ in line ends alone, and the option that ignores these, where they do.
-    pub(crate) fn line_ends(&mut self, held: &str, other: &str) -> Result<(), Memory>
+    pub(crate) fn line_ends(&mut self, held: &str, other: &str) -> Result<()>
         ensures { OnOk result (self.new ≡ self.old
             ++ spec.ends_facts (chars held.now) (chars other.now)) }
     {
@@ -102,7 +103,7 @@ impl Facts {
         text: &str,
         encoding: Encoding,
         position: Position,
-    ) -> Result<(), Memory>
+    ) -> Result<()>
         ensures { OnOk result (self.new ≡ self.old
             ++ spec.line_length encoding (chars text.now) position) }
     {
@@ -119,7 +120,7 @@ impl Facts {
         text: &str,
         encoding: Encoding,
         span: Option<Span>,
-    ) -> Result<(), Memory>
+    ) -> Result<()>
         ensures { OnOk result (self.new ≡ self.old
             ++ spec.first_length encoding (chars text.now) span) }
     {
@@ -142,7 +143,7 @@ pub fn encoding_name(encoding: Encoding) -> &'static str
 }
 
 /// The encodings in which a position lies at an edge, after their key.
-fn fits_words(alloc: Global, names: &[Encoding]) -> Result<String, Memory>
+fn fits_words(alloc: Global, names: &[Encoding]) -> Result<String>
     ensures { IfOk result (λ words. string_bytes words ≡ codes "fits"
         ++ flat_map (λ e. spaced (encoding_name (Some e))) names.now) }
 {
@@ -153,7 +154,7 @@ fn fits_words(alloc: Global, names: &[Encoding]) -> Result<String, Memory>
     Ok(words)
 }
 
-fn push_encoding(words: &mut String, encoding: Encoding) -> Result<(), Memory>
+fn push_encoding(words: &mut String, encoding: Encoding) -> Result<()>
     ensures { OnOk result (string_bytes words.new
         ≡ string_bytes words.old ++ spaced (encoding_name (Some encoding))) }
 {
@@ -162,7 +163,7 @@ fn push_encoding(words: &mut String, encoding: Encoding) -> Result<(), Memory>
     Ok(())
 }
 
-fn push_version(words: &mut String, version: i32) -> Result<(), Memory>
+fn push_version(words: &mut String, version: i32) -> Result<()>
     ensures { OnOk result (string_bytes words.new
         ≡ string_bytes words.old ++ spaced (signed_decimal version)) }
 {
@@ -171,7 +172,7 @@ fn push_version(words: &mut String, version: i32) -> Result<(), Memory>
 }
 
 /// The line of the change of this number, from 1.
-fn change_line(alloc: Global, which: u64, span: Option<Span>) -> Result<String, Memory>
+fn change_line(alloc: Global, which: u64, span: Option<Span>) -> Result<String>
     ensures { IfOk result (λ line. string_bytes line ≡ fails which span) }
 {
     let Some(span) = span else {
@@ -184,7 +185,7 @@ fn change_line(alloc: Global, which: u64, span: Option<Span>) -> Result<String, 
     Ok(line)
 }
 
-fn push_position(words: &mut String, position: Position) -> Result<(), Memory>
+fn push_position(words: &mut String, position: Position) -> Result<()>
     ensures { OnOk result (string_bytes words.new
         ≡ string_bytes words.old ++ position_words position) }
 {

@@ -1,86 +1,82 @@
 //! The two texts of a 608 or 702: what the messages make of a document, and what the editor saved
 //! or showed of it.
 
-ghost use Rattle.std.specs.Prelude.{◌≡◌, List, Some, IfOk, option_and_then, option_map};
+ghost use Rattle.std.specs.Prelude.{◌≡◌, ℕ, List, Some, true, option_map};
 ghost use Rattle.std.specs.Str.{chars};
 ghost use Rattle.lsp_rpc.specs.View.{act_view};
 ghost use Rattle.lsp_types.specs.declared.change.SyncKind.{SyncKind};
-ghost use Rattle.lsp_text.specs.Changes.{edits_of};
-ghost use Rattle.lsp_docs.specs.Calls.{Call, changes as changes_by, opens, saves, shows};
-ghost use Rattle.lsp_docs.specs.State.{Stands};
-ghost use Rattle.lsp_replay.specs.Standing.{Holds};
-ghost use Rattle.lsp_session.specs.Sent.{Sent};
-ghost use Rattle.lsp_verdict.specs.Calls.{call_of, calls};
-ghost use Rattle.lsp_docs.specs.Rules.{call_rule};
+ghost use Rattle.lsp_types.specs.declared.position.Encoding.{Encoding};
 ghost use Rattle.lsp_types.specs.declared.rules.TheConstants as rules;
-ghost use Rattle.lsp_verdict.specs.Event.{Event, message, snapshot};
+ghost use Rattle.lsp_docs.specs.Calls.{Call, shows};
+ghost use Rattle.lsp_docs.specs.Rules.{call_rule};
+ghost use Rattle.lsp_docs.specs.State.{Stands};
+ghost use Rattle.lsp_docs.specs.Tried.{IsTried, tried_in};
+ghost use Rattle.lsp_replay.specs.Tries.{TriesCall, said_after};
+ghost use Rattle.lsp_session.specs.Sent.{Sent};
+ghost use Rattle.lsp_verdict.specs.Event.{call_of, calls, Event, message, snapshot};
 ghost use Rattle.lsp_verdict.specs.Verdict.{offence};
+ghost use Rattle.lsp_facts.specs.TwoTexts.{lent_text, compared, texts_at, texts_view};
+ghost use Rattle.lsp_facts.specs.Refuting.{waiting_texts};
 ghost use Rattle.lsp_facts.specs.TwoTexts as spec;
-ghost use Rattle.lsp_facts.specs.TwoTexts.{compared, texts_at, texts_view};
 
-use crate::waiting::{first_other, made_text};
-use lsp_docs::Docs;
+use crate::lent_text::LentText;
+use crate::waiting::whole;
+use lsp_docs::{Docs, Tried};
 use lsp_rpc::Act;
-use lsp_session::Session;
 use lsp_text::TextStore;
-use lsp_types::{Change, Encoding, Memory, rules};
-use std::alloc::Global;
+use lsp_types::rules;
 
 /// Two texts of one document that differ.
 #[derive(Drop)]
-pub struct TwoTexts {
+pub struct TwoTexts<'a, S: TextStore> {
     /// The one that the messages make.
-    pub by_messages: String,
+    pub by_messages: LentText<'a, S>,
     /// The one that the editor saved, or that a snapshot has.
-    pub in_editor: String,
+    pub in_editor: &'a str,
 }
 
 /// The two texts of a message that means this act and offends by this rule: none where that is not
-/// 608 or 702. Session and documents hold the kept events before it.
-///
-/// # Errors
-/// `Memory` where memory was refused.
-pub fn message_texts<S: TextStore>(
-    alloc: Global,
-    session: &Session,
-    docs: &Docs<S>,
-    act: &Act,
+/// 608 or 702. The documents hold the kept events before it, and this was tried of its changes.
+pub fn message_texts<'a, S: TextStore>(
+    docs: &'a Docs<S>,
+    act: &'a Act,
     rule: u16,
-) -> Result<Option<TwoTexts>, Memory>
-    ensures { IfOk result (λ texts. (kept : List Event) (sent : Sent)
-        → Holds session.now docs.now kept → sent.act ≡ act_view act.now
-        → option_map texts_view texts ≡ texts_at docs.now.terms kept (message sent) rule) }
+    tried: Option<&'a Tried<S>>,
+) -> Option<TwoTexts<'a, S>>
+    ensures { (kept : List Event) (sent : Sent) → Stands docs.now (calls kept)
+        → sent.act ≡ act_view act.now
+        → offence docs.now.terms kept (message sent) ≡ Some rule
+        → TriesCall docs.now.terms kept (said_after kept (act_view act.now)) rule
+        (tried_in S.content (option_map (λ t. t.now) tried.entry))
+        → option_map (texts_view S.content) result
+        ≡ texts_at docs.now.terms kept (message sent) rule }
 {
-    if !is_of_texts(rule) {
-        return Ok(None);
+    if is_of_texts(rule) {
+        act_texts(docs, act, tried)
+    } else {
+        None
     }
-    let encoding = session.encoding().unwrap_or(Encoding::Utf16);
-    act_texts(alloc, docs, encoding, act)
 }
 
 /// The two texts of a snapshot that offends by this rule: none where that is not 702. The documents
 /// hold the kept events before it.
-///
-/// # Errors
-/// `Memory` where memory was refused.
-pub fn shown_texts<S: TextStore>(
-    alloc: Global,
-    docs: &Docs<S>,
+pub fn shown_texts<'a, S: TextStore>(
+    docs: &'a Docs<S>,
     version: i32,
     uri: &str,
-    text: &str,
+    text: &'a str,
     rule: u16,
-) -> Result<Option<TwoTexts>, Memory>
-    ensures { IfOk result (λ texts. (kept : List Event)
-        → Stands docs.now (calls kept)
+) -> Option<TwoTexts<'a, S>>
+    ensures { (kept : List Event) → Stands docs.now (calls kept)
         → offence docs.now.terms kept (snapshot uri.now version (chars text.now)) ≡ Some rule
-        → option_map texts_view texts
-        ≡ texts_at docs.now.terms kept (snapshot uri.now version (chars text.now)) rule) }
+        → option_map (texts_view S.content) result
+        ≡ texts_at docs.now.terms kept (snapshot uri.now version (chars text.now)) rule }
 {
-    if !is_of_texts(rule) {
-        return Ok(None);
+    if is_of_texts(rule) {
+        snapshot_texts(docs, version, uri, text)
+    } else {
+        None
     }
-    snapshot_texts(alloc, docs, version, uri, text)
 }
 
 /// Whether a rule says that two texts differ.
@@ -90,137 +86,87 @@ fn is_of_texts(rule: u16) -> bool
     rule == rules::SAVED_TEXT_DIFFERS || rule == rules::SNAPSHOT_DIFFERS
 }
 
-/// The two texts of an act, under the encoding that was agreed. The documents are those before it.
-fn act_texts<S: TextStore>(
-    alloc: Global,
-    docs: &Docs<S>,
-    encoding: Encoding,
-    act: &Act,
-) -> Result<Option<TwoTexts>, Memory>
-    ensures { IfOk result (λ texts. (kind : SyncKind) (calls : List Call) → Stands docs.now calls
-        → option_map texts_view texts
-        ≡ option_and_then (compared docs.now.terms calls)
-        (call_of encoding kind (act_view act.now))) }
+/// The two texts of an act that breaks a rule on documents. The documents are those before it, and
+/// this was tried of its changes.
+fn act_texts<'a, S: TextStore>(
+    docs: &'a Docs<S>,
+    act: &'a Act,
+    tried: Option<&'a Tried<S>>,
+) -> Option<TwoTexts<'a, S>>
+    ensures { (encoding : Encoding) (kind : SyncKind) (calls : List Call) (call : Call) (rule : ℕ)
+        → Stands docs.now calls → call_of encoding kind (act_view act.now) ≡ Some call
+        → call_rule docs.now.terms calls call ≡ Some rule → spec.is_of_texts rule ≡ true
+        → IsTried docs.now.terms calls call
+        (tried_in S.content (option_map (λ t. t.now) tried.entry))
+        → option_map (texts_view S.content) result ≡ compared docs.now.terms calls call }
 {
     match act {
         Act::DidOpen { uri, version, text } => {
-            against(alloc, docs, uri.as_str(), *version, text.as_str())
+            let text = LentText::Whole(text.as_str());
+            against(docs, uri.as_str(), *version, text)
         }
         Act::DidChange {
             uri,
             version,
             changes,
-        } => changed_texts(
-            alloc,
-            docs,
-            encoding,
-            uri.as_str(),
-            *version,
-            changes.as_slice(),
-        ),
+        } => {
+            let uri = uri.as_str();
+            let store = whole(docs, uri, changes.as_slice(), tried)?;
+            against(docs, uri, *version, LentText::Stored(store))
+        }
         Act::DidSave {
             uri,
             text: Some(text),
-        } => saved_texts(alloc, docs, uri.as_str(), text.as_str()),
-        _ => Ok(None),
+        } => stored(docs.store_of(uri.as_str()), text.as_str()),
+        _ => None,
     }
 }
 
-/// The text of a version, and that of the first snapshot that waits for it and has another.
-fn against<S: TextStore>(
-    alloc: Global,
-    docs: &Docs<S>,
+/// A text that a call brings its document to at a version, and that of the first snapshot that waits
+/// for it and has another.
+fn against<'a, S: TextStore>(
+    docs: &'a Docs<S>,
     uri: &str,
     version: i32,
-    text: &str,
-) -> Result<Option<TwoTexts>, Memory>
-    ensures { IfOk result (λ texts. (calls : List Call) → Stands docs.now calls
-        → option_map texts_view texts
-        ≡ compared docs.now.terms calls (opens uri.now version (chars text.now))) }
+    text: LentText<'a, S>,
+) -> Option<TwoTexts<'a, S>>
+    ensures { (calls : List Call) → Stands docs.now calls
+        → option_map (texts_view S.content) result
+        ≡ spec.against docs.now.terms.line_ends (waiting_texts docs.now.terms calls uri.now version)
+        (lent_text S.content text.entry) }
 {
     let waiting = docs.waiting_texts(uri, version);
-    match first_other(docs.line_ends(), waiting, text) {
-        Some(other) => Ok(Some(copies(alloc, text, other)?)),
-        None => Ok(None),
-    }
-}
-
-/// The text that changes make, and that of the first snapshot that waits for their version and has
-/// another.
-fn changed_texts<S: TextStore>(
-    alloc: Global,
-    docs: &Docs<S>,
-    encoding: Encoding,
-    uri: &str,
-    version: i32,
-    changes: &[Change],
-) -> Result<Option<TwoTexts>, Memory>
-    ensures { IfOk result (λ texts. (kind : SyncKind) (calls : List Call) → Stands docs.now calls
-        → option_map texts_view texts ≡ compared docs.now.terms calls
-        (changes_by encoding kind uri.now version (edits_of changes.now))) }
-{
-    match made_text(alloc, docs, encoding, uri, changes)? {
-        Some(text) => against(alloc, docs, uri, version, text.as_str()),
-        None => Ok(None),
-    }
-}
-
-/// The held text, and one that was saved.
-fn saved_texts<S: TextStore>(
-    alloc: Global,
-    docs: &Docs<S>,
-    uri: &str,
-    text: &str,
-) -> Result<Option<TwoTexts>, Memory>
-    ensures { IfOk result (λ texts. (calls : List Call) → Stands docs.now calls
-        → option_map texts_view texts
-        ≡ compared docs.now.terms calls (saves uri.now (Some (chars text.now)))) }
-{
-    match docs.store_of(uri) {
-        Some(store) => Ok(Some(stored(alloc, store, text)?)),
-        None => Ok(None),
-    }
+    let in_editor = text.first_other(docs.line_ends(), waiting)?;
+    Some(TwoTexts {
+        by_messages: text,
+        in_editor,
+    })
 }
 
 /// The text that is held or kept of the version of a snapshot, and the snapshot's, which breaks
 /// 702.
-fn snapshot_texts<S: TextStore>(
-    alloc: Global,
-    docs: &Docs<S>,
+fn snapshot_texts<'a, S: TextStore>(
+    docs: &'a Docs<S>,
     version: i32,
     uri: &str,
-    text: &str,
-) -> Result<Option<TwoTexts>, Memory>
-    ensures { IfOk result (λ texts. (calls : List Call) → Stands docs.now calls
+    text: &'a str,
+) -> Option<TwoTexts<'a, S>>
+    ensures { (calls : List Call) → Stands docs.now calls
         → call_rule docs.now.terms calls (shows uri.now version (chars text.now))
         ≡ Some rules.SNAPSHOT_DIFFERS
-        → option_map texts_view texts
-        ≡ compared docs.now.terms calls (shows uri.now version (chars text.now))) }
+        → option_map (texts_view S.content) result
+        ≡ compared docs.now.terms calls (shows uri.now version (chars text.now)) }
 {
-    match docs.store_at(uri, version) {
-        Some(store) => Ok(Some(stored(alloc, store, text)?)),
-        None => Ok(None),
-    }
+    stored(docs.store_at(uri, version), text)
 }
 
-/// The text of a store, and a copy of this one.
-fn stored<S: TextStore>(alloc: Global, store: &S, text: &str) -> Result<TwoTexts, Memory>
-    ensures { IfOk result (λ texts. texts_view texts
-        ≡ spec.two_texts (S.content store.now) (chars text.now)) }
+/// The text of a store, where there is one, and this one.
+fn stored<'a, S: TextStore>(store: Option<&'a S>, text: &'a str) -> Option<TwoTexts<'a, S>>
+    ensures { option_map (texts_view S.content) result
+        ≡ option_map (λ s. spec.two_texts (S.content s.now) (chars text.now)) store.entry }
 {
-    Ok(TwoTexts {
-        by_messages: store.to_text(alloc)?,
-        in_editor: String::from_str(alloc, text)?,
-    })
-}
-
-/// Copies of two texts.
-fn copies(alloc: Global, made: &str, recorded: &str) -> Result<TwoTexts, Memory>
-    ensures { IfOk result (λ texts. texts_view texts
-        ≡ spec.two_texts (chars made.now) (chars recorded.now)) }
-{
-    Ok(TwoTexts {
-        by_messages: String::from_str(alloc, made)?,
-        in_editor: String::from_str(alloc, recorded)?,
+    Some(TwoTexts {
+        by_messages: LentText::Stored(store?),
+        in_editor: text,
     })
 }

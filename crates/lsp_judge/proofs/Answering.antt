@@ -5,14 +5,10 @@ use Rattle.std.specs.Prelude.{IfOk, OnErr, option_map}
 use Rattle.std.proofs.lemmas.Option.{same_Some}
 use Rattle.std.proofs.lemmas.Result.{IfOk-weaker}
 use Rattle.lsp_frame.specs.Bounds.{Bounds, IsInRange}
-use Rattle.lsp_frame.specs.Told.{Told}
 use Rattle.lsp_frame.specs.declared.format.Format.{Format}
-use Rattle.lsp_docs.specs.Terms.{terms_of}
+use Rattle.lsp_docs.specs.Documents.{terms_of}
 use Rattle.lsp_log.specs.Log.{Record}
 use Rattle.lsp_types.specs.declared.memory.Memory.{Memory}
-use Rattle.lsp_verdict.specs.declared.outcome.Outcome.{Outcome}
-use Rattle.lsp_verdict.specs.declared.outcome.Outcome.TheVariants.{Judged}
-use Rattle.lsp_verdict.specs.declared.outcome.RunFault.{RunFault}
 use Rattle.lsp_judge.specs.declared.ruling.Ruling.{Ruling}
 use Rattle.lsp_judge.specs.declared.ruling.Ruling.TheVariants as rulings
 use Rattle.lsp_verdict.specs.declared.verdict.Summary as summaries
@@ -23,37 +19,25 @@ use Rattle.lsp_verdict.specs.declared.completeness.Completeness.{Completeness}
 use Rattle.lsp_verdict.specs.declared.completeness.Completeness.TheVariants.{Ignored, Required}
 use Rattle.lsp_judge.specs.Answered.{NamesFirst, NamesRest, NamesShort, NoneOffends, AreClean}
 use Rattle.lsp_judge.specs.Answered.{IsClean, SaysYes}
-use Rattle.lsp_verdict.specs.BroughtToEnd.{AreComplete, IsBroughtToEnd}
-use Rattle.lsp_verdict.specs.Complete.{IsCompleteFinal, IsCompleteVerdict, IsFinalBy, IsVerdictBy}
+use Rattle.lsp_verdict.specs.Complete.{AreComplete, IsBroughtToEnd, IsCompleteFinal}
+use Rattle.lsp_verdict.specs.Complete.{IsCompleteVerdict, IsFinalBy}
 use Rattle.lsp_verdict.specs.Event.{Event}
 use Rattle.lsp_verdict.specs.Given.{verdict_view, as_given}
+use Rattle.lsp_verdict.specs.Laws.{HasRest107, Names}
 use Rattle.lsp_verdict.specs.Kept.{AreKept}
 use Rattle.lsp_verdict.specs.Outcome.{IsFinal, IsVerdict, format_or_one, log_terms}
 use Rattle.lsp_verdict.specs.Placed.{IsSession}
-use Rattle.lsp_verdict.specs.RunIo.{OfRead}
 use Rattle.lsp_judge.specs.Judging.{AnswersEnd, KeepsAnswer}
-use Rattle.lsp_judge.specs.Rulings.{IfRefused, verdict_in}
-use Rattle.lsp_judge.specs.Standing.{HasOffence, State, Stands, WasRefused, is_given}
+use Rattle.lsp_judge.specs.Standing.{IfRefused, verdict_in, HasOffence, State, Stands, WasRefused}
+use Rattle.lsp_judge.specs.Standing.{is_given}
 use Rattle.lsp_verdict.specs.Verdict.{Verdict, Summary, yes, no, bad_log, summary, first_no}
 use Rattle.lsp_verdict.proofs.Completing.{some_complete_final, are_complete, complete_no}
 use Rattle.lsp_verdict.proofs.Completing.{complete_yes, one_complete_verdict}
 use Rattle.lsp_verdict.proofs.Logs.{some_final, one_verdict}
 use Rattle.lsp_verdict.proofs.Meanings.{are_kept, final_no, final_yes, is_yes_given, kept_means_yes}
-use Rattle.lsp_verdict.proofs.RunsJudged.{judged_as}
 use Rattle.lsp_judge.proofs.Records.{is_open, offence_in, clean_session}
 use Rattle.lsp_verdict.proofs.Sessions.{some_session}
 use Rattle.lsp_verdict.proofs.Verdicts.{names_first, nothing_offends}
-
--- ---- the log read
-
-pub read_verdict : (completeness : Completeness) (limits : Bounds) (before after : Told)
-    (given v : code.Verdict)
-    → OfRead limits before after (λ log. IsVerdictBy completeness limits log (verdict_view given))
-    → (let outcome : Result Outcome RunFault = Ok (Judged given) in outcome) ≡ Ok (Judged v)
-    → OfRead limits before after (λ log. IsVerdictBy completeness limits log (verdict_view v))
-read_verdict completeness limits before after given v says e =
-    judged_as given v (λ w. OfRead limits before after
-    (λ log. IsVerdictBy completeness limits log (verdict_view w))) e says
 
 -- ---- Yes
 
@@ -110,6 +94,25 @@ records_kept limits sizes format records s says =
     (are_kept limits sizes format records None t.0
     (subst (IsFinal limits format records None) t.1 final.1)).0
 
+named_by : (limits : Bounds) (format : Format) (records : List Record) (given v : Verdict)
+    (events : List Event) → IsSession limits records events → given ≡ as_given v
+    → Names (terms_of limits format) events v ⊎ HasRest107 limits format records None events v
+    → NamesFirst limits format records given ⊎ NamesRest limits format records given
+named_by limits format records given v events session is (inl names) = inl (record {
+  events = events;
+  session = session;
+  verdict = v;
+  names = names;
+  is = is;
+})
+named_by limits format records given v events session is (inr rest) = inr (record {
+  events = events;
+  session = session;
+  verdict = v;
+  names = rest;
+  is = is;
+})
+
 pub records_refused : (limits : Bounds) (format : Format) (records : List Record) (rule : ℕ)
     (who : Who) (number event : ℕ) → Finals limits format records (no rule who number event)
     → NamesFirst limits format records (no rule who number event)
@@ -121,22 +124,8 @@ records_refused limits format records rule who number event says =
     let last : IsFinal limits format records None (no rule who w.0 w.1) =
     subst (IsFinal limits format records None) w.2 final.1 in
     let given : no rule who number event ≡ as_given (no rule who w.0 w.1) = is ∙ ap as_given w.2 in
-    elim (final_no limits format records None rule who w.0 w.1 last) [
-      | inl names ↦ inl (record {
-        events = last.events;
-        session = last.session;
-        verdict = no rule who w.0 w.1;
-        names = names;
-        is = given;
-      })
-      | inr rest ↦ inr (record {
-        events = last.events;
-        session = last.session;
-        verdict = no rule who w.0 w.1;
-        names = rest;
-        is = given;
-      })
-    ]
+    named_by limits format records (no rule who number event) (no rule who w.0 w.1) last.events
+    last.session given (final_no limits format records None rule who w.0 w.1 last)
 
 pub records_clean : (limits : Bounds) (format : Format) (records : List Record)
     (events : List Event) (given : Verdict) → AreClean limits format records events
@@ -184,20 +173,8 @@ records_short limits sizes format records rule who number event says =
     subst (IsCompleteFinal limits format records None) w.2 final.1 in
     let given : no rule who number event ≡ as_given (no rule who w.0 w.1) = is ∙ ap as_given w.2 in
     elim (complete_no limits sizes format records None rule who w.0 w.1 last) [
-      | inl (inl names) ↦ inl (inl (record {
-        events = last.final.events;
-        session = last.final.session;
-        verdict = no rule who w.0 w.1;
-        names = names;
-        is = given;
-      }))
-      | inl (inr rest) ↦ inl (inr (record {
-        events = last.final.events;
-        session = last.final.session;
-        verdict = no rule who w.0 w.1;
-        names = rest;
-        is = given;
-      }))
+      | inl names ↦ inl (named_by limits format records (no rule who number event)
+          (no rule who w.0 w.1) last.final.events last.final.session given names)
       | inr short ↦ inr (record { verdict = no rule who w.0 w.1; short = short; is = given })
     ]
 

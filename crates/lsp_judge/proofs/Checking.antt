@@ -1,43 +1,68 @@
--- What `check` answers follows from the verdict on the log, and from what it wrote.
-use Rattle.std.proofs.Common.{◌≡◌, ℕ, ◌+◌, List, Option, Result, Ok, Err, refl, subst}
+-- How a run ends that has something due for its input, and what `check` answers.
+use Rattle.std.proofs.Common.{◌≡◌, List, ℕ, Ok, Err, Option, Result}
 use Rattle.std.specs.Io.KnownBytes.{IsAtEnd}
 use Rattle.lsp_frame.specs.Bounds.{Bounds, IsInRange}
-use Rattle.lsp_frame.specs.Sink.{Wrote}
-use Rattle.lsp_frame.specs.Told.{Took}
 use Rattle.lsp_frame.specs.declared.format.Format.{Format}
-use Rattle.lsp_judge.specs.Answered.{IsClean}
-use Rattle.lsp_judge.specs.Checked.{Checked, YesMeans, NoMeans, EndsAsDue, IsCut, WritesVerdict}
-use Rattle.lsp_verdict.specs.Ports.{IsSilent, OfInput, Ports}
-use Rattle.lsp_log.specs.declared.fault.LogCode.{LogCode}
+use Rattle.lsp_verdict.specs.Runs.{OutputFor, Ports, failures_after, sink_failures_after}
+use Rattle.lsp_verdict.specs.declared.outcome.RunFault.{RunFault}
+use Rattle.lsp_verdict.proofs.RunsJudged.{read_within, read_map}
 use Rattle.lsp_verdict.specs.Complete.{IsVerdictBy}
 use Rattle.lsp_verdict.specs.Event.{Event}
 use Rattle.lsp_verdict.specs.Given.{verdict_view}
-use Rattle.lsp_verdict.specs.Headline.{HasFault}
+use Rattle.lsp_verdict.specs.Laws.{HasFault}
 use Rattle.lsp_verdict.specs.Outcome.{log_terms}
 use Rattle.lsp_verdict.specs.Report.{report}
-use Rattle.lsp_verdict.specs.RunIo.{GaveAtMost, failures_after, sink_failures_after}
 use Rattle.lsp_verdict.specs.Verdict.{Verdict, no, yes, bad_log, summary}
 use Rattle.lsp_verdict.specs.declared.completeness.Completeness.{Completeness}
 use Rattle.lsp_verdict.specs.declared.completeness.Completeness.TheVariants.{Ignored, Required}
 use Rattle.lsp_verdict.specs.declared.outcome.Outcome.{Outcome}
-use Rattle.lsp_verdict.specs.declared.outcome.Outcome.TheVariants.{Judged}
-use Rattle.lsp_verdict.specs.declared.outcome.RunFault.{RunFault}
-use Rattle.lsp_verdict.specs.declared.outcome.RunFault.TheVariants as faults
 use Rattle.lsp_verdict.specs.declared.verdict.Summary as code_summary
-use Rattle.lsp_verdict.specs.declared.verdict.Verdict as code
 use Rattle.lsp_verdict.specs.declared.verdict.Verdict.TheVariants as verdicts
 use Rattle.lsp_verdict.specs.declared.verdict.Who.{Who}
-use Rattle.lsp_verdict.proofs.Completing.{plain_yes, complete_means_ended, complete_means_fault}
-use Rattle.lsp_verdict.proofs.Completing.{lack_is_named}
-use Rattle.lsp_verdict.proofs.Logs.Ends.{yes_at_end}
+use Rattle.lsp_verdict.proofs.Completing.{complete_means_ended, complete_means_fault, lack_is_named}
 use Rattle.lsp_verdict.proofs.Meanings.{yes_means_kept, no_names, bad_log_has}
-use Rattle.lsp_verdict.proofs.RunReading.{read_map, read_within}
-use Rattle.lsp_verdict.proofs.RunsJudged.{judged_as}
-use Rattle.lsp_judge.proofs.Answering.{clean_yes, clean_complete, read_verdict}
+use Rattle.lsp_log.specs.declared.fault.LogCode.{LogCode}
+use Rattle.lsp_judge.specs.Written.{WritesDue}
+use Rattle.lsp_judge.specs.Answered.{IsClean}
+use Rattle.lsp_judge.specs.Checked.{Checked, YesMeans, NoMeans, EndsAsDue, WritesVerdict}
+use Rattle.lsp_judge.proofs.Answering.{clean_yes, clean_complete}
 
-abbrev pub Reads : Completeness → Bounds → Ports → code.Verdict → Type 0
-Reads completeness limits io v =
-    OfInput limits io (λ log. IsVerdictBy completeness limits log (verdict_view v))
+-- ---- a run that has something due for its input
+
+module _ {X : Type 0} (limits : Bounds) (io : Ports) (at_end : X)
+    (IsDue : List ℕ → List ℕ → X → Type 0) (Begins : List ℕ → List ℕ → Type 0) where
+  -- all that is due was written
+  pub due_written : (outcome : X) → OutputFor limits io (λ input out. IsDue input out outcome)
+      → (outcome ≡ at_end → IsAtEnd io.source_after.bytes)
+      → io.source_after.failures ≡ io.source_before.failures
+      → io.sink_after.failures ≡ io.sink_before.failures
+      → WritesDue limits io at_end IsDue Begins (Ok outcome)
+  due_written outcome written ended source sink = record {
+    written = written;
+    ended = λ is. ended (cc is);
+    fault = tt;
+    counts = record {
+      source_failures = source;
+      sink_failures = sink;
+      limit = read_within _ _ _ _ written.2;
+    };
+  }
+
+  -- a fault ended the run
+  pub due_begun : (fault : RunFault) → OutputFor limits io Begins
+      → io.source_after.failures ≡ failures_after fault io.source_before.failures
+      → io.sink_after.failures ≡ sink_failures_after fault io.sink_before.failures
+      → WritesDue limits io at_end IsDue Begins (Err fault)
+  due_begun fault begun source sink = record {
+    written = tt;
+    ended = λ is. absurd (cc is);
+    fault = begun;
+    counts = record {
+      source_failures = source;
+      sink_failures = sink;
+      limit = read_within _ _ _ _ begun.2;
+    };
+  }
 
 -- ---- what the verdict means
 
@@ -46,13 +71,6 @@ yes_means : (completeness : Completeness) (limits : Bounds) → IsInRange limits
     → YesMeans completeness limits log
 yes_means Ignored limits sizes log s says = yes_means_kept limits sizes log _ says
 yes_means Required limits sizes log s says = complete_means_ended limits sizes log _ says
-
-ended_at : (completeness : Completeness) (limits : Bounds) → IsInRange limits → (io : Ports)
-    (s : code_summary.Summary) → Reads completeness limits io (verdicts.Yes s)
-    → IsAtEnd io.source_after.bytes
-ended_at Ignored limits sizes io s says = yes_at_end limits sizes _ _ _ says
-ended_at Required limits sizes io s says =
-    yes_at_end limits sizes _ _ _ (read_map _ _ _ _ _ (λ log. plain_yes limits log _) says)
 
 no_means : (completeness : Completeness) (limits : Bounds) → IsInRange limits → (log : List ℕ)
     (rule number event : ℕ) (who : Who)
@@ -78,52 +96,6 @@ kept_means Ignored limits sizes given log says format events clean ends =
     clean_yes limits sizes given log says format events clean
 kept_means Required limits sizes given log says format events clean ends =
     clean_complete limits sizes given log says format events clean ends
-
--- ---- how a run ends
-
-module _ (completeness : Completeness) (limits : Bounds) (due : Verdict → List ℕ)
-    (io : Ports) where
-  -- what is due was written
-  pub verdict_written : IsInRange limits → (v : code.Verdict) (written : List ℕ)
-      → Reads completeness limits io v → io.source_after.failures ≡ io.source_before.failures
-      → written ≡ due (verdict_view v) → Wrote io.sink_before io.sink_after written
-      → WritesVerdict completeness limits due io (Ok (Judged v))
-  verdict_written sizes v written says same is wrote = record {
-    judged = (v, refl);
-    verdict = λ w e. read_verdict completeness limits _ _ v w says e;
-    written = λ w e. judged_as v w
-        (λ x. Took io.sink_before io.sink_after (due (verdict_view x))) e
-        (subst (Took io.sink_before io.sink_after) is wrote.took);
-    ended = λ s e. ended_at completeness limits sizes io s
-        (read_verdict completeness limits _ _ v (verdicts.Yes s) says e);
-    read_fault = λ e. absurd (cc e);
-    memory = λ e. absurd (cc e);
-    write_fault = λ e. absurd (cc e);
-    counts = record {
-      source_failures = same;
-      sink_failures = wrote.failures;
-      limit = read_within _ _ _ _ says;
-    };
-  }
-
-  -- a fault
-  pub faulted : (fault : RunFault) → (fault ≡ faults.Read → IsSilent io)
-      → (fault ≡ faults.Memory → IsSilent io)
-      → (fault ≡ faults.Write → IsCut completeness limits due io)
-      → io.source_after.failures ≡ failures_after fault io.source_before.failures
-      → io.sink_after.failures ≡ sink_failures_after fault io.sink_before.failures
-      → GaveAtMost (limits.log + 1) io.source_before io.source_after
-      → WritesVerdict completeness limits due io (Err fault)
-  faulted fault read memory write source sink limit = record {
-    judged = tt;
-    verdict = λ v e. absurd (cc e);
-    written = λ v e. absurd (cc e);
-    ended = λ s e. absurd (cc e);
-    read_fault = λ e. read (cc e);
-    memory = λ e. memory (cc e);
-    write_fault = λ e. write (cc e);
-    counts = record { source_failures = source; sink_failures = sink; limit = limit };
-  }
 
 -- ---- what a report means
 

@@ -9,7 +9,7 @@ use Rattle.lsp_types.specs.declared.side.Side.TheVariants.{Editor, Server}
 use Rattle.lsp_session.specs.Incomplete.{incomplete}
 use Rattle.lsp_session.specs.State as session
 use Rattle.lsp_docs.specs.State as docs
-use Rattle.lsp_docs.specs.Terms.{Terms, terms_of}
+use Rattle.lsp_docs.specs.Documents.{Terms, terms_of}
 use Rattle.lsp_log.specs.declared.fault.LogCode.{LogCode}
 use Rattle.lsp_log.specs.Log.{Record}
 use Rattle.lsp_replay.specs.LogEvents.{flaw_of}
@@ -20,15 +20,13 @@ use Rattle.lsp_replay.specs.Streams.{ends_inside}
 use Rattle.lsp_verdict.specs.Complete.{IsFinalBy, completed}
 use Rattle.lsp_verdict.specs.Event.{Event, sent_in}
 use Rattle.lsp_verdict.specs.Given.{summary_view, as_given}
-use Rattle.lsp_verdict.specs.Outcome.{IsFinal, is_rest}
-use Rattle.lsp_judge.specs.Ending.{closed_by, end_by, end_rule, ends_with}
-use Rattle.lsp_judge.specs.JudgingRun.{completed_by}
-use Rattle.lsp_judge.specs.Rulings.{verdict_in}
-use Rattle.lsp_replay.specs.Standing.{Follows}
-use Rattle.lsp_judge.specs.Heard.{HasHeard}
+use Rattle.lsp_verdict.specs.Outcome.{IsFinal}
+use Rattle.lsp_judge.specs.Standing.{closed_by, end_by, end_rule, ends_with, verdict_in, HasHeard}
 use Rattle.lsp_judge.specs.Standing.{State, HasOffence, Stands}
+use Rattle.lsp_judge.specs.JudgingRun.{completed_by}
+use Rattle.lsp_replay.specs.Standing.{Follows}
 use Rattle.lsp_verdict.specs.Placed.{Raw, IsSession}
-use Rattle.lsp_verdict.specs.Verdict.{Verdict, yes, bad_log, bad_log_of, first_no, no_next}
+use Rattle.lsp_verdict.specs.Verdict.{Ending, Verdict, yes, bad_log, bad_log_of, first_no, no_next}
 use Rattle.lsp_verdict.specs.Verdict.{rest_of, summary, verdict}
 use Rattle.lsp_verdict.specs.declared.counts.Counts.{Counts}
 use Rattle.lsp_verdict.specs.declared.completeness.Completeness.{Completeness}
@@ -76,24 +74,24 @@ given_by Required s rs ruling given v flaw e is stands p =
 
 -- ---- records of which no event offends
 
+abbrev pub ended : Option (ℕ × LogCode) → Bool → Bool → Ending
+ended flaw editor server = record {
+  log_fault = flaw;
+  editor_rest = editor;
+  server_rest = server;
+}
+
 -- nothing offends and the log has no fault: the rest decides
 by_rest : (terms : Terms) (es : List Event) (editor server : Bool) → first_no terms es ≡ None
-    → verdict terms es (record {
-      log_fault = None;
-      editor_rest = editor;
-      server_rest = server;
-    }) ≡ unwrap_or (rest_of es editor server) (yes (summary terms es))
+    → verdict terms es (ended None editor server)
+    ≡ unwrap_or (rest_of es editor server) (yes (summary terms es))
 by_rest terms es editor server clean =
     ap (λ o. unwrap_or (option_or o (rest_of es editor server)) (yes (summary terms es))) clean
 
 -- nothing offends: the fault of the log decides
 pub by_log : (terms : Terms) (es : List Event) (editor server : Bool) (number : ℕ) (code : LogCode)
     → first_no terms es ≡ None
-    → verdict terms es (record {
-      log_fault = Some (number, code);
-      editor_rest = editor;
-      server_rest = server;
-    }) ≡ bad_log number code
+    → verdict terms es (ended (Some (number, code)) editor server) ≡ bad_log number code
 by_log terms es editor server number code clean =
     ap (λ o. unwrap_or (option_or o (Some (bad_log number code))) (yes (summary terms es))) clean
 
@@ -121,11 +119,8 @@ ends_complete terms es false false = by_lack (incomplete (sent_in es))
 -- whether or not the session has to be complete
 pub by_end : (completeness : Completeness) (terms : Terms) (es : List Event) (editor server : Bool)
     → first_no terms es ≡ None
-    → completed_by completeness es (verdict terms es (record {
-      log_fault = None;
-      editor_rest = editor;
-      server_rest = server;
-    })) ≡ end_by completeness terms es editor server
+    → completed_by completeness es (verdict terms es (ended None editor server))
+    ≡ end_by completeness terms es editor server
 by_end Ignored terms es editor server clean =
     by_rest terms es editor server clean ∙ ends_plain terms es editor server
 by_end Required terms es editor server clean =
@@ -152,11 +147,7 @@ module _ (limits : Bounds) (format : Format) (s : frames.State) (m : session.Sta
 
   -- the verdict on them
   final_is : (flaw : Option (ℕ × LogCode)) (v : Verdict) → IsFinal limits format rs flaw v
-      → v ≡ verdict terms events (record {
-        log_fault = flaw;
-        editor_rest = editor_inside;
-        server_rest = server_inside;
-      })
+      → v ≡ verdict terms events (ended flaw editor_inside server_inside)
   final_is flaw v final =
       let same = same_session limits rs rs final.events events refl final.session here in
       let editor = inside_is terms limits s rs raws events Editor final.editor stands has.read clean
@@ -164,21 +155,7 @@ module _ (limits : Bounds) (format : Format) (s : frames.State) (m : session.Sta
       let server = inside_is terms limits s rs raws events Server final.server stands has.read clean
       final.server_rest in
       sym final.says
-      ∙ ap (λ es. verdict terms es (record {
-        log_fault = flaw;
-        editor_rest = is_rest final.editor;
-        server_rest = is_rest final.server;
-      })) same
-      ∙ ap (λ b. verdict terms events (record {
-        log_fault = flaw;
-        editor_rest = b;
-        server_rest = is_rest final.server;
-      })) (sym editor)
-      ∙ ap (λ b. verdict terms events (record {
-        log_fault = flaw;
-        editor_rest = editor_inside;
-        server_rest = b;
-      })) (sym server)
+      ∙ (λ i. verdict terms (same i) (ended flaw ((sym editor) i) ((sym server) i)))
 
   bad_is : (number : ℕ) (code : LogCode) (v : Verdict)
       → IsFinal limits format rs (Some (number, code)) v → v ≡ bad_log number code

@@ -1,49 +1,47 @@
 -- What `check` and `show` answer and write follows from what a pass does.
 use Rattle.std.specs.Prelude.{is_some, unwrap_or}
 use Rattle.std.specs.List.{cons_option, flat_map}
-use Rattle.std.proofs.Common.{◌≡◌, ◌⊎◌, ℕ, false, List, [], ◌∷◌, ◌++◌, Option, Some, None, Result, Ok}
+use Rattle.std.proofs.Common.{◌≡◌, ◌⊎◌, ℕ, List, [], ◌∷◌, ◌++◌, Option, Some, None, Result, Ok}
 use Rattle.std.proofs.Common.{Err, inl, inr, refl, sym, ap, subst, ◌∙◌, append_assoc, append-nil}
-use Rattle.lsp_docs.specs.Terms.{Terms}
+use Rattle.lsp_docs.specs.Documents.{Terms}
 use Rattle.lsp_frame.specs.Bounds.{Bounds, IsInRange}
+use Rattle.lsp_frame.specs.Told.{Took}
+use Rattle.lsp_frame.specs.declared.format.Format.{Format}
+use Rattle.lsp_log.specs.Log.{Record}
 use Rattle.lsp_judge.specs.Checked.{IsCut, WritesVerdict}
 use Rattle.lsp_judge.specs.JudgingRun.{JudgingAsked, due_for, judging_run, said_by, shown_by}
 use Rattle.lsp_judge.specs.JudgingRun.{verdict_of}
 use Rattle.lsp_judge.specs.ShownLog.{BeginsShown, IsShown, Showed}
-use Rattle.lsp_judge.proofs.Checking.{faulted, verdict_written}
-use Rattle.lsp_judge.proofs.ShownLogs.{begins_shown}
-use Rattle.lsp_judge.proofs.Told.{EndsBy, ends_verdict, still_clean, told_end, told_front, told_no}
-use Rattle.lsp_replay.specs.Passes.{AllPassed, DueAt, PartPassed, Passes}
-use Rattle.lsp_replay.specs.Run.{EndsAfter, HasSaid, IsJudged, IsPassed, SaysAll, StopsIn}
+use Rattle.lsp_judge.proofs.Told.{EndsBy, ends_verdict, told_end, told_no}
+use Rattle.lsp_replay.specs.Run.{DueAt, Passes, EndsAfter, HasSaid, IsJudged, IsPassed, IsTold}
+use Rattle.lsp_replay.specs.Run.{SaysAll, StopsIn, Tail}
 use Rattle.lsp_replay.specs.Telling.{no_of}
+use Rattle.lsp_replay.proofs.AllHeard.{first_after}
+use Rattle.lsp_replay.proofs.FirstEvents.{says_more}
 use Rattle.lsp_replay.proofs.JudgedRuns.{IsDueOf, judged_run}
-use Rattle.lsp_replay.proofs.PassEnds.{IsQuiet, cut_whole, part_within, read_here, silent}
+use Rattle.lsp_replay.proofs.PassEnds.{IsQuiet, cut_whole, read_here, silent_after}
 use Rattle.lsp_replay.proofs.Seeing.{events-push}
+use Rattle.lsp_replay.proofs.TextRuns.{no_none}
 use Rattle.lsp_verdict.specs.Complete.{IsVerdictBy}
 use Rattle.lsp_verdict.specs.Event.{Event}
 use Rattle.lsp_verdict.specs.Given.{verdict_view}
 use Rattle.lsp_verdict.specs.Heard.{Heard, Rests, heard_events}
 use Rattle.lsp_verdict.specs.LookBack.{each_from}
 use Rattle.lsp_verdict.specs.Outcome.{IsVerdict, log_terms}
-use Rattle.lsp_verdict.specs.Ports.{Ports}
+use Rattle.lsp_verdict.specs.Runs.{Ports, Judges}
 use Rattle.lsp_verdict.specs.Report.{report}
-use Rattle.lsp_verdict.specs.RunIo.{OfRead}
 use Rattle.lsp_verdict.specs.Shown.{line_at}
 use Rattle.lsp_verdict.specs.Verdict.{Verdict, first_no}
 use Rattle.lsp_verdict.specs.declared.completeness.Completeness.{Completeness}
 use Rattle.lsp_verdict.specs.declared.completeness.Completeness.TheVariants.{Ignored}
 use Rattle.lsp_verdict.specs.declared.lines.Lines.{Lines}
 use Rattle.lsp_verdict.specs.declared.outcome.Outcome.{Outcome}
-use Rattle.lsp_verdict.specs.declared.outcome.Outcome.TheVariants.{Judged}
 use Rattle.lsp_verdict.specs.declared.outcome.RunFault.{RunFault}
 use Rattle.lsp_verdict.specs.declared.outcome.RunFault.TheVariants as faults
 use Rattle.lsp_verdict.specs.declared.verdict.Verdict as code
-use Rattle.lsp_verdict.proofs.RunReading.{read_map}
+use Rattle.lsp_verdict.proofs.RunsJudged.{read_map, plain_by}
 
 -- ---- what is said before the verdict
-
-pub no_none : {A : Type 0} (o : Option A) → is_some o ≡ false → o ≡ None
-no_none None goes = refl
-no_none (Some v) goes = absurd (cc goes)
 
 -- the lines of these events after those
 abbrev pub shown_from : Option Lines → List Event → List Event → List ℕ
@@ -92,7 +90,7 @@ module _ (asked : JudgingAsked) where
       subst (λ (w : List Heard). first_no terms (heard_events w) ≡ None)
       (append_assoc before (h ∷ []) hs)
       (clean_after terms rests (before ++ h ∷ []) hs left later
-      (still_clean terms before h clean (no_none (no_of terms before h) goes)))
+      (first_after terms before h clean ∙ no_none (no_of terms before h) goes))
 
   said_shown : (terms : Terms) (rests : Rests) (before hs : List Heard) (out : List ℕ)
       → SaysAll (judging_run asked) terms rests before hs out
@@ -107,61 +105,98 @@ module _ (asked : JudgingAsked) where
 
   -- ---- a log
 
-  module _ (limits : Bounds) (log out : List ℕ) where
-    gives : (outcome : Outcome) → IsPassed (judging_run asked) limits log out outcome
-        → (v : Verdict) × Gives asked limits log out v × IsJudged v outcome
-    gives outcome p = by_end p.is
+  module _ (limits : Bounds) (log : List ℕ) (format : Option Format) (records : List Record)
+      (tail : Tail) where
+    abbrev terms : Terms
+    terms = log_terms limits format
+
+    -- these events were told, of which none offends, and here one does
+    gives_no : (first later : List Heard) (here : Heard) (front : List ℕ) (v : Verdict)
+        → IsTold limits log format records (first ++ here ∷ later) tail
+        → SaysAll (judging_run asked) terms tail.rests [] first front
+        → no_of terms first here ≡ Some v
+        → Gives asked limits log (front ++ due_for asked.name v) v
+    gives_no first later here front v told said is = record {
+      front = heard_events first;
+      ends = told_no limits log format records tail first later here told
+          (clean_after terms tail.rests [] first front said refl) v is asked.completeness;
+      is = ap (λ w. w ++ due_for asked.name v) (said_shown terms tail.rests [] first front said);
+    }
+
+    -- or the log ends
+    gives_end : (heard : List Heard) (front : List ℕ) → IsTold limits log format records heard tail
+        → SaysAll (judging_run asked) terms tail.rests [] heard front
+        → Gives asked limits log
+        (front ++ due_for asked.name (verdict_of asked.completeness terms heard tail))
+        (verdict_of asked.completeness terms heard tail)
+    gives_end heard front told said = record {
+      front = heard_events heard;
+      ends = told_end limits log format records tail heard told
+          (clean_after terms tail.rests [] heard front said refl) asked.completeness;
+      is = ap (λ w. w ++ due_for asked.name (verdict_of asked.completeness terms heard tail))
+          (said_shown terms tail.rests [] heard front said);
+    }
+
+    -- of some verdict this begins what is written
+    goes_on : (first later : List Heard) (front : List ℕ)
+        → IsTold limits log format records (first ++ later) tail
+        → SaysAll (judging_run asked) terms tail.rests [] first front
+        → (v : Verdict) × (rest : List ℕ) × Gives asked limits log (front ++ rest) v
+    goes_on first [] front told said =
+        let v = verdict_of asked.completeness terms first tail in (
+          v,
+          due_for asked.name v,
+          gives_end first front (subst (λ (w : List Heard).
+              IsTold limits log format records w tail) (append-nil first) told) said,
+        )
+    goes_on first (h ∷ later) front told said =
+        by_no (λ none. goes_on (first ++ h ∷ []) later (front ++ shown_by asked.lines first h)
+        (subst (λ (w : List Heard). IsTold limits log format records w tail)
+        (sym (append_assoc first (h ∷ []) later)) told)
+        (says_more (judging_run asked) terms tail.rests [] first front h
+        (shown_by asked.lines first h) said (sym (ap (said_by asked first h) none))
+        (ap is_some none))) (no_of terms first h) refl
       where
-        terms : Terms
-        terms = log_terms limits p.format
-
-        by_end : StopsIn (judging_run asked) (log_terms limits p.format) p.tail.rests p.heard out
-            outcome
-            ⊎ EndsAfter (judging_run asked) (log_terms limits p.format) p.tail p.heard out outcome
-            → (v : Verdict) × Gives asked limits log out v × IsJudged v outcome
-        by_end (inl s) =
-            let (v, is, judged) = s.stop.ends in
-            let clean = clean_after (log_terms limits p.format) p.tail.rests [] s.first s.front
-            s.said refl in (
+        by_no : (no_of terms first h ≡ None → (v : Verdict) × (rest : List ℕ)
+            × Gives asked limits log ((front ++ shown_by asked.lines first h) ++ rest) v)
+            → (o : Option Verdict) → no_of terms first h ≡ o
+            → (v : Verdict) × (rest : List ℕ) × Gives asked limits log (front ++ rest) v
+        by_no on (Some v) is = (v, due_for asked.name v, gives_no first later h front v told said is)
+        by_no on None is =
+            let (v, rest, given) = on is in (
               v,
-              record {
-                front = heard_events s.first;
-                ends = told_no limits log p.format p.records p.heard p.tail p.told s.first s.later
-                    s.here s.are clean v is asked.completeness;
-                is = s.is ∙ ap (λ w. w ++ s.last)
-                    (said_shown (log_terms limits p.format) p.tail.rests [] s.first s.front s.said)
-                    ∙ ap (λ w. shown_from asked.lines [] (heard_events s.first) ++ w)
-                    (s.stop.says ∙ ap (said_by asked s.first s.here) is);
-              },
-              judged,
-            )
-        by_end (inr e) =
-            let clean = clean_after (log_terms limits p.format) p.tail.rests [] p.heard e.front
-            e.said refl in (
-              verdict_of asked.completeness (log_terms limits p.format) p.heard p.tail,
-              record {
-                front = heard_events p.heard;
-                ends = told_end limits log p.format p.records p.heard p.tail p.told
-                    asked.completeness clean;
-                is = e.is ∙ ap (λ w. w ++ e.last)
-                    (said_shown (log_terms limits p.format) p.tail.rests [] p.heard e.front e.said)
-                    ∙ ap (λ w. shown_from asked.lines [] (heard_events p.heard) ++ w) e.closes.0;
-              },
-              e.closes.1,
+              shown_by asked.lines first h ++ rest,
+              subst (λ out. Gives asked limits log out v)
+                  (append_assoc front (shown_by asked.lines first h) rest) given,
             )
 
-    -- the outcome is a verdict
-    pub is_judged : (outcome : Outcome) → IsPassed (judging_run asked) limits log out outcome
-        → (given : code.Verdict) × (outcome ≡ Judged given)
-    is_judged outcome p = let g = gives outcome p in (g.2.0, g.2.1)
-
-    pub gives_as : (given : code.Verdict)
-        → IsPassed (judging_run asked) limits log out (Judged given)
-        → Gives asked limits log out (verdict_view given)
-    gives_as given p =
-        let (v, g, (other, same, named)) = gives (Judged given) p in
-        let one : given ≡ other = cc same in
-        subst (Gives asked limits log out) (sym named ∙ ap verdict_view (sym one)) g
+  gives : (limits : Bounds) (log out : List ℕ) (outcome : Outcome)
+      → IsPassed (judging_run asked) limits log out outcome
+      → (v : Verdict) × Gives asked limits log out v × IsJudged v outcome
+  gives limits log out outcome p = by_end p.is
+    where
+      by_end : StopsIn (judging_run asked) (log_terms limits p.format) p.tail.rests p.heard out
+          outcome
+          ⊎ EndsAfter (judging_run asked) (log_terms limits p.format) p.tail p.heard out outcome
+          → (v : Verdict) × Gives asked limits log out v × IsJudged v outcome
+      by_end (inl s) =
+          let (v, is, judged) = s.stop.ends in (
+            v,
+            subst (λ w. Gives asked limits log w v) (sym (s.is ∙ ap (λ w. s.front ++ w)
+                (s.stop.says ∙ ap (said_by asked s.first s.here) is)))
+                (gives_no limits log p.format p.records p.tail s.first s.later s.here s.front v
+                (subst (λ (w : List Heard). IsTold limits log p.format p.records w p.tail) s.are
+                p.told) s.said is),
+            judged,
+          )
+      by_end (inr e) =
+          let v = verdict_of asked.completeness (log_terms limits p.format) p.heard p.tail in (
+            v,
+            subst (λ w. Gives asked limits log w v)
+                (sym (e.is ∙ ap (λ w. e.front ++ w) e.closes.0))
+                (gives_end limits log p.format p.records p.tail p.heard e.front p.told e.said),
+            e.closes.1,
+          )
 
 -- ---- `check`
 
@@ -174,83 +209,71 @@ module _ (completeness : Completeness) (name : Option (List ℕ)) (limits : Boun
   quiet terms rests before h said is goes =
       is ∙ ap (said_by checks before h) (no_none (no_of terms before h) goes)
 
-  says : (out : List ℕ) (given : code.Verdict)
-      → OfRead limits io.source_before io.source_after
-      (λ log. IsPassed (judging_run checks) limits log out (Judged given))
-      → OfRead limits io.source_before io.source_after
-      (λ log. IsVerdictBy completeness limits log (verdict_view given))
-  says out given due = read_map limits io.source_before io.source_after
-      (λ log. IsPassed (judging_run checks) limits log out (Judged given))
-      (λ log. IsVerdictBy completeness limits log (verdict_view given))
-      (λ log p. let g = gives_as checks limits log out given p in
-      ends_verdict completeness limits log g.front (verdict_view given) g.ends) due
+  abbrev IsDue : List ℕ → Verdict → List ℕ → Type 0
+  IsDue log v out = IsVerdictBy completeness limits log v × (out ≡ due_for name v)
 
-  due_is : (out : List ℕ) (given : code.Verdict)
-      → OfRead limits io.source_before io.source_after
-      (λ log. IsPassed (judging_run checks) limits log out (Judged given))
-      → out ≡ due_for name (verdict_view given)
-  due_is out given due = (gives_as checks limits due.bytes out given (read_here limits _ _
-      (λ log. IsPassed (judging_run checks) limits log out (Judged given)) due)).is
-
-  judged_all : (given : code.Verdict) → AllPassed (judging_run checks) limits io.source_before
-      io.source_after io.sink_before io.sink_after (Judged given)
-      → WritesVerdict completeness limits (due_for name) io (Ok (Judged given))
-  judged_all given a = verdict_written completeness limits (due_for name) io sizes given a.out
-      (says a.out given a.due) a.failures (due_is a.out given a.due) a.wrote
-
-  cut : (out : List ℕ) (outcome : Outcome) (left : List ℕ)
-      → OfRead limits io.source_before io.source_after
-      (λ log. IsPassed (judging_run checks) limits log (out ++ left) outcome)
-      → (given : code.Verdict) × OfRead limits io.source_before io.source_after
-      (λ log. IsPassed (judging_run checks) limits log (out ++ left) (Judged given))
-  cut out outcome left due =
-      let one = is_judged checks limits due.bytes (out ++ left) outcome (read_here limits _ _
-      (λ log. IsPassed (judging_run checks) limits log (out ++ left) outcome) due) in (
-        one.0,
-        subst (λ (o : Outcome). OfRead limits io.source_before io.source_after
-            (λ log. IsPassed (judging_run checks) limits log (out ++ left) o)) one.1 due,
+  passed_due : (log out : List ℕ) (outcome : Outcome)
+      → IsPassed (judging_run checks) limits log out outcome → IsDueOf (IsDue log) out outcome
+  passed_due log out outcome p =
+      let (v, g, (given, same, named)) = gives checks limits log out outcome p in (
+        given,
+        same,
+        subst (λ (w : Verdict). IsDue log w out) (sym named)
+            (ends_verdict completeness limits log g.front v g.ends, g.is),
       )
 
-  judged_part : (fault : RunFault) → PartPassed (judging_run checks) limits io.source_before
-      io.source_after io.sink_before io.sink_after fault
-      → WritesVerdict completeness limits (due_for name) io (Err fault)
-  judged_part fault p = faulted completeness limits (due_for name) io fault
-      (λ e. let same : fault ≡ faults.Read = e in
-      silent (judging_run checks) quiet limits io.source_before io.source_after io.sink_before
-      io.sink_after fault (λ write. absurd (cc (sym write ∙ same))) p)
-      (λ e. let same : fault ≡ faults.Memory = e in
-      silent (judging_run checks) quiet limits io.source_before io.source_after io.sink_before
-      io.sink_after fault (λ write. absurd (cc (sym write ∙ same))) p)
-      (λ e. cut_short (subst (λ (f : RunFault). DueAt f (judging_run checks) limits
-      io.source_before io.source_after p.out) e p.due)) p.source p.sink
-      (part_within (judging_run checks) limits io.source_before io.source_after io.sink_before
-      io.sink_after fault p)
-    where
-      cut_short : DueAt faults.Write (judging_run checks) limits io.source_before io.source_after
-          p.out → IsCut completeness limits (due_for name) io
-      cut_short due =
-          let (outcome, left, whole) = cut_whole (judging_run checks) quiet limits
-          io.source_before io.source_after p.out due in
-          let (given, all) = cut p.out outcome left whole in
-          record {
-            given = verdict_view given;
-            says = says (p.out ++ left) given all;
-            writes = (p.out, left, sym (due_is (p.out ++ left) given all), p.took);
-          }
+  judges : (result : Result Outcome RunFault) → Passes (judging_run checks) limits
+      io.source_before io.source_after io.sink_before io.sink_after result
+      → Judges limits io (IsVerdictBy completeness limits) IsDue (λ log front. Unit {0}) result
+  judges = judged_run (judging_run checks) limits sizes (IsVerdictBy completeness limits) IsDue
+      (λ log front. Unit {0}) (λ log v out is. is.0)
+      (λ log s says. plain_by completeness limits log s says) passed_due
+      (λ log front left h. tt) (λ log front left v is. tt) io
+
+  -- after a write fault a prefix of what is due for one verdict is written
+  cut_short : (result : Result Outcome RunFault) → Passes (judging_run checks) limits
+      io.source_before io.source_after io.sink_before io.sink_after result
+      → result ≡ Err faults.Write → IsCut completeness limits (due_for name) io
+  cut_short (Ok outcome) a e = absurd (cc e)
+  cut_short (Err fault) p e =
+      let same : fault ≡ faults.Write = cc e in
+      let (outcome, left, whole) = cut_whole (judging_run checks) quiet limits io.source_before
+      io.source_after p.out (subst (λ (f : RunFault). DueAt f (judging_run checks) limits
+      io.source_before io.source_after p.out) same p.due) in
+      let here = passed_due whole.bytes (p.out ++ left) outcome (read_here limits _ _
+      (λ log. IsPassed (judging_run checks) limits log (p.out ++ left) outcome) whole) in
+      record {
+        given = verdict_view here.0;
+        says = read_map limits io.source_before io.source_after
+            (λ log. IsPassed (judging_run checks) limits log (p.out ++ left) outcome)
+            (λ log. IsVerdictBy completeness limits log (verdict_view here.0))
+            (λ log q. let r = passed_due log (p.out ++ left) outcome q in
+            let one : r.0 ≡ here.0 = cc (sym r.1 ∙ here.1) in
+            subst (λ (w : code.Verdict). IsVerdictBy completeness limits log (verdict_view w)) one
+            r.2.0) whole;
+        writes = (p.out, left, sym here.2.1, p.took);
+      }
 
   -- **what `check` answers and writes**
   pub writes_verdict : (result : Result Outcome RunFault) → Passes (judging_run checks) limits
       io.source_before io.source_after io.sink_before io.sink_after result
       → WritesVerdict completeness limits (due_for name) io result
-  writes_verdict (Ok outcome) a =
-      let one = is_judged checks limits a.due.bytes a.out outcome (read_here limits _ _
-      (λ log. IsPassed (judging_run checks) limits log a.out outcome) a.due) in
-      subst (λ (o : Outcome). AllPassed (judging_run checks) limits io.source_before
-      io.source_after io.sink_before io.sink_after o
-      → WritesVerdict completeness limits (due_for name) io (Ok o)) (sym one.1)
-      (judged_all one.0)
-      a
-  writes_verdict (Err fault) p = judged_part fault p
+  writes_verdict result passes =
+      let j = judges result passes in
+      record {
+        judged = j.judged;
+        verdict = j.verdict;
+        written = λ v e. let (out, took, due) = j.written v e in
+            subst (Took io.sink_before io.sink_after) (read_here limits _ _
+            (λ log. IsDue log (verdict_view v) out) due).1 took;
+        ended = j.ended;
+        read_fault = silent_after (judging_run checks) quiet limits _ _ _ _ result faults.Read
+            (λ e. cc) passes;
+        memory = silent_after (judging_run checks) quiet limits _ _ _ _ result faults.Memory
+            (λ e. cc) passes;
+        write_fault = cut_short result passes;
+        counts = j.counts;
+      }
 
 -- ---- `show`
 
@@ -258,36 +281,33 @@ module _ (lines : Lines) (limits : Bounds) (sizes : IsInRange limits) (io : Port
   abbrev shows : JudgingAsked
   shows = record { completeness = Ignored; lines = Some lines; name = None }
 
-  shown_as : (log out : List ℕ) (given : code.Verdict)
-      → IsPassed (judging_run shows) limits log out (Judged given)
-      → IsShown lines limits log (verdict_view given) out
-  shown_as log out given p =
-      let g = gives_as shows limits log out given p in (
-        g.ends.0,
-        g.is ∙ ap (λ es. shown_from (Some lines) [] es ++ report (verdict_view given))
-            (sym g.ends.1),
-      )
+  shown_of : (log out : List ℕ) (v : Verdict) → Gives shows limits log out v
+      → IsShown lines limits log v out
+  shown_of log out v g = (
+    g.ends.0,
+    g.is ∙ ap (λ es. shown_from (Some lines) [] es ++ report v) (sym g.ends.1),
+  )
 
   -- what was said of the first events begins what is due
   said_begins : (log front left : List ℕ) → HasSaid (judging_run shows) limits log (front ++ left)
       → BeginsShown lines limits log front
   said_begins log front left h =
-      let clean = clean_after shows (log_terms limits h.format) h.tail.rests [] h.first
-      (front ++ left) h.says refl in
-      let begins = told_front limits log h.format h.records h.first h.later h.tail h.told clean in
-      begins_shown lines limits h.format (heard_events h.first) front left
-      (sym (said_shown shows (log_terms limits h.format) h.tail.rests [] h.first (front ++ left)
-      h.says)) log begins
+      let (v, rest, g) = goes_on shows limits log h.format h.records h.tail h.first h.later
+      (front ++ left) h.told h.says in (
+        v,
+        left ++ rest,
+        subst (IsShown lines limits log v) (append_assoc front left rest)
+            (shown_of log ((front ++ left) ++ rest) v g),
+      )
 
   passed_shown : (log out : List ℕ) (outcome : Outcome)
       → IsPassed (judging_run shows) limits log out outcome
       → IsDueOf (IsShown lines limits log) out outcome
   passed_shown log out outcome p =
-      let one = is_judged shows limits log out outcome p in (
-        one.0,
-        one.1,
-        shown_as log out one.0
-            (subst (λ (o : Outcome). IsPassed (judging_run shows) limits log out o) one.1 p),
+      let (v, g, (given, same, named)) = gives shows limits log out outcome p in (
+        given,
+        same,
+        subst (λ (w : Verdict). IsShown lines limits log w out) (sym named) (shown_of log out v g),
       )
 
   -- **what `show` answers and writes**

@@ -1,44 +1,36 @@
 -- The steps of the accounts that end with the verdict on a log.
 use Rattle.std.specs.Prelude.{◌&&◌, is_some, not, option_map, unwrap_or}
 use Rattle.std.proofs.Common.{◌≡◌, ℕ, ◌+◌, ◌<◌, ◌^◌, Bool, List, [], ◌∷◌, ◌++◌, length}
-use Rattle.std.proofs.Common.{Bor, Option, Some, None, refl, sym, ap, ◌∙◌, arith}
+use Rattle.std.proofs.Common.{Option, Some, None, refl, sym, ap, ◌∙◌, arith}
 use Rattle.std.proofs.Math.Bool.{and-true}
-use Rattle.std.proofs.lemmas.List.{length-map}
 use Rattle.lsp_docs.specs.State as docs
-use Rattle.lsp_docs.specs.Terms.{Terms}
+use Rattle.lsp_docs.specs.Documents.{Terms}
 use Rattle.lsp_log.specs.declared.fault.LogCode.{LogCode}
-use Rattle.lsp_rpc.specs.declared.act.Spoken.{Spoken}
 use Rattle.lsp_session.specs.State as session
 use Rattle.lsp_types.specs.declared.side.Side.{Side}
 use Rattle.lsp_types.specs.declared.side.Side.TheVariants.{Editor, Server}
-use Rattle.lsp_judge.specs.Ending.{closed_by, end_by, end_rule, ends_with}
+use Rattle.lsp_judge.specs.Standing.{closed_by, end_by, end_rule, ends_with}
 use Rattle.lsp_judge.specs.JudgingRun.{JudgingAsked, completed_by, due_for, judging_run, said_by}
 use Rattle.lsp_judge.specs.JudgingRun.{shown_by, verdict_of}
 use Rattle.lsp_judge.proofs.Finals.{by_end, by_log}
-use Rattle.lsp_judge.proofs.Told.{still_clean}
 use Rattle.lsp_replay.specs.Run.{Tail}
 use Rattle.lsp_replay.specs.Standing.{Follows}
 use Rattle.lsp_replay.specs.Streams.{decoder_of, ends_inside}
-use Rattle.lsp_replay.specs.Telling.{Closes, IsEnd, Says, SeenAs, Stood, no_of, rule_of}
+use Rattle.lsp_replay.specs.Telling.{Closes, IsEnd, Says, Stood, no_of, rule_of}
 use Rattle.lsp_replay.specs.declared.log_events.End.{End}
 use Rattle.lsp_replay.specs.declared.log_events.LogEvents.{LogEvents}
 use Rattle.lsp_replay.specs.declared.seen.Flow.TheVariants.{GoOn, Stop}
-use Rattle.lsp_replay.specs.declared.seen.Seen.{Seen}
-use Rattle.lsp_replay.specs.declared.seen.Seen.TheVariants as seen
-use Rattle.lsp_replay.proofs.AllHeard.{few_events, follows_all}
+use Rattle.lsp_replay.proofs.AllHeard.{few_events, first_after, follows_all, none_is}
 use Rattle.lsp_replay.proofs.PassEnds.{Boxed}
 use Rattle.lsp_verdict.specs.Event.{Event}
 use Rattle.lsp_verdict.specs.Given.{as_given, verdict_view}
-use Rattle.lsp_verdict.specs.Heard.{Heard, Rests, heard_events, notes_of, rest_of}
-use Rattle.lsp_verdict.specs.Offences.{Noted}
+use Rattle.lsp_verdict.specs.Heard.{Heard, Rests, heard_events, rest_of}
 use Rattle.lsp_verdict.specs.Outcome.{ending, is_rest}
-use Rattle.lsp_verdict.specs.Verdict.{Verdict, bad_log, bad_log_of, first_no, no_by}
-use Rattle.lsp_verdict.specs.Verdict.{verdict, whose}
+use Rattle.lsp_verdict.specs.Verdict.{Verdict, bad_log, bad_log_of, first_no, no_by, verdict}
 use Rattle.lsp_verdict.specs.declared.completeness.Completeness.{Completeness}
 use Rattle.lsp_verdict.specs.declared.completeness.Completeness.TheVariants.{Ignored, Required}
 use Rattle.lsp_verdict.specs.declared.counts.Counts.{Counts}
 use Rattle.lsp_verdict.specs.declared.outcome.Outcome.TheVariants.{Judged}
-use Rattle.lsp_verdict.specs.declared.raw.Raw.{Raw}
 use Rattle.lsp_verdict.specs.declared.verdict.Verdict as code
 use Rattle.lsp_verdict.specs.declared.verdict.Who.{Who}
 use Rattle.lsp_verdict.proofs.ExactCounts.{no_exact, yes_exact}
@@ -46,70 +38,37 @@ use Rattle.lsp_verdict.proofs.Offences.Offending.{no_frame_fault}
 
 -- ---- an event
 
--- it was seen as one that does not offend
-pub kept_rule : (s : Seen) (terms : Terms) (before : List Heard) (h : Heard)
-    → ((raw : Raw) (rule : ℕ) (spoken : Option (Bor Spoken)) → s ≡ seen.Offence raw rule spoken → ⊥)
-    → SeenAs s terms before h → rule_of terms before h ≡ None
-kept_rule (seen.Message side bytes spoken) terms before h other is = is.1
-kept_rule (seen.Snapshot version uri text answer) terms before h other is = is.1
-kept_rule (seen.Offence raw rule spoken) terms before h other is =
-    absurd (other raw rule spoken refl)
-
-module _ (terms : Terms) (before : List Heard) (h : Heard) where
-  abbrev no_by_rule : Option ℕ → Option Verdict
-  no_by_rule o = option_map (no_by (heard_events before) h.note.event) o
-
-  few_before : length before + 1 < 2 ^ 64 → length (heard_events before) + 1 < 2 ^ 64
-  few_before few = omega (
-    arith,
-    few,
-    length-map (notes_of before) (λ (n : Noted). n.event),
-    length-map before (λ (x : Heard). x.note),
-  )
-
+module _ {terms : Terms} {before : List Heard} {h : Heard} {Fits : Rests → Type 0}
+    {old new : List ℕ} (asked : JudgingAsked) where
   -- it is kept
-  pub none_is : rule_of terms before h ≡ None → no_of terms before h ≡ None
-  none_is is = ap no_by_rule is
+  pub kept_says : first_no terms (heard_events before) ≡ None → rule_of terms before h ≡ None
+      → new ≡ old ++ shown_by asked.lines before h
+      → Says (judging_run asked) terms before h Fits old new
+      (first_no terms (heard_events (before ++ h ∷ [])) ≡ None) GoOn
+  kept_says clean is added =
+      let none = none_is terms before h is in
+      record {
+        said = shown_by asked.lines before h;
+        added = added;
+        is = λ rests fits. ap (said_by asked before h) (sym none);
+        goes = (ap is_some none, first_after terms before h clean ∙ none);
+      }
 
   -- it offends
-  pub given_is : (rule : ℕ) (given : Verdict) → rule_of terms before h ≡ Some rule
-      → length before + 1 < 2 ^ 64
-      → given ≡ as_given (no_by (heard_events before) h.note.event rule)
-      → no_of terms before h ≡ Some given
-  given_is rule given is few named =
-      ap no_by_rule is
-      ∙ ap Some (sym (named ∙ no_exact (heard_events before) rule (whose h.note.event)
-      (few_before few)))
-
-  module _ (clean : first_no terms (heard_events before) ≡ None) (asked : JudgingAsked)
-      (Fits : Rests → Type 0) (old new : List ℕ) where
-    pub kept_says : rule_of terms before h ≡ None → new ≡ old ++ shown_by asked.lines before h
-        → Says (judging_run asked) terms before h Fits old new
-        (first_no terms (heard_events (before ++ h ∷ [])) ≡ None) GoOn
-    kept_says is added =
-        let none = none_is is in
-        record {
-          said = shown_by asked.lines before h;
-          added = added;
-          is = λ rests fits. ap (said_by asked before h) (sym none);
-          goes = (ap is_some none, still_clean terms before h clean none);
-        }
-
-    pub offence_says : (rule : ℕ) (given : code.Verdict) (boxed : Boxed)
-        → boxed.value ≡ Judged given → rule_of terms before h ≡ Some rule
-        → length before + 1 < 2 ^ 64
-        → verdict_view given ≡ as_given (no_by (heard_events before) h.note.event rule)
-        → new ≡ old ++ due_for asked.name (verdict_view given)
-        → Says (judging_run asked) terms before h Fits old new
-        (first_no terms (heard_events (before ++ h ∷ [])) ≡ None) (Stop boxed)
-    offence_says rule given boxed in_box is few named added =
-        let some = given_is rule (verdict_view given) is few named in
-        record {
-          said = due_for asked.name (verdict_view given);
-          added = added;
-          is = λ rests fits. ap (said_by asked before h) (sym some);
-          goes = (ap is_some some, (verdict_view given, some, (given, in_box, refl)));
-        }
+  pub offence_says : {Stands : Type 0} (rule : ℕ) (given : code.Verdict) (boxed : Boxed)
+      → boxed.value ≡ Judged given → rule_of terms before h ≡ Some rule
+      → verdict_view given ≡ no_by (heard_events before) h.note.event rule
+      → new ≡ old ++ due_for asked.name (verdict_view given)
+      → Says (judging_run asked) terms before h Fits old new Stands (Stop boxed)
+  offence_says rule given boxed in_box is named added =
+      let some : no_of terms before h ≡ Some (verdict_view given) =
+      ap (option_map (no_by (heard_events before) h.note.event)) is ∙ ap Some (sym named) in
+      record {
+        said = due_for asked.name (verdict_view given);
+        added = added;
+        is = λ rests fits. ap (said_by asked before h) (sym some);
+        goes = (ap is_some some, (verdict_view given, some, (given, in_box, refl)));
+      }
 
 -- ---- the end
 

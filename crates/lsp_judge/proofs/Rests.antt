@@ -3,11 +3,11 @@ use Rattle.std.proofs.Common.{◌≡◌, ℕ, List, [], ◌∷◌, ◌++◌, Non
 use Rattle.std.specs.List.{AllZip}
 use Rattle.lsp_frame.specs.Bounds.{Bounds}
 use Rattle.lsp_types.specs.declared.side.Side.{Side}
-use Rattle.lsp_docs.specs.Terms.{Terms}
+use Rattle.lsp_docs.specs.Documents.{Terms}
 use Rattle.lsp_log.specs.Log.{Record}
 use Rattle.lsp_replay.specs.Streams as frames
 use Rattle.lsp_replay.specs.Streams.{decoder_of, ends_inside}
-use Rattle.lsp_replay.proofs.Resting.{faults_in, side_rest, side_ends}
+use Rattle.lsp_replay.proofs.Fronts.{faults_in, side_rest, side_ends}
 use Rattle.lsp_verdict.specs.Event.{Event}
 use Rattle.lsp_verdict.specs.LookBack.{first_from}
 use Rattle.lsp_verdict.specs.Outcome.{HasRest, is_rest}

@@ -1,34 +1,102 @@
--- The verdict on a log that was told to its end, and the events before its place.
-use Rattle.std.specs.Prelude.{option_map, unwrap_or}
-use Rattle.std.specs.List.{AllZip}
+-- The verdict on a log that was told to its end, and what is due where a log is shown.
+use Rattle.std.proofs.Common.{◌≡◌, refl, sym, ap, ◌∙◌, ◌+◌, ◌-◌, ℕ, Bool, true, false, List, ◌∷◌}
+use Rattle.std.proofs.Common.{◌++◌, length, take, Option, Some, None, arith, [], subst}
+use Rattle.std.specs.Prelude.{unwrap_or, option_map}
 use Rattle.std.specs.Option.{option_or}
-use Rattle.std.proofs.Common.{◌≡◌, ℕ, List, [], ◌∷◌, ◌++◌, Option, Some, None, refl, sym, ap, subst}
-use Rattle.std.proofs.Common.{◌∙◌}
-use Rattle.lsp_docs.specs.Terms.{Terms}
-use Rattle.lsp_frame.specs.Bounds.{Bounds}
-use Rattle.lsp_frame.specs.declared.format.Format.{Format}
-use Rattle.lsp_log.specs.Log.{Record}
-use Rattle.lsp_judge.specs.JudgingRun.{verdict_of}
-use Rattle.lsp_judge.proofs.KeptEvents.{kept_clean, kept_final, kept_more, kept_no, kept_within}
-use Rattle.lsp_replay.specs.Run.{IsTold, Tail}
-use Rattle.lsp_replay.specs.Telling.{no_of, rule_of}
-use Rattle.lsp_replay.proofs.Seeing.{events-join, events-push}
-use Rattle.lsp_verdict.specs.Complete.{IsVerdictBy, completed}
+use Rattle.std.proofs.Math.Seq.{take-length, take-append_seam}
+use Rattle.std.proofs.lemmas.Option.{same_Some}
+use Rattle.std.specs.List.{AllZip}
+use Rattle.lsp_verdict.specs.Shown.{show_of, kept}
+use Rattle.lsp_verdict.proofs.Logs.{same_events, one_verdict, some_verdict}
 use Rattle.lsp_verdict.specs.Event.{Event}
+use Rattle.lsp_verdict.specs.Verdict.{yes, no_by, bad_log_of, rest_of, summary, offence, no_next}
+use Rattle.lsp_verdict.specs.Verdict.{whose, Ending, Summary, Verdict, first_no, verdict}
+use Rattle.lsp_verdict.specs.Given.{as_given}
+use Rattle.lsp_verdict.specs.declared.verdict.Who.{Who}
+use Rattle.lsp_verdict.specs.Complete.{IsVerdictBy, completed}
 use Rattle.lsp_verdict.specs.Heard.{Heard, heard_events, notes_of, raws_of}
 use Rattle.lsp_verdict.specs.Offences.{IsNoted, Noted, events_of}
 use Rattle.lsp_verdict.specs.Outcome.{IsVerdict, ending, log_terms}
 use Rattle.lsp_verdict.specs.Placed.{Raw, Reads}
-use Rattle.lsp_verdict.specs.Shown.{kept}
-use Rattle.lsp_verdict.specs.Verdict.{Ending, Summary, Verdict, bad_log_of, first_no, no_at, no_by}
-use Rattle.lsp_verdict.specs.Verdict.{offence, rest_of, summary, verdict, yes}
 use Rattle.lsp_verdict.specs.declared.completeness.Completeness.{Completeness}
 use Rattle.lsp_verdict.specs.declared.completeness.Completeness.TheVariants.{Ignored, Required}
 use Rattle.lsp_verdict.proofs.Completing.{completed_other}
 use Rattle.lsp_verdict.proofs.Finding.{map_some}
-use Rattle.lsp_verdict.proofs.LookBackLemmas.{first_of-snoc}
-use Rattle.lsp_verdict.proofs.Offences.Offending.{all_are_kept}
 use Rattle.lsp_verdict.proofs.Verdicts.{no_found}
+use Rattle.lsp_docs.specs.Documents.{Terms}
+use Rattle.lsp_log.specs.declared.fault.LogCode.{LogCode}
+use Rattle.lsp_log.specs.Log.{Record}
+use Rattle.lsp_frame.specs.Bounds.{Bounds}
+use Rattle.lsp_frame.specs.declared.format.Format.{Format}
+use Rattle.lsp_replay.specs.Run.{IsTold, Tail}
+use Rattle.lsp_replay.specs.Telling.{no_of, rule_of}
+use Rattle.lsp_replay.proofs.AllHeard.{no_is}
+use Rattle.lsp_replay.proofs.Seeing.{events-join}
+use Rattle.lsp_judge.specs.ShownLog.{OneShown, SomeShown}
+use Rattle.lsp_judge.specs.Standing.{verdict_in, IsNoAt}
+use Rattle.lsp_judge.specs.declared.ruling.Ruling.{Ruling}
+use Rattle.lsp_judge.specs.declared.ruling.Ruling.TheVariants.{No, BadLog, Memory}
+use Rattle.lsp_judge.specs.JudgingRun.{verdict_of}
+
+-- ---- what is due where a log is shown
+
+pub some_shown : SomeShown
+some_shown lines limits log =
+    let whole = some_verdict limits log in
+    (whole.0, show_of lines whole.0 whole.1.final.events, (whole.1, refl))
+
+pub one_shown : OneShown
+one_shown lines limits sizes log v w out other (p, is) (q, at) =
+    let same : v ≡ w = one_verdict limits sizes log v w p q in (
+      same,
+      is ∙ ap (show_of lines v) (same_events limits sizes log v w p q)
+          ∙ ap (λ x. show_of lines x q.final.events) same ∙ sym at,
+    )
+
+-- ---- the events before the place of the verdict
+
+-- an event offends: those before it
+pub kept_no : (events : List Event) (e : Event) (after : List Event) (rule : ℕ)
+    → kept (no_by events e rule) (events ++ e ∷ after) ≡ events
+kept_no events e after rule =
+    let n : length events + 1 - 1 ≡ length events = omega arith in
+    ap (λ k. take k (events ++ e ∷ after)) n ∙ take-append_seam events (e ∷ after)
+
+take_before : (events : List Event) → take (length events + 1 - 1) events ≡ events
+take_before events =
+    let n : length events + 1 - 1 ≡ length events = omega arith in
+    ap (λ k. take k events) n ∙ take-length events
+
+-- none does: all of them
+pub kept_all : (terms : Terms) (events : List Event) (flaw : Option (ℕ × LogCode))
+    (editor server : Bool) → kept (unwrap_or
+    (option_or (bad_log_of flaw) (rest_of events editor server)) (yes (summary terms events)))
+    events ≡ events
+kept_all terms events (Some flaw) editor server = take-length events
+kept_all terms events None true server = take_before events
+kept_all terms events None false true = take_before events
+kept_all terms events None false false = take-length events
+
+-- ---- the No at an event that offends
+
+-- the No at an event of this kind
+pub ruled : (terms : Terms) (events : List Event) (IsSuch : Event → Type 0) (e : Event) (rule : ℕ)
+    (by : Who) (r : Ruling) → IsSuch e → offence terms events e ≡ Some rule → whose e ≡ by
+    → verdict_in r ≡ Some (as_given (no_next rule by events)) → IsNoAt terms events IsSuch r
+ruled terms events IsSuch e rule by (No n w k at) such breaks is told = (
+  e,
+  such,
+  (
+    no_by events e rule,
+    ap (option_map (no_by events e)) breaks,
+    same_Some _ _ told ∙ ap (λ w. as_given (no_next rule w events)) (sym is),
+  ),
+)
+ruled terms events IsSuch e rule by (BadLog n code) such breaks is told =
+    let same = told in absurd cc
+ruled terms events IsSuch e rule by Memory such breaks is told = tt
+
+-- ---- the verdict, and the events before its place
 
 -- **this is the verdict on the log, and these are the events before its place**
 abbrev pub EndsAt : Bounds → List ℕ → List Event → Verdict → Type 0
@@ -42,15 +110,6 @@ EndsBy Required limits log front v =
     (plain : Verdict) × (ends : EndsAt limits log front plain)
     × (completed ends.0.final.events plain ≡ v)
 
--- the events before the place of the verdict on a log of this format begin with these
-pub record BeginsBy (limits : Bounds) (format : Option Format) (front : List Event)
-    (log : List ℕ) : Type 0 where
-  pub v : Verdict
-  pub later : List Event
-  pub whole : IsVerdict limits log v
-  pub is : kept v whole.final.events ≡ front ++ later
-  pub of : whole.format ≡ format
-
 pub ends_verdict : (completeness : Completeness) (limits : Bounds) (log : List ℕ)
     (front : List Event) (v : Verdict) → EndsBy completeness limits log front v
     → IsVerdictBy completeness limits log v
@@ -61,36 +120,16 @@ ends_verdict Required limits log front v ends = record {
   says = ends.2;
 }
 
--- ---- events of which none offends
+-- ---- a log that was told to its end
 
-no_is : (terms : Terms) (before : List Heard) (h : Heard)
-    → first_no terms (heard_events before) ≡ None
-    → no_at terms (heard_events before) h.note.event ≡ no_of terms before h
-no_is terms before h clean =
-    let events = heard_events before in
-    ap (λ es. option_map (no_by events h.note.event) (offence terms es h.note.event))
-    (sym (all_are_kept terms events clean))
-
--- one more does not
-pub still_clean : (terms : Terms) (before : List Heard) (h : Heard)
-    → first_no terms (heard_events before) ≡ None → no_of terms before h ≡ None
-    → first_no terms (heard_events (before ++ h ∷ [])) ≡ None
-still_clean terms before h clean none =
-    ap (first_no terms) (events-push before h)
-    ∙ first_of-snoc (no_at terms) (heard_events before) h.note.event
-    ∙ ap (λ o. option_or o (no_at terms (heard_events before) h.note.event)) clean
-    ∙ no_is terms before h clean ∙ none
-
--- ---- a log that was told
-
-read_notes : (raws : List Raw) (notes : List Noted) → AllZip IsNoted raws notes
+pub read_notes : (raws : List Raw) (notes : List Noted) → AllZip IsNoted raws notes
     → AllZip Reads raws (events_of notes)
 read_notes [] [] all = tt
 read_notes [] (n ∷ notes) all = absurd all
 read_notes (r ∷ raws) [] all = absurd all
 read_notes (r ∷ raws) (n ∷ notes) all = (all.0.0, read_notes raws notes all.1)
 
-unfoldable told_verdict : (limits : Bounds) (log : List ℕ) (format : Option Format)
+unfoldable pub told_verdict : (limits : Bounds) (log : List ℕ) (format : Option Format)
     (records : List Record) (heard : List Heard) (tail : Tail)
     → IsTold limits log format records heard tail
     → IsVerdict limits log (verdict (log_terms limits format) (heard_events heard)
@@ -115,81 +154,62 @@ told_verdict limits log format records heard tail told = record {
   };
 }
 
--- of which these were told first
-pub told_front : (limits : Bounds) (log : List ℕ) (format : Option Format) (records : List Record)
-    (first later : List Heard) (tail : Tail)
-    → IsTold limits log format records (first ++ later) tail
-    → first_no (log_terms limits format) (heard_events first) ≡ None
-    → BeginsBy limits format (heard_events first) log
-unfolding told_verdict
-told_front limits log format records first later tail told clean =
-    let terms = log_terms limits format in
-    let events = heard_events (first ++ later) in
-    let end = ending tail.fault tail.rests.editor tail.rests.server in
-    let more = kept_more terms (heard_events first) (heard_events later) clean in
-    record {
-      v = verdict terms events end;
-      later = more.0;
-      whole = told_verdict limits log format records (first ++ later) tail told;
-      is = kept_final terms events end (verdict terms events end) refl
-          ∙ ap (kept_within terms) (events-join first later) ∙ more.1;
-      of = refl;
-    }
-
 module _ (limits : Bounds) (log : List ℕ) (format : Option Format) (records : List Record)
-    (heard : List Heard) (tail : Tail) (told : IsTold limits log format records heard tail) where
+    (tail : Tail) where
   abbrev terms : Terms
   terms = log_terms limits format
-
-  abbrev events : List Event
-  events = heard_events heard
 
   abbrev end : Ending
   end = ending tail.fault tail.rests.editor tail.rests.server
 
-  abbrev plain : Verdict
-  plain = verdict terms events end
+  -- the verdict on these events, of which this is the first No
+  abbrev by_first : List Event → Option Verdict → Verdict
+  by_first events o = unwrap_or (option_or o (option_or (bad_log_of end.log_fault)
+      (rest_of events end.editor_rest end.server_rest))) (yes (summary terms events))
 
   -- no event offends
-  pub told_end : (completeness : Completeness) → first_no terms events ≡ None
-      → EndsBy completeness limits log events (verdict_of completeness terms heard tail)
-  unfolding told_verdict
-  told_end Ignored clean = (
-    told_verdict limits log format records heard tail told,
-    kept_final terms events end plain refl ∙ kept_clean terms events clean,
-  )
-  told_end Required clean = (
-    plain,
-    (
+  module _ (heard : List Heard) (told : IsTold limits log format records heard tail)
+      (clean : first_no terms (heard_events heard) ≡ None) where
+    ended_at : EndsAt limits log (heard_events heard) (verdict terms (heard_events heard) end)
+    unfolding told_verdict
+    ended_at = (
       told_verdict limits log format records heard tail told,
-      kept_final terms events end plain refl ∙ kept_clean terms events clean,
-    ),
-    refl,
-  )
+      ap (λ v. kept v (heard_events heard)) (ap (by_first (heard_events heard)) clean)
+          ∙ kept_all terms (heard_events heard) end.log_fault end.editor_rest end.server_rest,
+    )
+
+    pub told_end : (completeness : Completeness) → EndsBy completeness limits log
+        (heard_events heard) (verdict_of completeness terms heard tail)
+    unfolding told_verdict ended_at
+    told_end Ignored = ended_at
+    told_end Required = (verdict terms (heard_events heard) end, ended_at, refl)
 
   -- this one is the first that does
-  module _ (first later : List Heard) (here : Heard) (are : heard ≡ first ++ here ∷ later)
+  module _ (first later : List Heard) (here : Heard)
+      (told : IsTold limits log format records (first ++ here ∷ later) tail)
       (clean : first_no terms (heard_events first) ≡ None) (v : Verdict)
       (is : no_of terms first here ≡ Some v) where
-    offends : no_at terms (heard_events first) here.note.event ≡ Some v
-    offends = no_is terms first here clean ∙ is
+    abbrev events : List Event
+    events = heard_events (first ++ here ∷ later)
 
     events_are : events ≡ heard_events first ++ here.note.event ∷ heard_events later
-    events_are = ap heard_events are ∙ events-join first (here ∷ later)
+    events_are = events-join first (here ∷ later)
 
-    named : plain ≡ v
-    named = ap (λ o. unwrap_or (option_or o (option_or (bad_log_of end.log_fault)
-        (rest_of events end.editor_rest end.server_rest))) (yes (summary terms events)))
-        (ap (first_no terms) events_are ∙ no_found terms [] (heard_events first)
-        (heard_events later) here.note.event v clean offends)
+    named : verdict terms events end ≡ v
+    named = ap (by_first events) (ap (first_no terms) events_are
+        ∙ no_found terms [] (heard_events first) (heard_events later) here.note.event v clean
+        (no_is terms first here clean ∙ is))
 
-    pub told_at : EndsAt limits log (heard_events first) v
+    rule : (r : ℕ) × (rule_of terms first here ≡ Some r)
+        × (no_by (heard_events first) here.note.event r ≡ v)
+    rule = map_some (no_by (heard_events first) here.note.event) (rule_of terms first here) v is
+
+    told_at : EndsAt limits log (heard_events first) v
     unfolding told_verdict
     told_at = subst (EndsAt limits log (heard_events first)) named (
-      told_verdict limits log format records heard tail told,
-      kept_final terms events end plain refl ∙ ap (kept_within terms) events_are
-          ∙ kept_no terms (heard_events first) here.note.event (heard_events later) v clean
-          offends,
+      told_verdict limits log format records (first ++ here ∷ later) tail told,
+      (λ i. kept ((named ∙ sym rule.2) i) (events_are i))
+          ∙ kept_no (heard_events first) here.note.event (heard_events later) rule.0,
     )
 
     -- whether or not the session must be complete
@@ -200,7 +220,5 @@ module _ (limits : Bounds) (log : List ℕ) (format : Option Format) (records : 
       where
         other : (s : Summary) → v ≡ yes s → ⊥
         other s same =
-            let by = map_some (no_by (heard_events first) here.note.event)
-            (rule_of terms first here) v is in
-            let no = by.2 ∙ same in
+            let no = rule.2 ∙ same in
             absurd (cc no)

@@ -18,12 +18,11 @@ use Rattle.lsp_replay.specs.declared.log_events.End.{End}
 use Rattle.lsp_replay.specs.declared.log_events.Entry.{Entry}
 use Rattle.lsp_replay.specs.declared.log_events.LogEvents.{LogEvents}
 use Rattle.lsp_replay.proofs.Pulling.{first_format, known_record, log_of}
-use Rattle.lsp_verdict.specs.Entries as entries
-use Rattle.lsp_verdict.specs.Entries.{HasFirst, IsKnown}
+use Rattle.lsp_verdict.specs.Runs as entries
+use Rattle.lsp_verdict.specs.Runs.{HasFirst, IsKnown, OfRead, ports}
 use Rattle.lsp_verdict.specs.Given.{verdict_view, as_given}
 use Rattle.lsp_verdict.specs.Outcome.{IsFinal, IsVerdict, Offends, format_or_one, log_terms}
 use Rattle.lsp_verdict.specs.Placed.{Raw}
-use Rattle.lsp_verdict.specs.RunIo.{OfRead}
 use Rattle.lsp_verdict.specs.Upgraded.{upgraded, AreAccepted, HasAccepted, IsUpgraded}
 use Rattle.lsp_verdict.specs.Upgraded.{BeginsUpgraded}
 use Rattle.lsp_verdict.specs.Verdict.{Verdict}
@@ -36,15 +35,11 @@ use Rattle.lsp_verdict.proofs.Entries.{is_first}
 use Rattle.lsp_verdict.proofs.ExactCounts.{exact}
 use Rattle.lsp_verdict.proofs.Logs.{some_final}
 use Rattle.lsp_verdict.proofs.Outcomes.{offends_final}
-use Rattle.lsp_verdict.proofs.RunReading.{read_map}
-use Rattle.lsp_verdict.proofs.RunsJudged.{judged_not, judges, unwritten_sink}
+use Rattle.lsp_verdict.proofs.RunsJudged.{read_map, judged_not, judges, unwritten_sink}
 use Rattle.lsp_verdict.proofs.Upgrading.{accepted_on, accepted_here, accepted_all, upgraded_more}
 use Rattle.lsp_verdict.proofs.Upgrading.{accepted_none}
-use Rattle.lsp_judge.specs.Heard.{AreHeard, HasHeard}
-use Rattle.lsp_judge.specs.Rulings.{verdict_in}
-use Rattle.lsp_judge.specs.Standing.{Rules}
-use Rattle.lsp_judge.specs.UpgradedLog.{UpgradesLog}
-use Rattle.lsp_verdict.specs.Ports.{ports}
+use Rattle.lsp_judge.specs.Standing.{AreHeard, HasHeard, verdict_in, Rules}
+use Rattle.lsp_judge.specs.ShownLog.{UpgradesLog}
 use Rattle.lsp_judge.specs.declared.ruling.Ruling.{Ruling}
 use Rattle.lsp_judge.proofs.Records.{accepted, rules_offence}
 

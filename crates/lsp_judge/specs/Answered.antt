@@ -3,12 +3,12 @@ use Rattle.std.specs.Prelude.{◌≡◌, ℕ, List, Option, None}
 use Rattle.lsp_frame.specs.Bounds.{Bounds}
 use Rattle.lsp_frame.specs.declared.format.Format.{Format}
 use Rattle.lsp_types.specs.declared.side.Side.TheVariants.{Editor, Server}
-use Rattle.lsp_docs.specs.Terms.{terms_of}
+use Rattle.lsp_docs.specs.Documents.{terms_of}
 use Rattle.lsp_log.specs.Log.{Record, IsLog}
-use Rattle.lsp_verdict.specs.BroughtToEnd.{AreCutShort}
+use Rattle.lsp_verdict.specs.Complete.{AreCutShort}
 use Rattle.lsp_verdict.specs.Event.{Event}
 use Rattle.lsp_verdict.specs.Given.{as_given}
-use Rattle.lsp_verdict.specs.Headline.{Names, HasRest107}
+use Rattle.lsp_verdict.specs.Laws.{Names, HasRest107}
 use Rattle.lsp_verdict.specs.Kept.{NothingOffends, AreFrames}
 use Rattle.lsp_verdict.specs.Outcome.{format_or_one}
 use Rattle.lsp_verdict.specs.Placed.{IsSession, joined}

@@ -1,20 +1,19 @@
--- What `check` answers and writes, whether or not a session must be complete.
-use Rattle.std.specs.Prelude.{◌≡◌, ◌⊎◌, ℕ, List, Option, Result, Ok, Err, IfOk}
+-- What `check` answers and writes, of one log and for one of several.
+use Rattle.std.specs.Prelude.{◌≡◌, ◌⊎◌, ℕ, List, Option, Result, Ok, Err, IfOk, ◌==◌, [], ◌∷◌, ◌++◌}
+use Rattle.std.specs.Prelude.{codes}
 use Rattle.std.specs.Io.KnownBytes.{IsAtEnd}
+use Rattle.std.specs.List.{before_first}
 use Rattle.lsp_frame.specs.Bounds.{Bounds}
 use Rattle.lsp_frame.specs.declared.format.Format.{Format}
 use Rattle.lsp_log.specs.declared.fault.LogCode.{LogCode}
-use Rattle.lsp_judge.specs.Answered.{IsClean}
-use Rattle.lsp_verdict.specs.BroughtToEnd.{IsBroughtToEnd, IsComplete, IsCutShort}
-use Rattle.lsp_verdict.specs.Complete.{IsVerdictBy}
+use Rattle.lsp_verdict.specs.Complete.{IsBroughtToEnd, IsComplete, IsCutShort, IsVerdictBy}
 use Rattle.lsp_verdict.specs.Event.{Event}
 use Rattle.lsp_verdict.specs.Given.{verdict_view}
-use Rattle.lsp_verdict.specs.Headline.{HasFault, Refuses}
+use Rattle.lsp_verdict.specs.Laws.{HasFault, Refuses}
 use Rattle.lsp_verdict.specs.Kept.{IsKept}
 use Rattle.lsp_verdict.specs.Outcome.{log_terms}
-use Rattle.lsp_verdict.specs.Ports.{CountsFaults, IsOutput, IsSilent, OfInput, Ports}
+use Rattle.lsp_verdict.specs.Runs.{CountsFaults, IsOutput, IsSilent, OfInput, Ports, AppendsFront}
 use Rattle.lsp_verdict.specs.Report.{report}
-use Rattle.lsp_verdict.specs.RunIo.{AppendsFront}
 use Rattle.lsp_verdict.specs.Verdict as spec
 use Rattle.lsp_verdict.specs.declared.completeness.Completeness.{Completeness}
 use Rattle.lsp_verdict.specs.declared.completeness.Completeness.TheVariants.{Ignored, Required}
@@ -26,6 +25,9 @@ use Rattle.lsp_verdict.specs.declared.verdict.Summary.{Summary}
 use Rattle.lsp_verdict.specs.declared.verdict.Verdict.{Verdict}
 use Rattle.lsp_verdict.specs.declared.verdict.Verdict.TheVariants.{BadLog, No, Yes}
 use Rattle.lsp_verdict.specs.declared.verdict.Who.{Who}
+use Rattle.lsp_judge.specs.Answered.{IsClean}
+
+-- ---- of one log, whether or not its session must be complete
 
 -- what Yes means: the log is kept, and where it must be, its session was brought to its end
 abbrev pub YesMeans : Completeness → Bounds → List ℕ → Type 0
@@ -87,3 +89,18 @@ pub record Checked (completeness : Completeness) (limits : Bounds) (io : Ports)
       → OfInput limits io (λ log. (format : Option Format) (events : List Event)
       → IsClean limits log format events → EndsAsDue completeness events
       → verdict_view v ≡ spec.yes (spec.summary (log_terms limits format) events))
+
+-- ---- for one of several logs
+
+-- the bytes before the first LF
+abbrev pub first_line : List ℕ → List ℕ
+first_line bytes = before_first (λ byte. byte == 10) bytes
+
+-- **the line of a log**: its name, a colon and a space, the first line of the report, and LF
+abbrev pub line_for : List ℕ → spec.Verdict → List ℕ
+line_for name v = name ++ codes ": " ++ first_line (report v) ++ 10 ∷ []
+
+-- **what `check` answers and writes for one of several logs**
+abbrev pub CheckedLine : Completeness → Bounds → List ℕ → Ports → Result Outcome RunFault → Type 0
+CheckedLine completeness limits name io result =
+    WritesVerdict completeness limits (line_for name) io result

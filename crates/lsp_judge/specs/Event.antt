@@ -1,18 +1,24 @@
 -- The content of one event of a log.
 use Rattle.std.specs.Prelude.{◌≡◌, ℕ, ◌-◌, List, [], ◌++◌, Option, Some, None, slice_get, Result}
-use Rattle.std.specs.Prelude.{Err}
-use Rattle.lsp_frame.specs.Bounds.{Bounds}
+use Rattle.std.specs.Prelude.{Err, ◌+◌, length}
+use Rattle.lsp_frame.specs.Bounds.{Bounds, IsInRange}
 use Rattle.lsp_frame.specs.declared.format.Format.{Format}
+use Rattle.lsp_frame.specs.Told.{Told}
 use Rattle.lsp_log.specs.declared.fault.LogCode.{LogCode}
 use Rattle.lsp_log.specs.Log.{Record, IsLog}
+use Rattle.lsp_verdict.specs.Placed.{Raw, content, broken, show, Placed, Reads}
+use Rattle.lsp_verdict.specs.Runs.{IsSilent, Ports}
+use Rattle.lsp_verdict.specs.declared.outcome.RunFault.{RunFault}
+use Rattle.lsp_verdict.specs.declared.outcome.RunFault.TheVariants as faults
+use Rattle.lsp_verdict.specs.Event as verdict
+use Rattle.lsp_verdict.specs.Outcome.{IsVerdict}
+use Rattle.lsp_verdict.specs.Verdict.{Verdict}
+use Rattle.lsp_replay.specs.LogEvents as log_events
+use Rattle.lsp_replay.specs.declared.log_events.LogEvents.{LogEvents}
 use Rattle.lsp_judge.specs.declared.event.EventOutcome.{EventOutcome}
 use Rattle.lsp_judge.specs.declared.event.EventOutcome.TheVariants.{Done, NoContent, FewerEvents}
 use Rattle.lsp_judge.specs.declared.event.EventOutcome.TheVariants.{BadLog}
 use Rattle.lsp_judge.specs.Written.{WritesDue}
-use Rattle.lsp_verdict.specs.Placed.{Raw, content, broken, show, Placed}
-use Rattle.lsp_verdict.specs.Ports.{IsSilent, Ports}
-use Rattle.lsp_verdict.specs.declared.outcome.RunFault.{RunFault}
-use Rattle.lsp_verdict.specs.declared.outcome.RunFault.TheVariants as faults
 
 -- ---- one event
 
@@ -75,3 +81,37 @@ pub record GivesEvent (limits : Bounds) (io : Ports) (number : ℕ)
   -- After a read fault or where memory was refused nothing is written.
   pub read_fault : result ≡ Err faults.Read → IsSilent io
   pub memory : result ≡ Err faults.Memory → IsSilent io
+
+-- ---- the steps of a run that looks for it
+
+-- this many events are still to come before the n-th of the log is past
+pub record HasPassed (limits : Bounds) (e : LogEvents) (start now : Told) (n left : ℕ) : Type 0
+  where
+    pub format : Option Format
+    pub records : List Record
+    pub given : List Raw
+    pub due : List Raw
+    pub reads : log_events.Reads limits format e start now records given due
+    pub count : left + length given ≡ n
+
+-- ---- laws
+
+-- **For each log and number something is due.**
+abbrev pub SomeEvent : Type 0
+SomeEvent = (limits : Bounds) (log : List ℕ) (n : ℕ)
+    → (out : List ℕ) × (outcome : EventOutcome) × IsEvent limits log n out outcome
+
+-- **And one thing only.**
+abbrev pub OneEvent : Type 0
+OneEvent = (limits : Bounds) → IsInRange limits
+    → (log : List ℕ) (n : ℕ) (out other : List ℕ) (a b : EventOutcome)
+    → IsEvent limits log n out a → IsEvent limits log n other b → (out ≡ other) × (a ≡ b)
+
+-- **Events are numbered as a verdict numbers them**: the n-th event of the verdict on a log is the
+-- reading of the content that is due for n.
+abbrev pub EventIsNumbered : Type 0
+EventIsNumbered = (limits : Bounds) → IsInRange limits
+    → (log : List ℕ) (v : Verdict) (n : ℕ) (event : verdict.Event) (out : List ℕ)
+    (outcome : EventOutcome) → (whole : IsVerdict limits log v)
+    → slice_get whole.final.events (n - 1) ≡ Some event → IsEvent limits log n out outcome
+    → (raw : Raw) × Reads raw event × (out ≡ content_of raw) × (outcome ≡ outcome_of raw)

@@ -7,10 +7,8 @@ use Rattle.lsp_types.specs.declared.memory.Memory.{Memory}
 use Rattle.lsp_log.specs.Log.{Record}
 use Rattle.lsp_judge.specs.Answered.{AreClean, NamesFirst, NamesRest, NamesShort, SaysYes}
 use Rattle.lsp_judge.specs.Checked.{EndsAsDue}
-use Rattle.lsp_judge.specs.Rulings.{IfRefused}
-use Rattle.lsp_judge.specs.Standing.{Stands, State, WasRefused, is_given}
-use Rattle.lsp_verdict.specs.BroughtToEnd.{AreComplete}
-use Rattle.lsp_verdict.specs.Complete.{IsFinalBy}
+use Rattle.lsp_judge.specs.Standing.{IfRefused, Stands, State, WasRefused, is_given}
+use Rattle.lsp_verdict.specs.Complete.{AreComplete, IsFinalBy}
 use Rattle.lsp_verdict.specs.Event.{Event}
 use Rattle.lsp_verdict.specs.Given.{as_given, verdict_view}
 use Rattle.lsp_verdict.specs.Kept.{AreKept}

@@ -1,7 +1,7 @@
 -- What is said of a log up to its verdict, and for that.
 use Rattle.std.specs.Prelude.{◌≡◌, ℕ, List, [], Option, Some, None, is_some}
-use Rattle.lsp_docs.specs.Terms.{Terms}
-use Rattle.lsp_judge.specs.CheckedLine.{line_for}
+use Rattle.lsp_docs.specs.Documents.{Terms}
+use Rattle.lsp_judge.specs.Checked.{line_for}
 use Rattle.lsp_replay.specs.Lines.{heard_line}
 use Rattle.lsp_replay.specs.Run.{IsJudged, Run, Tail}
 use Rattle.lsp_replay.specs.Telling.{no_of}

@@ -1,16 +1,19 @@
 -- The normal form of a log: each content as its canonical frame, in records that are full but for
 -- the last, and each snapshot as it is.
 use Rattle.std.specs.Prelude.{◌≡◌, ℕ, ◌+◌, List, [], ◌∷◌, ◌++◌, length, map, filter, Bool, true}
-use Rattle.std.specs.Prelude.{false, Option, Some, None, Result}
+use Rattle.std.specs.Prelude.{false, Option, Some, None, Result, chars, option_map, Ok, Err, ◌≤◌}
+use Rattle.std.specs.Prelude.{nat_le, ◌&&◌}
 use Rattle.std.specs.Int.{div_ceil}
 use Rattle.std.specs.List.{flat_map}
 use Rattle.std.specs.Option.{option_or}
 use Rattle.std.specs.Simd.{first_chunks}
-use Rattle.lsp_frame.specs.Bounds.{Bounds}
-use Rattle.lsp_frame.specs.Sink.{canonical}
+use Rattle.lsp_frame.specs.Bounds.{Bounds, IsInRange}
+use Rattle.lsp_frame.specs.Sink.{canonical, Wrote}
 use Rattle.lsp_frame.specs.declared.format.Format.{Format}
+use Rattle.lsp_frame.specs.Told.{Told}
 use Rattle.lsp_types.specs.declared.side.Side.{Side}
 use Rattle.lsp_types.specs.declared.side.Side.TheVariants.{Editor, Server}
+use Rattle.lsp_types.specs.declared.rules.TheConstants as rules
 use Rattle.lsp_session.specs.Sent.{same_side}
 use Rattle.lsp_log.specs.declared.fault.LogCode.{LogCode}
 use Rattle.lsp_log.specs.Log.{Record, chunk, shown, first_line, spelling, IsLog}
@@ -18,14 +21,20 @@ use Rattle.lsp_verdict.specs.declared.outcome.Outcome.{Outcome}
 use Rattle.lsp_verdict.specs.declared.outcome.Outcome.TheVariants.{Done, Judged, Stream, NoDocument}
 use Rattle.lsp_verdict.specs.declared.outcome.Outcome.TheVariants.{NoDifference, TooFew}
 use Rattle.lsp_verdict.specs.declared.outcome.RunFault.{RunFault}
-use Rattle.lsp_verdict.specs.Given.{verdict_view}
+use Rattle.lsp_verdict.specs.Given.{verdict_view, as_given, AreCounts}
 use Rattle.lsp_verdict.specs.LookBack.{first_of}
-use Rattle.lsp_verdict.specs.Outcome.{HasRest, ending, format_or_one}
+use Rattle.lsp_verdict.specs.Outcome.{HasRest, ending, format_or_one, IsVerdict}
 use Rattle.lsp_verdict.specs.Placed.{Raw, content, broken, show, Placed, joined}
-use Rattle.lsp_verdict.specs.Ports.{Ports}
-use Rattle.lsp_verdict.specs.Verdict.{Verdict, no, Ending, who_of, bad_log_of}
+use Rattle.lsp_verdict.specs.Runs.{Ports, Tells}
+use Rattle.lsp_verdict.specs.Verdict.{Verdict, no, Ending, who_of, bad_log_of, yes, bad_log}
+use Rattle.lsp_verdict.specs.Event as event
+use Rattle.lsp_verdict.specs.Event.{Event}
+use Rattle.lsp_verdict.specs.declared.counts.Counts.{Counts}
+use Rattle.lsp_verdict.specs.declared.verdict.Verdict.TheVariants as verdicts
+use Rattle.lsp_replay.specs.declared.log_events.End.{End}
+use Rattle.lsp_replay.specs.declared.log_events.End.TheVariants.{Sound, Bad}
+use Rattle.lsp_replay.specs.declared.log_events.LogEvents.{LogEvents}
 use Rattle.lsp_judge.specs.Written.{WritesDue}
-use Rattle.lsp_types.specs.declared.rules.TheConstants as rules
 
 -- ---- what is written
 
@@ -125,3 +134,113 @@ BeginsNormal limits log written =
 abbrev pub Normalizes : Bounds → Ports → Result Outcome RunFault → Type 0
 Normalizes limits io result =
     WritesDue limits io Done (EndsNormal limits) (BeginsNormal limits) result
+
+-- ---- the steps of a run
+
+-- an event that replaces one that is not read, by which it is counted
+abbrev pub mark : Raw → Event
+mark (content side bytes) = event.fault side 0
+mark (broken side rule) = event.fault side rule
+mark (show number uri text) = event.snapshot uri number (chars text)
+
+abbrev pub Counted : Counts → List Raw → Type 0
+Counted counts raws = AreCounts counts (map mark raws)
+
+-- the outcome carries the fault as its verdict, its numbers as they are counted
+abbrev pub CarriesCapped : Outcome → Option Verdict → Type 0
+CarriesCapped outcome fault = Carries outcome (option_map as_given fault)
+
+-- the records of these events, as they are written
+abbrev pub spelled : ℕ → List Raw → List ℕ
+spelled size raws = flat_map spelling (records_of size raws)
+
+-- ---- a step past one event
+
+-- its records are written and it is counted; or it is a fault of the frames, and the outcome
+-- carries the No at it
+abbrev pub WritesEvent : ℕ → Counts → Told → Told → List Raw → Raw
+    → Result (Option Outcome) RunFault → Type 0
+WritesEvent size counts old new before raw (Ok None) =
+    (no_at before raw ≡ None) × Counted counts (before ++ raw ∷ [])
+    × Wrote old new (spelled size (raw ∷ []))
+WritesEvent size counts old new before raw (Ok (Some outcome)) =
+    (new ≡ old) × ((verdict : Verdict) × (no_at before raw ≡ Some verdict)
+    × CarriesCapped outcome (Some verdict))
+WritesEvent size counts old new before raw (Err fault) =
+    (no_at before raw ≡ None) × Tells old new (spelled size (raw ∷ [])) (Err fault)
+
+-- ---- a step past the events of a log
+
+-- the outcome is that of a log that ends after these records, which bring these events, without a
+-- fault
+pub record EndsWhole (limits : Bounds) (records : List Record) (raws : List Raw)
+    (outcome : Outcome) : Type 0 where
+  pub editor : List ℕ
+  pub server : List ℕ
+  pub editor_rest : HasRest limits (joined Editor records) editor
+  pub server_rest : HasRest limits (joined Server records) server
+  pub carries : CarriesCapped outcome (fault_of raws (ending None editor server))
+
+-- the outcome is that of a log that ends so after these records
+abbrev pub EndsLog : Bounds → List Record → List Raw → End → Outcome → Type 0
+EndsLog limits records raws Sound outcome = EndsWhole limits records raws outcome
+EndsLog limits records raws (Bad number fault) outcome =
+    outcome ≡ Judged (verdicts.BadLog number fault)
+
+-- the first line of the log's format is written
+abbrev pub WroteHead : LogEvents → Told → Told → Type 0
+WroteHead e old new = Wrote old new (first_line (format_or_one e.log.format))
+
+-- ---- laws
+
+-- **Every log has a normal form**, whatever its bytes.
+abbrev pub SomeNormalForm : Type 0
+SomeNormalForm = (limits : Bounds) (log : List ℕ)
+    → (out : List ℕ) × (fault : Option Verdict) × IsNormal limits log out fault
+
+-- **And it has one**, which ends with one fault or none.
+abbrev pub OneNormalForm : Type 0
+OneNormalForm = (limits : Bounds) → IsInRange limits
+    → (log out other : List ℕ) (f g : Option Verdict) → IsNormal limits log out f
+    → IsNormal limits log other g → (out ≡ other) × (f ≡ g)
+
+-- the events before the first fault of the frames
+abbrev pub before_fault : List Raw → List Raw
+before_fault [] = []
+before_fault (content side bytes ∷ raws) = content side bytes ∷ before_fault raws
+before_fault (broken side rule ∷ raws) = []
+before_fault (show number uri text ∷ raws) = show number uri text ∷ before_fault raws
+
+-- **Its events are those of the log before a fault**, where its length is within the limit of a
+-- log, and it is a log of the same format without a fault.
+abbrev pub NormalFormKeepsEvents : Type 0
+NormalFormKeepsEvents = (limits : Bounds) → IsInRange limits
+    → (log out : List ℕ) (format : Option Format) (rs : List Record) (flaw : Option (ℕ × LogCode))
+    (raws : List Raw) (fault : Option Verdict)
+    → IsLog limits log format rs flaw → Placed limits rs raws → IsNormal limits log out fault
+    → length out ≤ limits.log
+    → (us : List Record) × IsLog limits out (Some (format_or_one format)) us None
+    × Placed limits us (before_fault raws)
+
+-- **It is its own normal form**, and ends without a fault.
+abbrev pub NormalFormStays : Type 0
+NormalFormStays = (limits : Bounds) → IsInRange limits → (log out : List ℕ) (fault : Option Verdict)
+    → IsNormal limits log out fault → length out ≤ limits.log → IsNormal limits out out None
+
+-- 101 to 107: a fault of the frames, or bytes that are not a whole frame
+abbrev pub is_frame_rule : ℕ → Bool
+is_frame_rule rule =
+    nat_le rules.HEADER_PART_TOO_LONG rule && nat_le rule rules.STREAM_ENDS_INSIDE_FRAME
+
+-- a verdict on messages and snapshots, and not on the frames or the log that hold them
+abbrev pub IsOnEvents : Verdict → Type 0
+IsOnEvents (yes s) = Unit {0}
+IsOnEvents (no rule who number event) = is_frame_rule rule ≡ false
+IsOnEvents (bad_log number code) = ⊥
+
+-- **It has the verdict of the log**, where that is on messages and snapshots.
+abbrev pub NormalFormKeepsVerdict : Type 0
+NormalFormKeepsVerdict =
+    (limits : Bounds) → IsInRange limits → (log out : List ℕ) (fault : Option Verdict) (v : Verdict)
+    → IsVerdict limits log v → IsOnEvents v → IsNormal limits log out fault
+    → length out ≤ limits.log → IsVerdict limits out v

@@ -1,17 +1,16 @@
--- What is written where a log is shown: a line for each event before the verdict's place, and the
--- report.
+-- What `show` writes of a log, and what `upgrade` does.
 use Rattle.std.specs.Prelude.{◌≡◌, List, ◌++◌, ℕ, Result}
 use Rattle.lsp_frame.specs.Bounds.{Bounds, IsInRange}
 use Rattle.lsp_verdict.specs.declared.lines.Lines.{Lines}
 use Rattle.lsp_verdict.specs.declared.outcome.Outcome.{Outcome}
 use Rattle.lsp_verdict.specs.declared.outcome.RunFault.{RunFault}
 use Rattle.lsp_verdict.specs.Outcome.{IsVerdict}
-use Rattle.lsp_verdict.specs.Ports.{Ports}
-use Rattle.lsp_verdict.specs.Runs.{Judges}
+use Rattle.lsp_verdict.specs.Runs.{Ports, Judges}
 use Rattle.lsp_verdict.specs.Shown.{show_of}
 use Rattle.lsp_verdict.specs.Verdict.{Verdict}
+use Rattle.lsp_verdict.specs.Upgraded.{IsUpgraded, BeginsUpgraded}
 
--- ---- a log
+-- ---- a log that is shown: a line for each event before the verdict's place, and the report
 
 -- **what is due for a log**: the lines of the events before the verdict's place, short or long, and
 -- the report
@@ -39,3 +38,10 @@ abbrev pub OneShown : Type 0
 OneShown = (lines : Lines) (limits : Bounds) → IsInRange limits
     → (log : List ℕ) (v w : Verdict) (out other : List ℕ) → IsShown lines limits log v out
     → IsShown lines limits log w other → (v ≡ w) × (out ≡ other)
+
+-- ---- a log that is upgraded: its records in format 2, as they are accepted
+
+-- **what `upgrade` answers and writes**
+abbrev pub UpgradesLog : Bounds → Ports → Result Outcome RunFault → Type 0
+UpgradesLog limits io result =
+    Judges limits io (IsVerdict limits) (IsUpgraded limits) (BeginsUpgraded limits) result

@@ -1,21 +1,93 @@
--- For which records a judge stands.
-use Rattle.std.specs.Prelude.{◌≡◌, List, Option, Some, None, option_and_then}
+-- For which records a judge stands, and what it answers where they end.
+use Rattle.std.specs.Prelude.{◌≡◌, List, [], ◌∷◌, ◌++◌, Option, Some, None, option_and_then, ℕ}
+use Rattle.std.specs.Prelude.{Bool, true, false, Result, Ok, Err, IfSome, option_map, unwrap_or}
+use Rattle.std.specs.List.{AllZip}
 use Rattle.lsp_frame.specs.Bounds.{Bounds, IsInRange}
 use Rattle.lsp_frame.specs.declared.format.Format.{Format}
 use Rattle.lsp_session.specs.State as session
+use Rattle.lsp_session.specs.Incomplete.{incomplete}
 use Rattle.lsp_docs.specs.State as docs
+use Rattle.lsp_docs.specs.Documents.{Terms, terms_of}
 use Rattle.lsp_log.specs.Log.{Record}
+use Rattle.lsp_replay.specs.Standing.{Follows}
 use Rattle.lsp_replay.specs.Streams as frames
+use Rattle.lsp_replay.specs.LogEvents.{flaw_of}
+use Rattle.lsp_replay.specs.Streams.{ends_inside}
+use Rattle.lsp_replay.specs.declared.log_events.End.{End}
+use Rattle.lsp_replay.specs.declared.log_events.LogEvents.{LogEvents}
+use Rattle.lsp_verdict.specs.Event.{Event, sent_in}
+use Rattle.lsp_verdict.specs.Placed.{Raw, Reads}
 use Rattle.lsp_verdict.specs.declared.counts.Counts.{Counts}
+use Rattle.lsp_verdict.specs.Given.{as_given, summary_view}
+use Rattle.lsp_verdict.specs.Verdict.{Verdict, yes, no, bad_log, no_at, bad_log_of, no_next}
+use Rattle.lsp_verdict.specs.Verdict.{summary}
+use Rattle.lsp_verdict.specs.Outcome.{Offends}
+use Rattle.lsp_verdict.specs.declared.completeness.Completeness.{Completeness}
+use Rattle.lsp_verdict.specs.declared.completeness.Completeness.TheVariants.{Ignored, Required}
+use Rattle.lsp_verdict.specs.declared.verdict.Summary as code
+use Rattle.lsp_verdict.specs.declared.verdict.Who.{Who}
+use Rattle.lsp_verdict.specs.declared.verdict.Who.TheVariants as who
+use Rattle.lsp_types.specs.declared.rules.TheConstants as rules
 use Rattle.lsp_judge.specs.declared.ruling.Ruling.{Ruling}
 use Rattle.lsp_judge.specs.declared.ruling.Ruling.TheVariants.{No, BadLog, Memory}
-use Rattle.lsp_verdict.specs.Given.{as_given}
-use Rattle.lsp_verdict.specs.Outcome.{Offends}
-use Rattle.lsp_judge.specs.Heard.{AreHeard}
-use Rattle.lsp_judge.specs.Rulings.{verdict_in}
-use Rattle.lsp_verdict.specs.Verdict.{Verdict, no}
 
--- ---- records
+-- ---- events that were heard, and one more
+
+-- **these were heard as these events**, none of which offends under these terms
+pub record HasHeard (terms : Terms) (messages : session.State) (documents : docs.State)
+    (counts : Counts) (raws : List Raw) (heard : List Event) : Type 0 where
+  pub read : AllZip Reads raws heard
+  pub by : documents.terms ≡ terms
+  pub follows : Follows messages documents counts heard
+
+-- and so was one more
+abbrev pub TakesOne : session.State → docs.State → Counts → session.State → docs.State → Counts
+    → Raw → Type 0
+TakesOne old_messages old_documents before messages documents after raw =
+    (terms : Terms) (raws : List Raw) (heard : List Event)
+    → HasHeard terms old_messages old_documents before raws heard
+    → (event : Event)
+    × HasHeard terms messages documents after (raws ++ raw ∷ []) (heard ++ event ∷ [])
+
+-- **these events of the records were heard**, none of which offends, and those that are due are
+-- still to be heard
+pub record IsHearing (limits : Bounds) (format : Format) (streams : frames.State)
+    (messages : session.State) (documents : docs.State) (counts : Counts) (records : List Record)
+    (heard : List Event) (due : List Raw) : Type 0 where
+  pub past : List Raw
+  pub stands : frames.Stands limits streams records past due
+  pub has : HasHeard (terms_of limits format) messages documents counts past heard
+
+-- all of their events were
+abbrev pub AreHeard : Bounds → Format → frames.State → session.State → docs.State → Counts
+    → List Record → Type 0
+AreHeard limits format streams messages documents counts records =
+    (heard : List Event)
+    × IsHearing limits format streams messages documents counts records heard []
+
+-- ---- the final answer of a judge, as a verdict
+
+-- the verdict that it is, if any
+abbrev pub verdict_in : Ruling → Option Verdict
+verdict_in (No rule who number event) = Some (no rule who number event)
+verdict_in (BadLog number code) = Some (bad_log number code)
+verdict_in Memory = None
+
+-- the ruling is the No at an event of this kind, unless memory ran out
+abbrev pub IsNoAt : Terms → List Event → (Event → Type 0) → Ruling → Type 0
+IsNoAt terms before IsSuch (No rule who number at) =
+    (event : Event) × IsSuch event
+    × ((v : Verdict) × (no_at terms before event ≡ Some v) × (no rule who number at ≡ as_given v))
+IsNoAt terms before IsSuch (BadLog number code) = ⊥
+IsNoAt terms before IsSuch Memory = Unit {0}
+
+-- what is true of a verdict other than Yes
+abbrev pub IfRefused : Verdict → Type 0 → Type 0
+IfRefused (yes s) P = Unit {0}
+IfRefused (no rule who number event) P = P
+IfRefused (bad_log number code) P = P
+
+-- ---- the records for which a judge stands
 
 -- what a judge holds
 pub record State : Type 0 where
@@ -65,3 +137,38 @@ StandsBy (Some Memory) s records = ⊥
 pub record Stands (s : State) (records : List Record) : Type 0 where
   pub range : IsInRange s.limits
   pub given : StandsBy s.given s records
+
+-- ---- what it answers where no event offends and they end
+
+-- 303 or 407 where they are broken and the session must be complete
+abbrev pub lack_rule : Completeness → List Event → Option ℕ
+lack_rule Ignored events = None
+lack_rule Required events = incomplete (sent_in events)
+
+-- the rule that is broken where it ends, and by whom: a rest of the editor's or the server's, else
+-- what is missing
+abbrev pub end_rule : Completeness → List Event → Bool → Bool → Option (ℕ × Who)
+end_rule completeness events true server = Some (rules.STREAM_ENDS_INSIDE_FRAME, who.Editor)
+end_rule completeness events false true = Some (rules.STREAM_ENDS_INSIDE_FRAME, who.Server)
+end_rule completeness events false false =
+    option_map (λ rule. (rule, who.Editor)) (lack_rule completeness events)
+
+-- the verdict: the No by it, else Yes
+abbrev pub ends_with : Terms → List Event → Option (ℕ × Who) → Verdict
+ends_with terms events None = yes (summary terms events)
+ends_with terms events (Some broken) = no_next broken.0 broken.1 events
+
+abbrev pub end_by : Completeness → Terms → List Event → Bool → Bool → Verdict
+end_by completeness terms events editor server =
+    ends_with terms events (end_rule completeness events editor server)
+
+-- what is given where the log ends so after them, as far as its reader tells: its fault, else that
+abbrev pub closed_by : Completeness → Terms → List Event → LogEvents → End → Verdict
+closed_by completeness terms events e end =
+    unwrap_or (bad_log_of (flaw_of end)) (as_given (end_by completeness terms events
+    (ends_inside e.streams.editor) (ends_inside e.streams.server)))
+
+-- it is given, unless memory ran out
+abbrev pub EndIs : Result code.Summary Ruling → Verdict → Type 0
+EndIs (Ok s) v = yes (summary_view s) ≡ as_given v
+EndIs (Err ruling) v = IfSome (verdict_in ruling) (λ given. given ≡ as_given v)

@@ -2,7 +2,7 @@
 use Rattle.std.specs.Prelude.{◌≡◌, List, ℕ, Result, Ok, IfOk, OnErr}
 use Rattle.std.specs.Io.KnownBytes.{IsAtEnd}
 use Rattle.lsp_frame.specs.Bounds.{Bounds}
-use Rattle.lsp_verdict.specs.Ports.{CountsFaults, OutputFor, Ports}
+use Rattle.lsp_verdict.specs.Runs.{CountsFaults, OutputFor, Ports}
 use Rattle.lsp_verdict.specs.declared.outcome.RunFault.{RunFault}
 
 -- **What is due for the input is written, and the outcome is the one that is due with it**: what is

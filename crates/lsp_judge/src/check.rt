@@ -1,6 +1,6 @@
 //! Judges a log and writes the report, whether or not its session must be complete.
 ghost use Rattle.lsp_judge.specs.Checked.{Checked};
-ghost use Rattle.lsp_verdict.specs.Ports.{ports};
+ghost use Rattle.lsp_verdict.specs.Runs.{ports};
 
 use crate::judging::Judging;
 use lsp_frame::{Limits, Sink, Source};

@@ -1,12 +1,12 @@
 //! Judges one of several logs, and writes a line.
 ghost use Rattle.std.specs.Prelude.{◌≡◌, ◌++◌, ◌∷◌, [], OnOk, codes, string_bytes};
-ghost use Rattle.lsp_judge.specs.CheckedLine.{CheckedLine, first_line};
-ghost use Rattle.lsp_verdict.specs.Ports.{ports};
+ghost use Rattle.lsp_judge.specs.Checked.{CheckedLine, first_line};
+ghost use Rattle.lsp_verdict.specs.Runs.{ports};
 
 use crate::judging::Judging;
 use lsp_frame::{Limits, Sink, Source};
 use lsp_replay::pass;
-use lsp_rpc::Memory;
+use lsp_rpc::Result;
 use lsp_verdict::{Completeness, Outcome, RunFault};
 use std::alloc::Global;
 
@@ -48,7 +48,7 @@ fn first_line(text: &str) -> &str
 }
 
 /// Adds the line of one of several logs: its name, and the first line of this report.
-pub(crate) fn push_line(text: &mut String, name: &str, report: &str) -> Result<(), Memory>
+pub(crate) fn push_line(text: &mut String, name: &str, report: &str) -> Result<()>
     ensures { OnOk result (string_bytes text.new ≡ string_bytes text.old
         ++ (name.now ++ codes ": " ++ first_line report.now ++ 10 ∷ [])) }
 {

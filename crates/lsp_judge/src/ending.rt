@@ -1,26 +1,24 @@
 //! What is given where a session ends of which no event offends.
 ghost use Rattle.std.specs.Prelude.{◌≡◌, IfOk, List};
 ghost use Rattle.lsp_replay.specs.Standing.{Follows};
-ghost use Rattle.lsp_judge.specs.Ending.{EndIs, closed_by, end_by, end_rule};
+ghost use Rattle.lsp_judge.specs.Standing.{EndIs, closed_by, end_by, end_rule};
 ghost use Rattle.lsp_verdict.specs.Event.{Event};
 ghost use Rattle.lsp_verdict.specs.Given.{verdict_view};
 
 use crate::ruling::Ruling;
 use lsp_replay::{End, Events, LogEvents, summary_of};
-use lsp_rpc::{Memory, Side};
+use lsp_rpc::{Result, Side};
 use lsp_text::TextStore;
 use lsp_types::rules;
 use lsp_verdict::{Completeness, Summary, Verdict, Who};
-use std::alloc::Global;
 
 /// The verdict where the log ends so after these events: a fault of it, or what its session gives.
 pub(crate) fn verdict_at<S: TextStore>(
-    alloc: Global,
     events: &Events<S>,
     log: &LogEvents,
     end: End,
     completeness: Completeness,
-) -> Result<Verdict, Memory>
+) -> Result<Verdict>
     ensures { IfOk result (λ verdict. (so_far : List Event)
         → Follows events.now.session events.now.docs events.now.counts so_far
         → verdict_view verdict
@@ -31,7 +29,7 @@ pub(crate) fn verdict_at<S: TextStore>(
     }
     let editor = log.ends_inside(Side::Editor);
     let server = log.ends_inside(Side::Server);
-    match end_of(alloc, events, editor, server, completeness) {
+    match end_of(events, editor, server, completeness) {
         Ok(summary) => Ok(Verdict::Yes(summary)),
         Err(ruling) => ruling.answer(),
     }
@@ -39,7 +37,6 @@ pub(crate) fn verdict_at<S: TextStore>(
 
 /// The result of the events where the session ends after them, or the No by what is wrong there.
 pub(crate) fn end_of<S: TextStore>(
-    alloc: Global,
     events: &Events<S>,
     editor: bool,
     server: bool,
@@ -51,7 +48,7 @@ pub(crate) fn end_of<S: TextStore>(
 {
     match end_rule(events, editor, server, completeness) {
         Some((rule, who)) => Err(Ruling::no_next(&events.counts, rule, who)),
-        None => Ok(summary_of(alloc, events)?),
+        None => Ok(summary_of(events.docs.alloc(), events)?),
     }
 }
 

@@ -2,11 +2,10 @@
 ghost use Rattle.std.specs.Prelude.{◌≡◌, ◌<◌, ℕ};
 ghost use Rattle.lsp_frame.specs.Bounds.{Bounds};
 ghost use Rattle.lsp_frame.specs.Told.{Told};
-ghost use Rattle.lsp_judge.specs.Event.{GivesEvent, content_of, outcome_of, without};
-ghost use Rattle.lsp_judge.specs.EventSteps.{HasPassed};
+ghost use Rattle.lsp_judge.specs.Event.{GivesEvent, content_of, outcome_of, without, HasPassed};
 ghost use Rattle.lsp_replay.specs.LogEvents.{flaw_of};
-ghost use Rattle.lsp_verdict.specs.Ports.{ports};
-ghost use Rattle.lsp_verdict.specs.Lent.{raw_view};
+ghost use Rattle.lsp_verdict.specs.Runs.{ports};
+ghost use Rattle.lsp_verdict.specs.Given.{raw_view};
 
 use lsp_frame::{Limits, Sink, Source, put_all};
 use lsp_log::LogCode;

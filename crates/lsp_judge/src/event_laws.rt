@@ -1,5 +1,5 @@
 //! Laws of what is due for one event of a log, each the contract of a function that does nothing.
-ghost use Rattle.lsp_judge.specs.EventLaws.{EventIsNumbered, OneEvent, SomeEvent};
+ghost use Rattle.lsp_judge.specs.Event.{EventIsNumbered, OneEvent, SomeEvent};
 
 /// Every log has an answer for the event of each number.
 pub fn some_event()

@@ -7,12 +7,10 @@ ghost use Rattle.lsp_frame.specs.Decoder.{StandsFor};
 ghost use Rattle.lsp_frame.specs.Sink.{Writes};
 ghost use Rattle.lsp_frame.specs.Told.{Told};
 ghost use Rattle.lsp_frame.specs.Pulling.{Misses};
-ghost use Rattle.lsp_judge.specs.StreamParts.{numbers, kind_line, outcome_at};
-ghost use Rattle.lsp_judge.specs.StreamRun.{RunsFrames, fault_of, closing};
-ghost use Rattle.lsp_verdict.specs.Ports.{ports};
-ghost use Rattle.lsp_verdict.specs.RunIo.{Tells};
-ghost use Rattle.lsp_judge.specs.StreamSteps.{WritesPart, AreParts, Finds, PartsAnswer, ToldAll};
-ghost use Rattle.lsp_judge.specs.StreamSteps.{IsLong, LongAnswer};
+ghost use Rattle.lsp_judge.specs.Stream.{numbers, kind_line, outcome_at, RunsFrames, fault_of};
+ghost use Rattle.lsp_judge.specs.Stream.{closing, WritesPart, AreParts, Finds, PartsAnswer};
+ghost use Rattle.lsp_judge.specs.Stream.{ToldAll, IsLong, LongAnswer};
+ghost use Rattle.lsp_verdict.specs.Runs.{ports, Tells};
 ghost use Rattle.lsp_verdict.specs.declared.outcome.Mode.TheVariants.{Lengths};
 
 use itoa::write_digits;

@@ -1,7 +1,7 @@
 //! Judges a recorded session record by record.
 ghost use Rattle.std.specs.Prelude.{◌≡◌, ◌++◌, ◌∷◌, [], ℕ, List, Option, Some, None, Ok, IfOk};
 ghost use Rattle.std.specs.Prelude.{OnOk, option_map};
-ghost use Rattle.lsp_docs.specs.Terms.{terms_of};
+ghost use Rattle.lsp_docs.specs.Documents.{terms_of};
 ghost use Rattle.lsp_log.specs.Log as log;
 ghost use Rattle.lsp_log.specs.Records.{record_view};
 ghost use Rattle.lsp_judge.specs.Answered.{NamesFirst, NoneOffends};
@@ -10,9 +10,8 @@ ghost use Rattle.lsp_verdict.specs.Event.{Event};
 ghost use Rattle.lsp_verdict.specs.Given.{verdict_view, as_given};
 ghost use Rattle.lsp_verdict.specs.Outcome.{IsFinal};
 ghost use Rattle.lsp_verdict.specs.Placed.{IsSession};
-ghost use Rattle.lsp_judge.specs.Ending.{EndIs, end_by};
+ghost use Rattle.lsp_judge.specs.Standing.{EndIs, end_by, Stands, WasRefused, is_given};
 ghost use Rattle.lsp_replay.specs.Standing.{Follows};
-ghost use Rattle.lsp_judge.specs.Standing.{Stands, WasRefused, is_given};
 ghost use Rattle.lsp_replay.specs.Streams.{ends_inside};
 ghost use Rattle.lsp_verdict.specs.Verdict as spec;
 
@@ -22,7 +21,7 @@ use crate::ruling::Ruling;
 use lsp_frame::{Format, Limits};
 use lsp_log::{LogCode, Record};
 use lsp_replay::{Events, Streams};
-use lsp_rpc::{Memory, Side};
+use lsp_rpc::{Result, Side};
 use lsp_text::TextStore;
 use lsp_verdict::{Completeness, Summary, Verdict, Who};
 use std::alloc::Global;
@@ -34,7 +33,6 @@ use std::marker::Model;
 /// at that event; a No, a fault of the log and a refusal of memory stay.
 #[derive(Drop)]
 pub struct Judge<S: TextStore> {
-    alloc: Global,
     limits: Limits,
     format: Format,
     streams: Streams,
@@ -78,7 +76,6 @@ impl<S: TextStore> Judge<S> {
     {
         let _document = limits.document();
         Judge {
-            alloc,
             limits,
             format,
             streams: Streams::new(alloc, limits),
@@ -89,7 +86,7 @@ impl<S: TextStore> Judge<S> {
 
     /// Takes the next record, and answers the No at the first event that offends, once a record has
     /// brought it.
-    pub fn take(&mut self, next: Record) -> Result<Option<Verdict>, Memory>
+    pub fn take(&mut self, next: Record) -> Result<Option<Verdict>>
         ensures keeps { KeepsAnswer self.old self.new
             (λ answer given. option_map verdict_view answer ≡ Some given) result }
         ensures stands { OnOk result ((records : List log.Record) → Stands self.old records
@@ -156,7 +153,7 @@ impl<S: TextStore> Judge<S> {
     }
 
     /// The verdict on the records taken, of a log without a fault.
-    pub fn finish(&mut self) -> Result<Verdict, Memory>
+    pub fn finish(&mut self) -> Result<Verdict>
         ensures keeps { KeepsAnswer self.old self.new (λ answer given. verdict_view answer ≡ given)
             result }
         ensures finishes { AnswersEnd Completeness.Ignored self.old self.new result }
@@ -168,7 +165,7 @@ impl<S: TextStore> Judge<S> {
     /// that of [`Judge::finish`], but instead of Yes a No by 303 where a request of the editor has
     /// no answer (JSON-RPC 2.0, section 4), or else by 407 where the editor did not send `exit`
     /// (LSP 3.17, "Exit Notification").
-    pub fn finish_complete(&mut self) -> Result<Verdict, Memory>
+    pub fn finish_complete(&mut self) -> Result<Verdict>
         ensures keeps { KeepsAnswer self.old self.new (λ answer given. verdict_view answer ≡ given)
             result }
         ensures finishes { AnswersEnd Completeness.Required self.old self.new result }
@@ -177,7 +174,7 @@ impl<S: TextStore> Judge<S> {
     }
 
     /// The verdict on the records taken, of a log without a fault.
-    fn finish_by(&mut self, completeness: Completeness) -> Result<Verdict, Memory>
+    fn finish_by(&mut self, completeness: Completeness) -> Result<Verdict>
         ensures keeps { KeepsAnswer self.old self.new (λ answer given. verdict_view answer ≡ given)
             result }
         ensures finishes { AnswersEnd completeness self.old self.new result }
@@ -203,6 +200,6 @@ impl<S: TextStore> Judge<S> {
     {
         let editor = self.streams.ends_inside(Side::Editor);
         let server = self.streams.ends_inside(Side::Server);
-        end_of(self.alloc, &self.events, editor, server, completeness)
+        end_of(&self.events, editor, server, completeness)
     }
 }

@@ -3,9 +3,10 @@
 //! `run_check` reads a log and writes the report of the verdict on it. `run_check_complete` does so
 //! for a session that must be complete, `run_check_line` writes no more than the first line of it,
 //! after a name, and `run_show` first writes a line for each event before the verdict. `run_text`
-//! writes the text that is held after a message. Each is an account (`Judging`, `TextHeld`) over the
-//! one `pass` of `lsp_replay`. `run_upgrade` writes a log again in format 2, up to its verdict.
-//! `Judge` takes the records of a log one by one, and `report_of` prints a verdict.
+//! writes the text that is held after a message. Each is an account (`Judging`, and `HeldText` of
+//! `lsp_replay`) over the one `pass` of `lsp_replay`. `run_upgrade` writes a log again in format 2,
+//! up to its verdict. `Judge` takes the records of a log one by one, and `report_of` prints a
+//! verdict.
 //!
 //! Three runs judge nothing: `run_frames` reads one raw stream, one direction of a session, and
 //! says what its frames are; `run_normal` writes the normal form of a log; and `run_event` writes

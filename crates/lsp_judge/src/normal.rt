@@ -5,12 +5,11 @@ ghost use Rattle.lsp_frame.specs.Told.{Told};
 ghost use Rattle.lsp_log.specs.Log as log;
 ghost use Rattle.lsp_replay.specs.LogEvents.{Opens};
 ghost use Rattle.lsp_judge.specs.Normal as normal;
-ghost use Rattle.lsp_judge.specs.Normal.{Normalizes, first_broken};
-ghost use Rattle.lsp_judge.specs.NormalSteps.{Counted, CarriesCapped, EndsLog};
-ghost use Rattle.lsp_judge.specs.NormalSteps.{WritesEvent, WroteHead};
-ghost use Rattle.lsp_verdict.specs.Ports.{ports};
+ghost use Rattle.lsp_judge.specs.Normal.{Normalizes, first_broken, Counted, CarriesCapped, EndsLog};
+ghost use Rattle.lsp_judge.specs.Normal.{WritesEvent, WroteHead};
+ghost use Rattle.lsp_verdict.specs.Runs.{ports};
 ghost use Rattle.lsp_replay.specs.Streams.{Stands};
-ghost use Rattle.lsp_verdict.specs.Lent.{raw_view};
+ghost use Rattle.lsp_verdict.specs.Given.{raw_view};
 ghost use Rattle.lsp_verdict.specs.Placed.{Raw as PlacedRaw};
 
 use crate::pieces::write_content;

@@ -1,7 +1,6 @@
 //! Laws of normal forms, each the contract of a function that does nothing.
-ghost use Rattle.lsp_judge.specs.NormalLaws.{OneNormalForm, NormalFormKeepsEvents};
-ghost use Rattle.lsp_judge.specs.NormalLaws.{NormalFormKeepsVerdict, NormalFormStays};
-ghost use Rattle.lsp_judge.specs.NormalLaws.{SomeNormalForm};
+ghost use Rattle.lsp_judge.specs.Normal.{OneNormalForm, NormalFormKeepsEvents};
+ghost use Rattle.lsp_judge.specs.Normal.{NormalFormKeepsVerdict, NormalFormStays, SomeNormalForm};
 
 /// Every byte sequence has a normal form.
 pub fn some_normal_form()

@@ -5,12 +5,12 @@ ghost use Rattle.lsp_frame.specs.Header.{blank_line};
 ghost use Rattle.lsp_frame.specs.Sink.{canonical, Writes};
 ghost use Rattle.lsp_log.specs.Log.{spelling};
 ghost use Rattle.lsp_judge.specs.Normal.{chunks};
-ghost use Rattle.lsp_verdict.specs.RunIo.{Tells};
+ghost use Rattle.lsp_verdict.specs.Runs.{Tells};
 
 use itoa::Buffer;
 use lsp_frame::{Sink, WriteFault};
 use lsp_log::write_chunk;
-use lsp_rpc::{Memory, Side};
+use lsp_rpc::{Result, Side};
 use lsp_verdict::RunFault;
 
 /// Writes the canonical frame of a content (LSP 3.17, "Base Protocol") as records of its side, each
@@ -33,7 +33,7 @@ pub(crate) fn write_content<W: Sink>(
 }
 
 /// Makes the text the header part of the canonical frame of a content of this length.
-fn fill_head(head: &mut String, len: usize) -> Result<(), Memory>
+fn fill_head(head: &mut String, len: usize) -> Result<()>
     ensures { OnOk result (string_bytes head.new ≡ codes "Content-Length: " ++ decimal len
         ++ blank_line) }
 {

@@ -1,13 +1,12 @@
 //! The final answer of a judge.
 ghost use Rattle.std.specs.Prelude.{◌≡◌, List, IfOk, OnErr, Some};
-ghost use Rattle.lsp_verdict.specs.Counting.{AreCounts};
+ghost use Rattle.lsp_verdict.specs.Given.{AreCounts, verdict_view, as_given};
 ghost use Rattle.lsp_verdict.specs.Event.{Event};
-ghost use Rattle.lsp_verdict.specs.Given.{verdict_view, as_given};
 ghost use Rattle.lsp_verdict.specs.Verdict.{no_next};
-ghost use Rattle.lsp_judge.specs.Rulings.{verdict_in};
+ghost use Rattle.lsp_judge.specs.Standing.{verdict_in};
 
 use lsp_log::LogCode;
-use lsp_rpc::Memory;
+use lsp_rpc::{Memory, Result};
 use lsp_verdict::{Counts, Verdict, Who};
 
 /// What a judge gives from some record on: a verdict that no later record changes, or that memory
@@ -43,7 +42,7 @@ impl Ruling {
         }
     }
 
-    pub(crate) fn answer(self) -> Result<Verdict, Memory>
+    pub(crate) fn answer(self) -> Result<Verdict>
         ensures ok { IfOk result (λ answer. verdict_in self ≡ Some (verdict_view answer)) }
         ensures err { OnErr result (self ≡ Ruling.Memory) }
     {

@@ -1,6 +1,6 @@
 //! Shows a log: a line for each event, and the report.
 ghost use Rattle.lsp_judge.specs.ShownLog.{Showed};
-ghost use Rattle.lsp_verdict.specs.Ports.{ports};
+ghost use Rattle.lsp_verdict.specs.Runs.{ports};
 
 use crate::judging::Judging;
 use lsp_frame::{Limits, Sink, Source};

@@ -1,5 +1,5 @@
 //! Laws of what is due for a stream, each the contract of a function that does nothing.
-ghost use Rattle.lsp_judge.specs.StreamLaws.{SomeRun, OneRun};
+ghost use Rattle.lsp_judge.specs.Stream.{SomeRun, OneRun};
 
 /// For each stream, in each mode, some output and outcome are due.
 pub fn some_run()

@@ -1,18 +1,14 @@
 //! The text that is held after a message of the editor's.
 ghost use Rattle.std.specs.Prelude.{◌≡◌, ◌<◌, ℕ, IfOk, Some, length, string_bytes};
-ghost use Rattle.lsp_judge.specs.TextRun.{IsOpen, given_as, text_run};
-ghost use Rattle.lsp_replay.specs.TextAnswers.{FindsText, TextAsked, WritesText, answer_view};
-ghost use Rattle.lsp_verdict.specs.Ports.{ports};
-ghost use Rattle.lsp_verdict.specs.RunIo.{failures_after};
-ghost use Rattle.lsp_verdict.specs.TextAfter.{AnswersText};
+ghost use Rattle.lsp_judge.specs.TextRun.{given_as};
+ghost use Rattle.lsp_replay.specs.TextAnswers.{FindsText, WritesText, answer_view};
+ghost use Rattle.lsp_verdict.specs.Runs.{ports, failures_after};
+ghost use Rattle.lsp_verdict.specs.Shown.{AnswersText};
 
-use crate::ending::verdict_at;
-use crate::judging::no_last;
 use lsp_frame::{Failed, Limits, Sink, Source};
-use lsp_replay::{Account, End, Events, Flow, LogEvents, Seen, TextAnswer, pass};
-use lsp_rpc::Memory;
-use lsp_text::Lined;
-use lsp_verdict::{Completeness, Outcome, RunFault};
+use lsp_replay::{HeldText, TextAnswer, pass};
+use lsp_rpc::{Memory, Result};
+use lsp_verdict::{Outcome, RunFault};
 use std::alloc::Global;
 
 /// Reads a log up to the editor's message of this number, from 1, and answers with the text that
@@ -64,7 +60,8 @@ pub fn run_text<R: Source, W: Sink>(
         (ports (R.told reader.old) (R.told reader.new) (W.told writer.old) (W.told writer.new))
         (λ log. AnswersText limits log number uri.now) result }
 {
-    let mut account = TextHeld { number, uri };
+    let skips = false;
+    let mut account = HeldText { number, uri, skips };
     pass(alloc, reader, writer, limits, &mut account)
 }
 
@@ -105,7 +102,7 @@ impl Sink for Written {
 }
 
 /// The text that was written.
-fn text_of(written: Written) -> Result<String, Memory>
+fn text_of(written: Written) -> Result<String>
     ensures { IfOk result (λ text. string_bytes text ≡ written.bytes.items) }
 {
     let Written { bytes, failures: _ } = written;
@@ -122,58 +119,5 @@ fn answer_of(outcome: Outcome, written: String) -> TextAnswer
         Outcome::TooFew => TextAnswer::TooFew,
         Outcome::NoDifference => TextAnswer::NoDifference,
         Outcome::Judged(verdict) => TextAnswer::Refused(verdict),
-    }
-}
-
-/// Says the text that is held of a URI just after the editor's message of this number, from 1, and
-/// nothing at the verdict.
-#[derive(Drop)]
-struct TextHeld<'a> {
-    number: u64,
-    uri: &'a str,
-}
-
-impl Account for TextHeld<'_> {
-    ghost Asked = { TextAsked };
-
-    ghost asked = { λ account. record { number = account.number; uri = account.uri.now } };
-
-    ghost run = { text_run };
-
-    ghost stands = { λ account terms heard. IsOpen account.number terms heard };
-
-    fn event(
-        &mut self,
-        alloc: Global,
-        held: &Events<Lined>,
-        seen: Seen<'_>,
-        text: &mut String,
-    ) -> Result<Flow, Memory> {
-        if let Seen::Offence { raw, rule, .. } = seen {
-            let verdict = no_last(&held.counts, rule, raw.who());
-            let outcome = TextAnswer::missing(verdict).add(text)?;
-            let boxed = Box::new(alloc, outcome)?;
-            return Ok(Flow::Stop(boxed));
-        }
-        if held.counts.editor != self.number {
-            return Ok(Flow::GoOn);
-        }
-        let answer = TextAnswer::held(alloc, &held.docs, self.uri)?;
-        let outcome = answer.add(text)?;
-        let boxed = Box::new(alloc, outcome)?;
-        Ok(Flow::Stop(boxed))
-    }
-
-    fn end(
-        &mut self,
-        alloc: Global,
-        held: &Events<Lined>,
-        log: &LogEvents,
-        end: End,
-        text: &mut String,
-    ) -> Result<Outcome, Memory> {
-        let verdict = verdict_at(alloc, held, log, end, Completeness::Ignored)?;
-        let outcome = TextAnswer::missing(verdict).add(text)?;
-        Ok(outcome)
     }
 }

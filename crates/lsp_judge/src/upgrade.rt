@@ -1,15 +1,15 @@
 //! Writes a log again in format 2.
 ghost use Rattle.std.specs.Prelude.{◌≡◌, IfOk};
 ghost use Rattle.lsp_log.specs.Records.{record_view};
-ghost use Rattle.lsp_judge.specs.UpgradedLog.{UpgradesLog};
-ghost use Rattle.lsp_verdict.specs.Ports.{ports};
+ghost use Rattle.lsp_judge.specs.ShownLog.{UpgradesLog};
+ghost use Rattle.lsp_verdict.specs.Runs.{ports};
 
 use crate::contents::hear_record;
 use crate::ending::verdict_at;
 use lsp_frame::{Format, Limits, Sink, Source};
 use lsp_log::{Record, write_head_of, write_record};
 use lsp_replay::{Entry, Events, LogEvents};
-use lsp_rpc::Memory;
+use lsp_rpc::Result;
 use lsp_text::Lined;
 use lsp_verdict::{Completeness, Outcome, RunFault};
 use std::alloc::Global;
@@ -54,7 +54,7 @@ pub fn run_upgrade<R: Source, W: Sink>(
         match next {
             Entry::End(end) => {
                 let held = &reading.events;
-                let verdict = verdict_at(alloc, held, &reading.log, end, Completeness::Ignored)?;
+                let verdict = verdict_at(held, &reading.log, end, Completeness::Ignored)?;
                 return Ok(Outcome::Judged(verdict));
             }
             Entry::Record(record) => {
@@ -69,7 +69,7 @@ pub fn run_upgrade<R: Source, W: Sink>(
     }
 }
 
-fn copy_of(next: &Record) -> Result<Record, Memory>
+fn copy_of(next: &Record) -> Result<Record>
     ensures { IfOk result (λ copy. record_view copy ≡ record_view next.now) }
 {
     match next {

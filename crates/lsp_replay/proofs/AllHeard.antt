@@ -1,16 +1,29 @@
 -- What is known once events were heard: they are few, and what is held is the result of all of them
 -- where none offends.
-use Rattle.std.proofs.Common.{◌≡◌, ◌+◌, ◌<◌, ◌^◌, List, length, None, ap, subst, ◌∙◌, arith}
+use Rattle.std.specs.Borrow.{Bor}
+use Rattle.std.specs.Option.{option_or}
+use Rattle.std.specs.Prelude.{option_map}
+use Rattle.std.proofs.Common.{◌≡◌, ◌+◌, ◌<◌, ◌^◌, ℕ, List, [], ◌∷◌, ◌++◌, length, Option, Some, None}
+use Rattle.std.proofs.Common.{sym, ap, subst, ◌∙◌, refl, arith}
 use Rattle.std.proofs.lemmas.List.{length-map}
 use Rattle.lsp_docs.specs.State as docs
-use Rattle.lsp_docs.specs.Terms.{Terms}
+use Rattle.lsp_docs.specs.Documents.{Terms}
+use Rattle.lsp_docs.specs.declared.tried.Tried.{Tried}
+use Rattle.lsp_rpc.specs.declared.act.Spoken.{Spoken}
 use Rattle.lsp_session.specs.State as session
+use Rattle.lsp_text.specs.Counted.{Counted}
 use Rattle.lsp_replay.specs.Standing.{Follows, Holds}
-use Rattle.lsp_replay.specs.Telling.{Stood}
+use Rattle.lsp_replay.specs.Telling.{SeenAs, Stood, no_of, rule_of}
+use Rattle.lsp_replay.specs.declared.seen.Seen.{Seen}
+use Rattle.lsp_replay.specs.declared.seen.Seen.TheVariants as seen
+use Rattle.lsp_replay.proofs.Seeing.{events-push}
 use Rattle.lsp_verdict.specs.Heard.{Heard, heard_events, notes_of}
+use Rattle.lsp_verdict.specs.Given.{raw_view}
 use Rattle.lsp_verdict.specs.Offences.{Noted}
-use Rattle.lsp_verdict.specs.Verdict.{first_no}
+use Rattle.lsp_verdict.specs.Verdict.{first_no, no_at, no_by, offence}
 use Rattle.lsp_verdict.specs.declared.counts.Counts.{Counts}
+use Rattle.lsp_verdict.specs.declared.raw.Raw.{Raw}
+use Rattle.lsp_verdict.proofs.LookBackLemmas.{first_of-snoc}
 use Rattle.lsp_verdict.proofs.Offences.Offending.{all_are_kept}
 
 pub few_events : (heard : List Heard) → length heard < 2 ^ 63
@@ -30,3 +43,41 @@ follows_all terms heard m d c stood clean = record {
   holds = subst (Holds m d) (all_are_kept terms (heard_events heard) clean) stood.holds;
   counted = stood.counted;
 }
+
+-- ---- one event more
+
+module _ (terms : Terms) (before : List Heard) (h : Heard) where
+  -- where none of those before it offends, the No at it is that after all of them
+  pub no_is : first_no terms (heard_events before) ≡ None
+      → no_at terms (heard_events before) h.note.event ≡ no_of terms before h
+  no_is clean =
+      let events = heard_events before in
+      ap (λ es. option_map (no_by events h.note.event) (offence terms es h.note.event))
+      (sym (all_are_kept terms events clean))
+
+  -- and the first
+  pub first_after : first_no terms (heard_events before) ≡ None
+      → first_no terms (heard_events (before ++ h ∷ [])) ≡ no_of terms before h
+  first_after clean =
+      ap (first_no terms) (events-push before h)
+      ∙ first_of-snoc (no_at terms) (heard_events before) h.note.event
+      ∙ ap (λ o. option_or o (no_at terms (heard_events before) h.note.event)) clean ∙ no_is clean
+
+  pub none_is : rule_of terms before h ≡ None → no_of terms before h ≡ None
+  none_is kept = ap (option_map (no_by (heard_events before) h.note.event)) kept
+
+  -- it was seen as one that is kept
+  pub kept_seen : (s : Seen) → ((raw : Raw) (rule : ℕ) (spoken : Option (Bor Spoken))
+      (tried : Option (Bor (Tried Counted))) → s ≡ seen.Offence raw rule spoken tried → ⊥)
+      → SeenAs s terms before h → rule_of terms before h ≡ None
+  kept_seen (seen.Message side bytes spoken) not as_is = as_is.1
+  kept_seen (seen.Snapshot version uri text answer) not as_is = as_is.1
+  kept_seen (seen.Offence raw rule spoken tried) not as_is = absurd (not raw rule spoken tried refl)
+
+  -- or as one that offends
+  pub offence_seen : (s : Seen) (raw : Raw) (rule : ℕ) (spoken : Option (Bor Spoken))
+      (tried : Option (Bor (Tried Counted))) → s ≡ seen.Offence raw rule spoken tried
+      → SeenAs s terms before h
+      → (h.raw ≡ raw_view raw) × (rule_of terms before h ≡ Some rule)
+  offence_seen s raw rule spoken tried is as_is =
+      let own = subst (λ (x : Seen). SeenAs x terms before h) is as_is in (own.0, own.1)

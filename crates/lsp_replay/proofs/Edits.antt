@@ -4,7 +4,7 @@ use Rattle.std.specs.Prelude.{map}
 use Rattle.lsp_rpc.specs.View.{changes_view}
 use Rattle.lsp_types.specs.declared.change.Change.{Change}
 use Rattle.lsp_text.specs.Changes as changes
-use Rattle.lsp_verdict.specs.Calls.{edit_of}
+use Rattle.lsp_verdict.specs.Event.{edit_of}
 
 pub edits_seen : (cs : List Change) → changes.edits_of cs ≡ map edit_of (changes_view cs)
 edits_seen [] = refl

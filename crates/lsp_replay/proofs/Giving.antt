@@ -12,8 +12,8 @@ use Rattle.lsp_replay.specs.Streams.{IsDue}
 use Rattle.lsp_types.specs.declared.side.Side.{Side}
 use Rattle.lsp_verdict.specs.Placed.{Raw, content, broken, new_fault, Brings}
 use Rattle.lsp_verdict.proofs.Below.{one_stream, faulty_more, frames_first, some_stream}
-use Rattle.lsp_verdict.proofs.Lists.{cancel_all}
-use Rattle.lsp_verdict.proofs.Streams.{no_stream}
+use Rattle.lsp_verdict.proofs.Finding.{cancel_all}
+use Rattle.lsp_verdict.proofs.Sessions.{no_stream}
 
 -- ---- the stream of bytes whose fault was given
 

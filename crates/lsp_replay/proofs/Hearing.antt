@@ -29,13 +29,12 @@ use Rattle.lsp_docs.specs.Rules.{call_rule}
 use Rattle.lsp_docs.specs.State as docs
 use Rattle.lsp_docs.specs.declared.fault.DocFault.{DocFault}
 use Rattle.lsp_docs.specs.declared.fault.DocFault.TheVariants as faults
-use Rattle.lsp_docs.specs.Terms.{Terms}
-use Rattle.lsp_verdict.specs.Calls.{call_of, call_at, calls}
-use Rattle.lsp_verdict.specs.Contents.{IsSent}
-use Rattle.lsp_verdict.specs.Event.{Event, message, fault as broken, snapshot, sent_in}
-use Rattle.lsp_replay.specs.Faults.{of_call, of_message, of_reading}
-use Rattle.lsp_replay.specs.Standing.{HasValue, Hears, IsUnread, RefusesBy, RefusesCall, RefusesFor}
-use Rattle.lsp_replay.specs.Standing.{TakesCall}
+use Rattle.lsp_docs.specs.Documents.{Terms}
+use Rattle.lsp_verdict.specs.Event.{call_of, call_at, calls, Event, message, fault as broken}
+use Rattle.lsp_verdict.specs.Event.{snapshot, sent_in}
+use Rattle.lsp_verdict.specs.Placed.{IsSent}
+use Rattle.lsp_replay.specs.Standing.{of_call, of_message, of_reading, HasValue, Hears, IsUnread}
+use Rattle.lsp_replay.specs.Standing.{RefusesBy, RefusesCall, RefusesFor, TakesCall}
 use Rattle.lsp_replay.specs.declared.fault.Fault.{Fault}
 use Rattle.lsp_replay.specs.declared.fault.Fault.TheVariants as own
 use Rattle.lsp_verdict.specs.Placed as placed

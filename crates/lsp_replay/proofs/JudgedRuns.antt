@@ -1,21 +1,17 @@
 -- What a run that judges a log answers and writes follows from what a pass does.
 use Rattle.std.proofs.Common.{◌≡◌, ℕ, List, ◌++◌, Result, Ok, Err, sym, subst, ◌∙◌}
 use Rattle.lsp_frame.specs.Bounds.{Bounds, IsInRange}
-use Rattle.lsp_replay.specs.Passes.{AllPassed, Passes}
-use Rattle.lsp_replay.specs.Run.{HasSaid, IsPassed, Run}
+use Rattle.lsp_replay.specs.Run.{AllPassed, Passes, HasSaid, IsPassed, Run}
 use Rattle.lsp_replay.proofs.PassEnds.{part_begins, read_here}
 use Rattle.lsp_verdict.specs.Given.{verdict_view}
 use Rattle.lsp_verdict.specs.Outcome.{IsVerdict}
-use Rattle.lsp_verdict.specs.Ports.{Ports}
-use Rattle.lsp_verdict.specs.RunIo.{OfRead}
-use Rattle.lsp_verdict.specs.Runs.{Judges}
+use Rattle.lsp_verdict.specs.Runs.{Ports, OfRead, Judges}
 use Rattle.lsp_verdict.specs.Verdict.{Summary, Verdict, yes}
 use Rattle.lsp_verdict.specs.declared.outcome.Outcome.{Outcome}
 use Rattle.lsp_verdict.specs.declared.outcome.Outcome.TheVariants.{Judged}
 use Rattle.lsp_verdict.specs.declared.outcome.RunFault.{RunFault}
 use Rattle.lsp_verdict.specs.declared.verdict.Verdict as code
-use Rattle.lsp_verdict.proofs.RunReading.{read_map}
-use Rattle.lsp_verdict.proofs.RunsJudged.{judged_not, judges}
+use Rattle.lsp_verdict.proofs.RunsJudged.{read_map, judged_not, judges}
 
 -- a verdict is answered, and this is due for it
 abbrev pub IsDueOf : (Verdict → List ℕ → Type 0) → List ℕ → Outcome → Type 0

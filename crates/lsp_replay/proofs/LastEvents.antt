@@ -8,7 +8,7 @@ use Rattle.lsp_frame.specs.declared.format.Format.{Format}
 use Rattle.lsp_frame.proofs.Writing.{wrote_nothing, wrote_then}
 use Rattle.lsp_session.specs.State as session
 use Rattle.lsp_docs.specs.State as docs
-use Rattle.lsp_docs.specs.Terms.{Terms}
+use Rattle.lsp_docs.specs.Documents.{Terms}
 use Rattle.lsp_log.specs.Log.{Record, IsLog}
 use Rattle.lsp_log.specs.Place.{place_of, found_behind}
 use Rattle.lsp_log.specs.Reader.{shown_by}
@@ -16,8 +16,8 @@ use Rattle.lsp_log.specs.declared.fault.LogCode.{LogCode}
 use Rattle.lsp_types.specs.declared.side.Side.{Side}
 use Rattle.lsp_types.specs.declared.side.Side.TheVariants.{Editor, Server}
 use Rattle.lsp_replay.specs.LogEvents.{Ended, HasGiven, IsLogOf, NextIs, flaw_of}
-use Rattle.lsp_replay.specs.Passes.{PartPassed, Passes, Steps}
-use Rattle.lsp_replay.specs.Run.{HasSaid, IsPassed, IsTold, Run, SaysAll, Tail}
+use Rattle.lsp_replay.specs.Run.{PartPassed, Passes, Steps, HasSaid, IsPassed, IsTold, Run, SaysAll}
+use Rattle.lsp_replay.specs.Run.{Tail}
 use Rattle.lsp_replay.specs.Telling.{DueAtEnd, IsEnd, Stood}
 use Rattle.lsp_replay.specs.declared.log_events.End.{End}
 use Rattle.lsp_replay.specs.declared.log_events.LogEvents.{LogEvents}
@@ -29,14 +29,14 @@ use Rattle.lsp_replay.proofs.SideEnds.{inside_is, rest_held}
 use Rattle.lsp_verdict.specs.Heard.{AreRests, Heard, Rests, notes_of, raws_of, rest_of}
 use Rattle.lsp_verdict.specs.Outcome.{HasRest, log_terms}
 use Rattle.lsp_verdict.specs.Placed.{joined}
-use Rattle.lsp_verdict.specs.RunIo.{BreaksOff, OfRead}
+use Rattle.lsp_verdict.specs.Runs.{BreaksOff, OfRead}
 use Rattle.lsp_verdict.specs.declared.counts.Counts.{Counts}
 use Rattle.lsp_verdict.specs.declared.outcome.Outcome.{Outcome}
 use Rattle.lsp_verdict.specs.declared.outcome.RunFault.{RunFault}
 use Rattle.lsp_verdict.specs.declared.outcome.RunFault.TheVariants as faults
 use Rattle.lsp_verdict.proofs.Logs.{some_verdict}
 use Rattle.lsp_verdict.proofs.PlacedLemmas.{placed_whole}
-use Rattle.lsp_verdict.proofs.RunReading.{read_map}
+use Rattle.lsp_verdict.proofs.RunsJudged.{read_map}
 
 -- ---- the log ends
 

@@ -2,16 +2,12 @@ pub mod Edits
 pub mod Apart
 pub mod Hearing
 pub mod Following
-pub mod Reached
-pub mod EventPlaces
 pub mod Listing
 pub mod Giving
 pub mod FrameSteps
-pub mod Fewer
 pub mod Streaming
 pub mod Pulling
 pub mod Owning
-pub mod Resting
 pub mod FrameRules
 pub mod Fronts
 pub mod SideEnds
@@ -24,3 +20,4 @@ pub mod JudgedRuns
 pub mod SeenLines
 pub mod AllHeard
 pub mod TextRuns
+pub mod Trying

@@ -9,7 +9,7 @@ use Rattle.lsp_docs.specs.Documents.{Version, Held, held, documents}
 use Rattle.lsp_docs.specs.State.{State, Stands}
 use Rattle.lsp_text.proofs.Positions.{slice_get-drop}
 use Rattle.lsp_docs.proofs.Standing.{documents-held}
-use Rattle.lsp_verdict.proofs.ByIndex.{pushed_one}
+use Rattle.lsp_verdict.proofs.Finding.{pushed_one}
 use Rattle.lsp_verdict.specs.Given.{document_view}
 use Rattle.lsp_verdict.specs.Verdict.{document_of}
 use Rattle.lsp_verdict.specs.declared.verdict.OpenDocument.{OpenDocument}

@@ -16,10 +16,9 @@ use Rattle.lsp_replay.specs.declared.streams.PendingEvents.{PendingEvents}
 use Rattle.lsp_replay.specs.declared.streams.PendingEvents.TheVariants as turn
 use Rattle.lsp_replay.proofs.Giving.{broken_stream, over}
 use Rattle.lsp_types.specs.declared.side.Side.{Side}
-use Rattle.lsp_types.specs.declared.side.Side.TheVariants.{Editor, Server}
 use Rattle.lsp_verdict.specs.Placed.{Raw, content, broken, new_fault, joined}
 use Rattle.lsp_verdict.proofs.Below.{one_stream}
-use Rattle.lsp_verdict.proofs.Streams.Joined.{all_own, is_own, none_own, own_is_stream}
+use Rattle.lsp_verdict.proofs.Sessions.Joined.{all_own, is_own, none_own, own_is_stream}
 
 -- ---- the events of a side
 
@@ -91,49 +90,30 @@ pub record AreBroken (limits : Bounds) (d : decoder.State) (bytes : List ℕ) (r
 
 module _ (limits : Bounds) (s : State) (records : List Record) (given due : List Raw)
     (h : Stands limits s records given due) where
-  pub own_limits : (side : Side) → (decoder_of side s).limits ≡ limits
-  own_limits Editor = h.editor_limits
-  own_limits Server = h.server_limits
-
-  -- what is due of a side
-  side_due : (side : Side)
-      → IsDue side (decoder_of side s) (joined side records) (due_of side s.turn due)
-  side_due Editor = h.editor
-  side_due Server = h.server
-
   own_left : (side : Side) → filter (is_own side) due ≡ due_of side s.turn due
-  own_left Editor = by_turn s.turn h.editor h.server h.shows
+  own_left side = by_turn s.turn h.sides h.shows
     where
-      by_turn : (t : Option PendingEvents)
-          → IsDue Editor s.editor (joined Editor records) (due_of Editor t due)
-          → IsDue Server s.server (joined Server records) (due_of Server t due)
-          → ShowsDue t s.snapshot due
-          → filter (is_own Editor) due ≡ due_of Editor t due
-      by_turn None e r shows = ap (filter (is_own Editor)) shows
-      by_turn (Some (turn.Bytes Editor)) e r shows =
-          ap (filter (is_own Editor)) e.are
-          ∙ all_own Editor Editor refl e.left s.editor.fault e.breaks ∙ sym e.are
-      by_turn (Some (turn.Bytes Server)) e r shows =
-          ap (filter (is_own Editor)) r.are
-          ∙ none_own Editor Server refl r.left s.server.fault r.breaks
-      by_turn (Some turn.Snapshot) e r shows =
-          ap (filter (is_own Editor)) shows ∙ shown_own Editor s.snapshot
-  own_left Server = by_turn s.turn h.editor h.server h.shows
-    where
-      by_turn : (t : Option PendingEvents)
-          → IsDue Editor s.editor (joined Editor records) (due_of Editor t due)
-          → IsDue Server s.server (joined Server records) (due_of Server t due)
-          → ShowsDue t s.snapshot due
-          → filter (is_own Server) due ≡ due_of Server t due
-      by_turn None e r shows = ap (filter (is_own Server)) shows
-      by_turn (Some (turn.Bytes Editor)) e r shows =
-          ap (filter (is_own Server)) e.are
-          ∙ none_own Server Editor refl e.left s.editor.fault e.breaks
-      by_turn (Some (turn.Bytes Server)) e r shows =
-          ap (filter (is_own Server)) r.are
-          ∙ all_own Server Server refl r.left s.server.fault r.breaks ∙ sym r.are
-      by_turn (Some turn.Snapshot) e r shows =
-          ap (filter (is_own Server)) shows ∙ shown_own Server s.snapshot
+      by_turn : (t : Option PendingEvents) → ((by : Side)
+          → IsDue by (decoder_of by s) (joined by records) (due_of by t due))
+          → ShowsDue t s.snapshot due → filter (is_own side) due ≡ due_of side t due
+      by_turn None sides shows = ap (filter (is_own side)) shows
+      by_turn (Some (turn.Bytes by)) sides shows = by_test (same_side side by) refl
+        where
+          is : IsDue by (decoder_of by s) (joined by records) (due_of by (Some (turn.Bytes by)) due)
+          is = sides by
+
+          are : due ≡ map (content by) is.left ++ new_fault by (decoder_of by s).fault is.breaks
+          are = sym (ap (λ b. let rs : List Raw = if b then due else [] in rs) (same_side-refl by))
+              ∙ is.are
+
+          by_test : (b : Bool) → same_side side by ≡ b
+              → filter (is_own side) due ≡ (let rs : List Raw = if b then due else [] in rs)
+          by_test true same = ap (filter (is_own side)) are
+              ∙ all_own side by same is.left (decoder_of by s).fault is.breaks ∙ sym are
+          by_test false other = ap (filter (is_own side)) are
+              ∙ none_own side by other is.left (decoder_of by s).fault is.breaks
+      by_turn (Some turn.Snapshot) sides shows =
+          ap (filter (is_own side)) shows ∙ shown_own side s.snapshot
 
   -- **of the events given, those of a side are contents, and after them the fault that its decoder
   -- gave**
@@ -143,9 +123,9 @@ module _ (limits : Bounds) (s : State) (records : List Record) (given due : List
       ≡ map (content side) contents ++ new_fault side None (decoder_of side s).fault)
   given_own side =
       let d = decoder_of side s in
-      let is = side_due side in
+      let is = h.sides side in
       let stream = subst (λ (b : Bounds). IsStream b (joined side records) (is.given ++ is.left)
-      is.rest is.breaks) (own_limits side) is.stream in
+      is.rest is.breaks) (h.own side) is.stream in
       let all = own_is_stream limits h.range side records (given ++ due) (is.given ++ is.left)
       is.rest is.breaks h.placed stream in
       let whole : filter (is_own side) given ++ due_of side s.turn due
@@ -182,15 +162,15 @@ module _ (limits : Bounds) (s : State) (records : List Record) (given due : List
       → AreBroken limits (decoder_of side s) (joined side records) rule
   side_broken side rule gave =
       let d = decoder_of side s in
-      let is = side_due side in
+      let is = h.sides side in
       let held = subst (λ (f : Option ℕ). decoder.RestAt f d is.stands.rest) gave is.stands.held in
       let stream = subst (λ (b : Bounds). IsStream b (joined side records) is.given is.stands.rest
-      (Some rule)) (own_limits side)
+      (Some rule)) (h.own side)
       (broken_stream d (joined side records) is.given rule gave is.stands) in
       record {
         contents = is.given;
         more = held.0;
         stream = subst (λ (w : List ℕ). IsStream limits (joined side records) is.given w
             (Some rule)) held.1 stream;
-        breaks = subst (λ (b : Bounds). Breaks b d.rest rule) (own_limits side) held.2;
+        breaks = subst (λ (b : Bounds). Breaks b d.rest rule) (h.own side) held.2;
       }

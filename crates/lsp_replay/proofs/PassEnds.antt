@@ -2,20 +2,20 @@
 use Rattle.std.specs.Global.{Global}
 use Rattle.std.specs.Prelude.{Box}
 use Rattle.std.proofs.Common.{◌≡◌, ◌⊎◌, ◌+◌, ℕ, false, List, [], ◌∷◌, ◌++◌, inl, inr, refl, sym, ap}
+use Rattle.std.proofs.Common.{Result, Ok, Err}
 use Rattle.std.proofs.Common.{subst}
 use Rattle.std.proofs.Common.{◌∙◌, append-nil}
-use Rattle.lsp_docs.specs.Terms.{Terms}
+use Rattle.lsp_docs.specs.Documents.{Terms}
 use Rattle.lsp_frame.specs.Bounds.{Bounds}
 use Rattle.lsp_frame.specs.Told.{Told}
-use Rattle.lsp_replay.specs.Passes.{DueAt, IsCut, PartPassed}
-use Rattle.lsp_replay.specs.Run.{HasSaid, IsPassed, Run, SaysAll}
+use Rattle.lsp_replay.specs.Run.{DueAt, IsCut, PartPassed, Passes, HasSaid, IsPassed, Run, SaysAll}
 use Rattle.lsp_verdict.specs.Heard.{Heard, Rests}
 use Rattle.lsp_verdict.specs.Outcome.{log_terms}
-use Rattle.lsp_verdict.specs.RunIo.{GaveAtMost, OfRead}
+use Rattle.lsp_verdict.specs.Runs.{GaveAtMost, OfRead}
 use Rattle.lsp_verdict.specs.declared.outcome.Outcome.{Outcome}
 use Rattle.lsp_verdict.specs.declared.outcome.RunFault.{RunFault}
 use Rattle.lsp_verdict.specs.declared.outcome.RunFault.TheVariants as faults
-use Rattle.lsp_verdict.proofs.RunReading.{read_map, read_within}
+use Rattle.lsp_verdict.proofs.RunsJudged.{read_map, read_within}
 
 -- an outcome, as a run that stops gives it
 abbrev pub Boxed : Type 0
@@ -96,6 +96,14 @@ module _ (run : Run) (quiet : IsQuiet run) (limits : Bounds) (start now : Told) 
       by_fault faults.Read never due = said_nothing p.out due
       by_fault faults.Write never due = absurd (never refl)
       by_fault faults.Memory never due = said_nothing p.out due
+
+  pub silent_after : (old new : Told) (result : Result Outcome RunFault) (fault : RunFault)
+      → (fault ≡ faults.Write → ⊥) → Passes run limits start now old new result
+      → result ≡ Err fault → new ≡ old
+  silent_after old new (Ok outcome) fault never a e = absurd (cc e)
+  silent_after old new (Err own) fault never p e =
+      let same : own ≡ fault = cc e in
+      silent old new own (λ write. never (sym same ∙ write)) p
 
   -- after a write fault, what was written begins all that is due
   pub cut_whole : (out : List ℕ) → IsCut run limits start now out

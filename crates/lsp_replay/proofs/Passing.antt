@@ -12,13 +12,12 @@ use Rattle.lsp_frame.proofs.Telling.{took_then}
 use Rattle.lsp_frame.proofs.Writing.{wrote_nothing, wrote_then}
 use Rattle.lsp_session.specs.State as session
 use Rattle.lsp_docs.specs.State as docs
-use Rattle.lsp_docs.specs.Terms.{Terms}
+use Rattle.lsp_docs.specs.Documents.{Terms}
 use Rattle.lsp_log.specs.Log.{Record}
 use Rattle.lsp_types.specs.declared.side.Side.{Side}
 use Rattle.lsp_types.specs.declared.side.Side.TheVariants.{Editor, Server}
 use Rattle.lsp_replay.specs.LogEvents.{HasGiven, NextIs, Opens, Reads}
-use Rattle.lsp_replay.specs.Passes.{DueAt, PartPassed, Passes, Steps}
-use Rattle.lsp_replay.specs.Run.{HasSaid, IsPassed, Run, SaysAll}
+use Rattle.lsp_replay.specs.Run.{DueAt, PartPassed, Passes, Steps, HasSaid, IsPassed, Run, SaysAll}
 use Rattle.lsp_replay.specs.Streams.{LendsRest}
 use Rattle.lsp_replay.specs.Telling.{Comes, DueOf, ShowsFault, Stood}
 use Rattle.lsp_replay.specs.declared.log_events.LogEvents.{LogEvents}
@@ -32,11 +31,11 @@ use Rattle.lsp_replay.proofs.Owning.{given_fault}
 use Rattle.lsp_replay.proofs.PassEnds.{Boxed}
 use Rattle.lsp_replay.proofs.Pulling.{reads_failures, reads_given}
 use Rattle.lsp_verdict.specs.Heard.{Heard, Rests, RestsBehind, notes_of, raws_of, rest_of}
-use Rattle.lsp_verdict.specs.Lent.{raw_view}
+use Rattle.lsp_verdict.specs.Given.{raw_view}
 use Rattle.lsp_verdict.specs.Offences.{Noted}
 use Rattle.lsp_verdict.specs.Outcome.{HasRest, log_terms}
 use Rattle.lsp_verdict.specs.Placed.{Raw, broken, joined}
-use Rattle.lsp_verdict.specs.RunIo.{OfRead, failures_after, sink_failures_after}
+use Rattle.lsp_verdict.specs.Runs.{OfRead, failures_after, sink_failures_after}
 use Rattle.lsp_verdict.specs.declared.counts.Counts.{Counts}
 use Rattle.lsp_verdict.specs.declared.outcome.Outcome.{Outcome}
 use Rattle.lsp_verdict.specs.declared.outcome.RunFault.{RunFault}
@@ -44,7 +43,7 @@ use Rattle.lsp_verdict.specs.declared.outcome.RunFault.TheVariants as faults
 use Rattle.lsp_verdict.specs.declared.raw.Raw as code
 use Rattle.lsp_verdict.specs.declared.raw.Raw.TheVariants as lent
 use Rattle.lsp_verdict.proofs.Offences.Surveying.{some_note}
-use Rattle.lsp_verdict.proofs.RunReading.{read_map}
+use Rattle.lsp_verdict.proofs.RunsJudged.{read_map}
 
 -- ---- a fault
 

@@ -8,30 +8,25 @@ use Rattle.lsp_session.specs.State as session
 use Rattle.lsp_rpc.specs.View.{act_view, message_view}
 use Rattle.lsp_rpc.specs.declared.act.Spoken.{Spoken}
 use Rattle.lsp_types.specs.declared.side.Side.{Side}
-use Rattle.lsp_docs.specs.Answer.{IsAnswer, answer_of}
+use Rattle.lsp_docs.specs.Stored.{IsAnswer, answer_of}
 use Rattle.lsp_docs.specs.Calls.{Call, shows}
-use Rattle.lsp_docs.specs.Documents.{held}
+use Rattle.lsp_docs.specs.Documents.{held, Terms}
 use Rattle.lsp_docs.specs.Fault as docs_fault
-use Rattle.lsp_docs.specs.Kept.{kept as kept_texts}
+use Rattle.lsp_docs.specs.Snapshots.{kept as kept_texts}
 use Rattle.lsp_docs.specs.Rules.{call_rule}
 use Rattle.lsp_docs.specs.State as docs
-use Rattle.lsp_docs.specs.Terms.{Terms}
 use Rattle.lsp_docs.specs.declared.fault.DocFault.{DocFault}
 use Rattle.lsp_docs.specs.declared.fault.DocFault.TheVariants as calls_fault
 use Rattle.lsp_docs.specs.declared.snapshot.Match.{Match}
-use Rattle.lsp_replay.specs.Faults.{of_call}
+use Rattle.lsp_replay.specs.Standing.{of_call, Hears, Holds, RefusesMessage}
 use Rattle.lsp_replay.specs.declared.fault.Fault.TheVariants as own
-use Rattle.lsp_replay.specs.Standing.{Hears, Holds, RefusesMessage}
 use Rattle.lsp_replay.specs.Telling.{Comes, IsSpoken, Stood, kept_before, rule_of}
 use Rattle.lsp_replay.proofs.Following.{shown_holds, whose_read}
-use Rattle.lsp_verdict.specs.Calls.{calls}
-use Rattle.lsp_verdict.specs.Contents.{ReadsAs}
-use Rattle.lsp_verdict.specs.Counting.{AreCounts}
-use Rattle.lsp_verdict.specs.Event.{Event, message, fault as broken_rule, snapshot}
+use Rattle.lsp_verdict.specs.Event.{calls, Event, message, fault as broken_rule, snapshot}
+use Rattle.lsp_verdict.specs.Placed.{ReadsAs, Raw, content, broken, show, Reads}
+use Rattle.lsp_verdict.specs.Given.{AreCounts, whose_raw}
 use Rattle.lsp_verdict.specs.Heard.{Heard, heard_events, notes_of}
-use Rattle.lsp_verdict.specs.Lent.{whose_raw}
 use Rattle.lsp_verdict.specs.Offences.{IsNoted, Noted, events_of, kept_of, rule_at}
-use Rattle.lsp_verdict.specs.Placed.{Raw, content, broken, show, Reads}
 use Rattle.lsp_verdict.specs.Verdict.{offence, whose}
 use Rattle.lsp_verdict.specs.declared.counts.Counts.{Counts}
 use Rattle.lsp_verdict.proofs.Offences.Steps.{events_of-push, kept-push, kept-refused}

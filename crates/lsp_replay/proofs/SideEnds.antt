@@ -11,7 +11,7 @@ use Rattle.lsp_log.specs.Log.{Record}
 use Rattle.lsp_replay.specs.Streams as streams
 use Rattle.lsp_replay.specs.Streams.{State, Stands, decoder_of, ends_at}
 use Rattle.lsp_replay.proofs.FrameRules.{faults_are}
-use Rattle.lsp_replay.proofs.Resting.{whole_rest}
+use Rattle.lsp_replay.proofs.Fronts.{whole_rest}
 use Rattle.lsp_verdict.specs.Offences.{IsNoted, Noted, events_of, is_frame_fault}
 use Rattle.lsp_verdict.specs.Outcome.{HasRest, is_rest}
 use Rattle.lsp_verdict.specs.Placed.{Raw, joined}

@@ -1,25 +1,26 @@
 -- The streams of both sides, with one event more given or one record more pushed.
 use Rattle.std.proofs.Common.{◌≡◌, ℕ, ℤ, List, [], ◌∷◌, ◌++◌, length, Option, Some, None, IsSome}
-use Rattle.std.proofs.Common.{refl, sym, ap, subst, ◌∙◌}
-use Rattle.std.specs.Prelude.{string_bytes}
-use Rattle.lsp_frame.specs.Bounds.{Bounds}
+use Rattle.std.proofs.Common.{Bool, true, false, refl, sym, ap, subst, ◌∙◌}
+use Rattle.std.specs.Prelude.{if◌then◌else◌, string_bytes}
+use Rattle.lsp_frame.specs.Bounds.{Bounds, IsInRange}
 use Rattle.lsp_frame.specs.Buffer.{last_of}
 use Rattle.lsp_frame.specs.Decoder as decoder
 use Rattle.lsp_log.specs.Log.{Record, chunk, shown}
 use Rattle.lsp_replay.specs.Streams as streams
-use Rattle.lsp_replay.specs.Streams.{State, IsDue, IsRaw, ShowsDue, Stands, StepsBy, StepsSide}
-use Rattle.lsp_replay.specs.Streams.{StepsAt, Steps, decoder_of, due_of}
+use Rattle.lsp_replay.specs.Streams.{State, IsDue, IsRaw, Stands, StepsBy, StepsSide}
+use Rattle.lsp_replay.specs.Streams.{StepsAt, Steps, decoder_of, due_of, put}
 use Rattle.lsp_replay.specs.declared.streams.Due.{Due}
 use Rattle.lsp_replay.specs.declared.streams.Due.TheVariants as next
 use Rattle.lsp_replay.specs.declared.streams.Snapshot.{Snapshot}
 use Rattle.lsp_replay.specs.declared.streams.PendingEvents.{PendingEvents}
 use Rattle.lsp_replay.specs.declared.streams.PendingEvents.TheVariants as turn
 use Rattle.lsp_replay.proofs.Giving.{over, none_next, content_next, fault_next, pushed_due}
+use Rattle.lsp_session.specs.Sent.{other_side, same_side}
 use Rattle.lsp_types.specs.declared.side.Side.{Side}
 use Rattle.lsp_types.specs.declared.side.Side.TheVariants.{Editor, Server}
-use Rattle.lsp_verdict.specs.Placed.{Raw, content, broken, show, Brings, Placed, joined}
-use Rattle.lsp_verdict.proofs.OneRecord.{joined_own, joined_server, joined_editor, joined_shown}
-use Rattle.lsp_verdict.proofs.OneRecord.{placed_one}
+use Rattle.lsp_verdict.specs.Placed.{Raw, content, broken, show, Placed, joined}
+use Rattle.lsp_verdict.proofs.Sessions.{joined_own, joined_server, joined_editor, joined_shown}
+use Rattle.lsp_verdict.proofs.Sessions.{placed_one}
 use Rattle.lsp_verdict.proofs.PlacedLemmas.{placed-snoc, placed_whole, placed_next}
 
 -- ---- the next event of a side
@@ -87,115 +88,86 @@ StepGives limits new records given due (Some step) =
     × ((later : List Raw) × (due ≡ raw ∷ later)
     × Stands limits new records (given ++ raw ∷ []) later)
 
+put_own : (side : Side) (e : decoder.State) (s : State) → e ≡ decoder_of side (put side e s)
+put_own Editor e s = refl
+put_own Server e s = refl
+
+-- a side whose events these are, and the other, of which none is due
+stood : (limits : Bounds) (side : Side) (s : State) (e : decoder.State) (records : List Record)
+    (past left : List Raw) → IsInRange limits → Placed limits records (past ++ left)
+    → ((by : Side) → (decoder_of by s).limits ≡ limits) → e.limits ≡ limits
+    → IsDue side e (joined side records) left
+    → IsDue (other_side side) (decoder_of (other_side side) s) (joined (other_side side) records) []
+    → Stands limits (put side e (record s { turn = Some (turn.Bytes side) })) records past left
+stood limits side s e records past left range placed own same due other = record {
+  range = range;
+  placed = placed;
+  own = limits_are side same;
+  sides = dues side due other;
+  shows = tt;
+}
+  where
+    limits_are : (side : Side) → e.limits ≡ limits
+        → (by : Side) → (decoder_of by (put side e s)).limits ≡ limits
+    limits_are Editor same Editor = same
+    limits_are Editor same Server = own Server
+    limits_are Server same Editor = own Editor
+    limits_are Server same Server = same
+
+    dues : (side : Side) → IsDue side e (joined side records) left
+        → IsDue (other_side side) (decoder_of (other_side side) s) (joined (other_side side) records) []
+        → (by : Side) → IsDue by (decoder_of by (put side e s)) (joined by records)
+        (due_of by (Some (turn.Bytes side)) left)
+    dues Editor due other Editor = due
+    dues Editor due other Server = other
+    dues Server due other Editor = other
+    dues Server due other Server = due
+
 module _ (limits : Bounds) (records : List Record) (given due : List Raw) where
-  editor_stepped : (s : State) (e : decoder.State) (o : Option Due)
-      → s.turn ≡ Some (turn.Bytes Editor) → StepsSide Editor s.editor e o
-      → Stands limits s records given due
-      → StepGives limits (record s { editor = e }) records given due o
-  editor_stepped s e o own steps h =
-      let is_due = subst (λ (t : Option PendingEvents).
-      IsDue Editor s.editor (joined Editor records) (due_of Editor t due)) own h.editor in
-      let other = subst (λ (t : Option PendingEvents).
-      IsDue Server s.server (joined Server records) (due_of Server t due)) own h.server in
-      let one = side_gives Editor s.editor e (joined Editor records) due o steps is_due in
-      by_next o one.0 (one.1 ∙ h.editor_limits) other
+  side_stepped : (side : Side) (s : State) (e : decoder.State) (o : Option Due)
+      → StepsSide side (decoder_of side s) e o → Stands limits s records given due
+      → IsDue side (decoder_of side s) (joined side records) due
+      → IsDue (other_side side) (decoder_of (other_side side) s) (joined (other_side side) records)
+      [] → StepGives limits (put side e (record s { turn = Some (turn.Bytes side) })) records given
+      due o
+  side_stepped side s e o steps h is_due other =
+      let one = side_gives side (decoder_of side s) e (joined side records) due o steps is_due in
+      by_next o one.0 (one.1 ∙ h.own side)
     where
-      stands : (past left : List Raw) → e.limits ≡ limits → Placed limits records (past ++ left)
-          → IsDue Editor e (joined Editor records) left
-          → IsDue Server s.server (joined Server records) []
-          → Stands limits (record s { editor = e }) records past left
-      stands past left same placed own_due other = record {
-        range = h.range;
-        editor_limits = same;
-        server_limits = h.server_limits;
-        placed = placed;
-        editor = subst (λ (t : Option PendingEvents). IsDue Editor e (joined Editor records)
-            (due_of Editor t left)) (sym own) own_due;
-        server = subst (λ (t : Option PendingEvents). IsDue Server s.server (joined Server records)
-            (due_of Server t left)) (sym own) other;
-        shows = subst (λ (t : Option PendingEvents). ShowsDue t s.snapshot left) (sym own) tt;
-      }
+      new : State
+      new = put side e (record s { turn = Some (turn.Bytes side) })
 
-      by_next : (o : Option Due) → SideGives Editor e (joined Editor records) due o
-          → e.limits ≡ limits → IsDue Server s.server (joined Server records) []
-          → StepGives limits (record s { editor = e }) records given due o
-      by_next None (none, ends) same other = (
+      by_next : (o : Option Due) → SideGives side e (joined side records) due o
+          → e.limits ≡ limits → StepGives limits new records given due o
+      by_next None (none, ends) same = (
         none,
-        stands given [] same (subst (λ (w : List Raw). Placed limits records (given ++ w))
-            none h.placed) ends other,
+        stood limits side s e records given [] h.range
+            (subst (λ (w : List Raw). Placed limits records (given ++ w)) none h.placed)
+            h.own same ends other,
       )
-      by_next (Some step) (raw, is, (later, first, left)) same other = (
+      by_next (Some step) (raw, is, (later, first, left)) same = (
         raw,
-        raw_of_side (record s { editor = e }) Editor step raw is,
+        raw_of_side new side step raw
+            (subst (λ (d : decoder.State). SideRaw side d step raw) (put_own side e s) is),
         (
           later,
           first,
-          stands (given ++ raw ∷ []) later same
-              (placed_next limits records given due later raw first h.placed) left other,
+          stood limits side s e records (given ++ raw ∷ []) later h.range
+              (placed_next limits records given due later raw first h.placed) h.own same left other,
         ),
       )
 
-  server_stepped : (s : State) (e : decoder.State) (o : Option Due)
-      → s.turn ≡ Some (turn.Bytes Server) → StepsSide Server s.server e o
-      → Stands limits s records given due
-      → StepGives limits (record s { server = e }) records given due o
-  server_stepped s e o own steps h =
-      let is_due = subst (λ (t : Option PendingEvents).
-      IsDue Server s.server (joined Server records) (due_of Server t due)) own h.server in
-      let other = subst (λ (t : Option PendingEvents).
-      IsDue Editor s.editor (joined Editor records) (due_of Editor t due)) own h.editor in
-      let one = side_gives Server s.server e (joined Server records) due o steps is_due in
-      by_next o one.0 (one.1 ∙ h.server_limits) other
-    where
-      stands : (past left : List Raw) → e.limits ≡ limits → Placed limits records (past ++ left)
-          → IsDue Server e (joined Server records) left
-          → IsDue Editor s.editor (joined Editor records) []
-          → Stands limits (record s { server = e }) records past left
-      stands past left same placed own_due other = record {
-        range = h.range;
-        editor_limits = h.editor_limits;
-        server_limits = same;
-        placed = placed;
-        editor = subst (λ (t : Option PendingEvents). IsDue Editor s.editor (joined Editor records)
-            (due_of Editor t left)) (sym own) other;
-        server = subst (λ (t : Option PendingEvents). IsDue Server e (joined Server records)
-            (due_of Server t left)) (sym own) own_due;
-        shows = subst (λ (t : Option PendingEvents). ShowsDue t s.snapshot left) (sym own) tt;
-      }
-
-      by_next : (o : Option Due) → SideGives Server e (joined Server records) due o
-          → e.limits ≡ limits → IsDue Editor s.editor (joined Editor records) []
-          → StepGives limits (record s { server = e }) records given due o
-      by_next None (none, ends) same other = (
-        none,
-        stands given [] same (subst (λ (w : List Raw). Placed limits records (given ++ w))
-            none h.placed) ends other,
-      )
-      by_next (Some step) (raw, is, (later, first, left)) same other = (
-        raw,
-        raw_of_side (record s { server = e }) Server step raw is,
-        (
-          later,
-          first,
-          stands (given ++ raw ∷ []) later same
-              (placed_next limits records given due later raw first h.placed) left other,
-        ),
-      )
-
-  shown_stepped : (s : State) → s.turn ≡ Some turn.Snapshot → IsSome s.snapshot
-      → Stands limits s records given due
+  shown_stepped : (s : State) → IsSome s.snapshot
+      → Stands limits (record s { turn = Some turn.Snapshot }) records given due
       → StepGives limits (record s { turn = None }) records given due (Some next.Snapshot)
-  shown_stepped s own held h = by_snapshot s.snapshot refl held
+  shown_stepped s held h = by_snapshot s.snapshot refl held
     where
-      is_due : due ≡ streams.shown s.snapshot
-      is_due = subst (λ (t : Option PendingEvents). ShowsDue t s.snapshot due) own h.shows
-
       by_snapshot : (o : Option Snapshot) → s.snapshot ≡ o → IsSome o
           → StepGives limits (record s { turn = None }) records given due (Some next.Snapshot)
       by_snapshot None is some = absurd cc
       by_snapshot (Some x) is some =
           let raw : Raw = show x.version (string_bytes x.uri) (string_bytes x.text) in
-          let first : due ≡ raw ∷ [] = is_due ∙ ap streams.shown is in (
+          let first : due ≡ raw ∷ [] = h.shows ∙ ap streams.shown is in (
             raw,
             ap streams.shown is,
             (
@@ -203,47 +175,33 @@ module _ (limits : Bounds) (records : List Record) (given due : List Raw) where
               first,
               record {
                 range = h.range;
-                editor_limits = h.editor_limits;
-                server_limits = h.server_limits;
                 placed = placed_next limits records given due [] raw first h.placed;
-                editor = subst (λ (t : Option PendingEvents).
-                    IsDue Editor s.editor (joined Editor records)
-                    (due_of Editor t due)) own h.editor;
-                server = subst (λ (t : Option PendingEvents).
-                    IsDue Server s.server (joined Server records)
-                    (due_of Server t due)) own h.server;
+                own = h.own;
+                sides = h.sides;
                 shows = refl;
               },
             ),
           )
 
-  idle_stepped : (s : State) → s.turn ≡ None → Stands limits s records given due
-      → StepGives limits (record s { snapshot = None }) records given due None
-  idle_stepped s own h =
-      let none = subst (λ (t : Option PendingEvents). ShowsDue t s.snapshot due) own h.shows in (
-        none,
-        record {
-          range = h.range;
-          editor_limits = h.editor_limits;
-          server_limits = h.server_limits;
-          placed = subst (λ (w : List Raw). Placed limits records (given ++ w)) none h.placed;
-          editor = subst (λ (t : Option PendingEvents).
-              IsDue Editor s.editor (joined Editor records)
-              (due_of Editor t [])) (sym own)
-              (subst (λ (t : Option PendingEvents). IsDue Editor s.editor (joined Editor records)
-              (due_of Editor t due)) own h.editor);
-          server = subst (λ (t : Option PendingEvents).
-              IsDue Server s.server (joined Server records)
-              (due_of Server t [])) (sym own)
-              (subst (λ (t : Option PendingEvents). IsDue Server s.server (joined Server records)
-              (due_of Server t due)) own h.server);
-          shows = subst (λ (t : Option PendingEvents). ShowsDue t None []) (sym own) refl;
-        },
-      )
+  idle_stepped : (s : State) → Stands limits (record s { turn = None }) records given due
+      → StepGives limits (record s {
+        snapshot = None;
+        turn = None;
+      }) records given due None
+  idle_stepped s h = (
+    h.shows,
+    record {
+      range = h.range;
+      placed = subst (λ (w : List Raw). Placed limits records (given ++ w)) h.shows h.placed;
+      own = h.own;
+      sides = h.sides;
+      shows = refl;
+    },
+  )
 
   pub stepped : (old new : State) (o : Option Due) → Steps old new o
       → Stands limits old records given due → StepGives limits new records given due o
-  stepped old new o steps h = by_turn old.turn refl steps
+  stepped old new o steps h = by_turn old.turn refl steps h
     where
       along : (s : State) (p : Option Due) → new ≡ s → StepGives limits s records given due p
           → StepGives limits new records given due p
@@ -251,25 +209,32 @@ module _ (limits : Bounds) (records : List Record) (given due : List Raw) where
           (sym same) gives
 
       by_turn : (t : Option PendingEvents) → old.turn ≡ t → StepsAt t old new o
+          → Stands limits (record old { turn = t }) records given due
           → StepGives limits new records given due o
-      by_turn None own (none, same) =
+      by_turn None own (none, same) h =
           subst (StepGives limits new records given due) (sym none) (along (record old {
             snapshot = None;
-          }) None same (idle_stepped old own h))
-      by_turn (Some (turn.Bytes Editor)) own (steps, same) =
-          along (record old {
-            editor = new.editor;
-          }) o same (editor_stepped old new.editor o own steps h)
-      by_turn (Some (turn.Bytes Server)) own (steps, same) =
-          along (record old {
-            server = new.server;
-          }) o same (server_stepped old new.server o own steps h)
-      by_turn (Some turn.Snapshot) own (is, same, held) =
+            turn = None;
+          }) None (same ∙ ap (λ (t : Option PendingEvents). record old {
+            snapshot = None;
+            turn = t;
+          }) own) (idle_stepped old h))
+      by_turn (Some (turn.Bytes Editor)) own (steps, same) h =
+          along (put Editor new.editor (record old { turn = Some (turn.Bytes Editor) })) o
+          (same ∙ ap (λ (t : Option PendingEvents). put Editor new.editor (record old { turn = t }))
+          own) (side_stepped Editor (record old { turn = Some (turn.Bytes Editor) }) new.editor o
+          steps h (h.sides Editor) (h.sides Server))
+      by_turn (Some (turn.Bytes Server)) own (steps, same) h =
+          along (put Server new.server (record old { turn = Some (turn.Bytes Server) })) o
+          (same ∙ ap (λ (t : Option PendingEvents). put Server new.server (record old { turn = t }))
+          own) (side_stepped Server (record old { turn = Some (turn.Bytes Server) }) new.server o
+          steps h (h.sides Server) (h.sides Editor))
+      by_turn (Some turn.Snapshot) own (is, same, held) h =
           subst (StepGives limits new records given due) (sym is)
           (along (record old {
             turn = None;
           }) (Some next.Snapshot) same
-          (shown_stepped old own (subst (λ (w : State). IsSome w.snapshot) same held) h))
+          (shown_stepped old (subst (λ (w : State). IsSome w.snapshot) same held) h))
 
 -- what was gone past is one event
 pub one_raw : (s : State) (step : Due) (a b : Raw) → IsRaw s step a → IsRaw s step b → a ≡ b
@@ -292,84 +257,44 @@ lent limits new records given due step raw is gives =
 module _ (limits : Bounds) (records : List Record) (given : List Raw) where
   pub own_due : (side : Side) (s : State) → Stands limits s records given []
       → IsDue side (decoder_of side s) (joined side records) []
-  own_due Editor s h = by_turn s.turn h.editor
+  own_due side s h =
+      subst (IsDue side (decoder_of side s) (joined side records)) (none side s.turn) (h.sides side)
     where
-      by_turn : (t : Option PendingEvents)
-          → IsDue Editor s.editor (joined Editor records) (due_of Editor t [])
-          → IsDue Editor s.editor (joined Editor records) []
-      by_turn None is = is
-      by_turn (Some (turn.Bytes Editor)) is = is
-      by_turn (Some (turn.Bytes Server)) is = is
-      by_turn (Some turn.Snapshot) is = is
-  own_due Server s h = by_turn s.turn h.server
-    where
-      by_turn : (t : Option PendingEvents)
-          → IsDue Server s.server (joined Server records) (due_of Server t [])
-          → IsDue Server s.server (joined Server records) []
-      by_turn None is = is
-      by_turn (Some (turn.Bytes Editor)) is = is
-      by_turn (Some (turn.Bytes Server)) is = is
-      by_turn (Some turn.Snapshot) is = is
+      none : (side : Side) (t : Option PendingEvents) → due_of side t [] ≡ []
+      none side None = refl
+      none side (Some (turn.Bytes by)) = by_test (same_side side by)
+        where
+          by_test : (b : Bool) → (let rs : List Raw = if b then [] else [] in rs) ≡ []
+          by_test true = refl
+          by_test false = refl
+      none side (Some turn.Snapshot) = refl
 
-  -- the events before, and those that the bytes bring
-  placed_bytes : (side : Side) (s : State) (bytes : List ℕ) (now : List Raw)
-      → Stands limits s records given [] → Brings limits side (joined side records) bytes now
-      → Placed limits (records ++ chunk side bytes ∷ []) (given ++ now)
-  placed_bytes side s bytes now h brings =
-      placed-snoc limits [] [] records (chunk side bytes) given now
-      (placed_whole limits records given [] refl h.placed)
-      (placed_one limits side records bytes now brings)
+  joined_other : (side : Side) (bytes : List ℕ)
+      → joined (other_side side) (records ++ chunk side bytes ∷ [])
+      ≡ joined (other_side side) records
+  joined_other Editor bytes = joined_server records bytes
+  joined_other Server bytes = joined_editor records bytes
 
-  pub editor_pushed : (s : State) (e : decoder.State) (bytes : List ℕ) → e.limits ≡ s.editor.limits
-      → e.fault ≡ s.editor.fault
-      → ((sent : List ℕ) (contents : List (List ℕ)) → decoder.StandsFor s.editor sent contents
+  pub side_pushed : (side : Side) (s : State) (e : decoder.State) (bytes : List ℕ)
+      → e.limits ≡ (decoder_of side s).limits → e.fault ≡ (decoder_of side s).fault
+      → ((sent : List ℕ) (contents : List (List ℕ))
+      → decoder.StandsFor (decoder_of side s) sent contents
       → decoder.StandsFor e (sent ++ bytes) contents)
       → Stands limits s records given []
-      → (due : List Raw) × Stands limits (record s {
-        editor = e;
-        turn = Some (turn.Bytes Editor);
-      }) (records ++ chunk Editor bytes ∷ []) given due
-  editor_pushed s e bytes same fault stands h =
-      let p = pushed_due limits Editor s.editor e (joined Editor records) bytes h.editor_limits same
-      fault (own_due Editor s h) stands in (
+      → (due : List Raw) × Stands limits (put side e (record s { turn = Some (turn.Bytes side) }))
+      (records ++ chunk side bytes ∷ []) given due
+  side_pushed side s e bytes same fault stands h =
+      let p = pushed_due limits side (decoder_of side s) e (joined side records) bytes (h.own side)
+      same fault (own_due side s h) stands in (
         p.0,
-        record {
-          range = h.range;
-          editor_limits = same ∙ h.editor_limits;
-          server_limits = h.server_limits;
-          placed = placed_bytes Editor s bytes p.0 h p.1;
-          editor = subst (λ (w : List ℕ). IsDue Editor e w p.0)
-              (sym (joined_own Editor records bytes)) p.2;
-          server = subst (λ (w : List ℕ). IsDue Server s.server w [])
-              (sym (joined_server records bytes)) (own_due Server s h);
-          shows = tt;
-        },
-      )
-
-  pub server_pushed : (s : State) (e : decoder.State) (bytes : List ℕ) → e.limits ≡ s.server.limits
-      → e.fault ≡ s.server.fault
-      → ((sent : List ℕ) (contents : List (List ℕ)) → decoder.StandsFor s.server sent contents
-      → decoder.StandsFor e (sent ++ bytes) contents)
-      → Stands limits s records given []
-      → (due : List Raw) × Stands limits (record s {
-        server = e;
-        turn = Some (turn.Bytes Server);
-      }) (records ++ chunk Server bytes ∷ []) given due
-  server_pushed s e bytes same fault stands h =
-      let p = pushed_due limits Server s.server e (joined Server records) bytes h.server_limits same
-      fault (own_due Server s h) stands in (
-        p.0,
-        record {
-          range = h.range;
-          editor_limits = h.editor_limits;
-          server_limits = same ∙ h.server_limits;
-          placed = placed_bytes Server s bytes p.0 h p.1;
-          editor = subst (λ (w : List ℕ). IsDue Editor s.editor w [])
-              (sym (joined_editor records bytes)) (own_due Editor s h);
-          server = subst (λ (w : List ℕ). IsDue Server e w p.0)
-              (sym (joined_own Server records bytes)) p.2;
-          shows = tt;
-        },
+        stood limits side s e (records ++ chunk side bytes ∷ []) given p.0 h.range
+            (placed-snoc limits [] [] records (chunk side bytes) given p.0
+            (placed_whole limits records given [] refl h.placed)
+            (placed_one limits side records bytes p.0 p.1))
+            h.own (same ∙ h.own side)
+            (subst (λ (w : List ℕ). IsDue side e w p.0) (sym (joined_own side records bytes)) p.2)
+            (subst (λ (w : List ℕ). IsDue (other_side side) (decoder_of (other_side side) s) w [])
+            (sym (joined_other side bytes)) (own_due (other_side side) s h)),
       )
 
   pub shown_pushed : (s : State) (x : Snapshot) (number : ℤ) → x.version ≡ number
@@ -384,15 +309,12 @@ module _ (limits : Bounds) (records : List Record) (given : List Raw) where
         show x.version uri text ∷ [],
         record {
           range = h.range;
-          editor_limits = h.editor_limits;
-          server_limits = h.server_limits;
           placed = placed-snoc limits [] [] records (shown number uri text) given
               (show x.version uri text ∷ []) (placed_whole limits records given [] refl h.placed)
               ([], ap (λ n. show n uri text ∷ []) same, refl);
-          editor = subst (λ (w : List ℕ). IsDue Editor s.editor w [])
-              (sym (joined_shown Editor records number uri text)) (own_due Editor s h);
-          server = subst (λ (w : List ℕ). IsDue Server s.server w [])
-              (sym (joined_shown Server records number uri text)) (own_due Server s h);
+          own = h.own;
+          sides = λ side. subst (λ (w : List ℕ). IsDue side (decoder_of side s) w [])
+              (sym (joined_shown side records number uri text)) (own_due side s h);
           shows = refl;
         },
       )

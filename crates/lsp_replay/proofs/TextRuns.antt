@@ -1,78 +1,351 @@
--- A run for a text, which says nothing before it stops, as a pass.
-use Rattle.std.proofs.Common.{◌≡◌, ℕ, List, ◌++◌, Result, Ok, Err, sym, subst, ◌∙◌}
-use Rattle.lsp_frame.specs.Bounds.{Bounds}
-use Rattle.lsp_replay.specs.Passes.{DueAt, PartPassed, Passes}
-use Rattle.lsp_replay.specs.Run.{IsPassed, Run}
-use Rattle.lsp_replay.specs.TextAnswers.{WritesText}
-use Rattle.lsp_replay.proofs.PassEnds.{IsQuiet, cut_whole, part_within, silent}
-use Rattle.lsp_verdict.specs.Ports.{OutputFor, Ports}
-use Rattle.lsp_verdict.specs.Shown.{TextAnswer}
-use Rattle.lsp_verdict.specs.TextAfter.{BeginsText, IsText}
+-- A run that answers with a text, as a pass, and the steps of its account.
+use Rattle.std.proofs.Common.{◌≡◌, ◌<◌, ◌≤◌, ◌+◌, ◌^◌, ◌==◌, ◌&&◌, ℕ, Bool, true, false, List, []}
+use Rattle.std.proofs.Common.{◌∷◌, ◌++◌, length, length-append, refl, ap, ◌∙◌, arith, Option, Some}
+use Rattle.std.proofs.Common.{None, sym, ◌⊎◌, Result, Ok, Err, inl, inr, subst, append-nil}
+use Rattle.std.specs.Prelude.{filter, if◌then◌else◌, option_map, is_some, unwrap_or}
+use Rattle.std.proofs.lemmas.Bool.{eq-eqb}
+use Rattle.std.proofs.lemmas.Bool.Decides.{nat_tests}
+use Rattle.std.proofs.lemmas.List.{length-map}
+use Rattle.std.proofs.lemmas.List.Elements.{filter-append}
+use Rattle.std.specs.Option.{option_or}
+use Rattle.lsp_types.specs.declared.side.Side.TheVariants.{Editor}
+use Rattle.lsp_verdict.specs.Given.{AreCounts, verdict_view}
+use Rattle.lsp_verdict.specs.Event.{Event, calls}
+use Rattle.lsp_verdict.specs.Heard.{Heard, heard_events, notes_of, Rests}
+use Rattle.lsp_verdict.specs.Offences.{Noted}
+use Rattle.lsp_verdict.specs.Verdict.{count_of, is_of, Verdict}
+use Rattle.lsp_verdict.specs.declared.counts.Counts.{Counts}
+use Rattle.lsp_verdict.specs.Shown.{TextAnswer, held_answer, missing_answer, BeginsText, EndsAs}
+use Rattle.lsp_verdict.specs.Shown.{IsText, written_of}
+use Rattle.lsp_verdict.specs.declared.verdict.Verdict as code
+use Rattle.lsp_verdict.specs.LookBack.{first_from, first_of}
+use Rattle.lsp_verdict.specs.Outcome.{log_terms}
+use Rattle.lsp_verdict.specs.Runs.{OutputFor, Ports}
 use Rattle.lsp_verdict.specs.declared.outcome.Outcome.{Outcome}
 use Rattle.lsp_verdict.specs.declared.outcome.RunFault.{RunFault}
 use Rattle.lsp_verdict.specs.declared.outcome.RunFault.TheVariants as faults
-use Rattle.lsp_verdict.proofs.RunReading.{read_map, read_within}
+use Rattle.lsp_verdict.proofs.LookBackLemmas.{first_of-append}
+use Rattle.lsp_verdict.proofs.RunsJudged.{read_map, read_within}
+use Rattle.lsp_docs.specs.Calls.{Call}
+use Rattle.lsp_docs.specs.Documents.{held, Terms}
+use Rattle.lsp_docs.specs.State as docs
+use Rattle.lsp_session.specs.State as session
+use Rattle.lsp_frame.specs.Bounds.{Bounds}
+use Rattle.lsp_frame.specs.declared.format.Format.{Format}
+use Rattle.lsp_log.specs.Log.{Record}
+use Rattle.lsp_replay.specs.TextAnswers.{is_reached, TextAsked, answer_by, refusal_by, text_at}
+use Rattle.lsp_replay.specs.TextAnswers.{StopsWith, WritesText, answer_run, said_of}
+use Rattle.lsp_replay.proofs.Seeing.{events-push}
+use Rattle.lsp_replay.specs.Telling.{Stood, kept_before, no_of, Closes, Says}
+use Rattle.lsp_replay.specs.Run.{DueAt, PartPassed, Passes, EndsAfter, IsPassed, IsTold, Run}
+use Rattle.lsp_replay.specs.Run.{SaysAll, StopsIn, Tail}
+use Rattle.lsp_replay.specs.declared.seen.Flow.{Flow}
+use Rattle.lsp_replay.specs.declared.seen.Flow.TheVariants.{GoOn, Stop}
+use Rattle.lsp_replay.proofs.PassEnds.{IsQuiet, cut_whole, part_within, quiet_all, silent}
 
-module _ (run : Run) (quiet : IsQuiet run) (limits : Bounds)
-    (Answers : List ℕ → TextAnswer → Type 0)
-    (is_text : (log out : List ℕ) (outcome : Outcome) → IsPassed run limits log out outcome
-    → IsText Answers log out outcome) (io : Ports) where
-  module _ (fault : RunFault) (p : PartPassed run limits io.source_before io.source_after
-      io.sink_before io.sink_after fault) where
-    unwritten : (fault ≡ faults.Write → ⊥) → io.sink_after ≡ io.sink_before
-    unwritten never = silent run quiet limits io.source_before io.source_after io.sink_before
-        io.sink_after fault never p
+-- ---- whether the editor's n-th message was heard last, or has still to come
 
-    cut : DueAt faults.Write run limits io.source_before io.source_after p.out
-        → OutputFor limits io (BeginsText Answers)
-    cut due =
-        let (outcome, left, whole) = cut_whole run quiet limits io.source_before io.source_after
-        p.out due in (
-          p.out,
-          p.took,
-          read_map limits io.source_before io.source_after
-              (λ log. IsPassed run limits log (p.out ++ left) outcome)
-              (λ log. BeginsText Answers log p.out)
-              (λ log passed. (outcome, left, is_text log (p.out ++ left) outcome passed)) whole,
-        )
+pub count-append : (test : Event → Bool) (xs ys : List Event)
+    → count_of test (xs ++ ys) ≡ count_of test xs + count_of test ys
+count-append test xs ys = ap length (filter-append test xs ys) ∙ length-append _ _
 
-    text_part : WritesText limits io Answers (Err fault)
-    text_part = record {
-      written = tt;
-      read_fault = λ e. let same : fault ≡ faults.Read = cc e in
-          unwritten (λ write. absurd (cc (sym write ∙ same)));
-      memory = λ e. let same : fault ≡ faults.Memory = cc e in
-          unwritten (λ write. absurd (cc (sym write ∙ same)));
-      write_fault = λ e. let same : fault ≡ faults.Write = cc e in
-          cut (subst (λ (f : RunFault). DueAt f run limits io.source_before io.source_after p.out)
-          same p.due);
-      counts = record {
-        source_failures = p.source;
-        sink_failures = p.sink;
-        limit = part_within run limits io.source_before io.source_after io.sink_before
-            io.sink_after fault p;
-      };
+-- not more events are the editor's than there are
+count_within : (xs : List Event) → count_of (is_of Editor) xs ≤ length xs
+count_within [] = omega arith
+count_within (x ∷ xs) = by_own (is_of Editor x) (count_within xs)
+  where
+    by_own : (b : Bool) → count_of (is_of Editor) xs ≤ length xs
+        → length (if b then x ∷ filter (is_of Editor) xs else filter (is_of Editor) xs)
+        ≤ length (x ∷ xs)
+    by_own true p = omega (arith, p)
+    by_own false p = omega (arith, p)
+
+-- of so few events, the editor's are counted exactly; fewer than n of them came before the last
+module _ (n : ℕ) (c : Counts) (before : List Heard) (h : Heard)
+    (counted : AreCounts c (heard_events (before ++ h ∷ []))) (few : length before + 1 < 2 ^ 64)
+    (earlier : count_of (is_of Editor) (heard_events before) < n) where
+  abbrev all : ℕ
+  all = count_of (is_of Editor) (heard_events (before ++ h ∷ []))
+
+  abbrev own : ℕ
+  own = count_of (is_of Editor) (h.note.event ∷ [])
+
+  count_is : c.editor ≡ all
+  count_is = omega (
+    arith,
+    counted.editor,
+    few,
+    count_within (heard_events (before ++ h ∷ [])),
+    length-map (before ++ h ∷ []) (λ (x : Heard). x.note),
+    length-map (notes_of (before ++ h ∷ [])) (λ (x : Noted). x.event),
+    length-append before (h ∷ []),
+  )
+
+  one_more : all ≡ count_of (is_of Editor) (heard_events before) + own
+  one_more = ap (count_of (is_of Editor)) (events-push before h)
+      ∙ count-append (is_of Editor) (heard_events before) (h.note.event ∷ [])
+
+  own_one : is_of Editor h.note.event ≡ true → own ≡ 1
+  own_one is = ap (λ b. length (if b then h.note.event ∷ [] else [])) is
+
+  own_none : is_of Editor h.note.event ≡ false → own ≡ 0
+  own_none is = ap (λ b. length (if b then h.note.event ∷ [] else [])) is
+
+  pub now_reached : c.editor ≡ n → is_reached n before h ≡ true
+  now_reached reached = by_own (is_of Editor h.note.event) refl
+    where
+      by_own : (b : Bool) → is_of Editor h.note.event ≡ b
+          → (b && count_of (is_of Editor) (heard_events before) + 1 == n) ≡ true
+      by_own true is =
+          eq-eqb _ _ (omega (arith, reached, count_is, one_more, own_one is))
+      by_own false is =
+          absurd (omega (arith, earlier, reached, count_is, one_more, own_none is))
+
+  pub not_reached : (c.editor ≡ n → ⊥) → (is_reached n before h ≡ false) × (all < n)
+  not_reached other = by_own (is_of Editor h.note.event) refl
+    where
+      unequal : (k : ℕ) → (k ≡ n → ⊥) → (k == n) ≡ false
+      unequal k differs = grind (arith, nat_tests, differs)
+
+      by_own : (b : Bool) → is_of Editor h.note.event ≡ b
+          → ((b && count_of (is_of Editor) (heard_events before) + 1 == n) ≡ false) × (all < n)
+      by_own true is = (
+        unequal _ (λ same. other (omega (arith, same, count_is, one_more, own_one is))),
+        omega (arith, earlier, other, count_is, one_more, own_one is),
+      )
+      by_own false is = (refl, omega (arith, earlier, one_more, own_none is))
+
+-- ---- the answer at an event of the account that says the text just after a message
+
+module _ (asked : TextAsked) (terms : Terms) (before : List Heard) (h : Heard) where
+  abbrev on : List Heard
+  on = before ++ h ∷ []
+
+  abbrev text_here : TextAnswer
+  text_here = held_answer (held terms asked.uri (calls (kept_before terms on)))
+
+  abbrev refusal : Option Verdict
+  refusal = refusal_by asked.skips (no_of terms before h)
+
+  -- the event ends the run
+  pub missing_at : (v : Verdict) (answer : TextAnswer) → refusal ≡ Some v
+      → answer ≡ missing_answer v → text_at asked terms before h ≡ Some answer
+  missing_at v answer is missing =
+      ap (λ o. answer_by o (is_reached asked.number before h) text_here) is
+      ∙ ap Some (sym missing)
+
+  pub no_refusal : (o : Option code.Verdict) → ((v : code.Verdict) → o ≡ Some v → ⊥)
+      → option_map verdict_view o ≡ refusal → refusal ≡ None
+  no_refusal None not is = sym is
+  no_refusal (Some v) not is = absurd (not v refl)
+
+  -- it doesn't
+  module _ {m : session.State} {d : docs.State} {c : Counts} (stood : Stood terms m d c on)
+      (few : length before + 1 < 2 ^ 64)
+      (earlier : count_of (is_of Editor) (heard_events before) < asked.number)
+      (none : refusal ≡ None) where
+    by_reached : (b : Bool) → is_reached asked.number before h ≡ b
+        → text_at asked terms before h ≡ answer_by None b text_here
+    by_reached b is = ap (λ o. answer_by o (is_reached asked.number before h) text_here) none
+        ∙ ap (λ x. answer_by None x text_here) is
+
+    -- and is the message
+    pub held_at : (answer : TextAnswer) → c.editor ≡ asked.number
+        → ((made : List Call) → docs.Stands d made
+        → answer ≡ held_answer (held d.terms asked.uri made))
+        → text_at asked terms before h ≡ Some answer
+    held_at answer reached told =
+        by_reached true (now_reached asked.number c before h stood.counted few earlier reached)
+        ∙ ap Some (sym (told _ stood.holds.called
+        ∙ ap (λ (t : Terms). held_answer (held t asked.uri (calls (kept_before terms on))))
+        stood.by))
+
+    -- or another
+    module _ (other : c.editor ≡ asked.number → ⊥) where
+      pub none_at : text_at asked terms before h ≡ None
+      none_at = by_reached false
+          (not_reached asked.number c before h stood.counted few earlier other).0
+
+      pub still_to_come : count_of (is_of Editor) (heard_events on) < asked.number
+      still_to_come = (not_reached asked.number c before h stood.counted few earlier other).1
+
+-- ---- the account as a run, and its steps
+
+pub no_none : {A : Type 0} (o : Option A) → is_some o ≡ false → o ≡ None
+no_none None goes = refl
+no_none (Some v) goes = absurd (cc goes)
+
+module _ (answer_at : Terms → List Heard → Heard → Option TextAnswer)
+    (answer_behind : Terms → List Heard → Tail → TextAnswer) where
+  abbrev run : Run
+  run = answer_run answer_at answer_behind
+
+  -- ---- its account
+
+  module _ {terms : Terms} {before : List Heard} {h : Heard} {Fits : Rests → Type 0}
+      {Stands : Type 0} {old : List ℕ} where
+    -- the event has this answer
+    pub says_answer : {new : List ℕ} {answer : TextAnswer} (flow : Flow)
+        → StopsWith answer old new flow → answer_at terms before h ≡ Some answer
+        → Says run terms before h Fits old new Stands flow
+    says_answer GoOn told at = absurd told
+    says_answer {new} {answer} (Stop boxed) told at = record {
+      said = written_of answer;
+      added = told.0;
+      is = λ rests fits. ap said_of (sym at);
+      goes = (ap is_some at, (answer, at, told.1));
     }
 
-  -- **what a pass of it answers and writes, where it says the text of one of these answers**
-  pub passed_text : (result : Result Outcome RunFault) → Passes run limits io.source_before
-      io.source_after io.sink_before io.sink_after result → WritesText limits io Answers result
-  passed_text (Ok outcome) a = record {
-    written = (
-      a.out,
-      a.wrote.took,
-      read_map limits io.source_before io.source_after
-          (λ log. IsPassed run limits log a.out outcome)
-          (λ log. IsText Answers log a.out outcome)
-          (λ log p. is_text log a.out outcome p) a.due,
+    -- it has none
+    pub says_none : answer_at terms before h ≡ None → Stands
+        → Says run terms before h Fits old old Stands GoOn
+    says_none at stands = record {
+      said = [];
+      added = sym (append-nil old);
+      is = λ rests fits. ap said_of (sym at);
+      goes = (ap is_some at, stands);
+    }
+
+  -- the log ended, which has this answer
+  pub closes_answer : {terms : Terms} {heard : List Heard} {Fits : Tail → Type 0}
+      {old new : List ℕ} {answer : TextAnswer} {outcome : Outcome}
+      → (new ≡ old ++ written_of answer) × EndsAs answer outcome
+      → ((tail : Tail) → Fits tail → answer ≡ answer_behind terms heard tail)
+      → Closes run terms heard Fits old new outcome
+  closes_answer {terms} {heard} {Fits} {old} {new} {answer} {outcome} told same = record {
+    said = written_of answer;
+    added = told.0;
+    is = λ tail fits. (
+      ap written_of (same tail fits),
+      subst (λ (a : TextAnswer). EndsAs a outcome) (same tail fits) told.1,
     );
-    read_fault = λ e. absurd (cc e);
-    memory = λ e. absurd (cc e);
-    write_fault = λ e. absurd (cc e);
-    counts = record {
-      source_failures = a.failures;
-      sink_failures = a.wrote.failures;
-      limit = read_within _ _ _ _ a.due;
-    };
   }
-  passed_text (Err fault) p = text_part fault p
+
+  -- ---- a pass of it
+
+  quiet : IsQuiet run
+  quiet terms rests before h said is goes =
+      is ∙ ap said_of (no_none (answer_at terms before h) goes)
+
+  -- no event has an answer at which it does not stop
+  none_from : (terms : Terms) (rests : Rests) (before hs : List Heard) (out : List ℕ)
+      → SaysAll run terms rests before hs out → first_from (answer_at terms) before hs ≡ None
+  none_from terms rests before [] out is = refl
+  none_from terms rests before (h ∷ hs) out (said, left, is, same, goes, later) =
+      ap (λ o. option_or o (first_from (answer_at terms) (before ++ h ∷ []) hs))
+      (no_none (answer_at terms before h) goes)
+      ∙ none_from terms rests (before ++ h ∷ []) hs left later
+
+  -- of each log that was told, the answer is that of its first event that has one, else of its end
+  module _ (limits : Bounds) (Answers : List ℕ → TextAnswer → Type 0)
+      (answers : (log : List ℕ) (format : Option Format) (records : List Record)
+      (heard : List Heard) (tail : Tail) → IsTold limits log format records heard tail
+      → Answers log (unwrap_or (first_of (answer_at (log_terms limits format)) heard)
+      (answer_behind (log_terms limits format) heard tail))) where
+    module _ (log out : List ℕ) (outcome : Outcome) (p : IsPassed run limits log out outcome)
+      where
+        abbrev terms : Terms
+        terms = log_terms limits p.format
+
+        abbrev behind : TextAnswer
+        behind = answer_behind terms p.heard p.tail
+
+        answered : (o : Option TextAnswer) → first_of (answer_at terms) p.heard ≡ o
+            → Answers log (unwrap_or o behind)
+        answered o is = subst (λ (x : Option TextAnswer). Answers log (unwrap_or x behind)) is
+            (answers log p.format p.records p.heard p.tail p.told)
+
+        stopped : StopsIn run terms p.tail.rests p.heard out outcome → IsText Answers log out outcome
+        stopped s =
+            let (answer, is, ends) = s.stop.ends in
+            let f = answer_at terms in
+            record {
+              answer = answer;
+              answers = answered (Some answer) (ap (first_of f) s.are
+                  ∙ first_of-append f s.first (s.here ∷ s.later)
+                  ∙ ap (λ o. option_or o (first_from f s.first (s.here ∷ s.later)))
+                  (none_from terms p.tail.rests [] s.first s.front s.said)
+                  ∙ ap (λ o. option_or o (first_from f (s.first ++ s.here ∷ []) s.later)) is);
+              written = s.is ∙ ap (λ w. w ++ s.last)
+                  (quiet_all run quiet terms p.tail.rests [] s.first s.front s.said)
+                  ∙ s.stop.says ∙ ap said_of is;
+              ends = ends;
+            }
+
+        ended : EndsAfter run terms p.tail p.heard out outcome → IsText Answers log out outcome
+        ended e = record {
+          answer = behind;
+          answers = answered None (none_from terms p.tail.rests [] p.heard e.front e.said);
+          written = e.is ∙ ap (λ w. w ++ e.last)
+              (quiet_all run quiet terms p.tail.rests [] p.heard e.front e.said) ∙ e.closes.0;
+          ends = e.closes.1;
+        }
+
+        is_text : IsText Answers log out outcome
+        is_text = by_end p.is
+          where
+            by_end : StopsIn run terms p.tail.rests p.heard out outcome
+                ⊎ EndsAfter run terms p.tail p.heard out outcome → IsText Answers log out outcome
+            by_end (inl s) = stopped s
+            by_end (inr e) = ended e
+
+    module _ (io : Ports) where
+      module _ (fault : RunFault) (p : PartPassed run limits io.source_before io.source_after
+          io.sink_before io.sink_after fault) where
+        unwritten : (fault ≡ faults.Write → ⊥) → io.sink_after ≡ io.sink_before
+        unwritten never = silent run quiet limits io.source_before io.source_after io.sink_before
+            io.sink_after fault never p
+
+        cut : DueAt faults.Write run limits io.source_before io.source_after p.out
+            → OutputFor limits io (BeginsText Answers)
+        cut due =
+            let (outcome, left, whole) = cut_whole run quiet limits io.source_before
+            io.source_after p.out due in (
+              p.out,
+              p.took,
+              read_map limits io.source_before io.source_after
+                  (λ log. IsPassed run limits log (p.out ++ left) outcome)
+                  (λ log. BeginsText Answers log p.out)
+                  (λ log passed. (outcome, left, is_text log (p.out ++ left) outcome passed)) whole,
+            )
+
+        text_part : WritesText limits io Answers (Err fault)
+        text_part = record {
+          written = tt;
+          read_fault = λ e. let same : fault ≡ faults.Read = cc e in
+              unwritten (λ write. absurd (cc (sym write ∙ same)));
+          memory = λ e. let same : fault ≡ faults.Memory = cc e in
+              unwritten (λ write. absurd (cc (sym write ∙ same)));
+          write_fault = λ e. let same : fault ≡ faults.Write = cc e in
+              cut (subst (λ (f : RunFault).
+              DueAt f run limits io.source_before io.source_after p.out) same p.due);
+          counts = record {
+            source_failures = p.source;
+            sink_failures = p.sink;
+            limit = part_within run limits io.source_before io.source_after io.sink_before
+                io.sink_after fault p;
+          };
+        }
+
+      -- **what a pass of it answers and writes**
+      pub text_written : (result : Result Outcome RunFault) → Passes run limits io.source_before
+          io.source_after io.sink_before io.sink_after result → WritesText limits io Answers result
+      text_written (Ok outcome) a = record {
+        written = (
+          a.out,
+          a.wrote.took,
+          read_map limits io.source_before io.source_after
+              (λ log. IsPassed run limits log a.out outcome)
+              (λ log. IsText Answers log a.out outcome)
+              (λ log p. is_text log a.out outcome p) a.due,
+        );
+        read_fault = λ e. absurd (cc e);
+        memory = λ e. absurd (cc e);
+        write_fault = λ e. absurd (cc e);
+        counts = record {
+          source_failures = a.failures;
+          sink_failures = a.wrote.failures;
+          limit = read_within _ _ _ _ a.due;
+        };
+      }
+      text_written (Err fault) p = text_part fault p

@@ -1,13 +1,11 @@
 pub mod Apart
-pub mod Faults
 pub mod Standing
-pub mod Places
+pub mod Tries
 pub mod Lines
-pub mod TextAnswers
 pub mod Streams
 pub mod Lending
 pub mod LogEvents
 pub mod LogLending
-pub mod Run
 pub mod Telling
-pub mod Passes
+pub mod TextAnswers
+pub mod Run

@@ -1,11 +1,31 @@
--- The lines that show events, and their words.
-use Rattle.std.specs.Prelude.{ℕ, List, [], ◌∷◌, ◌++◌, unwrap_or}
+-- The places of events, and the lines that show them.
+use Rattle.std.specs.Prelude.{List, ◌+◌, length, ℕ, [], ◌∷◌, ◌++◌, unwrap_or}
 use Rattle.std.specs.List.{flat_map}
-use Rattle.lsp_verdict.specs.declared.lines.Lines.{Lines}
+use Rattle.lsp_docs.specs.State.{capped}
 use Rattle.lsp_verdict.specs.Event.{Event}
+use Rattle.lsp_verdict.specs.Verdict.{belongs_to, count_of, whose}
+use Rattle.lsp_verdict.specs.declared.verdict.Who.{Who}
+use Rattle.lsp_verdict.specs.declared.lines.Lines.{Lines}
 use Rattle.lsp_verdict.specs.Heard.{Heard, heard_events}
 use Rattle.lsp_verdict.specs.Shown.{event_line, line_at}
 use Rattle.lsp_replay.specs.declared.heard.EventPlace.{EventPlace}
+
+-- ---- the places of events
+
+-- the place of the event of theirs that comes after these, as far as 64 bits tell it
+abbrev pub place_next : List Event → Who → EventPlace
+place_next before by = record {
+  event = capped (length before + 1);
+  who = by;
+  number = capped (count_of (belongs_to by) before + 1);
+}
+
+-- **the place of the event that comes after these**: its number among all, whose it is, and its
+-- number among theirs
+abbrev pub place_of : List Event → Event → EventPlace
+place_of before event = place_next before (whose event)
+
+-- ---- the lines that show events, and their words
 
 -- the line of the event at this place, empty for a fault
 abbrev pub line_of : Lines → EventPlace → Event → List ℕ

@@ -12,7 +12,7 @@ use Rattle.lsp_log.specs.Records.{record_view}
 use Rattle.lsp_log.specs.declared.fault.LogCode.{LogCode}
 use Rattle.lsp_replay.specs.Streams as streams
 use Rattle.lsp_replay.specs.Streams.{IsHeld, IsRaw, LendsRest, Stands}
-use Rattle.lsp_verdict.specs.Lent.{raw_view}
+use Rattle.lsp_verdict.specs.Given.{raw_view}
 use Rattle.lsp_replay.specs.declared.log_events.Entry.{Entry}
 use Rattle.lsp_replay.specs.declared.log_events.Entry.TheVariants as entry
 use Rattle.lsp_replay.specs.declared.log_events.End.{End}
@@ -22,10 +22,9 @@ use Rattle.lsp_replay.specs.declared.log_events.Next.{Next}
 use Rattle.lsp_replay.specs.declared.log_events.Next.TheVariants as next
 use Rattle.lsp_replay.specs.declared.log_events.Step.{Step}
 use Rattle.lsp_replay.specs.declared.log_events.Step.TheVariants as step
-use Rattle.lsp_verdict.specs.Entries as entries
-use Rattle.lsp_verdict.specs.Entries.{IsAt, ShowsFault}
+use Rattle.lsp_verdict.specs.Runs as entries
+use Rattle.lsp_verdict.specs.Runs.{IsAt, ShowsFault, OfRead, BreaksOff, failures_after}
 use Rattle.lsp_verdict.specs.Placed.{Raw, Placed}
-use Rattle.lsp_verdict.specs.RunIo.{OfRead, BreaksOff, failures_after}
 use Rattle.lsp_verdict.specs.declared.outcome.RunFault.{RunFault}
 use Rattle.lsp_verdict.specs.declared.outcome.RunFault.TheVariants as faults
 

@@ -1,25 +1,42 @@
 -- For which events the parts that hear them stand, and what the next one makes of them.
 use Rattle.std.specs.Prelude.{◌≡◌, ◌⊎◌, ℕ, List, [], ◌∷◌, ◌++◌, Option, Some, None}
+use Rattle.lsp_rpc.specs.declared.fault.RpcFault.{RpcFault}
+use Rattle.lsp_rpc.specs.declared.fault.RpcFault.TheVariants as contents
 use Rattle.lsp_rpc.specs.Act.{Act}
 use Rattle.lsp_rpc.specs.Message as rpc
 use Rattle.lsp_rpc.specs.Outline.{outline, without_params}
-use Rattle.lsp_types.specs.declared.side.Side.{Side}
+use Rattle.lsp_session.specs.declared.refusal.Refusal.{Refusal}
+use Rattle.lsp_session.specs.declared.refusal.Refusal.TheVariants as messages
 use Rattle.lsp_session.specs.Handshake.{open_initializes}
 use Rattle.lsp_session.specs.Sent.{Sent}
 use Rattle.lsp_session.specs.State as session
+use Rattle.lsp_docs.specs.declared.fault.DocFault.{DocFault}
+use Rattle.lsp_docs.specs.declared.fault.DocFault.TheVariants as refused
 use Rattle.lsp_docs.specs.Calls.{Call}
 use Rattle.lsp_docs.specs.State as docs
-use Rattle.lsp_docs.specs.Terms.{Terms}
-use Rattle.lsp_docs.specs.declared.fault.DocFault.{DocFault}
+use Rattle.lsp_docs.specs.Documents.{Terms}
+use Rattle.lsp_types.specs.declared.side.Side.{Side}
 use Rattle.lsp_verdict.specs.declared.counts.Counts.{Counts}
-use Rattle.lsp_verdict.specs.Calls.{calls}
-use Rattle.lsp_verdict.specs.Contents.{IsSent, ReadsAs}
-use Rattle.lsp_verdict.specs.Counting.{AreCounts}
-use Rattle.lsp_verdict.specs.Event.{Event, message, fault, sent_in}
-use Rattle.lsp_verdict.specs.Placed.{Raw, content, broken, show, Reads}
+use Rattle.lsp_verdict.specs.Event.{calls, Event, message, fault, sent_in}
+use Rattle.lsp_verdict.specs.Placed.{IsSent, ReadsAs, Raw, content, broken, show, Reads}
+use Rattle.lsp_verdict.specs.Given.{AreCounts}
 use Rattle.lsp_verdict.specs.Verdict.{offence, first_no}
 use Rattle.lsp_replay.specs.declared.fault.Fault.{Fault}
 use Rattle.lsp_replay.specs.declared.fault.Fault.TheVariants as faults
+
+-- ---- the faults of the layers below, as those of an event
+
+abbrev pub of_reading : RpcFault → Fault
+of_reading (contents.Rule rule) = faults.Rule rule
+of_reading contents.Memory = faults.Memory
+
+abbrev pub of_message : Refusal → Fault
+of_message (messages.Rule rule) = faults.Rule rule
+of_message messages.Memory = faults.Memory
+
+abbrev pub of_call : DocFault → Fault
+of_call (refused.Rule rule) = faults.Rule rule
+of_call refused.Memory = faults.Memory
 
 -- ---- what is held
 

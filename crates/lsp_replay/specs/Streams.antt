@@ -1,11 +1,12 @@
 -- For which records, and which events of them, the streams of both sides stand.
 use Rattle.std.specs.Prelude.{◌≡◌, ℕ, ◌+◌, ◌<◌, ◌≤◌, List, [], ◌∷◌, ◌++◌, length, map, string_bytes}
-use Rattle.std.specs.Prelude.{Bool, false, Option, Some, None, IsSome, IfSome, Ok, Err}
+use Rattle.std.specs.Prelude.{Bool, false, if◌then◌else◌, Option, Some, None, IsSome, IfSome, Ok, Err}
 use Rattle.lsp_frame.specs.Bounds.{Bounds, IsInRange}
 use Rattle.lsp_frame.specs.Buffer.{last_of}
 use Rattle.lsp_frame.specs.Decoder as decoder
 use Rattle.lsp_frame.specs.Frame.{IsStream}
 use Rattle.lsp_log.specs.Log.{Record}
+use Rattle.lsp_session.specs.Sent.{same_side}
 use Rattle.lsp_replay.specs.declared.streams.Due.{Due}
 use Rattle.lsp_replay.specs.declared.streams.Due.TheVariants as due
 use Rattle.lsp_replay.specs.declared.streams.Snapshot.{Snapshot}
@@ -13,7 +14,7 @@ use Rattle.lsp_replay.specs.declared.streams.PendingEvents.{PendingEvents}
 use Rattle.lsp_replay.specs.declared.streams.PendingEvents.TheVariants as turn
 use Rattle.lsp_types.specs.declared.side.Side.{Side}
 use Rattle.lsp_types.specs.declared.side.Side.TheVariants.{Editor, Server}
-use Rattle.lsp_verdict.specs.Lent.{raw_view}
+use Rattle.lsp_verdict.specs.Given.{raw_view}
 use Rattle.lsp_verdict.specs.Outcome.{is_rest}
 use Rattle.lsp_verdict.specs.Placed.{Raw, content, broken, show, new_fault, Placed, joined}
 use Rattle.lsp_verdict.specs.declared.raw.Raw as code
@@ -29,9 +30,19 @@ pub record State : Type 0 where
   pub snapshot : Option Snapshot
   pub turn : Option PendingEvents
 
+abbrev pub of_side : Side → decoder.State → decoder.State → decoder.State
+of_side Editor editor server = editor
+of_side Server editor server = server
+
 abbrev pub decoder_of : Side → State → decoder.State
-decoder_of Editor s = s.editor
-decoder_of Server s = s.server
+decoder_of side s = of_side side s.editor s.server
+
+-- a side's decoder is this one
+abbrev pub put : Side → decoder.State → State → State
+put side d s = record s {
+  editor = of_side side d s.editor;
+  server = of_side side s.server d;
+}
 
 -- where a snapshot is to be given, it is held
 abbrev pub FitsTurn : Option PendingEvents → Option Snapshot → Type 0
@@ -80,10 +91,9 @@ StepsSide side old new next = StepsBy old.fault side old new next
 
 abbrev pub StepsAt : Option PendingEvents → State → State → Option Due → Type 0
 StepsAt None old new next = (next ≡ None) × (new ≡ record old { snapshot = None })
-StepsAt (Some (turn.Bytes Editor)) old new next =
-    StepsSide Editor old.editor new.editor next × (new ≡ record old { editor = new.editor })
-StepsAt (Some (turn.Bytes Server)) old new next =
-    StepsSide Server old.server new.server next × (new ≡ record old { server = new.server })
+StepsAt (Some (turn.Bytes side)) old new next =
+    StepsSide side (decoder_of side old) (decoder_of side new) next
+    × (new ≡ put side (decoder_of side new) old)
 StepsAt (Some turn.Snapshot) old new next =
     (next ≡ Some due.Snapshot) × (new ≡ record old { turn = None }) × IsSome new.snapshot
 
@@ -106,8 +116,7 @@ pub record IsDue (side : Side) (d : decoder.State) (bytes : List ℕ) (due : Lis
 
 -- of the events that are due, those of a side
 abbrev pub due_of : Side → Option PendingEvents → List Raw → List Raw
-due_of Editor (Some (turn.Bytes Editor)) due = due
-due_of Server (Some (turn.Bytes Server)) due = due
+due_of side (Some (turn.Bytes by)) due = if same_side side by then due else []
 due_of side turn due = []
 
 -- what is due of no side is the snapshot, or nothing
@@ -121,11 +130,10 @@ ShowsDue (Some turn.Snapshot) snapshot due = due ≡ shown snapshot
 pub record Stands (limits : Bounds) (s : State) (records : List Record)
     (given due : List Raw) : Type 0 where
   pub range : IsInRange limits
-  pub editor_limits : s.editor.limits ≡ limits
-  pub server_limits : s.server.limits ≡ limits
   pub placed : Placed limits records (given ++ due)
-  pub editor : IsDue Editor s.editor (joined Editor records) (due_of Editor s.turn due)
-  pub server : IsDue Server s.server (joined Server records) (due_of Server s.turn due)
+  pub own : (side : Side) → (decoder_of side s).limits ≡ limits
+  pub sides : (side : Side)
+      → IsDue side (decoder_of side s) (joined side records) (due_of side s.turn due)
   pub shows : ShowsDue s.turn s.snapshot due
 
 -- ---- the next event

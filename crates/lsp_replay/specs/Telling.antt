@@ -1,11 +1,10 @@
 -- What an account is told, and what it owes.
 use Rattle.std.specs.Prelude.{◌≡◌, ℕ, ◌+◌, ◌<◌, ◌^◌, List, [], ◌∷◌, ◌++◌, length, true, false}
 use Rattle.std.specs.Prelude.{Option, Some, None, IsSome, option_map}
-use Rattle.lsp_docs.specs.Answer.{answer_of}
-use Rattle.lsp_docs.specs.Documents.{held}
-use Rattle.lsp_docs.specs.Kept.{kept}
+use Rattle.lsp_docs.specs.Stored.{answer_of}
+use Rattle.lsp_docs.specs.Documents.{held, Terms}
+use Rattle.lsp_docs.specs.Snapshots.{kept}
 use Rattle.lsp_docs.specs.State as docs
-use Rattle.lsp_docs.specs.Terms.{Terms}
 use Rattle.lsp_frame.specs.Front.{header_front}
 use Rattle.lsp_log.specs.Reader.{shown_by}
 use Rattle.lsp_rpc.specs.Outline.{outline}
@@ -19,17 +18,16 @@ use Rattle.lsp_replay.specs.Run.{Run, Tail}
 use Rattle.lsp_replay.specs.Standing.{HasValue, Holds}
 use Rattle.lsp_replay.specs.Streams as streams
 use Rattle.lsp_replay.specs.Streams.{decoder_of}
+use Rattle.lsp_replay.specs.Tries.{MayTry}
 use Rattle.lsp_replay.specs.declared.log_events.End.{End}
 use Rattle.lsp_replay.specs.declared.log_events.LogEvents.{LogEvents}
 use Rattle.lsp_replay.specs.declared.seen.Flow.{Flow}
 use Rattle.lsp_replay.specs.declared.seen.Flow.TheVariants.{GoOn, Stop}
 use Rattle.lsp_replay.specs.declared.seen.Seen.{Seen}
 use Rattle.lsp_replay.specs.declared.seen.Seen.TheVariants as seen
-use Rattle.lsp_verdict.specs.Calls.{calls}
-use Rattle.lsp_verdict.specs.Counting.{AreCounts}
-use Rattle.lsp_verdict.specs.Event.{Event, message}
+use Rattle.lsp_verdict.specs.Event.{calls, Event, message}
+use Rattle.lsp_verdict.specs.Given.{AreCounts, raw_view}
 use Rattle.lsp_verdict.specs.Heard.{Heard, Rests, heard_events, rest_of}
-use Rattle.lsp_verdict.specs.Lent.{raw_view}
 use Rattle.lsp_verdict.specs.Offences.{IsNoted, has_broken, kept_of, rule_at}
 use Rattle.lsp_verdict.specs.Outcome.{is_rest}
 use Rattle.lsp_verdict.specs.Placed.{Raw, content, show}
@@ -87,9 +85,11 @@ SeenAs (seen.Snapshot version uri text answer) terms before h =
     (h.raw ≡ show version uri.now text.now) × (rule_of terms before h ≡ None)
     × (answer ≡ answer_of version (kept terms uri.now (calls (kept_before terms before)))
     (held terms uri.now (calls (kept_before terms before))))
-SeenAs (seen.Offence raw rule spoken) terms before h =
+SeenAs (seen.Offence raw rule spoken tried) terms before h =
     (h.raw ≡ raw_view raw) × (rule_of terms before h ≡ Some rule)
     × MaySpeak (kept_before terms before) h.note.event (option_map (λ s. s.now) spoken)
+    × MayTry terms (kept_before terms before) rule (option_map (λ s. s.now) spoken)
+    (option_map (λ t. t.now) tried)
 
 -- **this was seen of an event after these**
 pub record IsSeen (messages : session.State) (documents : docs.State) (counts : Counts) (s : Seen)
@@ -109,7 +109,7 @@ ShowsFault (lent.Snapshot version uri text) rests = Unit {0}
 abbrev pub FitsRests : Seen → Rests → Type 0
 FitsRests (seen.Message side bytes spoken) rests = Unit {0}
 FitsRests (seen.Snapshot version uri text answer) rests = Unit {0}
-FitsRests (seen.Offence raw rule spoken) rests = ShowsFault raw rests
+FitsRests (seen.Offence raw rule spoken tried) rests = ShowsFault raw rests
 
 -- **one more event comes after these**, which were told
 pub record Comes (raw : Raw) (terms : Terms) (messages : session.State) (documents : docs.State)

@@ -1,7 +1,7 @@
 //! What a run says of a log.
 ghost use Rattle.std.specs.Prelude.{◌≡◌, ◌++◌, ◌∷◌, ◌+◌, ◌<◌, ◌^◌, [], List, IfOk, length};
 ghost use Rattle.std.specs.Prelude.{string_bytes};
-ghost use Rattle.lsp_docs.specs.Terms.{Terms};
+ghost use Rattle.lsp_docs.specs.Documents.{Terms};
 ghost use Rattle.lsp_replay.specs.Run.{Run};
 ghost use Rattle.lsp_replay.specs.Telling.{Closes, FitsRests, IsEnd, IsSeen, Says, Stood};
 ghost use Rattle.lsp_verdict.specs.Heard.{Heard};
@@ -9,10 +9,9 @@ ghost use Rattle.lsp_verdict.specs.Heard.{Heard};
 use crate::events::Events;
 use crate::log_events::{End, LogEvents};
 use crate::seen::{Flow, Seen};
-use lsp_rpc::Memory;
+use lsp_rpc::Result;
 use lsp_text::Lined;
 use lsp_verdict::Outcome;
-use std::alloc::Global;
 
 /// What a run says of a log, event by event, and at its end. It adds to a text, and writes nothing.
 pub trait Account {
@@ -29,13 +28,7 @@ pub trait Account {
     ///
     /// # Errors
     /// `Memory` where memory was refused.
-    fn event(
-        &mut self,
-        alloc: Global,
-        held: &Events<Lined>,
-        seen: Seen<'_>,
-        text: &mut String,
-    ) -> Result<Flow, Memory>
+    fn event(&mut self, held: &Events<Lined>, seen: Seen<'_>, text: &mut String) -> Result<Flow>
         ensures asked { asked self.new ≡ asked self.old }
         ensures says { IfOk result (λ flow. (terms : Terms) (before : List Heard) (h : Heard)
             → stands self.old terms before
@@ -51,12 +44,11 @@ pub trait Account {
     /// `Memory` where memory was refused.
     fn end(
         &mut self,
-        alloc: Global,
         held: &Events<Lined>,
         log: &LogEvents,
         end: End,
         text: &mut String,
-    ) -> Result<Outcome, Memory>
+    ) -> Result<Outcome>
         ensures closes { IfOk result (λ outcome. (terms : Terms) (heard : List Heard)
             → stands self.old terms heard
             → Stood terms held.now.session held.now.docs held.now.counts heard

@@ -1,21 +1,24 @@
 //! The events of a session, heard one after another.
 ghost use Rattle.std.specs.Prelude.{◌≡◌, [], ℕ, List, IfErr, OnOk, OnErr};
 ghost use Rattle.lsp_rpc.specs.View.{act_view, message_view};
-ghost use Rattle.lsp_docs.specs.Terms.{Terms, terms_of};
+ghost use Rattle.lsp_docs.specs.Calls.{Call};
+ghost use Rattle.lsp_docs.specs.Fault.{IsRule};
+ghost use Rattle.lsp_docs.specs.State as documents;
+ghost use Rattle.lsp_docs.specs.Documents.{terms_of};
+ghost use Rattle.lsp_docs.specs.Tried.{tried_in};
 ghost use Rattle.lsp_outline.specs.declared.outline.Results.TheVariants.{LeftOut};
 ghost use Rattle.lsp_session.specs.Handshake.{open_initializes};
 ghost use Rattle.lsp_session.specs.Sent.{Sent};
 ghost use Rattle.lsp_session.specs.State.{Stands};
-ghost use Rattle.lsp_verdict.specs.Calls.{call_of};
-ghost use Rattle.lsp_verdict.specs.Event.{Event};
+ghost use Rattle.lsp_verdict.specs.Event.{call_of, Event};
 ghost use Rattle.lsp_replay.specs.Apart.{Says};
-ghost use Rattle.lsp_verdict.specs.Lent.{raw_view};
+ghost use Rattle.lsp_verdict.specs.Given.{raw_view};
 ghost use Rattle.lsp_replay.specs.Standing.{Follows, Hears, Holds, IsUnread, RefusesBy};
 ghost use Rattle.lsp_replay.specs.Standing.{RefusesCall, RefusesFor, Takes, TakesCall};
-ghost use Rattle.lsp_verdict.specs.Placed as placed;
+ghost use Rattle.lsp_replay.specs.Tries.{IsTriedOf, Tries};
 
 use crate::fault::Fault;
-use lsp_docs::{DocFault, Docs};
+use lsp_docs::{DocFault, Docs, Tried};
 use lsp_frame::{Format, Limits};
 use lsp_outline::{MessageReader, Results};
 use lsp_rpc::{Act, Encoding, Side, Spoken, SyncKind};
@@ -34,6 +37,8 @@ pub struct Events<S: TextStore> {
     pub docs: Docs<S>,
     pub counts: Counts,
     pub(crate) messages: MessageReader,
+    /// What was tried of the changes that the documents refused last.
+    pub(crate) tried: Option<Tried<S>>,
 }
 
 impl<S: TextStore> Events<S> {
@@ -47,6 +52,7 @@ impl<S: TextStore> Events<S> {
             docs: Docs::of_format(alloc, limits, format),
             counts: Counts::new(),
             messages: MessageReader::new(alloc),
+            tried: None,
         }
     }
 
@@ -71,7 +77,16 @@ impl<S: TextStore> Events<S> {
         match raw {
             Raw::Content { side, content } => {
                 let mut spoken = self.messages.blank();
-                self.take_content(side, content, &mut spoken)
+                read_into(
+                    &self.session,
+                    &mut self.messages,
+                    side,
+                    content,
+                    &mut spoken,
+                )?;
+                self.follow(side, &spoken)?;
+                self.counts.add(who_of(side));
+                Ok(())
             }
             Raw::Broken { rule, .. } => Err(Fault::Rule(rule)),
             Raw::Snapshot { version, uri, text } => {
@@ -83,32 +98,13 @@ impl<S: TextStore> Events<S> {
         }
     }
 
-    /// Takes a content of a side, which is read in the place of this message.
-    fn take_content(&mut self, side: Side, content: &[u8], spoken: &mut Spoken) -> Result<(), Fault>
-        ensures terms { self.new.docs.terms ≡ self.old.docs.terms }
-        ensures ok { OnOk result (Takes (placed.content side content.now) self.old.docs.terms
-            self.old.counts self.old.session self.old.docs self.new.session self.new.docs
-            self.new.counts) }
-        ensures rule { IfErr result (λ fault. (events : List Event)
-            → Holds self.old.session self.old.docs events
-            → RefusesFor (placed.content side content.now) self.old.docs.terms events fault) }
-        ensures err { OnErr result ((events : List Event)
-            → Holds self.old.session self.old.docs events
-            → Holds self.new.session self.new.docs events) }
-        ensures uncounted { OnErr result (self.new.counts ≡ self.old.counts) }
-    {
-        read_into(&self.session, &mut self.messages, side, content, spoken)?;
-        self.follow(side, spoken)?;
-        self.counts.add(who_of(side));
-        Ok(())
-    }
-
     /// Admits the message that a content is, and takes over what it says about a document. The
     /// counts stay.
     ///
     /// # Errors
     /// `Rule` by the least of the rules 301 to 702 that the message offends, and `Memory` where
-    /// memory was refused. What is held stays, so that the event after it can be heard.
+    /// memory was refused. What is held stays, so that the event after it can be heard, and what
+    /// was tried of refused changes is kept.
     pub fn follow(&mut self, side: Side, spoken: &Spoken) -> Result<(), Fault>
         ensures terms { self.new.docs.terms ≡ self.old.docs.terms }
         ensures counts { self.new.counts ≡ self.old.counts }
@@ -126,6 +122,10 @@ impl<S: TextStore> Events<S> {
             → Holds self.old.session self.old.docs events
             → RefusesBy side content (message_view spoken.now.message)
             (act_view spoken.now.act) self.old.docs.terms events fault) }
+        ensures tried { IfErr result (λ fault. (events : List Event)
+            → Holds self.old.session self.old.docs events
+            → Tries self.old.docs.terms events (act_view spoken.now.act) fault
+            (tried_in S.content self.new.tried)) }
         ensures err { OnErr result ((content : List ℕ) (events : List Event)
             → Says self.old.session side content (message_view spoken.now.message)
             (act_view spoken.now.act)
@@ -135,7 +135,7 @@ impl<S: TextStore> Events<S> {
         let encoding = self.session.encoding().unwrap_or(Encoding::Utf16);
         let kind = self.session.sync_kind().unwrap_or(SyncKind::Nothing);
         self.session.admit(side, &spoken.message, &spoken.act)?;
-        apply(&mut self.docs, encoding, kind, &spoken.act)?;
+        apply(&mut self.docs, encoding, kind, &spoken.act, &mut self.tried)?;
         Ok(())
     }
 }
@@ -178,10 +178,14 @@ fn apply<S: TextStore>(
     encoding: Encoding,
     kind: SyncKind,
     act: &Act,
+    tried: &mut Option<Tried<S>>,
 ) -> Result<(), DocFault>
     ensures accepts { OnOk result
         (TakesCall docs.old docs.new (call_of encoding kind (act_view act.now))) }
     ensures refuses { IfErr result (RefusesCall docs.old (call_of encoding kind (act_view act.now))) }
+    ensures tried { IfErr result (λ fault. (calls : List Call) → documents.Stands docs.old calls
+        → IsRule fault → IsTriedOf docs.old.terms calls (call_of encoding kind (act_view act.now))
+        (tried_in S.content tried.new)) }
     ensures err { OnErr result (docs.new ≡ docs.old) }
 {
     match act {
@@ -194,7 +198,8 @@ fn apply<S: TextStore>(
             changes,
         } => {
             let version = *version;
-            docs.did_change(encoding, kind, uri.as_str(), version, changes.as_slice())?
+            let uri = uri.as_str();
+            docs.try_change(encoding, kind, uri, version, changes.as_slice(), tried)?
         }
         Act::DidClose { uri } => docs.did_close(uri.as_str())?,
         Act::DidSave { uri, text } => {

@@ -2,7 +2,7 @@
 ghost use Rattle.std.specs.Prelude.{◌≡◌, IfOk};
 
 use lsp_docs::DocFault;
-use lsp_rpc::{Memory, RpcFault};
+use lsp_rpc::{Memory, Result, RpcFault};
 use lsp_session::Refusal;
 
 /// Why an event is refused: by its least rule, or because memory was refused.
@@ -17,7 +17,7 @@ impl Fault {
     ///
     /// # Errors
     /// `Memory` where memory was refused.
-    pub(crate) fn rule(self) -> Result<u16, Memory>
+    pub(crate) fn rule(self) -> Result<u16>
         ensures { IfOk result (λ rule. self ≡ Fault.Rule rule) }
     {
         match self {
@@ -28,7 +28,7 @@ impl Fault {
 }
 
 impl From<RpcFault> for Fault {
-    ghost use Rattle.lsp_replay.specs.Faults.{of_reading};
+    ghost use Rattle.lsp_replay.specs.Standing.{of_reading};
 
     ghost from_gives = { λ fault e. e ≡ of_reading fault };
 
@@ -41,7 +41,7 @@ impl From<RpcFault> for Fault {
 }
 
 impl From<Refusal> for Fault {
-    ghost use Rattle.lsp_replay.specs.Faults.{of_message};
+    ghost use Rattle.lsp_replay.specs.Standing.{of_message};
 
     ghost from_gives = { λ refusal e. e ≡ of_message refusal };
 
@@ -54,7 +54,7 @@ impl From<Refusal> for Fault {
 }
 
 impl From<DocFault> for Fault {
-    ghost use Rattle.lsp_replay.specs.Faults.{of_call};
+    ghost use Rattle.lsp_replay.specs.Standing.{of_call};
 
     ghost from_gives = { λ fault e. e ≡ of_call fault };
 

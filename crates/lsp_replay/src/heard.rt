@@ -1,7 +1,7 @@
 //! Where an event stands.
 ghost use Rattle.std.specs.Prelude.{◌≡◌, List, [], ◌∷◌, ◌++◌};
-ghost use Rattle.lsp_replay.specs.Places.{place_of};
-ghost use Rattle.lsp_verdict.specs.Counting.{AreCounts};
+ghost use Rattle.lsp_replay.specs.Lines.{place_of};
+ghost use Rattle.lsp_verdict.specs.Given.{AreCounts};
 ghost use Rattle.lsp_verdict.specs.Event.{Event};
 ghost use Rattle.lsp_verdict.specs.Verdict as spec;
 

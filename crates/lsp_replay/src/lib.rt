@@ -2,14 +2,16 @@
 //! it breaks after the events before it, and the result of those that keep the rules.
 //!
 //! `LogEvents` gives the events of a log one after another. `Events` stands for the events that it
-//! heard. An event that breaks a rule is refused, and leaves what is held as it was, so that the next
-//! event can be heard after those before it.
+//! heard: one that breaks a rule is refused, and leaves what is held as it was, so that the next can
+//! be heard after those before it. `pass` reads a log, hears its events, skips each that offends, and
+//! lends them all to the `Account` of a run, whose text it writes.
 #![tactic(auto)]
 
 mod account;
 mod events;
 mod fault;
 mod heard;
+mod held_text;
 mod lines;
 mod log_events;
 mod one_pass;
@@ -22,9 +24,10 @@ pub use account::Account;
 pub use events::Events;
 pub use fault::Fault;
 pub use heard::EventPlace;
+pub use held_text::HeldText;
 pub use log_events::{End, Entry, LogEvents, Next};
 pub use one_pass::pass;
-pub use seen::{Flow, Seen, push_kept_line};
+pub use seen::{Flow, Seen, last_offence, push_kept_line};
 pub use streams::Streams;
 pub use summary::summary_of;
 pub use text_answer::TextAnswer;

@@ -7,7 +7,7 @@ ghost use Rattle.lsp_frame.specs.declared.format.Format.{Format};
 ghost use Rattle.lsp_log.specs.Log as log;
 ghost use Rattle.lsp_log.specs.Reader.{KeepsFormat, shown_by};
 ghost use Rattle.lsp_verdict.specs.Placed as placed;
-ghost use Rattle.lsp_verdict.specs.RunIo.{BreaksOff};
+ghost use Rattle.lsp_verdict.specs.Runs.{BreaksOff};
 ghost use Rattle.lsp_replay.specs.LogEvents.{Brings, Finds, HoldsStep, IsIdle, Opens, Reads, Takes};
 ghost use Rattle.lsp_replay.specs.LogEvents.{unread};
 ghost use Rattle.lsp_replay.specs.LogLending.{LendsNext};

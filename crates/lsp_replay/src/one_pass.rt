@@ -1,22 +1,23 @@
 //! One pass over a log.
 ghost use Rattle.std.specs.Prelude.{◌≡◌, ◌++◌, ◌∷◌, ◌+◌, ◌<◌, ◌^◌, [], List, IfOk, IfErr, length};
 ghost use Rattle.std.specs.Prelude.{None, OnErr, OnOk, Option, Some, option_map, string_bytes};
-ghost use Rattle.lsp_docs.specs.Terms.{Terms};
+ghost use Rattle.lsp_docs.specs.Documents.{Terms};
 ghost use Rattle.lsp_frame.specs.Bounds.{IsInRange};
 ghost use Rattle.lsp_frame.specs.Sink.{Writes};
 ghost use Rattle.lsp_frame.specs.Told.{Told};
 ghost use Rattle.lsp_rpc.specs.View.{act_view, message_view};
 ghost use Rattle.lsp_replay.specs.Apart as apart;
 ghost use Rattle.lsp_replay.specs.LogEvents.{Opens};
-ghost use Rattle.lsp_replay.specs.Passes.{Passes, Steps};
+ghost use Rattle.lsp_replay.specs.Run.{Passes, Steps};
 ghost use Rattle.lsp_replay.specs.Telling.{Comes, DueAtEnd, DueOf, MaySpeak, Saw, ShowsFault};
 ghost use Rattle.lsp_replay.specs.Telling.{Stood};
 ghost use Rattle.lsp_replay.specs.Telling.{kept_before, rule_of};
+ghost use Rattle.lsp_replay.specs.Tries.{MayTry};
 ghost use Rattle.lsp_verdict.specs.Heard.{Heard};
-ghost use Rattle.lsp_verdict.specs.Lent.{raw_view};
+ghost use Rattle.lsp_verdict.specs.Given.{raw_view};
 ghost use Rattle.lsp_verdict.specs.Outcome.{log_terms};
 ghost use Rattle.lsp_verdict.specs.Placed as placed;
-ghost use Rattle.lsp_verdict.specs.RunIo.{BreaksOff};
+ghost use Rattle.lsp_verdict.specs.Runs.{BreaksOff};
 
 use crate::account::Account;
 use crate::events::{Events, read_into};
@@ -24,7 +25,7 @@ use crate::fault::Fault;
 use crate::log_events::{End, LogEvents, Next};
 use crate::seen::{Flow, Seen};
 use lsp_frame::{Format, Limits, Sink, Source, WriteFault, put_all};
-use lsp_rpc::{Memory, Side, Spoken};
+use lsp_rpc::{Result, Side, Spoken};
 use lsp_text::Lined;
 use lsp_verdict::{Outcome, Raw, RunFault, Who, who_of};
 use std::alloc::Global;
@@ -64,7 +65,7 @@ pub fn pass<R: Source, W: Sink, A: Account>(
         (R.told reader.new) (W.told writer.old) (W.told writer.new) result }
 {
     let mut reading = open(alloc, reader, limits)?;
-    read_log(alloc, &mut reading, reader, writer, limits, account)
+    read_log(&mut reading, reader, writer, limits, account)
 }
 
 /// A log that is read up to its first record, of which nothing was heard.
@@ -86,7 +87,6 @@ fn open<R: Source>(alloc: Global, reader: &mut R, limits: Limits) -> Result<Read
 
 /// Reads a log that was opened, and writes what an account says of it.
 fn read_log<R: Source, W: Sink, A: Account>(
-    alloc: Global,
     reading: &mut Reading,
     reader: &mut R,
     writer: &mut W,
@@ -104,10 +104,10 @@ fn read_log<R: Source, W: Sink, A: Account>(
     loop {
         match reading.log.next(reader) {
             Err(fault) => return Err(fault),
-            Ok(Next::End(end)) => return close(alloc, reading, writer, account, end),
+            Ok(Next::End(end)) => return close(reading, writer, account, end),
             Ok(Next::Event(raw)) => {
                 let text = &mut reading.text;
-                match tell(alloc, &mut reading.held, text, writer, account, raw)? {
+                match tell(&mut reading.held, text, writer, account, raw)? {
                     Flow::GoOn => {}
                     Flow::Stop(outcome) => return Ok(Box::into_inner(outcome)),
                 }
@@ -118,7 +118,6 @@ fn read_log<R: Source, W: Sink, A: Account>(
 
 /// Writes what an account says at the end of a log.
 fn close<W: Sink, A: Account>(
-    alloc: Global,
     reading: &mut Reading,
     writer: &mut W,
     account: &mut A,
@@ -132,14 +131,13 @@ fn close<W: Sink, A: Account>(
 {
     let text = &mut reading.text;
     text.clear();
-    let outcome = account.end(alloc, &reading.held, &reading.log, end, text)?;
+    let outcome = account.end(&reading.held, &reading.log, end, text)?;
     put_text(writer, text.as_str())?;
     Ok(outcome)
 }
 
 /// Writes what an account says of the next event.
 fn tell<W: Sink, A: Account>(
-    alloc: Global,
     held: &mut Events<Lined>,
     text: &mut String,
     writer: &mut W,
@@ -156,19 +154,18 @@ fn tell<W: Sink, A: Account>(
         held.new.counts) result }
 {
     text.clear();
-    let flow = see(alloc, held, account, raw, text)?;
+    let flow = see(held, account, raw, text)?;
     put_text(writer, text.as_str())?;
     Ok(flow)
 }
 
 /// Hears the next event, and adds to a text what an account says of it.
 fn see<A: Account>(
-    alloc: Global,
     held: &mut Events<Lined>,
     account: &mut A,
     raw: Raw<'_>,
     text: &mut String,
-) -> Result<Flow, Memory>
+) -> Result<Flow>
     ensures asked { A.asked account.new ≡ A.asked account.old }
     ensures saw { IfOk result (λ flow. (terms : Terms) (before : List Heard) (h : Heard)
         → Comes (raw_view raw.entry) terms held.old.session held.old.docs held.old.counts before h
@@ -181,27 +178,26 @@ fn see<A: Account>(
     match raw {
         Raw::Content { side, content } => {
             let mut spoken = held.messages.blank();
-            see_content(alloc, held, account, side, content, &mut spoken, text)
+            see_content(held, account, side, content, &mut spoken, text)
         }
-        Raw::Broken { rule, .. } => skip(alloc, held, account, raw, rule, None, text),
+        Raw::Broken { rule, .. } => skip(held, account, raw, rule, None, text),
         Raw::Snapshot {
             version,
             uri,
             text: shown,
-        } => see_shown(alloc, held, account, version, uri, shown, text),
+        } => see_shown(held, account, version, uri, shown, text),
     }
 }
 
 /// Hears a content of a side, in the place of this message, and adds what an account says of it.
 fn see_content<A: Account>(
-    alloc: Global,
     held: &mut Events<Lined>,
     account: &mut A,
     side: Side,
     content: &[u8],
     spoken: &mut Spoken,
     text: &mut String,
-) -> Result<Flow, Memory>
+) -> Result<Flow>
     ensures asked { A.asked account.new ≡ A.asked account.old }
     ensures saw { IfOk result (λ flow. (terms : Terms) (before : List Heard) (h : Heard)
         → Comes (placed.content side content.now) terms held.old.session held.old.docs
@@ -212,25 +208,24 @@ fn see_content<A: Account>(
         held.new.counts flow) }
 {
     match read_into(&held.session, &mut held.messages, side, content, spoken) {
-        Ok(()) => see_message(alloc, held, account, side, content, spoken, text),
+        Ok(()) => see_message(held, account, side, content, spoken, text),
         Err(fault) => {
             let rule = fault.rule()?;
             let raw = Raw::Content { side, content };
-            skip(alloc, held, account, raw, rule, None, text)
+            skip(held, account, raw, rule, None, text)
         }
     }
 }
 
 /// Hears a message of a side, which this content is, and adds what an account says of it.
 fn see_message<A: Account>(
-    alloc: Global,
     held: &mut Events<Lined>,
     account: &mut A,
     side: Side,
     content: &[u8],
     spoken: &Spoken,
     text: &mut String,
-) -> Result<Flow, Memory>
+) -> Result<Flow>
     ensures asked { A.asked account.new ≡ A.asked account.old }
     ensures saw { IfOk result (λ flow. (terms : Terms) (before : List Heard) (h : Heard)
         → Comes (placed.content side content.now) terms held.old.session held.old.docs
@@ -250,27 +245,26 @@ fn see_message<A: Account>(
                 content,
                 spoken,
             };
-            let flow = account.event(alloc, held, seen, text)?;
+            let flow = account.event(held, seen, text)?;
             Ok(flow)
         }
         Err(fault) => {
             let rule = fault.rule()?;
             let raw = Raw::Content { side, content };
-            skip(alloc, held, account, raw, rule, Some(spoken), text)
+            skip(held, account, raw, rule, Some(spoken), text)
         }
     }
 }
 
 /// Hears a text that the editor showed, and adds what an account says of it.
 fn see_shown<A: Account>(
-    alloc: Global,
     held: &mut Events<Lined>,
     account: &mut A,
     version: i32,
     uri: &str,
     shown: &str,
     text: &mut String,
-) -> Result<Flow, Memory>
+) -> Result<Flow>
     ensures asked { A.asked account.new ≡ A.asked account.old }
     ensures saw { IfOk result (λ flow. (terms : Terms) (before : List Heard) (h : Heard)
         → Comes (placed.show version uri.now shown.now) terms held.old.session held.old.docs
@@ -289,7 +283,7 @@ fn see_shown<A: Account>(
                 text: shown,
                 answer,
             };
-            let flow = account.event(alloc, held, seen, text)?;
+            let flow = account.event(held, seen, text)?;
             Ok(flow)
         }
         Err(fault) => {
@@ -299,7 +293,7 @@ fn see_shown<A: Account>(
                 uri,
                 text: shown,
             };
-            skip(alloc, held, account, raw, rule, None, text)
+            skip(held, account, raw, rule, None, text)
         }
     }
 }
@@ -308,14 +302,13 @@ fn see_shown<A: Account>(
 #[cold]
 #[inline(never)]
 fn skip<A: Account>(
-    alloc: Global,
     held: &mut Events<Lined>,
     account: &mut A,
     raw: Raw<'_>,
     rule: u16,
     spoken: Option<&Spoken>,
     text: &mut String,
-) -> Result<Flow, Memory>
+) -> Result<Flow>
     ensures asked { A.asked account.new ≡ A.asked account.old }
     ensures saw { IfOk result (λ flow. (terms : Terms) (before : List Heard) (h : Heard)
         → Comes (raw_view raw.entry) terms held.old.session held.old.docs held.old.counts before h
@@ -323,14 +316,22 @@ fn skip<A: Account>(
         → rule_of terms before h ≡ Some rule
         → MaySpeak (kept_before terms before) h.note.event
         (option_map (λ s. s.now) spoken.entry)
+        → MayTry terms (kept_before terms before) rule (option_map (λ s. s.now) spoken.entry)
+        held.old.tried
         → Saw (A.run (A.asked account.old)) terms before h (ShowsFault raw.entry)
         (string_bytes text.old) (string_bytes text.new)
         (A.stands account.new terms (before ++ h ∷ [])) held.new.session held.new.docs
         held.new.counts flow) }
 {
     held.counts.add(raw.who());
-    let seen = Seen::Offence { raw, rule, spoken };
-    let flow = account.event(alloc, held, seen, text)?;
+    let seen = Seen::Offence {
+        raw,
+        rule,
+        spoken,
+        tried: held.tried.as_ref(),
+    };
+    let flow = account.event(held, seen, text)?;
+    held.tried = None;
     Ok(flow)
 }
 

@@ -1,18 +1,21 @@
 //! What happened at an event, as an account is told it.
-ghost use Rattle.std.specs.Prelude.{◌≡◌, ◌++◌, List, None, OnOk, string_bytes};
-ghost use Rattle.lsp_docs.specs.Terms.{Terms};
+ghost use Rattle.std.specs.Prelude.{◌≡◌, ◌++◌, ◌∷◌, ◌+◌, ◌<◌, ◌^◌, [], List, None, OnOk, length};
+ghost use Rattle.std.specs.Prelude.{string_bytes};
+ghost use Rattle.lsp_docs.specs.Documents.{Terms};
 ghost use Rattle.lsp_replay.specs.Lines.{heard_line};
 ghost use Rattle.lsp_replay.specs.Telling.{IsSeen, rule_of};
-ghost use Rattle.lsp_verdict.specs.Heard.{Heard};
+ghost use Rattle.lsp_verdict.specs.Given.{AreCounts, offence_view, raw_view};
+ghost use Rattle.lsp_verdict.specs.Heard.{Heard, heard_events};
+ghost use Rattle.lsp_verdict.specs.Offences.{IsNoted};
+ghost use Rattle.lsp_verdict.specs.Verdict.{no_by};
 
 use crate::events::Events;
 use crate::heard::EventPlace;
 use crate::lines::{push_message_line, push_snapshot_line};
-use lsp_docs::Match;
-use lsp_rpc::{Memory, Side, Spoken};
+use lsp_docs::{Match, Tried};
+use lsp_rpc::{Result, Side, Spoken};
 use lsp_text::Lined;
-use lsp_verdict::{Lines, Outcome, Raw, Who, who_of};
-use std::alloc::Global;
+use lsp_verdict::{Counts, Lines, Offence, Outcome, Raw, Who, who_of};
 
 /// What happened at an event, which is counted. All of it is lent.
 #[derive(Clone, Copy)]
@@ -32,11 +35,13 @@ pub enum Seen<'a> {
         answer: Match,
     },
     /// An event that offends, by its least rule, and is skipped: session and documents are those
-    /// before it. Where it is a message (301 to 702), it is given as one that is kept.
+    /// before it. Where it is a message (301 to 702), it is given as one that is kept, with what was
+    /// tried of its changes.
     Offence {
         raw: Raw<'a>,
         rule: u16,
         spoken: Option<&'a Spoken>,
+        tried: Option<&'a Tried<Lined>>,
     },
 }
 
@@ -54,12 +59,11 @@ pub enum Flow {
 /// # Errors
 /// `Memory` where memory was refused.
 pub fn push_kept_line(
-    alloc: Global,
     text: &mut String,
     lines: Lines,
     held: &Events<Lined>,
     seen: Seen<'_>,
-) -> Result<(), Memory>
+) -> Result<()>
     ensures { OnOk result ((terms : Terms) (before : List Heard) (h : Heard)
         → IsSeen held.now.session held.now.docs held.now.counts seen.entry terms before h
         → rule_of terms before h ≡ None
@@ -68,7 +72,7 @@ pub fn push_kept_line(
     match seen {
         Seen::Message { side, spoken, .. } => {
             let place = EventPlace::last(&held.counts, who_of(side));
-            push_message_line(alloc, text, lines, place, side, spoken)
+            push_message_line(text, lines, place, side, spoken)
         }
         Seen::Snapshot {
             version,
@@ -77,8 +81,25 @@ pub fn push_kept_line(
             ..
         } => {
             let place = EventPlace::last(&held.counts, Who::Snapshot);
-            push_snapshot_line(alloc, text, lines, place, version, uri, shown)
+            push_snapshot_line(text, lines, place, version, uri, shown)
         }
         Seen::Offence { .. } => Ok(()),
+    }
+}
+
+/// The offence against this rule at the event that was counted last, which is this one.
+pub fn last_offence(counts: &Counts, raw: Raw<'_>, rule: u16, follows: bool) -> Offence
+    ensures { (before : List Heard) (h : Heard)
+        → AreCounts counts.now (heard_events (before ++ h ∷ [])) → length before + 1 < 2 ^ 64
+        → h.raw ≡ raw_view raw.entry → IsNoted h.raw h.note → offence_view result
+        ≡ record { no = no_by (heard_events before) h.note.event rule; follows = follows } }
+{
+    let EventPlace { event, who, number } = EventPlace::last(counts, raw.who());
+    Offence {
+        rule,
+        who,
+        number,
+        event,
+        follows,
     }
 }

@@ -6,13 +6,13 @@ ghost use Rattle.lsp_log.specs.Log as log;
 ghost use Rattle.lsp_log.specs.Records.{record_view};
 ghost use Rattle.lsp_verdict.specs.Placed as placed;
 ghost use Rattle.lsp_replay.specs.Streams.{Stands, Steps, StepsSide, IsHeld, IsRaw, LendsRest};
-ghost use Rattle.lsp_verdict.specs.Lent.{raw_view};
 ghost use Rattle.lsp_replay.specs.Streams.{decoder_of, ends_inside};
+ghost use Rattle.lsp_verdict.specs.Given.{raw_view};
 ghost use Rattle.lsp_replay.specs.Lending.{LendsRaw};
 
 use lsp_frame::{Decoder, Limits};
 use lsp_log::Record;
-use lsp_rpc::{Memory, Side};
+use lsp_rpc::{Result, Side};
 use lsp_verdict::Raw;
 use std::alloc::Global;
 use std::marker::Model;
@@ -91,7 +91,7 @@ impl Streams {
     ///
     /// # Errors
     /// `Memory` where it was refused; nothing changes then.
-    pub fn push(&mut self, entry: Record) -> Result<(), Memory>
+    pub fn push(&mut self, entry: Record) -> Result<()>
         ensures ok { OnOk result
             ((limits : Bounds) (records : List log.Record) (given : List placed.Raw)
             → Stands limits self.old records given []

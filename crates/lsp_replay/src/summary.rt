@@ -1,9 +1,8 @@
 //! The result of a session that keeps the rules.
 ghost use Rattle.std.specs.Prelude.{◌≡◌, ◌++◌, List, Some, map, IfOk, OnOk};
 ghost use Rattle.lsp_session.specs.Entry.{request_view};
-ghost use Rattle.lsp_docs.specs.Calls.{Call};
+ghost use Rattle.lsp_docs.specs.Calls.{Call, byte_len};
 ghost use Rattle.lsp_docs.specs.Documents.{Version, held, documents};
-ghost use Rattle.lsp_docs.specs.Texts.{byte_len};
 ghost use Rattle.lsp_docs.specs.State as docs_state;
 ghost use Rattle.lsp_session.specs.State as session_state;
 ghost use Rattle.lsp_verdict.specs.Event.{Event, sent_in};
@@ -14,14 +13,14 @@ ghost use Rattle.lsp_verdict.specs.Verdict.{document_of, yes};
 
 use crate::events::Events;
 use lsp_docs::Docs;
-use lsp_rpc::{Memory, Side, copy_id};
+use lsp_rpc::{Result, Side, copy_id};
 use lsp_session::{OpenRequest, Pending, Session};
 use lsp_text::TextStore;
 use lsp_verdict::{OpenDocument, Summary};
 use std::alloc::Global;
 
 /// The result of the events, read off what is held.
-pub fn summary_of<S: TextStore>(alloc: Global, events: &Events<S>) -> Result<Summary, Memory>
+pub fn summary_of<S: TextStore>(alloc: Global, events: &Events<S>) -> Result<Summary>
     ensures { IfOk result (λ summary. (so_far : List Event)
         → Follows events.now.session events.now.docs events.now.counts so_far
         → yes (summary_view summary) ≡ as_given (yes (spec.summary events.now.docs.terms so_far))) }
@@ -39,7 +38,7 @@ pub fn summary_of<S: TextStore>(alloc: Global, events: &Events<S>) -> Result<Sum
 }
 
 /// The documents that are open, in the order in which they were opened.
-fn open_documents<S: TextStore>(alloc: Global, docs: &Docs<S>) -> Result<Vec<OpenDocument>, Memory>
+fn open_documents<S: TextStore>(alloc: Global, docs: &Docs<S>) -> Result<Vec<OpenDocument>>
     ensures { IfOk result (λ found. (calls : List Call) → docs_state.Stands docs.now calls
         → map document_view found.items ≡ map document_of (documents docs.now.terms calls)) }
 {
@@ -51,11 +50,7 @@ fn open_documents<S: TextStore>(alloc: Global, docs: &Docs<S>) -> Result<Vec<Ope
     Ok(found)
 }
 
-fn open_document<S: TextStore>(
-    alloc: Global,
-    docs: &Docs<S>,
-    uri: &str,
-) -> Result<OpenDocument, Memory>
+fn open_document<S: TextStore>(alloc: Global, docs: &Docs<S>, uri: &str) -> Result<OpenDocument>
     ensures { IfOk result (λ found. (calls : List Call) (version : Version)
         → docs_state.Stands docs.now calls
         → held docs.now.terms uri.now calls ≡ Some version
@@ -89,7 +84,7 @@ fn bytes_held<S: TextStore>(docs: &Docs<S>, uri: &str) -> u64
 
 /// The requests that are open: the editor's, then the server's, each in the order in which they
 /// were sent.
-fn open_requests(alloc: Global, session: &Session) -> Result<Vec<(Side, OpenRequest)>, Memory>
+fn open_requests(alloc: Global, session: &Session) -> Result<Vec<(Side, OpenRequest)>>
     ensures { IfOk result (λ found. (so_far : List Event)
         → session_state.Stands session.now (sent_in so_far)
         → requests_view found.items ≡ spec.open_of Side.Editor so_far
@@ -101,11 +96,7 @@ fn open_requests(alloc: Global, session: &Session) -> Result<Vec<(Side, OpenRequ
     Ok(found)
 }
 
-fn push_requests(
-    found: &mut Vec<(Side, OpenRequest)>,
-    side: Side,
-    pending: &Pending,
-) -> Result<(), Memory>
+fn push_requests(found: &mut Vec<(Side, OpenRequest)>, side: Side, pending: &Pending) -> Result<()>
     ensures { OnOk result (requests_view found.new.items ≡ requests_view found.old.items
         ++ map (λ r. (side, r)) pending.now) }
 {
@@ -116,7 +107,7 @@ fn push_requests(
     Ok(())
 }
 
-fn copy_request(request: &OpenRequest) -> Result<OpenRequest, Memory>
+fn copy_request(request: &OpenRequest) -> Result<OpenRequest>
     ensures { IfOk result (λ copy. request_view copy ≡ request_view request.now) }
 {
     Ok(OpenRequest {

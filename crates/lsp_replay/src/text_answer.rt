@@ -3,13 +3,16 @@ ghost use Rattle.std.specs.Prelude.{◌≡◌, ◌++◌, List, IfOk, string_byte
 ghost use Rattle.lsp_docs.specs.Calls.{Call};
 ghost use Rattle.lsp_docs.specs.Documents.{held};
 ghost use Rattle.lsp_docs.specs.State.{Stands};
-ghost use Rattle.lsp_replay.specs.TextAnswers.{answer_view};
+ghost use Rattle.lsp_replay.specs.LogEvents.{flaw_of};
+ghost use Rattle.lsp_replay.specs.TextAnswers.{StopsWith, answer_view, end_answer};
 ghost use Rattle.lsp_verdict.specs.Given.{verdict_view};
-ghost use Rattle.lsp_verdict.specs.Shown.{held_answer, missing_answer};
-ghost use Rattle.lsp_verdict.specs.TextAfter.{EndsAs, written_of};
+ghost use Rattle.lsp_verdict.specs.Shown.{held_answer, missing_answer, EndsAs, written_of};
+ghost use Rattle.lsp_verdict.specs.Verdict.{bad_log_of};
 
+use crate::log_events::End;
+use crate::seen::Flow;
 use lsp_docs::Docs;
-use lsp_rpc::Memory;
+use lsp_rpc::Result;
 use lsp_text::TextStore;
 use lsp_types::rules;
 use lsp_verdict::{Outcome, Verdict};
@@ -34,11 +37,7 @@ pub enum TextAnswer {
 
 impl TextAnswer {
     /// The text that is held of a URI.
-    pub fn held<S: TextStore>(
-        alloc: Global,
-        docs: &Docs<S>,
-        uri: &str,
-    ) -> Result<TextAnswer, Memory>
+    pub fn held<S: TextStore>(alloc: Global, docs: &Docs<S>, uri: &str) -> Result<TextAnswer>
         ensures { IfOk result (λ answer. (calls : List Call) → Stands docs.now calls
             → answer_view answer ≡ held_answer (held docs.now.terms uri.now calls)) }
     {
@@ -62,11 +61,34 @@ impl TextAnswer {
         }
     }
 
+    /// What the end of a log says where the message is missing in it.
+    pub(crate) fn at_end(end: End) -> TextAnswer
+        ensures { answer_view result ≡ end_answer (bad_log_of (flaw_of end)) }
+    {
+        match end {
+            End::Sound => TextAnswer::TooFew,
+            End::Bad { number, fault } => TextAnswer::Refused(Verdict::BadLog { number, fault }),
+        }
+    }
+
+    /// Ends a run with the answer, which is added to a text.
+    ///
+    /// # Errors
+    /// `Memory` where memory was refused.
+    pub fn stop(self, text: &mut String) -> Result<Flow>
+        ensures { IfOk result
+            (StopsWith (answer_view self) (string_bytes text.old) (string_bytes text.new)) }
+    {
+        let outcome = self.add(text)?;
+        let boxed = Box::new(*text.allocator(), outcome)?;
+        Ok(Flow::Stop(boxed))
+    }
+
     /// Adds the text, or nothing where there is none, and says how a run ends by that.
     ///
     /// # Errors
     /// `Memory` where memory was refused.
-    pub fn add(self, text: &mut String) -> Result<Outcome, Memory>
+    pub fn add(self, text: &mut String) -> Result<Outcome>
         ensures { IfOk result (λ outcome.
             (string_bytes text.new ≡ string_bytes text.old ++ written_of (answer_view self))
             × EndsAs (answer_view self) outcome) }

@@ -34,3 +34,6 @@ pub use message::{Answer, Id, Message};
 pub use methods::{Method, act_of, method_of, notification_method, request_method, take_act};
 pub use results::picked_of;
 pub use words::{push_id, push_quoted, words_of};
+
+/// What takes memory gives a value, or was refused it.
+pub type Result<T, E = Memory> = std::result::Result<T, E>;

@@ -7,14 +7,14 @@ ghost use Rattle.lsp_rpc.specs.View.{message_view, answer_view};
 ghost use Rattle.lsp_rpc.specs.Message.{response};
 ghost use Rattle.lsp_rpc.specs.Words as spec;
 
+use crate::Result;
 use crate::message::{Answer, Id, Message};
 use itoa::Buffer;
-use lsp_types::Memory;
 use serde_json::Value;
 use std::alloc::Global;
 
 /// Appends a text as a JSON string. If memory is refused, the words stay as they are.
-pub fn push_quoted(alloc: Global, words: &mut String, text: &str) -> Result<(), Memory>
+pub fn push_quoted(alloc: Global, words: &mut String, text: &str) -> Result<()>
     ensures ok { OnOk result (string_bytes words.new ≡ string_bytes words.old ++ quoted text.now) }
     ensures err { OnErr result (string_bytes words.new ≡ string_bytes words.old) }
 {
@@ -22,7 +22,7 @@ pub fn push_quoted(alloc: Global, words: &mut String, text: &str) -> Result<(), 
     Ok(words.push_str(value.to_string(alloc)?.as_str())?)
 }
 
-fn push_number(words: &mut String, n: i32) -> Result<(), Memory>
+fn push_number(words: &mut String, n: i32) -> Result<()>
     ensures ok { OnOk result (string_bytes words.new ≡ string_bytes words.old ++ signed_decimal n) }
     ensures err { OnErr result (string_bytes words.new ≡ string_bytes words.old) }
 {
@@ -30,7 +30,7 @@ fn push_number(words: &mut String, n: i32) -> Result<(), Memory>
 }
 
 /// Appends an id as JSON text. If memory is refused, the words stay as they are.
-pub fn push_id(alloc: Global, words: &mut String, id: &Id) -> Result<(), Memory>
+pub fn push_id(alloc: Global, words: &mut String, id: &Id) -> Result<()>
     ensures ok { OnOk result
         (string_bytes words.new ≡ string_bytes words.old ++ spec.id_text (id_view id.now)) }
     ensures err { OnErr result (string_bytes words.new ≡ string_bytes words.old) }
@@ -41,7 +41,7 @@ pub fn push_id(alloc: Global, words: &mut String, id: &Id) -> Result<(), Memory>
     }
 }
 
-fn push_response_id(alloc: Global, words: &mut String, id: Option<&Id>) -> Result<(), Memory>
+fn push_response_id(alloc: Global, words: &mut String, id: Option<&Id>) -> Result<()>
     ensures { OnOk result (string_bytes words.new
         ≡ string_bytes words.old
         ++ spec.response_id_text (option_map (λ i. id_view i.now) id.entry)) }
@@ -54,7 +54,7 @@ fn push_response_id(alloc: Global, words: &mut String, id: Option<&Id>) -> Resul
 
 /// The words that name a message in a report: `request <id> <method>`, `notification <method>`,
 /// `result <id>` or `error <id> <code>`. Ids and methods are JSON text; an id may be `null`.
-pub fn words_of(alloc: Global, message: &Message) -> Result<String, Memory>
+pub fn words_of(alloc: Global, message: &Message) -> Result<String>
     ensures { IfOk result (λ text. string_bytes text ≡ spec.words_of (message_view message.now)) }
 {
     let mut text = String::new(alloc);
@@ -74,12 +74,7 @@ pub fn words_of(alloc: Global, message: &Message) -> Result<String, Memory>
     Ok(text)
 }
 
-fn push_answer(
-    alloc: Global,
-    words: &mut String,
-    id: Option<&Id>,
-    answer: &Answer,
-) -> Result<(), Memory>
+fn push_answer(alloc: Global, words: &mut String, id: Option<&Id>, answer: &Answer) -> Result<()>
     ensures { OnOk result (string_bytes words.new ≡ string_bytes words.old
         ++ spec.words_of (response (option_map (λ i. id_view i.now) id.entry)
         (answer_view answer.now))) }

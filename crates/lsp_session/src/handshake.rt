@@ -5,7 +5,7 @@ ghost use Rattle.lsp_rpc.specs.View.{act_view, offer_view, texts_view};
 ghost use Rattle.lsp_session.specs.ByState as by_state;
 ghost use Rattle.lsp_session.specs.OpenInitialize.{initialize_view, initializes_view};
 
-use lsp_rpc::{Act, Id, Memory, Offer, copy_id, same_id};
+use lsp_rpc::{Act, Id, Offer, Result, copy_id, same_id};
 use std::alloc::Global;
 
 /// An `initialize` request that is open.
@@ -19,11 +19,7 @@ pub(crate) struct OpenInitialize {
 ///
 /// # Errors
 /// `Memory` where memory was refused.
-pub(crate) fn open_initialize(
-    alloc: Global,
-    id: &Id,
-    offer: &Offer,
-) -> Result<OpenInitialize, Memory>
+pub(crate) fn open_initialize(alloc: Global, id: &Id, offer: &Offer) -> Result<OpenInitialize>
     ensures { IfOk result (λ opened. initialize_view opened
         ≡ record { id = id_view id.now; offer = offer_view offer.now }) }
 {
@@ -32,7 +28,7 @@ pub(crate) fn open_initialize(
     Ok(OpenInitialize { id, offer })
 }
 
-fn copy_offer(alloc: Global, offer: &Offer) -> Result<Offer, Memory>
+fn copy_offer(alloc: Global, offer: &Offer) -> Result<Offer>
     ensures { IfOk result (λ copy. offer_view copy ≡ offer_view offer.now) }
 {
     let encodings = match &offer.encodings {
@@ -46,7 +42,7 @@ fn copy_offer(alloc: Global, offer: &Offer) -> Result<Offer, Memory>
     Ok(Offer { encodings, token })
 }
 
-fn copy_texts(alloc: Global, texts: &[String]) -> Result<Vec<String>, Memory>
+fn copy_texts(alloc: Global, texts: &[String]) -> Result<Vec<String>>
     ensures { IfOk result (λ copy. texts_view copy.items ≡ texts_view texts.now) }
 {
     let mut copy = Vec::new(alloc);

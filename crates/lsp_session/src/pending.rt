@@ -8,7 +8,7 @@ ghost use Rattle.lsp_session.specs.Refusal.{Names};
 
 use crate::open_requests::OpenRequests;
 use crate::refusal::Refusal;
-use lsp_rpc::{Id, Memory, copy_id};
+use lsp_rpc::{Id, Memory, Result, copy_id};
 use lsp_types::{OrderedMap, rules};
 use std::alloc::Global;
 use std::marker::Model;
@@ -41,7 +41,7 @@ impl Model for Pending {
     ghost invariant = { λ p. AllNamed p.requests };
 }
 
-fn new_request(alloc: Global, id: &Id, method: &str) -> Result<OpenRequest, Memory>
+fn new_request(alloc: Global, id: &Id, method: &str) -> Result<OpenRequest>
     ensures { IfOk result
         (λ request. request_view request ≡ new_entry (id_view id.now) method.now) }
 {

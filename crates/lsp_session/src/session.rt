@@ -23,7 +23,7 @@ use crate::negotiation::{Agreed, agree, registers_synchronisation};
 use crate::pending::Pending;
 use crate::phase::Phase;
 use crate::refusal::Refusal;
-use lsp_rpc::{Act, Answer, Encoding, Id, Memory, Message, Offer, Side, SyncKind, same_id};
+use lsp_rpc::{Act, Answer, Encoding, Id, Memory, Message, Offer, Result, Side, SyncKind, same_id};
 use lsp_types::rules;
 use serde_json::Value;
 use std::alloc::Global;
@@ -378,7 +378,7 @@ impl Session {
         message: &Message,
         act: &Act,
         agreed: Option<Agreed>,
-    ) -> Result<(), Memory>
+    ) -> Result<()>
         requires ids { by_state.request_rule self.old side (message_view message.now) ≡ None }
         requires lifecycle { by_state.lifecycle_rule self.old side
             (message_view message.now) (act_view act.now) ≡ None }
@@ -403,7 +403,7 @@ impl Session {
     }
 
     /// Takes in what the message does to the open requests.
-    fn take_open(&mut self, side: Side, message: &Message, act: &Act) -> Result<(), Memory>
+    fn take_open(&mut self, side: Side, message: &Message, act: &Act) -> Result<()>
         requires ids { by_state.request_rule self.old side (message_view message.now) ≡ None }
         requires lifecycle { by_state.lifecycle_rule self.old side
             (message_view message.now) (act_view act.now) ≡ None }
@@ -469,7 +469,7 @@ fn is_response(message: &Message) -> bool
 }
 
 /// Adds a request that is not open yet.
-fn ask(pending: &mut Pending, id: &Id, method: &str) -> Result<(), Memory>
+fn ask(pending: &mut Pending, id: &Id, method: &str) -> Result<()>
     requires { has_id (id_view id.now) pending.old ≡ false }
     ensures ok { OnOk result
         (pending.new ≡ pending.old ++ new_entry (id_view id.now) method.now ∷ []) }

@@ -1,15 +1,10 @@
-pub mod ById
 pub mod Noting
-pub mod Putting
 pub mod SidesSteps
 pub mod PassedSteps
 pub mod Losing
-pub mod Ending
 pub mod SessionEnds
 pub mod Reporting
-pub mod Told
 pub mod KeptTexts
-pub mod TextSteps
 pub mod SurveySteps
 pub mod SurveyRuns
 pub mod Showing

@@ -6,7 +6,7 @@ use Rattle.std.proofs.Common.{refl, sym, ap, subst, ◌∙◌}
 use Rattle.std.proofs.lemmas.List.{map-append}
 use Rattle.lsp_docs.specs.State as docs
 use Rattle.lsp_docs.specs.Calls.{Call, shows}
-use Rattle.lsp_docs.specs.Terms.{Terms}
+use Rattle.lsp_docs.specs.Documents.{Terms}
 use Rattle.lsp_rpc.specs.Ident.{id_view}
 use Rattle.lsp_rpc.specs.Message.{Message}
 use Rattle.lsp_rpc.specs.View.{act_view, message_view}
@@ -23,15 +23,14 @@ use Rattle.lsp_replay.specs.Telling.{IsSpoken, kept_before, rule_of}
 use Rattle.lsp_replay.proofs.Seeing.{events-push}
 use Rattle.lsp_survey.specs.Lost.{AreLosses, HoldsSent, IsMessageOf, IsNotedIn, Offends}
 use Rattle.lsp_survey.specs.Lost.{WasTold, breaks_by, follows_of, unheard_with}
-use Rattle.lsp_survey.specs.Notes.{AreAfter, Leaves, is_noted, is_noted_lost}
-use Rattle.lsp_survey.specs.Sides.{sides_after, sides_failed, sides_of, sides_read}
+use Rattle.lsp_survey.specs.Notes.{AreAfter, Leaves, is_noted, is_noted_lost, sides_after}
+use Rattle.lsp_survey.specs.Notes.{sides_failed, sides_of, sides_read}
 use Rattle.lsp_survey.specs.declared.losses.Losses.{Losses}
 use Rattle.lsp_survey.specs.declared.notes.note.Notes as code_notes
 use Rattle.lsp_survey.proofs.Noting.{notes_stay, nothing_said}
 use Rattle.lsp_survey.proofs.PassedSteps.{fault_passes, kept_passes}
 use Rattle.lsp_survey.proofs.SidesSteps.{sides_pushed}
-use Rattle.lsp_verdict.specs.Calls.{call_of, calls}
-use Rattle.lsp_verdict.specs.Event.{Event, fault, message, sent_in, snapshot}
+use Rattle.lsp_verdict.specs.Event.{call_of, calls, Event, fault, message, sent_in, snapshot}
 use Rattle.lsp_verdict.specs.Heard.{Heard, heard_events, notes_of}
 use Rattle.lsp_verdict.specs.LookBack.{first_of}
 use Rattle.lsp_verdict.specs.Offences.{IsMalformed, IsNoted, IsReading, Noted, answered_by}
@@ -198,7 +197,7 @@ enc_after kept = unwrap_or (encoding (sent_in kept)) Utf16
 abbrev kind_after : List Event → SyncKind
 kind_after kept = unwrap_or (sync_kind (sent_in kept)) Nothing
 
--- ---- an event that is kept
+-- ---- all losses after an event that is kept
 
 module _ (terms : Terms) (before : List Heard) (h : Heard) (old new : Losses)
     (losses : AreLosses terms old (notes_of before)) (noted : IsNoted h.raw h.note)
@@ -247,7 +246,7 @@ module _ (terms : Terms) (before : List Heard) (h : Heard) (old new : Losses)
       old.documents.map.entries old.documents.map.entries) (sym own.1)
       (notes_stay call old.documents.map.entries refl))))
 
--- ---- an event that offends
+-- ---- all losses after an event that offends
 
 module _ (raw : Raw) (terms : Terms) (before : List Heard) (h : Heard) (m : session.State)
     (d : docs.State) (c : Counts) (rule : ℕ) (spoken : Option Spoken) (late : Bool)

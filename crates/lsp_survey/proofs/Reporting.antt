@@ -23,7 +23,7 @@ use Rattle.lsp_verdict.specs.declared.completeness.Completeness.TheVariants.{Ign
 use Rattle.lsp_verdict.specs.declared.listing.Listing.{Listing}
 use Rattle.lsp_verdict.specs.declared.listing.Listing.TheVariants.{Causes, Every}
 use Rattle.lsp_verdict.specs.declared.offence.Offence as code
-use Rattle.lsp_verdict.proofs.ByIndex.{map_one}
+use Rattle.lsp_verdict.proofs.Finding.{map_one}
 use Rattle.lsp_verdict.proofs.Completing.{some_complete_verdict}
 use Rattle.lsp_verdict.proofs.ExactCounts.{capped_is}
 use Rattle.lsp_verdict.proofs.Logs.{some_verdict}

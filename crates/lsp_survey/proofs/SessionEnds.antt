@@ -1,39 +1,85 @@
 -- How the session of a log ends, and the verdict where nothing was found.
-use Rattle.std.specs.Prelude.{map, option_map}
-use Rattle.std.proofs.Common.{◌≡◌, ℕ, ◌+◌, ◌<◌, ◌^◌, Bool, List, [], ◌∷◌, ◌++◌, length, Option, Some}
-use Rattle.std.proofs.Common.{None, refl, sym, ap, ◌∙◌, arith}
-use Rattle.lsp_docs.specs.State as docs
-use Rattle.lsp_docs.specs.Terms.{Terms}
+use Rattle.std.specs.Prelude.{map, option_map, option_to_list}
+use Rattle.std.specs.List.{cons_option}
+use Rattle.std.proofs.Common.{◌≡◌, ℕ, ◌≤◌, Bool, true, false, List, [], ◌∷◌, ◌++◌, length, Option}
+use Rattle.std.proofs.Common.{Some, None, refl, arith, ◌+◌, ◌<◌, ◌^◌, sym, ap, ◌∙◌}
 use Rattle.lsp_log.specs.declared.fault.LogCode.{LogCode}
+use Rattle.lsp_session.specs.Incomplete.{incomplete}
+use Rattle.lsp_session.specs.State as session
+use Rattle.lsp_verdict.specs.Event.{Event, sent_in}
+use Rattle.lsp_verdict.specs.LookBack.{each_from}
+use Rattle.lsp_verdict.specs.Survey.{by_itself, first_ends, lacks_listed, rests_listed}
+use Rattle.lsp_verdict.specs.Survey.{first_verdict}
+use Rattle.lsp_verdict.specs.Verdict.{no_next, Verdict, first_no, summary, yes}
+use Rattle.lsp_verdict.specs.declared.completeness.Completeness.{Completeness}
+use Rattle.lsp_verdict.specs.declared.completeness.Completeness.TheVariants.{Ignored, Required}
+use Rattle.lsp_verdict.specs.declared.verdict.Who.TheVariants as who
+use Rattle.lsp_verdict.specs.Given.{as_given, offence_view}
+use Rattle.lsp_verdict.specs.Heard.{Heard, heard_events}
+use Rattle.lsp_verdict.specs.Offences.{Offence, kept_of}
+use Rattle.lsp_verdict.specs.Report.{report}
+use Rattle.lsp_verdict.specs.declared.counts.Counts.{Counts}
+use Rattle.lsp_verdict.proofs.ExactCounts.{yes_exact}
+use Rattle.lsp_docs.specs.State as docs
+use Rattle.lsp_docs.specs.Documents.{Terms}
 use Rattle.lsp_replay.specs.Run.{Tail}
-use Rattle.lsp_replay.specs.Standing.{Follows, Holds}
+use Rattle.lsp_replay.specs.Standing.{Follows}
 use Rattle.lsp_replay.specs.Streams as streams
 use Rattle.lsp_replay.specs.Streams.{decoder_of}
 use Rattle.lsp_replay.specs.Telling.{IsEnd, Stood}
 use Rattle.lsp_replay.specs.declared.log_events.End.{End}
-use Rattle.lsp_replay.specs.declared.log_events.End.TheVariants.{Sound}
+use Rattle.lsp_replay.specs.declared.log_events.End.TheVariants.{Bad, Sound}
 use Rattle.lsp_replay.specs.declared.log_events.LogEvents.{LogEvents}
 use Rattle.lsp_replay.proofs.AllHeard.{few_events, follows_all}
-use Rattle.lsp_session.specs.State as session
-use Rattle.lsp_survey.specs.Ending.{ends_by, given_by}
-use Rattle.lsp_survey.specs.Reported.{IsTally, verdict_lines}
-use Rattle.lsp_survey.specs.SessionEnds.{ends_held, ends_of}
-use Rattle.lsp_survey.specs.declared.offence_count.OffenceCount.{OffenceCount}
-use Rattle.lsp_survey.proofs.Ending.{lacks_exact, rests_exact}
 use Rattle.lsp_types.specs.declared.side.Side.TheVariants.{Editor, Server}
-use Rattle.lsp_verdict.specs.Counting.{AreCounts}
-use Rattle.lsp_verdict.specs.Event.{Event}
-use Rattle.lsp_verdict.specs.Given.{as_given, offence_view}
-use Rattle.lsp_verdict.specs.Heard.{Heard, heard_events}
-use Rattle.lsp_verdict.specs.Offences.{Offence, kept_of}
-use Rattle.lsp_verdict.specs.Outcome.{is_rest}
-use Rattle.lsp_verdict.specs.Report.{report}
-use Rattle.lsp_verdict.specs.Survey.{by_itself, ends_inside, first_ends, first_verdict}
-use Rattle.lsp_verdict.specs.Survey.{lacks_listed, rests_listed}
-use Rattle.lsp_verdict.specs.Verdict.{Verdict, first_no, summary, yes}
-use Rattle.lsp_verdict.specs.declared.completeness.Completeness.{Completeness}
-use Rattle.lsp_verdict.specs.declared.counts.Counts.{Counts}
-use Rattle.lsp_verdict.proofs.ExactCounts.{yes_exact}
+use Rattle.lsp_survey.specs.SessionEnds.{lack_by, listed_by, rest_rule, ends_held, ends_of}
+use Rattle.lsp_survey.specs.Reported.{IsTally, verdict_lines}
+use Rattle.lsp_survey.specs.declared.offence_count.OffenceCount.{OffenceCount}
+
+-- ---- what is listed of the end of a session
+
+-- both rests, and where there is none what is missing
+pub ends_are : (completeness : Completeness) (events kept : List Event) (editor server : Bool)
+    → (([] ++ listed_by (rest_rule editor) who.Editor events)
+    ++ listed_by (rest_rule server) who.Server events)
+    ++ listed_by (lack_by editor server completeness kept) who.Editor events
+    ≡ map by_itself (first_ends None (rests_listed events editor server)
+    (lacks_listed completeness events kept))
+ends_are completeness events kept true true = refl
+ends_are completeness events kept true false = refl
+ends_are completeness events kept false true = refl
+ends_are Ignored events kept false false = refl
+ends_are Required events kept false false = refl
+
+-- ---- few
+
+pub given_few : {A X : Type 0} (f : List A → A → Option X) (before xs : List A)
+    → length (each_from f before xs) ≤ length xs
+given_few f before [] = omega arith
+given_few {X = X} f before (x ∷ xs) = by_option (f before x) (given_few f (before ++ x ∷ []) xs)
+  where
+    by_option : (o : Option X) → length (each_from f (before ++ x ∷ []) xs) ≤ length xs
+        → length (cons_option o (each_from f (before ++ x ∷ []) xs)) ≤ length (x ∷ xs)
+    by_option None h = omega (arith, h)
+    by_option (Some y) h = omega (arith, h)
+
+pub ends_few : (flaw : Option (ℕ × LogCode)) (events kept : List Event) (editor server : Bool)
+    (completeness : Completeness)
+    → length (first_ends flaw (rests_listed events editor server)
+    (lacks_listed completeness events kept)) ≤ 2
+ends_few (Some flaw) events kept editor server completeness = omega arith
+ends_few None events kept true true completeness = omega arith
+ends_few None events kept true false completeness = omega arith
+ends_few None events kept false true completeness = omega arith
+ends_few None events kept false false Ignored = omega arith
+ends_few None events kept false false Required = by_rule (incomplete (sent_in kept))
+  where
+    by_rule : (o : Option ℕ)
+        → length (option_to_list (option_map (λ (r : ℕ). no_next r who.Editor events) o)) ≤ 2
+    by_rule None = omega arith
+    by_rule (Some rule) = omega arith
+
+-- ---- the end of a log, and the verdict where nothing was found
 
 -- what the reader of the log tells of its end is how the session ends
 pub ends_fit : (completeness : Completeness) (terms : Terms) (heard : List Heard) (e : LogEvents)
@@ -41,14 +87,13 @@ pub ends_fit : (completeness : Completeness) (terms : Terms) (heard : List Heard
     → ends_held completeness terms heard e end ≡ ends_of completeness terms heard tail
 ends_fit completeness terms heard e end tail fits =
     let events = heard_events heard in
-    let editor = streams.ends_inside (decoder_of Editor e.streams) in
-    let server = streams.ends_inside (decoder_of Server e.streams) in
-    let lacks = lacks_listed completeness events (kept_of terms events) in
-    ap (λ (f : Option (ℕ × LogCode)). first_ends f (rests_listed events editor server) lacks)
-    (sym fits.fault)
-    ∙ ap (λ b. first_ends tail.fault (rests_listed events b server) lacks) (fits.inside Editor)
-    ∙ ap (λ b. first_ends tail.fault (rests_listed events
-    (ends_inside Editor events (is_rest tail.rests.editor)) b) lacks) (fits.inside Server)
+    λ i. first_ends (sym fits.fault i) (rests_listed events (fits.inside Editor i)
+    (fits.inside Server i)) (lacks_listed completeness events (kept_of terms events))
+
+pub sound_end : (end : End)
+    → ((number : ℕ) (fault : LogCode) → end ≡ Bad number fault → ⊥) → end ≡ Sound
+sound_end Sound bad = refl
+sound_end (Bad number fault) bad = absurd (bad number fault refl)
 
 none_found : (t : OffenceCount) (found : List Offence) → None ≡ t.first → IsTally t found
     → found ≡ []
@@ -67,20 +112,25 @@ module _ (terms : Terms) (heard : List Heard) (m : session.State) (d : docs.Stat
 
   -- what is listed of the end of a log without a fault
   pub ends_given : (completeness : Completeness) (e : LogEvents) (editor server : Bool)
-      (listed : List Offence) → editor ≡ streams.ends_inside (decoder_of Editor e.streams)
-      → server ≡ streams.ends_inside (decoder_of Server e.streams)
-      → ((events kept : List Event) → AreCounts c events → Holds m d kept
-      → listed ≡ map given_by (ends_by completeness events kept editor server))
-      → listed ≡ map by_itself (ends_held completeness terms heard e Sound)
-  ends_given completeness e editor server listed is_editor is_server told =
-      let kept = kept_of terms events in
-      let lacks = lacks_listed completeness events kept in
-      told events kept stood.counted stood.holds
-      ∙ rests_exact events small editor server lacks
-      (lacks_exact events small completeness kept)
-      ∙ ap (λ b. map by_itself (first_ends None (rests_listed events b server) lacks)) is_editor
-      ∙ ap (λ b. map by_itself (first_ends None (rests_listed events
-      (streams.ends_inside (decoder_of Editor e.streams)) b) lacks)) is_server
+      (one two three : Option ℕ) (none first second last : List Offence)
+      → editor ≡ streams.ends_inside (decoder_of Editor e.streams)
+      → server ≡ streams.ends_inside (decoder_of Server e.streams) → one ≡ rest_rule editor
+      → two ≡ rest_rule server
+      → three ≡ lack_by editor server completeness (kept_of terms events) → none ≡ []
+      → first ≡ none ++ listed_by one who.Editor events
+      → second ≡ first ++ listed_by two who.Server events
+      → last ≡ second ++ listed_by three who.Editor events
+      → last ≡ map by_itself (ends_held completeness terms heard e Sound)
+  ends_given completeness e editor server one two three none first second last is_editor is_server
+      one_is two_is three_is empty e_one e_two e_three =
+      e_three ∙ ap (λ l. l ++ listed_by three who.Editor events)
+      (e_two ∙ ap (λ l. l ++ listed_by two who.Server events)
+      (e_one ∙ ap (λ l. l ++ listed_by one who.Editor events) empty))
+      ∙ (λ i. (([] ++ listed_by (one_is i) who.Editor events)
+      ++ listed_by (two_is i) who.Server events) ++ listed_by (three_is i) who.Editor events)
+      ∙ ends_are completeness events (kept_of terms events) editor server
+      ∙ (λ i. map by_itself (first_ends None (rests_listed events (is_editor i) (is_server i))
+      (lacks_listed completeness events (kept_of terms events))))
 
   -- where nothing was found, the report is that of the verdict
   pub none_said : (t : OffenceCount) (found : List Offence) (bad : Option Verdict) (v : Verdict)

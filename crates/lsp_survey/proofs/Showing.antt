@@ -2,52 +2,41 @@
 use Rattle.std.specs.Prelude.{filter, map, option_map, unwrap_or}
 use Rattle.std.specs.List.{cons_option, flat_map}
 use Rattle.std.specs.Option.{option_or}
-use Rattle.std.proofs.Common.{◌≡◌, ◌⊎◌, ℕ, List, [], ◌∷◌, ◌++◌, Option, Some, None, Result, inl}
-use Rattle.std.proofs.Common.{inr, refl, sym, ap, subst, ◌∙◌, append_assoc, append-nil}
+use Rattle.std.proofs.Common.{◌≡◌, ℕ, List, [], ◌∷◌, ◌++◌, Option, Some, None, Result}
+use Rattle.std.proofs.Common.{refl, sym, ap, ◌∙◌, append_assoc, append-nil}
 use Rattle.std.proofs.lemmas.List.{append_cancel_left, map-append}
 use Rattle.std.proofs.lemmas.List.Elements.{filter-append}
 use Rattle.std.proofs.lemmas.List.Concat.{flat_map-append}
 use Rattle.std.proofs.lemmas.List.Folds.{flat_map-map}
-use Rattle.lsp_docs.specs.Terms.{Terms}
+use Rattle.lsp_docs.specs.Documents.{Terms}
 use Rattle.lsp_frame.specs.Bounds.{Bounds, IsInRange}
-use Rattle.lsp_frame.specs.declared.format.Format.{Format}
-use Rattle.lsp_log.specs.Log.{Record}
-use Rattle.lsp_log.specs.declared.fault.LogCode.{LogCode}
-use Rattle.lsp_replay.specs.Passes.{Passes}
-use Rattle.lsp_replay.specs.Run.{EndsAfter, HasSaid, IsPassed, IsTold, SaysAll, StopsIn, Tail}
-use Rattle.lsp_replay.proofs.JudgedRuns.{IsDueOf, judged_run}
+use Rattle.lsp_replay.specs.Run.{Passes, SaysAll}
+use Rattle.lsp_replay.proofs.JudgedRuns.{judged_run}
 use Rattle.lsp_survey.specs.AllShown.{BeginsAllShown, IsAllShown, OneAllShown, Piece, ShowsAll}
-use Rattle.lsp_survey.specs.AllShown.{ShowsReport}
-use Rattle.lsp_survey.specs.AllShown.{bytes_of, events_shown, is_offending, kept_line, offending}
-use Rattle.lsp_survey.specs.AllShown.{piece_bytes}
-use Rattle.lsp_survey.specs.AllShown.{shown_at, shown_in}
+use Rattle.lsp_survey.specs.AllShown.{ShowsReport, bytes_of, events_shown, is_offending, kept_line}
+use Rattle.lsp_survey.specs.AllShown.{offending, piece_bytes, shown_at, shown_in}
 use Rattle.lsp_survey.specs.Reported.{closing}
-use Rattle.lsp_survey.specs.SessionEnds.{all_found, all_verdict, ends_of}
-use Rattle.lsp_survey.specs.SurveyRun.{end_said, event_said, said_by, survey_run}
-use Rattle.lsp_survey.proofs.KeptTexts.{same_notes}
+use Rattle.lsp_survey.specs.SessionEnds.{ends_of}
+use Rattle.lsp_survey.specs.SurveyRun.{event_said, said_by, survey_run}
 use Rattle.lsp_survey.specs.declared.survey.Options.{Options}
 use Rattle.lsp_survey.proofs.Reporting.{report_is, reported_verdict}
-use Rattle.lsp_survey.proofs.Told.{survey_told}
-use Rattle.lsp_types.specs.declared.side.Side.TheVariants.{Editor, Server}
+use Rattle.lsp_survey.proofs.SurveyRuns.{SaidIs, begins_is, passed_is}
+use Rattle.lsp_survey.proofs.SurveySteps.{survey_told}
 use Rattle.lsp_verdict.specs.Heard.{Heard, Rests, heard_events, notes_of}
 use Rattle.lsp_verdict.specs.LookBack.{each_from}
 use Rattle.lsp_verdict.specs.Offences.{Noted, Offence, events_of, offence_at, offences}
 use Rattle.lsp_verdict.specs.Outcome.{IsVerdict, ending, log_terms}
-use Rattle.lsp_verdict.specs.Placed.{joined}
-use Rattle.lsp_verdict.specs.Ports.{Ports}
+use Rattle.lsp_verdict.specs.Runs.{Ports}
 use Rattle.lsp_verdict.specs.Shown.{line_at}
 use Rattle.lsp_verdict.specs.Survey as survey
-use Rattle.lsp_verdict.specs.Survey.{IsSurvey, by_itself, ends_listed, first_verdict, offence_lines}
-use Rattle.lsp_verdict.specs.Verdict.{Ending, Summary, Verdict, bad_log_of, summary}
+use Rattle.lsp_verdict.specs.Survey.{by_itself, ends_listed, first_verdict, offence_lines}
+use Rattle.lsp_verdict.specs.Verdict.{Ending, Verdict, bad_log_of, summary}
 use Rattle.lsp_verdict.specs.declared.completeness.Completeness.TheVariants.{Ignored}
 use Rattle.lsp_verdict.specs.declared.lines.Lines.{Lines}
 use Rattle.lsp_verdict.specs.declared.listing.Listing.TheVariants.{Every}
 use Rattle.lsp_verdict.specs.declared.outcome.Outcome.{Outcome}
 use Rattle.lsp_verdict.specs.declared.outcome.RunFault.{RunFault}
-use Rattle.lsp_verdict.proofs.LookBackLemmas.{each_from-append}
-use Rattle.lsp_verdict.proofs.Below.{one_log}
-use Rattle.lsp_verdict.proofs.Offences.Surveying.{one_survey}
-use Rattle.lsp_verdict.proofs.Outcomes.{one_rest}
+use Rattle.lsp_verdict.proofs.Offences.Surveying.{one_part, one_survey}
 
 -- ---- what is said of events
 
@@ -112,14 +101,7 @@ end_shown lines terms notes end found ends last lists whole =
 
 module _ (lines : Lines) (limits : Bounds) (log : List ℕ) where
   -- what is said of its events and of its end shows them
-  shown_told : (format : Option Format) (records : List Record) (heard : List Heard) (tail : Tail)
-      (out front last : List ℕ) → out ≡ front ++ last
-      → IsTold limits log format records heard tail
-      → SaysAll (survey_run (asked lines)) (log_terms limits format) tail.rests [] heard front
-      → last ≡ end_said (asked lines) (log_terms limits format) heard tail.fault
-      (ends_of Ignored (log_terms limits format) heard tail)
-      → IsAllShown lines limits log (all_verdict (log_terms limits format) heard tail.fault
-      (ends_of Ignored (log_terms limits format) heard tail)) out
+  shown_told : SaidIs (asked lines) limits log (IsAllShown lines limits log)
   unfolding survey_told
   shown_told format records heard tail out front last is told said closes =
       let terms = log_terms limits format in
@@ -141,67 +123,6 @@ module _ (lines : Lines) (limits : Bounds) (log : List ℕ) where
         comes_to = refl;
       }
 
-  passed_shown : (out : List ℕ) (outcome : Outcome)
-      → IsPassed (survey_run (asked lines)) limits log out outcome
-      → IsDueOf (IsAllShown lines limits log) out outcome
-  passed_shown out outcome p = by_end p.is
-    where
-      by_end : StopsIn (survey_run (asked lines)) (log_terms limits p.format) p.tail.rests p.heard
-          out outcome
-          ⊎ EndsAfter (survey_run (asked lines)) (log_terms limits p.format) p.tail p.heard out
-          outcome
-          → IsDueOf (IsAllShown lines limits log) out outcome
-      by_end (inl s) = absurd (cc s.stop.stops)
-      by_end (inr e) =
-          let given = e.closes.1 in (
-            given.0,
-            given.1,
-            subst (λ (v : Verdict). IsAllShown lines limits log v out) (sym given.2)
-                (shown_told p.format p.records p.heard p.tail out e.front e.last e.is p.told e.said
-                e.closes.0),
-          )
-
-  -- a part of it
-  said_begins : (front left : List ℕ)
-      → HasSaid (survey_run (asked lines)) limits log (front ++ left)
-      → BeginsAllShown lines limits log front
-  unfolding survey_told
-  said_begins front left h =
-      let terms = log_terms limits h.format in
-      let heard = h.first ++ h.later in
-      let notes = notes_of heard in
-      let end = ending h.tail.fault h.tail.rests.editor h.tail.rests.server in
-      let found = all_found terms heard (ends_of Ignored terms heard h.tail) in
-      let bad = bad_log_of h.tail.fault in
-      let s = summary terms (heard_events heard) in
-      let last = closing found bad s in
-      let early = each_from (shown_at lines terms) [] (notes_of h.first) in
-      let late = each_from (shown_at lines terms) (notes_of h.first) (notes_of h.later) in
-      let ends : List Piece =
-      map (λ v. offending (by_itself v)) (ends_listed Ignored terms (events_of notes) end) in
-      let rest = bytes_of (late ++ ends) ++ last in (
-        all_verdict terms heard h.tail.fault (ends_of Ignored terms heard h.tail),
-        left ++ rest,
-        record {
-          found = found;
-          bad = bad;
-          s = s;
-          survey = survey_told Ignored limits log h.format h.records heard h.tail h.told;
-          written = sym (append_assoc front left rest)
-              ∙ ap (λ w. w ++ rest)
-              (said_shown lines terms h.tail.rests [] h.first (front ++ left) h.says)
-              ∙ sym (append_assoc (bytes_of early) (bytes_of (late ++ ends)) last)
-              ∙ ap (λ l. l ++ last) (sym (flat_map-append piece_bytes early (late ++ ends)))
-              ∙ ap (λ l. bytes_of l ++ last) (sym (append_assoc early late ends))
-              ∙ ap (λ l. bytes_of (l ++ ends) ++ last)
-              (sym (each_from-append (shown_at lines terms) [] (notes_of h.first)
-              (notes_of h.later)))
-              ∙ ap (λ ns. bytes_of (each_from (shown_at lines terms) [] ns ++ ends) ++ last)
-              (sym (map-append (λ (x : Heard). x.note) h.first h.later));
-          comes_to = refl;
-        },
-      )
-
   shown_verdict : IsInRange limits → (v : Verdict) (out : List ℕ)
       → IsAllShown lines limits log v out → IsVerdict limits log v
   shown_verdict sizes v out is = reported_verdict Ignored limits sizes Every log v _ (record {
@@ -220,58 +141,22 @@ pub shows : (lines : Lines) (limits : Bounds) → IsInRange limits → (io : Por
 shows lines limits sizes io =
     judged_run (survey_run (asked lines)) limits sizes (IsVerdict limits) (IsAllShown lines limits)
     (BeginsAllShown lines limits) (λ log. shown_verdict lines limits log sizes) (λ log s is. is)
-    (passed_shown lines limits) (said_begins lines limits) (λ log front left v is. (v, left, is)) io
+    (λ log. passed_is (asked lines) limits log (IsAllShown lines limits log)
+    (shown_told lines limits log))
+    (λ log. begins_is (asked lines) limits log (IsAllShown lines limits log)
+    (shown_told lines limits log))
+    (λ log front left v is. (v, left, is)) io
 
 -- ---- laws
-
--- what is read off the events of a log and its end is one
-one_part : {X : Type 0} (f : Terms → List Noted → Ending → X) (limits : Bounds) → IsInRange limits
-    → (log : List ℕ) (found others : List Offence) (bad flaw : Option Verdict) (s t : Summary)
-    → (p : IsSurvey Ignored limits log found bad s) (q : IsSurvey Ignored limits log others flaw t)
-    → f (log_terms limits p.format) p.notes (ending p.log_fault p.editor p.server)
-    ≡ f (log_terms limits q.format) q.notes (ending q.log_fault q.editor q.server)
-one_part f limits sizes log found others bad flaw s t p q =
-    let same = one_log limits sizes log p.format q.format p.records q.records p.log_fault
-    q.log_fault p.is_log q.is_log in
-    let notes = same_notes limits p.records q.records p.notes q.notes same.1 p.session q.session in
-    let editor : p.editor ≡ q.editor =
-    one_rest limits (joined Editor p.records) (joined Editor q.records) p.editor q.editor
-    (ap (joined Editor) same.1) p.editor_rest q.editor_rest in
-    let server : p.server ≡ q.server =
-    one_rest limits (joined Server p.records) (joined Server q.records) p.server q.server
-    (ap (joined Server) same.1) p.server_rest q.server_rest in
-    let terms = log_terms limits q.format in
-    ap (λ (o : Option Format). f (log_terms limits o) p.notes
-    (ending p.log_fault p.editor p.server)) same.0
-    ∙ ap (λ (w : List Noted). f terms w (ending p.log_fault p.editor p.server)) notes
-    ∙ ap (λ (o : Option (ℕ × LogCode)). f terms q.notes (ending o p.editor p.server)) same.2
-    ∙ ap (λ (x : List ℕ). f terms q.notes (ending q.log_fault x p.server)) editor
-    ∙ ap (λ (x : List ℕ). f terms q.notes (ending q.log_fault q.editor x)) server
 
 pub one_all_shown : OneAllShown
 one_all_shown lines limits sizes log v w out other p q =
     let same = one_survey Ignored limits sizes log p.found q.found p.bad q.bad p.s q.s p.survey
-    q.survey in (
-      p.comes_to
-          ∙ ap (λ (l : List Offence). first_verdict l p.bad p.s) same.0
-          ∙ ap (λ (b : Option Verdict). first_verdict q.found b p.s) same.1
-          ∙ ap (λ (s : Summary). first_verdict q.found q.bad s) same.2
-          ∙ sym q.comes_to,
-      p.written
-          ∙ ap (λ (l : List ℕ). l ++ closing p.found p.bad p.s)
-          (one_part (λ t notes end. bytes_of (shown_in lines t notes end)) limits sizes log p.found
-          q.found p.bad q.bad p.s q.s p.survey q.survey)
-          ∙ ap (λ (l : List Offence). bytes_of (shown_in lines (log_terms limits q.survey.format)
-          q.survey.notes (ending q.survey.log_fault q.survey.editor q.survey.server))
-          ++ closing l p.bad p.s) same.0
-          ∙ ap (λ (b : Option Verdict). bytes_of (shown_in lines
-          (log_terms limits q.survey.format) q.survey.notes
-          (ending q.survey.log_fault q.survey.editor q.survey.server))
-          ++ closing q.found b p.s) same.1
-          ∙ ap (λ (s : Summary). bytes_of (shown_in lines (log_terms limits q.survey.format)
-          q.survey.notes (ending q.survey.log_fault q.survey.editor q.survey.server))
-          ++ closing q.found q.bad s) same.2
-          ∙ sym q.written,
+    q.survey in
+    let shown = one_part (λ t b notes end. bytes_of (shown_in lines t notes end)) limits sizes log
+    p.bad q.bad p.survey q.survey in (
+      p.comes_to ∙ (λ i. first_verdict (same.0 i) (same.1 i) (same.2 i)) ∙ sym q.comes_to,
+      p.written ∙ (λ i. shown i ++ closing (same.0 i) (same.1 i) (same.2 i)) ∙ sym q.written,
     )
 
 -- the offences among what is shown
@@ -320,20 +205,14 @@ shows_report lines limits sizes log v w out other p r =
     let shown = shown_in lines (log_terms limits p.survey.format) p.survey.notes
     (ending p.survey.log_fault p.survey.editor p.survey.server) in
     let last = closing p.found p.bad p.s in (
-      p.comes_to ∙ sym (r.comes_to
-          ∙ ap (λ (l : List Offence). first_verdict l r.bad r.s) same.0
-          ∙ ap (λ (b : Option Verdict). first_verdict p.found b r.s) same.1
-          ∙ ap (λ (s : Summary). first_verdict p.found p.bad s) same.2),
+      p.comes_to
+          ∙ sym (r.comes_to ∙ (λ i. first_verdict (same.0 i) (same.1 i) (same.2 i))),
       (
         shown,
         last,
         p.written,
         r.written ∙ report_is Every r.found r.bad r.s
-            ∙ ap (λ (l : List Offence). flat_map offence_lines l ++ closing l r.bad r.s) same.0
-            ∙ ap (λ (b : Option Verdict). flat_map offence_lines p.found ++ closing p.found b r.s)
-            same.1
-            ∙ ap (λ (s : Summary). flat_map offence_lines p.found ++ closing p.found p.bad s)
-            same.2
+            ∙ (λ i. flat_map offence_lines (same.0 i) ++ closing (same.0 i) (same.1 i) (same.2 i))
             ∙ ap (λ (l : List Offence). flat_map offence_lines l ++ last) p.survey.lists
             ∙ ap (λ l. l ++ last) (sym (found_kept lines (log_terms limits p.survey.format)
             p.survey.notes (ending p.survey.log_fault p.survey.editor p.survey.server))),

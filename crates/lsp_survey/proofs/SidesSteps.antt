@@ -12,8 +12,8 @@ use Rattle.lsp_verdict.specs.Event.{Event, message, fault, snapshot}
 use Rattle.lsp_verdict.specs.Offences.{follows_bytes, has_broken, is_frame_fault, is_unread}
 use Rattle.lsp_verdict.specs.Offences.{may_answer, unread_by, wants_other}
 use Rattle.lsp_verdict.proofs.Offences.Steps.{has_broken-push, is_unread-push}
-use Rattle.lsp_survey.specs.Sides.{failed_on, read_on, side_in, side_of, sides_after, sides_of}
-use Rattle.lsp_survey.specs.Sides.{sides_read}
+use Rattle.lsp_survey.specs.Notes.{failed_on, read_on, side_in, side_of, sides_after, sides_of}
+use Rattle.lsp_survey.specs.Notes.{sides_read}
 use Rattle.lsp_survey.specs.Lost.{IsMessageOf}
 use Rattle.lsp_survey.specs.declared.notes.sides.SideNote.{SideNote}
 use Rattle.lsp_survey.specs.declared.notes.sides.Sides.{Sides}

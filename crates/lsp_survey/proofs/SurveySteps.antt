@@ -1,44 +1,64 @@
--- The steps of the account that lists all that is wrong with a log.
-use Rattle.std.specs.Borrow.{Bor}
+-- The survey of a log whose events were all told, and the steps of the account that lists it.
+use Rattle.std.proofs.Common.{ℕ, List, Option, refl, ◌≡◌, ◌<◌, ◌^◌, Bool, false, [], ◌∷◌, ◌++◌}
+use Rattle.std.proofs.Common.{length, Some, None, sym, ap, subst, ◌∙◌, append-nil, append_assoc}
+use Rattle.std.proofs.Common.{arith, length-append}
 use Rattle.std.specs.List.{cons_option}
 use Rattle.std.specs.Prelude.{map, option_map, unwrap_or}
-use Rattle.std.proofs.Common.{◌≡◌, ℕ, ◌<◌, ◌^◌, Bool, false, List, [], ◌∷◌, ◌++◌, length, Option}
-use Rattle.std.proofs.Common.{Some, None, refl, sym, ap, subst, ◌∙◌, append-nil, append_assoc}
-use Rattle.std.proofs.Common.{arith, length-append}
 use Rattle.std.proofs.lemmas.List.{length-map, map-append}
-use Rattle.lsp_docs.specs.Terms.{Terms}
+use Rattle.lsp_frame.specs.Bounds.{Bounds}
+use Rattle.lsp_frame.specs.declared.format.Format.{Format}
+use Rattle.lsp_log.specs.Log.{Record}
+use Rattle.lsp_replay.specs.Run.{IsTold, Tail}
 use Rattle.lsp_replay.specs.LogEvents.{flaw_of}
 use Rattle.lsp_replay.specs.Streams as streams
 use Rattle.lsp_replay.specs.Streams.{decoder_of}
-use Rattle.lsp_replay.specs.Telling.{Closes, IsEnd, SeenAs, rule_of}
+use Rattle.lsp_replay.specs.Telling.{Closes, IsEnd, rule_of}
 use Rattle.lsp_replay.specs.declared.log_events.End.{End}
 use Rattle.lsp_replay.specs.declared.log_events.LogEvents.{LogEvents}
-use Rattle.lsp_replay.specs.declared.seen.Seen.{Seen}
-use Rattle.lsp_replay.specs.declared.seen.Seen.TheVariants as seen
-use Rattle.lsp_rpc.specs.declared.act.Spoken.{Spoken}
-use Rattle.lsp_survey.specs.Lost.{WasTold, follows_at}
-use Rattle.lsp_survey.specs.Reported.{IsTally, closing, count_line, lines_of, verdict_lines}
-use Rattle.lsp_survey.specs.SessionEnds.{ends_held, ends_of}
-use Rattle.lsp_survey.specs.SurveyRun.{SurveyStands, event_said, kept_line, said_by, survey_run}
-use Rattle.lsp_survey.specs.declared.offence_count.OffenceCount.{OffenceCount}
-use Rattle.lsp_survey.specs.declared.survey.Options.{Options}
-use Rattle.lsp_survey.specs.declared.survey.Survey.{Survey}
-use Rattle.lsp_survey.proofs.Ending.{ends_few, given_few}
-use Rattle.lsp_survey.proofs.Reporting.{closing_is, first_none}
-use Rattle.lsp_survey.proofs.SessionEnds.{ends_fit}
-use Rattle.lsp_types.specs.declared.side.Side.TheVariants.{Editor, Server}
+use Rattle.lsp_verdict.specs.Heard.{Heard, heard_events, notes_of, raws_of}
+use Rattle.lsp_verdict.specs.Outcome.{ending, log_terms}
+use Rattle.lsp_verdict.specs.Survey.{IsSurvey, found_in, by_itself, first_verdict}
+use Rattle.lsp_verdict.specs.Verdict.{bad_log_of, summary, Summary, Verdict, first_no, no_by}
+use Rattle.lsp_verdict.specs.declared.completeness.Completeness.{Completeness}
 use Rattle.lsp_verdict.specs.Given.{verdict_view}
-use Rattle.lsp_verdict.specs.Heard.{Heard, heard_events, notes_of}
-use Rattle.lsp_verdict.specs.Lent.{raw_view}
-use Rattle.lsp_verdict.specs.Offences.{Noted, Offence, follows, kept_of, offence_at}
-use Rattle.lsp_verdict.specs.Offences.{offence_by, offences}
-use Rattle.lsp_verdict.specs.Survey.{by_itself, first_verdict}
-use Rattle.lsp_verdict.specs.Verdict.{Summary, Verdict, bad_log_of, first_no, no_by, summary}
+use Rattle.lsp_verdict.specs.Offences.{Noted, Offence, follows, kept_of, offence_at, offence_by}
+use Rattle.lsp_verdict.specs.Offences.{offences}
 use Rattle.lsp_verdict.specs.declared.outcome.Outcome.TheVariants.{Judged}
-use Rattle.lsp_verdict.specs.declared.raw.Raw as lent
 use Rattle.lsp_verdict.specs.declared.verdict.Verdict as code
 use Rattle.lsp_verdict.proofs.Offences.Offending.{nothing_listed}
 use Rattle.lsp_verdict.proofs.Offences.Steps.{offences-push}
+use Rattle.lsp_docs.specs.Documents.{Terms}
+use Rattle.lsp_types.specs.declared.side.Side.TheVariants.{Editor, Server}
+use Rattle.lsp_survey.specs.Lost.{follows_at}
+use Rattle.lsp_survey.specs.Reported.{IsTally, closing, count_line, lines_of, verdict_lines}
+use Rattle.lsp_survey.specs.SessionEnds.{ends_held, ends_of}
+use Rattle.lsp_survey.specs.SurveyRun.{event_said, kept_line, said_by, survey_run}
+use Rattle.lsp_survey.specs.declared.offence_count.OffenceCount.{OffenceCount}
+use Rattle.lsp_survey.specs.declared.survey.Options.{Options}
+use Rattle.lsp_survey.proofs.SessionEnds.{ends_few, given_few, ends_fit}
+use Rattle.lsp_survey.proofs.Reporting.{closing_is, first_none}
+
+unfoldable pub survey_told : (completeness : Completeness) (limits : Bounds) (log : List ℕ)
+    (format : Option Format) (records : List Record) (heard : List Heard) (tail : Tail)
+    → IsTold limits log format records heard tail
+    → IsSurvey completeness limits log (found_in completeness (log_terms limits format)
+    (notes_of heard) (ending tail.fault tail.rests.editor tail.rests.server))
+    (bad_log_of tail.fault) (summary (log_terms limits format) (heard_events heard))
+survey_told completeness limits log format records heard tail told = record {
+  format = format;
+  records = records;
+  log_fault = tail.fault;
+  notes = notes_of heard;
+  editor = tail.rests.editor;
+  server = tail.rests.server;
+  is_log = told.is_log;
+  session = (raws_of heard, told.session.placed, told.session.noted);
+  editor_rest = told.rests.editor;
+  server_rest = told.rests.server;
+  lists = refl;
+  bad_is = refl;
+  comes_to = refl;
+}
 
 -- ---- an event
 
@@ -89,46 +109,22 @@ module _ (terms : Terms) (before : List Heard) (h : Heard) where
         follows = same i;
       }
 
-  -- an event that does not offend is kept
-  pub kept_seen : (s : Seen) → ((raw : lent.Raw) (rule : ℕ) (spoken : Option (Bor Spoken))
-      → s ≡ seen.Offence raw rule spoken → ⊥) → SeenAs s terms before h
-      → rule_of terms before h ≡ None
-  kept_seen (seen.Message side bytes spoken) not as_is = as_is.1
-  kept_seen (seen.Snapshot version uri text answer) not as_is = as_is.1
-  kept_seen (seen.Offence raw rule spoken) not as_is = absurd (not raw rule spoken refl)
-
-  -- and one that does breaks this rule
-  pub offence_seen : (s : Seen) (raw : lent.Raw) (rule : ℕ) (spoken : Option (Bor Spoken))
-      → s ≡ seen.Offence raw rule spoken → SeenAs s terms before h
-      → (h.raw ≡ raw_view raw) × (rule_of terms before h ≡ Some rule)
-  offence_seen s raw rule spoken is as_is =
-      let own = subst (λ (x : Seen). SeenAs x terms before h) is as_is in (own.0, own.1)
-
-  module _ (old new : Survey) (late : Bool) (stands : SurveyStands old terms before)
-      (told : WasTold new.losses terms before h late) where
+  -- the offences are counted with it
+  module _ (old new : OffenceCount) (tally : IsTally old (offences terms notes)) where
     -- it is kept
-    pub kept_stands : rule_of terms before h ≡ None → new.tally ≡ old.tally
-        → SurveyStands new terms (before ++ h ∷ [])
-    kept_stands is same = record {
-      losses = told.losses;
-      tally = subst (λ (t : OffenceCount). IsTally t (offences terms (notes_of (before ++ h ∷ []))))
-          (sym same)
-          (subst (IsTally old.tally)
-          (sym (found_on None is ∙ append-nil (offences terms notes))) stands.tally);
-    }
+    pub kept_tally : rule_of terms before h ≡ None → new ≡ old
+        → IsTally new (offences terms (notes_of (before ++ h ∷ [])))
+    kept_tally is same = rw same
+        (subst (IsTally old) (sym (found_on None is ∙ append-nil (offences terms notes))) tally)
 
     -- it offends
-    pub offence_stands : (rule : ℕ) (o : Offence) → rule_of terms before h ≡ Some rule
+    pub offence_tally : (rule : ℕ) (o : Offence) → rule_of terms before h ≡ Some rule
         → o ≡ offence_by terms notes h.note rule
-        → ((found : List Offence) → IsTally old.tally found → IsTally new.tally (found ++ o ∷ []))
-        → SurveyStands new terms (before ++ h ∷ [])
-    offence_stands rule o is own counts = record {
-      losses = told.losses;
-      tally = subst (IsTally new.tally)
-          (ap (λ (x : Offence). offences terms notes ++ x ∷ []) own
-          ∙ sym (found_on (Some rule) is))
-          (counts (offences terms notes) stands.tally);
-    }
+        → ((found : List Offence) → IsTally old found → IsTally new (found ++ o ∷ []))
+        → IsTally new (offences terms (notes_of (before ++ h ∷ [])))
+    offence_tally rule o is own counts = subst (IsTally new)
+        (ap (λ (x : Offence). offences terms notes ++ x ∷ []) own ∙ sym (found_on (Some rule) is))
+        (counts (offences terms notes) tally)
 
 -- ---- the end
 

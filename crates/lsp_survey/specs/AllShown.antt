@@ -3,14 +3,13 @@ use Rattle.std.specs.Prelude.{◌≡◌, ℕ, List, ◌++◌, map, Bool, true, f
 use Rattle.std.specs.Prelude.{Result, filter}
 use Rattle.std.specs.List.{flat_map}
 use Rattle.std.specs.Option.{option_or}
-use Rattle.lsp_docs.specs.Terms.{Terms}
+use Rattle.lsp_docs.specs.Documents.{Terms}
 use Rattle.lsp_frame.specs.Bounds.{Bounds, IsInRange}
 use Rattle.lsp_survey.specs.Reported.{IsReported, closing}
 use Rattle.lsp_verdict.specs.LookBack.{each_of}
 use Rattle.lsp_verdict.specs.Offences.{Noted, Offence, events_of, offence_at}
 use Rattle.lsp_verdict.specs.Outcome.{IsVerdict, ending, log_terms}
-use Rattle.lsp_verdict.specs.Ports.{Ports}
-use Rattle.lsp_verdict.specs.Runs.{Judges}
+use Rattle.lsp_verdict.specs.Runs.{Ports, Judges}
 use Rattle.lsp_verdict.specs.Shown.{line_at}
 use Rattle.lsp_verdict.specs.Survey.{IsSurvey, by_itself, ends_listed, first_verdict, offence_lines}
 use Rattle.lsp_verdict.specs.Verdict.{Ending, Summary, Verdict}

@@ -1,9 +1,4 @@
-pub mod ById
-pub mod ByUri
 pub mod Notes
-pub mod Passed
-pub mod Sides
-pub mod Ending
 pub mod Reported
 pub mod KeptText
 pub mod AllShown

@@ -3,7 +3,7 @@ use Rattle.std.specs.Prelude.{◌≡◌, ◌&&◌, ◌||◌, ◌∷◌, ◌++◌
 use Rattle.std.specs.Prelude.{Some, is_some, option_and_then, option_map, unwrap_or}
 use Rattle.lsp_docs.specs.Calls.{Call}
 use Rattle.lsp_docs.specs.State as docs
-use Rattle.lsp_docs.specs.Terms.{Terms}
+use Rattle.lsp_docs.specs.Documents.{Terms}
 use Rattle.lsp_replay.specs.Telling.{MaySpeak, Stood, kept_before, rule_of}
 use Rattle.lsp_rpc.specs.Ident.{id_view}
 use Rattle.lsp_rpc.specs.Message.{Message}
@@ -13,20 +13,16 @@ use Rattle.lsp_rpc.specs.declared.message.Id.{Id}
 use Rattle.lsp_session.specs.Sent.{Sent}
 use Rattle.lsp_session.specs.State as session
 use Rattle.lsp_session.specs.State.{Stands}
-use Rattle.lsp_survey.specs.Notes.{Leaves, is_noted}
-use Rattle.lsp_survey.specs.Passed.{ArePassed, has_passed}
-use Rattle.lsp_survey.specs.Sides.{sides_after, sides_of}
+use Rattle.lsp_survey.specs.Notes.{Leaves, is_noted, ArePassed, has_passed, sides_after, sides_of}
 use Rattle.lsp_survey.specs.declared.losses.Losses.{Losses}
 use Rattle.lsp_types.specs.declared.side.Side.{Side}
-use Rattle.lsp_verdict.specs.Calls.{calls}
-use Rattle.lsp_verdict.specs.Event.{Event, message, sent_in}
+use Rattle.lsp_verdict.specs.Event.{calls, Event, message, sent_in}
 use Rattle.lsp_verdict.specs.Heard.{Heard, notes_of}
 use Rattle.lsp_verdict.specs.LookBack.{first_of}
 use Rattle.lsp_verdict.specs.Offences.{IsNoted, Noted, asks, breaks_handshake, broken_by}
 use Rattle.lsp_verdict.specs.Offences.{brought_by, events_of, follows, is_handshake_lost}
 use Rattle.lsp_verdict.specs.Offences.{is_initialized_by, is_lost, is_passed, is_reopened}
-use Rattle.lsp_verdict.specs.Offences.{is_unheard, kept_of, may_answer, wants_handshake}
-use Rattle.lsp_verdict.specs.Offences.{wants_text}
+use Rattle.lsp_verdict.specs.Offences.{is_unheard, kept_of, may_answer, wants_handshake, wants_text}
 use Rattle.lsp_verdict.specs.Placed.{Raw}
 use Rattle.lsp_verdict.specs.declared.counts.Counts.{Counts}
 

@@ -1,19 +1,39 @@
--- Which documents are noted as lost; and what a malformed message was to do.
-use Rattle.std.specs.Prelude.{◌≡◌, ℕ, List, Bool, true, false, not, ◌||◌, ◌==◌, if◌then◌else◌}
-use Rattle.std.specs.Prelude.{Option, Some, None, is_some, option_and_then, option_map}
-use Rattle.std.specs.Prelude.{string_bytes, unwrap_or, String, Vec}
-use Rattle.std.specs.Global.{Global}
+-- What is noted of documents, of requests and of the bytes of both sides.
+use Rattle.std.specs.Prelude.{List, Option, ℕ, option_map, string_bytes, String, ◌≡◌, Bool, true}
+use Rattle.std.specs.Prelude.{false, not, ◌||◌, ◌==◌, if◌then◌else◌, Some, None, is_some}
+use Rattle.std.specs.Prelude.{option_and_then, unwrap_or, Vec, ◌&&◌, nat_le}
 use Rattle.std.specs.Map.{lookup}
+use Rattle.std.specs.Global.{Global}
 use Rattle.std.specs.Str.{bytes_eq}
-use Rattle.lsp_docs.specs.Calls.{Call, uri_of}
-use Rattle.lsp_rpc.specs.Ident.{id_view}
+use Rattle.lsp_rpc.specs.Ident.{Ident, id_view, same_id}
+use Rattle.lsp_rpc.specs.declared.message.Id.{Id}
 use Rattle.lsp_rpc.specs.Message.{Message}
-use Rattle.lsp_survey.specs.ByUri.{held_by}
+use Rattle.lsp_docs.specs.Calls.{Call, uri_of}
+use Rattle.lsp_verdict.specs.Offences.{asks, brought_by, left_by, request_id, answered_by, asked_by}
+use Rattle.lsp_verdict.specs.Offences.{asked_from, passes, has_broken, is_unread}
+use Rattle.lsp_verdict.specs.Spelling.{folded, is_alike}
+use Rattle.lsp_verdict.specs.Event.{Event, message, fault, snapshot}
+use Rattle.lsp_types.specs.declared.rules.TheConstants as rules
+use Rattle.lsp_types.specs.declared.side.Side.{Side}
+use Rattle.lsp_types.specs.declared.side.Side.TheVariants.{Editor, Server}
+use Rattle.lsp_session.specs.Sent.{answered_from, same_side}
 use Rattle.lsp_survey.specs.declared.notes.malformed.Malformed.{Malformed}
 use Rattle.lsp_survey.specs.declared.notes.note.Spelling.{Spelling}
-use Rattle.lsp_verdict.specs.Offences.{asks, brought_by, left_by, request_id}
-use Rattle.lsp_verdict.specs.Spelling.{folded, is_alike}
-use Rattle.lsp_types.specs.declared.rules.TheConstants as rules
+use Rattle.lsp_survey.specs.declared.notes.passed.Passed.{Passed}
+use Rattle.lsp_survey.specs.declared.notes.sides.SideNote.{SideNote}
+use Rattle.lsp_survey.specs.declared.notes.sides.Sides.{Sides}
+
+-- ---- maps by the ids of requests
+
+-- what is held of an id
+abbrev pub asked_in : {X : Type 0} → List (Id × X) → Ident → Option X
+asked_in es id = lookup (λ key. same_id id (id_view key)) es
+
+-- ---- what a map holds under a URI
+
+-- what the value under the URI is seen as
+abbrev pub held_by : {D R : Type 0} → (D → R) → List (String Global × D) → List ℕ → Option R
+held_by view es uri = option_map view (lookup (λ key. bytes_eq uri (string_bytes key)) es)
 
 -- ---- documents that are lost
 
@@ -90,3 +110,91 @@ pub record IsMeant (m : Option Message) (meant : Malformed) : Type 0 where
   pub asks : meant.asks ≡ asks m
   pub brings : option_map string_bytes meant.brings ≡ option_and_then brought_by m
   pub asked : option_map id_view meant.asked ≡ option_and_then request_id m
+
+-- ---- what is noted of the requests that were passed over
+
+-- whether a request of this side with this id is noted
+abbrev pub has_passed : Passed → Side → Ident → Bool
+has_passed p Editor id = is_some (asked_in p.editor.entries id)
+has_passed p Server id = is_some (asked_in p.server.entries id)
+
+abbrev pub has_any : Passed → Side → Option Ident → Bool
+has_any p side None = false
+has_any p side (Some id) = has_passed p side id
+
+-- a request of this side with this id is noted, or no more
+abbrev pub SetsRequest : Side → Ident → Bool → Passed → Passed → Type 0
+SetsRequest by id noted old new =
+    (side : Side) (k : Id) → has_passed new side (id_view k)
+    ≡ (if same_side side by && same_id id (id_view k) then noted
+    else has_passed old side (id_view k))
+
+-- a request of this side is noted, if there is one
+abbrev pub SetsAny : Side → Option Ident → Passed → Passed → Type 0
+SetsAny by None old new = new ≡ old
+SetsAny by (Some id) old new = SetsRequest by id true old new
+
+-- a message of the sender that breaks this rule is noted
+abbrev pub Passes : ℕ → Side → Message → Passed → Passed → Type 0
+Passes rule sender m old new =
+    (side : Side) (k : Id) → has_passed new side (id_view k)
+    ≡ unwrap_or (passes (asked_from side sender m) (answered_from side sender m) (id_view k) rule)
+    (has_passed old side (id_view k))
+
+-- an event that offends by the rule, or is kept, is noted
+abbrev pub ArePassed : Option ℕ → Event → Option Message → Passed → Passed → Type 0
+ArePassed rule event malformed old new =
+    (side : Side) (k : Id) → has_passed new side (id_view k)
+    ≡ unwrap_or (option_and_then (passes (asked_by side event malformed) (answered_by side event)
+    (id_view k)) rule) (has_passed old side (id_view k))
+
+-- ---- what is noted of the bytes of both sides
+
+-- what is noted of this side
+abbrev pub side_in : Side → Sides → SideNote
+side_in Editor s = s.editor
+side_in Server s = s.server
+
+-- **what is to be noted of this side after these events**
+abbrev pub side_of : Side → List Event → SideNote
+side_of side events = record {
+  broken = has_broken side events;
+  unread = is_unread side events;
+}
+
+abbrev pub sides_of : List Event → Sides
+sides_of events = record {
+  editor = side_of Editor events;
+  server = side_of Server events;
+}
+
+-- after a message
+abbrev pub read_on : SideNote → SideNote
+read_on old = record { broken = old.broken; unread = false }
+
+-- after a frame or a content that breaks this rule
+abbrev pub failed_on : ℕ → SideNote → SideNote
+failed_on rule old = record {
+  broken = old.broken || nat_le rule rules.CHARSET_NOT_UTF_8;
+  unread = rule == rules.CONTENT_NOT_JSON;
+}
+
+-- after a message of this side
+abbrev pub sides_read : Side → Sides → Sides
+sides_read side old = record {
+  editor = if same_side Editor side then read_on old.editor else old.editor;
+  server = if same_side Server side then read_on old.server else old.server;
+}
+
+-- after a frame or a content of this side that breaks this rule
+abbrev pub sides_failed : Side → ℕ → Sides → Sides
+sides_failed side rule old = record {
+  editor = if same_side Editor side then failed_on rule old.editor else old.editor;
+  server = if same_side Server side then failed_on rule old.server else old.server;
+}
+
+-- after this event
+abbrev pub sides_after : Event → Sides → Sides
+sides_after (message m) old = sides_read m.side old
+sides_after (fault side rule) old = sides_failed side rule old
+sides_after (snapshot uri number text) old = old

@@ -1,7 +1,7 @@
 -- What is said where all that is wrong with a log is listed.
 use Rattle.std.specs.Prelude.{◌≡◌, List, [], ◌∷◌, ◌++◌, ℕ, map, false, Option, Some, None}
 use Rattle.std.specs.Prelude.{unwrap_or}
-use Rattle.lsp_docs.specs.Terms.{Terms}
+use Rattle.lsp_docs.specs.Documents.{Terms}
 use Rattle.lsp_log.specs.declared.fault.LogCode.{LogCode}
 use Rattle.lsp_replay.specs.Run.{IsJudged, Run}
 use Rattle.lsp_survey.specs.Lost.{AreLosses}

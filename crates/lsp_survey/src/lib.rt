@@ -3,9 +3,10 @@
 //!
 //! `run_survey` reads a log and writes a report of all its offences, `run_show_all` also shows the
 //! events between them, and `run_text_all` writes the text that is held after a message of the
-//! editor's. Each is an account (`Survey`, `HeldText`) over the one `pass` of `lsp_replay`. An
-//! offence may follow from an earlier one, after which the two sides no longer agree on a document
-//! or on the handshake; what is an offence, and what follows, is defined in `lsp_verdict`.
+//! editor's. Each is an account (`Survey`, and `HeldText` of `lsp_replay`) over the one `pass` of
+//! `lsp_replay`. An offence may follow from an earlier one, after which the two sides no longer
+//! agree on a document or on the handshake; what is an offence, and what follows, is defined in
+//! `lsp_verdict`.
 #![tactic(auto)]
 
 mod end_of_session;
@@ -22,6 +23,6 @@ pub use laws::{all_shown_is_report, one_all_shown, one_kept_text};
 pub use losses::Losses;
 pub use lsp_verdict::Listing;
 pub use notes::{folded, forget, uri_in};
-pub use offence_count::{OffenceCount, last_offence};
+pub use offence_count::OffenceCount;
 pub use run::{run_show_all, run_survey};
 pub use text::run_text_all;

@@ -2,7 +2,7 @@
 ghost use Rattle.std.specs.Prelude.{◌≡◌, ◌&&◌, ◌||◌, ◌==◌, ℕ, ℤ, [], List, Option, None, Some};
 ghost use Rattle.std.specs.Prelude.{IfOk, false, option_map};
 ghost use Rattle.lsp_docs.specs.Calls.{shows};
-ghost use Rattle.lsp_docs.specs.Terms.{Terms};
+ghost use Rattle.lsp_docs.specs.Documents.{Terms};
 ghost use Rattle.lsp_replay.specs.Standing.{Holds};
 ghost use Rattle.lsp_replay.specs.Telling.{IsSeen};
 ghost use Rattle.lsp_rpc.specs.Message.{Message as AMessage};
@@ -11,17 +11,14 @@ ghost use Rattle.lsp_session.specs.Sent.{other_side, response_id, same_side};
 ghost use Rattle.lsp_session.specs.State.{Stands};
 ghost use Rattle.lsp_survey.specs.Lost.{AreLosses, HoldsSent, IsMessageOf, IsNotedIn, Offends};
 ghost use Rattle.lsp_survey.specs.Lost.{WasTold, follows_of};
-ghost use Rattle.lsp_survey.specs.Notes.{is_noted, is_noted_lost};
-ghost use Rattle.lsp_survey.specs.Passed.{has_any};
-ghost use Rattle.lsp_survey.specs.Sides.{sides_failed};
+ghost use Rattle.lsp_survey.specs.Notes.{is_noted, is_noted_lost, has_any, sides_failed};
 ghost use Rattle.lsp_types.specs.declared.change.SyncKind.{SyncKind};
 ghost use Rattle.lsp_types.specs.declared.position.Encoding.{Encoding};
 ghost use Rattle.lsp_types.specs.declared.rules.TheConstants as rules;
 ghost use Rattle.lsp_types.specs.declared.side.Side.TheVariants.{Editor};
-ghost use Rattle.lsp_verdict.specs.Calls.{call_of};
-ghost use Rattle.lsp_verdict.specs.Event.{Event, fault, sent_in, snapshot};
+ghost use Rattle.lsp_verdict.specs.Event.{call_of, Event, fault, sent_in, snapshot};
 ghost use Rattle.lsp_verdict.specs.Heard.{Heard, notes_of};
-ghost use Rattle.lsp_verdict.specs.Lent.{raw_view};
+ghost use Rattle.lsp_verdict.specs.Given.{raw_view};
 ghost use Rattle.lsp_verdict.specs.Offences.{IsReading, Noted, breaks_handshake, events_of};
 ghost use Rattle.lsp_verdict.specs.Offences.{follows_bytes, follows_passed, is_handshake_lost};
 ghost use Rattle.lsp_verdict.specs.Offences.{kept_of, may_answer, tells_initialized};
@@ -32,7 +29,7 @@ use crate::notes::{
     note_malformed, note_refused, note_refused_act, reopens, wants_handshake, wants_text,
 };
 use lsp_replay::{Events, Seen};
-use lsp_rpc::{Memory, Message, Side, Spoken};
+use lsp_rpc::{Message, Result, Side, Spoken};
 use lsp_session::Session;
 use lsp_text::Lined;
 use lsp_types::rules;
@@ -73,12 +70,7 @@ impl Losses {
     /// # Errors
     /// `Memory` where memory was refused.
     #[inline(always)]
-    pub fn tell(
-        &mut self,
-        alloc: Global,
-        held: &Events<Lined>,
-        seen: Seen<'_>,
-    ) -> Result<bool, Memory>
+    pub fn tell(&mut self, held: &Events<Lined>, seen: Seen<'_>) -> Result<bool>
         ensures { IfOk result (λ late. (terms : Terms) (before : List Heard) (h : Heard)
             → AreLosses terms self.old (notes_of before)
             → IsSeen held.now.session held.now.docs held.now.counts seen.entry terms before h
@@ -91,7 +83,12 @@ impl Losses {
                 Ok(false)
             }
             Seen::Snapshot { .. } => Ok(false),
-            Seen::Offence { raw, rule, spoken } => self.offend(alloc, held, raw, rule, spoken),
+            Seen::Offence {
+                raw,
+                rule,
+                spoken,
+                ..
+            } => self.offend(held, raw, rule, spoken),
         }
     }
 
@@ -99,12 +96,11 @@ impl Losses {
     /// before it. Whether it follows from an earlier one.
     fn offend(
         &mut self,
-        alloc: Global,
         held: &Events<Lined>,
         raw: Raw<'_>,
         rule: u16,
         spoken: Option<&Spoken>,
-    ) -> Result<bool, Memory>
+    ) -> Result<bool>
         ensures { IfOk result (λ late. (terms : Terms) (before : List Heard) (h : Heard)
             → AreLosses terms self.old (notes_of before)
             → Offends held.now.session held.now.docs held.now.counts (raw_view raw.entry) rule
@@ -113,7 +109,7 @@ impl Losses {
     {
         match raw {
             Raw::Content { side, content } => {
-                self.offend_content(alloc, held, side, rule, content, spoken)
+                self.offend_content(held, side, rule, content, spoken)
             }
             Raw::Broken { side, .. } => Ok(self.offend_fault(&held.session, side, rule, false)),
             Raw::Snapshot { uri, .. } => self.offend_shown(&held.session, rule, uri),
@@ -123,13 +119,12 @@ impl Losses {
     /// A content of a side offends, which is this message or none.
     fn offend_content(
         &mut self,
-        alloc: Global,
         held: &Events<Lined>,
         side: Side,
         rule: u16,
         content: &[u8],
         spoken: Option<&Spoken>,
-    ) -> Result<bool, Memory>
+    ) -> Result<bool>
         ensures { IfOk result (λ late. (terms : Terms) (before : List Heard) (h : Heard)
             → AreLosses terms self.old (notes_of before)
             → Offends held.now.session held.now.docs held.now.counts
@@ -139,7 +134,7 @@ impl Losses {
     {
         match spoken {
             Some(spoken) => self.offend_message(held, side, rule, spoken),
-            None => self.offend_unread(alloc, &held.session, side, rule, content),
+            None => self.offend_unread(held.docs.alloc(), &held.session, side, rule, content),
         }
     }
 
@@ -150,7 +145,7 @@ impl Losses {
         side: Side,
         rule: u16,
         spoken: &Spoken,
-    ) -> Result<bool, Memory>
+    ) -> Result<bool>
         ensures { IfOk result (λ late. (terms : Terms) (before : List Noted) (event : Event)
             (enc : Encoding) (kind : SyncKind) → AreLosses terms self.old before
             → held.now.docs.terms ≡ terms
@@ -184,7 +179,7 @@ impl Losses {
         side: Side,
         rule: u16,
         content: &[u8],
-    ) -> Result<bool, Memory>
+    ) -> Result<bool>
         ensures { IfOk result (λ late. (malformed : Option AMessage)
             × IsReading content.now malformed × ((terms : Terms) (before : List Noted)
             → AreLosses terms self.old before → HoldsSent session.now terms before
@@ -205,7 +200,7 @@ impl Losses {
     }
 
     /// A snapshot of the document of this URI offends.
-    fn offend_shown(&mut self, session: &Session, rule: u16, uri: &str) -> Result<bool, Memory>
+    fn offend_shown(&mut self, session: &Session, rule: u16, uri: &str) -> Result<bool>
         ensures { IfOk result (λ late. (terms : Terms) (before : List Noted) (number : ℤ)
             (text : List ℕ) → AreLosses terms self.old before → HoldsSent session.now terms before
             → (late ≡ follows_of terms before rule

@@ -1,26 +1,21 @@
 //! How many offences were found, and what is said of them at the end of a log.
 ghost use Rattle.std.specs.Prelude.{◌≡◌, ◌++◌, ◌∷◌, ◌<◌, ◌^◌, ◌||◌, not, [], List, None, IfOk};
 ghost use Rattle.std.specs.Prelude.{OnOk, length, map, option_map, string_bytes};
-ghost use Rattle.lsp_docs.specs.Terms.{Terms};
+ghost use Rattle.lsp_docs.specs.Documents.{Terms};
 ghost use Rattle.lsp_replay.specs.Telling.{Stood};
 ghost use Rattle.lsp_survey.specs.Reported.{IsTally, count_line, is_every, lines_of, verdict_lines};
-ghost use Rattle.lsp_verdict.specs.Counting.{AreCounts};
-ghost use Rattle.lsp_verdict.specs.Event.{Event};
 ghost use Rattle.lsp_verdict.specs.Given.{offence_view, verdict_view};
 ghost use Rattle.lsp_verdict.specs.Heard.{Heard, heard_events};
 ghost use Rattle.lsp_verdict.specs.Offences.{Offence as SpecOffence};
 ghost use Rattle.lsp_verdict.specs.Report.{report};
 ghost use Rattle.lsp_verdict.specs.Survey.{bad_lines, first_verdict};
-ghost use Rattle.lsp_verdict.specs.Verdict.{first_no, no_by, summary, whose};
+ghost use Rattle.lsp_verdict.specs.Verdict.{first_no, summary};
 
 use crate::end_of_session::sound;
-use lsp_replay::{EventPlace, Events};
-use lsp_rpc::Memory;
+use lsp_replay::Events;
+use lsp_rpc::Result;
 use lsp_text::Lined;
-use lsp_verdict::{
-    Counts, Listing, Offence, Verdict, Who, found_report, offence_report, verdict_report,
-};
-use std::alloc::Global;
+use lsp_verdict::{Listing, Offence, Verdict, found_report, offence_report, verdict_report};
 
 /// The first offence, how many there were, and how many of them follow from earlier ones.
 #[derive(Drop)]
@@ -63,11 +58,10 @@ impl OffenceCount {
     /// `Memory` where memory was refused.
     pub(crate) fn list(
         &mut self,
-        alloc: Global,
         listing: Listing,
         offence: &Offence,
         text: &mut String,
-    ) -> Result<(), Memory>
+    ) -> Result<()>
         ensures tally { (found : List SpecOffence) → IsTally self.old found
             → IsTally self.new (found ++ offence_view offence.now ∷ []) }
         ensures said { OnOk result (string_bytes text.new ≡ string_bytes text.old
@@ -77,7 +71,7 @@ impl OffenceCount {
         if !is_listed(listing, offence.follows) {
             return Ok(());
         }
-        let lines = offence_report(alloc, offence)?;
+        let lines = offence_report(*text.allocator(), offence)?;
         Ok(text.push_str(lines.as_str())?)
     }
 
@@ -87,18 +81,17 @@ impl OffenceCount {
     /// `Memory` where memory was refused.
     pub(crate) fn list_all(
         &mut self,
-        alloc: Global,
         listing: Listing,
         offences: &[Offence],
         text: &mut String,
-    ) -> Result<(), Memory>
+    ) -> Result<()>
         ensures tally { OnOk result ((found : List SpecOffence) → IsTally self.old found
             → IsTally self.new (found ++ map offence_view offences.now)) }
         ensures said { OnOk result (string_bytes text.new ≡ string_bytes text.old
             ++ lines_of listing (map offence_view offences.now)) }
     {
         for offence in offences {
-            self.list(alloc, listing, offence, text)?;
+            self.list(listing, offence, text)?;
         }
         Ok(())
     }
@@ -110,11 +103,10 @@ impl OffenceCount {
     /// `Memory` where memory was refused.
     pub fn push_verdict(
         &self,
-        alloc: Global,
         held: &Events<Lined>,
         bad: Option<Verdict>,
         text: &mut String,
-    ) -> Result<Verdict, Memory>
+    ) -> Result<Verdict>
         ensures { IfOk result (λ verdict. (terms : Terms) (heard : List Heard)
             (found : List SpecOffence)
             → Stood terms held.now.session held.now.docs held.now.counts heard
@@ -127,12 +119,12 @@ impl OffenceCount {
     {
         match self.first {
             Some(first) => {
-                push_bad(alloc, &bad, text)?;
+                push_bad(&bad, text)?;
                 Ok(first.verdict())
             }
             None => {
-                let verdict = sound(alloc, held, bad)?;
-                push_report(alloc, &verdict, text)?;
+                let verdict = sound(held, bad)?;
+                push_report(&verdict, text)?;
                 Ok(verdict)
             }
         }
@@ -142,7 +134,7 @@ impl OffenceCount {
     ///
     /// # Errors
     /// `Memory` where memory was refused.
-    pub fn push_count(&self, alloc: Global, text: &mut String) -> Result<(), Memory>
+    pub fn push_count(&self, text: &mut String) -> Result<()>
         ensures { OnOk result ((found : List SpecOffence) → IsTally self.now found
             → length found < 2 ^ 64
             → string_bytes text.new ≡ string_bytes text.old ++ count_line found) }
@@ -150,25 +142,8 @@ impl OffenceCount {
         if self.found == 0 {
             return Ok(());
         }
-        let count = found_report(alloc, self.found, self.following)?;
+        let count = found_report(*text.allocator(), self.found, self.following)?;
         Ok(text.push_str(count.as_str())?)
-    }
-}
-
-/// The offence against this rule at the event of theirs that was counted last.
-pub fn last_offence(counts: &Counts, who: Who, rule: u16, follows: bool) -> Offence
-    ensures { (before : List Event) (event : Event)
-        → AreCounts counts.now (before ++ event ∷ []) → who ≡ whose event
-        → length (before ++ event ∷ []) < 2 ^ 64
-        → offence_view result ≡ record { no = no_by before event rule; follows = follows } }
-{
-    let EventPlace { event, who, number } = EventPlace::last(counts, who);
-    Offence {
-        rule,
-        who,
-        number,
-        event,
-        follows,
     }
 }
 
@@ -183,21 +158,21 @@ fn is_listed(listing: Listing, follows: bool) -> bool
 }
 
 /// Adds the lines of a fault of the log to a text, if it has one.
-fn push_bad(alloc: Global, bad: &Option<Verdict>, text: &mut String) -> Result<(), Memory>
+fn push_bad(bad: &Option<Verdict>, text: &mut String) -> Result<()>
     ensures { OnOk result (string_bytes text.new
         ≡ string_bytes text.old ++ bad_lines (option_map verdict_view bad.now)) }
 {
     match bad {
-        Some(verdict) => push_report(alloc, verdict, text),
+        Some(verdict) => push_report(verdict, text),
         None => Ok(()),
     }
 }
 
 /// Adds the report of a verdict to a text.
-fn push_report(alloc: Global, verdict: &Verdict, text: &mut String) -> Result<(), Memory>
+fn push_report(verdict: &Verdict, text: &mut String) -> Result<()>
     ensures { OnOk result
         (string_bytes text.new ≡ string_bytes text.old ++ report (verdict_view verdict.now)) }
 {
-    let report = verdict_report(alloc, verdict)?;
+    let report = verdict_report(*text.allocator(), verdict)?;
     Ok(text.push_str(report.as_str())?)
 }

@@ -1,7 +1,7 @@
 //! Reports all that is wrong with a log, or shows all its events.
 ghost use Rattle.lsp_survey.specs.AllShown.{ShowsAll};
 ghost use Rattle.lsp_survey.specs.Reported.{SurveysLog};
-ghost use Rattle.lsp_verdict.specs.Ports.{ports};
+ghost use Rattle.lsp_verdict.specs.Runs.{ports};
 
 use crate::survey::{Options, Survey};
 use lsp_frame::{Limits, Sink, Source};

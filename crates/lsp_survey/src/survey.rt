@@ -1,16 +1,16 @@
 //! What is said where all that is wrong with a log is listed, and its kept events are shown or
 //! aren't.
 ghost use Rattle.std.specs.Prelude.{◌≡◌, ◌++◌, [], List, None, OnOk, string_bytes};
-ghost use Rattle.lsp_docs.specs.Terms.{Terms};
+ghost use Rattle.lsp_docs.specs.Documents.{Terms};
 ghost use Rattle.lsp_replay.specs.Telling.{IsSeen, rule_of};
 ghost use Rattle.lsp_survey.specs.SurveyRun.{SurveyAsked, SurveyStands, kept_line, survey_run};
 ghost use Rattle.lsp_verdict.specs.Heard.{Heard, heard_events};
 
 use crate::end_of_session::{SessionEnd, session_end};
 use crate::losses::Losses;
-use crate::offence_count::{OffenceCount, last_offence};
-use lsp_replay::{Account, End, Events, Flow, LogEvents, Seen, push_kept_line};
-use lsp_rpc::Memory;
+use crate::offence_count::OffenceCount;
+use lsp_replay::{Account, End, Events, Flow, LogEvents, Seen, last_offence, push_kept_line};
+use lsp_rpc::Result;
 use lsp_text::Lined;
 use lsp_verdict::{Completeness, Lines, Listing, Outcome};
 use std::alloc::Global;
@@ -49,13 +49,7 @@ impl Survey {
     }
 
     /// Adds the line of an event that is kept to a text, where those are shown.
-    fn show(
-        &self,
-        alloc: Global,
-        held: &Events<Lined>,
-        seen: Seen<'_>,
-        text: &mut String,
-    ) -> Result<(), Memory>
+    fn show(&self, held: &Events<Lined>, seen: Seen<'_>, text: &mut String) -> Result<()>
         ensures { OnOk result ((terms : Terms) (before : List Heard) (h : Heard)
             → IsSeen held.now.session held.now.docs held.now.counts seen.entry terms before h
             → rule_of terms before h ≡ None
@@ -63,7 +57,7 @@ impl Survey {
             ++ kept_line self.now.options.lines (heard_events before) h.note.event) }
     {
         match self.options.lines {
-            Some(lines) => push_kept_line(alloc, text, lines, held, seen),
+            Some(lines) => push_kept_line(text, lines, held, seen),
             None => Ok(()),
         }
     }
@@ -79,39 +73,31 @@ impl Account for Survey {
     ghost stands = { SurveyStands };
 
     #[inline(always)]
-    fn event(
-        &mut self,
-        alloc: Global,
-        held: &Events<Lined>,
-        seen: Seen<'_>,
-        text: &mut String,
-    ) -> Result<Flow, Memory> {
-        let follows = self.losses.tell(alloc, held, seen)?;
+    fn event(&mut self, held: &Events<Lined>, seen: Seen<'_>, text: &mut String) -> Result<Flow> {
+        let follows = self.losses.tell(held, seen)?;
         let Seen::Offence { raw, rule, .. } = seen else {
-            self.show(alloc, held, seen, text)?;
+            self.show(held, seen, text)?;
             return Ok(Flow::GoOn);
         };
-        let offence = last_offence(&held.counts, raw.who(), rule, follows);
+        let offence = last_offence(&held.counts, raw, rule, follows);
         let listing = self.options.listing;
-        self.tally.list(alloc, listing, &offence, text)?;
+        self.tally.list(listing, &offence, text)?;
         Ok(Flow::GoOn)
     }
 
     fn end(
         &mut self,
-        alloc: Global,
         held: &Events<Lined>,
         log: &LogEvents,
         end: End,
         text: &mut String,
-    ) -> Result<Outcome, Memory> {
+    ) -> Result<Outcome> {
         let completeness = self.options.completeness;
         let listing = self.options.listing;
-        let SessionEnd { listed, bad } = session_end(alloc, held, log, end, completeness)?;
-        self.tally
-            .list_all(alloc, listing, listed.as_slice(), text)?;
-        let verdict = self.tally.push_verdict(alloc, held, bad, text)?;
-        self.tally.push_count(alloc, text)?;
+        let SessionEnd { listed, bad } = session_end(held, log, end, completeness)?;
+        self.tally.list_all(listing, listed.as_slice(), text)?;
+        let verdict = self.tally.push_verdict(held, bad, text)?;
+        self.tally.push_count(text)?;
         Ok(Outcome::Judged(verdict))
     }
 }

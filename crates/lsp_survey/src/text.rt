@@ -1,18 +1,12 @@
 //! The text that is held after a message of the editor, where each event that offends is skipped.
-ghost use Rattle.std.specs.Prelude.{◌≡◌, ◌<◌};
-ghost use Rattle.lsp_replay.specs.LogEvents.{flaw_of};
-ghost use Rattle.lsp_replay.specs.TextAnswers.{TextAsked, WritesText, answer_view};
-ghost use Rattle.lsp_survey.specs.KeptText.{AnswersKept, end_answer, text_all_run};
-ghost use Rattle.lsp_types.specs.declared.side.Side.TheVariants.{Editor};
-ghost use Rattle.lsp_verdict.specs.Heard.{heard_events};
-ghost use Rattle.lsp_verdict.specs.Ports.{ports};
-ghost use Rattle.lsp_verdict.specs.Verdict.{bad_log_of, count_of, is_of};
+ghost use Rattle.std.specs.Prelude.{◌<◌};
+ghost use Rattle.lsp_replay.specs.TextAnswers.{WritesText};
+ghost use Rattle.lsp_survey.specs.KeptText.{AnswersKept};
+ghost use Rattle.lsp_verdict.specs.Runs.{ports};
 
 use lsp_frame::{Limits, Sink, Source};
-use lsp_replay::{Account, End, Events, Flow, LogEvents, Seen, TextAnswer, pass};
-use lsp_rpc::Memory;
-use lsp_text::Lined;
-use lsp_verdict::{Outcome, RunFault, Verdict};
+use lsp_replay::{HeldText, pass};
+use lsp_verdict::{Outcome, RunFault};
 use std::alloc::Global;
 
 /// Reads a log up to the editor's message of this number, from 1, and writes the text that the
@@ -37,62 +31,7 @@ pub fn run_text_all<R: Source, W: Sink>(
         (ports (R.told reader.old) (R.told reader.new) (W.told writer.old) (W.told writer.new))
         (λ log. AnswersKept limits log number uri.now) result }
 {
-    let mut account = HeldText { number, uri };
+    let skips = true;
+    let mut account = HeldText { number, uri, skips };
     pass(alloc, reader, writer, limits, &mut account)
-}
-
-/// Says the text that is held of a URI just after the editor's message of this number, from 1.
-#[derive(Drop)]
-struct HeldText<'a> {
-    number: u64,
-    uri: &'a str,
-}
-
-impl Account for HeldText<'_> {
-    ghost Asked = { TextAsked };
-
-    ghost asked = { λ account. record { number = account.number; uri = account.uri.now } };
-
-    ghost run = { text_all_run };
-
-    ghost stands = { λ account terms heard.
-        count_of (is_of Editor) (heard_events heard) < account.number };
-
-    fn event(
-        &mut self,
-        alloc: Global,
-        held: &Events<Lined>,
-        _seen: Seen<'_>,
-        text: &mut String,
-    ) -> Result<Flow, Memory> {
-        if held.counts.editor != self.number {
-            return Ok(Flow::GoOn);
-        }
-        let answer = TextAnswer::held(alloc, &held.docs, self.uri)?;
-        let outcome = answer.add(text)?;
-        let boxed = Box::new(alloc, outcome)?;
-        Ok(Flow::Stop(boxed))
-    }
-
-    fn end(
-        &mut self,
-        _alloc: Global,
-        _held: &Events<Lined>,
-        _log: &LogEvents,
-        end: End,
-        text: &mut String,
-    ) -> Result<Outcome, Memory> {
-        let outcome = missing(end).add(text)?;
-        Ok(outcome)
-    }
-}
-
-/// What the end of a log says where the message is missing in it.
-fn missing(end: End) -> TextAnswer
-    ensures { answer_view result ≡ end_answer (bad_log_of (flaw_of end)) }
-{
-    match end {
-        End::Sound => TextAnswer::TooFew,
-        End::Bad { number, fault } => TextAnswer::Refused(Verdict::BadLog { number, fault }),
-    }
 }

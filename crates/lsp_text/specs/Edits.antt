@@ -1,5 +1,5 @@
 -- What a change makes of a text.
-use Rattle.std.specs.Prelude.{◌≡◌, ℕ, cond, nat_lt, List, [], ◌∷◌, ◌++◌, take, drop}
+use Rattle.std.specs.Prelude.{◌≡◌, ℕ, cond, nat_lt, List, [], ◌∷◌, ◌++◌, take, drop, slice_get}
 use Rattle.std.specs.declared.option.Option.{Option}
 use Rattle.std.specs.declared.option.Option.TheVariants.{Some, None}
 use Rattle.std.specs.declared.result.Result.{Result}
@@ -7,6 +7,7 @@ use Rattle.std.specs.declared.result.Result.TheVariants.{Ok, Err}
 use Rattle.lsp_types.specs.declared.position.Encoding.{Encoding}
 use Rattle.lsp_types.specs.declared.position.Encoding.TheVariants.{Utf8}
 use Rattle.lsp_types.specs.declared.position.Span.{Span}
+use Rattle.lsp_text.specs.declared.changes.ChangeFault.{ChangeFault}
 use Rattle.lsp_text.specs.declared.fault.TextFault.{TextFault}
 use Rattle.lsp_text.specs.declared.fault.TextFault.TheVariants.{Rule, Memory}
 use Rattle.lsp_text.specs.declared.store.Place.{Place}
@@ -57,14 +58,13 @@ abbrev pub IsFaultOf : Result (List ℕ) ℕ → TextFault → Type 0
 IsFaultOf r (Rule rule) = r ≡ Err rule
 IsFaultOf r Memory = Unit {0}
 
--- one of the changes fails so on the text that those before it make, and that text is left
-pub record FailsAfter (limit : ℕ) (enc : Encoding) (t : List ℕ) (cs : List Edit) (u : List ℕ) (fault : TextFault) : Type 0 where
-  pub before : List Edit
+-- the change after this many fails so on the text that those make, and that text is left
+pub record FailsAfter (limit : ℕ) (enc : Encoding) (t : List ℕ) (cs : List Edit) (u : List ℕ)
+    (failed : ChangeFault) : Type 0 where
   pub edit : Edit
-  pub after : List Edit
-  pub changes : cs ≡ before ++ edit ∷ after
-  pub made : applied limit enc t before ≡ Ok u
-  pub failed : IsFaultOf (changed enc u edit.span edit.text limit) fault
+  pub there : slice_get cs failed.made ≡ Some edit
+  pub made : applied limit enc t (take failed.made cs) ≡ Ok u
+  pub fails : IsFaultOf (changed enc u edit.span edit.text limit) failed.fault
 
 -- the place, or 605 where there is none
 abbrev pub IsPlaceOr605 : Option ℕ → Result Place TextFault → Type 0

@@ -31,6 +31,15 @@ pub fn change<S: TextStore>(
     }
 }
 
+/// Why changes are not all made.
+#[derive(Clone, Copy, Debug, PartialEq, Eq)]
+pub struct ChangeFault {
+    /// How many are made before the one that fails.
+    pub made: usize,
+    /// Why that one is refused.
+    pub fault: TextFault,
+}
+
 /// Makes changes in order, each of the text that the one before left (LSP 3.17,
 /// "DidChangeTextDocument"). The first one that fails decides, and leaves the text that the changes
 /// before it made.
@@ -39,17 +48,20 @@ pub fn change_all<S: TextStore>(
     encoding: Encoding,
     changes: &[Change],
     limit: u64,
-) -> Result<(), TextFault>
+) -> Result<(), ChangeFault>
     ensures ok { OnOk result (applied limit encoding (S.content store.old) (edits_of changes.now)
         ≡ Ok (S.content store.new)) }
-    ensures fault { IfErr result
-        (IsFaultOf (applied limit encoding (S.content store.old) (edits_of changes.now))) }
+    ensures fault { IfErr result (λ failed.
+        IsFaultOf (applied limit encoding (S.content store.old) (edits_of changes.now))
+        failed.fault) }
     ensures err { IfErr result
         (FailsAfter limit encoding (S.content store.old) (edits_of changes.now)
         (S.content store.new)) }
 {
-    for made in changes {
-        change(store, encoding, made.span, made.text.as_str(), limit)?;
+    for (made, next) in changes.iter().enumerate() {
+        if let Err(fault) = change(store, encoding, next.span, next.text.as_str(), limit) {
+            return Err(ChangeFault { made, fault });
+        }
     }
     Ok(())
 }

@@ -32,7 +32,7 @@ mod stretches;
 mod sums;
 mod walk;
 
-pub use changes::{change, change_all};
+pub use changes::{ChangeFault, change, change_all};
 pub use columns::offset_in_line;
 pub use counts::{TextCounts, measure};
 pub use cut::FirstLine;

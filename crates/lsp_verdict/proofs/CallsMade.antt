@@ -10,12 +10,11 @@ use Rattle.lsp_types.specs.declared.change.SyncKind.TheVariants.{Nothing}
 use Rattle.lsp_session.specs.Negotiation.{encoding, sync_kind}
 use Rattle.lsp_session.specs.Rules.{rule_after}
 use Rattle.lsp_docs.specs.Calls.{Call}
-use Rattle.lsp_docs.specs.Documents.{Version, held}
+use Rattle.lsp_docs.specs.Documents.{Version, held, Terms}
 use Rattle.lsp_text.specs.Edits.{Edit}
 use Rattle.lsp_docs.specs.Rules.{change_rule, call_rule, AreAcceptedFrom, AreAccepted}
-use Rattle.lsp_docs.specs.Terms.{Terms}
-use Rattle.lsp_verdict.specs.Calls.{edit_of, call_of, call_at, calls}
-use Rattle.lsp_verdict.specs.Event.{Event, message, fault, snapshot, sent_in}
+use Rattle.lsp_verdict.specs.Event.{edit_of, call_of, call_at, calls, Event, message, fault}
+use Rattle.lsp_verdict.specs.Event.{snapshot, sent_in}
 use Rattle.lsp_verdict.specs.Kept.{NothingOffends, VersionsRise, SnapshotsAgree, ExactMeansEqual}
 use Rattle.lsp_types.specs.declared.line_ends.LineEnds.{LineEnds}
 use Rattle.lsp_text.specs.SameText.{SameText}

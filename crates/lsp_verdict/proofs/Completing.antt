@@ -11,15 +11,15 @@ use Rattle.lsp_session.specs.Negotiation.{first_row}
 use Rattle.lsp_session.specs.Requests.{open_requests}
 use Rattle.lsp_session.specs.Sent.{is_exit}
 use Rattle.lsp_log.specs.declared.fault.LogCode.{LogCode}
-use Rattle.lsp_docs.specs.Terms.{terms_of}
+use Rattle.lsp_docs.specs.Documents.{terms_of}
 use Rattle.lsp_log.specs.Log.{Record, IsLog}
-use Rattle.lsp_verdict.specs.BroughtToEnd.{IsBroughtToEnd, NamesLack, AreComplete, AreCutShort}
-use Rattle.lsp_verdict.specs.Complete.{lack_of, completed, IsCompleteFinal, IsCompleteVerdict}
-use Rattle.lsp_verdict.specs.CompleteLaws.{SomeCompleteVerdict, OneCompleteVerdict, CompleteMeansEnded, EndedMeansComplete, LackIsNamed, CompleteMeansFault}
+use Rattle.lsp_verdict.specs.Complete.{IsBroughtToEnd, NamesLack, AreComplete, AreCutShort, lack_of}
+use Rattle.lsp_verdict.specs.Complete.{completed, IsCompleteFinal, IsCompleteVerdict}
+use Rattle.lsp_verdict.specs.Laws.{SomeCompleteVerdict, OneCompleteVerdict, CompleteMeansEnded}
+use Rattle.lsp_verdict.specs.Laws.{EndedMeansComplete, LackIsNamed, CompleteMeansFault}
 use Rattle.lsp_verdict.specs.Event.{Event, sent_in}
-use Rattle.lsp_verdict.specs.Headline.{Names, HasRest107}
+use Rattle.lsp_verdict.specs.Laws.{Names, HasRest107, merged}
 use Rattle.lsp_verdict.specs.Kept.{NothingOffends, AreFrames}
-use Rattle.lsp_verdict.specs.Laws.{merged}
 use Rattle.lsp_verdict.specs.Outcome.{IsFinal, IsVerdict}
 use Rattle.lsp_verdict.specs.Placed.{IsSession, joined}
 use Rattle.lsp_verdict.specs.Verdict.{Verdict, Summary, yes, no, bad_log, no_next, summary}

@@ -23,11 +23,10 @@ use Rattle.lsp_log.specs.declared.reader.Progress.TheVariants as progress
 use Rattle.lsp_log.specs.declared.record.Record as code
 use Rattle.lsp_log.proofs.Callers.{begins_open}
 use Rattle.lsp_log.proofs.Reading.{left_at}
-use Rattle.lsp_verdict.specs.RunIo.{OfRead, failures_after}
+use Rattle.lsp_verdict.specs.Runs.{OfRead, failures_after, IsAt, HasFirst, BrokeOff, ShowsFault}
 use Rattle.lsp_verdict.specs.declared.outcome.RunFault.{RunFault}
 use Rattle.lsp_verdict.specs.declared.outcome.RunFault.TheVariants as faults
 use Rattle.lsp_verdict.proofs.Below.{some_log, records_come_first}
-use Rattle.lsp_verdict.specs.Entries.{IsAt, HasFirst, BrokeOff, ShowsFault}
 
 -- ---- the log read
 

@@ -12,7 +12,7 @@ use Rattle.lsp_types.specs.declared.side.Side.{Side}
 use Rattle.lsp_types.specs.declared.side.Side.TheVariants.{Editor, Server}
 use Rattle.lsp_docs.specs.Calls.{Call, opens, changes, closes, saves, shows}
 use Rattle.lsp_docs.specs.Snapshots.{unmatched_entry, unmatched_in, is_compared}
-use Rattle.lsp_docs.specs.Terms.{Terms}
+use Rattle.lsp_docs.specs.Documents.{Terms}
 use Rattle.lsp_log.specs.Log.{Record, chunk, shown, spelling, with_feed, head_line, head_of, parts_of, first_line, BeginsLog}
 use Rattle.lsp_verdict.specs.Event.{Event}
 use Rattle.lsp_verdict.specs.LookBack.{each_from}

@@ -7,16 +7,15 @@ use Rattle.lsp_frame.specs.Bounds.{Bounds, IsInRange}
 use Rattle.lsp_frame.specs.declared.format.Format.{Format}
 use Rattle.lsp_docs.specs.Snapshots.{unmatched}
 use Rattle.lsp_docs.specs.State.{capped}
-use Rattle.lsp_docs.specs.Terms.{Terms}
+use Rattle.lsp_docs.specs.Documents.{Terms}
 use Rattle.lsp_types.specs.declared.side.Side.TheVariants.{Editor, Server}
 use Rattle.lsp_log.specs.declared.fault.LogCode.{LogCode}
 use Rattle.lsp_log.specs.Log.{Record, spelling, with_feed, head_line, head_of, parts_of, first_line, IsLog}
 use Rattle.lsp_verdict.specs.declared.verdict.Who.{Who}
 use Rattle.lsp_verdict.specs.declared.verdict.Who.TheVariants as who
-use Rattle.lsp_verdict.specs.Calls.{call_at, calls}
-use Rattle.lsp_verdict.specs.Event.{Event}
+use Rattle.lsp_verdict.specs.Event.{call_at, calls, Event}
 use Rattle.lsp_verdict.specs.Given.{as_given}
-use Rattle.lsp_verdict.specs.Headline.{Names, HasRest107}
+use Rattle.lsp_verdict.specs.Laws.{Names, HasRest107}
 use Rattle.lsp_verdict.specs.Outcome.{ending, IsVerdict, format_or_one, log_terms}
 use Rattle.lsp_verdict.specs.Placed.{Raw, Placed, IsSession}
 use Rattle.lsp_verdict.specs.Verdict.{Verdict, Summary, yes, no, bad_log, summary, is_of, is_snapshot, belongs_to, count_of, whose, no_next}
@@ -72,10 +71,7 @@ rest_exact limits format records flaw events v small r = by_side r.named
 
 sum_exact : (s : Summary) → capped s.editor ≡ s.editor → capped s.server ≡ s.server → capped s.snapshots ≡ s.snapshots → capped s.unmatched ≡ s.unmatched → as_given (yes s) ≡ yes s
 sum_exact s e f g h =
-    ap (λ n. yes (record s { editor = n; server = capped s.server; snapshots = capped s.snapshots; unmatched = capped s.unmatched })) e
-    ∙ ap (λ n. yes (record s { server = n; snapshots = capped s.snapshots; unmatched = capped s.unmatched })) f
-    ∙ ap (λ n. yes (record s { snapshots = n; unmatched = capped s.unmatched })) g
-    ∙ ap (λ n. yes (record s { unmatched = n })) h
+    λ i. yes (record s { editor = e i; server = f i; snapshots = g i; unmatched = h i })
 
 -- a yes on few events is given as it is
 pub yes_exact : (terms : Terms) (events : List Event) → length events < 2 ^ 64 → as_given (yes (summary terms events)) ≡ yes (summary terms events)

@@ -1,9 +1,60 @@
--- What is found in a list, and where nothing is.
-use Rattle.std.proofs.Common.{◌≡◌, ◌⊎◌, List, [], ◌∷◌, ◌++◌, length, Option, Some, None, inl, inr, refl, sym, ap, ◌∙◌, append_assoc, append-nil, arith}
-use Rattle.std.specs.Prelude.{option_map}
+-- What is found in lists, and lists that are empty or gone through by index.
+use Rattle.std.proofs.Common.{◌≡◌, List, [], ◌∷◌, ◌++◌, refl, sym, ◌∙◌, ◌+◌, ℕ, zero, suc, take}
+use Rattle.std.proofs.Common.{Some, None, ap, arith, ◌⊎◌, length, Option, inl, inr, append_assoc}
+use Rattle.std.proofs.lemmas.List.{append-nil, append_cancel_left, map-append}
+use Rattle.std.specs.Prelude.{map, slice_get, option_map}
+use Rattle.std.proofs.lemmas.Option.{same_Some}
 use Rattle.std.specs.Option.{option_or}
 use Rattle.lsp_verdict.specs.LookBack.{first_from, first_of}
 use Rattle.lsp_verdict.proofs.LookBackLemmas.{first_of-none}
+
+-- ---- lists that are empty, and those that are not
+
+pub cancel_all : {A : Type 0} (xs ys : List A) → xs ++ ys ≡ xs → ys ≡ []
+cancel_all xs ys e = append_cancel_left xs ys [] (e ∙ sym (append-nil xs))
+
+pub first_nil : {A : Type 0} (xs ys : List A) → xs ++ ys ≡ [] → xs ≡ []
+first_nil [] ys e = refl
+first_nil (x ∷ xs) ys e = absurd cc
+
+pub rest_nil : {A : Type 0} (xs ys : List A) → xs ++ ys ≡ [] → ys ≡ []
+rest_nil [] ys e = e
+rest_nil (x ∷ xs) ys e = absurd cc
+
+pub not_nil : {A : Type 0} (xs : List A) (x : A) → xs ++ x ∷ [] ≡ [] → ⊥
+not_nil [] x e = absurd cc
+not_nil (y ∷ xs) x e = absurd cc
+
+pub not_empty : {A X : Type 0} (front : List A) (x : A) (back : List A) → [] ≡ front ++ x ∷ back → X
+not_empty [] x back e = cc
+not_empty (f ∷ front) x back e = cc
+
+-- ---- lists that are gone through by index
+
+-- one item more
+take_one : {A : Type 0} (xs : List A) (i : ℕ) (x : A) → slice_get xs i ≡ Some x
+    → take (i + 1) xs ≡ take i xs ++ x ∷ []
+take_one [] i x e = let same : None ≡ Some x = e in absurd cc
+take_one (y ∷ xs) zero x e = ap (λ w. w ∷ []) (same_Some _ _ e)
+take_one {A} (y ∷ xs) (suc i) x e =
+    let n : suc i + 1 ≡ suc (i + 1) = omega arith in
+    ap (λ k. take {A = A} k (y ∷ xs)) n ∙ ap (λ w. y ∷ w) (take_one xs i x e)
+
+pub map_one : {A B : Type 0} (f : A → B) (xs : List A) (i : ℕ) (x : A) → slice_get xs i ≡ Some x
+    → map f (take (i + 1) xs) ≡ map f (take i xs) ++ f x ∷ []
+map_one f xs i x e = ap (map f) (take_one xs i x e) ∙ map-append f (take i xs) (x ∷ [])
+
+-- one item more was pushed
+pub pushed_one : {A B C : Type 0} (view : A → B) (f : C → B) (items new : List A) (xs : List C)
+    (i : ℕ) (a : A) (x : C) → new ≡ items ++ a ∷ [] → map view items ≡ map f (take i xs)
+    → slice_get xs i ≡ Some x → view a ≡ f x → map view new ≡ map f (take (i + 1) xs)
+pushed_one view f items new xs i a x pushed so_far there same =
+    ap (map view) pushed ∙ map-append view items (a ∷ [])
+    ∙ ap (λ w. w ++ view a ∷ []) so_far
+    ∙ ap (λ b. map f (take i xs) ++ b ∷ []) same
+    ∙ sym (map_one f xs i x there)
+
+-- ---- what is found in a list, and where nothing is
 
 -- the element where something is found, with nothing before it
 pub record Found {A X : Type 0} (f : List A → A → Option X) (before xs : List A) (v : X) : Type 0 where

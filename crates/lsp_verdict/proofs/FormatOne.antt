@@ -5,7 +5,8 @@ use Rattle.lsp_frame.specs.declared.format.Format.{Format}
 use Rattle.lsp_frame.specs.declared.format.Format.TheVariants.{One}
 use Rattle.lsp_log.specs.Log.{BeginsLog, IsLog}
 use Rattle.lsp_verdict.proofs.Below.{records_come_first}
-use Rattle.lsp_verdict.specs.FormatOne.{IsOfFormatOne, IsVerdictKeepingNone, FormatOneKeepsVerdict, FormatOneKeepsReport}
+use Rattle.lsp_verdict.specs.Laws.{IsOfFormatOne, IsVerdictKeepingNone, FormatOneKeepsVerdict}
+use Rattle.lsp_verdict.specs.Laws.{FormatOneKeepsReport}
 use Rattle.lsp_verdict.specs.Outcome.{IsFinal, IsVerdict, format_or_one}
 use Rattle.lsp_verdict.specs.Report.{report}
 use Rattle.lsp_verdict.specs.Verdict.{Verdict}

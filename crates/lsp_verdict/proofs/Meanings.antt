@@ -4,12 +4,12 @@ use Rattle.lsp_frame.specs.Bounds.{Bounds, IsInRange}
 use Rattle.lsp_frame.specs.Frame.{Breaks, IsStream}
 use Rattle.lsp_frame.specs.declared.format.Format.{Format}
 use Rattle.lsp_types.specs.declared.side.Side.TheVariants.{Editor, Server}
-use Rattle.lsp_docs.specs.Terms.{Terms, terms_of}
+use Rattle.lsp_docs.specs.Documents.{Terms, terms_of}
 use Rattle.lsp_log.specs.declared.fault.LogCode.{LogCode}
 use Rattle.lsp_log.specs.Log.{Record, IsLog}
-use Rattle.lsp_verdict.specs.Calls.{calls}
-use Rattle.lsp_verdict.specs.Event.{Event, sent_in}
-use Rattle.lsp_verdict.specs.Headline.{YesMeansKept, KeptMeansYes, Names, HasRest107, NoNamesTheFirst, HasFault, BadLogMeansFault}
+use Rattle.lsp_verdict.specs.Event.{calls, Event, sent_in}
+use Rattle.lsp_verdict.specs.Laws.{YesMeansKept, KeptMeansYes, Names, HasRest107, NoNamesTheFirst}
+use Rattle.lsp_verdict.specs.Laws.{HasFault, BadLogMeansFault}
 use Rattle.lsp_verdict.specs.Given.{as_given}
 use Rattle.lsp_verdict.specs.Kept.{NothingOffends, KeepsRules, AreFrames, AreKept}
 use Rattle.lsp_verdict.specs.Outcome.{HasRest, is_rest, ending, IsFinal, format_or_one, log_terms}
@@ -18,7 +18,7 @@ use Rattle.lsp_verdict.specs.declared.verdict.Who.{Who}
 use Rattle.lsp_verdict.specs.declared.verdict.Who.TheVariants as who
 use Rattle.lsp_verdict.specs.Verdict.{Verdict, Summary, yes, no, bad_log, no_next, no_by, first_no, bad_log_of, rest_of, summary}
 use Rattle.lsp_verdict.proofs.CallsMade.{calls_accepted, versions_rise, snapshots_agree}
-use Rattle.lsp_verdict.proofs.Streams.{no_fault}
+use Rattle.lsp_verdict.proofs.Sessions.{no_fault}
 use Rattle.lsp_verdict.proofs.Messages.{admitted, answers_match, keeps_lifecycle}
 use Rattle.lsp_verdict.proofs.Verdicts.{nothing_offends, nothing_found, names_first, Why, is_yes, is_refused, yes_where}
 

@@ -7,7 +7,7 @@ use Rattle.lsp_session.specs.Requests.{request_rule, answers}
 use Rattle.lsp_session.specs.Rules.{rule_after, AdmittedAfter, IsAdmitted}
 use Rattle.lsp_session.specs.Sent.{Sent}
 use Rattle.lsp_session.proofs.LawLemmas.{admitted_at}
-use Rattle.lsp_docs.specs.Terms.{Terms}
+use Rattle.lsp_docs.specs.Documents.{Terms}
 use Rattle.lsp_verdict.specs.Event.{Event, message, fault, snapshot, sent_of, sent_in}
 use Rattle.lsp_verdict.specs.Kept.{Answers, IsResponseAt, AnswersOne, AnswersMatch, NothingOffends, KeepsLifecycle}
 use Rattle.lsp_verdict.specs.LookBack.{first_from}

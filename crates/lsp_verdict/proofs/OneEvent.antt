@@ -10,15 +10,11 @@ use Rattle.lsp_rpc.specs.Params.{act_at}
 use Rattle.lsp_types.specs.declared.side.Side.{Side}
 use Rattle.lsp_session.specs.Sent.{Sent}
 use Rattle.lsp_verdict.specs.Event.{Event, message, fault, snapshot}
-use Rattle.lsp_verdict.specs.Contents.{IsSent, IsRefused, ReadsAs}
-use Rattle.lsp_verdict.specs.Placed.{Raw, content, broken, show, Reads}
+use Rattle.lsp_verdict.specs.Placed.{IsSent, IsRefused, ReadsAs, Raw, content, broken, show, Reads}
 use Rattle.lsp_verdict.proofs.Below.{one_message, one_rule, not_both, message_or_rule}
 
 same_sent : (m n : Sent) → m.side ≡ n.side → m.message ≡ n.message → m.act ≡ n.act → m ≡ n
-same_sent m n side text act =
-    ap (λ s. let r : Sent = record { side = s; message = m.message; act = m.act } in r) side
-    ∙ ap (λ t. let r : Sent = record { side = n.side; message = t; act = m.act } in r) text
-    ∙ ap (λ a. let r : Sent = record { side = n.side; message = n.message; act = a } in r) act
+same_sent m n side text act = λ i. record { side = side i; message = text i; act = act i }
 
 one_sent : (side : Side) (bytes : List ℕ) (m n : Sent) → IsSent side bytes m → IsSent side bytes n → m ≡ n
 one_sent side bytes m n p q =

@@ -11,9 +11,8 @@ use Rattle.lsp_session.specs.Entry.{Entry}
 use Rattle.lsp_session.specs.Handshake.{was_sent}
 use Rattle.lsp_session.specs.Requests.{names, is_answered, open_entry, open_requests, answers, answers_request}
 use Rattle.lsp_session.specs.Sent.{Sent, same_side, request_of, request_by, answered_id, is_exit, sends}
-use Rattle.lsp_verdict.specs.BroughtToEnd.{AllAnswered, HasUnanswered, HasExit}
-use Rattle.lsp_verdict.proofs.Finding.{same_split}
-use Rattle.lsp_verdict.proofs.Lists.{first_nil, rest_nil}
+use Rattle.lsp_verdict.specs.Complete.{AllAnswered, HasUnanswered, HasExit}
+use Rattle.lsp_verdict.proofs.Finding.{same_split, first_nil, rest_nil}
 
 -- ---- an answer among later messages
 

@@ -10,7 +10,7 @@ use Rattle.lsp_frame.specs.declared.format.Format.TheVariants.{One}
 use Rattle.lsp_types.specs.declared.side.Side.{Side}
 use Rattle.lsp_types.specs.declared.side.Side.TheVariants.{Editor, Server}
 use Rattle.lsp_session.specs.Sent.{same_side}
-use Rattle.lsp_docs.specs.Terms.{Terms, terms_of}
+use Rattle.lsp_docs.specs.Documents.{Terms, terms_of}
 use Rattle.lsp_log.specs.Log.{Record, chunk, shown}
 use Rattle.lsp_log.specs.declared.fault.LogCode.{LogCode}
 use Rattle.lsp_verdict.specs.Event.{Event}
@@ -60,10 +60,7 @@ cuts_leave_verdict limits format rs us fault v w cut p q =
     let events : p.events ≡ q.events = same_session limits rs us p.events q.events cut p.session q.session in
     let editor : p.editor ≡ q.editor = one_rest limits (joined Editor rs) (joined Editor us) p.editor q.editor (cut_joined Editor rs us cut) p.editor_rest q.editor_rest in
     let server : p.server ≡ q.server = one_rest limits (joined Server rs) (joined Server us) p.server q.server (cut_joined Server rs us cut) p.server_rest q.server_rest in
-    sym p.says
-    ∙ ap (λ es. verdict (terms_of limits format) es (ending fault p.editor p.server)) events
-    ∙ ap (λ x. verdict (terms_of limits format) q.events (ending fault x p.server)) editor
-    ∙ ap (λ x. verdict (terms_of limits format) q.events (ending fault q.editor x)) server
+    sym p.says ∙ (λ i. verdict (terms_of limits format) (events i) (ending fault (editor i) (server i)))
     ∙ q.says
 
 -- an offence decides, however the log ends

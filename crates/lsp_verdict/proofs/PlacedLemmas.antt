@@ -7,10 +7,11 @@ use Rattle.lsp_types.specs.declared.side.Side.TheVariants.{Editor, Server}
 use Rattle.lsp_frame.specs.Bounds.{Bounds}
 use Rattle.lsp_frame.specs.Frame.{IsStream}
 use Rattle.lsp_log.specs.Log.{Record, chunk, shown}
-use Rattle.lsp_verdict.specs.Placed.{Raw, content, broken, show, Brings, new_fault, PlacedAfter, Placed, joined}
+use Rattle.lsp_verdict.specs.Placed.{Raw, content, broken, show, Brings, new_fault, PlacedAfter}
+use Rattle.lsp_verdict.specs.Placed.{Placed, joined}
 use Rattle.lsp_verdict.specs.Laws.{merged, put}
 use Rattle.lsp_verdict.proofs.Below.{one_stream, faulty_more}
-use Rattle.lsp_verdict.proofs.Lists.{cancel_all}
+use Rattle.lsp_verdict.proofs.Finding.{cancel_all}
 
 -- the parts of what two pieces bring
 brought_twice : (side : Side) (n1 n2 : List (List ℕ)) (f0 f1 f2 : Option ℕ) → ((rule : ℕ) → f1 ≡ Some rule → (n2 ≡ []) × (f2 ≡ f1)) → ((rule : ℕ) → f0 ≡ Some rule → f1 ≡ f0)
@@ -78,9 +79,7 @@ one_brings limits side before more now other a b =
     let old_fault : a.old_fault ≡ b.old_fault = (one_stream limits before _ _ _ _ _ _ a.stream b.stream).fault in
     let new_faults : a.last_fault ≡ b.last_fault = (one_stream limits (before ++ more) _ _ _ _ _ _ a.new_stream b.new_stream).fault in
     a.brought
-    ∙ ap (λ w. map (content side) w ++ new_fault side a.old_fault a.last_fault) more_same
-    ∙ ap (λ f. map (content side) b.new_contents ++ new_fault side f a.last_fault) old_fault
-    ∙ ap (λ f. map (content side) b.new_contents ++ new_fault side b.old_fault f) new_faults
+    ∙ (λ i. map (content side) (more_same i) ++ new_fault side (old_fault i) (new_faults i))
     ∙ sym b.brought
 
 -- **Records have one list of events.**

@@ -1,12 +1,12 @@
--- How a run that judges a log ends: with a verdict and all that is due, or with a fault.
-use Rattle.std.proofs.Common.{◌≡◌, ℕ, List, Result, Ok, Err, refl, subst}
+-- What holds of the stream that a run has read.
+use Rattle.std.proofs.Common.{ℕ, ◌+◌, List, ◌≡◌, Result, Ok, Err, refl, subst}
 use Rattle.lsp_frame.specs.Bounds.{Bounds, IsInRange}
+use Rattle.lsp_frame.specs.Told.{Told}
+use Rattle.lsp_verdict.specs.Runs.{OfRead, GaveAtMost, failures_after, sink_failures_after, OfInput}
+use Rattle.lsp_verdict.specs.Runs.{OutputFor, Ports, Judges}
 use Rattle.lsp_verdict.specs.Complete.{IsVerdictBy}
 use Rattle.lsp_verdict.specs.Given.{verdict_view}
 use Rattle.lsp_verdict.specs.Outcome.{IsVerdict}
-use Rattle.lsp_verdict.specs.Ports.{OfInput, OutputFor, Ports}
-use Rattle.lsp_verdict.specs.RunIo.{failures_after, sink_failures_after}
-use Rattle.lsp_verdict.specs.Runs.{Judges}
 use Rattle.lsp_verdict.specs.Verdict as spec
 use Rattle.lsp_verdict.specs.declared.completeness.Completeness.{Completeness}
 use Rattle.lsp_verdict.specs.declared.completeness.Completeness.TheVariants.{Ignored, Required}
@@ -18,7 +18,16 @@ use Rattle.lsp_verdict.specs.declared.verdict.Verdict.{Verdict}
 use Rattle.lsp_verdict.specs.declared.verdict.Verdict.TheVariants.{Yes}
 use Rattle.lsp_verdict.proofs.Completing.{plain_yes}
 use Rattle.lsp_verdict.proofs.Logs.Ends.{yes_at_end}
-use Rattle.lsp_verdict.proofs.RunReading.{read_map, read_within}
+
+-- what follows from it holds too
+pub read_map : (limits : Bounds) (before after : Told) (P Q : List ℕ → Type 0) → ((stream : List ℕ) → P stream → Q stream) → OfRead limits before after P → OfRead limits before after Q
+read_map limits before after P Q f p = record { bytes = p.bytes; ended = p.ended; read = p.read; holds = λ stream goes. f stream (p.holds stream goes) }
+
+-- no more was read than the limit lets
+pub read_within : (limits : Bounds) (before after : Told) (P : List ℕ → Type 0) → OfRead limits before after P → GaveAtMost (limits.log + 1) before after
+read_within limits before after P p = (p.bytes, p.read.gave, p.read.no_further)
+
+-- ---- how a run that judges a log ends: with a verdict and all that is due, or with a fault
 
 -- a fault of the reader or of memory, where no write failed
 pub unwritten_sink : (fault : RunFault) (old new : ℕ) → (fault ≡ faults.Write → ⊥) → new ≡ old

@@ -2,14 +2,15 @@
 use Rattle.std.proofs.Common.{◌≡◌, ◌⊎◌, ℕ, Bool, true, false, List, [], ◌∷◌, ◌++◌, Option, Some, None, inl, inr, refl, sym, ap, subst, ◌∙◌, append_assoc}
 use Rattle.std.specs.Prelude.{option_map, unwrap_or}
 use Rattle.std.specs.Option.{option_or}
-use Rattle.lsp_docs.specs.Terms.{Terms}
+use Rattle.lsp_docs.specs.Documents.{Terms}
 use Rattle.lsp_log.specs.declared.fault.LogCode.{LogCode}
 use Rattle.lsp_verdict.specs.Event.{Event}
-use Rattle.lsp_verdict.specs.Headline.{Names}
+use Rattle.lsp_verdict.specs.Laws.{Names}
 use Rattle.lsp_verdict.specs.Kept.{NothingOffends}
 use Rattle.lsp_verdict.specs.declared.verdict.Who.TheVariants as who
 use Rattle.lsp_verdict.specs.Verdict.{Verdict, Summary, Ending, yes, no, bad_log, offence, no_next, no_by, no_at, first_no, bad_log_of, rest_of, refusal, summary, verdict}
-use Rattle.lsp_verdict.proofs.Finding.{found, nothing_from, nothing_at, or_cases, map_none, map_some}
+use Rattle.lsp_verdict.proofs.Finding.{found, nothing_from, nothing_at, or_cases, map_none}
+use Rattle.lsp_verdict.proofs.Finding.{map_some}
 use Rattle.lsp_verdict.proofs.LookBackLemmas.{or_none_parts, first_of-more, first_of-snoc}
 
 -- ---- nothing offends
@@ -93,9 +94,7 @@ is_refused terms es end v is e = why terms es end v (refused (refusal terms es e
 -- and where nothing refuses, it is Yes
 pub yes_where : (terms : Terms) (es : List Event) (end : Ending) → IsYes terms es end → verdict terms es end ≡ yes (summary terms es)
 yes_where terms es end is =
-    ap (λ o. unwrap_or (option_or o (option_or (bad_log_of end.log_fault) (rest_of es end.editor_rest end.server_rest))) (yes (summary terms es))) is.none
-    ∙ ap (λ o. unwrap_or (option_or o (rest_of es end.editor_rest end.server_rest)) (yes (summary terms es))) is.no_fault
-    ∙ ap (λ o. unwrap_or o (yes (summary terms es))) is.no_rest
+    λ i. unwrap_or (option_or (is.none i) (option_or (is.no_fault i) (is.no_rest i))) (yes (summary terms es))
 
 -- the verdict at the event that comes next
 pub no_found : (terms : Terms) (events later extra : List Event) (event : Event) (v : Verdict) → first_no terms (events ++ later) ≡ None → no_at terms (events ++ later) event ≡ Some v → first_no terms (events ++ (later ++ event ∷ extra)) ≡ Some v

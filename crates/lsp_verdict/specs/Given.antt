@@ -1,5 +1,5 @@
--- The verdicts of the code, in the words of the definitions.
-use Rattle.std.specs.Prelude.{List, map, string_bytes}
+-- The verdicts, events and counts of the code, in the words of the definitions.
+use Rattle.std.specs.Prelude.{List, map, string_bytes, ◌≡◌, length}
 use Rattle.lsp_types.specs.declared.side.Side.{Side}
 use Rattle.lsp_session.specs.Entry.{Entry, request_view}
 use Rattle.lsp_session.specs.declared.pending.OpenRequest.{OpenRequest}
@@ -10,7 +10,18 @@ use Rattle.lsp_verdict.specs.declared.verdict.OpenDocument.{OpenDocument}
 use Rattle.lsp_verdict.specs.declared.verdict.Summary as code
 use Rattle.lsp_verdict.specs.declared.verdict.Verdict as verdict
 use Rattle.lsp_verdict.specs.declared.verdict.Verdict.TheVariants as verdicts
-use Rattle.lsp_verdict.specs.Verdict.{Document, Summary, Verdict, yes, no, bad_log}
+use Rattle.lsp_verdict.specs.Verdict.{Document, Summary, Verdict, yes, no, bad_log, who_of}
+use Rattle.lsp_verdict.specs.Verdict.{belongs_to, count_of}
+use Rattle.lsp_verdict.specs.Placed.{Raw, content, broken, show}
+use Rattle.lsp_verdict.specs.declared.raw.Raw as lent
+use Rattle.lsp_verdict.specs.declared.raw.Raw.TheVariants as raws
+use Rattle.lsp_verdict.specs.declared.verdict.Who.{Who}
+use Rattle.lsp_verdict.specs.declared.verdict.Who.TheVariants.{Snapshot}
+use Rattle.lsp_verdict.specs.declared.counts.Counts.{Counts}
+use Rattle.lsp_verdict.specs.declared.verdict.Who.TheVariants as who
+use Rattle.lsp_verdict.specs.Event.{Event}
+
+-- ---- verdicts and offences
 
 abbrev pub document_view : OpenDocument → Document
 document_view d = record { uri = string_bytes d.uri; number = d.version; bytes = d.bytes }
@@ -47,3 +58,24 @@ offence_view o = record { no = no o.rule o.who o.number o.event; follows = o.fol
 -- an offence with its counts as the code gives them
 abbrev pub given_offence : offences.Offence → offences.Offence
 given_offence o = record { no = as_given o.no; follows = o.follows }
+
+-- ---- events that are lent before their contents are read
+
+abbrev pub raw_view : lent.Raw → Raw
+raw_view (raws.Content side bytes) = content side bytes.now
+raw_view (raws.Broken side rule rest) = broken side rule
+raw_view (raws.Snapshot version uri text) = show version uri.now text.now
+
+abbrev pub whose_raw : Raw → Who
+whose_raw (content side bytes) = who_of side
+whose_raw (broken side rule) = who_of side
+whose_raw (show number uri text) = Snapshot
+
+-- ---- counts
+
+-- the counts are those of these events
+pub record AreCounts (c : Counts) (events : List Event) : Type 0 where
+  pub editor : c.editor ≡ capped (count_of (belongs_to who.Editor) events)
+  pub server : c.server ≡ capped (count_of (belongs_to who.Server) events)
+  pub snapshots : c.snapshots ≡ capped (count_of (belongs_to who.Snapshot) events)
+  pub all : c.all ≡ capped (length events)

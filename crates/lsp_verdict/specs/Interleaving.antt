@@ -10,11 +10,9 @@ use Rattle.lsp_session.specs.Handshake.{first_settled, result_of}
 use Rattle.lsp_session.specs.Negotiation.{agreed, agreed_at}
 use Rattle.lsp_session.specs.Requests.{answers}
 use Rattle.lsp_session.specs.Sent.{Sent, same_side, is_initialize, is_response, request_by}
-use Rattle.lsp_docs.specs.Documents.{documents}
-use Rattle.lsp_docs.specs.Terms.{Terms}
+use Rattle.lsp_docs.specs.Documents.{documents, Terms}
 use Rattle.lsp_log.specs.Log.{Record}
-use Rattle.lsp_verdict.specs.Calls.{calls}
-use Rattle.lsp_verdict.specs.Event.{Event, message, fault, snapshot, sent_in}
+use Rattle.lsp_verdict.specs.Event.{calls, Event, message, fault, snapshot, sent_in}
 use Rattle.lsp_verdict.specs.Placed.{IsSession}
 use Rattle.lsp_verdict.specs.Verdict.{Ending, Summary, first_no, verdict, yes, no}
 use Rattle.lsp_verdict.specs.declared.verdict.Who.{Who}

@@ -10,13 +10,11 @@ use Rattle.lsp_session.specs.Requests.{answers}
 use Rattle.lsp_session.specs.Sent.{Sent, is_response}
 use Rattle.lsp_types.specs.declared.line_ends.LineEnds.TheVariants.{Exact}
 use Rattle.lsp_text.specs.SameText.{SameText}
-use Rattle.lsp_docs.specs.Binding.{standing, binding}
+use Rattle.lsp_docs.specs.Laws.{standing, binding}
 use Rattle.lsp_docs.specs.Calls.{Call, shows}
-use Rattle.lsp_docs.specs.Documents.{Version, held}
-use Rattle.lsp_docs.specs.Terms.{Terms, terms_of}
+use Rattle.lsp_docs.specs.Documents.{Version, held, Terms, terms_of}
 use Rattle.lsp_log.specs.Log.{Record, IsLog}
-use Rattle.lsp_verdict.specs.Calls.{calls}
-use Rattle.lsp_verdict.specs.Event.{Event, message, sent_in}
+use Rattle.lsp_verdict.specs.Event.{calls, Event, message, sent_in}
 use Rattle.lsp_verdict.specs.Outcome.{format_or_one}
 use Rattle.lsp_verdict.specs.Placed.{IsSession, joined}
 use Rattle.lsp_verdict.specs.Verdict.{offence}

@@ -19,12 +19,10 @@ use Rattle.lsp_session.specs.Requests.{names}
 use Rattle.lsp_session.specs.Sent.{answered_from, other_side, request_of, response_id, same_side}
 use Rattle.lsp_text.specs.Edits.{Edit}
 use Rattle.lsp_docs.specs.Calls.{Call, opens, changes, closes, saves, shows, uri_of}
-use Rattle.lsp_docs.specs.Documents.{Version, held}
-use Rattle.lsp_docs.specs.Terms.{Terms}
+use Rattle.lsp_docs.specs.Documents.{Version, held, Terms}
 use Rattle.lsp_text.specs.SameText.{same_text}
 use Rattle.lsp_log.specs.Log.{Record}
-use Rattle.lsp_verdict.specs.Calls.{call_at, calls}
-use Rattle.lsp_verdict.specs.Event.{Event, message, fault, snapshot, sent_in}
+use Rattle.lsp_verdict.specs.Event.{call_at, calls, Event, message, fault, snapshot, sent_in}
 use Rattle.lsp_verdict.specs.LookBack.{first_of, each_of}
 use Rattle.lsp_verdict.specs.Placed as placed
 use Rattle.lsp_verdict.specs.Placed.{Raw, broken, show, Placed, Reads}

@@ -1,5 +1,6 @@
--- The report of a verdict.
-use Rattle.std.specs.Prelude.{ℕ, List, [], ◌∷◌, ◌++◌, Bool, true, false, Option, Some, None, codes, decimal}
+-- The reports of a verdict and of a fault of a stream.
+use Rattle.std.specs.Prelude.{ℕ, List, [], ◌∷◌, ◌++◌, Bool, true, false, Option, Some, None, codes}
+use Rattle.std.specs.Prelude.{decimal}
 use Rattle.std.specs.List.{flat_map}
 use Rattle.std.specs.Fmt.{signed_decimal}
 use Rattle.json.specs.Print.{quoted}
@@ -11,10 +12,13 @@ use Rattle.lsp_types.specs.declared.position.Encoding.TheVariants.{Utf8, Utf16, 
 use Rattle.lsp_types.specs.declared.change.SyncKind.{SyncKind}
 use Rattle.lsp_types.specs.declared.change.SyncKind.TheVariants.{Nothing, Full, Incremental}
 use Rattle.lsp_session.specs.Entry.{Entry}
+use Rattle.lsp_log.specs.declared.fault.LogCode.TheVariants.{L6}
 use Rattle.lsp_verdict.specs.declared.verdict.Who.{Who}
 use Rattle.lsp_verdict.specs.declared.verdict.Who.TheVariants as who
 use Rattle.lsp_verdict.specs.Texts.{text_of, code_name, code_text}
 use Rattle.lsp_verdict.specs.Verdict.{Document, Summary, Verdict, yes, no, bad_log}
+use Rattle.lsp_verdict.specs.declared.outcome.StreamFault.{StreamFault}
+use Rattle.lsp_verdict.specs.declared.outcome.StreamFault.TheVariants.{Rule, TooLong}
 
 -- words with a space between each two, and a LF
 abbrev pub line : List (List ℕ) → List ℕ
@@ -67,3 +71,14 @@ report (yes s) =
 report (no rule who count event) =
     line (codes "no" ∷ decimal rule ∷ who_name who ∷ decimal count ∷ codes "event" ∷ decimal event ∷ []) ++ line (text_of rule ∷ [])
 report (bad_log at code) = line (codes "bad" ∷ codes "log" ∷ code_name code ∷ codes "record" ∷ decimal at ∷ []) ++ line (code_text code ∷ [])
+
+-- ---- a fault of a stream
+
+-- the code and the frame's number, LF, the text, LF
+abbrev pub two_lines : List ℕ → ℕ → List ℕ → List ℕ
+two_lines code frame text =
+    codes "fault " ++ code ++ codes " frame " ++ decimal frame ++ codes "\n" ++ text ++ codes "\n"
+
+abbrev pub stream_report : ℕ → StreamFault → List ℕ
+stream_report frame (Rule rule) = two_lines (decimal rule) frame (text_of rule)
+stream_report frame TooLong = two_lines (code_name L6) frame (code_text L6)

@@ -1,23 +1,31 @@
 -- What is shown of a session: its events, and the text that is held after a message.
-use Rattle.std.specs.Prelude.{ℕ, ℤ, ◌+◌, ◌-◌, ◌==◌, ◌&&◌, List, [], ◌∷◌, ◌++◌, length, take, if◌then◌else◌, Option, Some, None, is_some, codes, decimal}
+use Rattle.std.specs.Prelude.{ℕ, ℤ, ◌+◌, ◌-◌, ◌==◌, ◌&&◌, List, [], ◌∷◌, ◌++◌, length, take}
+use Rattle.std.specs.Prelude.{if◌then◌else◌, Option, Some, None, is_some, codes, decimal, ◌≡◌}
 use Rattle.std.specs.List.{flat_map}
 use Rattle.std.specs.Fmt.{signed_decimal}
 use Rattle.json.specs.Print.{quoted}
 use Rattle.lsp_rpc.specs.Act.{Act, did_open, did_change, did_close, did_save}
 use Rattle.lsp_rpc.specs.Words.{words_of}
 use Rattle.lsp_types.specs.declared.side.Side.TheVariants.{Editor}
+use Rattle.lsp_types.specs.declared.rules.TheConstants as rules
 use Rattle.lsp_session.specs.Sent.{Sent}
-use Rattle.lsp_docs.specs.Texts.{byte_len}
-use Rattle.lsp_docs.specs.Documents.{Version, held}
-use Rattle.lsp_docs.specs.Terms.{Terms}
+use Rattle.lsp_docs.specs.Calls.{byte_len}
+use Rattle.lsp_docs.specs.Documents.{Version, held, Terms}
+use lib.Utf8.{encodes}
+use Rattle.lsp_frame.specs.Bounds.{Bounds, IsInRange}
 use Rattle.lsp_verdict.specs.declared.lines.Lines.{Lines}
 use Rattle.lsp_verdict.specs.declared.lines.Lines.TheVariants.{Short, Long}
 use Rattle.lsp_verdict.specs.LookBack.{each_of}
-use Rattle.lsp_verdict.specs.Event.{Event, message, fault, snapshot}
-use Rattle.lsp_verdict.specs.Calls.{calls}
-use Rattle.lsp_verdict.specs.Verdict.{Verdict, yes, no, first_no, is_of, belongs_to, count_of, whose}
+use Rattle.lsp_verdict.specs.Event.{Event, message, fault, snapshot, calls}
+use Rattle.lsp_verdict.specs.Verdict.{Verdict, yes, no, first_no, is_of, belongs_to, count_of}
+use Rattle.lsp_verdict.specs.Verdict.{whose}
 use Rattle.lsp_verdict.specs.Report.{line, side_name, report}
-use Rattle.lsp_types.specs.declared.rules.TheConstants as rules
+use Rattle.lsp_verdict.specs.Given.{verdict_view}
+use Rattle.lsp_verdict.specs.Outcome.{IsVerdict, log_terms}
+use Rattle.lsp_verdict.specs.declared.outcome.Outcome.{Outcome}
+use Rattle.lsp_verdict.specs.declared.outcome.Outcome.TheVariants.{Done, Judged, NoDocument}
+use Rattle.lsp_verdict.specs.declared.outcome.Outcome.TheVariants.{NoDifference, TooFew}
+use Rattle.lsp_verdict.specs.declared.verdict.Verdict as code
 
 -- ---- events
 
@@ -97,3 +105,51 @@ missing_answer v = refused v
 abbrev pub text_answer : Terms → List ℕ → Verdict → Option (List Event) → TextAnswer
 text_answer terms uri v (Some events) = if is_some (first_no terms events) then missing_answer v else held_answer (held terms uri (calls events))
 text_answer terms uri v None = missing_answer v
+
+-- ---- that text, on the bytes of a log
+
+-- **the answer on a log**: what its verdict and its events up to the editor's n-th message say
+-- about the text held just after that message
+abbrev pub AnswersText : Bounds → List ℕ → ℕ → List ℕ → TextAnswer → Type 0
+AnswersText limits log n uri answer = (v : Verdict) × (whole : IsVerdict limits log v) × (answer ≡ text_answer (log_terms limits whole.format) uri v (up_to_editor n [] whole.final.events))
+
+-- **Every log has such an answer.**
+abbrev pub SomeText : Type 0
+SomeText = (limits : Bounds) (log : List ℕ) (n : ℕ) (uri : List ℕ)
+    → (answer : TextAnswer) × AnswersText limits log n uri answer
+
+-- **A log has only one such answer.**
+abbrev pub OneText : Type 0
+OneText = (limits : Bounds) → IsInRange limits → (log : List ℕ) (n : ℕ) (uri : List ℕ) (a b : TextAnswer) → AnswersText limits log n uri a → AnswersText limits log n uri b → a ≡ b
+
+-- ---- what a run writes for it, and how it ends
+
+-- what is written for an answer: the text, and nothing where there is none
+abbrev pub written_of : TextAnswer → List ℕ
+written_of (text_is text) = encodes text
+written_of no_document = []
+written_of too_few = []
+written_of no_difference = []
+written_of (refused v) = []
+
+-- how a run ends that has this answer
+abbrev pub EndsAs : TextAnswer → Outcome → Type 0
+EndsAs (text_is text) outcome = outcome ≡ Done
+EndsAs no_document outcome = outcome ≡ NoDocument
+EndsAs too_few outcome = outcome ≡ TooFew
+EndsAs no_difference outcome = outcome ≡ NoDifference
+EndsAs (refused v) outcome = (given : code.Verdict) × (outcome ≡ Judged given) × (verdict_view given ≡ v)
+
+-- **what is due for a text**, where a log has one of these answers: the text that is held and
+-- nothing else, and how the run ends
+pub record IsText (Answers : List ℕ → TextAnswer → Type 0) (log out : List ℕ)
+    (outcome : Outcome) : Type 0 where
+  pub answer : TextAnswer
+  pub answers : Answers log answer
+  pub written : out ≡ written_of answer
+  pub ends : EndsAs answer outcome
+
+-- these bytes begin what is due for that text
+abbrev pub BeginsText : (List ℕ → TextAnswer → Type 0) → List ℕ → List ℕ → Type 0
+BeginsText Answers log front =
+    (outcome : Outcome) × (left : List ℕ) × IsText Answers log (front ++ left) outcome

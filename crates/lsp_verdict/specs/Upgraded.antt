@@ -4,7 +4,7 @@ use Rattle.std.specs.List.{flat_map}
 use Rattle.lsp_frame.specs.Bounds.{Bounds, IsInRange}
 use Rattle.lsp_frame.specs.declared.format.Format.{Format}
 use Rattle.lsp_frame.specs.declared.format.Format.TheVariants.{Two}
-use Rattle.lsp_docs.specs.Terms.{terms_of}
+use Rattle.lsp_docs.specs.Documents.{terms_of}
 use Rattle.lsp_log.specs.Log.{Record, spelling, first_line}
 use Rattle.lsp_verdict.specs.Event.{Event}
 use Rattle.lsp_verdict.specs.Kept.{NothingOffends}

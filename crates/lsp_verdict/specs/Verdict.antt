@@ -10,17 +10,15 @@ use Rattle.lsp_session.specs.Negotiation.{encoding, sync_kind}
 use Rattle.lsp_session.specs.Requests.{open_requests}
 use Rattle.lsp_session.specs.Sent.{same_side}
 use Rattle.lsp_session.specs.Rules.{rule_after}
-use Rattle.lsp_docs.specs.Texts.{byte_len}
-use Rattle.lsp_docs.specs.Documents.{Held, documents}
+use Rattle.lsp_docs.specs.Calls.{byte_len}
+use Rattle.lsp_docs.specs.Documents.{Held, documents, Terms}
 use Rattle.lsp_docs.specs.Rules.{call_rule}
 use Rattle.lsp_docs.specs.Snapshots.{unmatched}
-use Rattle.lsp_docs.specs.Terms.{Terms}
 use Rattle.lsp_log.specs.declared.fault.LogCode.{LogCode}
 use Rattle.lsp_verdict.specs.declared.verdict.Who.{Who}
 use Rattle.lsp_verdict.specs.declared.verdict.Who.TheVariants as who
 use Rattle.lsp_verdict.specs.LookBack.{first_of}
-use Rattle.lsp_verdict.specs.Event.{Event, message, fault, snapshot, sent_in}
-use Rattle.lsp_verdict.specs.Calls.{call_at, calls}
+use Rattle.lsp_verdict.specs.Event.{Event, message, fault, snapshot, sent_in, call_at, calls}
 use Rattle.lsp_types.specs.declared.rules.TheConstants as rules
 
 -- ---- offences

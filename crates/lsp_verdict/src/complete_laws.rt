@@ -1,7 +1,7 @@
 //! Laws about the verdict if the session must be complete.
-ghost use Rattle.lsp_verdict.specs.CompleteLaws.{CompleteMeansEnded, EndedMeansComplete};
-ghost use Rattle.lsp_verdict.specs.CompleteLaws.{LackIsNamed, CompleteMeansFault};
-ghost use Rattle.lsp_verdict.specs.CompleteLaws.{OneCompleteVerdict, SomeCompleteVerdict};
+ghost use Rattle.lsp_verdict.specs.Laws.{CompleteMeansEnded, EndedMeansComplete, LackIsNamed};
+ghost use Rattle.lsp_verdict.specs.Laws.{CompleteMeansFault, OneCompleteVerdict};
+ghost use Rattle.lsp_verdict.specs.Laws.{SomeCompleteVerdict};
 
 /// Every byte sequence has a verdict if the session must be complete.
 pub fn some_complete_verdict()

@@ -1,8 +1,7 @@
 //! Numbers of events.
 ghost use Rattle.std.specs.Prelude.{◌≡◌, ◌++◌, ◌∷◌, [], ℕ, List};
-ghost use Rattle.lsp_verdict.specs.Counting.{AreCounts};
+ghost use Rattle.lsp_verdict.specs.Given.{AreCounts, as_given};
 ghost use Rattle.lsp_verdict.specs.Event.{Event};
-ghost use Rattle.lsp_verdict.specs.Given.{as_given};
 ghost use Rattle.lsp_docs.specs.State.{capped};
 ghost use Rattle.lsp_verdict.specs.Verdict.{belongs_to, count_of, no, no_next, whose};
 

@@ -1,12 +1,12 @@
 //! Laws about the definitions. Each is the contract of a function that does nothing.
-ghost use Rattle.lsp_verdict.specs.FormatOne.{FormatOneKeepsReport, FormatOneKeepsVerdict};
-ghost use Rattle.lsp_verdict.specs.Headline.{BadLogMeansFault, KeptMeansYes, NoNamesTheFirst};
-ghost use Rattle.lsp_verdict.specs.Headline.{YesMeansKept};
+ghost use Rattle.lsp_verdict.specs.Laws.{FormatOneKeepsReport, FormatOneKeepsVerdict};
+ghost use Rattle.lsp_verdict.specs.Laws.{BadLogMeansFault, KeptMeansYes, NoNamesTheFirst};
+ghost use Rattle.lsp_verdict.specs.Laws.{YesMeansKept, CutsDontMatter, CutsLeaveVerdict};
+ghost use Rattle.lsp_verdict.specs.Laws.{EventsFirst, OffenceDecides, OneSession, OneVerdict};
+ghost use Rattle.lsp_verdict.specs.Laws.{SidesAreStreams, SnapshotsAreShown, SomeFinal};
+ghost use Rattle.lsp_verdict.specs.Laws.{SomeSession, SomeVerdict};
 ghost use Rattle.lsp_verdict.specs.Kept.{ExactMeansEqual};
-ghost use Rattle.lsp_verdict.specs.Laws.{CutsDontMatter, CutsLeaveVerdict, EventsFirst};
-ghost use Rattle.lsp_verdict.specs.Laws.{OffenceDecides, OneSession, OneVerdict, SidesAreStreams};
-ghost use Rattle.lsp_verdict.specs.Laws.{SnapshotsAreShown, SomeFinal, SomeSession, SomeVerdict};
-ghost use Rattle.lsp_verdict.specs.TextAfter.{OneText, SomeText};
+ghost use Rattle.lsp_verdict.specs.Shown.{OneText, SomeText};
 ghost use Rattle.lsp_verdict.specs.Upgraded.{OneUpgrade, SomeUpgrade, UpgradeKeepsYes};
 ghost use Rattle.lsp_verdict.specs.Upgraded.{UpgradeStays};
 

@@ -1,8 +1,7 @@
 //! An offence of a session, as it is listed and reported.
 ghost use Rattle.std.specs.Prelude.{◌≡◌, ◌∷◌, [], List, IfOk, string_bytes, codes, decimal};
-ghost use Rattle.lsp_verdict.specs.Counting.{AreCounts};
+ghost use Rattle.lsp_verdict.specs.Given.{AreCounts, given_offence, offence_view, verdict_view};
 ghost use Rattle.lsp_verdict.specs.Event.{Event};
-ghost use Rattle.lsp_verdict.specs.Given.{given_offence, offence_view, verdict_view};
 ghost use Rattle.lsp_verdict.specs.Report.{line};
 ghost use Rattle.lsp_verdict.specs.Survey.{no_lines, offence_lines};
 ghost use Rattle.lsp_verdict.specs.Verdict.{no, no_next};
@@ -12,7 +11,7 @@ use crate::names::who_name;
 use crate::report::no_report;
 use crate::texts::text_of;
 use crate::verdict::{Verdict, Who};
-use lsp_rpc::Memory;
+use lsp_rpc::Result;
 use std::alloc::Global;
 
 /// An offence of a session, and whether it follows from an earlier one.
@@ -59,13 +58,7 @@ impl Offence {
 }
 
 /// The lines of an offence that follows from an earlier one.
-fn follow_report(
-    alloc: Global,
-    rule: u16,
-    who: Who,
-    number: u64,
-    event: u64,
-) -> Result<String, Memory>
+fn follow_report(alloc: Global, rule: u16, who: Who, number: u64, event: u64) -> Result<String>
     ensures { IfOk result (λ written. string_bytes written
         ≡ no_lines (codes "follows" ∷ []) (no rule who number event)) }
 {
@@ -77,7 +70,7 @@ fn follow_report(
 
 /// The two lines that list an offence: those of its No, and the word `follows` after the number of
 /// the event if it follows from an earlier one.
-pub fn offence_report(alloc: Global, offence: &Offence) -> Result<String, Memory>
+pub fn offence_report(alloc: Global, offence: &Offence) -> Result<String>
     ensures { IfOk result (λ written. string_bytes written
         ≡ offence_lines (offence_view offence.now)) }
 {
@@ -96,7 +89,7 @@ pub fn offence_report(alloc: Global, offence: &Offence) -> Result<String, Memory
 }
 
 /// The line with the number of offences found, and how many of them follow from earlier ones.
-pub fn found_report(alloc: Global, found: u64, following: u64) -> Result<String, Memory>
+pub fn found_report(alloc: Global, found: u64, following: u64) -> Result<String>
     ensures { IfOk result (λ written. string_bytes written
         ≡ line (codes "offences" ∷ decimal found ∷ codes "following" ∷ decimal following ∷ [])) }
 {

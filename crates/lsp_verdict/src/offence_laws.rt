@@ -1,8 +1,8 @@
 //! Laws about the list of offences of a session. Each is the contract of a function that does
 //! nothing.
-ghost use Rattle.lsp_verdict.specs.OffenceLaws.{AllAreKept, FirstListed, KeptAreOthers};
-ghost use Rattle.lsp_verdict.specs.OffenceLaws.{KeptOffendNowhere, ListedOffend, NothingListed};
-ghost use Rattle.lsp_verdict.specs.OffenceLaws.{OneSurvey, SomeSurvey, SurveyAgrees};
+ghost use Rattle.lsp_verdict.specs.Laws.{AllAreKept, FirstListed, KeptAreOthers, KeptOffendNowhere};
+ghost use Rattle.lsp_verdict.specs.Laws.{ListedOffend, NothingListed, OneSurvey, SomeSurvey};
+ghost use Rattle.lsp_verdict.specs.Laws.{SurveyAgrees};
 
 /// The kept events, from which those that offend are left out, by themselves break no rule.
 pub fn kept_offend_nowhere()

@@ -96,7 +96,7 @@ impl From<AllocError> for RunFault {
 
 impl From<PullFault> for RunFault {
     ghost use Rattle.std.specs.Prelude.{◌≡◌};
-    ghost use Rattle.lsp_verdict.specs.RunIo.{of_pull};
+    ghost use Rattle.lsp_verdict.specs.Runs.{of_pull};
 
     ghost from_gives = { λ pull fault. fault ≡ of_pull pull };
 

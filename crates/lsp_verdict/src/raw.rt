@@ -1,6 +1,6 @@
 //! An event of a session before its content is read.
 ghost use Rattle.std.specs.Prelude.{◌≡◌};
-ghost use Rattle.lsp_verdict.specs.Lent.{raw_view, whose_raw};
+ghost use Rattle.lsp_verdict.specs.Given.{raw_view, whose_raw};
 
 use crate::verdict::{Who, who_of};
 use lsp_rpc::Side;

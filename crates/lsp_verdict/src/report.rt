@@ -4,7 +4,7 @@ ghost use Rattle.std.specs.List.{flat_map};
 ghost use Rattle.lsp_session.specs.Entry.{request_view};
 ghost use Rattle.lsp_verdict.specs.Given.{document_view, summary_view, verdict_view};
 ghost use Rattle.lsp_verdict.specs.Report.{count_lines, document_line, request_line, report};
-ghost use Rattle.lsp_verdict.specs.StreamReport.{two_lines, stream_report};
+ghost use Rattle.lsp_verdict.specs.Report.{two_lines, stream_report};
 ghost use Rattle.lsp_verdict.specs.Verdict.{yes, no, bad_log};
 
 use crate::names::{encoding_name, kind_name, side_name, who_name};
@@ -13,12 +13,12 @@ use crate::texts::{code_name, code_text, text_of};
 use crate::verdict::{OpenDocument, Summary, Verdict, Who};
 use itoa::Buffer;
 use lsp_log::LogCode;
-use lsp_rpc::{Memory, Side, push_id, push_quoted};
+use lsp_rpc::{Result, Side, push_id, push_quoted};
 use lsp_session::OpenRequest;
 use std::alloc::Global;
 use std::fmt::Write;
 
-fn two_lines(alloc: Global, code: &str, frame: u64, text: &str) -> Result<String, Memory>
+fn two_lines(alloc: Global, code: &str, frame: u64, text: &str) -> Result<String>
     ensures { IfOk result (λ written. string_bytes written ≡ two_lines code.now frame text.now) }
 {
     let report = format!(in alloc; "fault {code} frame {frame}\n{text}\n")?;
@@ -27,7 +27,7 @@ fn two_lines(alloc: Global, code: &str, frame: u64, text: &str) -> Result<String
 
 /// The two lines about the fault of a frame: its code and the frame's number, from 1, and the
 /// rule's fixed text. If the rule has no text, the second line is empty.
-pub fn frame_report(alloc: Global, frame: u64, fault: StreamFault) -> Result<String, Memory>
+pub fn frame_report(alloc: Global, frame: u64, fault: StreamFault) -> Result<String>
     ensures { IfOk result (λ written. string_bytes written ≡ stream_report frame fault) }
 {
     match fault {
@@ -42,14 +42,14 @@ pub fn frame_report(alloc: Global, frame: u64, fault: StreamFault) -> Result<Str
 }
 
 /// The bytes of [`frame_report`].
-pub fn stream_report(alloc: Global, frame: u64, fault: StreamFault) -> Result<Vec<u8>, Memory>
+pub fn stream_report(alloc: Global, frame: u64, fault: StreamFault) -> Result<Vec<u8>>
     ensures { IfOk result (λ written. written.items ≡ stream_report frame fault) }
 {
     let report = frame_report(alloc, frame, fault)?;
     Ok(report.into_bytes())
 }
 
-fn push_document(alloc: Global, report: &mut String, document: &OpenDocument) -> Result<(), Memory>
+fn push_document(alloc: Global, report: &mut String, document: &OpenDocument) -> Result<()>
     ensures { OnOk result (string_bytes report.new
         ≡ string_bytes report.old ++ document_line (document_view document.now)) }
 {
@@ -63,12 +63,7 @@ fn push_document(alloc: Global, report: &mut String, document: &OpenDocument) ->
     Ok(report.push_str("\n")?)
 }
 
-fn push_request(
-    alloc: Global,
-    report: &mut String,
-    side: Side,
-    request: &OpenRequest,
-) -> Result<(), Memory>
+fn push_request(alloc: Global, report: &mut String, side: Side, request: &OpenRequest) -> Result<()>
     ensures { OnOk result (string_bytes report.new
         ≡ string_bytes report.old ++ request_line (side, request_view request.now)) }
 {
@@ -85,11 +80,7 @@ fn push_request(
     Ok(report.push_str(end)?)
 }
 
-fn push_documents(
-    alloc: Global,
-    report: &mut String,
-    documents: &[OpenDocument],
-) -> Result<(), Memory>
+fn push_documents(alloc: Global, report: &mut String, documents: &[OpenDocument]) -> Result<()>
     ensures { OnOk result (string_bytes report.new
         ≡ string_bytes report.old ++ flat_map document_line (map document_view documents.now)) }
 {
@@ -99,11 +90,7 @@ fn push_documents(
     Ok(())
 }
 
-fn push_requests(
-    alloc: Global,
-    report: &mut String,
-    requests: &[(Side, OpenRequest)],
-) -> Result<(), Memory>
+fn push_requests(alloc: Global, report: &mut String, requests: &[(Side, OpenRequest)]) -> Result<()>
     ensures { OnOk result (string_bytes report.new ≡ string_bytes report.old
         ++ flat_map request_line (map (λ r. (r.0, request_view r.1)) requests.now)) }
 {
@@ -113,7 +100,7 @@ fn push_requests(
     Ok(())
 }
 
-fn push_counts(report: &mut String, summary: &Summary) -> Result<(), Memory>
+fn push_counts(report: &mut String, summary: &Summary) -> Result<()>
     ensures { OnOk result (string_bytes report.new
         ≡ string_bytes report.old ++ count_lines (summary_view summary.now)) }
 {
@@ -132,7 +119,7 @@ fn push_counts(report: &mut String, summary: &Summary) -> Result<(), Memory>
     Ok(())
 }
 
-fn summary_report(alloc: Global, summary: &Summary) -> Result<String, Memory>
+fn summary_report(alloc: Global, summary: &Summary) -> Result<String>
     ensures { IfOk result (λ written. string_bytes written
         ≡ report (yes (summary_view summary.now))) }
 {
@@ -154,7 +141,7 @@ pub(crate) fn no_report(
     who: Who,
     number: u64,
     event: u64,
-) -> Result<String, Memory>
+) -> Result<String>
     ensures { IfOk result (λ written. string_bytes written ≡ report (no rule who number event)) }
 {
     let name = who_name(who);
@@ -163,7 +150,7 @@ pub(crate) fn no_report(
     Ok(report)
 }
 
-fn bad_log_report(alloc: Global, number: u64, fault: LogCode) -> Result<String, Memory>
+fn bad_log_report(alloc: Global, number: u64, fault: LogCode) -> Result<String>
     ensures { IfOk result (λ written. string_bytes written ≡ report (bad_log number fault)) }
 {
     let code = code_name(fault);
@@ -179,7 +166,7 @@ fn bad_log_report(alloc: Global, number: u64, fault: LogCode) -> Result<String, 
 /// text. For No: the rule, whose event it is, its number among those of that side, its number among
 /// all events, and the rule's fixed text. For a bad log: its code, the number of the record, and
 /// the code's fixed text.
-pub fn verdict_report(alloc: Global, verdict: &Verdict) -> Result<String, Memory>
+pub fn verdict_report(alloc: Global, verdict: &Verdict) -> Result<String>
     ensures { IfOk result (λ written. string_bytes written ≡ report (verdict_view verdict.now)) }
 {
     match verdict {
@@ -195,7 +182,7 @@ pub fn verdict_report(alloc: Global, verdict: &Verdict) -> Result<String, Memory
 }
 
 /// The bytes of [`verdict_report`].
-pub fn report_of(alloc: Global, verdict: &Verdict) -> Result<Vec<u8>, Memory>
+pub fn report_of(alloc: Global, verdict: &Verdict) -> Result<Vec<u8>>
     ensures { IfOk result (λ written. written.items ≡ report (verdict_view verdict.now)) }
 {
     let report = verdict_report(alloc, verdict)?;

@@ -14,7 +14,7 @@ use Rattle.lsp_verdict.specs.Event.{Event}
 use Rattle.lsp_verdict.specs.Verdict.{no, summary, yes}
 use Rattle.lsp_verdict.specs.declared.verdict.Who.TheVariants.{Editor}
 use Rattle.lsp_verdict.proofs.Worked.Templates.{terms, E, S, I1, N1, START, OPEN, REQ, SH, RN, EX, T}
-use Rattle.lsp_explain.specs.StandardMethods.{use_among, use_of}
+use Rattle.lsp_explain.specs.SessionRemarks.{use_among, use_of}
 use Rattle.lsp_explain.specs.Remarks.{noticed, remark_lines, remarks_of}
 
 -- the notes after a No at what comes next, and after a Yes

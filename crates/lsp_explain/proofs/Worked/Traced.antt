@@ -12,16 +12,14 @@ use Rattle.json.specs.Print.{escape_byte}
 use Rattle.percent_encoding.specs.Percent.{percent_decode}
 use Rattle.serde_json.specs.Read.{number_of}
 use Rattle.lsp_types.specs.declared.line_ends.LineEnds.TheVariants.{Exact}
-use Rattle.lsp_docs.specs.Terms.{Terms}
+use Rattle.lsp_docs.specs.Documents.{Terms}
 use Rattle.lsp_rpc.specs.Ident.{number, text}
 use Rattle.lsp_explain.specs.Asking.{numbered}
 use Rattle.lsp_verdict.specs.Event.{Event}
 use Rattle.lsp_verdict.proofs.Worked.Templates.{terms, I1, N1, START, OPEN, CHG, FULL, CLOSE, REQ}
 use Rattle.lsp_verdict.proofs.Worked.Templates.{RES, ERR, T}
 use Rattle.lsp_facts.specs.Fact.{fact_lines, holds}
-use Rattle.lsp_explain.specs.Traced.{lack_traced, setter_at, traced}
-use Rattle.lsp_explain.specs.Twins.{twin}
-use Rattle.lsp_explain.specs.Unopened.{is_spelled}
+use Rattle.lsp_explain.specs.Traced.{lack_traced, setter_at, traced, twin, is_spelled}
 use Rattle.lsp_verdict.specs.Spelling.{folded}
 
 -- the events that brought one that breaks this rule behind these

@@ -4,26 +4,29 @@ ghost use Rattle.std.specs.Option.{option_or};
 ghost use Rattle.lsp_rpc.specs.Ident.{id_view, same_id};
 ghost use Rattle.lsp_rpc.specs.declared.message.Id.{Id as AnId};
 ghost use Rattle.lsp_explain.specs.SessionNoting.{last_at, place_in};
-ghost use Rattle.lsp_survey.specs.ById.{asked_in};
+ghost use Rattle.lsp_survey.specs.Notes.{asked_in};
 
 use indexmap::IndexMap;
 use lsp_replay::EventPlace;
-use lsp_rpc::{Id, Memory, copy_id, same_id};
+use lsp_rpc::{Id, Result, copy_id, same_id};
 use lsp_survey::forget;
 use std::alloc::Global;
+use std::mem;
 
-/// An open request: its id, and the place of its event.
+/// A message that sends or answers a request.
 #[derive(Drop)]
-pub(crate) struct Asked {
-    id: Id,
-    place: EventPlace,
+pub(crate) struct RequestEvent {
+    /// The id of the request.
+    pub(crate) id: Id,
+    /// The place of its event.
+    pub(crate) place: EventPlace,
 }
 
 /// The open requests of one side. The newest is held apart: usually it is answered before the next
 /// one is sent, and then no map is searched.
 #[derive(Drop)]
 pub(crate) struct AskedRequests {
-    last: Option<Asked>,
+    last: Option<RequestEvent>,
     others: IndexMap<Id, EventPlace>,
 }
 
@@ -45,16 +48,17 @@ impl AskedRequests {
         last_place(&self.last, id).or(self.others.get(id).copied())
     }
 
-    /// Adds a request with this id, the event of this place.
-    pub(crate) fn add(&mut self, id: &Id, place: EventPlace) -> Result<(), Memory>
+    /// Adds a request with this id, the event of this place. Usually the one before it was answered.
+    pub(crate) fn add(&mut self, id: &Id, place: EventPlace) -> Result<()>
         ensures { OnOk result ((k : AnId) → place_in self.new (id_view k)
             ≡ (if same_id (id_view id.now) (id_view k) then Some place
             else place_in self.old (id_view k))) }
     {
-        self.settle()?;
         let id = copy_id(id)?;
-        self.last = Some(Asked { id, place });
-        Ok(())
+        match mem::replace(&mut self.last, Some(RequestEvent { id, place })) {
+            Some(asked) => add_other(&mut self.others, asked),
+            None => Ok(()),
+        }
     }
 
     /// Removes the request with this id.
@@ -66,35 +70,10 @@ impl AskedRequests {
         remove_last(&mut self.last, id);
         remove_other(&mut self.others, id);
     }
-
-    /// Puts the newest request with the others. Usually it was answered, and there is none.
-    fn settle(&mut self) -> Result<(), Memory>
-        ensures last { OnOk result (self.new.last ≡ None) }
-        ensures others { OnOk result ((k : AnId) → asked_in self.new.others.entries (id_view k)
-            ≡ place_in self.old (id_view k)) }
-    {
-        if self.last.is_none() {
-            return Ok(());
-        }
-        self.settle_last()
-    }
-
-    /// Puts the newest request with the others, if there is one.
-    #[inline(never)]
-    fn settle_last(&mut self) -> Result<(), Memory>
-        ensures last { OnOk result (self.new.last ≡ None) }
-        ensures others { OnOk result ((k : AnId) → asked_in self.new.others.entries (id_view k)
-            ≡ place_in self.old (id_view k)) }
-    {
-        match self.last.take() {
-            Some(asked) => add_other(&mut self.others, asked),
-            None => Ok(()),
-        }
-    }
 }
 
 /// The place of the newest request, if it has this id.
-fn last_place(last: &Option<Asked>, id: &Id) -> Option<EventPlace>
+fn last_place(last: &Option<RequestEvent>, id: &Id) -> Option<EventPlace>
     ensures { result ≡ last_at last.now (id_view id.now) }
 {
     match last {
@@ -104,17 +83,18 @@ fn last_place(last: &Option<Asked>, id: &Id) -> Option<EventPlace>
 }
 
 /// Adds a request to the others.
-fn add_other(others: &mut IndexMap<Id, EventPlace>, asked: Asked) -> Result<(), Memory>
+#[inline(never)]
+fn add_other(others: &mut IndexMap<Id, EventPlace>, asked: RequestEvent) -> Result<()>
     ensures { OnOk result ((k : AnId) → asked_in others.new.entries (id_view k)
         ≡ option_or (last_at (Some asked) (id_view k)) (asked_in others.old.entries (id_view k))) }
 {
-    let Asked { id, place } = asked;
+    let RequestEvent { id, place } = asked;
     others.insert(id, place)?;
     Ok(())
 }
 
 /// Removes the newest request, if it has this id.
-fn remove_last(last: &mut Option<Asked>, id: &Id)
+fn remove_last(last: &mut Option<RequestEvent>, id: &Id)
     ensures { (k : AnId) → last_at last.new (id_view k)
         ≡ (if same_id (id_view id.now) (id_view k) then None else last_at last.old (id_view k)) }
 {

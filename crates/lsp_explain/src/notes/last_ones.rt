@@ -1,15 +1,17 @@
 //! Lists of which the last items are held.
-ghost use Rattle.std.specs.Prelude.{◌≡◌};
-ghost use Rattle.lsp_explain.specs.LastOnes.{with_room};
+ghost use Rattle.std.specs.Prelude.{◌≡◌, ◌++◌, ◌∷◌, [], OnOk};
+ghost use Rattle.lsp_explain.specs.History.{with_room};
 
+use lsp_rpc::Result;
 use std::collections::VecDeque;
 
-/// Drops the oldest item where so many are held.
-pub(crate) fn make_room<T: Drop>(held: &mut VecDeque<T>, most: usize)
-    ensures { held.new.items ≡ with_room most held.old.items }
+/// Adds an item after the others, of which the last ones stay: so many are held with it at most.
+pub(crate) fn push_within<T: Drop>(held: &mut VecDeque<T>, most: usize, item: T) -> Result<()>
+    ensures { OnOk result (held.new.items ≡ with_room most held.old.items ++ item ∷ []) }
 {
-    if held.len() < most {
-        return;
+    if held.len() >= most {
+        let _ = held.pop_front();
     }
-    let _ = held.pop_front();
+    held.push_back(item)?;
+    Ok(())
 }

@@ -1,17 +1,20 @@
 //! What left a document as it is: which messages set its versions, which equal snapshot has the
 //! greatest version, and which snapshots wait.
-ghost use Rattle.std.specs.Prelude.{◌≡◌, ◌++◌, ◌∷◌, [], None, OnOk, if◌then◌else◌, ℤ, false};
+ghost use Rattle.std.specs.Prelude.{◌≡◌, ◌++◌, ◌∷◌, [], None, OnOk, if◌then◌else◌, Bool, ℤ, false};
 ghost use Rattle.std.specs.Prelude.{int_lt, not, option_map, IfOk};
 ghost use Rattle.std.specs.List.{find};
 ghost use Rattle.std.specs.Map.{lookup};
 ghost use Rattle.std.specs.Ordering.{int_eq};
+ghost use Rattle.lsp_explain.specs.History.{is_closing};
 ghost use Rattle.lsp_explain.specs.Marking.{above, is_set_to, last_shown, newer, newer_of};
-ghost use Rattle.lsp_explain.specs.Marking.{next_rank, rank_of, stepped, touches, unmarked};
-ghost use Rattle.lsp_explain.specs.Marks.{is_first_reached, mark_view, rest_of, waiting_in};
+ghost use Rattle.lsp_explain.specs.Marking.{next_rank, rank_of, stepped, unmarked};
+ghost use Rattle.lsp_explain.specs.Marking.{is_first_reached, mark_view, rest_of, waiting_in};
 
-use crate::notes::last_ones::make_room;
+use crate::notes::last_ones::push_within;
+use crate::notes::step::Step;
+use lsp_docs::Match;
 use lsp_replay::EventPlace;
-use lsp_rpc::Memory;
+use lsp_rpc::Result;
 use std::alloc::Global;
 use std::collections::{BTreeMap, VecDeque};
 
@@ -20,38 +23,16 @@ use std::collections::{BTreeMap, VecDeque};
 /// be the one that differs.
 const MOST_SETTERS: usize = 32;
 
-/// A `didOpen` or a `didChange` that set a version of a document.
+/// A `didOpen` or a `didChange` that set a version of a document, or a snapshot of one.
 #[derive(Clone, Copy, Debug, PartialEq, Eq)]
-pub struct Setter {
+pub struct VersionEvent {
     /// The place of its event.
     pub place: EventPlace,
-    /// The version that it set.
-    pub version: i32,
-    /// Which version of its opening that is, from 1 for the one of the `didOpen`.
-    pub rank: u64,
-}
-
-/// A snapshot.
-#[derive(Clone, Copy, Debug, PartialEq, Eq)]
-pub struct Shown {
-    /// The place of its event.
-    pub place: EventPlace,
-    /// The version of which it is.
+    /// The version.
     pub version: i32,
     /// Which version of its opening that is, from 1 for the one of the `didOpen`; 0 where it was
     /// not among the last that were set.
     pub rank: u64,
-}
-
-/// How a kept event touches a document that it doesn't close.
-#[derive(Clone, Copy, Debug, PartialEq, Eq)]
-pub(crate) enum Touch {
-    /// It brings it to a version: it opens or changes it.
-    Reached,
-    /// It shows the text of a version that is held or kept.
-    Compared,
-    /// It shows the text of a version that is still to come.
-    Awaited,
 }
 
 /// The places of the snapshots that wait, by version.
@@ -60,9 +41,10 @@ type WaitMap = BTreeMap<i32, Vec<EventPlace>>;
 /// What is marked of a document.
 #[derive(Drop)]
 pub(crate) struct Mark {
-    setters: VecDeque<Setter>,
+    setters: VecDeque<VersionEvent>,
     rank: u64,
-    agreed: Option<Shown>,
+    /// The equal snapshot of the greatest version.
+    pub(crate) agreed: Option<VersionEvent>,
     waiting: WaitMap,
 }
 
@@ -80,20 +62,13 @@ impl Mark {
     }
 
     /// The messages that set the last versions of the standing opening, in order.
-    pub(crate) fn setters(&self, alloc: Global) -> Result<Vec<Setter>, Memory>
+    pub(crate) fn setters(&self, alloc: Global) -> Result<Vec<VersionEvent>>
         ensures { IfOk result (λ setters. setters.items ≡ (mark_view self.now).setters) }
     {
         let (first, second) = self.setters.as_slices();
         let mut setters = Vec::from_slice(alloc, first)?;
         setters.extend_from_slice(second)?;
         Ok(setters)
-    }
-
-    /// The equal snapshot of the greatest version.
-    pub(crate) fn agreed(&self) -> Option<Shown>
-        ensures { result ≡ (mark_view self.now).agreed }
-    {
-        self.agreed
     }
 
     /// The places of the snapshots that wait for a version.
@@ -106,39 +81,36 @@ impl Mark {
         }
     }
 
-    /// Marks that the event of this place touches the document, at this version.
-    pub(crate) fn touch(
-        &mut self,
-        alloc: Global,
-        touch: Touch,
-        place: EventPlace,
-        version: i32,
-    ) -> Result<(), Memory>
-        ensures { OnOk result (mark_view self.new
-            ≡ stepped (touches touch place version) (mark_view self.old)) }
+    /// Marks what the event of this place does to the document, which it doesn't close.
+    #[inline(never)]
+    pub(crate) fn step(&mut self, alloc: Global, place: EventPlace, step: Step) -> Result<()>
+        requires { is_closing step ≡ false }
+        ensures { OnOk result (mark_view self.new ≡ stepped place step (mark_view self.old)) }
     {
-        match touch {
-            Touch::Reached => self.reach(place, version),
-            Touch::Compared => {
+        match step {
+            Step::Reaches { version, .. } => self.reach(place, version),
+            Step::Shows(version, Match::Equal) => {
                 self.compare(place, version);
                 Ok(())
             }
-            Touch::Awaited => add(&mut self.waiting, alloc, version, place),
+            Step::Shows(version, Match::Waits) => add(&mut self.waiting, alloc, version, place),
+            Step::Shows(_, Match::Missed) => Ok(()),
+            Step::Closes => Ok(()),
         }
     }
 
     /// Marks that the event of this place brings the document to this version.
-    fn reach(&mut self, place: EventPlace, version: i32) -> Result<(), Memory>
-        ensures { OnOk result (mark_view self.new
-            ≡ stepped (touches Touch.Reached place version) (mark_view self.old)) }
+    fn reach(&mut self, place: EventPlace, version: i32) -> Result<()>
+        ensures { OnOk result ((first : Bool) → mark_view self.new
+            ≡ stepped place (Step.Reaches version first) (mark_view self.old)) }
     {
         let rank = next_rank(self.rank);
-        make_room(&mut self.setters, MOST_SETTERS);
-        self.setters.push_back(Setter {
+        let setter = VersionEvent {
             place,
             version,
             rank,
-        })?;
+        };
+        push_within(&mut self.setters, MOST_SETTERS, setter)?;
         self.rank = rank;
         self.meet(version, rank);
         Ok(())
@@ -165,10 +137,10 @@ impl Mark {
     /// Marks that the event of this place is an equal snapshot of this version.
     fn compare(&mut self, place: EventPlace, version: i32)
         ensures { mark_view self.new
-            ≡ stepped (touches Touch.Compared place version) (mark_view self.old) }
+            ≡ stepped place (Step.Shows version Match.Equal) (mark_view self.old) }
     {
         let rank = rank_of(&self.setters, version);
-        let shown = Shown {
+        let shown = VersionEvent {
             place,
             version,
             rank,
@@ -185,7 +157,7 @@ fn next_rank(rank: u64) -> u64
 }
 
 /// Which version of its opening this is by one of these messages; 0 where none of them set it.
-fn rank_of(setters: &VecDeque<Setter>, version: i32) -> u64
+fn rank_of(setters: &VecDeque<VersionEvent>, version: i32) -> u64
     ensures { result ≡ rank_of version setters.now.items }
 {
     match setter_of(setters, version) {
@@ -195,25 +167,25 @@ fn rank_of(setters: &VecDeque<Setter>, version: i32) -> u64
 }
 
 /// The first of the messages that set this version.
-fn setter_of(setters: &VecDeque<Setter>, version: i32) -> Option<&Setter>
+fn setter_of(setters: &VecDeque<VersionEvent>, version: i32) -> Option<&VersionEvent>
     ensures { option_map (λ s. s.now) result ≡ find (is_set_to version) setters.now.items }
 {
     setters.iter().find(|setter| is_set_to(setter, version))
 }
 
-fn is_set_to(setter: &Setter, version: i32) -> bool
+fn is_set_to(setter: &VersionEvent, version: i32) -> bool
     ensures { result ≡ is_set_to version setter.now }
 {
     setter.version == version
 }
 
 /// The last of the snapshots that wait for a version, which is the one of this rank.
-fn last_of(waiting: &WaitMap, version: i32, rank: u64) -> Option<Shown>
+fn last_of(waiting: &WaitMap, version: i32, rank: u64) -> Option<VersionEvent>
     ensures { result ≡ last_shown version rank (waiting_in waiting.now.entries version) }
 {
     let places = waiting.get(&version)?;
     let place = *places.as_slice().last()?;
-    Some(Shown {
+    Some(VersionEvent {
         place,
         version,
         rank,
@@ -221,7 +193,7 @@ fn last_of(waiting: &WaitMap, version: i32, rank: u64) -> Option<Shown>
 }
 
 /// Of two snapshots that of the greater version, the later one where these are equal.
-fn newer_of(earlier: Option<Shown>, later: Option<Shown>) -> Option<Shown>
+fn newer_of(earlier: Option<VersionEvent>, later: Option<VersionEvent>) -> Option<VersionEvent>
     ensures { result ≡ newer_of earlier later }
 {
     let Some(first) = earlier else {
@@ -233,7 +205,7 @@ fn newer_of(earlier: Option<Shown>, later: Option<Shown>) -> Option<Shown>
     }
 }
 
-fn newer(earlier: Shown, later: Shown) -> Shown
+fn newer(earlier: VersionEvent, later: VersionEvent) -> VersionEvent
     ensures { result ≡ newer earlier later }
 {
     if later.version < earlier.version {
@@ -244,7 +216,7 @@ fn newer(earlier: Shown, later: Shown) -> Shown
 }
 
 /// Adds a snapshot of a version after its others.
-fn add(waiting: &mut WaitMap, alloc: Global, version: i32, place: EventPlace) -> Result<(), Memory>
+fn add(waiting: &mut WaitMap, alloc: Global, version: i32, place: EventPlace) -> Result<()>
     ensures { OnOk result ((number : ℤ) → waiting_in waiting.new.entries number
         ≡ waiting_in waiting.old.entries number
         ++ (if int_eq version number then place ∷ [] else [])) }

@@ -1,20 +1,18 @@
 //! The marks of documents, by URI.
-ghost use Rattle.std.specs.Prelude.{◌≡◌, [], true, List, IfNone, IfOk, IfSome, OnOk};
-ghost use Rattle.lsp_docs.specs.Terms.{Terms};
-ghost use Rattle.lsp_rpc.specs.View.{act_view};
-ghost use Rattle.lsp_types.specs.declared.change.SyncKind.{SyncKind};
-ghost use Rattle.lsp_types.specs.declared.position.Encoding.{Encoding};
-ghost use Rattle.lsp_verdict.specs.Calls.{call_of};
+ghost use Rattle.std.specs.Prelude.{◌≡◌, [], true, false, List, IfNone, IfOk, IfSome, OnOk};
+ghost use Rattle.lsp_docs.specs.Documents.{Terms};
+ghost use Rattle.lsp_replay.specs.declared.heard.EventPlace.{EventPlace as Place};
 ghost use Rattle.lsp_verdict.specs.Event.{Event};
-ghost use Rattle.lsp_explain.specs.Marking.{agreed, closed, recent, steps, touches, unmarked};
-ghost use Rattle.lsp_explain.specs.Marking.{waiting_for};
-ghost use Rattle.lsp_explain.specs.Marks.{AreMarks, DoneBy, IsAt, ShownBy, StepsOn, marked_in};
+ghost use Rattle.lsp_explain.specs.History.{is_closing};
+ghost use Rattle.lsp_explain.specs.Marking.{agreed, recent, steps, unmarked, waiting_for, AreMarks};
+ghost use Rattle.lsp_explain.specs.Marking.{IsAt, MarkedBy, StepsOn, marked_in};
 
-use crate::notes::mark::{Mark, Setter, Shown, Touch};
+use crate::notes::mark::{Mark, VersionEvent};
+use crate::notes::step::Step;
 use indexmap::IndexMap;
 use lsp_docs::Match;
 use lsp_replay::EventPlace;
-use lsp_rpc::{Act, Memory};
+use lsp_rpc::Result;
 use std::alloc::Global;
 
 type MarkMap = IndexMap<String, Mark>;
@@ -35,12 +33,10 @@ pub struct Marks {
 impl Marks {
     /// Nothing is marked.
     pub fn new(alloc: Global) -> Marks
-        ensures { (terms : Terms) → AreMarks terms result.map.entries [] }
+        ensures { MarkedBy result.map.entries [] }
     {
-        Marks {
-            map: IndexMap::new(alloc),
-            last: 0,
-        }
+        let map = IndexMap::new(alloc);
+        Marks { map, last: 0 }
     }
 
     /// The messages that set the last versions of a URI, in order, the held one last; at most 32,
@@ -48,7 +44,7 @@ impl Marks {
     ///
     /// # Errors
     /// `Memory` where memory was refused.
-    pub fn setters(&self, uri: &str) -> Result<Vec<Setter>, Memory>
+    pub fn setters(&self, uri: &str) -> Result<Vec<VersionEvent>>
         ensures { IfOk result (λ setters. (terms : Terms) (events : List Event)
             → AreMarks terms self.now.map.entries events
             → setters.items ≡ recent (steps terms uri.now events)) }
@@ -62,12 +58,12 @@ impl Marks {
 
     /// Of the snapshots that were found equal in the standing opening of a URI, that of the
     /// greatest version, the last of several; none where none was.
-    pub fn agreed(&self, uri: &str) -> Option<Shown>
+    pub fn agreed(&self, uri: &str) -> Option<VersionEvent>
         ensures { (terms : Terms) (events : List Event) → AreMarks terms self.now.map.entries events
             → result ≡ agreed (steps terms uri.now events) }
     {
         match self.map.get(uri) {
-            Some(mark) => mark.agreed(),
+            Some(mark) => mark.agreed,
             None => None,
         }
     }
@@ -83,72 +79,44 @@ impl Marks {
         }
     }
 
-    /// Marks what a message that is kept, the event of this place, does to a document.
+    /// Marks what a kept event, that of this place, does to the document of a URI.
     ///
     /// # Errors
     /// `Memory` where memory was refused; nothing is then known of the marks.
-    pub fn keep_act(&mut self, place: EventPlace, act: &Act) -> Result<(), Memory>
-        ensures { OnOk result ((enc : Encoding) (kind : SyncKind)
-            → DoneBy place (call_of enc kind
-            (act_view act.now)) self.old.map.entries self.new.map.entries) }
-    {
-        match act {
-            Act::DidOpen { uri, version, .. } => {
-                self.touch(uri.as_str(), Touch::Reached, place, *version)
-            }
-            Act::DidChange { uri, version, .. } => {
-                self.touch(uri.as_str(), Touch::Reached, place, *version)
-            }
-            Act::DidClose { uri } => {
-                close(&mut self.map, uri.as_str());
-                Ok(())
-            }
-            _ => Ok(()),
-        }
-    }
-
-    /// Marks a snapshot that is kept, the event of this place, as it was answered.
-    ///
-    /// # Errors
-    /// `Memory` where memory was refused; nothing is then known of the marks.
-    pub fn keep_snapshot(
-        &mut self,
-        place: EventPlace,
-        uri: &str,
-        version: i32,
-        answer: Match,
-    ) -> Result<(), Memory>
-        ensures { OnOk result (ShownBy place uri.now version answer self.old.map.entries
+    #[inline(always)]
+    pub(crate) fn keep(&mut self, place: EventPlace, uri: &str, step: Step) -> Result<()>
+        ensures { OnOk result (StepsOn uri.now place step self.old.map.entries
             self.new.map.entries) }
     {
-        match answer {
-            Match::Equal => self.touch(uri, Touch::Compared, place, version),
-            Match::Waits => self.touch(uri, Touch::Awaited, place, version),
-            Match::Missed => Ok(()),
+        match step {
+            Step::Closes => {
+                close(&mut self.map, uri);
+                Ok(())
+            }
+            Step::Shows(_, Match::Missed) => Ok(()),
+            Step::Shows(..) => self.touch(place, uri, step),
+            Step::Reaches { .. } => self.touch(place, uri, step),
         }
     }
 
-    /// Marks that the event of this place touches a document, at this version.
-    fn touch(
-        &mut self,
-        uri: &str,
-        touch: Touch,
-        place: EventPlace,
-        version: i32,
-    ) -> Result<(), Memory>
-        ensures { OnOk result (StepsOn uri.now
-            (touches touch place version) self.old.map.entries self.new.map.entries) }
+    /// Marks the same of a step that doesn't close the document.
+    #[inline(always)]
+    fn touch(&mut self, place: EventPlace, uri: &str, step: Step) -> Result<()>
+        requires { is_closing step ≡ false }
+        ensures { OnOk result (StepsOn uri.now place step self.old.map.entries
+            self.new.map.entries) }
     {
         let Some(at) = find(&self.map, self.last, uri) else {
-            return touch_first(&mut self.map, uri, touch, place, version);
+            return touch_first(&mut self.map, uri, place, step);
         };
         self.last = at;
-        touch_at(&mut self.map, at, uri, touch, place, version)
+        touch_at(&mut self.map, at, uri, place, step)
     }
 }
 
 /// Where in the map the document of this URI is, if anything is marked of it. The document there
 /// is looked at first; mostly it is the one.
+#[inline(always)]
 fn find(map: &MarkMap, first: usize, uri: &str) -> Option<usize>
     ensures none { IfNone result (marked_in map.now.entries uri.now ≡ unmarked) }
     ensures found { IfSome result (IsAt map.now.entries uri.now) }
@@ -161,6 +129,7 @@ fn find(map: &MarkMap, first: usize, uri: &str) -> Option<usize>
 }
 
 /// Whether the document there has this URI.
+#[inline(always)]
 fn is_at(map: &MarkMap, at: usize, uri: &str) -> bool
     ensures { result ≡ true → IsAt map.now.entries uri.now at }
 {
@@ -170,39 +139,27 @@ fn is_at(map: &MarkMap, at: usize, uri: &str) -> bool
     }
 }
 
-/// Marks that the event of this place touches the document there, which has this URI.
-fn touch_at(
-    map: &mut MarkMap,
-    at: usize,
-    uri: &str,
-    touch: Touch,
-    place: EventPlace,
-    version: i32,
-) -> Result<(), Memory>
-    requires { IsAt map.old.entries uri.now at }
-    ensures { OnOk result (StepsOn uri.now
-        (touches touch place version) map.old.entries map.new.entries) }
+/// Marks what the event of this place does to the document there, which has this URI.
+#[inline(always)]
+fn touch_at(map: &mut MarkMap, at: usize, uri: &str, place: EventPlace, step: Step) -> Result<()>
+    requires here { IsAt map.old.entries uri.now at }
+    requires open { is_closing step ≡ false }
+    ensures { OnOk result (StepsOn uri.now place step map.old.entries map.new.entries) }
 {
     let alloc = *map.allocator();
     let mark = map.get_index_mut(at).unwrap();
-    mark.touch(alloc, touch, place, version)
+    mark.step(alloc, place, step)
 }
 
 /// Marks the same of a document of which nothing is marked.
-fn touch_first(
-    map: &mut MarkMap,
-    uri: &str,
-    touch: Touch,
-    place: EventPlace,
-    version: i32,
-) -> Result<(), Memory>
-    requires { marked_in map.old.entries uri.now ≡ unmarked }
-    ensures { OnOk result (StepsOn uri.now
-        (touches touch place version) map.old.entries map.new.entries) }
+fn touch_first(map: &mut MarkMap, uri: &str, place: EventPlace, step: Step) -> Result<()>
+    requires none { marked_in map.old.entries uri.now ≡ unmarked }
+    requires open { is_closing step ≡ false }
+    ensures { OnOk result (StepsOn uri.now place step map.old.entries map.new.entries) }
 {
     let alloc = *map.allocator();
     let mut mark = Mark::new(alloc);
-    mark.touch(alloc, touch, place, version)?;
+    mark.step(alloc, place, step)?;
     let key = String::from_str(alloc, uri)?;
     map.insert(key, mark)?;
     Ok(())
@@ -210,7 +167,7 @@ fn touch_first(
 
 /// Takes away what is marked of a document.
 fn close(map: &mut MarkMap, uri: &str)
-    ensures { StepsOn uri.now closed map.old.entries map.new.entries }
+    ensures { (p : Place) → StepsOn uri.now p Step.Closes map.old.entries map.new.entries }
 {
     let _ = map.swap_remove(uri);
 }

@@ -1,15 +1,15 @@
 //! Calls that were not sent as LSP 3.17 defines them.
-ghost use Rattle.std.specs.Prelude.{◌≡◌, OnOk, Some, option_map, string_bytes};
+ghost use Rattle.std.specs.Prelude.{◌≡◌, OnOk, option_map, string_bytes};
 ghost use Rattle.std.specs.List.{list_any};
 ghost use Rattle.std.specs.Str.{bytes_eq};
 ghost use Rattle.lsp_rpc.specs.View.{message_view};
-ghost use Rattle.lsp_explain.specs.Misuses as spec;
-ghost use Rattle.lsp_explain.specs.Misuses.{has_method, misuse_in, misused, misused_views};
-ghost use Rattle.lsp_explain.specs.Misuses.{with_misuse};
+ghost use Rattle.lsp_explain.specs.SessionRemarks as spec;
+ghost use Rattle.lsp_explain.specs.SessionRemarks.{has_method, misused, misused_views, with_misuse};
+ghost use Rattle.lsp_replay.specs.declared.heard.EventPlace.{EventPlace as Place};
 
 use crate::notes::standard_methods::{MethodUse, use_of};
 use lsp_replay::EventPlace;
-use lsp_rpc::{Memory, Message, Side};
+use lsp_rpc::{Message, Result, Side};
 
 /// How a call was sent, instead of as LSP 3.17 defines it.
 #[derive(Clone, Copy, Debug, PartialEq, Eq)]
@@ -65,6 +65,24 @@ fn sent_by(sender: Side, side: Side) -> Option<Misuse>
     }
 }
 
+/// The misuse that a message of the side is, and its method.
+fn misuse_in(side: Side, message: &Message) -> Option<(Misuse, &str)>
+    ensures { (p : Place) → option_map (λ m. misused p m.1.now m.0) result
+        ≡ spec.misuse_in p side (message_view message.now) }
+{
+    match message {
+        Message::Request { method, .. } => {
+            let method = method.as_str();
+            Some((request_misuse(side, method)?, method))
+        }
+        Message::Notification { method, .. } => {
+            let method = method.as_str();
+            Some((notification_misuse(side, method)?, method))
+        }
+        Message::Response { .. } => None,
+    }
+}
+
 /// Adds a message of the side, the event of this place, where it is a misuse of a method that none
 /// of those before has.
 pub(crate) fn note_misuse(
@@ -72,57 +90,18 @@ pub(crate) fn note_misuse(
     place: EventPlace,
     side: Side,
     message: &Message,
-) -> Result<(), Memory>
+) -> Result<()>
     ensures { OnOk result (misused_views found.new.items
         ≡ with_misuse (misused_views found.old.items)
-        (misuse_in place side (message_view message.now))) }
+        (spec.misuse_in place side (message_view message.now))) }
 {
-    match message {
-        Message::Request { method, .. } => {
-            let misuse = request_misuse(side, method.as_str());
-            note_call(found, place, misuse, method)
-        }
-        Message::Notification { method, .. } => {
-            let misuse = notification_misuse(side, method.as_str());
-            note_call(found, place, misuse, method)
-        }
-        Message::Response { .. } => Ok(()),
-    }
-}
-
-/// Adds a call, the event of this place, where it is misused so.
-fn note_call(
-    found: &mut Vec<Misused>,
-    place: EventPlace,
-    misuse: Option<Misuse>,
-    method: &String,
-) -> Result<(), Memory>
-    ensures { OnOk result (misused_views found.new.items
-        ≡ with_misuse (misused_views found.old.items)
-        (option_map (misused place (string_bytes method.now)) misuse)) }
-{
-    match misuse {
-        Some(misuse) => add_misused(found, place, misuse, method),
-        None => Ok(()),
-    }
-}
-
-/// Adds a call, the event of this place, that is misused so.
-#[inline(never)]
-fn add_misused(
-    found: &mut Vec<Misused>,
-    place: EventPlace,
-    misuse: Misuse,
-    method: &String,
-) -> Result<(), Memory>
-    ensures { OnOk result (misused_views found.new.items
-        ≡ with_misuse (misused_views found.old.items)
-        (Some (misused place (string_bytes method.now) misuse))) }
-{
-    if is_found(found.as_slice(), method.as_str()) {
+    let Some((misuse, method)) = misuse_in(side, message) else {
+        return Ok(());
+    };
+    if is_found(found.as_slice(), method) {
         return Ok(());
     }
-    let method = method.clone()?;
+    let method = String::from_str(*found.allocator(), method)?;
     found.push(Misused {
         misuse,
         method,

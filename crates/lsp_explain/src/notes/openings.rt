@@ -1,21 +1,21 @@
-//! Which documents were opened and closed last.
-ghost use Rattle.std.specs.Prelude.{◌≡◌, ◌++◌, ◌<◌, [], List, Some, IfOk, OnOk};
-ghost use Rattle.lsp_docs.specs.Terms.{Terms};
-ghost use Rattle.lsp_rpc.specs.View.{act_view};
-ghost use Rattle.lsp_types.specs.declared.change.SyncKind.{SyncKind};
-ghost use Rattle.lsp_types.specs.declared.position.Encoding.{Encoding};
-ghost use Rattle.lsp_verdict.specs.Calls.{call_of};
+//! Which documents were opened and closed last, which were changed, and of which there is a
+//! snapshot.
+ghost use Rattle.std.specs.Prelude.{◌≡◌, ◌++◌, ◌∷◌, ◌<◌, [], List, IfOk, OnOk, option_map};
+ghost use Rattle.std.specs.Prelude.{string_bytes};
+ghost use Rattle.std.specs.List.{list_any};
+ghost use Rattle.std.specs.Str.{bytes_eq};
+ghost use Rattle.lsp_docs.specs.Documents.{Terms};
 ghost use Rattle.lsp_verdict.specs.Event.{Event};
-ghost use Rattle.lsp_explain.specs.LastOnes.{last_ones};
-ghost use Rattle.lsp_explain.specs.Openings.{AreOpenings, Holds, OpensBy, closing_by, closing_of};
-ghost use Rattle.lsp_explain.specs.Openings.{closings, is_on, last_on, most_openings, on_document};
-ghost use Rattle.lsp_explain.specs.Openings.{OpeningsShown, on_view, ons_view, openings};
-ghost use Rattle.lsp_explain.specs.Touched.{names_view, unshown};
+ghost use Rattle.lsp_explain.specs.History.{kept_call, on_document, last_ones, last_that};
+ghost use Rattle.lsp_explain.specs.Openings.{AreOpenings, Holds, OpenedBy, OpensBy, closing_by};
+ghost use Rattle.lsp_explain.specs.Openings.{closing_of, closings, has_name, last_on};
+ghost use Rattle.lsp_explain.specs.Openings.{most_closings, most_openings, names_view, ons_view};
+ghost use Rattle.lsp_explain.specs.Openings.{openings, others, unshown, with_name};
 
-use crate::notes::last_ones::make_room;
-use crate::notes::touched::Touched;
+use crate::notes::last_ones::push_within;
+use crate::notes::step::Step;
 use lsp_replay::EventPlace;
-use lsp_rpc::{Act, Memory};
+use lsp_rpc::Result;
 use std::alloc::Global;
 use std::collections::VecDeque;
 
@@ -24,6 +24,9 @@ const MOST_OPENINGS: usize = 64;
 
 /// How many of the messages that closed documents are held at most.
 const MOST_CLOSINGS: usize = 1024;
+
+/// How many of the documents that were changed are held at most, and of which there is a snapshot.
+const MOST_TOUCHED: usize = 64;
 
 /// A message about a document.
 #[derive(Debug, Drop, PartialEq, Eq)]
@@ -45,26 +48,28 @@ pub enum Closing {
     Forgotten,
 }
 
-/// The last messages that opened documents, and the last ones that closed some; and which documents
-/// were changed, and of which there is a snapshot.
+/// The last messages that opened documents, and the last ones that closed some; the first documents
+/// that were changed, and the first of which there is a snapshot.
 ///
 /// It stands for the events of a session of which those that offend are skipped.
 #[derive(Drop)]
 pub struct Openings {
     opened: VecDeque<DocumentEvent>,
     closed: VecDeque<DocumentEvent>,
-    touched: Touched,
+    changed: Vec<String>,
+    shown: Vec<String>,
 }
 
 impl Openings {
     /// Nothing was opened.
     pub fn new(alloc: Global) -> Openings
-        ensures { (terms : Terms) → AreOpenings terms result [] }
+        ensures { OpenedBy result [] }
     {
         Openings {
             opened: VecDeque::new(alloc),
             closed: VecDeque::new(alloc),
-            touched: Touched::new(alloc),
+            changed: Vec::new(alloc),
+            shown: Vec::new(alloc),
         }
     }
 
@@ -97,43 +102,37 @@ impl Openings {
         )
     }
 
-    /// Takes over what a message that is kept, the event of this place, opens or closes.
-    ///
-    /// # Errors
-    /// `Memory` where memory was refused; nothing is then known of what is held.
-    pub fn keep_act(&mut self, place: EventPlace, act: &Act) -> Result<(), Memory>
-        ensures { OnOk result ((enc : Encoding) (kind : SyncKind)
-            → OpensBy place (call_of enc kind (act_view act.now)) self.old self.new) }
-    {
-        self.touched.keep_act(act)?;
-        match act {
-            Act::DidOpen { uri, .. } => push(&mut self.opened, MOST_OPENINGS, uri.as_str(), place),
-            Act::DidClose { uri } => push(&mut self.closed, MOST_CLOSINGS, uri.as_str(), place),
-            _ => Ok(()),
-        }
-    }
-
-    /// Takes over a snapshot of this URI that is kept.
-    ///
-    /// # Errors
-    /// `Memory` where memory was refused; nothing is then known of what is held.
-    pub fn keep_snapshot(&mut self, uri: &str) -> Result<(), Memory>
-        ensures { OnOk result (OpeningsShown uri.now self.old self.new) }
-    {
-        self.touched.keep_snapshot(uri)
-    }
-
     /// The URIs of those of the first 64 documents that were changed that have no snapshot, in
     /// order; none where 64 documents have one.
     ///
     /// # Errors
     /// `Memory` where memory was refused.
-    pub fn unshown(&self) -> Result<Vec<String>, Memory>
+    pub fn unshown(&self) -> Result<Vec<String>>
         ensures { IfOk result (λ names. (terms : Terms) (events : List Event)
             → AreOpenings terms self.now events
             → names_view names.items ≡ unshown terms events) }
     {
-        self.touched.unshown()
+        let alloc = *self.changed.allocator();
+        if self.shown.len() >= MOST_TOUCHED {
+            return Ok(Vec::new(alloc));
+        }
+        others(alloc, self.changed.as_slice(), self.shown.as_slice())
+    }
+
+    /// Takes over what a kept event, that of this place, does to the document of a URI.
+    ///
+    /// # Errors
+    /// `Memory` where memory was refused; nothing is then known of what is held.
+    #[inline(always)]
+    pub(crate) fn keep(&mut self, place: EventPlace, uri: &str, step: Step) -> Result<()>
+        ensures { OnOk result (OpensBy (kept_call uri.now place step) self.old self.new) }
+    {
+        match step {
+            Step::Reaches { opens: true, .. } => push(&mut self.opened, MOST_OPENINGS, uri, place),
+            Step::Reaches { opens: false, .. } => add(&mut self.changed, uri),
+            Step::Closes => push(&mut self.closed, MOST_CLOSINGS, uri, place),
+            Step::Shows(..) => add(&mut self.shown, uri),
+        }
     }
 }
 
@@ -153,41 +152,69 @@ fn last_on(held: &VecDeque<DocumentEvent>, uri: &str) -> Option<EventPlace>
     ensures { result ≡ last_on uri.now (ons_view held.now.items) }
 {
     let (first, second) = held.as_slices();
-    last_in(second, uri).or(last_in(first, uri))
-}
-
-/// The same of one part of them.
-fn last_in(held: &[DocumentEvent], uri: &str) -> Option<EventPlace>
-    ensures { result ≡ last_on uri.now (ons_view held.now) }
-{
-    let mut last = None;
-    for on in held {
-        if is_on(on, uri) {
-            last = Some(on.place);
-        }
+    match last_in(second, uri).or(last_in(first, uri)) {
+        Some(on) => Some(on.place),
+        None => None,
     }
-    last
 }
 
-fn is_on(on: &DocumentEvent, uri: &str) -> bool
-    ensures { result ≡ is_on uri.now (on_view on.now) }
+/// The last of one part of them.
+fn last_in<'a>(held: &'a [DocumentEvent], uri: &str) -> Option<&'a DocumentEvent>
+    ensures { option_map (λ on. on.now) result
+        ≡ last_that (λ on. bytes_eq (string_bytes on.uri) uri.now) held.now }
 {
-    uri == on.uri.as_str()
+    held.iter().rev().find(|on| on.uri.as_str() == uri)
 }
 
 /// Adds a message after the others, of which the last ones stay.
-fn push(
-    held: &mut VecDeque<DocumentEvent>,
-    most: usize,
-    uri: &str,
-    place: EventPlace,
-) -> Result<(), Memory>
+fn push(held: &mut VecDeque<DocumentEvent>, most: usize, uri: &str, place: EventPlace) -> Result<()>
     requires { 0 < most }
-    ensures { OnOk result (Holds most (Some (on_document uri.now place)) held.old.items
+    ensures { OnOk result (Holds most (on_document uri.now place ∷ []) held.old.items
         held.new.items) }
 {
     let uri = String::from_str(*held.allocator(), uri)?;
-    make_room(held, most);
-    held.push_back(DocumentEvent { uri, place })?;
+    push_within(held, most, DocumentEvent { uri, place })
+}
+
+/// Those of these documents that are not among the others.
+fn others(alloc: Global, names: &[String], known: &[String]) -> Result<Vec<String>>
+    ensures { IfOk result (λ found. names_view found.items
+        ≡ others (names_view names.now) (names_view known.now)) }
+{
+    let mut found = Vec::new(alloc);
+    for name in names {
+        if !has_name(known, name.as_str()) {
+            found.push(name.clone()?)?;
+        }
+    }
+    Ok(found)
+}
+
+/// Adds a document, where it is another one and there is room.
+#[inline(never)]
+fn add(names: &mut Vec<String>, uri: &str) -> Result<()>
+    ensures { OnOk result (names_view names.new.items
+        ≡ with_name (names_view names.old.items) uri.now) }
+{
+    if names.len() >= MOST_TOUCHED || has_name(names.as_slice(), uri) {
+        return Ok(());
+    }
+    let name = String::from_str(*names.allocator(), uri)?;
+    names.push(name)?;
     Ok(())
+}
+
+/// Whether one of these documents has the URI.
+#[inline(always)]
+fn has_name(names: &[String], uri: &str) -> bool
+    ensures { result ≡ has_name uri.now (names_view names.now) }
+{
+    any_named(names, uri)
+}
+
+#[inline(always)]
+fn any_named(names: &[String], uri: &str) -> bool
+    ensures { result ≡ list_any (λ name. bytes_eq (string_bytes name) uri.now) names.now }
+{
+    names.iter().any(|name| name.as_str() == uri)
 }

@@ -1,15 +1,14 @@
 //! What is remarkable about the messages of a session, though it breaks no rule.
-ghost use Rattle.std.specs.Prelude.{◌≡◌, ◌&&◌, [], None, true, IfOk, OnOk, if◌then◌else◌, not};
+ghost use Rattle.std.specs.Prelude.{◌≡◌, ◌&&◌, [], IfOk, OnOk, if◌then◌else◌, not};
 ghost use Rattle.std.specs.Prelude.{option_map, string_bytes};
 ghost use Rattle.serde_json.specs.View.{view};
 ghost use Rattle.lsp_rpc.specs.View.{message_view};
-ghost use Rattle.lsp_explain.specs.Misuses.{misuse_in};
 ghost use Rattle.lsp_explain.specs.SessionRemarks as spec;
 ghost use Rattle.lsp_explain.specs.SessionRemarks.{AreRemarks, Remarked, older_held, older_of};
 
 use crate::notes::misuses::{Misused, note_misuse};
 use lsp_replay::EventPlace;
-use lsp_rpc::{Answer, Memory, Message, Side};
+use lsp_rpc::{Answer, Message, Result, Side};
 use lsp_session::Phase;
 use serde_json::Value;
 use std::alloc::Global;
@@ -19,8 +18,9 @@ use std::alloc::Global;
 /// without `shutdown`; and which encoding the answer to `initialize` names in the older way.
 #[derive(Drop)]
 pub(crate) struct Remarks {
-    misuses: Vec<Misused>,
-    abrupt_exit: Option<EventPlace>,
+    pub(crate) misuses: Vec<Misused>,
+    /// The place of the event of the `exit`.
+    pub(crate) abrupt_exit: Option<EventPlace>,
     is_done: bool,
     older_encoding: Option<String>,
 }
@@ -38,20 +38,6 @@ impl Remarks {
         }
     }
 
-    /// The calls that were not sent as LSP 3.17 defines them, of each method the first.
-    pub(crate) fn misuses(&self) -> &[Misused]
-        ensures { result.now ≡ self.now.misuses.items }
-    {
-        self.misuses.as_slice()
-    }
-
-    /// The place of the event of an `exit` without a `shutdown` before it.
-    pub(crate) fn abrupt_exit(&self) -> Option<EventPlace>
-        ensures { result ≡ self.now.abrupt_exit }
-    {
-        self.abrupt_exit
-    }
-
     /// The encoding that the answer to `initialize` names in the older way.
     pub(crate) fn older_encoding(&self) -> Option<&str>
         ensures { option_map (λ s. s.now) result ≡ older_held self.now }
@@ -60,8 +46,7 @@ impl Remarks {
     }
 
     /// Takes over a message that is kept, the event of this place, before and after which the
-    /// session is in these phases, and after which the handshake is settled or is not. Its method is
-    /// looked up unless it is known to be sent as LSP 3.17 defines it.
+    /// session is in these phases, and after which the handshake is settled or is not.
     ///
     /// # Errors
     /// `Memory` where memory was refused.
@@ -73,25 +58,19 @@ impl Remarks {
         before: Phase,
         after: Phase,
         done: bool,
-        known: bool,
-    ) -> Result<(), Memory>
-        ensures { OnOk result (
-            (known ≡ true → misuse_in place side (message_view message.now) ≡ None)
-            → Remarked place side (message_view message.now) before after done
+    ) -> Result<()>
+        ensures { OnOk result (Remarked place side (message_view message.now) before after done
             self.old self.new) }
     {
         if is_abrupt(before, after) {
             self.abrupt_exit = Some(place);
         }
         self.keep_answer(message, done)?;
-        if known {
-            return Ok(());
-        }
         note_misuse(&mut self.misuses, place, side, message)
     }
 
     /// Takes over what a message answers, after which the handshake is settled or is not.
-    fn keep_answer(&mut self, message: &Message, done: bool) -> Result<(), Memory>
+    fn keep_answer(&mut self, message: &Message, done: bool) -> Result<()>
         ensures misuses { self.new.misuses ≡ self.old.misuses }
         ensures abrupt { self.new.abrupt_exit ≡ self.old.abrupt_exit }
         ensures done { OnOk result (self.new.is_done ≡ done) }
@@ -116,7 +95,7 @@ fn is_abrupt(before: Phase, after: Phase) -> bool
 }
 
 /// A copy of the encoding that what a message answers names in the older way.
-fn copy_older(alloc: Global, message: &Message) -> Result<Option<String>, Memory>
+fn copy_older(alloc: Global, message: &Message) -> Result<Option<String>>
     ensures { IfOk result
         (λ name. option_map string_bytes name ≡ older_of (message_view message.now)) }
 {

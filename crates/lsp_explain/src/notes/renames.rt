@@ -1,23 +1,24 @@
 //! Documents that are opened or changed under a URI that they lost when their file was renamed.
-ghost use Rattle.std.specs.Prelude.{◌≡◌, [], ◌∷◌, IfOk, OnOk, option_map};
-ghost use Rattle.std.specs.List.{filter_map};
+ghost use Rattle.std.specs.Prelude.{◌≡◌, [], ◌∷◌, IfOk, OnOk, option_map, string_bytes};
 ghost use Rattle.std.specs.Option.{option_or};
+ghost use Rattle.std.specs.Str.{bytes_eq};
 ghost use Rattle.serde_json.specs.Find.{as_str};
 ghost use Rattle.serde_json.specs.View.{items_view, view};
 ghost use Rattle.lsp_rpc.specs.Message.{Message as AMessage};
 ghost use Rattle.lsp_rpc.specs.Params.{all_of, required};
 ghost use Rattle.lsp_rpc.specs.Reading.{Reads};
 ghost use Rattle.lsp_rpc.specs.View.{act_view, message_view};
-ghost use Rattle.lsp_verdict.specs.Offences.{last_or};
 ghost use Rattle.lsp_explain.specs.Renames as spec;
 ghost use Rattle.lsp_explain.specs.Renames.{AreRenames, Moves, RenamesIn, creations_in, each_move};
-ghost use Rattle.lsp_explain.specs.Renames.{gone_by, moves_in, moves_of, moves_view, or_none};
-ghost use Rattle.lsp_explain.specs.Renames.{renamed_held, renamed_view, renames_in, tells_files};
-ghost use Rattle.lsp_explain.specs.Touched.{names_view};
+ghost use Rattle.lsp_explain.specs.Renames.{moves_in, moves_of, moves_view, or_none};
+ghost use Rattle.lsp_explain.specs.Renames.{renamed_held, renames_in, tells_files};
+ghost use Rattle.lsp_explain.specs.History.{last_that};
+ghost use Rattle.lsp_explain.specs.Openings.{names_view, on_view};
 
-use crate::notes::last_ones::make_room;
+use crate::notes::last_ones::push_within;
+use crate::notes::openings::DocumentEvent;
 use lsp_replay::EventPlace;
-use lsp_rpc::{Act, Memory, Message, RpcFault, Side, Spoken, read};
+use lsp_rpc::{Act, Memory, Message, Result, RpcFault, Side, Spoken, read};
 use serde_json::Value;
 use std::alloc::Global;
 use std::collections::VecDeque;
@@ -33,22 +34,13 @@ pub(crate) struct Move {
     is_gone: bool,
 }
 
-/// A message that opens or changes a document under a URI that its file lost when it was renamed.
-#[derive(Debug, Drop)]
-pub struct Renamed {
-    /// The URI of the document.
-    pub uri: String,
-    /// The place of the message's event.
-    pub place: EventPlace,
-}
-
 /// The last files that were renamed or created, by `workspace/didRenameFiles` and
 /// `workspace/didCreateFiles` of LSP 3.17, and the first message that opens or changes a document
 /// under a URI whose file was renamed.
 #[derive(Drop)]
 pub(crate) struct Renames {
     moves: VecDeque<Move>,
-    renamed: Option<Renamed>,
+    renamed: Option<DocumentEvent>,
 }
 
 impl Renames {
@@ -63,8 +55,8 @@ impl Renames {
     }
 
     /// The first message that opens or changes a document under a URI that is gone.
-    pub(crate) fn renamed(&self) -> Option<&Renamed>
-        ensures { option_map (λ r. renamed_view r.now) result ≡ renamed_held self.now }
+    pub(crate) fn renamed(&self) -> Option<&DocumentEvent>
+        ensures { option_map (λ r. on_view r.now) result ≡ renamed_held self.now }
     {
         self.renamed.as_ref()
     }
@@ -80,7 +72,7 @@ impl Renames {
         side: Side,
         content: &[u8],
         spoken: &Spoken,
-    ) -> Result<(), Memory>
+    ) -> Result<()>
         ensures { OnOk result (RenamesIn place side content.now
             (message_view spoken.now.message) (act_view spoken.now.act) self.old self.new) }
     {
@@ -93,25 +85,13 @@ impl Renames {
 
     /// Notes an act, of the event of this place, if it is the first under a URI that is gone.
     /// Usually nothing is held about files.
-    fn keep_act(&mut self, place: EventPlace, act: &Act) -> Result<(), Memory>
+    #[inline(always)]
+    pub(crate) fn keep_act(&mut self, place: EventPlace, act: &Act) -> Result<()>
         ensures moves { self.new.moves ≡ self.old.moves }
         ensures renamed { OnOk result (renamed_held self.new ≡ option_or (renamed_held self.old)
             (spec.renamed_by place (moves_view self.old.moves.items) (act_view act.now))) }
     {
-        if self.moves.is_empty() {
-            return Ok(());
-        }
-        self.keep_first(place, act)
-    }
-
-    /// Notes the same where something is held about files.
-    #[inline(never)]
-    fn keep_first(&mut self, place: EventPlace, act: &Act) -> Result<(), Memory>
-        ensures moves { self.new.moves ≡ self.old.moves }
-        ensures renamed { OnOk result (renamed_held self.new ≡ option_or (renamed_held self.old)
-            (spec.renamed_by place (moves_view self.old.moves.items) (act_view act.now))) }
-    {
-        if self.renamed.is_some() {
+        if self.moves.is_empty() || self.renamed.is_some() {
             return Ok(());
         }
         self.renamed = renamed_by(&self.moves, place, act)?;
@@ -121,12 +101,9 @@ impl Renames {
 
 /// The act, of the event of this place, if it opens or changes a document under a URI that is gone
 /// after these moves.
-fn renamed_by(
-    moves: &VecDeque<Move>,
-    place: EventPlace,
-    act: &Act,
-) -> Result<Option<Renamed>, Memory>
-    ensures { IfOk result (λ found. option_map renamed_view found
+#[inline(never)]
+fn renamed_by(moves: &VecDeque<Move>, place: EventPlace, act: &Act) -> Result<Option<DocumentEvent>>
+    ensures { IfOk result (λ found. option_map on_view found
         ≡ spec.renamed_by place (moves_view moves.now.items) (act_view act.now)) }
 {
     let Some(uri) = edited_by(act) else {
@@ -136,7 +113,7 @@ fn renamed_by(
         return Ok(None);
     }
     let uri = String::from_str(*moves.allocator(), uri)?;
-    Ok(Some(Renamed { uri, place }))
+    Ok(Some(DocumentEvent { uri, place }))
 }
 
 /// The URI of the document that an act opens or changes.
@@ -155,20 +132,18 @@ fn is_gone(moves: &VecDeque<Move>, uri: &str) -> bool
     ensures { result ≡ spec.is_gone uri.now (moves_view moves.now.items) }
 {
     let (first, second) = moves.as_slices();
-    gone_after(gone_after(false, first, uri), second, uri)
+    match last_in(second, uri).or(last_in(first, uri)) {
+        Some(last) => last.is_gone,
+        None => false,
+    }
 }
 
-/// Whether it is gone after these moves, given whether it was before them.
-fn gone_after(before: bool, moves: &[Move], uri: &str) -> bool
-    ensures { result ≡ last_or before (filter_map (gone_by uri.now) (moves_view moves.now)) }
+/// The last of one part of them that speaks of the file of this URI.
+fn last_in<'a>(moves: &'a [Move], uri: &str) -> Option<&'a Move>
+    ensures { option_map (λ one. one.now) result
+        ≡ last_that (λ one. bytes_eq (string_bytes one.uri) uri.now) moves.now }
 {
-    let mut gone = before;
-    for one in moves {
-        if one.uri.as_str() == uri {
-            gone = one.is_gone;
-        }
-    }
-    gone
+    moves.iter().rev().find(|one| one.uri.as_str() == uri)
 }
 
 /// Whether a message of this side says that files were renamed or created.
@@ -198,7 +173,7 @@ fn is_on_files(method: &str) -> bool
 }
 
 /// Adds what the message of a content says about files: reads it again, with its params.
-fn add_content(moves: &mut VecDeque<Move>, content: &[u8]) -> Result<(), Memory>
+fn add_content(moves: &mut VecDeque<Move>, content: &[u8]) -> Result<()>
     ensures { OnOk result ((m : AMessage) → Reads content.now m
         → Moves (moves_in m) moves.old.items moves.new.items) }
 {
@@ -214,7 +189,7 @@ fn add_content(moves: &mut VecDeque<Move>, content: &[u8]) -> Result<(), Memory>
 }
 
 /// Adds what a message says about files.
-fn add_message(moves: &mut VecDeque<Move>, message: &Message) -> Result<(), Memory>
+fn add_message(moves: &mut VecDeque<Move>, message: &Message) -> Result<()>
     ensures { OnOk result (Moves (moves_in (message_view message.now)) moves.old.items
         moves.new.items) }
 {
@@ -228,7 +203,7 @@ fn add_message(moves: &mut VecDeque<Move>, message: &Message) -> Result<(), Memo
 }
 
 /// Adds what a notification of this method with these params says about files.
-fn add_params(moves: &mut VecDeque<Move>, method: &str, params: &Value) -> Result<(), Memory>
+fn add_params(moves: &mut VecDeque<Move>, method: &str, params: &Value) -> Result<()>
     ensures { OnOk result (Moves (or_none (moves_of method.now (view params.now)))
         moves.old.items moves.new.items) }
 {
@@ -242,7 +217,7 @@ fn add_params(moves: &mut VecDeque<Move>, method: &str, params: &Value) -> Resul
 }
 
 /// Adds the files that were renamed: their old URIs are gone, and their new ones exist.
-fn add_renames(moves: &mut VecDeque<Move>, params: &Value) -> Result<(), Memory>
+fn add_renames(moves: &mut VecDeque<Move>, params: &Value) -> Result<()>
     ensures { OnOk result (Moves (or_none (renames_in (view params.now))) moves.old.items
         moves.new.items) }
 {
@@ -258,7 +233,7 @@ fn add_renames(moves: &mut VecDeque<Move>, params: &Value) -> Result<(), Memory>
 }
 
 /// Adds the files that were created.
-fn add_creations(moves: &mut VecDeque<Move>, params: &Value) -> Result<(), Memory>
+fn add_creations(moves: &mut VecDeque<Move>, params: &Value) -> Result<()>
     ensures { OnOk result (Moves (or_none (creations_in (view params.now))) moves.old.items
         moves.new.items) }
 {
@@ -269,7 +244,7 @@ fn add_creations(moves: &mut VecDeque<Move>, params: &Value) -> Result<(), Memor
 }
 
 /// The member of this name of each file that params list, if every file has it.
-fn uris_at(alloc: Global, params: &Value, name: &str) -> Result<Option<Vec<String>>, Memory>
+fn uris_at(alloc: Global, params: &Value, name: &str) -> Result<Option<Vec<String>>>
     ensures { IfOk result (λ uris. option_map (λ us. names_view us.items) uris
         ≡ spec.uris_at name.now (view params.now)) }
 {
@@ -289,7 +264,7 @@ fn files_in(params: &Value) -> Option<&[Value]>
 }
 
 /// The member of this name of each of these files, if every file has it.
-fn each_uri(alloc: Global, files: &[Value], name: &str) -> Result<Option<Vec<String>>, Memory>
+fn each_uri(alloc: Global, files: &[Value], name: &str) -> Result<Option<Vec<String>>>
     ensures { IfOk result (λ uris. option_map (λ us. names_view us.items) uris
         ≡ all_of (required name.now as_str) (items_view files.now)) }
 {
@@ -311,7 +286,7 @@ fn text_at<'a>(value: &'a Value, name: &str) -> Option<&'a str>
 }
 
 /// Adds that the files of these URIs are gone, or that they exist.
-fn add_all(moves: &mut VecDeque<Move>, is_gone: bool, uris: &[String]) -> Result<(), Memory>
+fn add_all(moves: &mut VecDeque<Move>, is_gone: bool, uris: &[String]) -> Result<()>
     ensures { OnOk result (Moves (each_move is_gone (names_view uris.now)) moves.old.items
         moves.new.items) }
 {
@@ -323,12 +298,10 @@ fn add_all(moves: &mut VecDeque<Move>, is_gone: bool, uris: &[String]) -> Result
 
 /// Adds after the others, of which the last ones stay, that the file of this URI is gone, or that
 /// it exists.
-fn add(moves: &mut VecDeque<Move>, is_gone: bool, uri: &str) -> Result<(), Memory>
+fn add(moves: &mut VecDeque<Move>, is_gone: bool, uri: &str) -> Result<()>
     ensures { OnOk result (Moves (spec.move is_gone uri.now ∷ []) moves.old.items
         moves.new.items) }
 {
     let uri = String::from_str(*moves.allocator(), uri)?;
-    make_room(moves, MOST_MOVES);
-    moves.push_back(Move { uri, is_gone })?;
-    Ok(())
+    push_within(moves, MOST_MOVES, Move { uri, is_gone })
 }

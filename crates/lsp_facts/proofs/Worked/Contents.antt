@@ -13,7 +13,7 @@ use Rattle.json.specs.Text.{content}
 use Rattle.json.specs.Word.{word, after_number}
 use Rattle.serde_json.specs.Find.{walk, unescape}
 use Rattle.serde_json.specs.Read.{number_of}
-use Rattle.lsp_facts.specs.ContentFacts.{content_facts, wrong_in}
+use Rattle.lsp_facts.specs.EventFacts.{content_facts, wrong_in}
 use Rattle.lsp_facts.specs.Grammar.{json_break}
 use Rattle.lsp_facts.specs.Fact.{fact_lines}
 use Rattle.lsp_facts.specs.Members.{parts}

@@ -11,8 +11,7 @@ use Rattle.lsp_frame.specs.declared.format.Format.TheVariants.{One}
 use Rattle.lsp_types.specs.declared.side.Side.TheVariants.{Editor}
 use Rattle.lsp_log.specs.Log.{chunk}
 use Rattle.lsp_log.specs.declared.fault.LogCode.TheVariants.{L2}
-use Rattle.lsp_facts.specs.FlawFacts.{frame_facts, log_facts}
-use Rattle.lsp_facts.specs.MessageFacts.{front_facts}
+use Rattle.lsp_facts.specs.EventFacts.{frame_facts, log_facts, front_facts}
 use Rattle.lsp_facts.specs.Fact.{fact_lines}
 
 -- the header part alone, whatever follows

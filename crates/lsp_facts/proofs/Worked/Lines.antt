@@ -11,21 +11,16 @@ use Rattle.json.specs.Text.{content}
 use Rattle.json.specs.Word.{word, after_number}
 use Rattle.json.specs.Print.{escape_byte}
 use Rattle.serde_json.specs.Read.{number_of}
-use Rattle.lsp_types.specs.declared.change.SyncKind.TheVariants.{Nothing, Full, Incremental}
-use Rattle.lsp_types.specs.declared.position.Position.{Position}
-use Rattle.lsp_types.specs.declared.position.Span.{Span}
 use Rattle.lsp_types.specs.declared.position.Encoding.TheVariants.{Utf8, Utf16, Utf32}
 use Rattle.lsp_types.specs.declared.side.Side.TheVariants.{Editor, Server}
 use Rattle.lsp_rpc.specs.Ident.{number}
 use Rattle.lsp_verdict.specs.declared.verdict.Who.TheVariants as who
 use Rattle.lsp_verdict.specs.Placed as placed
 use Rattle.lsp_verdict.specs.Placed.{broken, show}
-use Rattle.lsp_facts.specs.Fact.{fact_lines, fails, holds, counts_in, cited, version_by, part_line, waits}
-use Rattle.lsp_facts.specs.Fact.{more_words}
+use Rattle.lsp_facts.specs.Fact.{fact_lines, fails, holds, counts_in, cited, version_by, part_line}
+use Rattle.lsp_facts.specs.Fact.{waits, more_words, end_event, event_line, usual}
 use Rattle.lsp_replay.specs.declared.heard.EventPlace.{EventPlace}
-use Rattle.lsp_facts.specs.Part.{Part}
-use Rattle.lsp_facts.specs.Lines.{end_event, event_line, usual}
-use Rattle.lsp_facts.specs.MessageFacts.{offer_fact}
+use Rattle.lsp_facts.specs.EventFacts.{offer_fact}
 
 of_changes : fact_lines (fails 2 (Some (record {
   first = record { line = 10; column = 4 };

@@ -18,7 +18,7 @@ use Rattle.lsp_verdict.proofs.Worked.Templates.{I1, IE, IT, A, A1, START, REQ, S
 use Rattle.lsp_verdict.proofs.Worked.Templates.{LOG, PROG, REG, CANCEL}
 use Rattle.lsp_facts.specs.Fact.{fact_lines}
 use Rattle.lsp_facts.specs.Members.{result_rows}
-use Rattle.lsp_facts.specs.MessageFacts.{front_facts, session_facts}
+use Rattle.lsp_facts.specs.EventFacts.{front_facts, session_facts}
 
 -- what is said of a message that breaks this rule behind these events
 abbrev said : ℕ → List Event → Event → List ℕ

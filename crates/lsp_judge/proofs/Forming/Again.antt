@@ -21,9 +21,8 @@ use Rattle.lsp_log.specs.declared.fault.LogCode.{LogCode}
 use Rattle.lsp_log.proofs.OneLog.{written_is_read}
 use Rattle.lsp_verdict.specs.Laws.{merged, put}
 use Rattle.lsp_verdict.specs.LookBack.{first_from}
-use Rattle.lsp_judge.specs.Normal.{cut, chunks, records_of, form_of, no_at, IsNormal}
-use Rattle.lsp_judge.specs.NormalLaws.{before_fault, is_frame_rule, NormalFormKeepsEvents}
-use Rattle.lsp_judge.specs.NormalLaws.{NormalFormStays}
+use Rattle.lsp_judge.specs.Normal.{cut, chunks, records_of, form_of, no_at, IsNormal, before_fault}
+use Rattle.lsp_judge.specs.Normal.{is_frame_rule, NormalFormKeepsEvents, NormalFormStays}
 use Rattle.lsp_verdict.specs.Outcome.{HasRest, format_or_one}
 use Rattle.lsp_verdict.specs.Placed.{Raw, content, broken, show, Brings, new_fault, Placed}
 use Rattle.lsp_verdict.specs.Placed.{PlacedAfter, joined}
@@ -32,10 +31,9 @@ use Rattle.lsp_judge.proofs.Forming.Pieces.{cut_none, cut_some}
 use Rattle.lsp_verdict.proofs.Below.{one_log}
 use Rattle.lsp_verdict.proofs.Outcomes.{cut_joined}
 use Rattle.lsp_verdict.proofs.PlacedLemmas.{cuts_dont_matter, one_placed}
-use Rattle.lsp_verdict.proofs.Sessions.{some_placed}
+use Rattle.lsp_verdict.proofs.Sessions.{some_placed, no_stream}
 use Rattle.lsp_frame.proofs.Readings.{says_within}
 use Rattle.lsp_frame.proofs.FrameRules.{breaks_rule}
-use Rattle.lsp_verdict.proofs.Streams.{no_stream}
 
 -- ---- lists
 
@@ -244,26 +242,30 @@ pub record AreFrames (limits : Bounds) (editor server : List ℕ) (rs : List Rec
   pub editor_rest : HasRest limits (editor ++ joined Editor rs) []
   pub server_rest : HasRest limits (server ++ joined Server rs) []
 
+none_placed : (limits : Bounds) (editor server : List ℕ) (es ss : List (List ℕ))
+    → IsStream limits editor es [] None → IsStream limits server ss [] None
+    → AreFrames limits editor server [] []
+none_placed limits editor server es ss p q = record {
+  placed = refl;
+  editor_rest = (
+    es,
+    None,
+    subst (λ (w : List ℕ). IsStream limits w es [] None) (sym (append-nil editor)) p,
+  );
+  server_rest = (
+    ss,
+    None,
+    subst (λ (w : List ℕ). IsStream limits w ss [] None) (sym (append-nil server)) q,
+  );
+}
+
 frames_placed : (limits : Bounds) → IsInRange limits
     → (editor server : List ℕ) (es ss : List (List ℕ)) (raws : List Raw)
     → AllByRecursion (IsSane limits) raws → IsStream limits editor es [] None
     → IsStream limits server ss [] None
     → AreFrames limits editor server (frames_of raws) (before_fault raws)
-frames_placed limits sizes editor server es ss [] sane p q = record {
-  placed = refl;
-  editor_rest = (
-    es,
-    None,
-    subst (λ (w : List ℕ). IsStream limits w es [] None)
-        (sym (append-nil editor)) p,
-  );
-  server_rest = (
-    ss,
-    None,
-    subst (λ (w : List ℕ). IsStream limits w ss [] None)
-        (sym (append-nil server)) q,
-  );
-}
+frames_placed limits sizes editor server es ss [] sane p q =
+    none_placed limits editor server es ss p q
 frames_placed limits sizes editor server es ss (content Editor bytes ∷ raws) sane p q =
     let later = frames_placed limits sizes (editor ++ canonical bytes) server (es ++ bytes ∷ []) ss
     raws sane.1 (stream_push limits sizes editor bytes es sane.0 p) q in
@@ -296,21 +298,8 @@ frames_placed limits sizes editor server es ss (content Server bytes ∷ raws) s
           (append_assoc server (canonical bytes) (joined Server (frames_of raws)))
           later.server_rest;
     }
-frames_placed limits sizes editor server es ss (broken side rule ∷ raws) sane p q = record {
-  placed = refl;
-  editor_rest = (
-    es,
-    None,
-    subst (λ (w : List ℕ). IsStream limits w es [] None)
-        (sym (append-nil editor)) p,
-  );
-  server_rest = (
-    ss,
-    None,
-    subst (λ (w : List ℕ). IsStream limits w ss [] None)
-        (sym (append-nil server)) q,
-  );
-}
+frames_placed limits sizes editor server es ss (broken side rule ∷ raws) sane p q =
+    none_placed limits editor server es ss p q
 frames_placed limits sizes editor server es ss (show n uri t ∷ raws) sane p q =
     let later = frames_placed limits sizes editor server es ss raws sane.1 p q in
     record {

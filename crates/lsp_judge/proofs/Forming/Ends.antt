@@ -4,8 +4,8 @@ use Rattle.std.proofs.Common.{◌≡◌, List, [], ◌∷◌, ◌++◌, Bool, tr
 use Rattle.std.proofs.Common.{sym, ap, subst, ◌∙◌}
 use Rattle.lsp_frame.specs.Bounds.{Bounds}
 use Rattle.lsp_log.specs.Log.{Record}
-use Rattle.lsp_judge.specs.Normal.{first_broken, fault_of, no_at, no_next, rest_of}
-use Rattle.lsp_judge.specs.NormalSteps.{CarriesCapped, EndsWhole}
+use Rattle.lsp_judge.specs.Normal.{first_broken, fault_of, no_at, no_next, rest_of, CarriesCapped}
+use Rattle.lsp_judge.specs.Normal.{EndsWhole}
 use Rattle.lsp_replay.specs.Streams.{State, Stands, ends_inside}
 use Rattle.lsp_types.specs.declared.side.Side.TheVariants.{Editor, Server}
 use Rattle.lsp_verdict.specs.LookBack.{first_from}
@@ -13,7 +13,7 @@ use Rattle.lsp_verdict.specs.Outcome.{ending, is_rest}
 use Rattle.lsp_verdict.specs.Placed.{Raw, content, broken, show}
 use Rattle.lsp_verdict.specs.Verdict.{Verdict}
 use Rattle.lsp_verdict.specs.declared.outcome.Outcome.{Outcome}
-use Rattle.lsp_replay.proofs.Resting.{faults_in, side_rest, side_ends}
+use Rattle.lsp_replay.proofs.Fronts.{faults_in, side_rest, side_ends}
 
 sound_from : (before raws : List Raw) → first_from no_at before raws ≡ None → faults_in raws ≡ 0
 sound_from before [] sound = refl

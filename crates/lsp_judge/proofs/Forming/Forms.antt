@@ -12,11 +12,9 @@ use Rattle.lsp_types.specs.declared.side.Side.TheVariants.{Editor, Server}
 use Rattle.lsp_log.specs.Log.{Record, shown, first_line, spelling}
 use Rattle.lsp_verdict.specs.LookBack.{first_from}
 use Rattle.lsp_verdict.specs.Placed.{Raw, content, broken, show}
-use Rattle.lsp_judge.specs.Normal.{chunks, records_of, form_of, is_of, no_next, no_at}
-use Rattle.lsp_judge.specs.Normal.{first_broken}
-use Rattle.lsp_judge.specs.NormalSteps.{mark, Counted, spelled}
-use Rattle.lsp_verdict.specs.Given.{as_given}
-use Rattle.lsp_verdict.specs.Counting.{AreCounts}
+use Rattle.lsp_judge.specs.Normal.{chunks, records_of, form_of, is_of, no_next, no_at, first_broken}
+use Rattle.lsp_judge.specs.Normal.{mark, Counted, spelled}
+use Rattle.lsp_verdict.specs.Given.{as_given, AreCounts}
 use Rattle.lsp_verdict.specs.Event.{Event}
 use Rattle.lsp_verdict.specs.declared.counts.Counts.{Counts}
 use Rattle.lsp_verdict.specs.declared.verdict.Who.{Who}
@@ -116,28 +114,19 @@ one_counted old new before raw by is adds counted =
     subst (AreCounts new) (sym (map-append mark before (raw ∷ [])))
     (adds (map mark before) (mark raw) counted is)
 
-editor_marks : (raws : List Raw)
-    → count_of (belongs_to (who_of Editor)) (map mark raws) ≡ length (filter (is_of Editor) raws)
-editor_marks [] = refl
-editor_marks (content Editor bytes ∷ raws) = ap suc (editor_marks raws)
-editor_marks (content Server bytes ∷ raws) = editor_marks raws
-editor_marks (broken Editor rule ∷ raws) = ap suc (editor_marks raws)
-editor_marks (broken Server rule ∷ raws) = editor_marks raws
-editor_marks (show number uri text ∷ raws) = editor_marks raws
-
-server_marks : (raws : List Raw)
-    → count_of (belongs_to (who_of Server)) (map mark raws) ≡ length (filter (is_of Server) raws)
-server_marks [] = refl
-server_marks (content Server bytes ∷ raws) = ap suc (server_marks raws)
-server_marks (content Editor bytes ∷ raws) = server_marks raws
-server_marks (broken Server rule ∷ raws) = ap suc (server_marks raws)
-server_marks (broken Editor rule ∷ raws) = server_marks raws
-server_marks (show number uri text ∷ raws) = server_marks raws
-
 pub marks : (side : Side) (raws : List Raw)
     → count_of (belongs_to (who_of side)) (map mark raws) ≡ length (filter (is_of side) raws)
-marks Editor raws = editor_marks raws
-marks Server raws = server_marks raws
+marks side [] = refl
+marks Editor (content Editor bytes ∷ raws) = ap suc (marks Editor raws)
+marks Editor (content Server bytes ∷ raws) = marks Editor raws
+marks Editor (broken Editor rule ∷ raws) = ap suc (marks Editor raws)
+marks Editor (broken Server rule ∷ raws) = marks Editor raws
+marks Editor (show number uri text ∷ raws) = marks Editor raws
+marks Server (content Editor bytes ∷ raws) = marks Server raws
+marks Server (content Server bytes ∷ raws) = ap suc (marks Server raws)
+marks Server (broken Editor rule ∷ raws) = marks Server raws
+marks Server (broken Server rule ∷ raws) = ap suc (marks Server raws)
+marks Server (show number uri text ∷ raws) = marks Server raws
 
 -- the No at the event that comes next, counted among the marks
 marked_no : (rule : ℕ) (side : Side) (raws : List Raw)

@@ -14,23 +14,19 @@ use Rattle.lsp_log.specs.Log.{Record, first_line}
 use Rattle.lsp_log.specs.declared.fault.LogCode.{LogCode}
 use Rattle.lsp_replay.specs.LogEvents as log_events
 use Rattle.lsp_replay.specs.LogEvents.{Gives, HasGiven, IsLogOf, Opens, Reads, flaw_of}
-use Rattle.lsp_judge.specs.Normal.{form_of, fault_of, EndsNormal, BeginsNormal, IsNormal}
-use Rattle.lsp_judge.specs.Normal.{Carries, Normalizes, first_broken}
-use Rattle.lsp_judge.specs.NormalSteps.{mark, CarriesCapped, spelled, EndsLog, EndsWhole}
-use Rattle.lsp_judge.specs.NormalSteps.{Counted, WritesEvent}
-use Rattle.lsp_verdict.specs.Ports.{ports}
-use Rattle.lsp_verdict.specs.Given.{as_given}
-use Rattle.lsp_verdict.specs.Lent.{raw_view}
+use Rattle.lsp_judge.specs.Normal.{form_of, fault_of, EndsNormal, BeginsNormal, IsNormal, Carries}
+use Rattle.lsp_judge.specs.Normal.{Normalizes, first_broken, mark, CarriesCapped, spelled, EndsLog}
+use Rattle.lsp_judge.specs.Normal.{EndsWhole, Counted, WritesEvent}
+use Rattle.lsp_verdict.specs.Runs.{ports, BreaksOff, Tells, failures_after, sink_failures_after}
+use Rattle.lsp_verdict.specs.Given.{as_given, raw_view, AreCounts}
 use Rattle.lsp_replay.specs.declared.log_events.End.{End}
 use Rattle.lsp_replay.specs.declared.log_events.End.TheVariants.{Sound, Bad}
 use Rattle.lsp_replay.specs.declared.log_events.LogEvents.{LogEvents}
 use Rattle.lsp_replay.specs.declared.log_events.Next.TheVariants as next
 use Rattle.lsp_verdict.specs.declared.raw.Raw as code
-use Rattle.lsp_verdict.specs.Counting.{AreCounts}
 use Rattle.lsp_types.specs.declared.side.Side.TheVariants.{Editor, Server}
 use Rattle.lsp_verdict.specs.Outcome.{HasRest, ending, format_or_one}
 use Rattle.lsp_verdict.specs.Placed.{Raw, joined}
-use Rattle.lsp_verdict.specs.RunIo.{BreaksOff, Tells, failures_after, sink_failures_after}
 use Rattle.lsp_verdict.specs.Verdict.{Verdict, bad_log}
 use Rattle.lsp_verdict.specs.declared.counts.Counts.{Counts}
 use Rattle.lsp_verdict.specs.declared.outcome.Outcome.{Outcome}
@@ -41,9 +37,8 @@ use Rattle.lsp_verdict.specs.declared.verdict.Verdict.TheVariants as verdicts
 use Rattle.lsp_verdict.proofs.Below.{some_stream}
 use Rattle.lsp_verdict.proofs.ExactCounts.{capped_is, raws_within}
 use Rattle.lsp_verdict.proofs.PlacedLemmas.{placed_whole}
-use Rattle.lsp_verdict.proofs.RunReading.{read_map}
-use Rattle.lsp_verdict.proofs.RunsJudged.{unwritten_sink}
-use Rattle.lsp_judge.proofs.Written.{due_begun, due_written}
+use Rattle.lsp_verdict.proofs.RunsJudged.{read_map, unwritten_sink}
+use Rattle.lsp_judge.proofs.Checking.{due_begun, due_written}
 use Rattle.lsp_judge.proofs.Forming.Counts.{end_exact}
 use Rattle.lsp_judge.proofs.Forming.Forms.{one_broken, one_sound, spelled_behind, spelled_broken}
 use Rattle.lsp_judge.proofs.Forming.OneForm.{broken_normal, due_first}

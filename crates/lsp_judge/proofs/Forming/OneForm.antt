@@ -1,26 +1,24 @@
 -- A log has one normal form.
 use Rattle.std.specs.Option.{option_or}
-use Rattle.std.proofs.Common.{◌≡◌, ℕ, List, [], ◌++◌, Option, Some, refl, sym, ap, subst, ◌∙◌}
+use Rattle.std.proofs.Common.{◌≡◌, ℕ, List, [], ◌++◌, Option, Some, refl, sym, ap, ◌∙◌}
 use Rattle.std.proofs.Common.{append_assoc}
 use Rattle.lsp_frame.specs.Bounds.{Bounds, IsInRange}
 use Rattle.lsp_frame.specs.declared.format.Format.{Format}
 use Rattle.lsp_types.specs.declared.side.Side.TheVariants.{Editor, Server}
 use Rattle.lsp_log.specs.Log.{Record}
-use Rattle.lsp_log.specs.declared.fault.LogCode.{LogCode}
 use Rattle.lsp_replay.specs.LogEvents.{HasGiven}
 use Rattle.lsp_judge.specs.Normal.{form_of, no_at, first_broken, fault_of, rest_of, IsNormal}
-use Rattle.lsp_judge.specs.Normal.{BeginsNormal}
-use Rattle.lsp_judge.specs.NormalLaws.{SomeNormalForm, OneNormalForm}
+use Rattle.lsp_judge.specs.Normal.{BeginsNormal, SomeNormalForm, OneNormalForm}
 use Rattle.lsp_verdict.specs.Given.{as_given}
 use Rattle.lsp_verdict.specs.Outcome.{ending, format_or_one}
-use Rattle.lsp_verdict.specs.Placed.{Raw, Placed, joined}
+use Rattle.lsp_verdict.specs.Placed.{Raw, joined}
 use Rattle.lsp_verdict.specs.Verdict.{Verdict, Ending, bad_log_of}
 use Rattle.lsp_verdict.proofs.Below.{one_log, some_log, some_stream}
 use Rattle.lsp_verdict.proofs.LookBackLemmas.{first_of-more}
 use Rattle.lsp_judge.proofs.Forming.Counts.{broken_exact}
 use Rattle.lsp_judge.proofs.Forming.Forms.{form_begins, form_stops}
 use Rattle.lsp_verdict.proofs.Outcomes.{one_rest}
-use Rattle.lsp_verdict.proofs.PlacedLemmas.{one_placed}
+use Rattle.lsp_judge.proofs.Seeking.Laws.{same_raws}
 use Rattle.lsp_verdict.proofs.Sessions.{some_placed}
 
 broken_is : (raws : List Raw) (end : Ending) (v : Verdict) → first_broken raws ≡ Some v
@@ -98,15 +96,12 @@ module _ (limits : Bounds) (sizes : IsInRange limits) (log : List ℕ) (format :
       let same = one_log limits sizes log normal.format format normal.records has.records
       normal.log_fault has.log_fault normal.is_log has.is_log in
       let raws : normal.raws ≡ given ++ has.later =
-      one_placed limits [] [] has.records normal.raws (given ++ has.later)
-      (subst (λ (xs : List Record). Placed limits xs normal.raws) same.1 normal.placed)
-      has.placed in
+      same_raws limits normal.records has.records normal.raws (given ++ has.later) same.1
+      normal.placed has.placed in
       let begins = form_begins (format_or_one format) limits.chunk given has.later in (
         back ++ begins.0,
         normal.written
-            ∙ ap (λ (o : Option Format). form_of (format_or_one o) limits.chunk normal.raws) same.0
-            ∙ ap (form_of (format_or_one format) limits.chunk) raws
-            ∙ begins.1
+            ∙ (λ i. form_of (format_or_one (same.0 i)) limits.chunk (raws i)) ∙ begins.1
             ∙ ap (λ (w : List ℕ). w ++ begins.0) whole
             ∙ append_assoc front back begins.0,
       )
@@ -118,20 +113,13 @@ one_normal_form limits sizes log out other f g a b =
     let same = one_log limits sizes log a.format b.format a.records b.records a.log_fault
     b.log_fault a.is_log b.is_log in
     let raws : a.raws ≡ b.raws =
-    one_placed limits [] [] a.records a.raws b.raws a.placed
-    (subst (λ (rs : List Record). Placed limits rs b.raws) (sym same.1) b.placed) in
+    same_raws limits a.records b.records a.raws b.raws same.1 a.placed b.placed in
     let editor : a.editor ≡ b.editor =
     one_rest limits (joined Editor a.records) (joined Editor b.records) a.editor b.editor
     (ap (joined Editor) same.1) a.editor_rest b.editor_rest in
     let server : a.server ≡ b.server =
     one_rest limits (joined Server a.records) (joined Server b.records) a.server b.server
     (ap (joined Server) same.1) a.server_rest b.server_rest in (
-      a.written ∙ ap (λ (o : Option Format). form_of (format_or_one o) limits.chunk a.raws) same.0
-          ∙ ap (form_of (format_or_one b.format) limits.chunk) raws ∙ sym b.written,
-      sym a.ends
-          ∙ ap (λ (rs : List Raw). fault_of rs (ending a.log_fault a.editor a.server)) raws
-          ∙ ap (λ (e : Option (ℕ × LogCode)). fault_of b.raws (ending e a.editor a.server)) same.2
-          ∙ ap (λ (r : List ℕ). fault_of b.raws (ending b.log_fault r a.server)) editor
-          ∙ ap (λ (r : List ℕ). fault_of b.raws (ending b.log_fault b.editor r)) server
-          ∙ b.ends,
+      a.written ∙ (λ i. form_of (format_or_one (same.0 i)) limits.chunk (raws i)) ∙ sym b.written,
+      sym a.ends ∙ (λ i. fault_of (raws i) (ending (same.2 i) (editor i) (server i))) ∙ b.ends,
     )

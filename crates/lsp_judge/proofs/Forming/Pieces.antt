@@ -113,18 +113,12 @@ piece_ends size first second front back e f =
     let left : size - length front ≡ size - first = omega arith in
     let same : second ≡ min (length back) (size - length front) = omega arith in
     record {
-      now =
-          parts.now
-          ∙ ap (λ (w : List ℕ). w ++ take (size - length front) back) (sym (min_take size front))
-          ∙ ap (λ (k : ℕ). take k front ++ take (size - length front) back) (sym e)
-          ∙ ap (λ (w : List ℕ). take first front ++ w) (sym (min_take (size - length front) back))
-          ∙ ap (λ (k : ℕ). take first front ++ take k back) (sym same);
-      later =
-          parts.later
-          ∙ ap (λ (w : List ℕ). w ++ drop (size - length front) back) (sym (min_drop size front))
-          ∙ ap (λ (k : ℕ). drop k front ++ drop (size - length front) back) (sym e)
-          ∙ ap (λ (w : List ℕ). drop first front ++ w) (sym (min_drop (size - length front) back))
-          ∙ ap (λ (k : ℕ). drop first front ++ drop k back) (sym same);
+      now = parts.now
+          ∙ (λ i. (sym (min_take size front) ∙ ap (λ (k : ℕ). take k front) (sym e)) i
+          ++ (sym (min_take (size - length front) back) ∙ ap (λ (k : ℕ). take k back) (sym same)) i);
+      later = parts.later
+          ∙ (λ i. (sym (min_drop size front) ∙ ap (λ (k : ℕ). drop k front) (sym e)) i
+          ++ (sym (min_drop (size - length front) back) ∙ ap (λ (k : ℕ). drop k back) (sym same)) i);
     }
 
 -- ---- the loop
@@ -145,10 +139,7 @@ due_some size first second side front back full some e f =
     let long : 0 < length (front ++ back) = omega (arith, length-append front back) in
     ap (λ (ps : List (List ℕ)). flat_map spelling (map (chunk side) ps))
     (cut_some size (front ++ back) full long)
-    ∙ ap (λ (w : List ℕ). spelling (chunk side w) ++ due size side (drop size (front ++ back)))
-    ends.now
-    ∙ ap (λ (w : List ℕ). spelling (chunk side (take first front ++ take second back)) ++ due size
-    side w) ends.later
+    ∙ (λ i. spelling (chunk side (ends.now i)) ++ due size side (ends.later i))
 
 pub put_one : (start old new : Told) (bytes one rest : List ℕ)
     → HasPut start old bytes (one ++ rest) → Wrote old new one → HasPut start new bytes rest

@@ -7,13 +7,12 @@ use Rattle.std.proofs.Common.{None, refl, sym, ap, subst, ◌∙◌}
 use Rattle.std.proofs.lemmas.Bool.{false≢true}
 use Rattle.lsp_frame.specs.Bounds.{Bounds, IsInRange}
 use Rattle.lsp_frame.specs.declared.format.Format.{Format}
-use Rattle.lsp_docs.specs.Terms.{Terms, terms_of}
+use Rattle.lsp_docs.specs.Documents.{Terms, terms_of}
 use Rattle.lsp_log.specs.declared.fault.LogCode.{LogCode}
 use Rattle.lsp_verdict.specs.Event.{Event, fault}
 use Rattle.lsp_verdict.specs.LookBack.{first_from}
-use Rattle.lsp_judge.specs.Normal.{form_of, IsNormal}
-use Rattle.lsp_judge.specs.NormalLaws.{before_fault, is_frame_rule, IsOnEvents}
-use Rattle.lsp_judge.specs.NormalLaws.{NormalFormKeepsVerdict}
+use Rattle.lsp_judge.specs.Normal.{form_of, IsNormal, before_fault, is_frame_rule, IsOnEvents}
+use Rattle.lsp_judge.specs.Normal.{NormalFormKeepsVerdict}
 use Rattle.lsp_verdict.specs.Outcome.{is_rest, IsVerdict, format_or_one, log_terms}
 use Rattle.lsp_verdict.specs.Placed.{Raw, content, broken, show, Placed, Reads}
 use Rattle.lsp_verdict.specs.Verdict.{Verdict, yes, bad_log_of, rest_of, no_at, first_no, no_next}

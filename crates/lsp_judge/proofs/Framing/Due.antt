@@ -6,9 +6,7 @@ use Rattle.std.proofs.Common.{append_assoc}
 use Rattle.lsp_frame.specs.Bounds.{Bounds}
 use Rattle.lsp_frame.specs.Frame.{Frames, IsStream}
 use Rattle.lsp_frame.proofs.Frames.{one_stream, frames_first, frames_more, take_beyond}
-use Rattle.lsp_judge.specs.StreamParts.{RunsThrough}
-use Rattle.lsp_judge.specs.StreamSteps.{AreParts}
-use Rattle.lsp_judge.specs.StreamRun.{fault_of, HasParts, closing, IsRun}
+use Rattle.lsp_judge.specs.Stream.{RunsThrough, AreParts, fault_of, HasParts, closing, IsRun}
 use Rattle.lsp_verdict.specs.declared.outcome.Mode.{Mode}
 use Rattle.lsp_verdict.specs.declared.outcome.Outcome.{Outcome}
 use Rattle.lsp_verdict.specs.declared.outcome.StreamFault.{StreamFault}

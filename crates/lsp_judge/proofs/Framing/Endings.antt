@@ -10,19 +10,17 @@ use Rattle.lsp_frame.specs.Frame.{Frames}
 use Rattle.lsp_frame.specs.Sink.{Wrote}
 use Rattle.lsp_frame.specs.Told.{Told, Gave, Took}
 use Rattle.lsp_frame.proofs.Writing.{wrote_then, stopped_then}
-use Rattle.lsp_judge.specs.StreamParts.{RunsThrough}
-use Rattle.lsp_verdict.specs.RunIo.{GoesOn, Tells, failures_after, sink_failures_after}
-use Rattle.lsp_judge.specs.StreamRun.{fault_of, HasParts, closing, IsRun, BeginsRun, RunsFrames}
-use Rattle.lsp_judge.specs.StreamSteps.{AreParts, WroteParts}
-use Rattle.lsp_verdict.specs.Ports.{ports}
+use Rattle.lsp_judge.specs.Stream.{RunsThrough, fault_of, HasParts, closing, IsRun, BeginsRun}
+use Rattle.lsp_judge.specs.Stream.{RunsFrames, AreParts, WroteParts}
+use Rattle.lsp_verdict.specs.Runs.{GoesOn, Tells, failures_after, sink_failures_after, ports}
 use Rattle.lsp_verdict.specs.declared.outcome.Mode.{Mode}
 use Rattle.lsp_verdict.specs.declared.outcome.Outcome.{Outcome}
 use Rattle.lsp_verdict.specs.declared.outcome.Outcome.TheVariants.{Done}
 use Rattle.lsp_verdict.specs.declared.outcome.RunFault.{RunFault}
 use Rattle.lsp_verdict.specs.declared.outcome.RunFault.TheVariants.{Read, Write, Memory}
-use Rattle.lsp_verdict.proofs.RunReading.{read_map}
+use Rattle.lsp_verdict.proofs.RunsJudged.{read_map}
 use Rattle.lsp_judge.proofs.Framing.Due.{due_is, due_begins}
-use Rattle.lsp_judge.proofs.Written.{due_begun, due_written}
+use Rattle.lsp_judge.proofs.Checking.{due_begun, due_written}
 
 -- ---- faults
 

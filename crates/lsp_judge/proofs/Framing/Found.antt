@@ -6,9 +6,8 @@ use Rattle.lsp_frame.specs.Sink.{Wrote, Stopped}
 use Rattle.lsp_frame.specs.Told.{Told, Took}
 use Rattle.lsp_frame.specs.Decoder.{State, StandsFor, Next}
 use Rattle.lsp_frame.proofs.Writing.{wrote_then, stopped_then}
-use Rattle.lsp_judge.specs.StreamParts.{IsPart, Refuses}
-use Rattle.lsp_judge.specs.StreamSteps.{AreParts, WritesPart, FoundAll, FoundFault, FoundBroken}
-use Rattle.lsp_judge.specs.StreamSteps.{Finds}
+use Rattle.lsp_judge.specs.Stream.{IsPart, Refuses, AreParts, WritesPart, FoundAll, FoundFault}
+use Rattle.lsp_judge.specs.Stream.{FoundBroken, Finds}
 use Rattle.lsp_verdict.specs.declared.outcome.Mode.{Mode}
 use Rattle.lsp_verdict.specs.declared.outcome.RunFault.{RunFault}
 use Rattle.lsp_verdict.specs.declared.outcome.RunFault.TheVariants.{Read, Write, Memory}

@@ -16,16 +16,14 @@ use Rattle.lsp_frame.proofs.Telling.{gave_nothing, gave_then}
 use Rattle.lsp_frame.proofs.Writing.{wrote_then}
 use Rattle.lsp_frame.specs.declared.decoder.PullFault.{PullFault}
 use Rattle.lsp_frame.specs.declared.decoder.PullFault.TheVariants as pulls
-use Rattle.lsp_verdict.specs.RunIo.{of_pull}
+use Rattle.lsp_verdict.specs.Runs.{of_pull, ports}
 use Rattle.lsp_verdict.specs.declared.outcome.Mode.{Mode}
 use Rattle.lsp_verdict.specs.declared.outcome.Mode.TheVariants.{Lengths}
 use Rattle.lsp_verdict.specs.declared.outcome.Outcome.{Outcome}
 use Rattle.lsp_verdict.specs.declared.outcome.RunFault.{RunFault}
 use Rattle.lsp_verdict.specs.declared.outcome.RunFault.TheVariants as faults
-use Rattle.lsp_judge.specs.StreamParts.{numbers, length_line, outcome_at}
-use Rattle.lsp_judge.specs.StreamRun.{RunsFrames, fault_of}
-use Rattle.lsp_judge.specs.StreamSteps.{AreParts, WroteParts, SoFar, ToldAll, IsLong, LongAnswer}
-use Rattle.lsp_verdict.specs.Ports.{ports}
+use Rattle.lsp_judge.specs.Stream.{numbers, length_line, outcome_at, RunsFrames, fault_of, AreParts}
+use Rattle.lsp_judge.specs.Stream.{WroteParts, SoFar, ToldAll, IsLong, LongAnswer}
 use Rattle.lsp_judge.proofs.Framing.Parts.{parts_push}
 use Rattle.lsp_judge.proofs.Framing.Runs.{taken_open, push_on, memory_broke, read_broke, end_ran}
 use Rattle.lsp_judge.proofs.Framing.Runs.{found_broke}

@@ -6,10 +6,8 @@ use Rattle.lsp_frame.specs.Sink.{canonical}
 use Rattle.lsp_frame.proofs.Readings.{some_stream}
 use Rattle.lsp_rpc.specs.Words.{words_of}
 use Rattle.lsp_rpc.proofs.Readings.{message_or_rule}
-use Rattle.lsp_judge.specs.StreamParts.{length_line, kind_line, IsPart, Refuses, outcome_at}
-use Rattle.lsp_judge.specs.StreamParts.{RunsThrough}
-use Rattle.lsp_judge.specs.StreamRun.{fault_of, HasParts, closing}
-use Rattle.lsp_judge.specs.StreamLaws.{SomeRun, OneRun}
+use Rattle.lsp_judge.specs.Stream.{length_line, kind_line, IsPart, Refuses, outcome_at, RunsThrough}
+use Rattle.lsp_judge.specs.Stream.{fault_of, HasParts, closing, SomeRun, OneRun}
 use Rattle.lsp_verdict.specs.declared.outcome.Mode.{Mode}
 use Rattle.lsp_verdict.specs.declared.outcome.Mode.TheVariants.{Lengths, Canonical, Kinds}
 use Rattle.lsp_verdict.specs.declared.outcome.Outcome.{Outcome}

@@ -5,8 +5,7 @@ use Rattle.std.proofs.lemmas.List.{append-nil}
 use Rattle.lsp_rpc.specs.Message.{Message}
 use Rattle.lsp_rpc.specs.Words.{words_of}
 use Rattle.lsp_rpc.proofs.Readings.{one_message, one_rule, not_both}
-use Rattle.lsp_judge.specs.StreamParts.{kind_line, IsPart, Refuses, outcome_at, RunsThrough}
-use Rattle.lsp_judge.specs.StreamSteps.{AreParts}
+use Rattle.lsp_judge.specs.Stream.{kind_line, IsPart, Refuses, outcome_at, RunsThrough, AreParts}
 use Rattle.lsp_verdict.specs.declared.outcome.Mode.{Mode}
 use Rattle.lsp_verdict.specs.declared.outcome.Mode.TheVariants.{Lengths, Canonical, Kinds}
 use Rattle.lsp_verdict.specs.declared.outcome.Outcome.{Outcome}

@@ -24,12 +24,10 @@ use Rattle.lsp_verdict.specs.declared.outcome.Outcome.TheVariants.{Stream}
 use Rattle.lsp_verdict.specs.declared.outcome.RunFault.{RunFault}
 use Rattle.lsp_verdict.specs.declared.outcome.RunFault.TheVariants as faults
 use Rattle.lsp_verdict.specs.declared.outcome.StreamFault.TheVariants.{Rule, TooLong}
-use Rattle.lsp_judge.specs.StreamParts.{Refuses, outcome_at, RunsThrough}
-use Rattle.lsp_verdict.specs.RunIo.{of_pull, failures_after, sink_failures_after}
-use Rattle.lsp_judge.specs.StreamRun.{fault_of, HasParts, RunsFrames}
-use Rattle.lsp_judge.specs.StreamSteps.{AreParts, FoundAll, StopsAt, FoundFault, FoundBroken}
-use Rattle.lsp_judge.specs.StreamSteps.{Finds, WroteParts, SoFar, ToldAll}
-use Rattle.lsp_verdict.specs.Ports.{ports}
+use Rattle.lsp_judge.specs.Stream.{Refuses, outcome_at, RunsThrough, fault_of, HasParts, RunsFrames}
+use Rattle.lsp_judge.specs.Stream.{AreParts, FoundAll, StopsAt, FoundFault, FoundBroken, Finds}
+use Rattle.lsp_judge.specs.Stream.{WroteParts, SoFar, ToldAll}
+use Rattle.lsp_verdict.specs.Runs.{of_pull, failures_after, sink_failures_after, ports}
 use Rattle.lsp_judge.proofs.Framing.Parts.{run_through, run_refused}
 use Rattle.lsp_judge.proofs.Framing.Due.{stream_front}
 use Rattle.lsp_judge.proofs.Framing.Endings.{begun}
@@ -38,11 +36,15 @@ use Rattle.lsp_judge.proofs.SameLimits.{frames_at, stream_at}
 pub told_all : (limits : Bounds) (mode : Mode) (before now sink_before sink_now sink_new : Told)
     (d e : State) (given given' read : ℕ)
     (so_far : SoFar limits mode before now sink_before sink_now d given read)
-    → FoundAll e mode sink_now sink_new given' so_far.bytes so_far.parts → e.limits ≡ d.limits
+    → ((bytes : List ℕ) (contents : List (List ℕ)) (parts : List ℕ) → StandsFor d bytes contents
+    → given ≡ length contents → AreParts mode 1 contents parts
+    → FoundAll e mode sink_now sink_new given' bytes parts) → e.limits ≡ d.limits
     → given' + length e.rest ≤ given + length d.rest
     → ToldAll limits mode before now sink_before sink_new e given' read
-told_all limits mode before now sink_before sink_now sink_new d e given given' read so_far found
+told_all limits mode before now sink_before sink_now sink_new d e given given' read so_far finds
     same room =
+    let found = finds so_far.bytes so_far.contents so_far.parts so_far.stands so_far.count
+    so_far.are_parts in
     let so_far_room = so_far.room in
     record {
       so_far = record {

@@ -1,14 +1,13 @@
 -- Laws of what is due for one event of a log.
 use Rattle.std.specs.Option.{IsSomeAnd}
 use Rattle.std.specs.Prelude.{MatchOption}
-use Rattle.std.proofs.Common.{◌≡◌, ℕ, ◌-◌, List, [], Option, Some, None, slice_get, refl, sym, ap}
+use Rattle.std.proofs.Common.{◌≡◌, ◌-◌, List, [], Option, Some, None, slice_get, refl, sym, ap}
 use Rattle.std.proofs.Common.{subst, ◌∙◌}
 use Rattle.std.proofs.lemmas.Slice.Zip.{AllZip-right}
 use Rattle.lsp_frame.specs.Bounds.{Bounds}
 use Rattle.lsp_log.specs.Log.{Record}
-use Rattle.lsp_log.specs.declared.fault.LogCode.{LogCode}
 use Rattle.lsp_judge.specs.Event.{content_of, outcome_of, content_at, outcome_at, event_at}
-use Rattle.lsp_judge.specs.EventLaws.{SomeEvent, OneEvent, EventIsNumbered}
+use Rattle.lsp_judge.specs.Event.{SomeEvent, OneEvent, EventIsNumbered}
 use Rattle.lsp_verdict.specs.Event.{Event}
 use Rattle.lsp_verdict.specs.Placed.{Raw, Placed, Reads}
 use Rattle.lsp_verdict.proofs.Below.{one_log, some_log}
@@ -33,7 +32,7 @@ some_event limits log n =
       },
     )
 
-same_raws : (limits : Bounds) (rs us : List Record) (raws others : List Raw) → rs ≡ us
+pub same_raws : (limits : Bounds) (rs us : List Record) (raws others : List Raw) → rs ≡ us
     → Placed limits rs raws → Placed limits us others → raws ≡ others
 same_raws limits rs us raws others same p q =
     one_placed limits [] [] us raws others
@@ -46,10 +45,7 @@ one_event limits sizes log n out other a b p q =
     let raws : p.raws ≡ q.raws =
     same_raws limits p.records q.records p.raws q.raws same.1 p.placed q.placed in (
       p.written ∙ ap (λ (rs : List Raw). content_at (event_at n rs)) raws ∙ sym q.written,
-      p.ends
-          ∙ ap (λ (rs : List Raw). outcome_at (event_at n rs) p.log_fault) raws
-          ∙ ap (λ (flaw : Option (ℕ × LogCode)). outcome_at (event_at n q.raws) flaw) same.2
-          ∙ sym q.ends,
+      p.ends ∙ (λ i. outcome_at (event_at n (raws i)) (same.2 i)) ∙ sym q.ends,
     )
 
 pub event_is_numbered : EventIsNumbered

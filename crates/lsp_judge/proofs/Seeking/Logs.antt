@@ -10,11 +10,10 @@ use Rattle.lsp_frame.specs.Told.{Told}
 use Rattle.lsp_frame.specs.declared.format.Format.{Format}
 use Rattle.lsp_log.specs.Log.{Record}
 use Rattle.lsp_judge.specs.Event.{content_at, content_of, outcome_of, outcome_at, event_at, without}
-use Rattle.lsp_judge.specs.Event.{BeginsEvent, GivesEvent, IsEvent}
-use Rattle.lsp_verdict.specs.Ports.{ports}
-use Rattle.lsp_judge.specs.EventSteps.{HasPassed}
+use Rattle.lsp_judge.specs.Event.{BeginsEvent, GivesEvent, IsEvent, HasPassed}
+use Rattle.lsp_verdict.specs.Runs.{ports, BreaksOff, OfRead}
 use Rattle.lsp_replay.specs.LogEvents.{Ended, Gives, HasGiven, IsLogOf, Opens, Reads, flaw_of}
-use Rattle.lsp_verdict.specs.Lent.{raw_view}
+use Rattle.lsp_verdict.specs.Given.{raw_view}
 use Rattle.lsp_judge.specs.declared.event.EventOutcome.TheVariants.{FewerEvents}
 use Rattle.lsp_replay.specs.declared.log_events.End.{End}
 use Rattle.lsp_replay.specs.declared.log_events.End.TheVariants.{Sound, Bad}
@@ -22,15 +21,13 @@ use Rattle.lsp_replay.specs.declared.log_events.LogEvents.{LogEvents}
 use Rattle.lsp_replay.specs.declared.log_events.Next.TheVariants as next
 use Rattle.lsp_verdict.specs.declared.raw.Raw as code
 use Rattle.lsp_verdict.specs.Placed.{Raw, content, broken, show}
-use Rattle.lsp_verdict.specs.RunIo.{BreaksOff, OfRead}
 use Rattle.lsp_verdict.specs.declared.outcome.RunFault.{RunFault}
 use Rattle.lsp_verdict.specs.declared.outcome.RunFault.TheVariants as faults
 use Rattle.lsp_verdict.proofs.PlacedLemmas.{placed_whole}
-use Rattle.lsp_verdict.proofs.RunReading.{read_map}
+use Rattle.lsp_verdict.proofs.RunsJudged.{read_map, unwritten_sink}
 use Rattle.lsp_replay.proofs.Pulling.{log_of, reads_failures, reads_given}
 use Rattle.lsp_frame.proofs.Telling.{took_nothing}
-use Rattle.lsp_verdict.proofs.RunsJudged.{unwritten_sink}
-use Rattle.lsp_judge.proofs.Written.{due_begun, due_written}
+use Rattle.lsp_judge.proofs.Checking.{due_begun, due_written}
 use Rattle.lsp_judge.proofs.Seeking.Laws.{some_event}
 use Rattle.lsp_judge.proofs.Seeking.Places.{at_place, still_at}
 

@@ -2,13 +2,13 @@
 ghost use Rattle.std.specs.Prelude.{◌≡◌, None, OnOk, Some, if◌then◌else◌};
 ghost use Rattle.lsp_rpc.specs.Ident.{id_view, same_id};
 ghost use Rattle.lsp_rpc.specs.declared.message.Id.{Id as AnId};
-ghost use Rattle.lsp_survey.specs.ById.{asked_in};
+ghost use Rattle.lsp_survey.specs.Notes.{asked_in};
 
 use indexmap::IndexMap;
-use lsp_rpc::{Id, Memory, copy_id};
+use lsp_rpc::{Id, Result, copy_id};
 
 /// Puts what is held of a request.
-pub(crate) fn put<V: Drop>(map: &mut IndexMap<Id, V>, id: &Id, value: V) -> Result<(), Memory>
+pub(crate) fn put<V: Drop>(map: &mut IndexMap<Id, V>, id: &Id, value: V) -> Result<()>
     ensures { OnOk result ((k : AnId) → asked_in map.new.entries (id_view k)
         ≡ (if same_id (id_view id.now) (id_view k) then Some value else asked_in map.old.entries
         (id_view k))) }

@@ -6,7 +6,7 @@ ghost use Rattle.lsp_docs.specs.Calls.{Call, opens, uri_of};
 ghost use Rattle.lsp_rpc.specs.View.{act_view};
 ghost use Rattle.lsp_types.specs.declared.position.Encoding.{Encoding};
 ghost use Rattle.lsp_types.specs.declared.change.SyncKind.{SyncKind};
-ghost use Rattle.lsp_verdict.specs.Calls.{call_of};
+ghost use Rattle.lsp_verdict.specs.Event.{call_of};
 ghost use Rattle.lsp_docs.specs.Documents.{held};
 ghost use Rattle.lsp_docs.specs.State.{Stands};
 ghost use Rattle.lsp_verdict.specs.Offences.{is_other, is_reopened, renews, sets_text};
@@ -15,7 +15,7 @@ ghost use Rattle.lsp_survey.specs.Notes.{AreAfter, Leaves, is_noted_lost};
 use crate::notes::note::Notes;
 use crate::notes::rules::loses;
 use lsp_docs::{Docs, has_text};
-use lsp_rpc::{Act, Change, Memory};
+use lsp_rpc::{Act, Change, Result};
 use lsp_text::TextStore;
 use lsp_types::rules;
 
@@ -38,7 +38,7 @@ pub fn uri_in(act: &Act) -> Option<&str>
 ///
 /// # Errors
 /// `Memory` where memory was refused.
-pub(crate) fn is_on_lost(notes: &Notes, act: &Act) -> Result<bool, Memory>
+pub(crate) fn is_on_lost(notes: &Notes, act: &Act) -> Result<bool>
     ensures { IfOk result (λ lost. (enc : Encoding) (kind : SyncKind)
         → lost ≡ is_noted_lost notes.now.map.entries (call_of enc kind (act_view act.now))) }
 {
@@ -97,7 +97,7 @@ pub(crate) fn note_refused(
     uri: &str,
     other: bool,
     sets: bool,
-) -> Result<(), Memory>
+) -> Result<()>
     ensures { OnOk result ((call : Call) → uri_of call ≡ uri.now → sets_text call ≡ sets
         → Leaves (Some rule) None other (Some call) notes.old.map.entries notes.new.map.entries) }
 {
@@ -114,11 +114,7 @@ pub(crate) fn note_refused(
 ///
 /// # Errors
 /// `Memory` where memory was refused; nothing is then known of the notes.
-pub(crate) fn note_malformed(
-    notes: &mut Notes,
-    rule: u16,
-    brings: Option<String>,
-) -> Result<(), Memory>
+pub(crate) fn note_malformed(notes: &mut Notes, rule: u16, brings: Option<String>) -> Result<()>
     ensures { OnOk result (Leaves (Some rule) (option_map string_bytes brings) false None
         notes.old.map.entries notes.new.map.entries) }
 {
@@ -133,7 +129,7 @@ pub(crate) fn note_malformed(
 }
 
 /// Notes that the text of a document was given again, whole.
-fn note_renewed(notes: &mut Notes, uri: &str) -> Result<(), Memory>
+fn note_renewed(notes: &mut Notes, uri: &str) -> Result<()>
     ensures { OnOk result ((call : Call) → uri_of call ≡ uri.now → renews call ≡ true
         → AreAfter (Some call) notes.old.map.entries notes.new.map.entries) }
 {
@@ -144,12 +140,7 @@ fn note_renewed(notes: &mut Notes, uri: &str) -> Result<(), Memory>
 ///
 /// # Errors
 /// `Memory` where memory was refused; nothing is then known of the notes.
-pub(crate) fn note_refused_act(
-    notes: &mut Notes,
-    rule: u16,
-    other: bool,
-    act: &Act,
-) -> Result<(), Memory>
+pub(crate) fn note_refused_act(notes: &mut Notes, rule: u16, other: bool, act: &Act) -> Result<()>
     ensures { OnOk result ((enc : Encoding) (kind : SyncKind)
         → Leaves (Some rule) None other (call_of enc kind (act_view act.now))
         notes.old.map.entries notes.new.map.entries) }
@@ -169,7 +160,7 @@ pub(crate) fn note_refused_act(
 ///
 /// # Errors
 /// `Memory` where memory was refused; nothing is then known of the notes.
-pub(crate) fn note_kept_act(notes: &mut Notes, act: &Act) -> Result<(), Memory>
+pub(crate) fn note_kept_act(notes: &mut Notes, act: &Act) -> Result<()>
     ensures { OnOk result ((enc : Encoding) (kind : SyncKind)
         → AreAfter (call_of enc kind
         (act_view act.now)) notes.old.map.entries notes.new.map.entries) }
@@ -182,7 +173,7 @@ pub(crate) fn note_kept_act(notes: &mut Notes, act: &Act) -> Result<(), Memory>
 
 /// Notes the same where a document may be lost.
 #[inline(never)]
-fn note_text(notes: &mut Notes, act: &Act) -> Result<(), Memory>
+fn note_text(notes: &mut Notes, act: &Act) -> Result<()>
     ensures { OnOk result ((enc : Encoding) (kind : SyncKind)
         → AreAfter (call_of enc kind
         (act_view act.now)) notes.old.map.entries notes.new.map.entries) }

@@ -11,7 +11,7 @@ ghost use Rattle.lsp_verdict.specs.Offences.{IsReading, asks_handshake, brings_t
 ghost use Rattle.lsp_verdict.specs.Offences.{request_id};
 ghost use Rattle.serde_json.specs.View.{view};
 
-use lsp_rpc::{Id, Memory, Message, RpcFault, copy_id, read};
+use lsp_rpc::{Id, Memory, Message, Result, RpcFault, copy_id, read};
 use serde_json::Value;
 use std::alloc::Global;
 
@@ -90,7 +90,7 @@ fn request_id(message: &Message) -> Option<&Id>
 }
 
 /// What a message was to do.
-fn meant_by(alloc: Global, message: &Message) -> Result<Malformed, Memory>
+fn meant_by(alloc: Global, message: &Message) -> Result<Malformed>
     ensures { IfOk result (IsMeant (Some (message_view message.now))) }
 {
     let brings = match brought_by(message) {
@@ -112,7 +112,7 @@ fn meant_by(alloc: Global, message: &Message) -> Result<Malformed, Memory>
 ///
 /// # Errors
 /// `Memory` where memory was refused.
-pub(crate) fn meant_again(alloc: Global, content: &[u8]) -> Result<Malformed, Memory>
+pub(crate) fn meant_again(alloc: Global, content: &[u8]) -> Result<Malformed>
     ensures { IfOk result (λ meant. (m : Option AMessage) × IsReading content.now m
         × IsMeant m meant) }
 {

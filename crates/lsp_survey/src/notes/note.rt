@@ -7,7 +7,7 @@ ghost use Rattle.lsp_survey.specs.Notes.{is_noted, lost_among, spelling_in};
 
 use crate::notes::spelling::folded;
 use indexmap::IndexMap;
-use lsp_rpc::Memory;
+use lsp_rpc::Result;
 use std::alloc::Global;
 
 type Uris = IndexMap<String, ()>;
@@ -43,7 +43,7 @@ impl Spelling {
     }
 
     /// One of them is lost, or is not; the others stay as they are.
-    fn set(&mut self, uri: &str, lost: bool) -> Result<(), Memory>
+    fn set(&mut self, uri: &str, lost: bool) -> Result<()>
         ensures { OnOk result ((u : List ℕ) → is_lost_in self.new u
             ≡ (if bytes_eq uri.now u then lost else is_lost_in self.old u)) }
     {
@@ -85,7 +85,7 @@ impl Notes {
     ///
     /// # Errors
     /// `Memory` where memory was refused.
-    pub(crate) fn is_lost(&self, uri: &str) -> Result<bool, Memory>
+    pub(crate) fn is_lost(&self, uri: &str) -> Result<bool>
         ensures { IfOk result (λ lost. lost ≡ is_noted self.now.map.entries uri.now) }
     {
         if self.map.is_empty() {
@@ -102,7 +102,7 @@ impl Notes {
     ///
     /// # Errors
     /// `Memory` where memory was refused; nothing is then known of the notes.
-    pub(crate) fn lose(&mut self, uri: &str) -> Result<(), Memory>
+    pub(crate) fn lose(&mut self, uri: &str) -> Result<()>
         ensures { OnOk result (Sets uri.now true self.old.map.entries self.new.map.entries) }
     {
         let alloc = *self.map.allocator();
@@ -118,7 +118,7 @@ impl Notes {
     ///
     /// # Errors
     /// `Memory` where memory was refused; nothing is then known of the notes.
-    pub(crate) fn lose_alike(&mut self, uri: &str) -> Result<(), Memory>
+    pub(crate) fn lose_alike(&mut self, uri: &str) -> Result<()>
         ensures { OnOk result (SetsAlike uri.now self.old.map.entries self.new.map.entries) }
     {
         let alloc = *self.map.allocator();
@@ -130,7 +130,7 @@ impl Notes {
     ///
     /// # Errors
     /// `Memory` where memory was refused; nothing is then known of the notes.
-    pub(crate) fn renew(&mut self, uri: &str) -> Result<(), Memory>
+    pub(crate) fn renew(&mut self, uri: &str) -> Result<()>
         ensures { OnOk result (Sets uri.now false self.old.map.entries self.new.map.entries) }
     {
         if self.map.is_empty() {
@@ -164,7 +164,7 @@ fn take(map: &mut Spellings, key: &Vec<u8>) -> Option<Spelling>
 }
 
 /// Notes something of a spelling, in place of what was noted.
-fn put(map: &mut Spellings, key: Vec<u8>, spelling: Spelling) -> Result<(), Memory>
+fn put(map: &mut Spellings, key: Vec<u8>, spelling: Spelling) -> Result<()>
     ensures { OnOk result (PutsSpelling key.items (Some spelling) map.old.entries
         map.new.entries) }
 {
@@ -172,7 +172,7 @@ fn put(map: &mut Spellings, key: Vec<u8>, spelling: Spelling) -> Result<(), Memo
     Ok(())
 }
 
-fn add(uris: &mut Uris, uri: &str) -> Result<(), Memory>
+fn add(uris: &mut Uris, uri: &str) -> Result<()>
     ensures { OnOk result ((u : List ℕ) → has_uri uris.new.entries u
         ≡ (if bytes_eq uri.now u then true else has_uri uris.old.entries u)) }
 {

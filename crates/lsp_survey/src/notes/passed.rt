@@ -5,12 +5,12 @@ ghost use Rattle.lsp_rpc.specs.Message.{Reply, response};
 ghost use Rattle.lsp_rpc.specs.View.{message_view};
 ghost use Rattle.lsp_rpc.specs.declared.message.Id.{Id as AnId};
 ghost use Rattle.lsp_session.specs.Sent.{other_side, response_id};
-ghost use Rattle.lsp_survey.specs.Passed.{Passes, Sets, SetsAny, has_any, has_passed};
+ghost use Rattle.lsp_survey.specs.Notes.{Passes, SetsRequest, SetsAny, has_any, has_passed};
 ghost use Rattle.lsp_types.specs.declared.side.Side.{Side as ASide};
 
 use crate::notes::by_id::{forget, put};
 use indexmap::IndexMap;
-use lsp_rpc::{Id, Memory, Message, Side};
+use lsp_rpc::{Id, Message, Result, Side};
 use lsp_types::rules;
 use std::alloc::Global;
 
@@ -50,7 +50,7 @@ impl Passed {
     ///
     /// # Errors
     /// `Memory` where memory was refused; nothing is then known of the requests.
-    pub(crate) fn note(&mut self, side: Side, rule: u16, message: &Message) -> Result<(), Memory>
+    pub(crate) fn note(&mut self, side: Side, rule: u16, message: &Message) -> Result<()>
         ensures { OnOk result (Passes rule side (message_view message.now) self.old self.new) }
     {
         match message {
@@ -67,7 +67,7 @@ impl Passed {
     ///
     /// # Errors
     /// `Memory` where memory was refused; nothing is then known of the requests.
-    pub(crate) fn note_asked(&mut self, side: Side, asked: Option<Id>) -> Result<(), Memory>
+    pub(crate) fn note_asked(&mut self, side: Side, asked: Option<Id>) -> Result<()>
         ensures { OnOk result (SetsAny side (option_map id_view asked) self.old self.new) }
     {
         match asked {
@@ -77,8 +77,8 @@ impl Passed {
     }
 
     /// A request of this side is passed over.
-    fn ask(&mut self, side: Side, id: &Id) -> Result<(), Memory>
-        ensures { OnOk result (Sets side (id_view id.now) true self.old self.new) }
+    fn ask(&mut self, side: Side, id: &Id) -> Result<()>
+        ensures { OnOk result (SetsRequest side (id_view id.now) true self.old self.new) }
     {
         match side {
             Side::Editor => put(&mut self.editor, id, ()),
@@ -110,7 +110,7 @@ impl Passed {
 
     /// This side answers such a request of the other.
     fn forget_other(&mut self, side: Side, id: &Id)
-        ensures { Sets (other_side side) (id_view id.now) false self.old self.new }
+        ensures { SetsRequest (other_side side) (id_view id.now) false self.old self.new }
     {
         match side {
             Side::Editor => forget(&mut self.server, id),

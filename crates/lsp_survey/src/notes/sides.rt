@@ -1,8 +1,8 @@
 //! What is noted of the bytes of both sides.
 ghost use Rattle.std.specs.Prelude.{◌≡◌, ◌&&◌, [], false, nat_le};
 ghost use Rattle.lsp_session.specs.Sent.{other_side};
-ghost use Rattle.lsp_survey.specs.Sides.{failed_on, read_on, side_in, sides_failed, sides_of};
-ghost use Rattle.lsp_survey.specs.Sides.{sides_read};
+ghost use Rattle.lsp_survey.specs.Notes.{failed_on, read_on, side_in, sides_failed, sides_of};
+ghost use Rattle.lsp_survey.specs.Notes.{sides_read};
 ghost use Rattle.lsp_types.specs.declared.rules.TheConstants as rules;
 ghost use Rattle.lsp_verdict.specs.Offences.{wants_other};
 

@@ -3,7 +3,7 @@ ghost use Rattle.std.specs.Prelude.{◌≡◌, ◌++◌, IfOk, OnOk};
 ghost use Rattle.std.specs.List.{flat_map};
 ghost use Rattle.lsp_verdict.specs.Spelling as spec;
 
-use lsp_rpc::Memory;
+use lsp_rpc::Result;
 use percent_encoding::percent_decode;
 use std::alloc::Global;
 
@@ -12,7 +12,7 @@ use std::alloc::Global;
 ///
 /// # Errors
 /// `Memory` where memory was refused.
-pub fn folded(alloc: Global, uri: &str) -> Result<Vec<u8>, Memory>
+pub fn folded(alloc: Global, uri: &str) -> Result<Vec<u8>>
     ensures { IfOk result (λ folded. folded.items ≡ spec.folded uri.now) }
 {
     let mut bytes = Vec::new(alloc);
@@ -20,7 +20,7 @@ pub fn folded(alloc: Global, uri: &str) -> Result<Vec<u8>, Memory>
     fold(alloc, bytes.as_slice())
 }
 
-fn fold(alloc: Global, bytes: &[u8]) -> Result<Vec<u8>, Memory>
+fn fold(alloc: Global, bytes: &[u8]) -> Result<Vec<u8>>
     ensures { IfOk result (λ folded. folded.items ≡ flat_map spec.folded_byte bytes.now) }
 {
     let mut folded = Vec::new(alloc);
@@ -30,7 +30,7 @@ fn fold(alloc: Global, bytes: &[u8]) -> Result<Vec<u8>, Memory>
     Ok(folded)
 }
 
-fn push_folded(folded: &mut Vec<u8>, byte: u8) -> Result<(), Memory>
+fn push_folded(folded: &mut Vec<u8>, byte: u8) -> Result<()>
     ensures { OnOk result (folded.new.items ≡ folded.old.items ++ spec.folded_byte byte) }
 {
     if byte == b'/' {

@@ -1,9 +1,13 @@
 -- Changes made one after another.
-use Rattle.std.proofs.Common.{◌≡◌, ◌<◌, ◌+◌, ℕ, List, [], ◌∷◌, ◌++◌, length, take, drop, get_or, Result, Ok, Err, refl, sym, ap, subst, ◌∙◌}
-use Rattle.std.proofs.lemmas.List.{at_drop_more, map_more, map-append, take-append-drop, drop_more}
+use Rattle.std.proofs.Common.{◌≡◌, ◌<◌, ◌+◌, ℕ, List, [], ◌∷◌, ◌++◌, length, take, drop, get_or, Result, Ok, Err, Some, refl, sym, ap, subst, ◌∙◌}
+use Rattle.std.proofs.lemmas.List.{at_drop_more, map_more, take-map}
+use Rattle.std.proofs.lemmas.Option.{slice_get-map, slice_get-get_or}
+use Rattle.std.specs.Option.{option_map}
+use Rattle.std.specs.Result.{OnOk}
 use Rattle.lsp_types.specs.declared.position.Encoding.{Encoding}
 use Rattle.lsp_types.specs.declared.change.Change.{Change}
 use Rattle.lsp_text.specs.declared.fault.TextFault.{TextFault}
+use Rattle.lsp_text.specs.declared.fault.TextFault.TheVariants.{Rule, Memory}
 use Rattle.lsp_text.specs.Edits.{Edit, changed, and_then, applied, IsFaultOf, FailsAfter}
 use Rattle.lsp_text.specs.Changes.{edit_of, edits_of}
 
@@ -42,16 +46,34 @@ one_more_made limit enc t u v cs n c lt is h step =
       rest = h.rest ∙ next_first limit enc u cs n c lt is ∙ ap (λ r. and_then r (λ x. applied limit enc x (edits_of (drop (n + 1) cs)))) step;
     }
 
+-- what holds of a success, where there is no fault
+pub on_success : (made : Result (Unit {0}) TextFault) (P : Type 0) → OnOk made P
+    → ((fault : TextFault) → made ≡ Err fault → ⊥) → P
+on_success (Ok u) P h none = h
+on_success (Err fault) P h none = absurd (none fault refl)
+
 -- the change that fails, on what those before it made
-pub fails_after : (limit : ℕ) (enc : Encoding) (t u v : List ℕ) (cs : List Change) (n : ℕ) (c : Change) (fault : TextFault) → AreMade limit enc t cs n u → n < length cs → c ≡ get_or cs n c → v ≡ u →
-    IsFaultOf (changed enc u (edit_of c).span (edit_of c).text limit) fault → FailsAfter limit enc t (edits_of cs) v fault
+pub fails_after : (limit : ℕ) (enc : Encoding) (t u v : List ℕ) (cs : List Change) (n : ℕ) (c : Change)
+    (fault : TextFault) → AreMade limit enc t cs n u → n < length cs → c ≡ get_or cs n c → v ≡ u
+    → IsFaultOf (changed enc u (edit_of c).span (edit_of c).text limit) fault
+    → FailsAfter limit enc t (edits_of cs) v (record { made = n; fault = fault })
 fails_after limit enc t u v cs n c fault h lt is same f =
-    let all : cs ≡ take n cs ++ c ∷ drop (n + 1) cs = sym (take-append-drop n cs) ∙ ap (λ (x : List Change). take n cs ++ x) (drop_more cs n c lt) ∙ ap (λ (x : Change). take n cs ++ x ∷ drop (n + 1) cs) (sym is) in
     record {
-      before = edits_of (take n cs);
       edit = edit_of c;
-      after = edits_of (drop (n + 1) cs);
-      changes = ap edits_of all ∙ map-append edit_of (take n cs) (c ∷ drop (n + 1) cs);
-      made = h.made ∙ ap (λ (x : List ℕ). let r : Result (List ℕ) ℕ = Ok x in r) (sym same);
-      failed = subst (λ (x : List ℕ). IsFaultOf (changed enc x (edit_of c).span (edit_of c).text limit) fault) (sym same) f;
+      there = slice_get-map edit_of cs n
+          ∙ ap (option_map edit_of) (slice_get-get_or cs n c lt ∙ ap Some (sym is));
+      made = ap (applied limit enc t) (take-map edit_of n cs) ∙ h.made
+          ∙ ap (λ (x : List ℕ). let r : Result (List ℕ) ℕ = Ok x in r) (sym same);
+      fails = subst (λ (x : List ℕ). IsFaultOf
+          (changed enc x (edit_of c).span (edit_of c).text limit) fault) (sym same) f;
     }
+
+-- so do all
+pub fails_all : (limit : ℕ) (enc : Encoding) (t u : List ℕ) (cs : List Change) (n : ℕ) (c : Change)
+    (fault : TextFault) → AreMade limit enc t cs n u → n < length cs → c ≡ get_or cs n c
+    → IsFaultOf (changed enc u (edit_of c).span (edit_of c).text limit) fault
+    → IsFaultOf (applied limit enc t (edits_of cs)) fault
+fails_all limit enc t u cs n c Memory h lt is f = tt
+fails_all limit enc t u cs n c (Rule rule) h lt is f =
+    h.rest ∙ next_first limit enc u cs n c lt is
+    ∙ ap (λ r. and_then r (λ v. applied limit enc v (edits_of (drop (n + 1) cs)))) f

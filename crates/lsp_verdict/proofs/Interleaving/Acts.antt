@@ -12,7 +12,7 @@ use Rattle.lsp_types.specs.declared.position.Encoding.{Encoding}
 use Rattle.lsp_types.specs.declared.side.Side.TheVariants.{Server}
 use Rattle.lsp_types.specs.declared.change.SyncKind.{SyncKind}
 use Rattle.lsp_session.specs.Sent.{is_exit}
-use Rattle.lsp_verdict.specs.Calls.{call_of}
+use Rattle.lsp_verdict.specs.Event.{call_of}
 
 -- what passes for each answer of a row, and for each answer of the rows
 abbrev Keeps : (Act → Bool) → (Option Data → Option Act) → Type 0

@@ -21,12 +21,10 @@ use Rattle.lsp_session.specs.Requests.{id_rule, open_requests, request_rule}
 use Rattle.lsp_session.specs.Rules.{rule_after}
 use Rattle.lsp_session.specs.Sent.{Sent, is_response, other_side, request_of, same_side}
 use Rattle.lsp_session.proofs.LawLemmas.{same_side-refl}
-use Rattle.lsp_docs.specs.Documents.{documents}
+use Rattle.lsp_docs.specs.Documents.{documents, Terms}
 use Rattle.lsp_docs.specs.Rules.{call_rule}
 use Rattle.lsp_docs.specs.Snapshots.{unmatched}
-use Rattle.lsp_docs.specs.Terms.{Terms}
-use Rattle.lsp_verdict.specs.Calls.{call_at, calls}
-use Rattle.lsp_verdict.specs.Event.{Event, message, fault, snapshot, sent_in}
+use Rattle.lsp_verdict.specs.Event.{call_at, calls, Event, message, fault, snapshot, sent_in}
 use Rattle.lsp_verdict.specs.Interleaving.{order_of, is_own, own, AreInterleavings, IsRead, is_asked, is_reply, first_result, is_order_rule, complete, BothYesAgree, OnlyOrderOffends}
 use Rattle.lsp_verdict.specs.Verdict.{Summary, Verdict, document_of, document_rule, first_no, no, no_at, no_by, offence, summary, verdict, yes}
 use Rattle.lsp_verdict.specs.declared.verdict.Who.{Who}

@@ -24,9 +24,9 @@ use Rattle.lsp_session.specs.Sent.{Sent, is_exit, is_initialize, same_side}
 use Rattle.lsp_session.specs.State.{agreed_in, state_of}
 use Rattle.lsp_session.specs.declared.negotiation.Agreed.{Agreed}
 use Rattle.lsp_docs.specs.Calls.{Call, shows}
-use Rattle.lsp_docs.specs.Terms.{Terms}
-use Rattle.lsp_verdict.specs.Calls.{call_of, call_at, calls}
-use Rattle.lsp_verdict.specs.Event.{Event, message, fault, snapshot, sent_in}
+use Rattle.lsp_docs.specs.Documents.{Terms}
+use Rattle.lsp_verdict.specs.Event.{call_of, call_at, calls, Event, message, fault, snapshot}
+use Rattle.lsp_verdict.specs.Event.{sent_in}
 use Rattle.lsp_verdict.specs.Interleaving.{is_own, own, IsRead, first_result}
 use Rattle.lsp_verdict.specs.LookBack.{first_from, each_from}
 use Rattle.lsp_verdict.specs.Verdict.{no_by, no_at, first_no, offence}

@@ -13,7 +13,7 @@ use Rattle.lsp_session.specs.Sent.{Sent, same_side}
 use Rattle.lsp_verdict.specs.Event.{Event, message, fault, snapshot, sent_of, sent_in}
 use Rattle.lsp_verdict.specs.Interleaving.{order_of, is_own, own, AreInterleavings, IsRead, SessionsAreRead, result_by, first_result}
 use Rattle.lsp_verdict.specs.Placed.{Raw, content, broken, show, Reads}
-use Rattle.lsp_verdict.proofs.Lists.{not_empty}
+use Rattle.lsp_verdict.proofs.Finding.{not_empty}
 
 -- ---- an element that passes a test, found by its place among those that do
 

@@ -14,7 +14,7 @@ use Rattle.lsp_session.specs.Negotiation.{agreed, agreed_at}
 use Rattle.lsp_session.specs.Requests.{is_answered}
 use Rattle.lsp_session.specs.Rules.{rule_after}
 use Rattle.lsp_session.specs.Sent.{Sent, is_initialize}
-use Rattle.lsp_docs.specs.Terms.{Terms}
+use Rattle.lsp_docs.specs.Documents.{Terms}
 use Rattle.lsp_verdict.specs.Event.{Event, message, fault, snapshot, sent_in}
 use Rattle.lsp_verdict.specs.Interleaving.{own, IsRead, is_asked, is_reply, first_result, AnswersInTurn, IsEarly, HandshakeInTurn}
 use Rattle.lsp_verdict.specs.LookBack.{first_from}

@@ -11,7 +11,7 @@ use Rattle.lsp_frame.specs.declared.format.Format.{Format}
 use Rattle.lsp_log.specs.Log.{Record, chunk, shown, Flaw, bad_line, bad_number, cut_short, bad_end, not_utf8, code_of, with_feed, head_line, head_of, parts_of, spelling, first_line, EndsWith, BeginsLog, IsLog}
 use Rattle.lsp_log.proofs.LogLemmas.{first_len}
 use Rattle.lsp_verdict.specs.Outcome.{IsVerdict}
-use Rattle.lsp_verdict.specs.RunIo.{OfRead}
+use Rattle.lsp_verdict.specs.Runs.{OfRead}
 use Rattle.lsp_verdict.specs.Verdict.{Summary, yes}
 use Rattle.lsp_verdict.proofs.Below.{records_come_first}
 use Rattle.lsp_verdict.proofs.Meanings.{yes_means_kept}

@@ -1,17 +1,8 @@
 -- The answer for a text on a log.
-use Rattle.std.proofs.Common.{◌<◌, ℕ, List, [], refl, sym, ap, ◌∙◌}
-use Rattle.lsp_frame.specs.Bounds.{Bounds}
-use Rattle.lsp_types.specs.declared.side.Side.TheVariants.{Editor}
-use Rattle.lsp_verdict.specs.Outcome.{IsVerdict, log_terms}
-use Rattle.lsp_verdict.specs.Shown.{up_to_editor, missing_answer, text_answer}
-use Rattle.lsp_verdict.specs.TextAfter.{AnswersText, OneText, SomeText}
-use Rattle.lsp_verdict.specs.Verdict.{Verdict, is_of, count_of}
+use Rattle.std.proofs.Common.{[], refl, sym, ap, ◌∙◌}
+use Rattle.lsp_verdict.specs.Outcome.{log_terms}
+use Rattle.lsp_verdict.specs.Shown.{up_to_editor, text_answer, OneText, SomeText}
 use Rattle.lsp_verdict.proofs.Logs.{same_events, same_terms, one_verdict, some_verdict}
-use Rattle.lsp_verdict.proofs.Logs.UpTo.{none_yet}
-
--- the log has fewer messages of the editor's
-pub text_missing : (limits : Bounds) (log : List ℕ) (n : ℕ) (uri : List ℕ) (v : Verdict) → (whole : IsVerdict limits log v) → count_of (is_of Editor) whole.final.events < n → AnswersText limits log n uri (missing_answer v)
-text_missing limits log n uri v whole few = (v, whole, sym (ap (text_answer (log_terms limits whole.format) uri v) (none_yet n whole.final.events few)))
 
 pub some_text : SomeText
 some_text limits log n uri =

@@ -8,16 +8,16 @@ use Rattle.std.proofs.Common.{◌≡◌, ℕ, Bool, true, false, List, [], ◌�
 use Rattle.std.proofs.lemmas.List.{map-append}
 use Rattle.std.proofs.Math.Bool.{and-false}
 use Rattle.lsp_docs.specs.Calls.{Call, uri_of}
-use Rattle.lsp_docs.specs.Terms.{Terms}
+use Rattle.lsp_docs.specs.Documents.{Terms}
 use Rattle.lsp_session.specs.Handshake.{is_done}
 use Rattle.lsp_rpc.specs.Ident.{Ident}
 use Rattle.lsp_session.specs.Sent.{other_side, response_id, same_side}
 use Rattle.lsp_types.specs.declared.rules.TheConstants as rules
 use Rattle.lsp_types.specs.declared.side.Side.{Side}
-use Rattle.lsp_verdict.specs.Calls.{calls}
-use Rattle.lsp_verdict.specs.Event.{Event, message, fault, snapshot, sent_in}
+use Rattle.lsp_verdict.specs.Event.{calls, Event, message, fault, snapshot, sent_in}
 use Rattle.lsp_verdict.specs.LookBack.{first_from, first_of, each_from, each_of}
-use Rattle.lsp_verdict.specs.OffenceLaws.{KeptOffendNowhere, kept_at, KeptAreOthers, AllAreKept, NothingListed, FirstListed, IsOffence, IsListed, ListedOffend}
+use Rattle.lsp_verdict.specs.Laws.{KeptOffendNowhere, kept_at, KeptAreOthers, AllAreKept}
+use Rattle.lsp_verdict.specs.Laws.{NothingListed, FirstListed, IsOffence, IsListed, ListedOffend}
 use Rattle.lsp_verdict.specs.Offences.{Noted, Offence, events_of, kept_after, kept_of, rule_at}
 use Rattle.lsp_verdict.specs.Offences.{is_reopened, said_at, renews, left_lost, left_by}
 use Rattle.lsp_verdict.specs.Offences.{brought_by, lost_by}
@@ -30,9 +30,8 @@ use Rattle.lsp_verdict.specs.Offences.{is_passed, is_any_passed, follows_passed,
 use Rattle.lsp_verdict.specs.Offences.{is_initialized_by, is_unheard, unheard_by}
 use Rattle.lsp_verdict.specs.Offences.{offence_by, offence_at, offences}
 use Rattle.lsp_verdict.specs.Verdict.{Verdict, offence, no_by, no_at, first_no}
-use Rattle.lsp_verdict.proofs.Finding.{nothing_from, nothing_at, map_none}
+use Rattle.lsp_verdict.proofs.Finding.{nothing_from, nothing_at, map_none, not_empty}
 use Rattle.lsp_verdict.proofs.LookBackLemmas.{first_of-snoc, first_of-append, each_from-append, each_of-snoc, or_none_parts}
-use Rattle.lsp_verdict.proofs.Lists.{not_empty}
 
 -- ---- the events that are kept
 

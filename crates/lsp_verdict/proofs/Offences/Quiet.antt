@@ -19,7 +19,7 @@ use Rattle.lsp_session.specs.State.{State, agreed_in, next, state_of}
 use Rattle.lsp_session.specs.declared.negotiation.Agreed.{Agreed}
 use Rattle.lsp_session.proofs.Steps.{option_or-none, state_of-push}
 use Rattle.lsp_docs.specs.Calls.{Call}
-use Rattle.lsp_verdict.specs.Calls.{call_of}
+use Rattle.lsp_verdict.specs.Event.{call_of}
 
 -- ---- which messages say something of a document
 

@@ -11,12 +11,12 @@ use Rattle.lsp_rpc.specs.Reading.{BreaksRule}
 use Rattle.lsp_types.specs.declared.side.Side.{Side}
 use Rattle.lsp_types.specs.declared.side.Side.TheVariants.{Editor, Server}
 use Rattle.lsp_session.specs.Incomplete.{incomplete}
-use Rattle.lsp_docs.specs.Terms.{Terms}
+use Rattle.lsp_docs.specs.Documents.{Terms}
 use Rattle.lsp_log.specs.Log.{Record}
 use Rattle.lsp_log.specs.declared.fault.LogCode.{LogCode}
 use Rattle.lsp_verdict.specs.Complete.{completed, IsVerdictBy}
 use Rattle.lsp_verdict.specs.Event.{Event, message, fault, snapshot, sent_in}
-use Rattle.lsp_verdict.specs.OffenceLaws.{SurveyAgrees, SomeSurvey, OneSurvey}
+use Rattle.lsp_verdict.specs.Laws.{SurveyAgrees, SomeSurvey, OneSurvey}
 use Rattle.lsp_verdict.specs.Offences.{Noted, Offence, events_of, kept_of, IsReading, IsMalformed}
 use Rattle.lsp_verdict.specs.Offences.{IsNoted, IsNotedSession}
 use Rattle.lsp_verdict.specs.Outcome.{ending, IsVerdict, log_terms}
@@ -90,12 +90,7 @@ module _ (c : Completeness) (terms : Terms) (notes : List Noted) (end : Ending) 
   by_end : first_no terms events ≡ None → first ≡ verdict_by c events (verdict terms events end)
   by_end none =
       ap (λ (os : List Offence). first_verdict (os ++ map by_itself (ends_listed c terms events end)) (bad_log_of end.log_fault) (summary terms events)) ((nothing_listed terms notes).1 none)
-      ∙ ap (λ (b : Bool). first_verdict (map by_itself (first_ends end.log_fault (rests_listed events b (ends_inside Server events end.server_rest)) (lacks_listed c events (kept_of terms events)))) (bad_log_of end.log_fault) (summary terms events))
-      (rest_stands terms Editor events end.editor_rest none)
-      ∙ ap (λ (b : Bool). first_verdict (map by_itself (first_ends end.log_fault (rests_listed events end.editor_rest b) (lacks_listed c events (kept_of terms events)))) (bad_log_of end.log_fault) (summary terms events))
-      (rest_stands terms Server events end.server_rest none)
-      ∙ ap (λ (kept : List Event). first_verdict (map by_itself (first_ends end.log_fault (rests_listed events end.editor_rest end.server_rest) (lacks_listed c events kept))) (bad_log_of end.log_fault) (summary terms events))
-      (all_are_kept terms events none)
+      ∙ (λ i. first_verdict (map by_itself (first_ends end.log_fault (rests_listed events (rest_stands terms Editor events end.editor_rest none i) (rest_stands terms Server events end.server_rest none i)) (lacks_listed c events (all_are_kept terms events none i)))) (bad_log_of end.log_fault) (summary terms events))
       ∙ end_first c events end.log_fault end.editor_rest end.server_rest (summary terms events)
       ∙ ap (verdict_by c events) (sym (ap (λ (o : Option Verdict). unwrap_or (option_or o (option_or (bad_log_of end.log_fault) (rest_of events end.editor_rest end.server_rest))) (yes (summary terms events))) none))
 
@@ -245,20 +240,30 @@ same_notes limits rs us ms ns same p q =
     let raws : p.0 ≡ q.0 = one_placed limits [] [] us p.0 q.0 (subst (λ (w : List Record). Placed limits w p.0) same p.1) q.1 in
     one_notes q.0 ms ns (subst (λ (w : List Raw). AllZip IsNoted w ms) raws p.2) q.2
 
+-- what is read off a log is one
+pub one_part : {X : Type 0} (f : Terms → Option Verdict → List Noted → Ending → X) (limits : Bounds)
+    → IsInRange limits → (log : List ℕ) (bad flaw : Option Verdict) {c d : Completeness}
+    {found others : List Offence} {s t : Summary} (p : IsSurvey c limits log found bad s)
+    (q : IsSurvey d limits log others flaw t)
+    → f (log_terms limits p.format) bad p.notes (ending p.log_fault p.editor p.server)
+    ≡ f (log_terms limits q.format) flaw q.notes (ending q.log_fault q.editor q.server)
+one_part f limits sizes log bad flaw p q =
+    let same = one_log limits sizes log p.format q.format p.records q.records p.log_fault
+    q.log_fault p.is_log q.is_log in
+    let bads : bad ≡ flaw = p.bad_is ∙ ap bad_log_of same.2 ∙ sym q.bad_is in
+    let notes = same_notes limits p.records q.records p.notes q.notes same.1 p.session q.session in
+    let editor = one_rest limits (joined Editor p.records) (joined Editor q.records) p.editor q.editor
+    (ap (joined Editor) same.1) p.editor_rest q.editor_rest in
+    let server = one_rest limits (joined Server p.records) (joined Server q.records) p.server q.server
+    (ap (joined Server) same.1) p.server_rest q.server_rest in
+    λ i. f (log_terms limits (same.0 i)) (bads i) (notes i)
+    (ending (same.2 i) (editor i) (server i))
+
 pub one_survey : OneSurvey
-one_survey c limits sizes log found others bad flaw s t p q =
-    let same = one_log limits sizes log p.format q.format p.records q.records p.log_fault q.log_fault p.is_log q.is_log in
-    let notes : p.notes ≡ q.notes = same_notes limits p.records q.records p.notes q.notes same.1 p.session q.session in
-    let editor : p.editor ≡ q.editor = one_rest limits (joined Editor p.records) (joined Editor q.records) p.editor q.editor (ap (joined Editor) same.1) p.editor_rest q.editor_rest in
-    let server : p.server ≡ q.server = one_rest limits (joined Server p.records) (joined Server q.records) p.server q.server (ap (joined Server) same.1) p.server_rest q.server_rest in
-    let terms : log_terms limits p.format ≡ log_terms limits q.format = ap (log_terms limits) same.0 in (
-      p.lists
-          ∙ ap (λ (x : Terms). found_in c x p.notes (ending p.log_fault p.editor p.server)) terms
-          ∙ ap (λ (ns : List Noted). found_in c (log_terms limits q.format) ns (ending p.log_fault p.editor p.server)) notes
-          ∙ ap (λ (f : Option (ℕ × LogCode)). found_in c (log_terms limits q.format) q.notes (ending f p.editor p.server)) same.2
-          ∙ ap (λ (x : List ℕ). found_in c (log_terms limits q.format) q.notes (ending q.log_fault x p.server)) editor
-          ∙ ap (λ (x : List ℕ). found_in c (log_terms limits q.format) q.notes (ending q.log_fault q.editor x)) server
-          ∙ sym q.lists,
-      p.bad_is ∙ ap bad_log_of same.2 ∙ sym q.bad_is,
-      p.comes_to ∙ ap (λ (x : Terms). summary x (events_of p.notes)) terms ∙ ap (λ (ns : List Noted). summary (log_terms limits q.format) (events_of ns)) notes ∙ sym q.comes_to,
-    )
+one_survey c limits sizes log found others bad flaw s t p q = (
+  p.lists ∙ one_part (λ terms v notes end. found_in c terms notes end) limits sizes log bad
+      flaw p q ∙ sym q.lists,
+  one_part (λ terms v notes end. v) limits sizes log bad flaw p q,
+  p.comes_to ∙ one_part (λ terms v notes end. summary terms (events_of notes)) limits sizes log bad
+      flaw p q ∙ sym q.comes_to,
+)

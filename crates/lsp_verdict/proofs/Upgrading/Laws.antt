@@ -11,13 +11,12 @@ use Rattle.lsp_frame.specs.declared.format.Format.TheVariants.{One, Two}
 use Rattle.lsp_docs.specs.Calls.{Call}
 use Rattle.lsp_docs.specs.Rules.{call_rule, AreAcceptedFrom}
 use Rattle.lsp_docs.specs.Snapshots.{unmatched}
-use Rattle.lsp_docs.specs.Terms.{Terms, terms_of}
+use Rattle.lsp_docs.specs.Documents.{Terms, terms_of}
 use Rattle.lsp_log.specs.Log.{Record, Fits, spelling, first_line, IsLog}
 use Rattle.lsp_log.specs.declared.fault.LogCode.{LogCode}
 use Rattle.lsp_log.proofs.OneLog.{written_is_read}
 use Rattle.lsp_log.proofs.LogLemmas.{first_len}
-use Rattle.lsp_verdict.specs.Calls.{call_at, calls}
-use Rattle.lsp_verdict.specs.Event.{Event, message, fault, snapshot}
+use Rattle.lsp_verdict.specs.Event.{call_at, calls, Event, message, fault, snapshot}
 use Rattle.lsp_verdict.specs.LookBack.{first_from, each_from}
 use Rattle.lsp_verdict.specs.Outcome.{IsFinal, ending, format_or_one}
 use Rattle.lsp_verdict.specs.Upgraded.{upgraded, AreAccepted, IsUpgraded, UpgradeKeepsYes, UpgradeStays}

@@ -13,14 +13,17 @@ use Rattle.lsp_types.specs.declared.change.SyncKind.{SyncKind}
 use Rattle.lsp_text.specs.Edits.{Edit, applied}
 use Rattle.lsp_types.specs.declared.line_ends.LineEnds.{LineEnds}
 use Rattle.lsp_text.specs.SameText.{same_text}
-use Rattle.lsp_docs.specs.Calls.{Bytes, Call, opens, changes, closes, saves, shows, is_close}
-use Rattle.lsp_docs.specs.Documents.{Version, versioned, is_after, is_at, opening, text_or, revised, revised_by, held_since, held, as_held, held_entry, documents}
-use Rattle.lsp_docs.specs.Kept.{last_of, kept}
+use Rattle.lsp_docs.specs.Calls.{Bytes, Call, opens, changes, closes, saves, shows, is_close, Text}
+use Rattle.lsp_docs.specs.Calls.{byte_len}
+use Rattle.lsp_docs.specs.Documents.{Version, versioned, is_after, is_at, opening, text_or, revised}
+use Rattle.lsp_docs.specs.Documents.{revised_by, held_since, held, as_held, held_entry, documents}
+use Rattle.lsp_docs.specs.Documents.{Terms}
+use Rattle.lsp_docs.specs.Snapshots.{last_of, kept, is_ahead, shown_entry, waiting_in, waiting}
+use Rattle.lsp_docs.specs.Snapshots.{versions_of, holds_number, has_number, comes_to, is_compared}
+use Rattle.lsp_docs.specs.Snapshots.{unmatched_entry, unmatched_in, unmatched}
 use Rattle.lsp_docs.specs.Laws.{held_rule, rises}
-use Rattle.lsp_docs.specs.Rules.{differs, first_row, version_rule, fits_kind, text_rule, show_rule, change_rule, save_rule, call_rule, AreAcceptedFrom, AreAccepted}
-use Rattle.lsp_docs.specs.Snapshots.{is_ahead, shown_entry, waiting_in, waiting, versions_of, holds_number, has_number, comes_to, is_compared, unmatched_entry, unmatched_in, unmatched}
-use Rattle.lsp_docs.specs.Terms.{Terms}
-use Rattle.lsp_docs.specs.Texts.{Text, byte_len}
+use Rattle.lsp_docs.specs.Rules.{differs, first_row, version_rule, fits_kind, text_rule, show_rule}
+use Rattle.lsp_docs.specs.Rules.{change_rule, save_rule, call_rule, AreAcceptedFrom, AreAccepted}
 use Rattle.lsp_docs.proofs.Past.{nothing-past, kept-rises, rule-none_kept, compared-none_kept}
 use Rattle.lsp_docs.proofs.Rising.{last-empty}
 use Rattle.lsp_docs.proofs.Standing.{accepted_from-push}
@@ -158,17 +161,10 @@ module _ (t u : Terms) (same : t.limit ≡ u.limit) (ends : t.line_ends ≡ u.li
   -- a call that is accepted with nothing kept is accepted
   call_passes : (before : List Call) (c : Call) → AreAccepted u before → call_rule t before c ≡ None → call_rule u before c ≡ None
   call_passes before (opens uri n text) accepted e =
-      sym (
-      ap (λ h. opening_rule t.line_ends t.limit h (versions_of uri (waiting t before)))
-      (held_same t u same uri before)
-      ∙ ap (λ l. opening_rule t.line_ends l here (versions_of uri (waiting t before))) same
-      ∙ ap (λ e. opening_rule e u.limit here (versions_of uri (waiting t before))) ends
-      ∙ ap (opening_rule u.line_ends u.limit here) (waits_same uri before))
+      (λ i. opening_rule ((sym ends) i) ((sym same) i) ((sym (held_same t u same uri before)) i)
+      ((sym (waits_same uri before)) i))
       ∙ e
     where
-      here : Option Version
-      here = held u uri before
-
       opening_rule : LineEnds → ℕ → Option Version → List Version → Option ℕ
       opening_rule ends limit h ws =
           first_row ((is_some h, Some 601) ∷ (nat_lt limit (byte_len text), Some 607)

@@ -16,7 +16,7 @@ use Rattle.lsp_types.specs.declared.position.Encoding.TheVariants.{Utf16}
 use Rattle.lsp_types.specs.declared.change.SyncKind.{SyncKind}
 use Rattle.lsp_types.specs.declared.change.SyncKind.TheVariants.{Incremental}
 use Rattle.lsp_types.specs.declared.line_ends.LineEnds.TheVariants.{Exact}
-use Rattle.lsp_docs.specs.Terms.{Terms}
+use Rattle.lsp_docs.specs.Documents.{Terms}
 use Rattle.lsp_verdict.specs.Shown.{TextAnswer, text_answer, up_to_editor}
 use Rattle.lsp_verdict.specs.Verdict.{Ending, Verdict, verdict, yes}
 use Rattle.lsp_verdict.specs.Interleaving.{complete}

@@ -3,132 +3,102 @@ use Rattle.lsp_command.proofs.run.run_task.Goals as goal
 
 pub returns-in-Check-Ignored : goal.returns-in-Check-Ignored
 returns-in-Check-Ignored g c =
-    let of = rw c.in-Check-Ignored.is at c.in-Check-Ignored.field-0-is in
+    let by = rw c.in-Check-Ignored.is at c.in-Check-Ignored.field-0-is in
     let is = c.run_check.ensures.checked in
-    rw (c.in-Check-Ignored.is, of) (record {
-      ran = run_ended _ _ _ _ _ c.of_run.ensures is.writes.counts
-          (c.run_check.result, c.of_run.ensures, is);
-    })
+    let of = c.of_run.ensures in
+    rw (c.in-Check-Ignored.is, by)
+    (record { ran = run_ended _ _ _ _ _ of is.writes.counts (_, of, is) })
 
 pub returns-in-Check-Required : goal.returns-in-Check-Required
 returns-in-Check-Required g c =
-    let of = rw c.in-Check-Required.is at c.in-Check-Required.field-0-is in
+    let by = rw c.in-Check-Required.is at c.in-Check-Required.field-0-is in
     let is = c.run_check_complete.ensures.checked in
-    rw (c.in-Check-Required.is, of) (record {
-      ran = run_ended _ _ _ _ _ c.of_run-in-Check-Required.ensures is.writes.counts
-          (c.run_check_complete.result, c.of_run-in-Check-Required.ensures, is);
-    })
+    let of = c.of_run-in-Check-Required.ensures in
+    rw (c.in-Check-Required.is, by)
+    (record { ran = run_ended _ _ _ _ _ of is.writes.counts (_, of, is) })
 
 pub returns-in-CheckLine : goal.returns-in-CheckLine
 returns-in-CheckLine g c =
     let is = c.run_check_line-ended.ensures.checked in
-    rw c.in-CheckLine.is (record {
-      ran = run_ended _ _ _ _ _ c.of_run-in-CheckLine.ensures is.counts
-          (c.run_check_line-ended.result, c.of_run-in-CheckLine.ensures, is);
-    })
+    let of = c.of_run-in-CheckLine.ensures in
+    rw c.in-CheckLine.is (record { ran = run_ended _ _ _ _ _ of is.counts (_, of, is) })
 
 pub returns-in-Survey : goal.returns-in-Survey
 returns-in-Survey g c =
-    let is = c.run_survey.ensures.surveyed in
-    rw c.in-Survey.is (record {
-      ran = run_ended _ _ _ _ _ c.of_run-in-Survey.ensures is.counts
-          (c.run_survey.result, c.of_run-in-Survey.ensures, is);
-    })
+    let is = c.run_survey-ended.ensures.surveyed in
+    let of = c.of_run-in-Survey.ensures in
+    rw c.in-Survey.is (record { ran = run_ended _ _ _ _ _ of is.counts (_, of, is) })
 
 pub returns-in-Explain : goal.returns-in-Explain
 returns-in-Explain g c =
     let is = c.run_explain.ensures.explains in
-    rw c.in-Explain.is (record {
-      ran = run_ended _ _ _ _ _ c.of_run-in-Explain.ensures is.writes.counts
-          (c.run_explain.result, c.of_run-in-Explain.ensures, is);
-    })
+    let of = c.of_run-in-Explain.ensures in
+    rw c.in-Explain.is (record { ran = run_ended _ _ _ _ _ of is.writes.counts (_, of, is) })
 
 pub returns-in-ExplainAll : goal.returns-in-ExplainAll
 returns-in-ExplainAll g c =
     let is = c.run_explain_all.ensures.explains in
-    rw c.in-ExplainAll.is (record {
-      ran = run_ended _ _ _ _ _ c.of_run-in-ExplainAll.ensures is.counts
-          (c.run_explain_all.result, c.of_run-in-ExplainAll.ensures, is);
-    })
+    let of = c.of_run-in-ExplainAll.ensures in
+    rw c.in-ExplainAll.is (record { ran = run_ended _ _ _ _ _ of is.counts (_, of, is) })
 
 pub returns-in-Compared : goal.returns-in-Compared
 returns-in-Compared g c =
     let is = c.run_compared.ensures.text in
-    rw c.in-Compared.is (record {
-      ran = run_ended _ _ _ _ _ c.of_run-in-Compared.ensures is.counts
-          (c.run_compared.result, c.of_run-in-Compared.ensures, is);
-    })
+    let of = c.of_run-in-Compared.ensures in
+    rw c.in-Compared.is (record { ran = run_ended _ _ _ _ _ of is.counts (_, of, is) })
 
 pub returns-in-Show-Short : goal.returns-in-Show-Short
 returns-in-Show-Short g c =
-    let of = rw c.in-Show-Short.is at c.in-Show-Short.field-0-is in
+    let by = rw c.in-Show-Short.is at c.in-Show-Short.field-0-is in
     let is = c.run_show.ensures.showed in
-    rw (c.in-Show-Short.is, of) (record {
-      ran = run_ended _ _ _ _ _ c.of_run-in-Show-Short.ensures is.counts
-          (c.run_show.result, c.of_run-in-Show-Short.ensures, is);
-    })
+    let of = c.of_run-in-Show-Short.ensures in
+    rw (c.in-Show-Short.is, by) (record { ran = run_ended _ _ _ _ _ of is.counts (_, of, is) })
 
 pub returns-in-Show-Long : goal.returns-in-Show-Long
 returns-in-Show-Long g c =
-    let of = rw c.in-Show-Long.is at c.in-Show-Long.field-0-is in
+    let by = rw c.in-Show-Long.is at c.in-Show-Long.field-0-is in
     let is = c.run_show_long.ensures.showed in
-    rw (c.in-Show-Long.is, of) (record {
-      ran = run_ended _ _ _ _ _ c.of_run-in-Show-Long.ensures is.counts
-          (c.run_show_long.result, c.of_run-in-Show-Long.ensures, is);
-    })
+    let of = c.of_run-in-Show-Long.ensures in
+    rw (c.in-Show-Long.is, by) (record { ran = run_ended _ _ _ _ _ of is.counts (_, of, is) })
 
 pub returns-in-ShowAll : goal.returns-in-ShowAll
 returns-in-ShowAll g c =
     let is = c.run_show_all.ensures.shown in
-    rw c.in-ShowAll.is (record {
-      ran = run_ended _ _ _ _ _ c.of_run-in-ShowAll.ensures is.counts
-          (c.run_show_all.result, c.of_run-in-ShowAll.ensures, is);
-    })
+    let of = c.of_run-in-ShowAll.ensures in
+    rw c.in-ShowAll.is (record { ran = run_ended _ _ _ _ _ of is.counts (_, of, is) })
 
 pub returns-in-Text : goal.returns-in-Text
 returns-in-Text g c =
     let is = rw c.get.ensures.value at c.run_text.ensures.text in
-    rw c.in-Text.is (record {
-      ran = run_ended _ _ _ _ _ c.of_run-in-Text.ensures is.counts
-          (c.run_text.result, c.of_run-in-Text.ensures, is);
-    })
+    let of = c.of_run-in-Text.ensures in
+    rw c.in-Text.is (record { ran = run_ended _ _ _ _ _ of is.counts (_, of, is) })
 
 pub returns-in-TextAll : goal.returns-in-TextAll
 returns-in-TextAll g c =
     let is = rw c.get-in-TextAll.ensures.value at c.run_text_all.ensures.text in
-    rw c.in-TextAll.is (record {
-      ran = run_ended _ _ _ _ _ c.of_run-in-TextAll.ensures is.counts
-          (c.run_text_all.result, c.of_run-in-TextAll.ensures, is);
-    })
+    let of = c.of_run-in-TextAll.ensures in
+    rw c.in-TextAll.is (record { ran = run_ended _ _ _ _ _ of is.counts (_, of, is) })
 
 pub returns-in-Event : goal.returns-in-Event
 returns-in-Event g c =
     let is = rw c.get-in-Event.ensures.value at c.run_event.ensures.gives in
-    rw c.in-Event.is (record {
-      ran = event_ended _ _ _ _ _ c.of_event.ensures is.writes.counts
-          (c.run_event.result, c.of_event.ensures, is);
-    })
+    let of = c.of_event.ensures in
+    rw c.in-Event.is (record { ran = event_ended _ _ _ _ _ of is.writes.counts (_, of, is) })
 
 pub returns-in-Normal : goal.returns-in-Normal
 returns-in-Normal g c =
     let is = c.run_normal.ensures.normalized in
-    rw c.in-Normal.is (record {
-      ran = run_ended _ _ _ _ _ c.of_run-in-Normal.ensures is.counts
-          (c.run_normal.result, c.of_run-in-Normal.ensures, is);
-    })
+    let of = c.of_run-in-Normal.ensures in
+    rw c.in-Normal.is (record { ran = run_ended _ _ _ _ _ of is.counts (_, of, is) })
 
 pub returns-in-Upgrade : goal.returns-in-Upgrade
 returns-in-Upgrade g c =
     let is = c.run_upgrade.ensures.upgraded in
-    rw c.in-Upgrade.is (record {
-      ran = run_ended _ _ _ _ _ c.of_run-in-Upgrade.ensures is.counts
-          (c.run_upgrade.result, c.of_run-in-Upgrade.ensures, is);
-    })
+    let of = c.of_run-in-Upgrade.ensures in
+    rw c.in-Upgrade.is (record { ran = run_ended _ _ _ _ _ of is.counts (_, of, is) })
 
 pub returns-in-Frames : goal.returns-in-Frames
 returns-in-Frames g c =
     let is = c.run_frames.ensures.framed in
-    rw c.in-Frames.is (record {
-      ran = run_ended _ _ _ _ _ c.of_run-in-Frames.ensures is.counts
-          (c.run_frames.result, c.of_run-in-Frames.ensures, is);
-    })
+    let of = c.of_run-in-Frames.ensures in
+    rw c.in-Frames.is (record { ran = run_ended _ _ _ _ _ of is.counts (_, of, is) })

@@ -4,12 +4,11 @@ use Rattle.lsp_replay.specs.Streams.{decoder_of}
 use Rattle.lsp_explain.specs.Asking.{numbered}
 use Rattle.lsp_verdict.specs.Given.{offence_view}
 use Rattle.lsp_verdict.specs.Report.{report}
-use Rattle.lsp_facts.specs.Fact.{fact_lines}
-use Rattle.lsp_facts.specs.FlawFacts.{side_by}
-use Rattle.lsp_facts.specs.Lines.{detail_lines, end_event, usual_line}
-use Rattle.lsp_explain.specs.Accounts.{rests_held}
+use Rattle.lsp_facts.specs.Fact.{fact_lines, detail_lines, end_event, usual_line}
+use Rattle.lsp_facts.specs.EventFacts.{side_by}
+use Rattle.lsp_explain.specs.ExplainRuns.{rests_held}
 use Rattle.lsp_explain.specs.Explained.{end_facts}
-use Rattle.lsp_explain.specs.Standing.{terms_in}
+use Rattle.lsp_explain.specs.Trails.{terms_in}
 use Rattle.lsp_explain.proofs.Telling.{held_rest}
 use Rattle.lsp_explain.proofs.offence_facts.push_end.Goals as goal
 

@@ -4,10 +4,9 @@ use Rattle.std.proofs.lemmas.Result.{on_ok_weaker}
 use Rattle.lsp_replay.specs.LogEvents.{flaw_of}
 use Rattle.lsp_replay.specs.declared.log_events.End.{End}
 use Rattle.lsp_verdict.specs.Verdict.{bad_log_of}
-use Rattle.lsp_facts.specs.Fact.{fact_lines}
-use Rattle.lsp_facts.specs.FlawFacts.{flaw_facts}
-use Rattle.lsp_facts.specs.Lines.{usual_line}
-use Rattle.lsp_explain.specs.Accounts.{flaw_held}
+use Rattle.lsp_facts.specs.Fact.{fact_lines, usual_line}
+use Rattle.lsp_facts.specs.EventFacts.{flaw_facts}
+use Rattle.lsp_explain.specs.ExplainRuns.{flaw_held}
 use Rattle.lsp_explain.specs.Explained.{flaw_lines}
 use Rattle.lsp_explain.proofs.offence_facts.push_flaw.Goals as goal
 

@@ -1,16 +1,15 @@
 use Rattle.std.proofs.Common.{◌∙◌, ◌++◌, ap, string_bytes, subst, sym}
 use Rattle.std.proofs.lemmas.Result.{on_ok_weaker}
-use Rattle.lsp_docs.specs.Terms.{Terms}
+use Rattle.lsp_docs.specs.Documents.{Terms}
 use Rattle.lsp_replay.specs.Telling.{IsSeen, ShowsFault, kept_before}
 use Rattle.lsp_replay.specs.declared.seen.Seen.TheVariants as variants
 use Rattle.lsp_verdict.specs.Heard.{heard_events}
-use Rattle.lsp_verdict.specs.Lent.{raw_view}
+use Rattle.lsp_verdict.specs.Given.{raw_view}
 use Rattle.lsp_verdict.specs.Offences.{IsNoted}
 use Rattle.lsp_verdict.specs.Placed.{Raw}
-use Rattle.lsp_facts.specs.Fact.{fact_lines}
-use Rattle.lsp_facts.specs.Lines.{usual_line}
-use Rattle.lsp_explain.specs.Accounts.{TellsOf}
-use Rattle.lsp_explain.specs.Standing.{terms_in}
+use Rattle.lsp_facts.specs.Fact.{fact_lines, usual_line}
+use Rattle.lsp_explain.specs.ExplainRuns.{TellsOf}
+use Rattle.lsp_explain.specs.Trails.{terms_in}
 use Rattle.lsp_explain.proofs.Telling.{few_before, placed_by, stands_before, tells_of}
 use Rattle.lsp_explain.proofs.offence_facts.push_offence.Goals as goal
 
@@ -22,7 +21,7 @@ returns c = on_ok_weaker c.push_details.result (λ says terms before h trail see
     let old = string_bytes c.args.text.now in
     let own = terms_in past in
     let here = subst (λ (t : Terms). IsSeen past.held.now.session past.held.now.docs
-    past.held.now.counts (variants.Offence c.args.raw o.rule c.args.spoken) t before h)
+    past.held.now.counts (variants.Offence c.args.raw o.rule c.args.spoken c.args.tried) t before h)
     (sym seen.stood.by) seen in
     let stands = stands_before past terms before h o.rule trail seen.stood seen.as_is.1 in
     let noted = subst (λ (w : Raw). IsNoted w h.note) here.as_is.0 here.noted in
@@ -34,7 +33,7 @@ returns c = on_ok_weaker c.push_details.result (λ says terms before h trail see
     (string_bytes c.push_report.new.text) line (string_bytes c.push_details.new.lines) here.as_is.0
     no_is
     (λ rests shows. c.in_ok-facts.ensures h.note.event (heard_events before) stands place noted.0
-    here.as_is.2 here.as_is.1 rests shows)
+    here.as_is.2 here.as_is.3 here.as_is.1 rests shows)
     c.in_ok-push_report.ensures
     (c.in_ok-push_event.ensures h.note.event (kept_before own before) noted.0 here.as_is.2)
     (says ∙ ap (λ w. line ++ (fact_lines c.in_ok-facts.facts ++ usual_line w)) c.usual.ensures)))

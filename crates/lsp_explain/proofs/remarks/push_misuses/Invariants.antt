@@ -1,5 +1,5 @@
 use Rattle.std.proofs.Common.{◌≡◌, ◌++◌, map, take}
-use Rattle.lsp_explain.specs.Misuses.{misused_views}
+use Rattle.lsp_explain.specs.SessionRemarks.{misused_views}
 use Rattle.lsp_explain.specs.Remarks.{misuse_line}
 use Rattle.lsp_explain.proofs.remarks.push_misuses.Given as goal
 

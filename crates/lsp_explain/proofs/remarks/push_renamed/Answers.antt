@@ -2,8 +2,8 @@ use Rattle.std.specs.Prelude.{codes, option_map}
 use Rattle.std.proofs.Common.{◌++◌, ◌∷◌, [], List, ℕ, Option, Bor, sym, ap, ◌∙◌}
 use Rattle.std.proofs.lemmas.Result.{on_ok_weaker}
 use Rattle.json.specs.Print.{quoted}
-use Rattle.lsp_explain.specs.Renames.{renamed_view}
-use Rattle.lsp_explain.specs.declared.notes.renames.Renamed.{Renamed}
+use Rattle.lsp_explain.specs.Openings.{on_view}
+use Rattle.lsp_explain.specs.declared.notes.openings.DocumentEvent.{DocumentEvent}
 use Rattle.lsp_verdict.specs.Report.{line}
 use Rattle.lsp_facts.specs.Fact.{place_words}
 use Rattle.lsp_explain.specs.Remarks.{old_name_remarks}
@@ -18,6 +18,6 @@ returns-in-Some c =
     ∙ ap (λ (u : List ℕ). old
     ++ line (codes "note renamed" ∷ quoted u ∷ place_words renamed.place) ∷ [])
     c.as_str.ensures.value
-    ∙ ap (λ (o : Option (Bor Renamed)). old
-    ++ old_name_remarks (option_map (λ r. renamed_view r.now) o)) (sym c.in-Some.is))
+    ∙ ap (λ (o : Option (Bor DocumentEvent)). old
+    ++ old_name_remarks (option_map (λ r. on_view r.now) o)) (sym c.in-Some.is))
     c.text_by.ensures.ok

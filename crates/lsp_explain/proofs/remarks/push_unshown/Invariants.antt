@@ -1,5 +1,5 @@
 use Rattle.std.proofs.Common.{◌≡◌, ◌++◌, map, take}
-use Rattle.lsp_explain.specs.Touched.{names_view}
+use Rattle.lsp_explain.specs.Openings.{names_view}
 use Rattle.lsp_explain.specs.Remarks.{unshown_line}
 use Rattle.lsp_explain.proofs.remarks.push_unshown.Given as goal
 

@@ -1,5 +1,5 @@
 use Rattle.std.proofs.Common.{◌≡◌, ◌++◌, take}
-use Rattle.lsp_explain.specs.Suspects.{named_facts}
+use Rattle.lsp_explain.specs.Traced.{named_facts}
 use Rattle.lsp_explain.proofs.suspects.push_named.Given as goal
 
 abbrev pub invariant-loop-setter : goal.invariant-loop-setter

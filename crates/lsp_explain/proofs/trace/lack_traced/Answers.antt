@@ -6,7 +6,7 @@ use Rattle.lsp_explain.specs.Asking.{numbered, sents, since}
 use Rattle.lsp_replay.specs.declared.heard.EventPlace.{EventPlace}
 use Rattle.lsp_explain.proofs.SessionSteps.{sents-numbered}
 use Rattle.lsp_facts.specs.Fact.{Fact, in_phase}
-use Rattle.lsp_explain.specs.Standing.{terms_in}
+use Rattle.lsp_explain.specs.Trails.{terms_in}
 use Rattle.lsp_explain.specs.Traced.{place_facts, waiting_by}
 use Rattle.lsp_explain.proofs.trace.lack_traced.Goals as goal
 

@@ -1,5 +1,5 @@
 use Rattle.std.proofs.Common.{◌≡◌, ◌++◌, List, length, map}
-use Rattle.lsp_docs.specs.Terms.{Terms}
+use Rattle.lsp_docs.specs.Documents.{Terms}
 use Rattle.lsp_verdict.specs.Event.{Event}
 use Rattle.lsp_explain.specs.Asking.{numbered}
 use Rattle.lsp_explain.specs.SessionNoting.{AreNotes}

@@ -7,7 +7,7 @@ use Rattle.lsp_explain.specs.Marking.{steps}
 use Rattle.lsp_replay.specs.declared.heard.EventPlace.{EventPlace}
 use Rattle.lsp_verdict.specs.Offences.{kept_of}
 use Rattle.lsp_facts.specs.EventFacts.{AreCallFacts}
-use Rattle.lsp_explain.specs.Standing.{terms_in}
+use Rattle.lsp_explain.specs.Trails.{terms_in}
 use Rattle.lsp_explain.specs.Traced.{document_traced}
 use Rattle.lsp_explain.specs.declared.suspects.Until.TheVariants as until
 use Rattle.lsp_explain.proofs.trace.shown_traced.Goals as goal

@@ -4,8 +4,7 @@ use Rattle.std.proofs.lemmas.Result.{on_ok_weaker}
 use Rattle.lsp_rpc.specs.Ident.{id_view}
 use Rattle.lsp_session.specs.Sent.{other_side}
 use Rattle.lsp_explain.specs.Asking.{answered, numbered}
-use Rattle.lsp_explain.specs.Traced.{id_trace, place_facts, twin_facts}
-use Rattle.lsp_explain.specs.Twins.{twin}
+use Rattle.lsp_explain.specs.Traced.{id_trace, place_facts, twin_facts, twin}
 use Rattle.lsp_explain.proofs.trace.trace_id.Goals as goal
 
 pub returns-in_ok-push_twin-in-301 : goal.returns-in_ok-push_twin-in-301

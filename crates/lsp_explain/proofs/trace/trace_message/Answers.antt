@@ -3,7 +3,7 @@ use Rattle.std.proofs.Common.{◌++◌, [], sym, ap, ◌∙◌}
 use Rattle.std.proofs.lemmas.Result.{on_ok_weaker}
 use Rattle.lsp_rpc.specs.View.{message_view}
 use Rattle.lsp_explain.specs.Asking.{numbered, since}
-use Rattle.lsp_facts.specs.MessageFacts.{id_in}
+use Rattle.lsp_facts.specs.EventFacts.{id_in}
 use Rattle.lsp_explain.specs.Traced.{id_trace, place_facts}
 use Rattle.lsp_explain.proofs.trace.trace_message.Goals as goal
 

@@ -1,19 +1,17 @@
 use Rattle.std.specs.Prelude.{unwrap_or}
-use Rattle.std.proofs.Common.{[], ◌++◌, List, ap, ◌∙◌, w32}
+use Rattle.std.proofs.Common.{[], ◌++◌, List, Some, ap, ◌∙◌, w32}
 use Rattle.std.proofs.lemmas.Int.{to_z-of_z}
 use Rattle.std.proofs.lemmas.Result.{on_ok_weaker}
 use mir.Val.{SFits}
-use Rattle.lsp_rpc.specs.View.{act_view}
 use Rattle.lsp_session.specs.Negotiation.{encoding, sync_kind}
 use Rattle.lsp_types.specs.declared.change.SyncKind.TheVariants.{Nothing}
 use Rattle.lsp_types.specs.declared.position.Encoding.TheVariants.{Utf16}
-use Rattle.lsp_verdict.specs.Calls.{calls, call_of}
-use Rattle.lsp_verdict.specs.Event.{sent_in}
+use Rattle.lsp_verdict.specs.Event.{calls, sent_in}
 use Rattle.lsp_verdict.specs.Offences.{kept_of}
 use Rattle.lsp_explain.specs.Marking.{steps, waiting_for}
 use Rattle.lsp_replay.specs.declared.heard.EventPlace.{EventPlace}
 use Rattle.lsp_facts.specs.Refuting.{refuting}
-use Rattle.lsp_explain.specs.Standing.{terms_in}
+use Rattle.lsp_explain.specs.Trails.{terms_in}
 use Rattle.lsp_explain.specs.Traced.{document_traced}
 use Rattle.lsp_explain.specs.declared.suspects.Until.{Until}
 use Rattle.lsp_explain.specs.declared.suspects.Until.TheVariants as untils
@@ -27,7 +25,7 @@ returns-then-rule-ne-SNAPSHOT_DIFFERS c =
     let until : Until = untils.Message c.args.place c.args.version in
     let uri = c.args.uri.now in
     on_ok_weaker c.trace_document.result
-    (λ says before call stands is.
+    (λ says before call stands is breaks.
     says terms before stands.trail.marked
     ∙ ap (λ l. c.args.facts.now ++ l) (names_no_texts (steps terms uri before) []
     (refuting terms (calls (kept_of terms before)) call
@@ -43,14 +41,13 @@ returns c =
     let until : Until = untils.Message c.args.place c.args.version in
     let waits = simp to_z-of_z at c.waiting-waiting.ensures in
     on_ok_weaker c.trace_document-2.result
-    (λ says before call stands is.
+    (λ says before call stands is breaks.
     let kept = kept_of terms before in
     let marked = stands.trail.marked in
+    let enc = unwrap_or (encoding (sent_in kept)) Utf16 in
     let kind = unwrap_or (sync_kind (sent_in kept)) Nothing in
-    let agreed = c.unwrap_or-encoding.ensures
-    ∙ ap (λ o. unwrap_or o Utf16) (c.encoding.ensures (sent_in kept) stands.holds.sent) in
-    let found = c.in_ok-snapshots.ensures kind (calls kept) call stands.holds.called
-    (ap (λ e. call_of e kind (act_view c.args.act.now)) agreed ∙ is) in
+    let found = c.in_ok-snapshots.ensures enc kind (calls kept) call stands.holds.called is
+    (breaks.0 ∙ ap Some c.if-rule-ne-SNAPSHOT_DIFFERS.false) breaks.1 in
     says terms before marked
     ∙ ap (λ (ns : List EventPlace). c.args.facts.now
     ++ document_traced (steps terms uri before) ns until c.args.rule)

@@ -5,8 +5,8 @@ use Rattle.std.proofs.lemmas.Grind.{flat_map-append}
 use Rattle.std.proofs.lemmas.Result.{on_ok_weaker}
 use Rattle.lsp_explain.specs.Openings.{on_view, ons_view}
 use Rattle.lsp_facts.specs.Fact.{Fact}
-use Rattle.lsp_explain.specs.Standing.{terms_in}
-use Rattle.lsp_explain.specs.Unopened.{last_openings, similar_fact}
+use Rattle.lsp_explain.specs.Trails.{terms_in}
+use Rattle.lsp_explain.specs.Traced.{last_openings, similar_fact}
 use Rattle.lsp_explain.proofs.unopened.push_similar.Goals as goal
 
 pub returns : goal.returns

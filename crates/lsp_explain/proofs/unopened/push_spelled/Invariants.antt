@@ -2,8 +2,8 @@ use Rattle.std.proofs.Common.{◌≡◌, ◌++◌, List, take}
 use Rattle.std.specs.List.{flat_map}
 use Rattle.lsp_verdict.specs.Event.{Event}
 use Rattle.lsp_explain.specs.Openings.{ons_view}
-use Rattle.lsp_explain.specs.Standing.{StandsAfter, terms_in}
-use Rattle.lsp_explain.specs.Unopened.{similar_fact}
+use Rattle.lsp_explain.specs.Trails.{StandsAfter, terms_in}
+use Rattle.lsp_explain.specs.Traced.{similar_fact}
 use Rattle.lsp_explain.proofs.unopened.push_spelled.Given as goal
 
 abbrev pub invariant-loop-on : goal.invariant-loop-on

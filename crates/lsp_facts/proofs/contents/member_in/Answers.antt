@@ -2,7 +2,7 @@ use Rattle.std.proofs.Common.{sym, subst, ap}
 use Rattle.std.specs.Prelude.{option_and_then}
 use Rattle.lsp_rpc.specs.Reading.{IsRefusal}
 use Rattle.lsp_facts.specs.Members.{Finds, wrong_member}
-use Rattle.lsp_facts.proofs.Naming.{message_named, none_named}
+use Rattle.lsp_facts.proofs.SomeFacts.{message_named, none_named}
 use Rattle.lsp_facts.proofs.contents.member_in.Goals as goal
 
 pub returns-in-Ok : goal.returns-in-Ok

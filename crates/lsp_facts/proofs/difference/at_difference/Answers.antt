@@ -1,14 +1,13 @@
-use Rattle.std.proofs.Common.{◌≡◌, [], ◌∷◌, ◌++◌, List, length, ap, sym, ◌∙◌, subst}
-use Rattle.std.specs.Prelude.{codes}
+use Rattle.std.proofs.Common.{◌≡◌, ℕ, [], ◌∷◌, ◌++◌, List, length, ap, sym, ◌∙◌, subst}
+use Rattle.std.specs.Prelude.{codes, slice_get}
 use Rattle.std.specs.Str.{chars}
 use Rattle.lsp_facts.specs.DocumentFacts.{AreOfDifference, differs_at}
-use Rattle.lsp_facts.specs.Fact.{Fact, counts_in, part_line}
-use Rattle.lsp_facts.specs.Part.{part_at}
-use Rattle.lsp_facts.proofs.Differing.{are_apart, part_there}
+use Rattle.lsp_facts.specs.Fact.{Fact, counts_in, part_line, part_at}
+use Rattle.lsp_facts.proofs.TextsDiffer.{are_apart, part_there}
 use Rattle.lsp_facts.proofs.difference.at_difference.Goals as goal
 
 pub returns : goal.returns
-returns c = λ apart.
+returns c =
     let a = chars c.args.held.now in
     let b = chars c.args.other.now in
     let found = c.in-Some.found in
@@ -28,7 +27,10 @@ returns c = λ apart.
     (c.in_ok-encoding.ensures ∙ ap (λ (l : List Fact). l ++ counts_in c.args.encoding ∷ [])
     c.new-facts.ensures)))
     in
-    let is = c.in-Some.ensures in
-    subst (AreOfDifference c.args.encoding a b key) (sym all)
-    (are_apart c.args.encoding a b key found.at held other is.at
-    (part_there a b a _ _ is.held is.held_front) (part_there a b b _ _ is.other is.other_front))
+    let is = c.in-Some.ensures in (
+      λ same. is.at.1.here (ap (λ (l : List ℕ). slice_get l is.at.0) same),
+      subst (AreOfDifference c.args.encoding a b key) (sym all)
+          (are_apart c.args.encoding a b key found.at held other is.at
+          (part_there a b a _ _ is.held is.held_front)
+          (part_there a b b _ _ is.other is.other_front)),
+    )

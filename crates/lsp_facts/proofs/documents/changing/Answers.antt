@@ -16,14 +16,14 @@ abbrev has : ℕ → Fact
 has n = line (codes "changes" ∷ decimal n ∷ [])
 
 pub returns : goal.returns
-returns g c = λ calls h e.
+returns g c = λ calls h e tries.
     let fits : SFits w32 c.args.version = c.ranges.version in
     let cs = c.args.changes.now in
     let front = line (codes "uri" ∷ quoted c.args.uri.now ∷ [])
     ∷ held_fact c.args.set_by (held c.args.docs.now.terms c.args.uri.now calls) in
-    let details = c.in_ok-of_change.field-0 in
+    let details = c.in_ok-more.more in
     let sent = simp to_z-of_z at c.in_ok-version.ensures.ok in
-    let told = simp to_z-of_z at c.in_ok-of_change.ensures in
+    let told = simp to_z-of_z at c.in_ok-more.ensures in
     let said : Fact = sends c.args.version in
     let head : c.number.new.self ≡ front ++ said ∷ has (length (edits_of cs)) ∷ [] =
     c.in_ok-number.ensures.ok
@@ -34,6 +34,6 @@ returns g c = λ calls h e.
     in
     record {
       details = details;
-      says = told calls h e;
+      says = told calls h e tries;
       are = c.in_ok-append.ensures ∙ ap (λ l. l ++ details) head;
     }

@@ -1,5 +1,6 @@
 use Rattle.std.proofs.Common.{◌≡◌, Some, ap, subst, sym, ◌∙◌, w32}
 use Rattle.std.proofs.lemmas.Int.{to_z-of_z}
+use Rattle.std.proofs.lemmas.Result.{IfOk-weaker}
 use Rattle.std.specs.Prelude.{codes}
 use Rattle.std.specs.Str.{chars}
 use mir.Val.{SFits}
@@ -21,11 +22,13 @@ returns g c =
     let found = simp to_z-of_z at c.in-Some.ensures in
     let text = chars c.args.text.now in
     let held = chars c.as_str.result.now in
-    let same : held ≡ g.S.TextStore.content c.in-Some.store.now = ap chars c.as_str.ensures.value ∙ c.in_ok-held.ensures in
-    let apart =
-    subst (λ (x : LineEnds). IsOther x held text
-    → AreApart x c.args.encoding held text (codes "in-editor") c.in_ok-facts.facts)
-    c.line_ends.ensures c.in_ok-facts.ensures in
-    λ calls h e.
-    show_explained c.args.docs.now.terms.line_ends c.args.encoding c.args.version (chars c.args.text.now) _ _ c.args.rule held c.in_ok-facts.facts c.if-rule-eq-LATE_SNAPSHOT.false e (sym (shown_other c.args.docs.now calls h c.args.uri.now c.args.version text c.args.rule
-    c.if-rule-eq-LATE_SNAPSHOT.false e _ (found calls h)) ∙ ap Some (sym same)) apart
+    let same : held ≡ g.S.TextStore.content c.in-Some.store.now = ap chars c.as_str.ensures.value
+    ∙ c.in_ok-held.ensures in
+    IfOk-weaker c.apart.result _ _ (λ facts told calls h e.
+    let apart = subst (λ (x : LineEnds). IsOther x held text
+    → AreApart x c.args.encoding held text (codes "in-editor") facts) c.line_ends-ends.ensures told in
+    show_explained c.args.docs.now.terms.line_ends c.args.encoding c.args.version text _ _ c.args.rule
+    held facts c.if-rule-eq-LATE_SNAPSHOT.false e
+    (sym (shown_other c.args.docs.now calls h c.args.uri.now c.args.version text c.args.rule
+    c.if-rule-eq-LATE_SNAPSHOT.false e _ (found calls h)) ∙ ap Some (sym same)) apart)
+    c.apart.ensures

@@ -1,7 +1,7 @@
 use Rattle.std.proofs.Common.{sym, subst, ◌≡◌, ◌++◌, string_bytes, OnOk}
 use Rattle.lsp_rpc.specs.Reading.{IsRefusal}
-use Rattle.lsp_facts.specs.Lines.{content_event}
-use Rattle.lsp_facts.proofs.Naming.{message_named, none_named}
+use Rattle.lsp_facts.specs.Fact.{content_event}
+use Rattle.lsp_facts.proofs.SomeFacts.{message_named, none_named}
 use Rattle.lsp_facts.proofs.lines.push_content_event.Goals as goal
 
 pub returns-in-Ok : goal.returns-in-Ok

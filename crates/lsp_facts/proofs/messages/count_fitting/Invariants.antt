@@ -1,6 +1,6 @@
 use Rattle.std.proofs.Common.{◌≡◌, ◌+◌, drop}
 use Rattle.lsp_rpc.specs.View.{texts_view}
-use Rattle.lsp_facts.specs.MessageFacts.{names_fitting, offered_bytes}
+use Rattle.lsp_facts.specs.EventFacts.{names_fitting, offered_bytes}
 use Rattle.lsp_facts.proofs.messages.count_fitting.Given as goal
 
 abbrev pub invariant-loop-name : goal.invariant-loop-name

@@ -2,7 +2,7 @@ use Rattle.std.proofs.Common.{◌≡◌, [], ◌∷◌, ◌++◌, ap, sym, subst
 use Rattle.std.specs.Prelude.{OnOk, codes}
 use Rattle.json.specs.Print.{quoted}
 use Rattle.lsp_verdict.specs.Report.{line}
-use Rattle.lsp_facts.specs.MessageFacts.{pick_facts}
+use Rattle.lsp_facts.specs.EventFacts.{pick_facts}
 use Rattle.lsp_facts.proofs.messages.push_picked.Goals as goal
 
 pub returns-in-Ok : goal.returns-in-Ok

@@ -1,6 +1,6 @@
 use Rattle.std.proofs.Common.{◌≡◌, take, ap, ◌∙◌}
 use Rattle.std.proofs.lemmas.List.{take_min}
-use Rattle.lsp_facts.specs.MessageFacts.{text_front}
+use Rattle.lsp_facts.specs.EventFacts.{text_front}
 use Rattle.lsp_facts.proofs.messages.shown.Goals as goal
 
 pub returns : goal.returns

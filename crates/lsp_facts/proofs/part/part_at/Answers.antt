@@ -1,7 +1,7 @@
 use Rattle.std.proofs.Common.{◌≡◌, ap, sym, ◌∙◌, string_bytes, length}
 use Rattle.std.proofs.lemmas.Str.{chars_from_encodes, IsUtf8-string_bytes}
 use Rattle.std.specs.Str.{chars}
-use Rattle.lsp_facts.specs.Part.{left_after, left_before, shown, text_of}
+use Rattle.lsp_facts.specs.Fact.{left_after, left_before, shown, text_of}
 use Rattle.lsp_facts.proofs.part.part_at.Goals as goal
 
 pub returns : goal.returns

@@ -1,4 +1,4 @@
-use Rattle.std.proofs.Common.{◌≡◌, [], ◌∷◌, ◌++◌, Some, ap, sym, ◌∙◌}
+use Rattle.std.proofs.Common.{[], ◌∷◌, ◌++◌, Some, ap, sym, ◌∙◌}
 use Rattle.std.specs.Prelude.{codes, slice_get}
 use Rattle.lsp_text.specs.Changes.{edits_of}
 use Rattle.lsp_types.specs.declared.change.SyncKind.{SyncKind}

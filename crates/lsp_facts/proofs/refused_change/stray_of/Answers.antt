@@ -1,5 +1,5 @@
 use Rattle.std.specs.Str.{chars}
-use Rattle.lsp_facts.proofs.Refusals.{first_stray, second_stray}
+use Rattle.lsp_facts.proofs.MadeChanges.{first_stray, second_stray}
 use Rattle.lsp_facts.proofs.refused_change.stray_of.Goals as goal
 
 pub returns-in-Some : goal.returns-in-Some

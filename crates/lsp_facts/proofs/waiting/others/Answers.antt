@@ -1,14 +1,14 @@
 use Rattle.std.proofs.Common.{sym, ap, ◌∙◌, arith, take_all}
-use Rattle.std.specs.Str.{chars}
 use Rattle.lsp_docs.specs.Stored.{texts_of}
+use Rattle.lsp_facts.specs.TwoTexts.{lent_text}
 use Rattle.lsp_facts.specs.Refuting.{others_of}
 use Rattle.lsp_facts.proofs.OtherTexts.{others-there, others-passed}
 use Rattle.lsp_facts.proofs.waiting.others.Goals as goal
 use Rattle.lsp_facts.proofs.waiting.others.Goals.{then-is_other_at+in_ok-push, else-is_other_at}
 
 pub loop-index-preserved : goal.loop-index-preserved
-loop-index-preserved c =
-    let text = chars c.args.text.now in
+loop-index-preserved g c =
+    let text = lent_text g.S.TextStore.content c.args.text in
     let texts = texts_of c.args.texts.now in
     elim c.if-is_other_at.branch [
       | then-is_other_at+in_ok-push w ↦
@@ -25,7 +25,8 @@ loop-index-preserved c =
     ]
 
 pub returns : goal.returns
-returns c =
+returns g c =
     let texts = texts_of c.args.texts.now in
-    c.loop-index.invariant ∙ ap (λ l. others_of c.args.line_ends (chars c.args.text.now) l texts)
+    c.loop-index.invariant ∙ ap (λ l. others_of c.args.line_ends
+    (lent_text g.S.TextStore.content c.args.text) l texts)
     (take_all c.loop-index.index c.args.snapshots.now (omega (arith, c.loop-index-test.false)))

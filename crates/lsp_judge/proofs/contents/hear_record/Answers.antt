@@ -1,7 +1,7 @@
 use Rattle.std.proofs.Common.{[], ◌∷◌, ◌++◌}
 use Rattle.std.proofs.lemmas.Result.{err_from_is_err_and}
-use Rattle.lsp_verdict.specs.Lent.{raw_view}
-use Rattle.lsp_judge.proofs.Hearing.{stopped}
+use Rattle.lsp_verdict.specs.Given.{raw_view}
+use Rattle.lsp_judge.proofs.Records.{stopped}
 use Rattle.lsp_judge.proofs.contents.hear_record.Goals as goal
 
 pub loop-raw-init : goal.loop-raw-init

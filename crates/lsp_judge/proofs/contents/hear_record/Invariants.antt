@@ -6,7 +6,7 @@ use Rattle.lsp_log.specs.Records.{record_view}
 use Rattle.lsp_replay.specs.Streams.{left_in}
 use Rattle.lsp_verdict.specs.Event.{Event}
 use Rattle.lsp_verdict.specs.Placed.{Raw}
-use Rattle.lsp_judge.specs.Heard.{AreHeard, IsHearing}
+use Rattle.lsp_judge.specs.Standing.{AreHeard, IsHearing}
 use Rattle.lsp_judge.proofs.contents.hear_record.Given as goal
 
 abbrev pub invariant-loop-raw : goal.invariant-loop-raw

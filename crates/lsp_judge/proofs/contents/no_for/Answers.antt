@@ -1,7 +1,7 @@
 use Rattle.std.proofs.Common.{sym, ◌∙◌}
 use Rattle.lsp_verdict.specs.Placed.{Reads}
 use Rattle.lsp_replay.proofs.Following.{whose_read}
-use Rattle.lsp_judge.proofs.Ruled.{ruled}
+use Rattle.lsp_judge.proofs.Told.{ruled}
 use Rattle.lsp_judge.proofs.contents.no_for.Goals as goal
 
 pub returns-in-Rule-clause-no : goal.returns-in-Rule-clause-no

@@ -1,7 +1,7 @@
 use Rattle.std.proofs.Common.{◌≡◌, ◌<◌, ℕ}
 use Rattle.lsp_frame.specs.Bounds.{Bounds}
 use Rattle.lsp_frame.specs.Told.{Told}
-use Rattle.lsp_judge.specs.EventSteps.{HasPassed}
+use Rattle.lsp_judge.specs.Event.{HasPassed}
 use Rattle.lsp_judge.proofs.event.write_nth.Given as goal
 
 abbrev pub invariant-loop-fault : goal.invariant-loop-fault

@@ -1,6 +1,6 @@
 use Rattle.std.proofs.Common.{◌≡◌, ℕ, List, ◌+◌, ◌≤◌, length}
 use Rattle.lsp_frame.specs.Decoder.{StandsFor}
-use Rattle.lsp_judge.specs.StreamSteps.{AreParts}
+use Rattle.lsp_judge.specs.Stream.{AreParts}
 use Rattle.lsp_judge.proofs.Framing.Found.{FoundSoFar}
 use Rattle.lsp_judge.proofs.frames.write_found.Given as goal
 

@@ -2,7 +2,7 @@ use Rattle.std.specs.Prelude.{codes, length, ◌++◌}
 use Rattle.std.proofs.lemmas.Result.{err_from_is_err_and}
 use Rattle.lsp_frame.proofs.Writing.{stopped_before, stopped_then}
 use Rattle.lsp_log.proofs.Written.{writes_then}
-use Rattle.lsp_judge.specs.StreamParts.{numbers}
+use Rattle.lsp_judge.specs.Stream.{numbers}
 use Rattle.lsp_judge.proofs.frames.write_kind_line.Goals as goal
 
 pub returns-in_err-write_numbers : goal.returns-in_err-write_numbers

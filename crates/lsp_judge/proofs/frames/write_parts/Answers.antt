@@ -27,10 +27,8 @@ returns-in-Some g c =
 pub returns-in_err-count : goal.returns-in_err-count
 returns-in_err-count g c =
     let so_far = c.loop-decoder.invariant in
-    let found = rw c.in_default.is at (c.in_ok-rule.ensures.answer so_far.bytes so_far.contents
-    so_far.parts so_far.stands so_far.count so_far.are_parts) in
-    let told = told_all _ _ _ _ _ _ _ _ _ _ _ _ so_far found c.write_found.ensures.limits
-    c.write_found.ensures.room in
+    let told = told_all _ _ _ _ _ _ _ _ _ _ _ _ so_far (rw c.in_default.is at
+    c.in_ok-rule.ensures.answer) c.write_found.ensures.limits c.write_found.ensures.room in
     let p = err_from_is_err_and c.from_residual-in_err-count.result
     c.from_residual-in_err-count.ensures.1 in
     rw (p.1, p.2) (pull_broke _ _ _ _ _ _ _ _ _ _ _ _ _ told c.in_err-count.ensures.read_fault
@@ -39,10 +37,8 @@ returns-in_err-count g c =
 pub returns-then-count-eq0 : goal.returns-then-count-eq0
 returns-then-count-eq0 g c =
     let so_far = c.loop-decoder.invariant in
-    let found = rw c.in_default.is at (c.in_ok-rule.ensures.answer so_far.bytes so_far.contents
-    so_far.parts so_far.stands so_far.count so_far.are_parts) in
-    let told = told_all _ _ _ _ _ _ _ _ _ _ _ _ so_far found c.write_found.ensures.limits
-    c.write_found.ensures.room in
+    let told = told_all _ _ _ _ _ _ _ _ _ _ _ _ so_far (rw c.in_default.is at
+    c.in_ok-rule.ensures.answer) c.write_found.ensures.limits c.write_found.ensures.room in
     end_pulled _ _ _ _ _ _ _ _ _ _ _ _ _ _ told c.in_ok-count.ensures.ok c.if-count-eq0.true
     (c.in_ok-count.ensures.end c.if-count-eq0.true (omega (arith, c.max-most.ensures))
     told.ends.0) c.outcome_at_end-then-count-eq0.ensures
@@ -50,10 +46,8 @@ returns-then-count-eq0 g c =
 pub returns-then-read-log : goal.returns-then-read-log
 returns-then-read-log g c =
     let so_far = c.loop-decoder.invariant in
-    let found = rw c.in_default.is at (c.in_ok-rule.ensures.answer so_far.bytes so_far.contents
-    so_far.parts so_far.stands so_far.count so_far.are_parts) in
-    let told = told_all _ _ _ _ _ _ _ _ _ _ _ _ so_far found c.write_found.ensures.limits
-    c.write_found.ensures.room in
+    let told = told_all _ _ _ _ _ _ _ _ _ _ _ _ so_far (rw c.in_default.is at
+    c.in_ok-rule.ensures.answer) c.write_found.ensures.limits c.write_found.ensures.room in
     let pulls = c.in_ok-count.ensures.ok in
     let full = c.if-read-log.true ∙ c.log-log.ensures.value in
     let asked = pulls.within in
@@ -64,10 +58,8 @@ returns-then-read-log g c =
 pub loop-decoder-preserved : goal.loop-decoder-preserved
 loop-decoder-preserved g c =
     let so_far = c.loop-decoder.invariant in
-    let found = rw c.in_default.is at (c.in_ok-rule.ensures.answer so_far.bytes so_far.contents
-    so_far.parts so_far.stands so_far.count so_far.are_parts) in
-    let told = told_all _ _ _ _ _ _ _ _ _ _ _ _ so_far found c.write_found.ensures.limits
-    c.write_found.ensures.room in
+    let told = told_all _ _ _ _ _ _ _ _ _ _ _ _ so_far (rw c.in_default.is at
+    c.in_ok-rule.ensures.answer) c.write_found.ensures.limits c.write_found.ensures.room in
     let asked = c.in_ok-count.ensures.ok.within in
     let before = so_far.within in
     let within : c.loop-decoder.read + c.in_ok-count.count ≤ c.args.limits.log = grind (arith) in
@@ -76,10 +68,8 @@ loop-decoder-preserved g c =
 pub returns-in_err-write_long : goal.returns-in_err-write_long
 returns-in_err-write_long g c =
     let so_far = c.loop-decoder.invariant in
-    let found = rw c.in_default.is at (c.in_ok-rule.ensures.answer so_far.bytes so_far.contents
-    so_far.parts so_far.stands so_far.count so_far.are_parts) in
-    let told = told_all _ _ _ _ _ _ _ _ _ _ _ _ so_far found c.write_found.ensures.limits
-    c.write_found.ensures.room in
+    let told = told_all _ _ _ _ _ _ _ _ _ _ _ _ so_far (rw c.in_default.is at
+    c.in_ok-rule.ensures.answer) c.write_found.ensures.limits c.write_found.ensures.room in
     let long = rw c.in-Some-long_content.is at c.long_content.ensures in
     let p = err_from_is_err_and c.from_residual-in_err-write_long.result
     c.from_residual-in_err-write_long.ensures.1 in
@@ -105,10 +95,8 @@ outcome_at_end-requires g c =
 pub returns-then-not-branch : goal.returns-then-not-branch
 returns-then-not-branch g c =
     let so_far = c.loop-decoder.invariant in
-    let found = rw c.in_default.is at (c.in_ok-rule.ensures.answer so_far.bytes so_far.contents
-    so_far.parts so_far.stands so_far.count so_far.are_parts) in
-    let told = told_all _ _ _ _ _ _ _ _ _ _ _ _ so_far found c.write_found.ensures.limits
-    c.write_found.ensures.room in
+    let told = told_all _ _ _ _ _ _ _ _ _ _ _ _ so_far (rw c.in_default.is at
+    c.in_ok-rule.ensures.answer) c.write_found.ensures.limits c.write_found.ensures.room in
     let long = rw c.in-Some-long_content.is at c.long_content.ensures in
     (rw c.if-not-branch.true at
     (long_answered _ _ _ _ (g.R.Source.told c.write_long.new.reader) _ _
@@ -119,10 +107,8 @@ returns-then-not-branch g c =
 pub loop-decoder-preserved-in-Some-long_content : goal.loop-decoder-preserved-in-Some-long_content
 loop-decoder-preserved-in-Some-long_content g c =
     let so_far = c.loop-decoder.invariant in
-    let found = rw c.in_default.is at (c.in_ok-rule.ensures.answer so_far.bytes so_far.contents
-    so_far.parts so_far.stands so_far.count so_far.are_parts) in
-    let told = told_all _ _ _ _ _ _ _ _ _ _ _ _ so_far found c.write_found.ensures.limits
-    c.write_found.ensures.room in
+    let told = told_all _ _ _ _ _ _ _ _ _ _ _ _ so_far (rw c.in_default.is at
+    c.in_ok-rule.ensures.answer) c.write_found.ensures.limits c.write_found.ensures.room in
     let long = rw c.in-Some-long_content.is at c.long_content.ensures in
     rw c.if-not-branch.false at
     (long_answered _ _ _ _ (g.R.Source.told c.write_long.new.reader) _ _

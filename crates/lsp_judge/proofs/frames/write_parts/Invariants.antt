@@ -1,5 +1,5 @@
 use Rattle.std.proofs.Common.{◌-◌, ◌+◌}
-use Rattle.lsp_judge.specs.StreamSteps.{SoFar}
+use Rattle.lsp_judge.specs.Stream.{SoFar}
 use Rattle.lsp_judge.proofs.frames.write_parts.Given as goal
 
 abbrev pub invariant-loop-decoder : goal.invariant-loop-decoder

@@ -1,4 +1,4 @@
-use Rattle.lsp_judge.proofs.ShownLogs.{one_shown}
+use Rattle.lsp_judge.proofs.Told.{one_shown}
 use Rattle.lsp_judge.proofs.show_laws.one_shown.Goals as goal
 
 pub returns : goal.returns

@@ -1,4 +1,4 @@
-use Rattle.lsp_judge.proofs.ShownLogs.{some_shown}
+use Rattle.lsp_judge.proofs.Told.{some_shown}
 use Rattle.lsp_judge.proofs.show_laws.some_shown.Goals as goal
 
 pub returns : goal.returns

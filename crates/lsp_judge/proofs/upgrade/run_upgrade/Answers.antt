@@ -7,7 +7,7 @@ use Rattle.lsp_frame.proofs.Telling.{took_then}
 use Rattle.lsp_frame.proofs.Writing.{wrote_then}
 use Rattle.lsp_log.specs.Log.{Fits}
 use Rattle.lsp_log.specs.Records.{record_view}
-use Rattle.lsp_docs.specs.Terms.{terms_of}
+use Rattle.lsp_docs.specs.Documents.{terms_of}
 use Rattle.lsp_replay.specs.LogEvents.{flaw_of}
 use Rattle.lsp_replay.proofs.Pulling.{known_record, refused_record}
 use Rattle.lsp_verdict.proofs.Entries.{is_first, record_fits}

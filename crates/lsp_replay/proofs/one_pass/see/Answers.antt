@@ -14,7 +14,7 @@ returns-in-Broken-clause-saw g c =
     let saw = rw at.is at c.skip.ensures.saw in
     rw at.is (IfOk-weaker c.skip.result _ _ (λ flow said terms before h comes.
     said terms before h comes (broken_here at.side at.rule terms before h comes.noted)
-    (broken_silent at.side at.rule h comes.noted)) saw)
+    (broken_silent at.side at.rule h comes.noted) tt) saw)
 
 pub returns-in-Snapshot-clause-saw : goal.returns-in-Snapshot-clause-saw
 returns-in-Snapshot-clause-saw g c =

@@ -34,4 +34,4 @@ returns-in_ok-rule-in-Err-clause-saw g c =
     IfOk-weaker c.skip.result _ _ (λ flow saw terms before h comes.
     saw terms before h (shown_comes comes (to_z w32 (of_z w32 number)) (to_z-of_z w32 number fits)
     _ c.in-Err.ensures.err) (shown_refused comes c.in_ok-rule-in-Err.rule _ refuses fault)
-    (shown_silent comes)) c.skip.ensures.saw
+    (shown_silent comes) tt) c.skip.ensures.saw

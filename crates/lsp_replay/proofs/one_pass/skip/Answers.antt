@@ -1,9 +1,15 @@
-use Rattle.std.proofs.Common.{◌∙◌, sym}
+use Rattle.std.specs.Prelude.{option_map}
+use Rattle.std.proofs.Common.{◌∙◌, Bor, Option, subst, sym}
+use Rattle.lsp_docs.specs.declared.tried.Tried.{Tried}
+use Rattle.lsp_rpc.specs.declared.act.Spoken.{Spoken}
+use Rattle.lsp_text.specs.Counted.{Counted}
+use Rattle.lsp_replay.specs.Telling.{kept_before}
+use Rattle.lsp_replay.specs.Tries.{MayTry}
 use Rattle.lsp_replay.proofs.Seeing.{counted_on, noted_here, stood_past}
 use Rattle.lsp_replay.proofs.one_pass.skip.Goals as goal
 
 pub returns-clause-saw : goal.returns-clause-saw
-returns-clause-saw g c = λ terms before h comes offends speaks.
+returns-clause-saw g c = λ terms before h comes offends speaks tries.
     let stood = stood_past comes _ _ offends (counted_on comes _ (λ events event counts own.
     c.add.ensures events event counts (own ∙ sym c.who.ensures))) in
     record {
@@ -12,6 +18,13 @@ returns-clause-saw g c = λ terms before h comes offends speaks.
         stood = stood;
         few = comes.few;
         noted = noted_here comes;
-        as_is = (comes.raw_is, offends, speaks);
+        as_is = (
+          comes.raw_is,
+          offends,
+          speaks,
+          subst (λ (o : Option (Tried Counted)). MayTry terms (kept_before terms before) c.args.rule
+              (option_map (λ (s : Bor Spoken). s.now) c.args.spoken) o)
+              (sym c.as_ref.ensures.value) tries,
+        );
       });
     }

@@ -1,7 +1,23 @@
-use Rattle.lsp_survey.proofs.SessionEnds.{ends_given}
+use Rattle.std.specs.Prelude.{map}
+use Rattle.std.proofs.Common.{◌∙◌, ap, sym}
+use Rattle.lsp_replay.proofs.AllHeard.{few_events}
+use Rattle.lsp_survey.specs.SessionEnds.{ends_held}
+use Rattle.lsp_survey.proofs.SessionEnds.{ends_given, sound_end}
+use Rattle.lsp_verdict.specs.Given.{offence_view}
+use Rattle.lsp_verdict.specs.Heard.{heard_events}
+use Rattle.lsp_verdict.specs.Survey.{by_itself}
 use Rattle.lsp_survey.proofs.end_of_session.session_end.Goals as goal
 
-pub returns-in_ok-listed-in-Sound-clause-listed : goal.returns-in_ok-listed-in-Sound-clause-listed
-returns-in_ok-listed-in-Sound-clause-listed c = rw c.in-Sound.is (λ terms heard stood few.
-    ends_given terms heard _ _ _ stood few c.args.completeness c.args.log.now _ _ _
-    c.ends_inside-editor.ensures c.ends_inside-server.ensures c.in_ok-listed-in-Sound.ensures)
+pub returns-clause-listed : goal.returns-clause-listed
+returns-clause-listed c = λ terms heard stood few.
+    let events = heard_events heard in
+    let small = few_events heard few in
+    ends_given terms heard _ _ _ stood few c.args.completeness c.args.log.now _ _ _ _ _ _ _ _ _
+    c.ends_inside-editor.ensures c.ends_inside-server.ensures c.rest_rule.ensures
+    c.rest_rule-2.ensures (c.lack-lack.ensures _ stood.holds)
+    (ap (map offence_view) c.new-listed.ensures.items)
+    (c.in_ok-list.ensures events stood.counted small)
+    (c.in_ok-list-2.ensures events stood.counted small)
+    (c.in_ok-list-3.ensures events stood.counted small)
+    ∙ ap (λ e. map by_itself (ends_held c.args.completeness terms heard c.args.log.now e))
+    (sym (sound_end c.args.end c.in_default.not-Bad))

@@ -1,8 +1,10 @@
-use Rattle.lsp_survey.proofs.KeptTexts.{writes_text}
+use Rattle.lsp_replay.specs.TextAnswers.{text_at, text_behind}
+use Rattle.lsp_replay.proofs.TextRuns.{text_written}
+use Rattle.lsp_survey.proofs.KeptTexts.{asked, kept_told}
 use Rattle.lsp_survey.proofs.text.run_text_all.Goals as goal
 
 pub returns : goal.returns
 returns g c = record {
-  text = writes_text (record { number = c.args.number; uri = c.args.uri.now }) c.requires
-      c.args.limits _ _ c.pass.ensures.passes;
+  text = text_written (text_at (asked c.args.number c.args.uri.now)) text_behind c.args.limits _
+      (kept_told c.args.number c.args.uri.now c.args.limits) _ _ c.pass.ensures.passes;
 }

@@ -1,4 +1,4 @@
-use Rattle.lsp_verdict.proofs.Streams.Joined as proved
+use Rattle.lsp_verdict.proofs.Sessions.Joined as proved
 use Rattle.lsp_verdict.proofs.laws.events_are_streams.Goals as goal
 
 pub returns-clause-sides : goal.returns-clause-sides

@@ -8,7 +8,7 @@ use Rattle.lsp_text.specs.SameText.{same_text}
 use Rattle.lsp_docs.specs.Documents.{versioned}
 use Rattle.lsp_docs.specs.Rules.{differs}
 use Rattle.lsp_docs.specs.State.{State, queue_of}
-use Rattle.lsp_docs.specs.Texts.{Text}
+use Rattle.lsp_docs.specs.Calls.{Text}
 use Rattle.lsp_docs.proofs.SameVersions.{differs-texts}
 use Rattle.lsp_docs.proofs.docs.Docs.contradicts.Goals as goal
 

@@ -3,8 +3,8 @@ use Rattle.std.proofs.Common.{Some, None, ap, sym, ◌∙◌, w32, option_map}
 use Rattle.std.proofs.lemmas.Int.{to_z-of_z}
 use mir.Val.{SFits}
 use Rattle.lsp_docs.specs.Documents.{versioned}
-use Rattle.lsp_docs.specs.Kept.{kept}
-use Rattle.lsp_docs.specs.Others.{text_at}
+use Rattle.lsp_docs.specs.Snapshots.{kept}
+use Rattle.lsp_docs.specs.Rules.{text_at}
 use Rattle.lsp_docs.proofs.Stepping.{held-stands}
 use Rattle.lsp_docs.proofs.docs.Docs.store_at.Goals as goal
 

@@ -1,7 +1,6 @@
 use Rattle.std.proofs.Common.{◌+◌, sym, ap, ◌∙◌}
 use Rattle.std.specs.Prelude.{length}
-use Rattle.lsp_docs.specs.Snapshots.{waiting}
-use Rattle.lsp_docs.specs.Missed.{missed}
+use Rattle.lsp_docs.specs.Snapshots.{waiting, missed}
 use Rattle.lsp_docs.specs.State.{capped, total}
 use Rattle.lsp_docs.proofs.Words.{capped-add_capped}
 use Rattle.lsp_docs.proofs.Unmatched.{unmatched-parts}

@@ -4,7 +4,7 @@ use Rattle.std.specs.List.{find}
 use Rattle.std.specs.Option.{option_map}
 use mir.Val.{SFits}
 use Rattle.lsp_docs.specs.Documents.{Version, is_at, versioned}
-use Rattle.lsp_docs.specs.Others.{text_in}
+use Rattle.lsp_docs.specs.Rules.{text_in}
 use Rattle.lsp_docs.proofs.Others.{find-map, map-twice}
 use Rattle.lsp_docs.proofs.history.History.store_at.Goals as goal
 

@@ -12,11 +12,12 @@ use Rattle.lsp_text.specs.Edits.{applied}
 use Rattle.lsp_docs.specs.declared.document.Document.{Document}
 use Rattle.lsp_docs.specs.Documents.{Version, versioned}
 use Rattle.lsp_docs.specs.Fault.{Names}
-use Rattle.lsp_docs.specs.Opened.{kept_of}
+use Rattle.lsp_docs.specs.Stored.{kept_of}
+use Rattle.lsp_docs.specs.Tried.{AreTriedOn, tried_in}
 use Rattle.lsp_docs.specs.State.{KeepsOn, early_rule, held_in, rule_with, set_in, text_in}
 use Rattle.lsp_docs.proofs.Entries.{held_in-of, held-set, keeps-on}
 use Rattle.lsp_docs.proofs.Queues.{written-same}
-use Rattle.lsp_docs.proofs.Faults.{on_ok_four}
+use Rattle.lsp_docs.proofs.Words.{on_ok_four}
 use Rattle.lsp_docs.proofs.opened.OpenDocuments.change.Given.{Over}
 use Rattle.lsp_docs.proofs.opened.OpenDocuments.change.Goals as goal
 
@@ -32,6 +33,34 @@ returns-in_default-clause-rule g c =
     ∙ (held_in-of (seen g) uri c.self.inside.documents ∙ ap (option_map (seen g)) absent) in
     ap (rule_with c.args.terms.limit c.args.terms.line_ends (unwrap_or (option_copied c.args.due) [])
     c.args.encoding c.args.kind c.args.version (edits_of c.args.changes.now)) none
+
+pub returns-in_default-clause-tried : goal.returns-in_default-clause-tried
+returns-in_default-clause-tried g c = λ rule early.
+    let uri = c.args.uri.now in
+    let absent = sym c.get_str_mut.ensures.value ∙ ap option_copied_mut c.in_default.is in
+    let none : held_in uri c.args.self.now.held ≡ None =
+    ap (λ s. held_in uri s.held) (sym c.self.view_is)
+    ∙ (held_in-of (seen g) uri c.self.inside.documents ∙ ap (option_map (seen g)) absent) in
+    let refused : Some 602 ≡ None =
+    sym (ap (early_rule c.args.kind c.args.version (edits_of c.args.changes.now)) none) ∙ early in
+    absurd (cc refused)
+
+pub returns-clause-tried : goal.returns-clause-tried
+returns-clause-tried g c =
+    let fits : SFits w32 c.args.version = c.ranges.version in
+    let uri = c.args.uri.now in
+    let cs = edits_of c.args.changes.now in
+    let d = c.in-Some.document.now in
+    let is_now : held_in uri c.args.self.now.held ≡ Some (seen g d) =
+    ap (λ s. held_in uri s.held) (sym c.self.view_is)
+    ∙ (held_in-of (seen g) uri c.self.inside.documents
+    ∙ ap (option_map (seen g)) (sym c.in-Some.ensures.value)) in
+    let told = simp to_z-of_z at c.change.ensures.tried in
+    IfErr-weaker c.change.result _ _
+    (λ e tried rule early. subst (λ o. AreTriedOn c.args.terms.limit c.args.encoding o cs
+    (tried_in g.S.TextStore.content c.change.new.tried)) (sym is_now)
+    (tried rule (sym (ap (early_rule c.args.kind c.args.version cs) is_now) ∙ early)))
+    told
 
 pub returns-clause-accepts : goal.returns-clause-accepts
 returns-clause-accepts g c =

@@ -5,7 +5,7 @@ use Rattle.std.proofs.lemmas.Result.{on_ok_weaker, on_err_weaker}
 use mir.Val.{SFits}
 use Rattle.lsp_types.specs.Texts.{is_text}
 use Rattle.lsp_docs.specs.Documents.{versioned}
-use Rattle.lsp_docs.specs.Opened.{held_of, kept_of}
+use Rattle.lsp_docs.specs.Stored.{held_of, kept_of}
 use Rattle.lsp_docs.specs.State.{held_in, KeepsSame}
 use Rattle.lsp_docs.proofs.Entries.{held_in-of, held-push, kept-push, unmapped}
 use Rattle.lsp_docs.proofs.opened.OpenDocuments.insert.Goals as goal

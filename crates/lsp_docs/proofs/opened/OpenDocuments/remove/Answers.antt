@@ -4,7 +4,7 @@ use Rattle.std.specs.Map.{lookup}
 use Rattle.std.specs.Str.{bytes_eq}
 use Rattle.lsp_types.specs.Texts.{is_text}
 use Rattle.lsp_docs.specs.Documents.{versioned}
-use Rattle.lsp_docs.specs.Opened.{held_of, kept_of}
+use Rattle.lsp_docs.specs.Stored.{held_of, kept_of}
 use Rattle.lsp_docs.specs.State.{held_in, queue_of, without}
 use Rattle.lsp_docs.proofs.Entries.{absent-removed, held_in-of, held-without, is_some-mapped}
 use Rattle.lsp_docs.proofs.Entries.{keeps-none}

@@ -1,8 +1,9 @@
-use Rattle.std.proofs.Common.{refl, string_bytes, subst, sym}
-use Rattle.lsp_replay.specs.Telling.{FitsRests}
-use Rattle.lsp_verdict.specs.TextAfter.{EndsAs}
-use Rattle.lsp_survey.proofs.SurveySteps.{kept_seen, offence_seen}
-use Rattle.lsp_explain.proofs.Comparing.{kept_silent, told_text}
+use Rattle.std.proofs.Common.{◌∙◌, None, Some, ap, refl, sym}
+use Rattle.std.proofs.lemmas.Result.{IfOk-weaker}
+use Rattle.lsp_replay.proofs.AllHeard.{first_after, kept_seen, none_is, offence_seen}
+use Rattle.lsp_replay.proofs.TextRuns.{says_answer, says_none}
+use Rattle.lsp_explain.specs.Compared.{answer_after, answer_behind, answer_of}
+use Rattle.lsp_explain.proofs.Comparing.{answer_is}
 use Rattle.lsp_explain.proofs.compared.OneTextAccount.event.Goals as goal
 
 -- it is kept
@@ -10,20 +11,21 @@ pub returns-in_default : goal.returns-in_default
 returns-in_default c = record {
   asked = refl;
   says = λ terms before h clean seen.
-      kept_silent c.args.self.now.which terms before h (FitsRests c.args.seen)
-      (string_bytes c.args.text.now) clean
-      (kept_seen terms before h c.args.seen c.in_default.not-Offence seen.as_is);
+      let which = c.args.self.now.which in
+      let rule = kept_seen terms before h c.args.seen c.in_default.not-Offence seen.as_is in
+      says_none (answer_after which) answer_behind (answer_is which terms before h None rule)
+      (first_after terms before h clean ∙ none_is terms before h rule);
 }
 
 -- it offends
 pub returns : goal.returns
 returns c = record {
   asked = refl;
-  says = λ terms before h clean seen.
-      let own = offence_seen terms before h c.args.seen _ _ _ c.in-Offence.is seen.as_is in
-      told_text c.args.self.now.which terms before h (FitsRests c.args.seen)
-      (string_bytes c.args.text.now) _ _ _ _ c.in-Offence.rule c.in_ok-boxed.boxed own.1
-      (c.in_ok-texts.ensures terms before h (rw c.in-Offence.is at seen)) c.one_of.ensures
-      c.in_ok-outcome.ensures.0
-      (subst (EndsAs _) (sym c.in_ok-boxed.ensures.ok) c.in_ok-outcome.ensures.1);
+  says = IfOk-weaker c.stop.result _ _ (λ flow stops terms before h clean seen.
+      let which = c.args.self.now.which in
+      let own = offence_seen terms before h c.args.seen _ _ _ _ c.in-Offence.is seen.as_is in
+      says_answer (answer_after which) answer_behind flow stops
+      (answer_is which terms before h (Some c.in-Offence.rule) own.1
+      ∙ ap Some (sym (c.in_ok-one_of.ensures ∙ ap (answer_of which)
+      (c.texts_of-texts.ensures terms before h (rw c.in-Offence.is at seen)))))) c.stop.ensures;
 }

@@ -1,8 +1,7 @@
 use Rattle.std.proofs.Common.{ap, ◌∙◌, w32, option_map}
 use Rattle.std.proofs.lemmas.Int.{to_z-of_z}
 use mir.Val.{SFits}
-use Rattle.lsp_explain.specs.Marking.{last_shown, shown_at}
-use Rattle.lsp_explain.specs.Marks.{places_in}
+use Rattle.lsp_explain.specs.Marking.{at_version, last_shown, places_in}
 use Rattle.lsp_explain.proofs.notes.mark.last_of.Goals as goal
 
 pub returns-in_err-places : goal.returns-in_err-places
@@ -17,5 +16,5 @@ returns-in_err-place c =
     let fits : SFits w32 c.args.version = c.ranges.version in
     let found = simp to_z-of_z at c.in_ok-places.ensures.value in
     c.from_residual-in_err-place.ensures
-    ∙ ap (option_map (shown_at c.args.version c.args.rank)) c.in_err-place.ensures.value
+    ∙ ap (option_map (λ p. at_version c.args.rank p c.args.version)) c.in_err-place.ensures.value
     ∙ ap (last_shown c.args.version c.args.rank) (c.as_slice.ensures.value ∙ ap places_in found)

@@ -1,15 +1,21 @@
-use Rattle.std.proofs.Common.{ap, ◌∙◌}
-use Rattle.std.specs.Option.{option_or}
-use Rattle.lsp_explain.specs.Openings.{last_on, ons_view}
-use Rattle.lsp_explain.proofs.OpeningSteps.{last_on-append}
+use Rattle.std.proofs.Common.{ap, ◌∙◌, option_map}
+use Rattle.lsp_explain.specs.History.{OnDocument}
+use Rattle.lsp_explain.specs.Openings.{is_on, on_view}
+use Rattle.lsp_explain.proofs.History.{last_held}
 use Rattle.lsp_explain.proofs.notes.openings.last_on.Goals as goal
 
-pub returns : goal.returns
-returns c =
-    let uri = c.args.uri.now in
-    let first = c.as_slices.result.0.now in
-    let second = c.as_slices.result.1.now in
-    c.or.ensures
-    ∙ (λ i. option_or (c.last_in.ensures i) (c.last_in-2.ensures i))
-    ∙ last_on-append uri first second
-    ∙ ap (λ held. last_on uri (ons_view held)) c.as_slices.ensures.items
+pub returns-in-Some : goal.returns-in-Some
+returns-in-Some c =
+    ap (option_map (λ (on : OnDocument). on.place))
+    (ap (λ o. option_map on_view (option_map (λ r. r.now) o)) c.in-Some.ensures
+    ∙ last_held on_view (is_on c.args.uri.now) c.as_slices.result.0.now c.as_slices.result.1.now
+    c.args.held.now.items c.last_in-2.result c.last_in.result c.last_in-2.ensures
+    c.last_in.ensures c.as_slices.ensures.items)
+
+pub returns-in-None : goal.returns-in-None
+returns-in-None c =
+    ap (option_map (λ (on : OnDocument). on.place))
+    (ap (λ o. option_map on_view (option_map (λ r. r.now) o)) c.in-None.ensures
+    ∙ last_held on_view (is_on c.args.uri.now) c.as_slices.result.0.now c.as_slices.result.1.now
+    c.args.held.now.items c.last_in-2.result c.last_in.result c.last_in-2.ensures
+    c.last_in.ensures c.as_slices.ensures.items)

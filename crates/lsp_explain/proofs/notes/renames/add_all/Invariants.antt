@@ -1,6 +1,6 @@
 use Rattle.std.proofs.Common.{take}
 use Rattle.lsp_explain.specs.Renames.{Moves, each_move}
-use Rattle.lsp_explain.specs.Touched.{names_view}
+use Rattle.lsp_explain.specs.Openings.{names_view}
 use Rattle.lsp_explain.proofs.notes.renames.add_all.Given as goal
 
 abbrev pub invariant-loop-uri : goal.invariant-loop-uri

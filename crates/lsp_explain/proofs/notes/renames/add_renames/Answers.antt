@@ -3,7 +3,7 @@ use Rattle.std.specs.Global.{Global}
 use Rattle.std.proofs.Common.{Some, ap, sym, ◌∙◌}
 use Rattle.std.proofs.lemmas.Result.{on_ok_weaker}
 use Rattle.serde_json.specs.View.{view}
-use Rattle.lsp_explain.specs.Touched.{names_view}
+use Rattle.lsp_explain.specs.Openings.{names_view}
 use Rattle.lsp_explain.proofs.RenameSteps.{renames_given}
 use Rattle.lsp_explain.proofs.notes.renames.add_renames.Goals as goal
 

@@ -2,7 +2,7 @@ use Rattle.std.proofs.Common.{◌≡◌, ◌++◌, option_map, drop}
 use Rattle.serde_json.specs.View.{items_view}
 use Rattle.serde_json.specs.Find.{as_str}
 use Rattle.lsp_rpc.specs.Params.{all_of, required}
-use Rattle.lsp_explain.specs.Touched.{names_view}
+use Rattle.lsp_explain.specs.Openings.{names_view}
 use Rattle.lsp_explain.proofs.notes.renames.each_uri.Given as goal
 
 abbrev pub invariant-loop-file : goal.invariant-loop-file

@@ -1,16 +1,13 @@
-use Rattle.std.proofs.Common.{◌≡◌, ◌∙◌, ◌++◌, ap, refl, string_bytes, subst, sym}
-use Rattle.lsp_docs.specs.Terms.{Terms}
-use Rattle.lsp_replay.proofs.Following.{whose_read}
-use Rattle.lsp_replay.proofs.SeenLines.{counted_on, few_on}
+use Rattle.std.proofs.Common.{◌≡◌, ◌∙◌, ◌++◌, ap, refl, string_bytes, subst}
+use Rattle.lsp_docs.specs.Documents.{Terms}
+use Rattle.lsp_replay.proofs.AllHeard.{kept_seen, offence_seen}
 use Rattle.lsp_replay.specs.Telling.{FitsRests}
-use Rattle.lsp_survey.proofs.SurveySteps.{kept_seen, offence_seen}
 use Rattle.lsp_verdict.specs.Given.{verdict_view}
 use Rattle.lsp_verdict.specs.Heard.{heard_events}
-use Rattle.lsp_verdict.specs.Offences.{IsNoted, Offence}
-use Rattle.lsp_verdict.specs.Placed.{Raw}
+use Rattle.lsp_verdict.specs.Offences.{Offence}
 use Rattle.lsp_explain.specs.Remarks.{noticed, remark_lines, remarks_of}
 use Rattle.lsp_explain.proofs.AccountSteps.{first_kept, first_told}
-use Rattle.lsp_explain.proofs.Telling.{by_rule_of, seen_of, stands_before, told_of}
+use Rattle.lsp_explain.proofs.Telling.{stands_before, told_of}
 use Rattle.lsp_explain.proofs.run.FirstOffenceAccount.event.Goals as goal
 
 -- it is kept
@@ -31,22 +28,16 @@ returns c = record {
       let rule = c.in-Offence.rule in
       let offence = c.last_offence-offence.result in
       let verdict = c.verdict-verdict.result in
-      let own = offence_seen terms before h c.args.seen _ _ _ c.in-Offence.is seen.as_is in
-      let noted = subst (λ (w : Raw). IsNoted w h.note) own.0 seen.noted in
-      let last = c.last_offence-offence.ensures (heard_events before) h.note.event
-      (counted_on before h _ seen.few seen.stood.counted)
-      (c.who.ensures ∙ sym (whose_read _ h.note.event noted.0))
-      (few_on before h _ seen.few seen.stood.counted) in
-      let named = by_rule_of offence (heard_events before) h.note.event rule _ last in
-      let here = seen_of terms before h c.args.seen c.in-Offence.raw rule c.in-Offence.spoken
-      offence c.in-Offence.is named.0 _ _ _ seen in
+      let own = offence_seen terms before h c.args.seen _ _ _ _ c.in-Offence.is seen.as_is in
+      let last = c.last_offence-offence.ensures before h seen.stood.counted seen.few own.0
+      seen.noted in
       first_told terms before h c.args.self.now c.args.self.now stands (FitsRests c.args.seen)
       (string_bytes c.args.text.now) _ rule verdict c.in_ok-boxed.boxed _ _
       c.in_ok-boxed.ensures.ok own.1
       (c.verdict-verdict.ensures ∙ ap (λ (x : Offence). x.no) last)
-      (told_of terms before h c.args.seen c.in-Offence.raw rule c.in-Offence.spoken offence
-      c.in-Offence.is named.0 _ _
-      (c.in_ok-push_offence.ensures terms before h stands.noted here named.1))
+      (told_of terms before h c.args.seen c.in-Offence.raw rule c.in-Offence.spoken
+      c.in-Offence.tried offence _ _ _ _ _ _ c.in-Offence.is last seen
+      (c.in_ok-push_offence.ensures terms before h stands.noted))
       (subst (λ (t : Terms). string_bytes c.push_remarks.new.lines
       ≡ string_bytes c.push_offence.new.text ++ remark_lines (remarks_of
       (verdict_view verdict) (noticed t (heard_events before)))) seen.stood.by

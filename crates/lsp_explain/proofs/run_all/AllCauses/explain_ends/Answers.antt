@@ -7,9 +7,8 @@ use Rattle.lsp_survey.specs.Reported.{IsTally}
 use Rattle.lsp_survey.proofs.Reporting.{tally_more}
 use Rattle.lsp_verdict.specs.Given.{offence_view}
 use Rattle.lsp_verdict.specs.Heard.{heard_events}
-use Rattle.lsp_explain.specs.Accounts.{rests_held}
-use Rattle.lsp_explain.specs.AllExplained.{cause_lines}
-use Rattle.lsp_explain.specs.ExplainRuns.{ends_said}
+use Rattle.lsp_explain.specs.ExplainRuns.{rests_held, ends_said}
+use Rattle.lsp_explain.specs.Explained.{cause_lines}
 use Rattle.lsp_explain.specs.Trails.{IsTrail}
 use Rattle.lsp_explain.specs.declared.trail.Trail.{Trail}
 use Rattle.lsp_explain.proofs.Ending.{ends_more}

@@ -1,15 +1,14 @@
 use Rattle.std.specs.List.{flat_map}
 use Rattle.std.specs.Prelude.{take}
 use Rattle.std.proofs.Common.{◌≡◌, ◌++◌, List, map, string_bytes}
-use Rattle.lsp_docs.specs.Terms.{Terms}
+use Rattle.lsp_docs.specs.Documents.{Terms}
 use Rattle.lsp_replay.specs.Telling.{Stood}
 use Rattle.lsp_survey.specs.Reported.{IsTally}
 use Rattle.lsp_verdict.specs.Given.{offence_view}
 use Rattle.lsp_verdict.specs.Heard.{Heard, heard_events}
 use Rattle.lsp_verdict.specs.Offences.{Offence}
-use Rattle.lsp_explain.specs.Accounts.{rests_held}
-use Rattle.lsp_explain.specs.AllExplained.{cause_lines}
-use Rattle.lsp_explain.specs.ExplainRuns.{ends_said}
+use Rattle.lsp_explain.specs.ExplainRuns.{rests_held, ends_said}
+use Rattle.lsp_explain.specs.Explained.{cause_lines}
 use Rattle.lsp_explain.specs.Trails.{IsTrail}
 use Rattle.lsp_explain.proofs.run_all.AllCauses.explain_ends.Given as goal
 

@@ -1,13 +1,9 @@
-use Rattle.std.proofs.Common.{◌∙◌, refl, string_bytes, subst, sym}
+use Rattle.std.proofs.Common.{refl, string_bytes}
 use Rattle.lsp_replay.specs.Telling.{FitsRests}
-use Rattle.lsp_replay.proofs.Following.{whose_read}
-use Rattle.lsp_replay.proofs.SeenLines.{counted_on, few_on}
-use Rattle.lsp_survey.proofs.SurveySteps.{kept_seen, offence_is, offence_seen}
-use Rattle.lsp_verdict.specs.Heard.{heard_events}
-use Rattle.lsp_verdict.specs.Offences.{IsNoted}
-use Rattle.lsp_verdict.specs.Placed.{Raw}
+use Rattle.lsp_replay.proofs.AllHeard.{kept_seen, offence_seen}
+use Rattle.lsp_survey.proofs.SurveySteps.{offence_is}
 use Rattle.lsp_explain.proofs.AccountSteps.{all_kept, all_late, all_told}
-use Rattle.lsp_explain.proofs.Telling.{by_rule_of, seen_of, told_of}
+use Rattle.lsp_explain.proofs.Telling.{told_of}
 use Rattle.lsp_explain.proofs.Trails.{trail_past}
 use Rattle.lsp_explain.proofs.run_all.AllCausesAccount.event.Goals as goal
 
@@ -29,13 +25,9 @@ returns-then-follows c = record {
   asked = refl;
   says = λ terms before h stands seen.
       let told = c.in_ok-follows.ensures terms before h stands.lost seen in
-      let own = offence_seen terms before h c.args.seen _ _ _ c.in-Offence.is seen.as_is in
-      let noted = subst (λ (w : Raw). IsNoted w h.note) own.0 seen.noted in
+      let own = offence_seen terms before h c.args.seen _ _ _ _ c.in-Offence.is seen.as_is in
       let is = offence_is terms before h c.in-Offence.rule _ _ own.1 told.late_is
-      (c.last_offence-offence.ensures (heard_events before) h.note.event
-      (counted_on before h _ seen.few seen.stood.counted)
-      (c.who.ensures ∙ sym (whose_read _ h.note.event noted.0))
-      (few_on before h _ seen.few seen.stood.counted)) in
+      (c.last_offence-offence.ensures before h seen.stood.counted seen.few own.0 seen.noted) in
       all_late terms before h c.args.self.now _ stands (FitsRests c.args.seen)
       (string_bytes c.args.text.now) _ told c.in-Offence.rule _ c.if-follows.true own.1 is
       c.add.ensures (trail_past terms before h _ stands.noted c.in-Offence.rule own.1);
@@ -49,20 +41,14 @@ returns c = record {
       let rule = c.in-Offence.rule in
       let offence = c.last_offence-offence.result in
       let told = c.in_ok-follows.ensures terms before h stands.lost seen in
-      let own = offence_seen terms before h c.args.seen _ _ _ c.in-Offence.is seen.as_is in
-      let noted = subst (λ (w : Raw). IsNoted w h.note) own.0 seen.noted in
-      let last = c.last_offence-offence.ensures (heard_events before) h.note.event
-      (counted_on before h _ seen.few seen.stood.counted)
-      (c.who.ensures ∙ sym (whose_read _ h.note.event noted.0))
-      (few_on before h _ seen.few seen.stood.counted) in
+      let own = offence_seen terms before h c.args.seen _ _ _ _ c.in-Offence.is seen.as_is in
+      let last = c.last_offence-offence.ensures before h seen.stood.counted seen.few own.0
+      seen.noted in
       let is = offence_is terms before h rule _ _ own.1 told.late_is last in
-      let named = by_rule_of offence (heard_events before) h.note.event rule _ last in
-      let here = seen_of terms before h c.args.seen c.in-Offence.raw rule c.in-Offence.spoken
-      offence c.in-Offence.is named.0 _ _ _ seen in
       all_told terms before h c.args.self.now _ stands (FitsRests c.args.seen)
       (string_bytes c.args.text.now) _ told rule _ _ c.if-follows.false own.1 is c.add.ensures
       (trail_past terms before h _ stands.noted rule own.1)
-      (told_of terms before h c.args.seen c.in-Offence.raw rule c.in-Offence.spoken offence
-      c.in-Offence.is named.0 _ _
-      (c.in_ok-push_offence.ensures terms before h stands.noted here named.1));
+      (told_of terms before h c.args.seen c.in-Offence.raw rule c.in-Offence.spoken
+      c.in-Offence.tried offence _ _ _ _ _ _ c.in-Offence.is last seen
+      (c.in_ok-push_offence.ensures terms before h stands.noted));
 }

@@ -2,7 +2,7 @@ use Rattle.lsp_explain.proofs.trail.Trail.new.Goals as goal
 
 pub returns : goal.returns
 returns c = λ terms. record {
-  marked = c.new.ensures terms;
-  opened = c.new-2.ensures terms;
-  noted = c.new-3.ensures terms;
+  marked = c.new.ensures;
+  opened = c.new-2.ensures;
+  noted = c.new-3.ensures;
 }

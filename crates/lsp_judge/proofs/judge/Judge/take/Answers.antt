@@ -3,8 +3,8 @@ use Rattle.lsp_log.specs.Records.{record_view}
 use Rattle.lsp_verdict.specs.Given.{verdict_view}
 use Rattle.lsp_judge.specs.Standing.{State}
 use Rattle.lsp_judge.proofs.Answering.{keeps_given, keeps_ungiven, taken_no, taken_clean}
-use Rattle.lsp_judge.proofs.Records.{given_stays, given_verdict, is_open, none_verdict}
-use Rattle.lsp_judge.proofs.Records.{open_stands, rule_verdict, ruled_stands}
+use Rattle.lsp_judge.proofs.Records.{given_stays, given_verdict, is_open, none_verdict, open_stands}
+use Rattle.lsp_judge.proofs.Records.{rule_verdict, ruled_stands}
 use Rattle.lsp_judge.proofs.judge.Judge.take.Goals as goal
 
 pub returns-in-Some-clause-keeps : goal.returns-in-Some-clause-keeps

@@ -7,11 +7,11 @@ use Rattle.lsp_types.specs.declared.change.SyncKind.TheVariants.{Nothing}
 use Rattle.lsp_session.specs.Laws.{sent_by}
 use Rattle.lsp_session.specs.State as session
 use Rattle.lsp_docs.specs.State as docs
-use Rattle.lsp_verdict.specs.Calls.{calls}
-use Rattle.lsp_verdict.specs.Event.{sent_in}
+use Rattle.lsp_verdict.specs.Event.{calls, sent_in}
 use Rattle.lsp_verdict.proofs.Offences.Quiet.{leaves_session}
 use Rattle.lsp_replay.proofs.Apart.{same_act, same_outline, whole_left, carried, rule_named}
 use Rattle.lsp_replay.proofs.Hearing.{message_refused, call_refused, heard, call_named, call_said, call_taken}
+use Rattle.lsp_replay.proofs.Trying.{not_tried, tried_under}
 use Rattle.lsp_replay.proofs.events.Events.follow.Goals as goal
 
 pub returns-in_err-admit-clause-rule : goal.returns-in_err-admit-clause-rule
@@ -25,6 +25,13 @@ returns-in_err-admit-clause-rule g c =
     rw p.2 (message_refused c.args.side content _ events (sent_by c.args.side act h.whole) (record { by = refl; reads = h.reads; means = means }) left (same_outline h.said h.whole left h.rest h.apart.same) _
     (rule_named (sent_in events) c.args.side act left h.whole _ carries (c.in_err-admit.ensures.rule (sent_in events) holds.sent))
     (whole_left h.said h.whole left h.rest (sent_in events) (h.apart.read (sent_in events) holds.sent))))
+
+pub returns-in_err-admit-clause-tried : goal.returns-in_err-admit-clause-tried
+returns-in_err-admit-clause-tried g c =
+    let p = err_from_is_err_and c.from_residual.result c.from_residual.ensures.1 in
+    rw p.1 (λ events holds.
+    rw p.2 (not_tried c.args.self.now.docs.terms events (act_view c.args.spoken.now.act) _ (sent_in events) _ _
+    (c.in_err-admit.ensures.rule (sent_in events) holds.sent)))
 
 pub returns-in_err-admit-clause-err : goal.returns-in_err-admit-clause-err
 returns-in_err-admit-clause-err g c =
@@ -49,6 +56,16 @@ returns-in_err-apply-clause-rule g c =
     (c.unwrap_or-kind.ensures ∙ ap (λ o. unwrap_or o Nothing) (c.sync_kind.ensures (sent_in events) holds.sent))
     _ (call_named c.args.self.now.docs (calls events) holds.called _ _ c.in_err-apply.ensures.refuses)
     (whole_left h.said h.whole left h.rest (sent_in events) (h.apart.read (sent_in events) holds.sent))))
+
+pub returns-in_err-apply-clause-tried : goal.returns-in_err-apply-clause-tried
+returns-in_err-apply-clause-tried g c =
+    let p = err_from_is_err_and c.from_residual-in_err-apply.result c.from_residual-in_err-apply.ensures.1 in
+    rw p.1 (λ events holds.
+    rw p.2 (tried_under c.args.self.now.docs.terms events (act_view c.args.spoken.now.act) _ c.unwrap_or-encoding.result
+    c.unwrap_or-kind.result
+    (c.unwrap_or-encoding.ensures ∙ ap (λ o. unwrap_or o Utf16) (c.encoding.ensures (sent_in events) holds.sent))
+    (c.unwrap_or-kind.ensures ∙ ap (λ o. unwrap_or o Nothing) (c.sync_kind.ensures (sent_in events) holds.sent))
+    _ (c.in_err-apply.ensures.tried (calls events) holds.called)))
 
 pub returns-in_err-apply-clause-err : goal.returns-in_err-apply-clause-err
 returns-in_err-apply-clause-err g c =

@@ -1,5 +1,5 @@
 use Rattle.std.proofs.Common.{[], ◌∷◌, ◌++◌}
-use Rattle.lsp_replay.proofs.EventPlaces.{place_counted}
+use Rattle.lsp_replay.proofs.SeenLines.{place_counted}
 use Rattle.lsp_replay.proofs.heard.EventPlace.last.Goals as goal
 
 pub returns : goal.returns

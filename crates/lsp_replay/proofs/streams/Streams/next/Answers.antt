@@ -1,5 +1,5 @@
 use Rattle.std.proofs.Common.{Some, None, refl}
-use Rattle.lsp_replay.proofs.Fewer.{fewer}
+use Rattle.lsp_replay.proofs.Pulling.{fewer}
 use Rattle.lsp_replay.proofs.Streaming.{stepped, lent}
 use Rattle.lsp_replay.proofs.streams.Streams.next.Goals as goal
 

@@ -2,8 +2,8 @@ use Rattle.std.proofs.Common.{ap, ◌∙◌, w32, rules}
 use Rattle.std.proofs.lemmas.Int.{to_z-of_z}
 use mir.Val.{SFits}
 use Rattle.lsp_frame.specs.Decoder.{State}
-use Rattle.lsp_replay.proofs.Streaming.{editor_pushed, pushed_fault, pushed_limits, server_pushed}
-use Rattle.lsp_replay.proofs.Streaming.{shown_pushed}
+use Rattle.lsp_types.specs.declared.side.Side.TheVariants.{Editor, Server}
+use Rattle.lsp_replay.proofs.Streaming.{pushed_fault, pushed_limits, shown_pushed, side_pushed}
 use Rattle.lsp_replay.proofs.streams.Streams.push.Goals as goal
 
 pub returns-in_ok-push_owned-in-Bytes-Editor-default-clause-ok :
@@ -16,7 +16,7 @@ returns-in_ok-push_owned-in-Bytes-Editor-default-clause-ok c =
     let stands = pushed.stands in
     rw (← c.self.view_is, at.is, at.side-is)
     (λ limits records given h.
-    editor_pushed limits records given _ _ at.bytes.items same fault stands h)
+    side_pushed limits records given Editor _ _ at.bytes.items same fault stands h)
 
 pub returns-in_ok-push_owned-in-Bytes-Server-default-clause-ok :
     goal.returns-in_ok-push_owned-in-Bytes-Server-default-clause-ok
@@ -28,7 +28,7 @@ returns-in_ok-push_owned-in-Bytes-Server-default-clause-ok c =
     let stands = pushed.stands in
     rw (← c.self.view_is, at.is, at.side-is)
     (λ limits records given h.
-    server_pushed limits records given _ _ at.bytes.items same fault stands h)
+    side_pushed limits records given Server _ _ at.bytes.items same fault stands h)
 
 pub returns-in-Snapshot-clause-ok : goal.returns-in-Snapshot-clause-ok
 returns-in-Snapshot-clause-ok c =

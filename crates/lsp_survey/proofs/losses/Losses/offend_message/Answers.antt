@@ -3,9 +3,9 @@ use Rattle.std.proofs.Common.{◌∙◌, Bool, Some, None, false, ap, subst}
 use Rattle.lsp_rpc.specs.View.{act_view, message_view}
 use Rattle.lsp_survey.specs.Lost.{follows_of}
 use Rattle.lsp_survey.specs.Notes.{Leaves, is_noted_lost}
-use Rattle.lsp_verdict.specs.Calls.{call_of, calls}
+use Rattle.lsp_verdict.specs.Event.{call_of, calls}
 use Rattle.lsp_verdict.specs.Offences.{breaks_handshake, events_of, is_reopened, kept_of}
-use Rattle.lsp_docs.specs.Terms.{Terms}
+use Rattle.lsp_docs.specs.Documents.{Terms}
 use Rattle.lsp_survey.proofs.PassedSteps.{message_initialized, message_passes}
 use Rattle.lsp_survey.proofs.SidesSteps.{message_after, message_answers}
 use Rattle.lsp_survey.proofs.losses.Losses.offend_message.Goals as goal

@@ -2,8 +2,7 @@ use Rattle.std.specs.Prelude.{List, Option, ℕ, ◌||◌, option_and_then}
 use Rattle.std.proofs.Common.{◌∙◌, false, None, Some, sym, ap, subst}
 use Rattle.std.proofs.Math.Bool.{or-false}
 use Rattle.lsp_rpc.specs.Ident.{Ident}
-use Rattle.lsp_survey.specs.Notes.{Leaves}
-use Rattle.lsp_survey.specs.Passed.{SetsAny}
+use Rattle.lsp_survey.specs.Notes.{Leaves, SetsAny}
 use Rattle.lsp_survey.specs.declared.losses.Losses.{Losses}
 use Rattle.lsp_survey.specs.declared.notes.note.Notes.{Notes}
 use Rattle.lsp_survey.specs.declared.notes.passed.Passed.{Passed}

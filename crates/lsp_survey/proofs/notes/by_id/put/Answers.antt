@@ -2,7 +2,7 @@ use Rattle.std.proofs.Common.{Some, ap, ◌∙◌}
 use Rattle.lsp_rpc.specs.Ident.{id_view, same_id}
 use Rattle.lsp_rpc.specs.contracts.message.IdPartialEq.TheImpl.{eq-value}
 use Rattle.lsp_session.proofs.Ids.{eq_is_same_id}
-use Rattle.lsp_survey.proofs.ById.{updates_in}
+use Rattle.lsp_survey.proofs.PassedSteps.{updates_in}
 use Rattle.lsp_survey.proofs.notes.by_id.put.Goals as goal
 
 pub returns : goal.returns

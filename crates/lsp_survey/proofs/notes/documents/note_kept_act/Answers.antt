@@ -1,6 +1,6 @@
 use Rattle.lsp_rpc.specs.View.{act_view}
 use Rattle.lsp_survey.proofs.Noting.{nothing_noted}
-use Rattle.lsp_verdict.specs.Calls.{call_of}
+use Rattle.lsp_verdict.specs.Event.{call_of}
 use Rattle.lsp_survey.proofs.notes.documents.note_kept_act.Goals as goal
 
 pub returns-then-is_empty : goal.returns-then-is_empty

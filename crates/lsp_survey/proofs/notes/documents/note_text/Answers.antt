@@ -3,7 +3,7 @@ use Rattle.std.proofs.Common.{sym, refl, ◌∙◌}
 use Rattle.std.proofs.lemmas.Result.{on_ok_weaker}
 use Rattle.lsp_docs.specs.Calls.{opens, changes}
 use Rattle.lsp_rpc.specs.View.{changes_view}
-use Rattle.lsp_verdict.specs.Calls.{edit_of}
+use Rattle.lsp_verdict.specs.Event.{edit_of}
 use Rattle.lsp_survey.proofs.Noting.{any_renews, notes_stay, kept_leaves}
 use Rattle.lsp_survey.proofs.notes.documents.note_text.Goals as goal
 

@@ -1,7 +1,6 @@
 use Rattle.std.proofs.Common.{Some, ap, ◌∙◌}
 use Rattle.std.specs.Prelude.{is_some}
-use Rattle.lsp_survey.proofs.Noting.{some_put}
-use Rattle.lsp_survey.proofs.Putting.{puts-key}
+use Rattle.lsp_survey.proofs.Noting.{some_put, puts-key}
 use Rattle.lsp_survey.proofs.notes.note.add.Goals as goal
 
 pub returns : goal.returns

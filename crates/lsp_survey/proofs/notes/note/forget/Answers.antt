@@ -1,7 +1,6 @@
 use Rattle.std.proofs.Common.{None, ap, ◌∙◌}
 use Rattle.std.specs.Prelude.{is_some}
-use Rattle.lsp_survey.proofs.Noting.{some_put}
-use Rattle.lsp_survey.proofs.Putting.{puts}
+use Rattle.lsp_survey.proofs.Noting.{some_put, puts}
 use Rattle.lsp_survey.proofs.notes.note.forget.Goals as goal
 
 pub returns : goal.returns

@@ -1,13 +1,10 @@
-use Rattle.std.proofs.Common.{◌∙◌, ◌++◌, ◌∷◌, [], ap, refl, string_bytes, subst, sym}
-use Rattle.lsp_replay.proofs.Following.{whose_read}
-use Rattle.lsp_replay.proofs.SeenLines.{counted_on, few_on}
+use Rattle.std.proofs.Common.{◌∙◌, ◌++◌, ◌∷◌, [], ap, refl, string_bytes}
+use Rattle.lsp_replay.proofs.AllHeard.{kept_seen, offence_seen}
 use Rattle.lsp_survey.specs.Reported.{lines_of}
 use Rattle.lsp_survey.specs.SurveyRun.{event_said}
-use Rattle.lsp_survey.proofs.SurveySteps.{kept_said, kept_seen, kept_stands, offence_is, offence_said}
-use Rattle.lsp_survey.proofs.SurveySteps.{offence_seen, offence_stands}
-use Rattle.lsp_verdict.specs.Heard.{heard_events}
-use Rattle.lsp_verdict.specs.Offences.{IsNoted, Offence}
-use Rattle.lsp_verdict.specs.Placed.{Raw}
+use Rattle.lsp_survey.proofs.SurveySteps.{kept_said, kept_tally, offence_is, offence_said}
+use Rattle.lsp_survey.proofs.SurveySteps.{offence_tally}
+use Rattle.lsp_verdict.specs.Offences.{Offence}
 use Rattle.lsp_survey.proofs.survey.SurveyAccount.event.Goals as goal
 
 -- it is kept
@@ -23,7 +20,13 @@ returns-in_default c = record {
         added = c.in_ok-show.ensures terms before h seen rule
             ∙ ap (λ w. string_bytes c.args.text.now ++ w) (kept_said terms before h old.options rule);
         is = λ rests fits. refl;
-        goes = (refl, kept_stands terms before h old _ _ stands told rule refl);
+        goes = (
+          refl,
+          record {
+            losses = told.losses;
+            tally = kept_tally terms before h _ _ stands.tally rule refl;
+          },
+        );
       };
 }
 
@@ -32,13 +35,9 @@ pub returns-clause-says : goal.returns-clause-says
 returns-clause-says c = λ terms before h stands seen.
     let old = c.args.self.now in
     let told = c.in_ok-follows.ensures terms before h stands.losses seen in
-    let own = offence_seen terms before h c.args.seen _ _ _ c.in-Offence.is seen.as_is in
-    let noted = subst (λ (w : Raw). IsNoted w h.note) own.0 seen.noted in
+    let own = offence_seen terms before h c.args.seen _ _ _ _ c.in-Offence.is seen.as_is in
     let is = offence_is terms before h c.in-Offence.rule _ _ own.1 told.late_is
-    (c.last_offence-offence.ensures (heard_events before) h.note.event
-    (counted_on before h _ seen.few seen.stood.counted)
-    (c.who.ensures ∙ sym (whose_read _ h.note.event noted.0))
-    (few_on before h _ seen.few seen.stood.counted)) in
+    (c.last_offence-offence.ensures before h seen.stood.counted seen.few own.0 seen.noted) in
     record {
       said = event_said old.options terms before h;
       added = c.in_ok-list.ensures.said
@@ -49,7 +48,10 @@ returns-clause-says c = λ terms before h stands seen.
       is = λ rests fits. refl;
       goes = (
         refl,
-        offence_stands terms before h old _ _ stands told c.in-Offence.rule _ own.1 is
-            c.in_ok-list.ensures.tally,
+        record {
+          losses = told.losses;
+          tally = offence_tally terms before h _ _ stands.tally c.in-Offence.rule _ own.1 is
+              c.in_ok-list.ensures.tally;
+        },
       );
     }

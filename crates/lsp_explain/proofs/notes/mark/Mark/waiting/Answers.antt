@@ -1,7 +1,7 @@
 use Rattle.std.proofs.Common.{ap, ◌∙◌, w32}
 use Rattle.std.proofs.lemmas.Int.{to_z-of_z}
 use mir.Val.{SFits}
-use Rattle.lsp_explain.specs.Marks.{places_in}
+use Rattle.lsp_explain.specs.Marking.{places_in}
 use Rattle.lsp_explain.proofs.notes.mark.Mark.waiting.Goals as goal
 
 pub returns-in-Some : goal.returns-in-Some

@@ -2,8 +2,7 @@ use Rattle.std.proofs.Common.{Option, ap, ◌∙◌, w32, option_map, List}
 use Rattle.std.specs.Prelude.{unwrap_or}
 use Rattle.std.proofs.lemmas.Int.{to_z-of_z}
 use mir.Val.{SFits}
-use Rattle.lsp_explain.specs.Marking.{Marked, unmarked}
-use Rattle.lsp_explain.specs.Marks.{mark_view}
+use Rattle.lsp_explain.specs.Marking.{Marked, unmarked, mark_view}
 use Rattle.lsp_explain.specs.declared.notes.mark.Mark.{Mark}
 use Rattle.lsp_replay.specs.declared.heard.EventPlace.{EventPlace}
 use Rattle.lsp_explain.proofs.notes.marks.Marks.waiting.Goals as goal

@@ -1,0 +1,48 @@
+use Rattle.std.specs.Prelude.{option_map}
+use Rattle.std.proofs.Common.{◌∙◌, ap, sym}
+use Rattle.std.proofs.lemmas.Result.{IfOk-weaker}
+use Rattle.lsp_replay.specs.TextAnswers.{TextAsked, text_at, text_behind}
+use Rattle.lsp_replay.proofs.TextRuns.{held_at, missing_at, no_refusal, none_at, still_to_come}
+use Rattle.lsp_replay.proofs.TextRuns.{says_answer, says_none}
+use Rattle.lsp_verdict.specs.Given.{verdict_view}
+use Rattle.lsp_replay.proofs.held_text.HeldTextAccount.event.Goals as goal
+
+pub returns-in-Some-clause-says : goal.returns-in-Some-clause-says
+returns-in-Some-clause-says c = IfOk-weaker c.stop.result _ _ (λ flow stops terms before h few seen.
+    let self = c.args.self.now in
+    let asked : TextAsked = record {
+      number = self.number;
+      uri = self.uri.now;
+      skips = self.skips;
+    } in
+    says_answer (text_at asked) text_behind flow stops (missing_at asked terms before h _ _
+    (sym (c.refusal.ensures terms before h seen) ∙ ap (option_map verdict_view) c.in-Some.is)
+    c.missing.ensures)) c.stop.ensures
+
+pub returns-then-held-self-clause-says : goal.returns-then-held-self-clause-says
+returns-then-held-self-clause-says c = λ terms before h few seen.
+    let self = c.args.self.now in
+    let asked : TextAsked = record {
+      number = self.number;
+      uri = self.uri.now;
+      skips = self.skips;
+    } in
+    let none = no_refusal asked terms before h c.refusal.result c.in_default.not-Some
+    (c.refusal.ensures terms before h seen) in
+    let other = c.if-held-self.true in
+    says_none (text_at asked) text_behind
+    (none_at asked terms before h seen.stood seen.few few none other)
+    (still_to_come asked terms before h seen.stood seen.few few none other)
+
+pub returns-clause-says : goal.returns-clause-says
+returns-clause-says c = IfOk-weaker c.stop-2.result _ _ (λ flow stops terms before h few seen.
+    let self = c.args.self.now in
+    let asked : TextAsked = record {
+      number = self.number;
+      uri = self.uri.now;
+      skips = self.skips;
+    } in
+    let none = no_refusal asked terms before h c.refusal.result c.in_default.not-Some
+    (c.refusal.ensures terms before h seen) in
+    says_answer (text_at asked) text_behind flow stops (held_at asked terms before h seen.stood
+    seen.few few none _ c.if-held-self.false c.in_ok-held.ensures)) c.stop-2.ensures
