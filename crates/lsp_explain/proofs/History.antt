@@ -1,7 +1,7 @@
--- What the kept events do, and the last ones of a list, with one more.
+-- What the kept events do, the last ones of a list, and the documents that were opened, closed, changed and shown, with one more.
 use Rattle.std.specs.Prelude.{◌-◌, drop, length, map, nat_lt, not, option_map, reverse}
-use Rattle.std.specs.Prelude.{if◌then◌else◌, is_some}
-use Rattle.std.specs.List.{find, take_while, cons_option}
+use Rattle.std.specs.Prelude.{if◌then◌else◌, is_some, string_bytes, ◌||◌, String}
+use Rattle.std.specs.List.{find, take_while, cons_option, fold, list_any}
 use Rattle.std.specs.Option.{option_or}
 use Rattle.std.proofs.Common.{◌≡◌, ◌<◌, ◌+◌, ℕ, Bool, true, false, List, [], ◌∷◌, ◌++◌, Bor, Option}
 use Rattle.std.proofs.Common.{Some, None, refl, sym, ap, ◌∙◌, arith, append-nil}
@@ -9,8 +9,10 @@ use Rattle.std.proofs.lemmas.Bool.Decides.{nat_tests}
 use Rattle.std.proofs.lemmas.List.{drop-append-le, drop-drop, drop-map, length-drop, length-map}
 use Rattle.std.proofs.lemmas.List.{length_push, map-append, reverse-append}
 use Rattle.std.proofs.lemmas.List.Folds.{find-append}
-use Rattle.std.proofs.lemmas.List.Sums.{take_while-cons}
+use Rattle.std.proofs.lemmas.List.Sums.{take_while-cons, fold-append}
 use Rattle.std.proofs.lemmas.List.Elements.{filter_map-append}
+use Rattle.std.specs.Global.{Global}
+use Rattle.std.specs.Str.{bytes_eq}
 use Rattle.lsp_docs.specs.Documents.{Terms}
 use Rattle.lsp_verdict.specs.Event.{Event}
 use Rattle.lsp_verdict.specs.Offences.{kept_of, rule_at}
@@ -18,8 +20,12 @@ use Rattle.lsp_verdict.proofs.LookBackLemmas.{each_of-snoc}
 use Rattle.lsp_replay.specs.Lines.{place_of}
 use Rattle.lsp_replay.specs.declared.heard.EventPlace.{EventPlace}
 use Rattle.lsp_explain.specs.History.{last_ones, last_that, since_last, with_room, KeptCall, doing}
-use Rattle.lsp_explain.specs.History.{each_kept, kept_as}
+use Rattle.lsp_explain.specs.History.{each_kept, kept_as, OnDocument, is_change, is_closing}
+use Rattle.lsp_explain.specs.History.{is_opening, is_showing}
 use Rattle.lsp_explain.specs.declared.notes.step.Step.{Step}
+use Rattle.lsp_explain.specs.Openings.{OpenedBy, OpensBy, Touches, has_name, most_closings}
+use Rattle.lsp_explain.specs.Openings.{most_openings, names_view, touched, with_name}
+use Rattle.lsp_explain.specs.declared.notes.openings.Openings.{Openings}
 
 -- ---- so many as may be
 
@@ -163,3 +169,40 @@ module _ {X : Type 0} (f : EventPlace → List Event → Event → Option X) (te
 pub doing-push : (kind : Step → Bool) (calls : List KeptCall) (k : KeptCall)
     → doing kind (calls ++ k ∷ []) ≡ doing kind calls ++ doing kind (k ∷ [])
 doing-push kind calls k = filter_map-append _ calls (k ∷ [])
+
+-- ---- the documents that were opened, closed, changed and shown, with one kept call more
+
+-- one of those that are held has the URI
+pub held_name : (uri : List ℕ) (names : List (String Global))
+    → list_any (λ name. bytes_eq (string_bytes name) uri) names
+    ≡ has_name uri (names_view names)
+held_name uri [] = refl
+held_name uri (name ∷ names) =
+    ap (λ b. bytes_eq (string_bytes name) uri || b) (held_name uri names)
+
+-- the first documents of these, and of those behind them
+touched-more : (ons more : List OnDocument) (old new : List (String Global))
+    → names_view old ≡ touched ons → Touches more old new → names_view new ≡ touched (ons ++ more)
+touched-more ons more old new are is =
+    is
+    ∙ ap (λ (names : List (List ℕ)). fold with_next names more) are
+    ∙ sym (fold-append with_next [] ons more)
+  where
+    with_next : List (List ℕ) → OnDocument → List (List ℕ)
+    with_next names on = with_name names on.uri
+
+-- **what is held stands for it too**
+pub opened_more : (old new : Openings) (calls : List KeptCall) (k : KeptCall)
+    → OpenedBy old calls → OpensBy k old new → OpenedBy new (calls ++ k ∷ [])
+opened_more old new calls k are opens = record {
+  opened_are = opens.opened (doing is_opening calls) are.opened_are
+      ∙ ap (last_ones most_openings) (sym (doing-push is_opening calls k));
+  closed_are = opens.closed (doing is_closing calls) are.closed_are
+      ∙ ap (last_ones most_closings) (sym (doing-push is_closing calls k));
+  changed_are = touched-more (doing is_change calls) (doing is_change (k ∷ [])) old.changed.items
+      new.changed.items are.changed_are opens.changed
+      ∙ ap touched (sym (doing-push is_change calls k));
+  shown_are = touched-more (doing is_showing calls) (doing is_showing (k ∷ [])) old.shown.items
+      new.shown.items are.shown_are opens.shown
+      ∙ ap touched (sym (doing-push is_showing calls k));
+}

@@ -42,9 +42,8 @@ use Rattle.lsp_explain.specs.SessionNoting.{Exchanges, Says, place_in}
 use Rattle.lsp_explain.specs.declared.notes.exchange.Exchange.{Exchange}
 use Rattle.lsp_explain.specs.declared.notes.remarks.Remarks.{Remarks}
 use Rattle.lsp_explain.specs.declared.notes.session_notes.SessionNotes.{SessionNotes}
-use Rattle.lsp_explain.proofs.RemarkSteps.{misuse-outline}
+use Rattle.lsp_explain.proofs.SessionSteps.{misuse-outline, answered-outline, asks-outline}
 use Rattle.lsp_explain.proofs.RenameSteps.{notifies-outline}
-use Rattle.lsp_explain.proofs.SessionSteps.{answered-outline, asks-outline}
 use Rattle.lsp_explain.proofs.Standard.{IsOnDocument}
 
 -- ---- which messages

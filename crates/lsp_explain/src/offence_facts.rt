@@ -148,8 +148,7 @@ fn place_in(offence: &Offence) -> EventPlace
 
 // ---- the end
 
-/// Adds what is said about how a session ends, by what is listed of that. The past is of all its
-/// events.
+/// Adds what is said of how a session ends, by what is listed of that. The past is of all events.
 ///
 /// # Errors
 /// `Memory` where memory was refused.

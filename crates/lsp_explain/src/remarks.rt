@@ -93,8 +93,7 @@ fn push_name(remarks: &mut Facts, name: Option<&str>) -> Result<()>
     }
 }
 
-/// Adds the message about a document under a URI that its file lost when it was renamed, if there
-/// is one.
+/// Adds the message about a document under a URI that its file lost when renamed, if there is one.
 fn push_renamed(remarks: &mut Facts, renamed: Option<&DocumentEvent>) -> Result<()>
     ensures { OnOk result (remarks.new
         ≡ remarks.old ++ old_name_remarks (option_map (λ r. on_view r.now) renamed.entry)) }

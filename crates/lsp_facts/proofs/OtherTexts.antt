@@ -1,26 +1,34 @@
 -- The snapshots that refute a text, as a loop looks for the first of them.
 use Rattle.std.proofs.Common.{◌≡◌, ◌<◌, ◌+◌, ℕ, Bool, true, false, List, [], ◌∷◌, ◌++◌, length}
 use Rattle.std.proofs.Common.{get_or, take, drop, Some, None, sym, ap, ◌∙◌, ◌≤◌, zero, suc}
-use Rattle.std.proofs.Common.{append-nil, Option, Result, Ok, Err, refl, arith}
-use Rattle.std.proofs.lemmas.Bool.{cond-true, cond-false}
-use Rattle.std.proofs.lemmas.List.{take_more, take-append-drop, at_drop_more}
+use Rattle.std.proofs.Common.{append-nil, Option, Result, Ok, Err, refl, arith, inl, inr}
+use Rattle.std.proofs.Common.{String, true≢false}
+use Rattle.std.proofs.lemmas.Bool.{cases_Bool, cond-true, cond-false}
+use Rattle.std.proofs.lemmas.Slice.Eq.{bytes_eq-Decides}
+use Rattle.std.proofs.lemmas.List.{length-map, take_more, take-append-drop, at_drop_more}
 use Rattle.std.proofs.lemmas.List.Folds.{find-append}
-use Rattle.std.specs.List.{find}
+use Rattle.std.specs.Global.{Global}
+use Rattle.std.specs.List.{find, list_any}
 use Rattle.std.specs.Option.{option_or, option_map}
-use Rattle.std.specs.Prelude.{ℤ, slice_get, if◌then◌else◌, unwrap_or}
+use Rattle.std.specs.Prelude.{ℤ, slice_get, if◌then◌else◌, unwrap_or, not, ◌||◌}
+use Rattle.std.specs.Str.{bytes_eq}
 use Rattle.std.specs.Result.{result_ok}
 use Rattle.std.proofs.lemmas.Option.{same_Some, slice_get-get_or}
 use Rattle.lsp_types.specs.declared.change.SyncKind.{SyncKind}
 use Rattle.lsp_types.specs.declared.position.Encoding.{Encoding}
 use Rattle.lsp_types.specs.declared.line_ends.LineEnds.{LineEnds}
 use Rattle.lsp_text.specs.Edits.{Edit, applied}
+use Rattle.lsp_text.specs.SameText.{compared, same_text}
 use Rattle.lsp_docs.specs.Calls.{Text, Call, changes}
 use Rattle.lsp_docs.specs.Documents.{Terms, Version, held}
+use Rattle.lsp_docs.specs.Stored.{are_mixed, text_of, texts_of}
 use Rattle.lsp_docs.specs.Tried.{IsMade}
+use Rattle.lsp_docs.proofs.Mixed.{alike_any}
 use Rattle.lsp_replay.specs.declared.heard.EventPlace.{EventPlace}
 use Rattle.lsp_verdict.specs.declared.verdict.Who.TheVariants.{Editor}
 use Rattle.lsp_facts.specs.Refuting.{is_other, is_other_at, others_of, made_text, refuting}
 use Rattle.lsp_facts.specs.Refuting.{waiting_texts}
+use Rattle.lsp_facts.specs.TwoTexts.{TwoTexts, against}
 use Rattle.lsp_facts.proofs.MadeChanges.{fails_some, makes_all}
 
 module _ {X : Type 0} (p : X → Bool) (xs : List X) (i : ℕ) (x : X) (lt : i < length xs)
@@ -103,6 +111,53 @@ module _ (ends : LineEnds) (t : Text) where
       ∙ sym (others-more ns us i n (slice_get-get_or ns i nowhere lt)
       ∙ ap (λ (b : Bool). others_of ends t (take i ns) us ++ (if b then n ∷ [] else []))
       same ∙ append-nil (others_of ends t (take i ns) us))
+
+-- ---- texts that are all the same
+
+-- each is another, where the one that they equal is
+all_others : (ends : LineEnds) (t first : Text) (us : List Text) (ns : List EventPlace)
+    → is_other ends t first ≡ true → list_any (λ u. not (same_text ends u first)) us ≡ false
+    → others_of ends t ns us ≡ take (length us) ns
+all_others ends t first [] [] other alike = refl
+all_others ends t first [] (n ∷ ns) other alike = refl
+all_others ends t first (u ∷ us) [] other alike = refl
+all_others ends t first (u ∷ us) (n ∷ ns) other alike =
+    let same = bytes_eq-Decides (compared ends u) (compared ends first) in
+    elim (cases_Bool (same_text ends u first)) [
+      | inl p ↦ rw (ap (λ x. not (bytes_eq (compared ends t) x)) (same.0 p) ∙ other)
+          (ap (λ (l : List EventPlace). n ∷ l) (all_others ends t first us ns other (rw p at alike)))
+      | inr p ↦ absurd (true≢false (rw p at alike))
+    ]
+
+-- so are all where one is
+pub alike_others : (ends : LineEnds) (t : Text) (ss : List (String Global)) (ns : List EventPlace)
+    → are_mixed ends (texts_of ss) ≡ false → list_any (is_other ends t) (texts_of ss) ≡ true
+    → take (length ss) ns ≡ others_of ends t ns (texts_of ss)
+alike_others ends t [] ns alike any = absurd (true≢false (sym any))
+alike_others ends t (s ∷ ss) ns alike any =
+    let first = text_of s in
+    let itself = (bytes_eq-Decides (compared ends first) (compared ends first)).1 refl in
+    ap (λ n. take n ns) (sym (length-map (s ∷ ss) text_of))
+    ∙ sym (all_others ends t first (texts_of (s ∷ ss)) ns
+    (alike_any ends t first (texts_of ss) alike ∙ any)
+    (ap (λ b. not b || list_any (λ u. not (same_text ends u first)) (texts_of ss)) itself ∙ alike))
+
+-- one is where the first is found
+any_other : (ends : LineEnds) (us : List Text) (t : Text) (texts : TwoTexts)
+    → against ends us t ≡ Some texts → list_any (is_other ends t) us ≡ true
+any_other ends [] t texts h = absurd (cc)
+any_other ends (u ∷ us) t texts h = elim (cases_Bool (is_other ends t u))
+    [ inl e ↦ rw e refl | inr e ↦ rw e (any_other ends us t texts (rw e at h)) ]
+
+-- the same of equal texts, as they are compared
+pub others_as : (a b : LineEnds) (us ws : List Text) (t : Text) (ns others : List EventPlace)
+    (texts : TwoTexts) → a ≡ b → us ≡ ws
+    → (list_any (is_other a t) us ≡ true → others ≡ others_of a t ns us)
+    → against b ws t ≡ Some texts → others ≡ others_of b t ns ws
+others_as a b us ws t ns others texts p q are differ =
+    are (ap (λ x. list_any (is_other x t) us) p ∙ ap (list_any (is_other b t)) q
+    ∙ any_other b ws t texts differ)
+    ∙ ap (λ x. others_of x t ns us) p ∙ ap (others_of b t ns) q
 
 -- ---- the text that changes make
 

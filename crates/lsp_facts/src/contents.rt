@@ -1,5 +1,4 @@
-//! Facts about contents that are not a message, and about messages whose params have the wrong
-//! shape.
+//! Facts about contents that are no message, and messages whose params have the wrong shape.
 ghost use Rattle.std.specs.Prelude.{◌≡◌, ◌≤◌, ◌-◌, ◌++◌, IfOk, IfSome, OnOk, length};
 ghost use Rattle.std.specs.List.{prefix_len};
 ghost use Rattle.lsp_facts.specs.EventFacts as spec;

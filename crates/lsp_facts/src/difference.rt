@@ -87,8 +87,7 @@ fn by_lines(
     Ok(found)
 }
 
-/// Where two texts first differ, and the line of each there; of a long one the part around the
-/// place.
+/// Where two texts first differ, and the line of each there; of a long one the part around it.
 fn at_difference(
     alloc: Global,
     encoding: Encoding,

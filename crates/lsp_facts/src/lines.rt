@@ -100,8 +100,7 @@ pub fn push_bare_event(lines: &mut String, event: u64, by: Who, number: u64) -> 
     Ok(())
 }
 
-/// Adds the line of the place after the last event: its number, from 1, and whose the next event
-/// would be.
+/// Adds the line of the place after the last event: its number, from 1, and whose the next is.
 ///
 /// # Errors
 /// `Memory` where memory was refused.

@@ -17,8 +17,7 @@ use lsp_types::{Change, Encoding, Memory, Position, Span, SyncKind, rules};
 use lsp_verdict::kind_name;
 use std::alloc::Global;
 
-/// The facts on changes of another kind than agreed: the kind, and the first change that is not of
-/// it.
+/// The facts on changes of another kind than agreed: the kind, and the first change not of it.
 pub(crate) fn misfit<S: TextStore>(
     alloc: Global,
     store: &S,
@@ -93,8 +92,7 @@ fn fits_kind(kind: SyncKind, change: &Change) -> bool
     }
 }
 
-/// The facts on the change after this many others that this rule refuses, on the text that those
-/// made.
+/// The facts on the change that this rule refuses after this many others, on the text they made.
 pub(crate) fn refused(
     alloc: Global,
     encoding: Encoding,

@@ -1,5 +1,4 @@
-//! The two texts of a 608 or 702: what the messages make of a document, and what the editor saved
-//! or showed of it.
+//! The two texts of a 608 or 702: what the messages make, and what the editor saved or showed.
 
 ghost use Rattle.std.specs.Prelude.{◌≡◌, ℕ, List, Some, true, option_map};
 ghost use Rattle.std.specs.Str.{chars};
@@ -143,8 +142,7 @@ fn against<'a, S: TextStore>(
     })
 }
 
-/// The text that is held or kept of the version of a snapshot, and the snapshot's, which breaks
-/// 702.
+/// The text held or kept at the version of a snapshot, and the snapshot's, which breaks 702.
 fn snapshot_texts<'a, S: TextStore>(
     docs: &'a Docs<S>,
     version: i32,

@@ -1,6 +1,7 @@
 //! The snapshots that wait and refute the text of a version.
 
-ghost use Rattle.std.specs.Prelude.{◌≡◌, List, Some, IfOk, option_map, slice_get};
+ghost use Rattle.std.specs.Prelude.{◌≡◌, List, Some, true, not, IfOk, option_map, slice_get};
+ghost use Rattle.std.specs.List.{list_any};
 ghost use Rattle.lsp_rpc.specs.View.{act_view};
 ghost use Rattle.lsp_types.specs.declared.change.SyncKind.{SyncKind};
 ghost use Rattle.lsp_types.specs.declared.position.Encoding.{Encoding};
@@ -9,16 +10,17 @@ ghost use Rattle.lsp_docs.specs.Calls.{Call};
 ghost use Rattle.lsp_docs.specs.Documents.{held};
 ghost use Rattle.lsp_docs.specs.Rules.{call_rule};
 ghost use Rattle.lsp_docs.specs.State.{Stands};
-ghost use Rattle.lsp_docs.specs.Stored.{texts_of};
+ghost use Rattle.lsp_docs.specs.Stored.{are_mixed, text_of, texts_of};
 ghost use Rattle.lsp_docs.specs.Tried.{AreTriedOn, IsTried, tried_in};
 ghost use Rattle.lsp_text.specs.Changes.{edits_of};
+ghost use Rattle.lsp_text.specs.SameText.{same_text};
 ghost use Rattle.lsp_verdict.specs.Event.{call_of};
 ghost use Rattle.lsp_facts.specs.TwoTexts.{lent_text};
 ghost use Rattle.lsp_facts.specs.Refuting as spec;
 
 use crate::lent_text::LentText;
 use crate::made::{Made, as_tried};
-use lsp_docs::{Docs, Tried};
+use lsp_docs::{Docs, Tried, is_other_text};
 use lsp_replay::EventPlace;
 use lsp_rpc::{Act, Result};
 use lsp_text::TextStore;
@@ -49,7 +51,7 @@ pub fn refuting<S: TextStore>(
         Act::DidOpen { uri, version, text } => {
             let texts = docs.waiting_texts(uri.as_str(), *version);
             let text: LentText<'_, S> = LentText::Whole(text.as_str());
-            others(docs.alloc(), docs.line_ends(), texts, text, snapshots)
+            differing(docs.alloc(), docs.line_ends(), texts, text, snapshots)
         }
         Act::DidChange {
             uri,
@@ -62,14 +64,13 @@ pub fn refuting<S: TextStore>(
             };
             let texts = docs.waiting_texts(uri, *version);
             let text = LentText::Stored(store);
-            others(docs.alloc(), docs.line_ends(), texts, text, snapshots)
+            differing(docs.alloc(), docs.line_ends(), texts, text, snapshots)
         }
         _ => Ok(Vec::new(docs.alloc())),
     }
 }
 
-/// The text with the changes made, where the document is open and each of them can be made. This was
-/// tried of them.
+/// The text with the changes made, if the document is open and all can be made. This was tried.
 pub(crate) fn whole<'a, S: TextStore>(
     docs: &'a Docs<S>,
     uri: &str,
@@ -89,6 +90,47 @@ pub(crate) fn whole<'a, S: TextStore>(
     } else {
         Some(store)
     }
+}
+
+/// Those of the snapshots that have another text than this one, as at least one has. Where they all
+/// have the same text, each is one of them.
+fn differing<S: TextStore>(
+    alloc: Global,
+    line_ends: LineEnds,
+    texts: &[String],
+    text: LentText<'_, S>,
+    snapshots: &[EventPlace],
+) -> Result<Vec<EventPlace>>
+    ensures { IfOk result (λ others.
+        list_any (spec.is_other line_ends (lent_text S.content text.entry)) (texts_of texts.now)
+        ≡ true → others.items ≡ spec.others_of line_ends (lent_text S.content text.entry)
+        snapshots.now (texts_of texts.now)) }
+{
+    if any_differs(line_ends, texts) {
+        return others(alloc, line_ends, texts, text, snapshots);
+    }
+    let count = texts.len().min(snapshots.len());
+    Ok(Vec::from_slice(alloc, &snapshots[..count])?)
+}
+
+/// Whether one of the texts is another than the first.
+fn any_differs(line_ends: LineEnds, texts: &[String]) -> bool
+    ensures { result ≡ are_mixed line_ends (texts_of texts.now) }
+{
+    match texts.split_first() {
+        Some((first, rest)) => any_other(line_ends, first, rest),
+        None => false,
+    }
+}
+
+/// Whether one of the texts is another than this one.
+fn any_other(line_ends: LineEnds, text: &String, texts: &[String]) -> bool
+    ensures { result ≡ list_any (λ t. not (same_text line_ends (text_of t) (text_of text.now)))
+        texts.now }
+{
+    texts
+        .iter()
+        .any(|other| is_other_text(line_ends, text, other.as_str()))
 }
 
 /// Those of the snapshots that have another text than this one. They are given by their places, and

@@ -61,8 +61,7 @@ impl Renames {
         self.renamed.as_ref()
     }
 
-    /// Takes over a message that is kept, the event of this place, which was read from this
-    /// content.
+    /// Takes over a message that is kept, the event of this place, read from this content.
     ///
     /// # Errors
     /// `Memory` where memory was refused.

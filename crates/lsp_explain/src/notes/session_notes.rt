@@ -71,8 +71,7 @@ impl SessionNotes {
         }
     }
 
-    /// The place of the event that led to the phase of the session; none where it is that of the
-    /// start.
+    /// The place of the event that led to the phase of the session; none at the start.
     pub fn since(&self) -> Option<EventPlace>
         ensures { (terms : Terms) (events : List Event) → AreNotes terms self.now events
             → result ≡ since (numbered terms events) }

@@ -1,4 +1,4 @@
-use Rattle.lsp_explain.proofs.AllLaws.{causes_are_explained}
+use Rattle.lsp_explain.proofs.AllExplanations.{causes_are_explained}
 use Rattle.lsp_explain.proofs.laws.all_explained_are_causes.Goals as goal
 
 pub returns : goal.returns

@@ -1,4 +1,4 @@
-use Rattle.lsp_explain.proofs.AllLaws.{first_is_verdict}
+use Rattle.lsp_explain.proofs.AllExplanations.{first_is_verdict}
 use Rattle.lsp_explain.proofs.laws.first_explained_is_verdict.Goals as goal
 
 pub returns : goal.returns

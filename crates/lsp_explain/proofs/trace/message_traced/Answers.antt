@@ -7,7 +7,7 @@ use Rattle.lsp_facts.specs.EventFacts.{AreMessageFacts}
 use Rattle.lsp_explain.specs.Trails.{terms_in}
 use Rattle.lsp_explain.specs.Traced.{act_call, unopened_traced}
 use Rattle.lsp_facts.proofs.DocumentRules.{breaks_here}
-use Rattle.lsp_explain.proofs.Tracing.{documents_traced, same_setter, session_traced}
+use Rattle.lsp_explain.proofs.Telling.{documents_traced, same_setter, session_traced}
 use Rattle.lsp_explain.proofs.trace.message_traced.Goals as goal
 
 pub returns-then-rule-lt-FIRST_ON_DOCUMENTS : goal.returns-then-rule-lt-FIRST_ON_DOCUMENTS

@@ -15,7 +15,7 @@ use Rattle.lsp_explain.specs.Trails.{terms_in}
 use Rattle.lsp_explain.specs.Traced.{document_traced}
 use Rattle.lsp_explain.specs.declared.suspects.Until.{Until}
 use Rattle.lsp_explain.specs.declared.suspects.Until.TheVariants as untils
-use Rattle.lsp_explain.proofs.Tracing.{names_no_texts}
+use Rattle.lsp_explain.proofs.Telling.{names_no_texts}
 use Rattle.lsp_explain.proofs.trace.trace_text.Goals as goal
 
 pub returns-then-rule-ne-SNAPSHOT_DIFFERS : goal.returns-then-rule-ne-SNAPSHOT_DIFFERS

@@ -1,7 +1,7 @@
 use Rattle.std.proofs.lemmas.Result.{on_ok_weaker}
 use Rattle.lsp_explain.specs.History.{kept_call}
 use Rattle.lsp_explain.proofs.Marking.{marks_more}
-use Rattle.lsp_explain.proofs.OpeningSteps.{opened_more}
+use Rattle.lsp_explain.proofs.History.{opened_more}
 use Rattle.lsp_explain.proofs.trail.keep_step.Goals as goal
 
 pub returns : goal.returns

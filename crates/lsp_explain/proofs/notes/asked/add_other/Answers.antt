@@ -3,7 +3,7 @@ use Rattle.lsp_rpc.specs.Ident.{id_view, same_id}
 use Rattle.lsp_rpc.specs.contracts.message.IdPartialEq.TheImpl.{eq-value}
 use Rattle.lsp_session.proofs.Ids.{eq_is_same_id}
 use Rattle.lsp_survey.specs.Notes.{asked_in}
-use Rattle.lsp_explain.proofs.Exchanging.{or_if}
+use Rattle.lsp_explain.proofs.SessionSteps.{or_if}
 use Rattle.lsp_survey.proofs.PassedSteps.{updates_in}
 use Rattle.lsp_explain.proofs.notes.asked.add_other.Goals as goal
 

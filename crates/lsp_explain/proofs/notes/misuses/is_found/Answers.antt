@@ -1,5 +1,5 @@
 use Rattle.std.proofs.Common.{◌∙◌}
-use Rattle.lsp_explain.proofs.RemarkSteps.{held_named}
+use Rattle.lsp_explain.proofs.SessionSteps.{held_named}
 use Rattle.lsp_explain.proofs.notes.misuses.is_found.Goals as goal
 
 pub returns : goal.returns

@@ -1,5 +1,5 @@
 use Rattle.std.proofs.Common.{◌∙◌}
-use Rattle.lsp_explain.proofs.OpeningSteps.{held_name}
+use Rattle.lsp_explain.proofs.History.{held_name}
 use Rattle.lsp_explain.proofs.notes.openings.has_name.Goals as goal
 
 pub returns : goal.returns
