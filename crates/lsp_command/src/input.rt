@@ -18,10 +18,9 @@ use std::io::{BufReader, Read};
 /// How many bytes are asked for at once.
 const GATHERED: usize = 65_536;
 
-/// How many bytes a call appends at most where it must ask the reader first, since these are zeroed
-/// before they are written over. The next call appends, zeroing nothing, all that is wanted of what
-/// the reader gave beyond them.
-const PIECE: usize = 128;
+/// How many bytes a call appends at most. Of what was read ahead, longer copies would be slower: the
+/// room for a long record is touched for the first time.
+const PIECE: usize = 2_048;
 
 /// A reader of what a run of this task asks for. Frames are asked for by as much as is read ahead
 /// of other tasks, so nothing is read ahead of them: each piece goes straight to the run.
@@ -121,8 +120,8 @@ impl<'a, R: Read> Source for BufferedInput<'a, R> {
         Ok(count)
     }
 
-    /// Appends bytes to the buffer as the trait says: those that were read ahead, straight from
-    /// there, or if there are none, at most [`PIECE`] of what the reader gives.
+    /// Appends bytes to the buffer as the trait says, at most [`PIECE`]: those that were read ahead,
+    /// straight from there, or if there are none, what the reader gives.
     fn pull_onto(&mut self, buffer: &mut Vec<u8>, most: usize) -> Result<usize, Failed>
         requires room { vec_len buffer.old + most ≤ vec_capacity buffer.old }
         ensures room { vec_capacity buffer.old ≤ vec_capacity buffer.new }
@@ -143,7 +142,7 @@ impl<'a, R: Read> Source for BufferedInput<'a, R> {
             ≡ take 32 (first_bytes self.old ++ appended_bytes buffer.old.items buffer.new.items)) }
         ensures same_first { OnErr result (first_bytes self.new ≡ first_bytes self.old) }
     {
-        let count = self.reader.ahead().len().min(most);
+        let count = self.reader.ahead().len().min(most).min(PIECE);
         if count == 0 {
             return pull_fresh(self, buffer, most);
         }

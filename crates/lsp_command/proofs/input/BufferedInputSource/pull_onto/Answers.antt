@@ -10,8 +10,8 @@ returns-clause-gave g c =
     let count = c.min-count.result in
     let after = c.extend_from_slice.new.self in
     let fits : count ≤ length (reader_buffer reader) =
-    omega (arith, c.min-count.ensures, ap length c.ahead.ensures) in
-    let within : count ≤ c.args.most = omega (arith, c.min-count.ensures) in
+    omega (arith, c.min-count.ensures, c.min.ensures, ap length c.ahead.ensures) in
+    let within : count ≤ c.args.most = omega (arith, c.min-count.ensures, c.min.ensures) in
     let items = given_ok _ _ after.items _ _ c.unwrap.ensures c.extend_from_slice.ensures.items in
     ahead_given _ _ c.args.buffer.now.items after.items c.ahead-2.result.now
     (reader_buffer reader) c.args.most count within fits c.ahead-2.ensures items
