@@ -68,7 +68,7 @@ cut_at old mid new before due faults.Read wrote told = absurd told
 -- ---- the events so far
 
 -- the events given are written and counted, and none of them is a fault of the frames
-pub record SoFar (limits : Bounds) (format : Option Format) (e : LogEvents) (counts : Counts)
+pub record EventsSoFar (limits : Bounds) (format : Option Format) (e : LogEvents) (counts : Counts)
     (start now old new : Told) : Type 0 where
   pub records : List Record
   pub given : List Raw
@@ -110,7 +110,7 @@ head_cut limits e start now sink new (records, due, reads) stopped =
 -- none of the events was given
 pub none_formed : (limits : Bounds) (e : LogEvents) (counts : Counts) (start now old : Told)
     → Opens limits start now e → AreCounts counts []
-    → SoFar limits e.log.format e counts start now old old
+    → EventsSoFar limits e.log.format e counts start now old old
 none_formed limits e counts start now old (records, due, reads) counted =
     record {
       records = records;
@@ -126,7 +126,7 @@ none_formed limits e counts start now old (records, due, reads) counted =
 
 module _ (limits : Bounds) (format : Option Format) (old new : LogEvents) (counts : Counts)
     (start before now sink_before sink_now : Told)
-    (so : SoFar limits format old counts start before sink_before sink_now) where
+    (so : EventsSoFar limits format old counts start before sink_before sink_now) where
   -- its records are written after those before
   wrote_more : (raw : Raw) (sink_new : Told)
       → Wrote sink_now sink_new (spelled limits.chunk (raw ∷ []))
@@ -141,7 +141,7 @@ module _ (limits : Bounds) (format : Option Format) (old new : LogEvents) (count
       → size ≡ limits.chunk → Gives limits format new start now so.records so.given
       (Ok (next.Event raw)) → WritesEvent size counted_now sink_now sink_new so.given (raw_view raw)
       (Ok None)
-      → SoFar limits format new counted_now start now sink_before sink_new
+      → EventsSoFar limits format new counted_now start now sink_before sink_new
   one_formed raw counted_now size sink_new is (more, due, reads, lent) (none, counted, wrote) =
       record {
         records = so.records ++ more;
