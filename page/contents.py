@@ -4,14 +4,13 @@ Which frames and records there are, and which of them cannot be read, is what ls
 only cuts the bytes where the lengths in the log end.
 """
 
-import re
 from collections import deque
 
 from listing import SNAPSHOT
 from program import Failed
+from session_log import SERVER, Damaged, Frames, records
+from session_log import SNAPSHOT as TEXT
 
-LENGTH = re.compile(rb"^content-length:[ \t]*(\d{1,10})[ \t]*\r?$", re.I | re.M)
-HEADER_END = b"\r\n\r\n"
 # The rules of frames: one that breaks any of them has no content.
 FRAMES = range(101, 107)
 
@@ -23,79 +22,42 @@ class Other(Failed):
         super().__init__("the log and what lspcheck lists of it differ: does something write it?")
 
 
-class Stream:
-    """The bytes of one side that were read from the log and belong to no frame yet."""
-
-    def __init__(self):
-        self.bytes, self.start = bytearray(), 0
-
-    def add(self, data):
-        del self.bytes[: self.start]
-        self.start = 0
-        self.bytes += data
-
-    def frame(self):
-        """The content of the next frame, or None if it is not there yet."""
-        end = self.bytes.find(HEADER_END, self.start)
-        if end < 0:
-            return None
-        found = LENGTH.search(self.bytes[self.start : end])
-        if not found:
-            raise Other()
-        begin = end + len(HEADER_END)
-        after = begin + int(found[1])
-        if after > len(self.bytes):
-            return None
-        self.start = after
-        return bytes(self.bytes[begin:after])
-
-
 class Contents:
     """Reads a log, and gives the content of one listed event after another."""
 
     def __init__(self, file):
-        self.file = file
-        self.streams = [Stream(), Stream()]
+        self.streams = [Frames(), Frames()]
         self.snapshots = deque()
         self.format = int(file.readline(64).split()[-1])
-
-    def read(self, size):
-        """This many bytes and the line end after them."""
-        data = self.file.read(size)
-        if len(data) != size or self.file.read(1) != b"\n":
-            raise Other()
-        return data
+        self.records = records(file)
 
     def read_record(self):
-        """Reads one more record. Returns whether there was one."""
-        letter, *numbers = self.file.readline(64).split() or [None]
-        if letter is None:
-            return False
-        if letter == b"T":
-            version, uri, text = map(int, numbers)
-            self.snapshots.append((version, self.read(uri).decode(), self.read(text)))
+        """Reads one more record."""
+        record = next(self.records, None)
+        if record is None:
+            raise Other()
+        if record.kind == TEXT:
+            self.snapshots.append(record)
         else:
-            self.streams[letter == b"S"].add(self.read(int(numbers[0])))
-        return True
+            self.streams[record.kind == SERVER].put(record.data)
 
     def snapshot(self, event):
         """The text of a snapshot; sets its URI and version, which the line of a violation omits."""
         while not self.snapshots:
-            if not self.read_record():
-                raise Other()
-        event.version, event.uri, text = self.snapshots.popleft()
-        return text
+            self.read_record()
+        record = self.snapshots.popleft()
+        event.version, event.uri = record.version, record.uri.decode()
+        return record.data
 
     def of(self, event):
         """The content of the next event, which must be the one after that of the last call."""
-        if event.side == SNAPSHOT:
-            return self.snapshot(event)
-        stream = self.streams[event.side]
-        if event.rule in FRAMES:
-            return b""
-        while True:
-            content = stream.frame()
-            if content is not None:
-                return content
-            if not self.read_record():
-                raise Other()
+        try:
+            if event.side == SNAPSHOT:
+                return self.snapshot(event)
+            if event.rule in FRAMES:
+                return b""
+            while (content := self.streams[event.side].next()) is None:
+                self.read_record()
+            return content
+        except Damaged as error:
+            raise Other() from error

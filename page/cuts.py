@@ -1,19 +1,28 @@
-"""Which events of a log the page shows: all, or those around the violations of a long log."""
+"""Which events of a log the page shows: all, those around the violations of a long log, or only the
+first violation with what led to it."""
 
 import bisect
-import os
 import re
 
-from listing import EDITOR
-from session import read_session
+from listing import EDITOR, SNAPSHOT, Listing
+from session import key_of, read_session
 
 MOST_EVENTS, MOST_BYTES = 20_000, 50_000_000
 # The first events of a session, which agree on the encoding and open documents, are always shown.
 HEAD = 40
 # How many texts lspcheck is asked for, so that the page can make those after a gap.
 MOST_CHECKPOINTS = 12
+# In a small page, a longer content is left out, whatever it is.
+MOST_OF_SMALL = 20_000
+SAID_SMALL = ("the first violation, the events that explain it, and the handshake. It has no whole "
+              "text of a document")
+# In a small page, how many lines around what differs remain of both texts.
+LINES_AROUND = 3
 
 EVENT = re.compile(r"\bevent (\d+)")
+LINE = re.compile(r"[^\r\n]*(?:\r\n|\r|\n)|[^\r\n]+$")
+TEXTS = ("textDocument/didOpen", "textDocument/didSave")
+CHANGE = "textDocument/didChange"
 
 
 class Everything:
@@ -22,7 +31,7 @@ class Everything:
     def is_shown(self, event):
         return True
 
-    def is_whole(self, event, size):
+    def is_whole(self, event, content):
         return True
 
 
@@ -48,29 +57,20 @@ def size_of(spans):
     return sum(last - first + 1 for first, last in spans)
 
 
-class Around:
-    """The choice for a long log: the events around its violations, as many as the page may hold."""
+def events_of(violations):
+    """The events that the explanations of violations name."""
+    return {int(it) for one in violations for line in one.lines for it in EVENT.findall(line)}
 
-    def __init__(self, outline, size, most_events, most_bytes):
-        events = outline.events
-        most = max(min(most_events, most_bytes * events // max(size, 1)), 4)
-        explained = outline.violations[: most // 4]
-        named = {int(it) for one in explained for line in one.lines for it in EVENT.findall(line)}
-        centres = [min(it.event, events) for it in explained] or [1, events]
-        self.single = set(sorted(named)[: most // 4]) | set(centres)
-        low, high = 0, events
-        while low < high:
-            middle = (low + high + 1) // 2
-            if size_of(spans_around(centres, middle, self.single, events)) <= most:
-                low = middle
-            else:
-                high = middle - 1
-        self.spans = spans_around(centres, low, self.single, events)
-        self.starts = [first for first, _ in self.spans]
-        self.events, self.most_bytes = events, most_bytes
+
+class Spans:
+    """A choice of some spans of events."""
+
+    def __init__(self, spans, events):
+        self.spans, self.events = spans, events
+        self.starts = [first for first, _ in spans]
         # The number of the editor's last message before each span.
         self.editor, self.before = 0, {}
-        self.bytes, self.unwhole = 0, 0
+        self.unwhole = 0
 
     def is_shown(self, event):
         place = bisect.bisect_right(self.starts, event.event) - 1
@@ -80,8 +80,40 @@ class Around:
             self.editor = event.number
         return place >= 0 and event.event <= self.spans[place][1]
 
-    def is_whole(self, event, size):
+    def gaps(self):
+        """What is left out, each gap with the number of the editor's last message up to its end."""
+        ends = [0, *(last for _, last in self.spans)]
+        starts = [*self.starts, self.events + 1]
+        return [
+            {"from": end + 1, "to": start - 1, "editor": self.before.get(start, self.editor)}
+            for end, start in zip(ends, starts)
+            if end + 1 < start
+        ]
+
+
+class Around(Spans):
+    """The choice for a long log: the events around its violations, as many as the page may hold."""
+
+    def __init__(self, outline, size, most_events, most_bytes):
+        events = outline.events
+        most = max(min(most_events, most_bytes * events // max(size, 1)), 4)
+        explained = outline.violations[: most // 4]
+        centres = [min(it.event, events) for it in explained] or [1, events]
+        self.single = set(sorted(events_of(explained))[: most // 4]) | set(centres)
+        low, high = 0, events
+        while low < high:
+            middle = (low + high + 1) // 2
+            if size_of(spans_around(centres, middle, self.single, events)) <= most:
+                low = middle
+            else:
+                high = middle - 1
+        super().__init__(spans_around(centres, low, self.single, events), events)
+        self.most_bytes, self.bytes = most_bytes, 0
+        self.where = "around the violations" if explained else "at the beginning and the end"
+
+    def is_whole(self, event, content):
         """Whether the content of an event that is shown is in the page too."""
+        size = len(content)
         most = self.most_bytes if event.event in self.single else self.most_bytes // 50
         if size > most or self.bytes + size > 2 * self.most_bytes:
             self.unwhole += 1
@@ -89,62 +121,115 @@ class Around:
         self.bytes += size
         return True
 
-    def gaps(self):
-        ends = [0, *(last for _, last in self.spans)]
-        starts = [*self.starts, self.events + 1]
-        between = [(end + 1, start - 1) for end, start in zip(ends, starts)]
-        return [{"from": first, "to": last} for first, last in between if first <= last]
+
+class Small(Spans):
+    """The choice for a page that gives away little: the first violation, the events that its
+    explanation names, and the two of the handshake. Of these it has no whole text of a document."""
+
+    def __init__(self, outline, handshake):
+        first = outline.violations[:1]
+        self.named = events_of(first) | {it.event for it in first}
+        chosen = [it for it in self.named | handshake if 1 <= it <= outline.events]
+        super().__init__(union((it, it) for it in chosen), outline.events)
+
+    def is_whole(self, event, content):
+        has_text = event.side == SNAPSHOT or event.method in TEXTS
+        has_text = has_text or event.method == CHANGE and b'"range"' not in content
+        is_named = event.event in self.named and event.method != "initialize"
+        is_whole = is_named and not has_text and len(content) <= MOST_OF_SMALL
+        self.unwhole += not is_whole
+        return is_whole
 
 
-def text_after(program, number, uri):
-    """The text of a document after a message of the editor, or None if it is not open."""
-    if number == 0:
-        return None
-    done = program.run(["text", "--all", "--quiet", str(number), uri])
-    return done.stdout.decode("utf-8", "replace") if done.returncode == 0 else None
+def handshake_of(lines):
+    """The events of the first `initialize` and of its answer."""
+    asked = None
+    for event, violation in Listing(lines):
+        if event is None or violation:
+            continue
+        if asked is None and event.method == "initialize" and event.kind == "request":
+            asked = event
+        elif asked and event.side != asked.side and event.kind in ("result", "error"):
+            if key_of(event.id) == key_of(asked.id):
+                return {asked.event, event.event}
+    return {asked.event} if asked else set()
 
 
-def checkpoints_of(program, choice, session, first_violation):
+def can_name(uri):
+    """Whether a URI can be an argument of a program."""
+    return not uri.startswith("-") and "\0" not in uri
+
+
+def checkpoints_of(runs, choice, session, first_violation):
     """The texts of the documents that are changed after a gap, for the spans that matter most."""
-    needed = []
-    for first, last in choice.spans:
-        changed = {row[6] for row in session.rows if first <= row[0] <= last and row[1] == EDITOR}
-        distance = 0 if first <= first_violation <= last else 1
-        needed += [(distance, first, number) for number in sorted(changed - {-1}) if first > 1]
+    columns = [session.rows.numbers[name] for name in ("event", "side", "document")]
+    changed = [(event, document) for event, side, document in zip(*columns) if side == EDITOR]
+    needed = set()
+    for event, document in changed:
+        first, last = choice.spans[bisect.bisect_right(choice.starts, event) - 1]
+        if first > 1 and document >= 0:
+            needed.add((not first <= first_violation <= last, first, document))
     uris = list(session.documents.numbers)
-    # Some URIs of a log cannot be arguments of a program.
-    needed = [it for it in needed if not uris[it[2]].startswith("-") and "\0" not in uris[it[2]]]
+    found = [it for it in sorted(needed) if can_name(uris[it[2]])][:MOST_CHECKPOINTS]
+    started = [
+        (first, document, choice.before[first] and runs.start(
+            "text", "--all", str(choice.before[first]), uris[document]))
+        for _, first, document in found
+    ]
     return [
         {
             "to": first - 1,
-            "document": number,
-            "text": text_after(program, choice.before[first], uris[number]),
+            "document": document,
+            # The text, or null if the document is not open.
+            "text": run.text() if run and run.wait() == 0 else None,
         }
-        for _, first, number in sorted(needed)[:MOST_CHECKPOINTS]
+        for first, document, run in started
     ]
 
 
 def said_about(choice, outline, shown):
     """What the page says about what it leaves out."""
-    where = "around the violations" if outline.violations else "at the beginning and the end"
-    said = [f"The log has {outline.events:,} events. This page shows {shown:,}: those {where}."]
+    which = "those " + choice.where if isinstance(choice, Around) else SAID_SMALL
+    said = [f"The log has {outline.events:,} events. This page shows {shown:,}: {which}."]
     if choice.unwhole:
-        said.append(f"It leaves out {choice.unwhole:,} large contents.")
+        said.append(f"It leaves out {choice.unwhole:,} contents.")
     return said
 
 
-def session_of(program, outline, most_events, most_bytes):
+def choice_of(outline, size, given, shown):
+    """Which events are shown, as the command line says."""
+    if given.small:
+        return Small(outline, handshake_of(shown.lines()))
+    if outline.events <= given.most_events and size <= given.most_bytes:
+        return Everything()
+    return Around(outline, size, given.most_events, given.most_bytes)
+
+
+def session_of(runs, shown, outline, given, put):
     """The session that the page shows, the format of the log, and what is left out, if anything."""
-    size = os.path.getsize(program.log)
-    if outline.events <= most_events and size <= most_bytes:
-        session, log_format = read_session(program, Everything())
+    log = runs.log
+    choice = choice_of(outline, log.size, given, shown)
+    session, log_format = read_session(log, shown.lines(), choice, put, runs.progress)
+    if isinstance(choice, Everything):
         return session, log_format, None
-    choice = Around(outline, size, most_events, most_bytes)
-    session, log_format = read_session(program, choice)
     first = outline.violations[0].event if outline.violations else 0
     left = {
         "gaps": choice.gaps(),
-        "checkpoints": checkpoints_of(program, choice, session, first),
+        "checkpoints": [] if given.small else checkpoints_of(runs, choice, session, first),
         "said": said_about(choice, outline, len(session.rows)),
     }
     return session, log_format, left
+
+
+def around_difference(texts):
+    """Both texts, of which only the lines around what differs remain: how many lines were before
+    them and after them, too."""
+    lines = {name: LINE.findall(text) for name, text in texts.items()}
+    one, other = lines.values()
+    most = min(len(one), len(other))
+    before = next((at for at in range(most) if one[at] != other[at]), most)
+    most -= before
+    after = next((at for at in range(most) if one[-1 - at] != other[-1 - at]), most)
+    before, after = max(before - LINES_AROUND, 0), max(after - LINES_AROUND, 0)
+    found = {name: "".join(it[before : len(it) - after]) for name, it in lines.items()}
+    return {**found, "before": before, "after": after}

@@ -1,20 +1,19 @@
-"""Puts what lspcheck wrote and the events of a log into the template."""
+"""Puts what lspcheck wrote and the events of a log into a page."""
 
 import base64
 import hashlib
-import json
-import os
-from dataclasses import asdict
+import html
 from pathlib import Path
 
+import blocks
 import cuts
 import rules
-from listing import explained
+from files import MARK
+from listing import KINDS, explained
 from program import Failed
 from session import MOST_EXPLAINED, outline_of
 
 HERE = Path(__file__).resolve().parent
-MARK = b"<!doctype html><!-- lspcheck-page -->"
 # In the order in which they are run. Each defines functions for those after it.
 SCRIPTS = [
     "data.js",
@@ -24,110 +23,56 @@ SCRIPTS = [
     "difference.js",
     "nodes.js",
     "json.js",
+    "commands.js",
     "words.js",
     "columns.js",
+    "joins.js",
+    "comparison.js",
     "details.js",
+    "who.js",
     "overview.js",
+    "markdown.js",
+    "rows.js",
     "lanes.js",
     "search.js",
     "main.js",
 ]
-# The contents of events are in blocks of this many characters, and each is read when it is needed.
-BLOCK = 200_000
 MOST_OF_EXIT = 2_000
 # How many violations are listed in any page; in one with more events, each that it shows is.
 LISTED_ALWAYS = 10_000
 
 
-def data_block(name, value):
-    """A block of data: JSON in ASCII, in which no `<` can end the block or begin a comment."""
-    text = json.dumps(value, separators=(",", ":")).replace("<", "\\u003c")
-    return f'<script type="application/json" id="{name}">{text}</script>\n'
-
-
-def blocks_of(contents):
-    """The contents of the events, in lists of about the same size."""
-    block, size = [], 0
-    for content in contents:
-        block.append(content)
-        size += len(content or "")
-        if size >= BLOCK:
-            yield block
-            block, size = [], 0
-    if block:
-        yield block
-
-
-def texts_of(program, violations):
-    """Both texts of the first violation, if it is that two texts differ."""
-    if not violations or violations[0].rule not in (608, 702):
+def texts_of(runs, report):
+    """Both texts of the verdict, if it is that two texts differ."""
+    if report[0].split()[:2] not in (["no", "608"], ["no", "702"]):
         return None
     options = {"messages": "--by-messages", "editor": "--in-editor"}
-    return {
-        name: program.output("explain", option).decode("utf-8", "replace")
-        for name, option in options.items()
-    }
+    started = {name: runs.start("explain", option) for name, option in options.items()}
+    return {name: run.text() for name, run in started.items()}
 
 
 def exit_of(log):
     """The lines of the file next to the log that says how the server ended, if there is one."""
-    path = (log[: -len(".log")] if log.endswith(".log") else log) + ".exit"
     try:
-        with open(path, encoding="utf-8", errors="replace") as file:
+        with open(f"{log.without_end()}.exit", encoding="utf-8", errors="replace") as file:
             return file.read(MOST_OF_EXIT).splitlines()
     except OSError:
         return []
 
 
-def explain(outline, program):
+def explain(outline, all_explained):
     """Adds the lines of `explain --all` to the violations that it explains."""
-    found, _ = explained(program.lines("explain", "--all"), MOST_EXPLAINED)
+    found, _ = explained(all_explained.lines(), MOST_EXPLAINED)
     lines = {(it.rule, it.event, it.who): it.lines for it in found}
     for violation in outline.violations:
         violation.lines = lines.get((violation.rule, violation.event, violation.who), [])
 
 
-def state_of(log):
-    """What changes if a file is written."""
-    found = os.stat(log)
-    return found.st_size, found.st_mtime_ns, found.st_ino
-
-
-def data_of(program, most_events, most_bytes):
-    """The index of the page, and the contents of its events."""
-    version = program.version()
-    before = state_of(program.log)
-    # Other ends of lines than LF may be in the texts that a line shows.
-    report = program.output("explain").decode("utf-8", "replace").removesuffix("\n").split("\n")
-    if report[:1] == ["bad log L1 record 0"]:
-        raise Failed(f"{program.log}: not a log: its first line is not that of a log", 2)
-    outline = outline_of(program, 2 * most_events + LISTED_ALWAYS)
-    explain(outline, program)
-    session, log_format, left = cuts.session_of(program, outline, most_events, most_bytes)
-    texts = texts_of(program, outline.violations)
-    if state_of(program.log) != before:
-        raise Failed(f"{program.log}: it changed while it was read: try again")
-    named = {str(it.rule) for it in outline.violations} | set(report[0].split()[2:3])
-    index = {
-        "name": os.path.basename(program.log),
-        "bytes": os.path.getsize(program.log),
-        "format": log_format,
-        "version": version,
-        "report": report,
-        "ending": outline.report,
-        "events": outline.events,
-        "violations": [asdict(it) for it in outline.violations],
-        "unlisted": outline.unlisted,
-        "encoding": session.encoding,
-        "methods": list(session.methods.numbers),
-        "documents": list(session.documents.numbers),
-        "rows": session.rows,
-        "left": left,
-        "exit": exit_of(program.log),
-        "rules": {number: rule for number, rule in rules.rules().items() if number in named},
-        "texts": texts,
-    }
-    return index, session.contents
+def only_first(outline, report):
+    """Leaves out all violations but the first, and the notes on what is elsewhere in the log."""
+    outline.unlisted += len(outline.violations[1:])
+    del outline.violations[1:]
+    report[:] = [line for line in report if not line.startswith(("note ", "notes "))]
 
 
 def hash_of(text):
@@ -136,13 +81,8 @@ def hash_of(text):
     return f"'sha256-{digest}'"
 
 
-def page_of(program, most_events, most_bytes):
-    """The bytes of the page. Nothing of the log is in it outside the blocks of data."""
-    index, contents = data_of(program, most_events, most_bytes)
-    style = (HERE / "page.css").read_text(encoding="utf-8")
-    code = "".join((HERE / "js" / name).read_text(encoding="utf-8") for name in SCRIPTS)
-    script = f'"use strict";\n(() => {{\n{code}}})();\n'
-    policy = "; ".join([
+def policy_of(script, style):
+    return "; ".join([
         "default-src 'none'",
         f"script-src {hash_of(script)}",
         f"style-src {hash_of(style)}",
@@ -150,12 +90,91 @@ def page_of(program, most_events, most_bytes):
         "form-action 'none'",
         "require-trusted-types-for 'script'",
     ])
-    blocks = list(blocks_of(contents))
-    index["blocks"] = [len(block) for block in blocks]
-    data = [data_block("session", index)]
-    data += [data_block(f"contents-{number}", block) for number, block in enumerate(blocks)]
-    template = (HERE / "page.html").read_text(encoding="utf-8")
-    parts = {"POLICY": policy, "STYLE": style, "SCRIPT": script, "DATA": "".join(data)}
-    pieces = template.split("@")
-    pieces[1::2] = [parts[name] for name in pieces[1::2]]
-    return MARK + "".join(pieces).encode()
+
+
+def plain(text):
+    """A text for the HTML itself: escaped, and with numbers for characters that are not printed."""
+    return html.escape("".join(
+        it if it.isprintable() or it == "\n" else f"[U+{ord(it):04X}]" for it in text))
+
+
+class Document:
+    """The template, written piece by piece: what belongs into it is known one after the other."""
+
+    def __init__(self, file):
+        self.file = file
+        style = (HERE / "page.css").read_text(encoding="utf-8")
+        code = "".join((HERE / "js" / name).read_text(encoding="utf-8") for name in SCRIPTS)
+        fault = (HERE / "js/fault.js").read_text(encoding="utf-8")
+        script = f'"use strict";\n{fault}(async () => {{\n{code}}})().catch(sayFault);\n'
+        self.parts = {"POLICY": policy_of(script, style), "STYLE": style, "SCRIPT": script}
+        self.pieces = (HERE / "page.html").read_text(encoding="utf-8").split("@")
+        self.file.write(MARK)
+
+    def write_until(self, name, **parts):
+        """Writes the template up to a part."""
+        parts = {**self.parts, **parts}
+        while self.pieces:
+            text, *self.pieces = self.pieces
+            self.file.write(text.encode())
+            if not self.pieces:
+                return
+            part, *self.pieces = self.pieces
+            if part == name:
+                return
+            self.file.write(parts[part].encode())
+
+
+def write_page(file, runs, given):
+    """Writes the page of a log into a file."""
+    version, log = runs.program.version(), runs.log
+    # All at once: a program compiled with checks takes a second for each megabyte.
+    listed = runs.start("show", "--all", "--long")
+    all_explained = runs.start("explain", "--all")
+    # The texts of a line may have line ends other than LF.
+    report = runs.start("explain").text().removesuffix("\n").split("\n")
+    if report[:1] == ["bad log L1 record 0"]:
+        raise Failed(f"{log.shown}: not a log: its first line is not that of a log", 2)
+    texts = texts_of(runs, report)
+    outline = outline_of(listed.lines(), 2 * given.most_events + LISTED_ALWAYS)
+    if report[0].startswith("no "):
+        explain(outline, all_explained)
+    if given.small:
+        only_first(outline, report)
+        texts = texts and cuts.around_difference(texts)
+    page = Document(file)
+    name = plain(log.name or "standard input")
+    page.write_until("DATA", NAME=name, REPORT=plain("\n".join(report)), VERSION=plain(version))
+    contents = blocks.Contents(file)
+    session, log_format, left = cuts.session_of(runs, listed, outline, given, contents.put)
+    contents.end_block()
+    log.check_unchanged()
+    named = {str(it.rule) for it in outline.violations} | set(report[0].split()[2:3])
+    index = {
+        "name": log.name,
+        "bytes": log.size,
+        "format": log_format,
+        "version": version,
+        "report": report,
+        "ending": outline.report,
+        "kinds": KINDS,
+        "events": outline.events,
+        "sides": outline.sides,
+        "named": len(session.named),
+        "unlisted": outline.unlisted,
+        "encoding": session.encoding,
+        "sync": session.sync,
+        "client": session.client,
+        "server": session.server,
+        "methods": list(session.methods.numbers),
+        "documents": list(session.documents.numbers),
+        "left": left,
+        "small": given.small,
+        "exit": exit_of(log),
+        "rules": {number: rule for number, rule in rules.rules().items() if number in named},
+        "texts": texts,
+        "blocks": contents.counts,
+    }
+    pieces = blocks.index_pieces(index, session.rows, outline.violations)
+    blocks.write_block(file, "session", pieces)
+    page.write_until(None)

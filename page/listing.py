@@ -80,8 +80,9 @@ def violation_of(found):
 class Listing:
     """The events of `show --all --long`, each with the violation in its place, if there is one."""
 
-    def __init__(self, lines):
-        self.lines = iter(lines)
+    def __init__(self, lines, read=event_of):
+        # `read` makes an event of its line.
+        self.lines, self.read = iter(lines), read
         # The lines after the last event: the report, the fault of the log, or the count.
         self.report = []
 
@@ -90,7 +91,7 @@ class Listing:
         for line in self.lines:
             found = EVENT.fullmatch(line)
             if found:
-                yield event_of(found), None
+                yield self.read(found), None
                 continue
             found = NO.fullmatch(line)
             if not found:

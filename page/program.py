@@ -3,11 +3,14 @@
 import os
 import shutil
 import subprocess
-import tempfile
 from pathlib import Path
+
+from stops import held
 
 # What these commands answer when they could do their work: yes or done, no, a bad log.
 ANSWERS = (0, 1, 2)
+# How many seconds a program has to end when it is asked to.
+PATIENCE = 5
 
 
 class Failed(Exception):
@@ -18,18 +21,35 @@ class Failed(Exception):
         self.status = status
 
 
+def printable(text):
+    """A text of a program as one line, without what a terminal would obey."""
+    lines = "; ".join(line for line in text.splitlines() if line)
+    return "".join(it if it.isprintable() else "?" for it in lines)
+
+
 def find_program(named, script):
     """The program that was named, the one in the folder of this command, or that of the PATH."""
     if named is not None:
         found = shutil.which(named)
         if found is None:
-            raise Failed(f"{named}: there is no such program")
+            raise Failed(f"{printable(named)}: there is no such program")
         return os.path.abspath(found)
     near = Path(script).absolute().with_name("lspcheck")
     found = str(near) if os.access(near, os.X_OK) else shutil.which("lspcheck")
     if found is None:
         raise Failed("there is no lspcheck next to this command or on the PATH: use --program")
     return os.path.abspath(found)
+
+
+def end(running):
+    """Ends a program, which first has time to end what it started."""
+    if running.poll() is None:
+        running.terminate()
+        try:
+            running.wait(PATIENCE)
+        except subprocess.TimeoutExpired:
+            running.kill()
+            running.wait()
 
 
 class Program:
@@ -39,11 +59,23 @@ class Program:
         self.path, self.log = path, os.path.abspath(log)
 
     def version(self):
-        """The first line of `--version`."""
-        done = self.run(["--version"])
-        line = done.stdout.decode(errors="replace").partition("\n")[0]
-        if done.returncode != 0 or not line.startswith("lspcheck "):
-            raise Failed(f"{self.path}: this program is not lspcheck")
+        """The first line of `--version`. What is written to standard error meanwhile is passed
+        through: a script like ./run may have to compile the program first."""
+        running = None
+        try:
+            with held():
+                running = subprocess.Popen([self.path, "--version"], stdout=subprocess.PIPE)
+            line = running.communicate()[0].decode(errors="replace").partition("\n")[0]
+        except OSError as error:
+            raise Failed(f"{printable(self.path)}: {error.strerror}") from error
+        finally:
+            if running:
+                end(running)
+        status = running.returncode
+        if status != 0:
+            raise Failed(f"{printable(self.path)} --version: it ended with status {status}")
+        if not line.startswith("lspcheck "):
+            raise Failed(f"{printable(self.path)}: this program is not lspcheck")
         return line
 
     def run(self, words):
@@ -51,13 +83,13 @@ class Program:
             with open(self.log, "rb") as log:
                 return subprocess.run([self.path, *words], stdin=log, capture_output=True)
         except OSError as error:
-            raise Failed(f"{self.path}: {error.strerror}") from error
+            raise Failed(f"{printable(self.path)}: {error.strerror}") from error
 
     def check_status(self, words, status, errors):
         """Fails with the program's own words, and with its status if that is a fault of its own."""
         if status in ANSWERS:
             return
-        said = errors.decode(errors="replace").strip() or f"it ended with status {status}"
+        said = printable(errors.decode(errors="replace")) or f"it ended with status {status}"
         raise Failed(f"lspcheck {words[0]}: {said}", status if status in (3, 4) else 1)
 
     def output(self, *words):
@@ -65,17 +97,3 @@ class Program:
         done = self.run([*words, "--quiet"])
         self.check_status(words, done.returncode, done.stderr)
         return done.stdout
-
-    def lines(self, *words):
-        """The lines that a command writes, one by one, without their line ends."""
-        with tempfile.TemporaryFile() as errors, open(self.log, "rb") as log:
-            how = {"stdin": log, "stdout": subprocess.PIPE, "stderr": errors}
-            with subprocess.Popen([self.path, *words, "--quiet"], **how) as running:
-                try:
-                    for line in running.stdout:
-                        yield line.decode(errors="replace").removesuffix("\n")
-                except GeneratorExit:
-                    running.kill()
-                    raise
-            errors.seek(0)
-            self.check_status(words, running.returncode, errors.read())

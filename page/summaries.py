@@ -45,7 +45,10 @@ def joined(*parts):
 
 
 def place(position):
-    return f"{plain(at(position, 'line'))}:{plain(at(position, 'character'))}"
+    """A position, its line counted from 1, as in editors."""
+    line, column = at(position, "line"), at(position, "character")
+    is_number = isinstance(line, int) and not isinstance(line, bool)
+    return f"{line + 1 if is_number else plain(line)}:{plain(column)}"
 
 
 def span(range_):
@@ -93,9 +96,14 @@ def initialize(params):
     )
 
 
-def initialized(result):
+def sync_of(result):
+    """The number of the kind of synchronisation, or what the result has in its place."""
     sync = at(result, "capabilities", "textDocumentSync")
-    sync = at(sync, "change") if isinstance(sync, dict) else sync
+    return at(sync, "change") if isinstance(sync, dict) else sync
+
+
+def initialized(result):
+    sync = sync_of(result)
     server = [at(result, "serverInfo", name) for name in ("name", "version")]
     return joined(
         " ".join(plain(word, 60) for word in server if word),

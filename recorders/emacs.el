@@ -88,10 +88,40 @@ ignores line ends, and another is there only to say so once."
         (file-already-exists (setq file nil))))
     file))
 
+(defconst lspcheck--before-server
+  (rx string-start
+      (+ (or (+ (any " \t\n"))
+             (seq (opt (* (not (any " \t\n"))) "/") "env"
+                  (* (+ " ") "-"
+                     (or (seq (any "uC") (+ " ") (+ (not (any " ")))) (+ (not (any " ")))))
+                  " ")
+             (seq (opt (* (not (any " \t\n"))) "/") (opt (or "ba" "da" "k" "z")) "sh"
+                  (+ " ") "-" (* alpha) "c ")
+             (seq (opt (* (not (any " \t\n"))) "/") "python" (* (any "0-9.")) (+ " ")
+                  (* (or (seq "-" (any "WX") (+ " ") (+ (not (any " "))) (+ " "))
+                         (seq "-" (+ alnum) (+ " "))))
+                  "-m ")
+             (seq (or "cd" "export" "source" "." "set" "umask") " "
+                  (* (not (any ";&|\n"))) (+ (any ";&|\n")))
+             "exec "
+             (seq (+ (any "A-Za-z0-9_")) "=" (* (not (any " "))) " "))))
+  "What may come before the server in a command.
+That is `env' and its options, a shell, Python that runs a module, the commands and settings before
+that of the server.")
+
+(defun lspcheck--server-name (words)
+  "The name of the server that a command, a list of WORDS, starts."
+  (let* ((case-fold-search nil)
+         (command (replace-regexp-in-string "[\"']" "" (string-join words " ")))
+         (start (if (string-match lspcheck--before-server command) (match-end 0) 0))
+         (end (string-match "[ \t\n;&|]\\|\\'" command start))
+         (server (substring command start end)))
+    (file-name-nondirectory (if (or (= start 0) (string-empty-p server)) (car words) server))))
+
 (defun lspcheck--begin (process)
   "Create the log of PROCESS, and start what depends on it."
   (let ((file (lspcheck--create (format "%s-%s-%d"
-                                        (file-name-nondirectory (car (process-command process)))
+                                        (lspcheck--server-name (process-command process))
                                         (format-time-string "%Y%m%dT%H%M%S")
                                         (process-id process)))))
     (process-put process 'lspcheck-log file)
@@ -102,18 +132,33 @@ ignores line ends, and another is there only to say so once."
 (defun lspcheck--ended (process _event)
   "Write how PROCESS ended, if it did, to a file next to its log."
   (when-let ((how (cdr (assq (process-status process) '((exit . "status") (signal . "signal"))))))
-    (with-file-modes #o600
-      (write-region (format "%s %d\ntime %s\n" how (process-exit-status process)
-                            (format-time-string "%Y-%m-%dT%H:%M:%S%z"))
-                    nil (concat (file-name-sans-extension (process-get process 'lspcheck-log))
-                                ".exit")
-                    nil 'quiet))
+    (unless (lspcheck--is-deleted process)
+      (with-file-modes #o600
+        (write-region (format "%s %d\ntime %s\n" how (process-exit-status process)
+                              (format-time-string "%Y-%m-%dT%H:%M:%S%z"))
+                      nil (concat (file-name-sans-extension (process-get process 'lspcheck-log))
+                                  ".exit")
+                      nil 'quiet)))
     (dolist (check (process-get process 'lspcheck-checks))
       (when (process-live-p check)
         (process-send-eof check)))))
 
+(defun lspcheck--is-deleted (process)
+  "Whether the log of PROCESS was deleted, which is said once.
+A new file would lack the beginning of the log."
+  (when-let ((file (process-get process 'lspcheck-log)))
+    (unless (file-exists-p file)
+      (unless (process-get process 'lspcheck-is-deleted)
+        (message "lspcheck: nothing more is recorded: the log was deleted: %s" file))
+      (process-put process 'lspcheck-is-deleted t))))
+
 (defun lspcheck--write (process &rest parts)
   "Append PARTS, which consist of bytes, to the log of PROCESS."
+  (unless (lspcheck--is-deleted process)
+    (apply #'lspcheck--append process parts)))
+
+(defun lspcheck--append (process &rest parts)
+  "Append PARTS to the log of PROCESS, which is created if there is none."
   (let* ((coding-system-for-write 'binary) (write-region-inhibit-fsync t)
          (file (process-get process 'lspcheck-log))
          (head (if file "" "lsp-session 1\n"))

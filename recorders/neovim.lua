@@ -102,6 +102,12 @@ local function start_alarm(log)
 end
 
 local function append(log, bytes)
+  if not log.is_deleted and uv.fs_fstat(log.file).nlink == 0 then
+    log.is_deleted = true
+    vim.schedule(function()
+      say("lspcheck: nothing more is recorded: the log was deleted: " .. log.path)
+    end)
+  end
   uv.fs_write(log.file, bytes, -1)
   for check in pairs(log.checks) do
     write(check.input, bytes)
@@ -120,8 +126,29 @@ local function create(name)
   return path, file, problem
 end
 
-local function new_log(command, pid)
-  local name = vim.fn.fnamemodify(command, ":t"):gsub("[^%w._-]", "_")
+-- What may come before the server in a command: `env` and its options, a shell, Python that runs a
+-- module, the commands and settings before that of the server.
+local before_server = "\\C\\v^("
+  .. table.concat({
+    [[\s+]],
+    [[(\S*/)?env(\s+-([uC]\s+\S+|\S+))*\s]],
+    [[(\S*/)?(ba|da|k|z)?sh\s+-\w*c\s]],
+    [[(\S*/)?python[0-9.]*\s+(-[WX]\s+\S+\s+|-\w+\s+)*-m\s]],
+    [[(cd|export|source|\.|set|umask)\s[^;&|\n]*[;&|\n]+]],
+    [[exec\s|\w+\=\S*\s]],
+  }, "|")
+  .. ")+"
+
+-- The name of the server that a command starts.
+local function server_name(words)
+  local command = table.concat(words, " "):gsub("[\"']", "")
+  local server = vim.fn.substitute(command, before_server, "", "")
+  local name = server == command and words[1] or server:match("^[^%s;&|]*")
+  return vim.fn.fnamemodify(name ~= "" and name or words[1], ":t")
+end
+
+local function new_log(words, pid)
+  local name = server_name(words):gsub("[^%w._-]", "_")
   local path, file, problem = create(("%s-%s-%d"):format(name, os.date("%Y%m%dT%H%M%S"), pid))
   if not file then
     say("lspcheck: not recorded: " .. problem)
@@ -137,7 +164,7 @@ end
 
 -- Writes how the server ended to a file next to its log.
 local function note_exit(log, status, signal)
-  local file = uv.fs_open(log.path:gsub("%.log$", ".exit"), "w", owner_file)
+  local file = not log.is_deleted and uv.fs_open(log.path:gsub("%.log$", ".exit"), "w", owner_file)
   if file then
     local ended = signal ~= 0 and ("signal %d"):format(signal) or ("status %d"):format(status)
     uv.fs_write(file, ("%s\ntime %s\n"):format(ended, os.date("%Y-%m-%dT%H:%M:%S%z")), -1)
@@ -178,7 +205,7 @@ uv.spawn = function(command, options, on_exit)
     on_exit(status, signal)
   end)
   if handle then
-    log = new_log(command, pid)
+    log = new_log({ command, unpack(options.args or {}) }, pid)
     started.log = log
     log_of_pipe[options.stdio[1]] = log
     log_of_pipe[options.stdio[2]] = log

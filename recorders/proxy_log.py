@@ -13,10 +13,12 @@ import queue
 import re
 import select
 import subprocess
+import sys
 import threading
 import time
 
 import proxy_snapshots
+import session_log
 
 # The most bytes that wait to be written or read.
 WAITING = 1 << 28
@@ -168,9 +170,18 @@ def private(path, flags):
     return os.open(path, flags | os.O_NOFOLLOW, 0o600)
 
 
-def create_log(folder, server, number):
+def server_name(words):
+    """The name of the server that a command starts, as the module for test suites gives it."""
+    sys.path.append(os.path.join(os.path.dirname(os.path.realpath(__file__)), "python"))
+    # Only now, since the editor waited for what was imported first.
+    import lspcheck_recorder
+
+    return lspcheck_recorder.server_name(words)
+
+
+def create_log(folder, words, number):
     """Creates a log under the first name that is free: its path, and the file."""
-    name = re.sub(r"[^\w.+-]", "_", os.path.basename(server))[:100]
+    name = re.sub(r"[^\w.+-]", "_", server_name(words))[:100]
     stem = os.path.join(folder, f"{name}-{time.strftime('%Y%m%dT%H%M%S')}-{number}")
     for count in itertools.count(1):
         path = f"{stem}.log" if count == 1 else f"{stem}-{count}.log"
@@ -189,7 +200,7 @@ class Log(threading.Thread):
         self.options, self.waiting = options, Waiting()
         self.put, self.end = self.waiting.put, self.waiting.end
         self.path = self.file = self.alarm = None
-        self.number, self.size, self.early, self.is_ended = 0, 0, b"lsp-session 2\n", False
+        self.number, self.size, self.early, self.is_ended = 0, 0, session_log.FIRST_LINE, False
 
     def run(self):
         try:
@@ -217,6 +228,9 @@ class Log(threading.Thread):
     def write(self, record):
         if self.file is None and not self.begin():
             return
+        if os.fstat(self.file).st_nlink == 0:
+            self.stop(f"{self.path}: the log was deleted; nothing more is recorded")
+            return
         record = self.early + record
         self.early = b""
         try:
@@ -241,7 +255,8 @@ class Log(threading.Thread):
         """Creates the log; whether that was possible."""
         try:
             options = self.options
-            self.path, self.file = create_log(options.folder, options.server, self.number)
+            words = [options.server, *options.arguments]
+            self.path, self.file = create_log(options.folder, words, self.number)
         except OSError as error:
             self.stop(f"{self.options.folder}: {error.strerror}; nothing is recorded")
             return False
@@ -265,7 +280,7 @@ class Log(threading.Thread):
 
     def write_exit(self, status):
         """Writes how the server ended, and when."""
-        if self.file is None:
+        if self.file is None or os.fstat(self.file).st_nlink == 0:
             return
         ended = f"status {status}" if status >= 0 else f"signal {-status}"
         when = time.strftime("%Y-%m-%dT%H:%M:%S%z")

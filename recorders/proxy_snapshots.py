@@ -12,50 +12,27 @@ import threading
 import time
 from urllib.parse import unquote_to_bytes
 
+import proxy_files
 import proxy_log
+from proxy_files import look_at, read
+from session_log import LONGEST_LINE, MOST_TEXT, MOST_URI, SNAPSHOT, TEXT, Frames, Record
 
 # How long after a save the file is read, in seconds, if nothing happens to its document: some
 # editors send `didSave` first, and half a second later the change that they have saved.
 QUIET = 1.0
 
 # How long after the file was written `didSave` may come, in nanoseconds, if a change was sent in
-# between. Later than that, the change may be one that was made after the file was written.
+# between, and how long after that change. Later than that, the change may be one that was made
+# after the file was written.
 PROMPT = 150_000_000
-
-# The limits of a log and of the Base Protocol: bytes of a text, of a URI, of a header part, of a
-# content.
-MOST_TEXT = 1 << 24
-MOST_URI = 8192
-MOST_HEADER = 4096
-MOST_CONTENT = 1 << 26
+TOGETHER = 20_000_000
 
 VERSIONS = range(-(1 << 31), 1 << 31)
 
 BYTE_ORDER_MARK = "\ufeff".encode()
 
-
-class Frames:
-    """The contents of the frames of one side."""
-
-    length = re.compile(rb"^content-length:[ \t]*([0-9]{1,10})[ \t]*\r$", re.I | re.M)
-
-    def __init__(self):
-        self.held = bytearray()
-
-    def add(self, data):
-        """Each content that is complete with these bytes."""
-        self.held += data
-        while (end := self.held.find(b"\r\n\r\n", 0, MOST_HEADER)) >= 0:
-            size = int(self.length.search(self.held[: end + 2])[1])
-            if size > MOST_CONTENT:
-                raise ValueError("a message is too long")
-            if len(self.held) < end + 4 + size:
-                return
-            content = bytes(self.held[end + 4 : end + 4 + size])
-            del self.held[: end + 4 + size]
-            yield content
-        if len(self.held) >= MOST_HEADER:
-            raise ValueError("a header part is too long")
+# What a text may have in UTF-16 and in ISO-2022-JP, and hardly ever in UTF-8.
+FOREIGN = "\0\x1b"
 
 
 def path_of(uri):
@@ -66,32 +43,6 @@ def path_of(uri):
     return None
 
 
-def state_of(status):
-    """What changes when a file is written: the time in nanoseconds, the size and the inode. None
-    for what isn't a plain file, or is larger than a snapshot may be."""
-    if not stat.S_ISREG(status.st_mode) or status.st_size > MOST_TEXT:
-        return None
-    return status.st_mtime_ns, status.st_size, status.st_ino
-
-
-def look_at(path):
-    """The state of a file, or None without one that can be read."""
-    try:
-        return state_of(os.stat(path)) if path else None
-    except (OSError, ValueError):
-        return None
-
-
-def read(path, state):
-    """The bytes of a file, if it is still in this state when they are read."""
-    try:
-        with open(path, "rb", opener=without_waiting) as file:
-            data = file.read(MOST_TEXT + 1)
-            return data if state_of(os.fstat(file.fileno())) == state else None
-    except OSError:
-        return None
-
-
 def is_utf_8(data):
     try:
         return data.decode() is not None
@@ -99,54 +50,66 @@ def is_utf_8(data):
         return False
 
 
-def without_waiting(path, flags):
-    """Opens a file. If it has become a named pipe, that waits for nobody."""
-    return os.open(path, flags | os.O_NONBLOCK | os.O_NOCTTY)
-
-
 class Document:
     """An open document, as far as the editor's messages tell."""
 
-    def __init__(self, uri, version, text):
+    def __init__(self, uri, version, text, watch):
         self.uri, self.path, self.version = uri.encode(), path_of(uri), version
+        self.watch, self.written = watch, watch.add(self.path)
         self.state_at_change = self.state_at_save = None
+        self.changed = 0
+        self.foreign = set(FOREIGN)
         self.hear_text(text)
 
     def hear_text(self, text):
         """Notes what a whole text has of the things that editors leave out or convert."""
         self.has_mark = text.startswith(BYTE_ORDER_MARK.decode())
         self.has_return = "\r" in text
+        self.hear_part(text)
 
-    def hear_change(self, version, changes):
-        self.version = version
+    def hear_part(self, text):
+        """Notes which of the characters that hint at another encoding the document has."""
+        self.foreign -= set(filter(text.__contains__, self.foreign))
+
+    def hear_change(self, version, changes, now):
+        self.version, self.changed = version, now
+        self.written.hear_change()
         for change in changes:
             if change.get("range") is None:
                 self.hear_text(change["text"])
             else:
                 self.has_return = self.has_return or "\r\n" in change["text"]
+                self.hear_part(change["text"])
         self.state_at_change = look_at(self.path)
 
     def hear_save(self, now):
         """Notes the file's state; whether the file may have this version's text."""
+        self.written.hear_save()
         self.state_at_save = state = look_at(self.path)
         if state is None or len(self.uri) > MOST_URI or self.version not in VERSIONS:
             return False
         # A file whose state was the same when the last change was sent was written before that. Its
         # own clock may differ from this one, so only the delay is taken from it.
         is_older = state == self.state_at_change
-        return not is_older or 0 <= now - state[0] <= PROMPT
+        is_prompt = 0 <= now - state[0] <= PROMPT and now - self.changed <= TOGETHER
+        return is_prompt or not is_older
+
+    def is_as_sent(self, text):
+        """Whether these bytes are UTF-8, and don't look like another encoding."""
+        return is_utf_8(text) and not any(it.encode() in text for it in self.foreign)
 
     def snapshot(self):
         """A record with the file's text as the editor sends it, or None."""
-        text = read(self.path, self.state_at_save)
-        if text is None or not is_utf_8(text):
+        text, state = read(self.path)
+        self.watch.settle()
+        is_saved = state == self.state_at_save and self.written.is_one_text()
+        if not is_saved or not self.is_as_sent(text):
             return None
         if text.startswith(BYTE_ORDER_MARK) and not self.has_mark:
             text = text[len(BYTE_ORDER_MARK) :]
         if not self.has_return:
             text = text.replace(b"\r\n", b"\n")
-        sizes = (self.version, len(self.uri), len(text))
-        return b"T %d %d %d\n%s\n%s\n" % (*sizes, self.uri, text)
+        return Record(SNAPSHOT, text, self.version, self.uri).encoded()
 
 
 def version_of(item):
@@ -166,10 +129,12 @@ class Saves(threading.Thread):
         # The open documents by URI; for those that were saved, when they are due; and the time of
         # the editor's last bytes.
         self.documents, self.due, self.now = {}, {}, 0
+        self.watch = proxy_files.Watch()
 
     def run(self):
         try:
-            self.watch()
+            self.watch.start()
+            self.follow()
         except Exception as error:
             proxy_log.say(f"no more snapshots of saved files: {error!r}")
         self.waiting.end()
@@ -179,7 +144,7 @@ class Saves(threading.Thread):
         self.waiting.end()
         self.join(1)
 
-    def watch(self):
+    def follow(self):
         frames = Frames()
         while True:
             next_due = next(iter(self.due.values()), None)
@@ -211,19 +176,22 @@ class Saves(threading.Thread):
             params = message["params"]
             uri = params["textDocument"]["uri"]
             self.due.pop(uri, None)
+            self.watch.settle()
             step(self, uri, params)
 
     def did_open(self, uri, params):
+        self.did_close(uri, params)
         item = params["textDocument"]
-        self.documents[uri] = Document(uri, version_of(item), item["text"])
+        self.documents[uri] = Document(uri, version_of(item), item["text"], self.watch)
 
     def did_change(self, uri, params):
         version = version_of(params["textDocument"])
         if uri in self.documents:
-            self.documents[uri].hear_change(version, params["contentChanges"])
+            self.documents[uri].hear_change(version, params["contentChanges"], self.now)
 
     def did_close(self, uri, _params):
-        self.documents.pop(uri, None)
+        if document := self.documents.pop(uri, None):
+            self.watch.remove(document.written)
 
     def did_save(self, uri, _params):
         if uri in self.documents and self.documents[uri].hear_save(self.now):
@@ -241,7 +209,6 @@ class Plugin(threading.Thread):
     """Takes the snapshots that a plug-in writes to a file or a named pipe, from now on."""
 
     PAUSE = 0.05
-    head = re.compile(rb"T (0|-?[1-9][0-9]{0,9}) ([1-9][0-9]{0,3}) (0|[1-9][0-9]{0,7})\n")
 
     def __init__(self, path, add):
         super().__init__(daemon=True)
@@ -284,9 +251,9 @@ class Plugin(threading.Thread):
 
     def next(self):
         """The next record, if all of it is here."""
-        head = self.head.match(self.held)
+        head = TEXT.match(self.held)
         if head is None:
-            if b"\n" in self.held or len(self.held) >= 64:
+            if b"\n" in self.held or len(self.held) >= LONGEST_LINE:
                 raise ValueError("this is not a snapshot")
             return None
         version, uri_size, text_size = map(int, head.groups())

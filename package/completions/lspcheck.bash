@@ -17,7 +17,7 @@ _lspcheck() {
     [[ $previous == "=" && $given == *" --as "* ]] && previous=--as
     case $command in
         "") options="--help --version -h -V" ;;
-        check) options="--complete --all --every --ignore-line-ends --quiet --help -h" ;;
+        check) options="--complete --all --every --compared --ignore-line-ends --quiet --help -h" ;;
         explain) options="--complete --all --ignore-line-ends --by-messages --in-editor --quiet --help -h" ;;
         show) options="--all --long --quiet --help -h" ;;
         text) options="--all --quiet --help -h" ;;

@@ -29,6 +29,7 @@ complete -c lspcheck -n '__lspcheck_option complete check explain' -l complete -
 complete -c lspcheck -n '__lspcheck_option all check explain' -l all -d 'Every independent violation'
 complete -c lspcheck -n '__lspcheck_option all text' -l all -d 'Skip each message that breaks a rule'
 complete -c lspcheck -n '__lspcheck_option every check' -l every -d 'Every violation, consequences included'
+complete -c lspcheck -n '__lspcheck_option compared check' -l compared -d 'Status 1 if a yes compared no snapshot'
 complete -c lspcheck -n '__lspcheck_option ignore-line-ends check explain' -l ignore-line-ends -d 'Compare texts line by line'
 complete -c lspcheck -n '__lspcheck_option by-messages explain' -l by-messages -d 'Write only the text that the messages produce'
 complete -c lspcheck -n '__lspcheck_option in-editor explain' -l in-editor -d 'Write only the text of the editor'

@@ -71,7 +71,8 @@ function columnsPart(violation, row) {
   const fits = linesWith(violation, "fits")[0] ?? [];
   const encodings = ENCODINGS.filter((it) => it === session.encoding || fits.includes(it));
   return element("section", "line-columns",
-    element("h3", "", `Line ${line} before this change `, source("page")),
+    element("h3", "", `Line ${line + 1} before this change `, source("page")),
     columnsTable(cells, cellAt(cells, column, session.encoding), encodings),
-    element("p", "quiet", `The message has column ${column}, in ${session.encoding}.`));
+    element("p", "quiet", `The message has line ${line}, counted from 0, and column ${column}, ` +
+      `in ${session.encoding}.`));
 }

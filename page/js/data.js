@@ -1,32 +1,37 @@
-// The data of the page: the index, read at once, and the contents, read when they are needed.
+// The data of the page, which is compressed: the index, and blocks of the contents of events.
 
-const session = JSON.parse(document.getElementById("session").textContent);
+// The text of a block. Browsers decompress in pieces, so this waits.
+async function loaded(id) {
+  const packed = atob(document.getElementById(id).textContent);
+  const bytes = new Uint8Array(packed.length);
+  for (let at = 0; at < packed.length; at += 1) {
+    bytes[at] = packed.charCodeAt(at);
+  }
+  const unpacked = new Blob([bytes]).stream().pipeThrough(new DecompressionStream("deflate"));
+  return new Response(unpacked).text();
+}
+
+const session = JSON.parse(await loaded("session"));
+const blockTexts =
+  await Promise.all(session.blocks.map((_, number) => loaded(`contents-${number}`)));
 
 const EDITOR = 0, SERVER = 1, SNAPSHOT = 2;
 const SIDES = ["editor", "server", "snapshot"];
-const KINDS = ["request", "notification", "result", "error", "snapshot", "unreadable"];
 // How many blocks of contents are kept after they were read.
 const KEPT_BLOCKS = 40;
 
-const rows = session.rows.map((row, index) => ({
-  index,
-  event: row[0],
-  side: row[1],
-  number: row[2],
-  kind: KINDS[row[3]],
-  method: session.methods[row[4]],
-  id: row[5],
-  document: row[6],
-  uri: session.documents[row[6]],
-  version: row[7],
-  bytes: row[8],
-  summary: row[9],
-  // For a response or a cancel, the event of its request; for a request, that of its response.
-  partner: row[10],
-  // For a request, the event that cancels it.
-  cancel: row[11],
-  violation: null,
-}));
+// The rows, with a member for each column of the index.
+const rows = session.rows.event.map((event, index) => ({ event, index, violation: null }));
+for (const [name, values] of Object.entries(session.rows)) {
+  values.forEach((value, index) => {
+    rows[index][name] = value;
+  });
+}
+for (const row of rows) {
+  row.kind = session.kinds[row.kind];
+  row.method = session.methods[row.method];
+  row.uri = session.documents[row.document];
+}
 
 const indexOfEvent = new Map(rows.map((row) => [row.event, row.index]));
 
@@ -51,8 +56,7 @@ const keptBlocks = new Map();
 
 function block(number) {
   if (!keptBlocks.has(number)) {
-    const text = document.getElementById(`contents-${number}`).textContent;
-    keptBlocks.set(number, JSON.parse(text));
+    keptBlocks.set(number, JSON.parse(blockTexts[number]));
     if (keptBlocks.size > KEPT_BLOCKS) {
       keptBlocks.delete(keptBlocks.keys().next().value);
     }

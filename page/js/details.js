@@ -1,61 +1,7 @@
 // What is shown when an event is opened: its violation, the texts that differ, its content.
 
-const MOST_COMPARED = 300, MOST_OF_PIECE = 400;
-
 function hasText(row) {
   return row.document >= 0 && settingRows[row.document].length > 0;
-}
-
-// A piece of a line, without its middle if it is very long.
-function comparedPiece(text, isMarked = false) {
-  if (text.length <= 2 * MOST_OF_PIECE) {
-    return visibleText(text, isMarked);
-  }
-  const left = count(text.length - 2 * MOST_OF_PIECE, "character");
-  return [
-    ...visibleText(text.slice(0, MOST_OF_PIECE), isMarked),
-    element("span", "left-out", `… ${left} …`),
-    ...visibleText(text.slice(-MOST_OF_PIECE), isMarked),
-  ];
-}
-
-// One side of a line in a comparison.
-function comparedCell(line, pieces, isEqual) {
-  const number = element("span", "line-number", pieces ? String(line + 1) : "");
-  const text = element("span", "line-text");
-  for (const [piece, isMarked] of pieces ?? []) {
-    const shown = isEqual ? piece.replace(/\n$/, "") : piece;
-    fill(text, isMarked ? [element("mark", "", comparedPiece(shown, true))] : comparedPiece(shown));
-  }
-  return element("div", pieces ? "cell" : "cell none", number, text);
-}
-
-function comparedRow(item) {
-  if (item.skipped) {
-    return element("div", "skipped", count(item.skipped, "equal line"));
-  }
-  const [a, b] = item.isEqual ? item.pair.map((line) => [[line, false]]) : markedPair(...item.pair);
-  return element("div", item.isEqual ? "pair equal" : "pair differs",
-    comparedCell(item.lineA, a, item.isEqual), comparedCell(item.lineB, b, item.isEqual));
-}
-
-// Two texts side by side, with the characters that differ marked.
-function comparison(a, b, labelA, labelB, who) {
-  const items = comparedTexts(a, b);
-  const table = element("div", "compared",
-    element("div", "pair heads", element("div", "", ...labelA), element("div", "", ...labelB)));
-  if (items.length === 0) {
-    return element("p", "quiet", "Both texts are equal. ", source(who));
-  }
-  let shown = 0;
-  const more = button("more", "", () => {
-    table.append(...items.slice(shown, shown + MOST_COMPARED).map(comparedRow));
-    shown += MOST_COMPARED;
-    more.hidden = shown >= items.length;
-    more.textContent = `${(items.length - shown).toLocaleString("en")} more lines`;
-  });
-  more.click();
-  return element("div", "comparison", table, more);
 }
 
 // The values of each line of an explanation that begins with a word.
@@ -102,9 +48,9 @@ function textsThatDiffer(violation, row) {
   const own = violation.rule === 608 ? "Saved by the editor" : "In the editor";
   const said = texts[2] === "lspcheck" ? "Both texts are what lspcheck wrote; " :
     "The text on the left was worked out by this page, not by lspcheck; ";
+  const left = texts[2] === "lspcheck" ? session.texts : null;
   return element("section", "texts",
-    element("h3", "", "The two texts"),
-    comparison(texts[0], texts[1], ["By the messages"], [own], texts[2]),
+    comparison(texts[0], texts[1], ["By the messages"], [own], texts[2], left),
     element("p", "quiet", said, "what differs is marked by this page."));
 }
 
@@ -120,11 +66,14 @@ function explanation(violation) {
   return facts;
 }
 
-function whatWasWritten(violation) {
+function reportOf(violation) {
   const follows = violation.follows ? " follows" : "";
   const head = `no ${violation.rule} ${violation.who} ${violation.number} event ${violation.event}`;
-  const text = [head + follows, violation.text, ...violation.lines].join("\n");
-  return folded("The words of lspcheck", () => longText(text, "raw"));
+  return [head + follows, violation.text, ...violation.lines].join("\n");
+}
+
+function whatWasWritten(violation) {
+  return folded("The words of lspcheck", () => longText(reportOf(violation), "raw"));
 }
 
 // What RULES says about a rule.
@@ -166,23 +115,31 @@ function suspects(violation) {
     ...found.map((values) => suspectPart(values, found.length === 1)));
 }
 
-// All that is known about a violation.
-function violationPart(violation) {
-  const row = rowOfEvent(violation.event);
-  const texts = row ? textsThatDiffer(violation, row) : null;
-  if (violation.follows) {
-    return element("div", "violation-part",
-      element("section", "why", element("h3", "", "Why "),
-        element("p", "", "It follows from an earlier violation. lspcheck explains only that one.")),
-      texts, aboutRule(violation.rule));
-  }
+// Of a violation that follows: from which.
+function whyItFollows(violation) {
+  const cause = causeOf(violation);
+  return element("section", "why", element("h3", "", "Why "),
+    element("p", "", "It follows from an earlier violation, which lspcheck explains",
+      cause ? [": ", eventLink(cause.event), `, ${cause.rule} ${cause.text} `, source("page")] : "",
+      ". If that one is mended, this one may be gone."));
+}
+
+function whyItIs(violation) {
+  const command = lspcheckCommand("explain", "--all");
   const why = violation.lines.length > 0 ? [explanation(violation), whatWasWritten(violation)] :
     [element("p", "", "This page explains only the first violations. The others are explained by ",
-      shownText(`lspcheck explain --all ${session.name}`), ".")];
+      shownCommand(command), ".")];
+  return element("section", "why", element("h3", "", "Why ", source("lspcheck")), ...why);
+}
+
+// All that is known about a violation: what differs first.
+function violationPart(violation) {
+  const row = rowOfEvent(violation.event);
   return element("div", "violation-part",
-    element("section", "why", element("h3", "", "Why ", source("lspcheck")), ...why),
     row ? columnsPart(violation, row) : null,
-    texts, suspects(violation), aboutRule(violation.rule));
+    row ? textsThatDiffer(violation, row) : null,
+    violation.follows ? whyItFollows(violation) : whyItIs(violation),
+    aboutRule(violation.rule), suspects(violation));
 }
 
 // The text before and after a didChange, as this page makes them.
@@ -197,17 +154,18 @@ function whatChanged(row) {
 
 function textAfter(row) {
   const lines = linesAfter(row.document, row.index);
+  const command = textCommand(editorNumberAt(row), row.uri);
+  const whose = isProved ? "The proved text" : "The text of lspcheck";
+  const writes = command ?
+    element("p", "quiet", `${whose} is written by `, shownCommand(command)) : null;
   if (!lines) {
     const why = lines === null ? "The document is not open after this event." :
       "This page does not have all messages that made the text.";
-    return element("p", "quiet", why);
+    return element("div", "", element("p", "quiet", why), lines === null ? null : writes);
   }
-  const before = rows.slice(0, row.index + 1).findLast((it) => it.side === EDITOR);
-  const command = `lspcheck text --all ${before.number} '${row.uri}' ${session.name}`;
   return element("div", "",
     element("p", "quiet", source("page"), " made from the editor’s messages, without those that ",
-      "break a rule. The proved text is written by ", shownText(command)),
-    longText(lines.join(""), "document-text"));
+      "break a rule."), writes, longText(lines.join(""), "document-text"));
 }
 
 function contentPart(row) {
@@ -216,28 +174,36 @@ function contentPart(row) {
     return element("p", "quiet", "This frame has no content that can be read.");
   }
   if (content === null) {
-    return element("p", "quiet", "The content was left out of this page. ",
-      shownText(`lspcheck event ${row.event} ${session.name}`), " writes it.");
+    return element("p", "quiet", "The content was left out of this page. It is written by ",
+      shownCommand(lspcheckCommand("event", String(row.event))));
   }
   const text = row.side === SNAPSHOT ? content : indentedJson(content);
   return longText(text, row.side === SNAPSHOT ? "document-text" : "json", 30000);
 }
 
-function joinsOf(row) {
-  const said = [];
-  if (row.kind === "request" && row.partner) {
-    said.push(" · answered by ", eventLink(row.partner));
-  } else if (row.kind === "request" && !row.violation) {
-    said.push(" · not answered in the log");
-  } else if (row.kind === "notification" && row.partner) {
-    said.push(" · cancels ", eventLink(row.partner));
-  } else if (row.partner) {
-    said.push(" · answers ", eventLink(row.partner));
+// The content of a row, next to that of the answer to it or of the request that it answers.
+function contentsPart(row) {
+  const isJoined = ["request", "result", "error"].includes(row.kind) && !row.violation;
+  const other = isJoined ? rowOfEvent(row.partner) : undefined;
+  if (!other) {
+    return contentPart(row);
   }
-  if (row.cancel) {
-    said.push(" · cancelled by ", eventLink(row.cancel));
+  const half = (it, label) => element("section", "half",
+    element("h3", "", `${label}, `, eventLink(it.event)), contentPart(it));
+  const [request, answer] = row.kind === "request" ? [row, other] : [other, row];
+  return element("div", "halves", half(request, "Request"),
+    half(answer, answer.kind === "error" ? "Error" : "Result"));
+}
+
+// Links to the versions and snapshots of a row's document before it and after it.
+function versionLinks(row) {
+  const found = row.document >= 0 ? versionRows(row.document) : [], at = found.indexOf(row);
+  if (at < 0) {
+    return [];
   }
-  return said;
+  const link = (other, words) => (other ?
+    [" · ", eventLink(other.event, `${words}: ${versionLabel(other)}`)] : []);
+  return [...link(found[at - 1], "previous"), ...link(found[at + 1], "next")];
 }
 
 // What is below a row when it is open.
@@ -247,7 +213,7 @@ function detailsOf(row) {
     element("p", "about", eventLink(row.event), ` · ${whose} ${row.number}`,
       ` · ${count(row.bytes, "byte")}`,
       row.id === null ? null : [" · id ", ...visibleText(row.id)],
-      ...joinsOf(row)),
+      ...joinsOf(row), ...versionLinks(row)),
     row.uri ? element("p", "about uri", shownText(row.uri)) : null);
   if (row.violation) {
     made.append(violationPart(row.violation));
@@ -258,6 +224,9 @@ function detailsOf(row) {
   if (hasText(row)) {
     made.append(folded("The text after this event", () => textAfter(row)));
   }
-  made.append(contentPart(row));
+  if (row.document >= 0 && versionRows(row.document).includes(row)) {
+    fill(made, [versionsPart(row.document, row)]);
+  }
+  made.append(contentsPart(row));
   return made;
 }

@@ -128,7 +128,8 @@ function markedPair(a, b) {
 const CONTEXT = 3;
 
 // Two texts as lists of lines, compared. An item is { pair, lineA, lineB, isEqual } with a line of
-// each (null if there is none) and their numbers from 0, or { skipped }: equal lines not shown.
+// each (null if there is none) and their numbers from 0, or { skipped, lineA, lineB }: this many
+// equal lines from these on are not shown.
 function comparedTexts(linesA, linesB) {
   const items = [];
   let at = 0, shift = 0;
@@ -143,7 +144,7 @@ function comparedTexts(linesA, linesB) {
     const again = to === linesA.length ? to : Math.max(to - CONTEXT, until);
     addEqual(from, until);
     if (again > until) {
-      items.push({ skipped: again - until });
+      items.push({ skipped: again - until, lineA: until, lineB: until + shift });
     }
     addEqual(again, to);
   };

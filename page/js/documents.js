@@ -43,6 +43,13 @@ function linesAfterGap(documentNumber, gap) {
   return found && (found.text === null ? null : linesOf(found.text));
 }
 
+// The number of the editor's last message up to a row's event, 0 if there is none.
+function editorNumberAt(row) {
+  const before = rows.slice(0, row.index + 1).findLast((it) => it.side === EDITOR);
+  const gap = gapBetween(before?.event ?? 0, row.event);
+  return gap ? gap.editor : before?.number ?? 0;
+}
+
 // The last gap between two events, or undefined.
 function gapBetween(before, after) {
   return gaps.findLast((gap) => gap.from > before && gap.to < after);
@@ -76,4 +83,19 @@ function linesAfter(documentNumber, index, isLastMade = false) {
 function rowOfVersion(documentNumber, version, index) {
   const isIt = (row) => row.version === version && row.index <= index && !row.violation;
   return settingRows[documentNumber].findLast(isIt);
+}
+
+// The rows that give a document a version: the messages that set one, and the snapshots.
+function versionRows(documentNumber) {
+  return namingRows[documentNumber].filter((row) => row.version !== null &&
+    (row.side === SNAPSHOT || (row.side === EDITOR && SETS_TEXT.includes(row.method))));
+}
+
+// The lines of the text that a row sets or shows, or null or undefined as for `linesAfter`.
+function linesOfVersion(row) {
+  if (row.side !== SNAPSHOT) {
+    return linesAfter(row.document, row.index, true);
+  }
+  const content = contentOf(row);
+  return content === null ? undefined : linesOf(content);
 }

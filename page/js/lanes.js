@@ -1,194 +1,7 @@
 // The two lanes: only what is seen is in the tree of the page. Each row has the same height; an
 // open one has its details below it, whose height is measured.
 
-const SPINE = 132, TRACKS = 6, MARGIN = 600, MOST_PRINTED = 1500;
-
-// The rows of the lanes: those of events, of gaps where a long log was cut, and of the end.
-function laneItems() {
-  const items = [];
-  let next = 0;
-  for (const gap of gaps) {
-    while (next < rows.length && rows[next].event < gap.from) {
-      items.push(rows[next]);
-      next += 1;
-    }
-    items.push({ kind: "gap", gap });
-  }
-  items.push(...rows.slice(next), { kind: "end" });
-  return items;
-}
-
-const items = laneItems();
-
-// The request whose line ends at an event: at its answer, or at its cancel if it has no answer.
-const endingAt = new Map();
-
-function endOf(request) {
-  return [request.partner, request.cancel].find((event) => indexOfEvent.has(event));
-}
-
-// Draws each request as a line from its row to that of its answer: finds a free track for each.
-function layTracks() {
-  const free = [EDITOR, SERVER].map(() => Array.from({ length: TRACKS }, (_, track) => track));
-  const active = [new Set(), new Set()];
-  for (const item of items) {
-    item.passing = active.map((tracks) => [...tracks]);
-    const ending = endingAt.get(item.event);
-    if (ending) {
-      active[ending.side].delete(ending.track);
-      free[ending.side].push(ending.track);
-      free[ending.side].sort();
-    }
-    const end = item.kind === "request" ? endOf(item) : undefined;
-    if (end !== undefined && free[item.side].length) {
-      item.track = free[item.side].shift();
-      active[item.side].add(item.track);
-      endingAt.set(end, item);
-    }
-  }
-}
-
-layTracks();
-
-function xOfTrack(side, track) {
-  return side === EDITOR ? 40 - track * 6 : SPINE - 40 + track * 6;
-}
-
-function svg(tag, attributes) {
-  const made = document.createElementNS("http://www.w3.org/2000/svg", tag);
-  for (const [name, value] of Object.entries(attributes)) {
-    made.setAttribute(name, value);
-  }
-  return made;
-}
-
-function linesOfSpine(item, height) {
-  const middle = height / 2, lines = [], ending = endingAt.get(item.event);
-  item.passing.forEach((tracks, side) => tracks.forEach((track) => {
-    const ends = ending && ending.side === side && ending.track === track;
-    lines.push([`M${xOfTrack(side, track)} 0V${ends ? middle : height}`, `track-${SIDES[side]}`]);
-  }));
-  if (item.track !== undefined) {
-    const x = xOfTrack(item.side, item.track);
-    lines.push([`M${x} ${middle}V${height}`, `track-${SIDES[item.side]}`]);
-  }
-  const cancelled = item.kind === "notification" && item.partner ? rowOfEvent(item.partner) : null;
-  if (cancelled && cancelled.track !== undefined) {
-    const x = xOfTrack(cancelled.side, cancelled.track);
-    lines.push([`M${x - 4} ${middle - 4}l8 8m0 -8l-8 8`, `track-${SIDES[cancelled.side]}`]);
-  }
-  return lines;
-}
-
-// The middle of a row: the number, an arrow from one side to the other, and the tracks.
-function spine(item, height) {
-  const drawn = svg("svg", { width: SPINE, height, class: "spine-lines", "aria-hidden": "true" });
-  for (const [path, classes] of linesOfSpine(item, height)) {
-    drawn.append(svg("path", { d: path, class: classes }));
-  }
-  const middle = height / 2;
-  if (item.side === EDITOR) {
-    const d = `M2 ${middle}H${SPINE - 4}m-5 -4l5 4l-5 4`;
-    drawn.append(svg("path", { d, class: "arrow" }));
-  } else if (item.side === SERVER) {
-    const d = `M${SPINE - 2} ${middle}H4m5 -4l-5 4l5 4`;
-    drawn.append(svg("path", { d, class: "arrow" }));
-  }
-  return element("div", "spine", drawn, element("span", "number", String(item.event)));
-}
-
-function methodName(method) {
-  const at = method.lastIndexOf("/") + 1;
-  const name = element("span", "method", visibleText(method.slice(at)));
-  return at === 0 ? [name] : [element("span", "quiet", visibleText(method.slice(0, at))), name];
-}
-
-function nameOf(row) {
-  if (row.side === SNAPSHOT) {
-    return [element("span", "tag tag-snapshot", "snapshot")];
-  }
-  if (row.kind === "result" || row.kind === "error") {
-    const asked = row.method ? methodName(row.method) : [];
-    return [element("span", `tag tag-${row.kind}`, row.kind), " ", ...asked];
-  }
-  if (row.method === undefined) {
-    const said = row.kind === "unreadable" ? "cannot be read" : row.kind;
-    return [element("span", "tag tag-error", said)];
-  }
-  return methodName(row.method);
-}
-
-const suspectEvents = new Set();
-const equalEvents = new Set();
-for (const violation of session.violations) {
-  linesWith(violation, "suspect").forEach((values) => suspectEvents.add(Number(values[2])));
-  linesWith(violation, "equal").forEach((values) => equalEvents.add(Number(values[2])));
-}
-
-function tagsOf(row) {
-  const tags = [];
-  if (row.violation) {
-    const classes = row.violation.follows ? "tag tag-follows" : "tag tag-bad";
-    const follows = row.violation.follows ? " (follows)" : "";
-    tags.push(element("span", classes, `${row.violation.rule} ${row.violation.text}${follows}`));
-  }
-  if (suspectEvents.has(row.event) && !row.violation) {
-    tags.push(element("span", "tag tag-suspect", "suspect"));
-  }
-  if (row.cancel) {
-    tags.push(element("span", "tag tag-result", "cancelled"));
-  }
-  if (equalEvents.has(row.event)) {
-    tags.push(element("span", "tag tag-equal", "last equal"));
-  }
-  return tags;
-}
-
-function messageCell(row) {
-  const version = row.version === null ? null : element("span", "version", `v${row.version}`);
-  const file = row.uri ? element("span", "file", visibleText(baseName(row.uri))) : null;
-  const id = row.id === null ? null : element("span", "id", "#", visibleText(row.id));
-  const made = button("say", "", null);
-  made.append(
-    element("span", "what", ...tagsOf(row), ...nameOf(row), id, file, version),
-    element("span", "summary", visibleText(row.summary)));
-  made.setAttribute("aria-expanded", "false");
-  return made;
-}
-
-function badTag(text) {
-  return element("span", "tag tag-bad", text);
-}
-
-function endCell() {
-  const last = session.violations.filter((it) => it.event > session.events);
-  const said = last.map((it) => badTag(`${it.rule} ${it.text} (${it.who})`));
-  const isBad = session.ending[0].startsWith("bad log");
-  const badLog = isBad ? badTag(session.ending.slice(0, 2).join(" ")) : null;
-  return element("div", "wide", element("span", "quiet", "End of the log"), ...said,
-    badLog, session.exit.length ? element("span", "", visibleText(endOfServer())) : null);
-}
-
-function gapCell(gap) {
-  const [first, last] = [gap.from, gap.to].map((event) => event.toLocaleString("en"));
-  const left = count(gap.to - gap.from + 1, "event");
-  return element("div", "wide", element("span", "quiet", `${left} left out: ${first} to ${last}`));
-}
-
-function lineOf(item, height) {
-  if (item.kind === "gap" || item.kind === "end") {
-    return element("div", "line", item.kind === "gap" ? gapCell(item.gap) : endCell());
-  }
-  const cells = [messageCell(item), spine(item, height), element("div", "empty")];
-  return element("div", "line", ...(item.side === SERVER ? cells.reverse() : cells));
-}
-
-function classesOf(item) {
-  const violation = item.violation;
-  const bad = violation ? (violation.follows ? "follows" : "bad") : "";
-  const suspect = item.event && suspectEvents.has(item.event) && !violation ? "is-suspect" : "";
-  return `row ${item.side === undefined ? "" : SIDES[item.side]} ${bad} ${suspect}`;
-}
+const MARGIN = 600, MOST_PRINTED = 1500;
 
 class Lanes {
   constructor(container) {
@@ -197,17 +10,18 @@ class Lanes {
     this.nodes = new Map();
     this.heights = new Map();
     this.selected = null;
+    this.isPrinting = false;
     this.measuring = new ResizeObserver((entries) => this.measure(entries));
     this.wide = matchMedia("(min-width: 1100px)");
     this.wide.addEventListener("change", () => this.draw(true));
     addEventListener("scroll", () => this.draw(), { passive: true });
     addEventListener("resize", () => this.draw());
     addEventListener("beforeprint", () => this.print());
-    addEventListener("afterprint", () => this.draw(true));
+    addEventListener("afterprint", () => this.endPrint());
   }
 
   get height() {
-    return this.wide.matches ? 30 : 46;
+    return this.wide.matches && !this.isPrinting ? 30 : 46;
   }
 
   // The places of the open rows among those shown, in order, each with the height of its details.
@@ -234,54 +48,85 @@ class Lanes {
     return Math.floor((top - extra) / this.height);
   }
 
+  // While the page is printed, the layout changes, but not what is printed.
   draw(again = false) {
+    if (this.isPrinting) {
+      return;
+    }
     if (again) {
-      this.nodes.forEach((node) => node.remove());
-      this.nodes.clear();
-      this.container.classList.remove("printed");
+      this.clear();
     }
     const opened = this.opened();
     this.container.style.height = `${this.topOf(this.shown.length, opened)}px`;
     const top = -this.container.getBoundingClientRect().top;
     const first = Math.max(this.placeAt(top - MARGIN, opened), 0);
     const last = Math.min(this.placeAt(top + innerHeight + MARGIN, opened), this.shown.length - 1);
-    const wanted = new Set(this.shown.slice(first, last + 1));
+    const places = [];
+    for (let at = first; at <= last; at += 1) {
+      places.push(at);
+    }
+    const focused = this.placeOfFocus();
+    if (focused >= 0 && (focused < first || focused > last)) {
+      places.push(focused);
+      places.sort((a, b) => a - b);
+    }
+    this.place(places, opened);
+  }
+
+  clear() {
+    this.nodes.forEach((node) => node.remove());
+    this.nodes.clear();
+    this.measuring.disconnect();
+  }
+
+  // The place of the row that has the focus, which stays in the tree wherever one scrolls, or -1.
+  placeOfFocus() {
+    const row = document.activeElement?.closest?.("#lanes > .row");
+    return row ? this.shown.indexOf(row.item) : -1;
+  }
+
+  // Puts the rows of these places into the tree, in order, and takes all others away.
+  place(places, opened) {
+    const wanted = new Set(places.map((at) => this.shown[at]));
     for (const [item, node] of this.nodes) {
       if (!wanted.has(item)) {
-        this.measuring.unobserve(node.lastChild);
         node.remove();
         this.nodes.delete(item);
       }
     }
-    this.place(first, last, opened);
-  }
-
-  // Puts the rows of these places into the tree, where they are not yet, and moves each.
-  place(first, last, opened) {
-    let top = this.topOf(Math.max(first, 0), opened);
-    for (let at = first; at <= last; at += 1) {
+    let next = this.container.firstChild;
+    for (const at of places) {
       const item = this.shown[at];
-      if (!this.nodes.has(item)) {
-        const node = this.nodeOf(item);
-        this.nodes.set(item, node);
-        this.container.append(node);
+      if (this.nodes.has(item)) {
+        next = this.nodes.get(item).nextSibling;
+      } else {
+        const made = this.nodeOf(item);
+        this.nodes.set(item, made);
+        this.container.insertBefore(made, next);
       }
-      this.nodes.get(item).style.top = `${top}px`;
-      top += this.height + (this.heights.get(item) ?? 0);
+      this.nodes.get(item).style.top = `${this.topOf(at, opened)}px`;
     }
   }
 
   nodeOf(item) {
     const node = element("div", classesOf(item), lineOf(item, this.height));
+    node.item = item;
     node.classList.toggle("selected", item === this.selected);
     const say = node.querySelector(".say");
     if (say) {
-      node.firstChild.addEventListener("click", () => this.toggle(item));
+      node.firstChild.addEventListener("click", () => this.click(item, say));
     }
     if (this.heights.has(item)) {
       this.unfold(item, node);
     }
     return node;
+  }
+
+  click(item, say) {
+    this.select(item);
+    say.focus({ preventScroll: true });
+    history.replaceState(null, "", `#event-${item.event}`);
+    this.toggle(item);
   }
 
   unfold(item, node) {
@@ -292,20 +137,19 @@ class Lanes {
   }
 
   toggle(item, isOpen = !this.heights.has(item)) {
-    if (isOpen === this.heights.has(item)) {
+    if (item.event === undefined || isOpen === this.heights.has(item)) {
       return;
     }
     const node = this.nodes.get(item);
     if (isOpen) {
       this.heights.set(item, 0);
+      if (node) {
+        this.unfold(item, node);
+      }
     } else {
       this.heights.delete(item);
-    }
-    if (node) {
-      const fresh = this.nodeOf(item);
-      fresh.style.top = node.style.top;
-      node.replaceWith(fresh);
-      this.nodes.set(item, fresh);
+      node?.querySelector(".details")?.remove();
+      node?.querySelector(".say").setAttribute("aria-expanded", "false");
     }
     this.measureNow(item);
     this.draw();
@@ -320,17 +164,24 @@ class Lanes {
 
   measure(entries) {
     for (const { target } of entries) {
-      const found = [...this.nodes].find(([, node]) => node.lastChild === target);
-      if (found && target.isConnected && target.offsetHeight) {
-        this.heights.set(found[0], target.offsetHeight);
+      if (target.isConnected && target.offsetHeight && this.heights.has(target.parentNode.item)) {
+        this.heights.set(target.parentNode.item, target.offsetHeight);
       }
     }
     this.draw();
   }
 
+  // Shows these rows and no others, from the first on, or around the selected one.
   show(shown) {
     this.shown = shown;
     this.draw(true);
+    const place = shown.indexOf(this.selected);
+    if (place >= 0) {
+      this.scrollToPlace(place);
+    } else if (this.container.getBoundingClientRect().top < 0) {
+      this.container.scrollIntoView();
+    }
+    this.draw();
   }
 
   select(item) {
@@ -340,18 +191,22 @@ class Lanes {
     this.nodes.get(item)?.classList.add("selected");
   }
 
-  // Scrolls to a row, and opens it.
-  goTo(item, isOpen = true) {
-    const place = this.shown.indexOf(item);
-    this.select(item);
-    this.toggle(item, isOpen || this.heights.has(item));
+  scrollToPlace(place) {
     const top = this.container.getBoundingClientRect().top + scrollY + this.topOf(place);
     scrollTo({ top: top - innerHeight / 4 });
+  }
+
+  // Scrolls to a row, opens it, and gives it the focus, so that a screen reader says what it is.
+  goTo(item, isOpen = true) {
+    this.select(item);
+    this.toggle(item, isOpen || this.heights.has(item));
+    this.scrollToPlace(this.shown.indexOf(item));
     this.draw();
     if (this.heights.has(item)) {
       this.measureNow(item);
       this.draw();
     }
+    this.nodes.get(item)?.querySelector(".say, .wide")?.focus({ preventScroll: true });
   }
 
   // All rows, one below the other, or those around the selected one if there are many.
@@ -360,10 +215,35 @@ class Lanes {
     const start = Math.max(this.shown.indexOf(centre), 0) - MOST_PRINTED / 2;
     const first = Math.max(Math.min(start, this.shown.length - MOST_PRINTED), 0);
     const last = Math.min(first + MOST_PRINTED, this.shown.length) - 1;
-    this.draw(true);
-    this.nodes.forEach((node) => node.remove());
-    this.nodes.clear();
+    this.clear();
+    this.isPrinting = true;
     this.container.classList.add("printed");
-    this.place(first, last, this.opened());
+    const places = [];
+    for (let at = first; at <= last; at += 1) {
+      places.push(at);
+    }
+    this.place(places, this.opened());
+    const before = this.printNote(0, first - 1);
+    const after = this.printNote(last + 1, this.shown.length - 1);
+    this.container.prepend(...[before].filter(Boolean));
+    this.container.append(...[after].filter(Boolean));
+  }
+
+  // Says which rows are not printed.
+  printNote(first, last) {
+    const events = this.shown.slice(first, last + 1).map((it) => it.event).filter(Boolean);
+    if (events.length === 0) {
+      return null;
+    }
+    const [from, to] = [events[0], events[events.length - 1]].map((it) => it.toLocaleString("en"));
+    return element("p", "print-note",
+      `Not printed: ${count(events.length, "event")}, ${from} to ${to}.`);
+  }
+
+  endPrint() {
+    this.isPrinting = false;
+    this.container.classList.remove("printed");
+    this.container.querySelectorAll(".print-note").forEach((it) => it.remove());
+    this.draw(true);
   }
 }

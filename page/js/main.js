@@ -4,8 +4,10 @@ const lanesNode = document.getElementById("lanes");
 const lanes = new Lanes(lanesNode);
 const search = new Search(lanes);
 
+// Goes to an event, or to the place where it was left out.
 function goToEvent(event, isOpen = true) {
-  const row = rowOfEvent(event);
+  const row = rowOfEvent(event) ??
+    items.find((it) => it.kind === "gap" && it.gap.from <= event && event <= it.gap.to);
   if (!row) {
     return;
   }
@@ -115,16 +117,22 @@ function onKey(event) {
   }
 }
 
+// A button that shows a sign, with its name for whoever cannot see it.
+function named(made, name) {
+  made.setAttribute("aria-label", name);
+  return titled(made, name);
+}
+
 function bar() {
   const bad = session.violations.some((it) => rowOfEvent(it.event) && !it.follows);
   const steps = bad ? [
-    titled(button("plain", "‹", () => step(STEPS.n, -1)), "previous violation (N)"),
+    named(button("plain", "‹", () => step(STEPS.n, -1)), "previous violation (N)"),
     element("span", "quiet", "violation"),
-    titled(button("plain", "›", () => step(STEPS.n, 1)), "next violation (n)"),
+    named(button("plain", "›", () => step(STEPS.n, 1)), "next violation (n)"),
   ] : [];
   return element("div", "bar-parts", search.node, element("span", "steps", ...steps,
-    titled(button("plain", "◐", toggleTheme), "dark or light (d)"),
-    titled(button("plain", "?", toggleKeys), "keys (?)")));
+    named(button("plain", "◐", toggleTheme), "dark or light (d)"),
+    named(button("plain", "?", toggleKeys), "keys (?)")));
 }
 
 function keysPart() {
@@ -144,15 +152,36 @@ function cutPart() {
     ...session.left.said.map((line) => element("p", "", line)));
 }
 
-document.title = `${verdictOf()[1]} – ${namedText(session.name)}`;
+// A link to the event in the address changes nothing there, so it is followed here.
+function onClick(event) {
+  const link = event.target.closest?.('a[href^="#event-"]');
+  if (link && link.hash === location.hash) {
+    event.preventDefault();
+    followLink();
+  }
+}
+
+function onCopy(event) {
+  const selection = getSelection();
+  if (!selection.isCollapsed && !/INPUT|TEXTAREA/.test(event.target.tagName)) {
+    event.clipboardData.setData("text/plain", copiedText(selection));
+    event.preventDefault();
+  }
+}
+
+document.title = `${verdictOf()[1]} – ${namedText(session.name ?? "standard input")}`;
 document.getElementById("overview").append(...[
   verdictPart(), cutPart(), badLogPart(), firstViolation(), otherViolations(), notesPart(),
   documentsPart((number) => search.filter(number)),
 ].filter(Boolean));
 document.getElementById("bar").append(bar());
+document.getElementById("lane-heads").append(...laneHeads());
 document.getElementById("keys").append(...keysPart());
+document.getElementById("plain").hidden = true;
 addEventListener("hashchange", followLink);
 addEventListener("keydown", onKey);
+addEventListener("click", onClick);
+addEventListener("copy", onCopy);
 lanes.draw();
 followLink();
 document.documentElement.dataset.ready = "yes";

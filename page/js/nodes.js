@@ -1,5 +1,8 @@
 // Nodes of the page. Whatever comes from the log gets into it as text nodes only.
 
+// Private characters, which a page shows as boxes only, for the line ends in what is copied.
+const LINE_END_MARKS = { "\r": "\u{f0000}", "\n": "\u{f0001}" };
+
 // Appends nodes, texts and lists of them, which may be long; null is left out.
 function fill(node, children) {
   for (const child of children.flat()) {
@@ -50,13 +53,12 @@ function count(number, noun) {
   return `${number.toLocaleString("en")} ${noun}${number === 1 ? "" : "s"}`;
 }
 
+// A link to an event, or to the place where it was left out.
 function eventLink(event, label = `event ${event}`) {
-  if (!indexOfEvent.has(event)) {
-    return titled(element("span", "missing", label), "this event is not in the page");
-  }
-  const made = element("a", "event-link", label);
+  const isThere = indexOfEvent.has(event);
+  const made = element("a", isThere ? "event-link" : "event-link missing", label);
   made.href = `#event-${event}`;
-  return made;
+  return isThere ? made : titled(made, "this event was left out of the page");
 }
 
 // Text between backquotes is code.
@@ -71,15 +73,33 @@ function visibleText(text, all = false, isBroken = false) {
       return document.createTextNode(piece);
     }
     const box = element("span", "odd", shown);
+    // What is copied instead of the name in the box; a tab is there itself.
+    box.copied = piece === "\t" ? "" : escapedByte(piece) ?? piece;
     const after = piece === "\t" ? "\t" : "";
     return titled(after ? element("span", "tab", box, after) : box, codePoint(piece));
   });
 }
 
-// Who says something: the proved program, or this page.
+// Who says something: lspcheck, or this page.
 function source(who) {
   const said = { lspcheck: "what lspcheck wrote", page: "worked out by this page" }[who];
   return titled(element("span", `source source-${who}`, who), said);
+}
+
+// What is copied of a selection: the characters themselves, not their names in boxes. A box of a
+// line end is also the end of a line on the page.
+function copiedText(selection) {
+  const boxes = [...document.querySelectorAll(".odd")]
+    .filter((box) => selection.containsNode(box, true)).slice(0, 60000);
+  const shown = boxes.map((box) => box.firstChild.data);
+  boxes.forEach((box, at) => { box.firstChild.data = String.fromCodePoint(0xf0000 + at); });
+  const text = selection.toString();
+  boxes.forEach((box, at) => { box.firstChild.data = shown[at]; });
+  const whole = text.replace(/[\u{f0000}-\u{ffffd}]/gu, (mark) =>
+    LINE_END_MARKS[boxes[mark.codePointAt(0) - 0xf0000].copied] ??
+    boxes[mark.codePointAt(0) - 0xf0000].copied);
+  return whole.replace(/(\u{f0000}?\u{f0001}|\u{f0000})\n?/gu, "$1")
+    .replace(/\u{f0000}/gu, "\r").replace(/\u{f0001}/gu, "\n");
 }
 
 function baseName(uri) {

@@ -13,17 +13,30 @@ function verdictOf() {
   return ["bad", "Bad log", second];
 }
 
+// Where a violation is: an event, or the end of the log.
+function placeOfViolation(violation) {
+  return violation.event > session.events ? "the end of the log" : eventLink(violation.event);
+}
+
 function whereItIs() {
   const violation = session.violations[0];
   if (!violation || session.report[0].startsWith("bad")) {
     return null;
   }
-  if (!rowOfEvent(violation.event)) {
+  if (violation.event > session.events) {
     return element("p", "where", "At the end of the log.");
   }
   const whose = violation.who === "snapshot" ? `Snapshot ${violation.number}` :
     `The ${violation.who}’s message ${violation.number}`;
   return element("p", "where", `${whose}, `, eventLink(violation.event), " of the log.");
+}
+
+// Of a log that breaks a rule and is damaged, too: both are said first.
+function damage() {
+  const [first, text] = session.ending;
+  return session.report[0].startsWith("bad log") || !first.startsWith("bad log") ? null :
+    element("p", "where damaged", `The log is damaged, too: ${first}, ${text}. `,
+      "What follows that place is not shown.");
 }
 
 const SIGNALS = { 1: "HUP", 2: "INT", 4: "ILL", 6: "ABRT", 7: "BUS", 8: "FPE", 9: "KILL",
@@ -39,15 +52,21 @@ function endOfServer() {
   return `The server ended: ${said.join(", ")}.`;
 }
 
+// How many violations lspcheck counted, and how many of them follow from others.
+function countsOfViolations() {
+  const line = session.ending.find((it) => it.startsWith("offences ")) ?? "offences 0 following 0";
+  return line.split(" ").filter((word) => /^\d+$/.test(word)).map(Number);
+}
+
 function factsOfLog() {
-  const snapshots = rows.filter((row) => row.side === SNAPSHOT).length;
-  const facts = [count(session.events, "event"), count(snapshots, "snapshot"),
-    count(session.documents.length, "document"), `format ${session.format}`,
+  const [editor, server, snapshots] = session.sides, [all, follow] = countsOfViolations();
+  const facts = [count(session.events, "event"),
+    `${count(editor, "message")} of the editor and ${server.toLocaleString("en")} of the server`,
+    count(snapshots, "snapshot"), count(session.named, "document"), `format ${session.format}`,
     count(session.bytes, "byte")];
-  const follow = session.violations.filter((it) => it.follows).length;
-  const independent = session.violations.length - follow;
-  if (independent > 0) {
-    facts.unshift(count(independent, "violation") + (follow ? ` and ${follow} that follow` : ""));
+  if (all > 0) {
+    facts.unshift(count(all - follow, "violation") +
+      (follow ? ` and ${follow.toLocaleString("en")} that follow` : ""));
   }
   return element("p", "quiet", facts.join(" · "));
 }
@@ -55,13 +74,16 @@ function factsOfLog() {
 function verdictPart() {
   const [kind, verdict, text] = verdictOf();
   return element("header", `verdict verdict-${kind}`,
-    element("p", "name", visibleText(session.name, true)),
+    element("p", "name", visibleText(session.name ?? "standard input", true)),
     element("h1", "", element("span", "word", verdict), " ", text),
-    whereItIs(),
+    whereItIs(), damage(), whoLine(),
     session.exit.length === 0 ? null : element("p", "where", visibleText(endOfServer())),
     factsOfLog(),
     element("p", "quiet", "The verdict is that of ", shownText(session.version),
-      ". What this page worked out itself is marked ", source("page"), "."));
+      ". What this page worked out itself is marked ", source("page"),
+      ". Lines are counted from 1, as in editors; columns from 0, ",
+      `in ${session.encoding}, as in the messages. `,
+      copyButton()));
 }
 
 function notesPart() {
@@ -79,14 +101,14 @@ function badLogPart() {
   const violation = { lines: session.report.slice(2) };
   return element("section", "card",
     element("h2", "", `${code} ${session.report[1]} `, source("lspcheck")),
-    element("p", "", "No event before this record breaks a rule. What follows it is not shown."),
+    element("p", "", "No event before this record breaks a rule. What follows is not shown."),
     explanation(violation), aboutRule(code));
 }
 
 function firstViolation() {
   const violation = session.violations[0];
-  return !violation || session.report[0].startsWith("bad") ? null : element("section", "card first",
-    element("h2", "", `${violation.rule} ${violation.text}`), violationPart(violation));
+  return !violation || session.report[0].startsWith("bad") ? null :
+    element("section", "card first", violationPart(violation));
 }
 
 function otherViolations() {
@@ -95,8 +117,9 @@ function otherViolations() {
     return null;
   }
   const links = others.slice(0, 60).map((it) => element("li", "",
-    eventLink(it.event), ` ${it.rule} ${it.text}`));
-  const more = others.length - links.length + session.unlisted;
+    placeOfViolation(it), ` ${it.rule} ${it.text}`));
+  const [all, follow] = countsOfViolations();
+  const more = Math.max(all - follow - 1 - links.length, 0);
   return element("section", "card", element("h2", "", "Other violations ", source("lspcheck")),
     element("ul", "columns", ...links),
     more > 0 ? element("p", "quiet", `and ${count(more, "more violation")}`) : null);
@@ -111,7 +134,8 @@ function chip(row) {
   const made = eventLink(row.event, label);
   made.className = "chip";
   made.classList.toggle("chip-snapshot", row.side === SNAPSHOT);
-  made.classList.toggle("chip-bad", row.violation !== null);
+  made.classList.toggle("chip-bad", row.violation !== null && !row.violation.follows);
+  made.classList.toggle("chip-follows", row.violation?.follows === true);
   const what = row.side === SNAPSHOT ? "snapshot of version" : row.method;
   return titled(made, `event ${row.event}: ${what} ${version}`);
 }
@@ -152,7 +176,8 @@ function documentPart(number, filter) {
   return element("div", "document",
     element("p", "", element("strong", "", visibleText(baseName(uri))), " ", only),
     element("p", "about uri", shownText(uri)),
-    element("div", "chips", ...chosenChips(namingRows[number].filter(isOfText))));
+    element("div", "chips", ...chosenChips(namingRows[number].filter(isOfText))),
+    versionsPart(number));
 }
 
 function documentsPart(filter) {

@@ -5,18 +5,43 @@ const CHOICES = new Map([
   ["server", (row) => row.side === SERVER],
   ["snapshots", (row) => row.side === SNAPSHOT],
   ["violations", (row) => row.violation !== null],
-  ["requests without answer", (row) => row.kind === "request" && !row.partner],
+  ["requests without answer", (row) => row.kind === "request" && !row.partner && !row.violation],
 ]);
+// How long a search may take before the page is drawn again, and how much is shown around a word.
+const SLICE = 30, AROUND_WORD = 30;
+
+const ESCAPES = { n: "\n", r: "\r", t: "\t", b: "\b", f: "\f" };
+
+function unescaped(_, code, character) {
+  return code ? String.fromCharCode(parseInt(code, 16)) : ESCAPES[character] ?? character;
+}
+
+// What a message says; if a word may need that, without the escapes of JSON.
+function saidBy(row, isPlain) {
+  const content = contentOf(row) ?? "";
+  return isPlain || !content.includes("\\") ? content :
+    content.replace(/\\(?:u([0-9a-f]{4})|(.))/gis, unescaped);
+}
+
+// The words around a place of a text, which was found in it in lower case.
+function excerptOf(said, lower, at, length) {
+  // Some characters are longer in lower case, so that places differ.
+  const text = said.length === lower.length ? said : lower;
+  const from = Math.max(at - AROUND_WORD, 0);
+  return `… ${text.slice(from, at + length + AROUND_WORD).replace(/\s+/g, " ")} …`;
+}
 
 class Search {
   constructor(lanes) {
     this.lanes = lanes;
-    this.words = this.input("search", "method or words", "Search by method or words ( / )");
+    this.words = this.input("search", "method or words", "Search in methods and messages ( / )");
+    this.round = 0;
     const files = session.documents.map((uri) => namedText(baseName(uri)));
+    this.found = element("span", "found quiet");
+    this.found.setAttribute("role", "status");
     this.document = this.choice("every document", files);
     this.side = this.choice("both sides", [...CHOICES.keys()]);
     this.id = this.input("id", "id", "Search by the id of a request");
-    this.found = element("span", "found quiet");
     this.clear = button("plain", "clear", () => this.reset());
     this.clear.hidden = true;
     const methods = element("datalist", "", ...session.methods.map(suggestion));
@@ -53,18 +78,31 @@ class Search {
     return isChosen ? isChosen(row) : true;
   }
 
-  isFound(row, words, id, documentNumber) {
+  // Whether the choices leave a row, whatever the words are.
+  isChosen(row, id, documentNumber) {
     if (row.event === undefined || !this.isSideOf(row)) {
       return false;
     }
     if (documentNumber >= 0 && row.document !== documentNumber) {
       return false;
     }
-    if (id && row.id !== id && row.id !== JSON.stringify(id)) {
+    return !id || row.id === id || row.id === JSON.stringify(id);
+  }
+
+  // Whether all words are in the names of a row or in its message. If one is only in the message,
+  // the row shows the place.
+  isFound(row, words, isPlain) {
+    const names = `${row.method ?? ""} ${row.kind} ${row.summary} ${row.uri ?? ""}`.toLowerCase();
+    const missing = words.filter((word) => !names.includes(word));
+    if (missing.length === 0) {
+      return true;
+    }
+    const said = saidBy(row, isPlain), lower = said.toLowerCase();
+    if (!missing.every((word) => lower.includes(word))) {
       return false;
     }
-    const text = `${row.method ?? ""} ${row.kind} ${row.summary} ${row.uri ?? ""}`.toLowerCase();
-    return words.every((word) => text.includes(word));
+    row.excerpt = excerptOf(said, lower, lower.indexOf(missing[0]), missing[0].length);
+    return true;
   }
 
   get isEmpty() {
@@ -72,12 +110,29 @@ class Search {
     return choices && !this.words.value.trim() && !this.id.value.trim();
   }
 
-  apply() {
+  // Searches in slices, so that one can keep typing; only the last search is drawn.
+  async apply() {
     const words = this.words.value.toLowerCase().split(/\s+/).filter(Boolean);
+    const isPlain = words.every((word) => /^[a-z0-9_.:$-]*$/.test(word));
     const id = this.id.value.trim(), documentNumber = Number(this.document.value);
-    const shown = this.isEmpty ? items :
-      items.filter((item) => this.isFound(item, words, id, documentNumber));
+    const round = this.round += 1;
+    rows.forEach((row) => { row.excerpt = undefined; });
     this.clear.hidden = this.isEmpty;
+    const shown = this.isEmpty ? items : [];
+    let until = performance.now() + SLICE;
+    for (const item of this.isEmpty ? [] : items) {
+      if (this.isChosen(item, id, documentNumber) && this.isFound(item, words, isPlain)) {
+        shown.push(item);
+      }
+      if (performance.now() > until) {
+        this.found.textContent = "searching";
+        await new Promise((done) => setTimeout(done));
+        if (round !== this.round) {
+          return;
+        }
+        until = performance.now() + SLICE;
+      }
+    }
     this.found.textContent = this.isEmpty ? "" : count(shown.length, "event");
     this.lanes.show(shown);
   }

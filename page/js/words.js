@@ -19,13 +19,9 @@ function shownEvent(values) {
   return [eventLink(Number(event)), ` (${whose})`];
 }
 
+// A position. The protocol counts lines from 0; on the page they are counted from 1, as in editors.
 function shownPlace(line, column) {
-  return `line ${line}, column ${column}`;
-}
-
-// Positions of the protocol are counted from 0, and lines in editors from 1.
-function shownCounting(line) {
-  return ` (counted from 0; line ${Number(line) + 1} in an editor)`;
+  return `line ${Number(line) + 1}, column ${column}`;
 }
 
 const PHASES = {
@@ -53,7 +49,7 @@ function shownChange(values) {
   const start = shownPlace(line, column);
   const isEmpty = line === endLine && column === endColumn;
   const words = isEmpty ? `at ${start}` : `from ${start} to ${shownPlace(endLine, endColumn)}`;
-  return [`change ${which} of the message, ${words}${shownCounting(line)}`];
+  return [`change ${which} of the message, ${words}`];
 }
 
 function shownPart(values) {
@@ -67,7 +63,7 @@ function shownPart(values) {
 
 const SUSPECTS = {
   0: "none: the editor changed its text without a message, or the texts were equal again later",
-  1: "one message made the texts differ",
+  1: "one message made the texts differ, unless a change was never sent",
 };
 
 // For each word: a label, and what is shown for the values of its line.
@@ -94,7 +90,7 @@ const LINES = {
   ]],
   bytes: ["Size", ([count]) => [`the text would have ${count} bytes`]],
   limit: ["Limit", ([count]) => [`${count} bytes`]],
-  at: ["First difference", ([line, column]) => [shownPlace(line, column) + shownCounting(line)]],
+  at: ["First difference", ([line, column]) => [shownPlace(line, column)]],
   "by-messages": ["By the messages", shownPart],
   "in-editor": ["In the editor", shownPart],
   saved: ["Saved", shownPart],
@@ -119,8 +115,9 @@ const LINES = {
   expected: ["Expected", (_, [id]) => ["the token of initialize, ", shownText(id)]],
   phase: ["State", ([name]) => [PHASES[name] ?? name]],
   since: ["Since", (by) => shownEvent(by)],
-  offered: ["Offered", (names) => [names.join(", ") || "no encoding: UTF-16 is meant"]],
-  picked: ["Picked", ([name]) => [name]],
+  offered: ["Offered", (names) => (names.length === 0 ? ["no encoding: UTF-16 is meant"] :
+    names.flatMap((name, at) => [at ? ", " : "", shownText(name)]))],
+  picked: ["Picked", ([name]) => [shownText(name)]],
   registers: ["Registers", ([method]) => [shownText(method)]],
   record: ["Record", ([number]) => [`number ${number} of the log`]],
   byte: ["Place", ([count]) => [`${count} bytes into the log`]],
@@ -153,9 +150,8 @@ const NOTES = {
   "by-editor": noteOn("is sent only by servers in LSP 3.17, and the editor sent it"),
   "by-server": noteOn("is sent only by editors in LSP 3.17, and the server sent it"),
   "exit-without-shutdown": (by) => ["The editor sent exit without shutdown: ", ...shownEvent(by)],
-  "offset-encoding": ([name]) => [
-    `The server names ${name} in the older member offsetEncoding: it may count columns in it`,
-  ],
+  "offset-encoding": ([name]) => ["The server names ", shownText(name),
+    " in the older member offsetEncoding: it may count columns in it"],
   renamed: noteOn("was renamed, and is still opened or changed under this name"),
   "nothing-compared": () => ["No snapshot was compared: yes says little about the texts"],
   "no-snapshot": ([uri]) => [shownText(uri), " was changed, and no snapshot of it was compared"],

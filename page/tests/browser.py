@@ -1,97 +1,35 @@
 #!/usr/bin/env python3
-"""Opens pages in Chromium, light and dark, 800 and 1600 pixels wide, and uses them.
+"""Opens pages in Chromium, light and dark, 380 to 1,600 pixels wide, and uses them.
 
-usage: browser.py PROGRAM FOLDER        FOLDER is for the pages
+usage: browser.py PROGRAM FOLDER [NAME ..]        FOLDER is for the pages
 
-It prints a line for each fault, and last the numbers of tests that passed and failed.
+With a NAME, only the tests whose names contain one are run. It prints a line for each fault, and last
+the numbers of tests that passed and failed.
 """
 
 import json
 import re
 import subprocess
 import sys
-import time
 import traceback
 from pathlib import Path
 
-from selenium import webdriver
 from selenium.common.exceptions import WebDriverException
-from selenium.webdriver.chrome.options import Options
-from selenium.webdriver.chrome.service import Service
-from selenium.webdriver.common.by import By
 from selenium.webdriver.common.keys import Keys
 
-import logs
-from command import run
-from data import EXAMPLES, lines_of, output, written
+sys.path.append(str(Path(__file__).resolve().parent.parent.parent / "tests"))
 
-WIDTHS, THEMES = [800, 1600], ["light", "dark"]
+import hands  # noqa: E402
+import logs  # noqa: E402
+import programs  # noqa: E402
+import truth  # noqa: E402
+from data import EXAMPLES, lines_of, output, written  # noqa: E402
+from window import THEMES, WIDTHS, Page, make, start  # noqa: E402
+
+FAULTS = (AssertionError, LookupError, TypeError, ValueError, OSError, subprocess.SubprocessError,
+          WebDriverException)
 # Rows and their parts that may be in the tree of a page, however long the log is.
 MOST_ROWS = 150
-SECONDS = 30
-
-
-def start():
-    options = Options()
-    options.binary_location = "/usr/bin/chromium"
-    for word in ("--headless=new", "--no-sandbox", "--disable-gpu", "--disable-dev-shm-usage"):
-        options.add_argument(word)
-    options.set_capability("goog:loggingPrefs", {"browser": "ALL"})
-    driver = webdriver.Chrome(service=Service("/usr/bin/chromedriver"), options=options)
-    driver.set_page_load_timeout(2 * SECONDS)
-    return driver
-
-
-class Page:
-    """A page in the browser."""
-
-    def __init__(self, driver, path):
-        self.driver, self.path = driver, path
-
-    def open(self, width=1600, theme="light", link=""):
-        size = {"width": width, "height": 900, "deviceScaleFactor": 1, "mobile": False}
-        self.driver.execute_cdp_cmd("Emulation.setDeviceMetricsOverride", size)
-        media = {"features": [{"name": "prefers-color-scheme", "value": theme}]}
-        self.driver.execute_cdp_cmd("Emulation.setEmulatedMedia", media)
-        self.driver.get("about:blank")
-        self.driver.get(f"{self.path.resolve().as_uri()}{link}")
-        assert self.run("return document.documentElement.dataset.ready") == "yes", self.log()
-
-    def run(self, script, *values):
-        return self.driver.execute_script(script, *values)
-
-    def log(self):
-        return self.driver.get_log("browser")
-
-    def all(self, selector):
-        return self.driver.find_elements(By.CSS_SELECTOR, selector)
-
-    def text(self, selector):
-        return self.run("return document.querySelector(arguments[0])?.innerText ?? null", selector)
-
-    def texts(self, selector):
-        script = "return [...document.querySelectorAll(arguments[0])].map((it) => it.innerText)"
-        return self.run(script, selector)
-
-    def keys(self, *keys):
-        self.driver.switch_to.active_element.send_keys(*keys)
-
-    def selected(self):
-        return self.text(".selected .number")
-
-    def wait(self, script, *values):
-        until = time.monotonic() + SECONDS
-        while time.monotonic() < until:
-            if found := self.run(script, *values):
-                return found
-            time.sleep(0.05)
-        raise AssertionError(f"never true: {script}")
-
-
-def make(program, place, log):
-    done = run(log, "--program", program, "-o", place / f"{log.name}.html")
-    assert done.returncode == 0, done.stderr
-    return place / f"{log.name}.html"
 
 
 def brightness(color):
@@ -107,6 +45,7 @@ def opens_without_faults(page, program, log):
             head = page.text("h1")
             wanted = "Yes" if report[0] == "yes" else report[1]
             assert wanted in head, head
+            assert page.run("return document.getElementById('plain').hidden")
             back = page.run("return getComputedStyle(document.body).backgroundColor")
             assert (brightness(back) > 128) == (theme == "light"), (theme, back)
             page.run("document.getElementById('lanes').scrollIntoView()")
@@ -211,7 +150,7 @@ def follows_links_and_keys(page, program, log):
     page.open(link="#event-4")
     assert page.selected() == "4" and page.text(".selected .about").startswith("event 4")
     page.keys("s")
-    assert page.selected() == snapshots[0], page.selected()
+    assert page.selected() == (snapshots[0] if snapshots else "4"), page.selected()
     page.keys("e")
     if not edits:
         return
@@ -221,7 +160,8 @@ def follows_links_and_keys(page, program, log):
     assert page.selected() == str(int(edits[0]) + 1)
     page.keys("k")
     page.keys("S")
-    assert page.selected() == [it for it in snapshots if int(it) < int(edits[0])][-1]
+    earlier = [it for it in snapshots if int(it) < int(edits[0])]
+    assert page.selected() == (earlier or edits)[-1 if earlier else 0], page.selected()
     bad = re.findall(r"event (\d+)", output(program, "check", "--all", log).decode())
     page.open(link="#event-1")
     page.keys("a")
@@ -244,7 +184,7 @@ def shows_texts_after_messages(page, program, log):
     found = next(it for it in shown if '"textDocument/didOpen"' in it)
     event, number, uri = found.split()[0], found.split()[4], json.loads(found.split()[5])
     page.open(link=f"#event-{event}")
-    page.run("[...document.querySelectorAll('.selected .folded')].at(-1).open = true")
+    page.run("[...document.querySelectorAll('.selected .folded')].find((it) => it.innerText.startsWith('The text after')).open = true")
     page.wait("return document.querySelector('.selected .document-text') !== null")
     wanted = output(program, "text", "--all", number, uri, log).decode()
     text = page.run("return document.querySelector('.selected .document-text').textContent")
@@ -274,14 +214,6 @@ def stays_small(page, events):
     assert 0 < top < 900, top
 
 
-def prints_all_rows(page):
-    page.open()
-    page.run("dispatchEvent(new Event('beforeprint'))")
-    assert len(page.all("#lanes .row")) == page.run("return arguments[0]", 171), len(page.all("#lanes .row"))
-    page.run("dispatchEvent(new Event('afterprint'))")
-    assert len(page.all("#lanes .row")) < MOST_ROWS
-
-
 def shows_lines_that_are_not_known(page):
     """What a later lspcheck adds to an explanation is shown as it is."""
     page.open()
@@ -303,39 +235,45 @@ def later(program, place):
 
 def tests_of(driver, program, place):
     """Each test as a name and a call."""
+    def window(log, *words, program=program):
+        return Page(driver, lambda: make(program, place, log, *words))
+
     for log in EXAMPLES:
-        page = Page(driver, make(program, place, log))
+        page = window(log)
         for test in (opens_without_faults, shows_the_violation, searches, follows_links_and_keys,
                      shows_texts_after_messages):
             yield f"{test.__name__} {log.name}", lambda test=test, page=page, log=log: test(page, program, log)
     hostile = written(place, "<b onclick=alert(1)>.log", logs.hostile())
-    page = Page(driver, make(program, place, hostile))
+    page = window(hostile)
     for test in (opens_without_faults, shows_the_violation):
         yield f"{test.__name__} hostile", lambda test=test, page=page: test(page, program, hostile)
     for test in (marks_what_differs, forbids_everything_else):
         yield test.__name__, lambda test=test, page=page: test(page)
-    long = written(place, "long.log", logs.long(20000, difference=12001))
-    page_of_long = Page(driver, make(program, place, long))
-    yield "stays_small", lambda: stays_small(page_of_long, 20000)
-    known = Page(driver, make(later(program, place), place, EXAMPLES[-1]))
+    events = 3000 if programs.is_checked(program) else 20000
+    long = written(place, "long.log", logs.long(events, difference=events // 5 * 3 + 1))
+    yield "stays_small", lambda: stays_small(window(long), events)
+    known = window(EXAMPLES[-1], program=later(program, place))
     yield "shows_lines_that_are_not_known", lambda: shows_lines_that_are_not_known(known)
-    printed = Page(driver, make(program, place, EXAMPLES[-1]))
-    yield "prints_all_rows", lambda: prints_all_rows(printed)
+    yield from hands.tests_of(window, program, place)
+    yield from truth.tests_of(window, program, place)
 
 
 def main(words):
-    program, place = Path(words[0]), Path(words[1])
+    program, place, names = Path(words[0]).resolve(), Path(words[1]).resolve(), words[2:]
     driver = start()
     passed = failed = 0
     try:
         for name, test in tests_of(driver, program, place):
+            if names and not any(it in name for it in names):
+                continue
             try:
                 test()
                 passed += 1
-            except (AssertionError, LookupError, ValueError, WebDriverException) as error:
+            except FAULTS as error:
                 failed += 1
-                where = [it for it in traceback.extract_tb(error.__traceback__) if it.filename == __file__][-1]
-                print(f"FAILED {name}, line {where.lineno}: {error or where.line}"[:2000], flush=True)
+                places = traceback.extract_tb(error.__traceback__)
+                where = [it for it in places if str(Path(__file__).parent) in it.filename][-1]
+                print(f"FAILED {name}, {Path(where.filename).name} line {where.lineno}: {error or where.line}"[:2000], flush=True)
     finally:
         driver.quit()
     print(passed, failed)

@@ -3,10 +3,15 @@
 import os
 import re
 import shutil
+import signal
 import stat
 import subprocess
 import sys
+import time
 from pathlib import Path
+
+import logs
+import programs
 
 TOP = Path(__file__).resolve().parent.parent.parent
 COMMAND = TOP / "page/lspcheck-page"
@@ -22,9 +27,8 @@ def run(*words, **how):
 def answers(done, status, errors):
     """Fails unless a run ended with this status, and standard error is one line with these words."""
     assert done.returncode == status, done
-    last = done.stderr.splitlines()[-1]
-    assert last.startswith("lspcheck-page: ") and errors in last, done.stderr
-    assert "Traceback" not in done.stderr, done.stderr
+    assert done.stderr.startswith("lspcheck-page: ") and errors in done.stderr, done.stderr
+    assert done.stderr.endswith("\n") and done.stderr[:-1].isprintable(), done.stderr
 
 
 def writes_a_page(program, place):
@@ -43,7 +47,7 @@ def writes_a_page(program, place):
 
 def writes_odd_names(program, place):
     """A name that is not UTF-8, and one that looks like an option."""
-    for name in (b"a\xff.log", b"-b.log"):
+    for name in (b"a\xff.log", b"-b.log", b"\x1b[31m.log"):
         path = os.path.join(os.fsencode(place), name)
         shutil.copy(EXAMPLE, path)
         words = [os.fsencode(it) for it in (sys.executable, COMMAND, "--program", program)]
@@ -53,10 +57,103 @@ def writes_odd_names(program, place):
 
 def says_what_standard_output_refuses(program, place):
     with open("/dev/full", "wb") as full:
-        for words in ([EXAMPLE, "-o", "-"], [EXAMPLE, "-o", place / "x.html"]):
+        for words in ([EXAMPLE, "-o", "-"], [EXAMPLE, "-o", place / "x.html"], ["--help"], ["--version"]):
             done = subprocess.run([sys.executable, COMMAND, *words, "--program", program],
                                   stdout=full, stderr=subprocess.PIPE, text=True, timeout=60)
             answers(done, 3, "standard output: No space left on device")
+
+
+def keeps_logs(program, place):
+    """The log is not replaced by its page, whichever name it has, and neither is another log."""
+    log, other = place / "x.log", place / "other.log"
+    shutil.copy(EXAMPLE, log)
+    other.write_bytes(b"lsp-session 1\n")
+    (place / "link").symlink_to(log)
+    os.link(log, place / "x.html")
+    for name in (log, "link", "x.html", "./x.log"):
+        for given in (log, "x.log", "link"):
+            answers(run(given, "--program", program, "-o", name, cwd=place), 64, "this is the log itself")
+    answers(run(log, "--program", program), 64, "this is the log itself")
+    answers(run(log, "--program", program, "-o", other), 64, "this is a log: it is not replaced")
+    assert log.read_bytes() == EXAMPLE.read_bytes() and other.read_bytes() == b"lsp-session 1\n"
+    assert sorted(it.name for it in place.iterdir()) == ["link", "other.log", "x.html", "x.log"]
+
+
+def device(place, name, number):
+    """A device of memory: for root a copy, since root can replace the system's; None if there is none."""
+    if os.getuid() != 0:
+        return Path("/dev", name)
+    try:
+        os.mknod(place / name, stat.S_IFCHR | 0o666, os.makedev(1, number))
+        with open(place / name, "rb"):
+            return place / name
+    except OSError:
+        return None
+
+
+def writes_to_what_is_no_plain_file(program, place):
+    """A device and a named pipe stay what they are, and a link leads to the page."""
+    null = device(place, "null", 3)
+    if null:
+        done = run(EXAMPLE, "--program", program, "-o", null)
+        assert done.returncode == 0 and stat.S_ISCHR(os.stat(null).st_mode), done
+    full = device(place, "full", 7)
+    if full:
+        answers(run(EXAMPLE, "--program", program, "-o", full), 3, "full: No space left on device")
+        assert stat.S_ISCHR(os.stat(full).st_mode)
+    os.mkfifo(place / "pipe")
+    words = [sys.executable, COMMAND, EXAMPLE, "--program", program, "-o", place / "pipe"]
+    with subprocess.Popen(words, stdout=subprocess.DEVNULL) as running:
+        page = (place / "pipe").read_bytes()
+        assert running.wait(60) == 0 and stat.S_ISFIFO(os.stat(place / "pipe").st_mode)
+    (place / "link").symlink_to("target.html")
+    assert run(EXAMPLE, "--program", program, "-o", place / "link").returncode == 0
+    assert (place / "link").is_symlink() and (place / "target.html").read_bytes() == page
+    assert page.startswith(b"<!doctype html>") and page.endswith(b"</html>\n")
+
+
+def reads_standard_input(program, place):
+    """From a pipe, a file or a named pipe; the page has no name of a log then."""
+    words = [sys.executable, COMMAND, "--program", program]
+    given = EXAMPLE.read_bytes()
+    piped = subprocess.run([*words, "-"], input=given, capture_output=True, timeout=60)
+    assert piped.returncode == 0 and piped.stdout.startswith(b"<!doctype html>"), piped.stderr
+    with EXAMPLE.open("rb") as file:
+        redirected = subprocess.run([*words, "-"], stdin=file, capture_output=True, timeout=60)
+    assert redirected.stdout == piped.stdout
+    named = subprocess.run([*words, "-", "-o", place / "x.html"], input=given, capture_output=True, timeout=60)
+    assert named.returncode == 0 and (place / "x.html").read_bytes() == piped.stdout
+    os.mkfifo(place / "pipe.log")
+    with subprocess.Popen([*words, place / "pipe.log"], stdout=subprocess.DEVNULL) as running:
+        (place / "pipe.log").write_bytes(given)
+        assert running.wait(60) == 0 and (place / "pipe.html").is_file()
+    empty = subprocess.run([*words, "-"], input=b"", capture_output=True, text=False, timeout=60)
+    assert empty.returncode == 2 and b"standard input: not a log" in empty.stderr, empty
+
+
+def says_its_version(program, place):
+    """That of lspcheck."""
+    version = subprocess.run([program, "--version"], capture_output=True, text=True).stdout.split()[1]
+    done = run("--version")
+    assert (done.returncode, done.stdout) == (0, f"lspcheck-page {version}\n"), done
+    assert f'"lspcheck {version}"' in (TOP / "docs/lspcheck-page.1").read_text().split("\n")[0]
+
+
+def ends_quietly_where_its_reader_is_gone(program, place):
+    for words in ("--help", "--version", f"{EXAMPLE} --program {program} -o -", f"{EXAMPLE} --program {program} -o x.html"):
+        piped = f"{{ sleep 0.5; {sys.executable} {COMMAND} {words}; echo $? >&2; }} | true"
+        done = subprocess.run(["bash", "-c", piped], cwd=place, capture_output=True, text=True, timeout=60)
+        assert done.stderr == "141\n", (words, done)
+
+
+def needs_no_terminal(program, place):
+    """Standard output or standard error that was closed before."""
+    words = f"{sys.executable} {COMMAND} {EXAMPLE} --program {program} -o x.html"
+    for closed, status, errors in ((">&-", 3, "lspcheck-page: standard output: Bad file descriptor\n"), ("2>&-", 0, "")):
+        done = subprocess.run(["bash", "-c", f"{words} {closed}"], cwd=place, capture_output=True, text=True, timeout=60)
+        assert (done.returncode, done.stderr) == (status, errors), done
+    done = subprocess.run(["bash", "-c", f"{words} --bogus 2>&-"], cwd=place, capture_output=True, text=True, timeout=60)
+    assert (done.returncode, done.stdout) == (64, ""), done
 
 
 def keeps_other_files(program, place):
@@ -74,13 +171,15 @@ def says_what_is_wrong_with_files(program, place):
     words = ["--program", program, "-o", page]
     answers(run(log, *words), 3, "x.log: No such file or directory")
     answers(run(place, *words), 3, "Is a directory")
-    answers(run("/dev/null", *words), 3, "not a plain file")
+    answers(run("/dev/null", *words), 2, "/dev/null: not a log")
     log.write_text("hello\n")
     answers(run(log, *words), 2, "x.log: not a log")
     log.write_bytes(b"")
     answers(run(log, *words), 2, "x.log: not a log")
     answers(run(EXAMPLE, "--program", program, "-o", place / "none/x.html"), 3, "No such file or directory")
     assert not page.exists()
+    odd = place / "\x1b[31m\u202elog\n.log"
+    answers(run(odd, *words), 3, "\\u001b[31m\\u202elog\\n.log\": No such file or directory")
     if os.getuid() != 0:
         log.chmod(0)
         answers(run(log, *words), 3, "Permission denied")
@@ -90,6 +189,7 @@ def says_what_is_wrong_with_words(program, place):
     answers(run(), 64, "LOG")
     answers(run(EXAMPLE, "--bogus"), 64, "--bogus")
     answers(run(EXAMPLE, "--most-events", "0"), 64, "0 is not a number from 1")
+    answers(run(EXAMPLE, "--\x1b[31m"), 64, "--?[31m")
     help_text = run("--help")
     assert help_text.returncode == 0 and "--program" in help_text.stdout
 
@@ -116,7 +216,110 @@ def says_what_is_wrong_with_the_program(program, place):
     shutil.copy(EXAMPLE, log)
     writes = script(place / "writes", f'[ "$1" = show ] && touch {log}\nexec {program} "$@"')
     answers(run(log, *words, "--program", writes), 1, "it changed while it was read")
-    assert not (place / "x.html").exists()
+    fails = script(place / "fails", "echo compiling >&2; exit 5")
+    done = run(EXAMPLE, *words, "--program", fails)
+    assert done.stderr == f"compiling\nlspcheck-page: {fails} --version: it ended with status 5\n", done
+    assert done.returncode == 1 and not (place / "x.html").exists()
+
+
+def passes_through_what_the_program_says_first(program, place):
+    """A script like ./run says that it compiles while it does, and not only at the end."""
+    slow = script(place / "slow", f'[ "$1" = --version ] && {{ echo compiling >&2; sleep 2; }}\nexec {program} "$@"')
+    words = [sys.executable, COMMAND, EXAMPLE, "--program", slow, "-o", place / "x.html"]
+    with subprocess.Popen(words, stdout=subprocess.PIPE, stderr=subprocess.PIPE, text=True) as running:
+        assert running.stderr.readline() == "compiling\n"
+        assert running.poll() is None and not (place / "x.html").exists()
+        assert running.wait(60) == 0 and running.stderr.read() == ""
+
+
+def with_signals():
+    """Signals end this process, even if the caller of the tests ignores them."""
+    for number in (signal.SIGINT, signal.SIGTERM, signal.SIGHUP):
+        signal.signal(number, signal.SIG_DFL)
+
+
+def leaves_no_file_when_it_is_stopped(program, place):
+    """One line, the status of the signal, no page, and no run of lspcheck that continues."""
+    temporary = place / "temporary"
+    temporary.mkdir()
+    waits = script(place / "waits", f'[ "$1" = --version ] && exec {program} "$@"\necho $$ >> {place}/pids\nexec sleep 60')
+    for number in (signal.SIGINT, signal.SIGTERM, signal.SIGHUP):
+        (place / "pids").unlink(missing_ok=True)
+        words = [sys.executable, COMMAND, EXAMPLE, "--program", waits, "-o", place / "x.html"]
+        how = {"stdout": subprocess.PIPE, "stderr": subprocess.PIPE, "text": True, "preexec_fn": with_signals}
+        with subprocess.Popen(words, env={**os.environ, "TMPDIR": str(temporary)}, **how) as running:
+            until(lambda: (place / "pids").exists() and len((place / "pids").read_text().split()) == 3)
+            running.send_signal(number)
+            said, errors = running.communicate(timeout=60)
+        assert running.returncode == -number and said == "", (running.returncode, said)
+        assert errors == f"lspcheck-page: stopped by {number.name}: no page is written\n", errors
+        assert not [pid for pid in (place / "pids").read_text().split() if Path(f"/proc/{pid}").exists()]
+        assert sorted(it.name for it in place.iterdir()) == ["pids", "temporary", "waits"]
+        assert not [*temporary.iterdir()]
+
+
+def until(is_so):
+    for _ in range(600):
+        if is_so():
+            return
+        time.sleep(0.1)
+    raise AssertionError("it never was so")
+
+
+def ends_what_the_program_started(program, place):
+    """A signal while ./run compiles: it is asked to end, and has the time to."""
+    slow = script(place / "slow", f"trap 'echo ended > {place}/ended; kill $!; exit 1' TERM\necho compiling >&2\nsleep 60 &\nwait")
+    words = [sys.executable, COMMAND, EXAMPLE, "--program", slow, "-o", place / "x.html"]
+    with subprocess.Popen(words, stderr=subprocess.PIPE, text=True) as running:
+        assert running.stderr.readline() == "compiling\n"
+        running.terminate()
+        assert running.wait(60) == -signal.SIGTERM
+    assert (place / "ended").read_text() == "ended\n" and not (place / "x.html").exists()
+
+
+def reads_a_log_as_often_as_needed(program, place):
+    """The list of events once, and the explanations at the same time: a program with checks is slow."""
+    waits = script(place / "waits", f"""[ "$1" = --version ] && exec {program} "$@"
+echo "$*" >> {place}/started
+for it in $(seq 600); do [ $(wc -l < {place}/started) -ge 3 ] && exec {program} "$@"; sleep 0.1; done
+exit 9""")
+    done = run(EXAMPLE, "--program", waits, "-o", place / "x.html")
+    started = (place / "started").read_text().split("\n")[:-1]
+    assert done.returncode == 0, done.stderr
+    assert sorted(started) == ["explain --all --quiet", "explain --quiet", "show --all --long --quiet"], started
+
+
+def shows_progress_on_a_terminal(program, place):
+    """How far the log was read, each second, and nothing of it is left."""
+    log = place / "x.log"
+    log.write_bytes(logs.long(2000))
+    slow = script(place / "slow", f'[ "$1" = show ] && {{ head -c 1000000 > /dev/null; sleep 2.5; exec {program} "$@" < {log}; }}\nexec {program} "$@"')
+    ours, theirs = os.openpty()
+    words = [sys.executable, COMMAND, log, "--program", slow, "-o", place / "x.html"]
+    done = subprocess.run(words, stdout=subprocess.DEVNULL, stderr=theirs, timeout=60)
+    os.close(theirs)
+    said = os.read(ours, 100000).decode()
+    os.close(ours)
+    lines = [it.strip() for it in said.split("\r") if it.strip()]
+    assert done.returncode == 0 and lines, said
+    read = re.fullmatch(r"lspcheck-page: lspcheck show read (\d+) of (\d+) MB, (\d+) %", lines[0])
+    assert read and int(read[1]) == 1 and int(read[2]) == log.stat().st_size // 10**6, lines
+    assert said.endswith("\r") and not said.split("\r")[-2].strip(), said
+
+
+def takes_little_memory(program, place):
+    """Less than three times a log of many bytes, and one of many events; the page is far smaller."""
+    is_slow = programs.is_checked(program)
+    log = place / "x.log"
+    for content in (logs.long(2000 if is_slow else 12000), logs.many(5000 if is_slow else 60000)):
+        log.write_bytes(content)
+        words = [sys.executable, COMMAND, log, "--program", program, "--most-events", "100000"]
+        code = "import resource, subprocess, sys; done = subprocess.run(sys.argv[1:], stdout=subprocess.DEVNULL); print(resource.getrusage(resource.RUSAGE_CHILDREN).ru_maxrss, done.returncode)"
+        done = subprocess.run([sys.executable, "-c", code, *words], capture_output=True, text=True, timeout=600)
+        kilobytes, status = map(int, done.stdout.split())
+        # What any Python script takes before it does anything.
+        assert status == 0 and 1024 * (kilobytes - 20000) < 3 * len(content), (kilobytes, len(content))
+        assert (place / "x.html").stat().st_size < len(content) / 3
 
 
 def has_a_manual_page(program, place):
@@ -148,10 +351,22 @@ TESTS = [
     writes_a_page,
     writes_odd_names,
     says_what_standard_output_refuses,
+    keeps_logs,
+    writes_to_what_is_no_plain_file,
+    reads_standard_input,
+    says_its_version,
+    ends_quietly_where_its_reader_is_gone,
+    needs_no_terminal,
     keeps_other_files,
     says_what_is_wrong_with_files,
     says_what_is_wrong_with_words,
     says_what_is_wrong_with_the_program,
+    passes_through_what_the_program_says_first,
+    leaves_no_file_when_it_is_stopped,
+    ends_what_the_program_started,
+    reads_a_log_as_often_as_needed,
+    shows_progress_on_a_terminal,
+    takes_little_memory,
     has_a_manual_page,
     finds_the_program,
 ]

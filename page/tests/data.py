@@ -2,6 +2,7 @@
 
 import base64
 import hashlib
+import html
 import re
 import subprocess
 from html.parser import HTMLParser
@@ -14,7 +15,7 @@ NO = re.compile(r"no (\d+) (\w+) (\d+) event (\d+)( follows)?")
 
 
 def output(program, *words):
-    return subprocess.run([program, *words], stdout=subprocess.PIPE, stderr=subprocess.DEVNULL).stdout
+    return subprocess.run([program, *map(str, words)], stdout=subprocess.PIPE, stderr=subprocess.DEVNULL).stdout
 
 
 def lines_of(program, *words):
@@ -36,13 +37,12 @@ def written(place, name, log):
 
 def line_of(index, row):
     """The line of `show --all --long` of a row that breaks no rule."""
-    event, side, number, kind, method, id, document, version, size = row[:9]
-    kind = ["request", "notification", "result", "error", "snapshot"][kind]
-    uri = index["documents"][document] if document >= 0 else None
+    event, kind = row["event"], index["kinds"][row["kind"]]
+    uri = index["documents"][row["document"]] if row["document"] >= 0 else None
     if kind == "snapshot":
-        return [event, kind, version, size, uri, number]
-    words = [event, ["editor", "server"][side], kind, id if kind != "notification" else None]
-    words += [index["methods"][method] if kind in ("request", "notification") else None]
+        return [event, kind, row["version"], row["bytes"], uri, row["number"]]
+    words = [event, ["editor", "server"][row["side"]], kind, row["id"] if kind != "notification" else None]
+    words += [index["methods"][row["method"]] if kind in ("request", "notification") else None]
     return [it for it in words if it is not None]
 
 
@@ -53,14 +53,14 @@ def has_what_was_written(program, place):
         index, contents = logs.data_of(page_of(program, log))
         shown = lines_of(program, "show", "--all", "--long", log)
         lines = {int(line.split()[0]): line for line in shown if line[0].isdigit()}
-        rows = {row[0]: row for row in index["rows"]}
+        rows = {row["event"]: row for row in index["rows"]}
         assert list(rows) == list(range(1, len(rows) + 1))
         for event, line in lines.items():
             for word in line_of(index, rows[event]):
                 plain = str(word).replace("\\", "\\\\").replace('"', '\\"')
                 assert str(word) in line or plain in line, (word, line)
         for row, content in zip(index["rows"], contents):
-            assert content.encode("utf-8", "surrogateescape") == output(program, "event", str(row[0]), log)
+            assert content.encode("utf-8", "surrogateescape") == output(program, "event", str(row["event"]), log)
         assert index["report"] == lines_of(program, "explain", log)
         found = [NO.fullmatch(line).groups() for line in shown if line.startswith("no ")]
         listed = [(str(it["rule"]), it["who"], str(it["number"]), str(it["event"]), it["follows"])
@@ -82,7 +82,11 @@ def has_both_texts(program, place):
 
 def joins_requests(program, place):
     index, _ = logs.data_of(page_of(program, written(place, "joined.log", logs.joined())))
-    joins = {row[0]: (row[10], row[11]) for row in index["rows"] if row[10] or row[11]}
+    joins = {
+        row["event"]: (row["partner"], row["cancel"])
+        for row in index["rows"]
+        if row["partner"] or row["cancel"]
+    }
     assert joins == logs.JOINS, joins
 
 
@@ -121,7 +125,10 @@ def keeps_hostile_contents_in_data(program, place):
     assert logs.EVIL_URI in index["documents"] and f"textDocument/{logs.EVIL}" in index["methods"]
     assert any(logs.EVIL in it for it in contents)
     outside = logs.BLOCK.sub("", hostile)
-    assert "onerror" not in outside and "file:///" not in outside
+    assert "<img" not in outside and "</script><" not in outside and "\u202e" not in outside
+    said = html.unescape(re.search(r"<pre>(.*?)</pre>", outside, re.S)[1])
+    assert said.split("\n")[:2] == lines_of(program, "check", place / name), said
+    assert said.replace("[U+2028]", "\u2028").replace("[U+0085]", "\x85") == "\n".join(index["report"]), said
     for kind in ("script", "style"):
         code = [text for tag, attributes, text in tags.raw if tag == kind and not attributes]
         digest = base64.b64encode(hashlib.sha256("".join(code).encode()).digest()).decode()
@@ -131,10 +138,10 @@ def keeps_hostile_contents_in_data(program, place):
 
 def cuts_long_logs(program, place):
     """A cut page has the violation with what is near it, and says what it leaves out."""
-    log = written(place, "long.log", logs.long(4000, difference=2001))
+    log = written(place, "long.log", logs.long(4000, difference=2001, lines=60))
     words = ["--most-events", "300"]
     index, contents = logs.data_of(page_of(program, log, *words))
-    events = [row[0] for row in index["rows"]]
+    events = [row["event"] for row in index["rows"]]
     violation = index["violations"][0]["event"]
     assert lines_of(program, "check", log)[0].endswith(f"event {violation}")
     assert len(events) <= 300 and {1, 2, 3, violation - 50, violation, violation + 50} <= set(events)
@@ -143,21 +150,21 @@ def cuts_long_logs(program, place):
     assert "4,000 events" in index["left"]["said"][0]
     whole, _ = logs.data_of(page_of(program, log))
     assert whole["left"] is None and len(whole["rows"]) == 4000
-    shown = {row[0]: row[:10] for row in whole["rows"]}
-    assert all(shown[row[0]] == row[:10] for row in index["rows"] if row[6] <= 0)
+    shown = {row["event"]: {**row, "document": 0, "method": 0} for row in whole["rows"]}
+    assert all(shown[row["event"]] == {**row, "document": 0, "method": 0} for row in index["rows"])
     for point in index["left"]["checkpoints"]:
-        before = [row[2] for row in whole["rows"] if row[0] <= point["to"] and row[1] == 0][-1]
+        before = [it["number"] for it in whole["rows"] if it["event"] <= point["to"] and it["side"] == 0][-1]
         uri = index["documents"][point["document"]]
         assert point["text"].encode() == output(program, "text", "--all", str(before), uri, log)
     assert index["left"]["checkpoints"]
     small, contents = logs.data_of(page_of(program, log, "--most-bytes", "100000"))
     assert sum(len(it or "") for it in contents) <= 200000
-    assert violation in [row[0] for row in small["rows"]]
+    assert violation in [row["event"] for row in small["rows"]]
 
 
 def shows_bad_logs(program, place):
     """What precedes the fault of a damaged log, and the fault itself."""
-    log = written(place, "cut.log", EXAMPLES[0].read_bytes()[:9000])
+    log = written(place, "cut.log", (TOP / "examples/clangd-session.log").read_bytes()[:9000])
     index, _ = logs.data_of(page_of(program, log))
     assert index["report"][0] == "bad log L4 record 12"
     assert index["rules"]["L4"]["text"] == index["report"][1]

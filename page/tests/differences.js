@@ -4,7 +4,7 @@ const assert = require("assert");
 const { load } = require("./scripts.js");
 
 const names = ["differences", "markedPair", "comparedTexts", "linesOf", "piecesOf", "indentedJson"];
-const page = load(["visible.js", "texts.js", "difference.js", "json.js"], names);
+let page;
 
 // Numbers from a seed, so that each run tests the same.
 function chances(seed) {
@@ -38,32 +38,39 @@ function check(a, b) {
   assert.strictEqual(a.length - removed, longest(a, b));
 }
 
-const next = chances(7);
-for (let round = 0; round < 400; round += 1) {
-  const list = () => Array.from({ length: next(12) }, () => next(4));
-  check(list(), list());
+function checkAll() {
+  const next = chances(7);
+  for (let round = 0; round < 400; round += 1) {
+    const list = () => Array.from({ length: next(12) }, () => next(4));
+    check(list(), list());
+  }
+
+  // Values of the page are of another realm: they are compared as JSON.
+  function same(made, wanted) {
+    assert.strictEqual(JSON.stringify(made), JSON.stringify(wanted));
+  }
+
+  same(page.markedPair("bxé😀", "bé😀x"), [
+    [["b", false], ["x", true], ["é😀", false]],
+    [["bé😀", false], ["x", true]],
+  ]);
+  same(page.comparedTexts(page.linesOf("a\nb"), page.linesOf("a\nb\n")).map((it) => it.pair),
+    [["a\n", "a\n"], ["b", "b\n"]]);
+  same(page.comparedTexts(page.linesOf("x\r\n"), page.linesOf("x\n")).map((it) => it.pair), [["x\r\n", "x\n"], ["", ""]]);
+  const many = Array.from({ length: 50 }, (_, at) => `${at}\n`);
+  same(page.comparedTexts(many, [...many.slice(0, 25), "new\n", ...many.slice(25)]).map((it) => it.skipped ?? it.pair[1]),
+    [22, "22\n", "23\n", "24\n", "new\n", "25\n", "26\n", "27\n", 22]);
+  same(page.piecesOf("a\r\n\u00a0e\u0301\u202e\udcff", true).map(([, shown]) => shown),
+    [null, "CR", "LF", "NBSP", null, "◌\u0301", "RLO", "\\xff"]);
+  same(page.indentedJson('{"a":[1.0,{}],"a":"\\u00e9,\\"{"}'), '{\n  "a": [\n    1.0,\n    {}\n  ],\n  "a": "\\u00e9,\\"{"\n}');
+  same(page.indentedJson("{not json"), "{not json");
+  // Neither quadratic time nor the stack: one long line, and many lines that all differ.
+  same(page.linesOf("z".repeat(600000)).length, 1);
+  same(page.comparedTexts(page.linesOf("a\n".repeat(200000)), page.linesOf("a\r\n".repeat(200000))).length, 200001);
+  process.stdout.write('"good"');
 }
 
-// Values of the page are of another realm: they are compared as JSON.
-function same(made, wanted) {
-  assert.strictEqual(JSON.stringify(made), JSON.stringify(wanted));
-}
-
-same(page.markedPair("bxé😀", "bé😀x"), [
-  [["b", false], ["x", true], ["é😀", false]],
-  [["bé😀", false], ["x", true]],
-]);
-same(page.comparedTexts(page.linesOf("a\nb"), page.linesOf("a\nb\n")).map((it) => it.pair),
-  [["a\n", "a\n"], ["b", "b\n"]]);
-same(page.comparedTexts(page.linesOf("x\r\n"), page.linesOf("x\n")).map((it) => it.pair), [["x\r\n", "x\n"], ["", ""]]);
-const many = Array.from({ length: 50 }, (_, at) => `${at}\n`);
-same(page.comparedTexts(many, [...many.slice(0, 25), "new\n", ...many.slice(25)]).map((it) => it.skipped ?? it.pair[1]),
-  [22, "22\n", "23\n", "24\n", "new\n", "25\n", "26\n", "27\n", 22]);
-same(page.piecesOf("a\r\n\u00a0e\u0301\u202e\udcff", true).map(([, shown]) => shown),
-  [null, "CR", "LF", "NBSP", null, "◌\u0301", "RLO", "\\xff"]);
-same(page.indentedJson('{"a":[1.0,{}],"a":"\\u00e9,\\"{"}'), '{\n  "a": [\n    1.0,\n    {}\n  ],\n  "a": "\\u00e9,\\"{"\n}');
-same(page.indentedJson("{not json"), "{not json");
-// Neither quadratic time nor the stack: one long line, and many lines that all differ.
-same(page.linesOf("z".repeat(600000)).length, 1);
-same(page.comparedTexts(page.linesOf("a\n".repeat(200000)), page.linesOf("a\r\n".repeat(200000))).length, 200001);
-process.stdout.write('"good"');
+load(["visible.js", "texts.js", "difference.js", "json.js"], names).then((loaded) => {
+  page = loaded;
+  checkAll();
+});

@@ -1,10 +1,12 @@
 """Logs for the tests of the page, and how the data of a page is read again."""
 
+import base64
 import json
 import random
 import re
+import zlib
 
-BLOCK = re.compile(r'<script type="application/json" id="([^"]*)">(.*?)</script>', re.S)
+BLOCK = re.compile(r'<script type="application/octet-stream" id="([^"]*)">(.*?)</script>', re.S)
 
 # What would break a page that put any of it into its HTML.
 EVIL = "</script><img src=x onerror=alert(1)><!--\"'&lt;${1}"
@@ -132,15 +134,15 @@ def edited(encoding, seed):
     return log
 
 
-def long(events, difference=None):
+def long(events, difference=None, lines=400):
     """A session of edits and answered requests; the snapshot after one of the edits differs."""
     uri = "file:///long.c"
-    lines = [f"int value_{number};\n" for number in range(400)]
+    lines = [f"int value_{number};\n" for number in range(lines)]
     parts, event, version = [handshake(), frame(b"E", opened(uri, 0, "".join(lines)))], 4, 0
     answer = {"items": [{"label": "x" * 20, "kind": 3}] * 20}
     while event + 4 <= events:
         version += 1
-        line = version % 400
+        line = version % len(lines)
         lines[line] = "+" + lines[line]
         id = 10 + version
         parts.append(frame(b"E", changed(uri, version, edit((line, 0), (line, 0), "+"))))
@@ -152,8 +154,140 @@ def long(events, difference=None):
     return b"".join(parts)
 
 
+def saved(uri, text):
+    return notification("textDocument/didSave", {"textDocument": {"uri": uri}, "text": text})
+
+
+def differs():
+    """A snapshot that differs after one of several edits, a follower of it, and then an equal one."""
+    uri, lines = "file:///d/differs.c", [f"int value_{at};\n" for at in range(40)]
+    log = handshake("utf-8") + frame(b"E", opened(uri, 1, "".join(lines)))
+    log += snapshot(uri, 1, "".join(lines))
+    for version, line in ((2, 3), (3, 20), (4, 30)):
+        lines[line] = f"int é_{version};\n"
+        end = len(f"int value_{line};")
+        log += frame(b"E", changed(uri, version, edit((line, 0), (line, end), lines[line][:-1])))
+        log += frame(b"E", request(version, "textDocument/hover", {"textDocument": {"uri": uri}, "position": {"line": line, "character": 4}}))
+        log += frame(b"S", result(version, {"contents": "text"}))
+        if version == 3:
+            lines[20] = "int e_3;\r\n"
+        log += snapshot(uri, version, "".join(lines))
+    return log + frame(b"S", notification("window/logMessage", {"type": 3, "message": "done"}))
+
+
+def saves():
+    """A saved text that differs from what the messages say."""
+    uri = "file:///s.c"
+    return handshake() + b"".join([
+        frame(b"E", opened(uri, 1, "a\nb\nc\n")),
+        frame(b"E", changed(uri, 2, edit((1, 0), (1, 1), "B"))),
+        frame(b"E", saved(uri, "a\nb\nc\n")),
+    ])
+
+
+def unanswered():
+    """Requests whose answers break a rule, come after a broken frame, or never come."""
+    bad = {"jsonrpc": "2.0", "id": 5, "result": None, "error": {"code": 1, "message": "both"}}
+    return handshake() + b"".join([
+        frame(b"E", request(4, "textDocument/hover")),
+        frame(b"S", request(5, "workspace/configuration")),
+        frame(b"E", bad),
+        frame(b"E", request(6, "textDocument/rename")),
+        frame(b"S", b"{not json"),
+        b"S 14\nhello\nworld\r\n\n",
+        frame(b"S", result(6, None)),
+        frame(b"E", request(7, "shutdown")),
+    ])
+
+
+def refused():
+    """An answer to `initialize` that picks an encoding that was not offered, and one that is cut off."""
+    answer = {"capabilities": {"positionEncoding": "utf-8"}, "serverInfo": {"name": "picky"}}
+    params = {"capabilities": {}, "clientInfo": {"name": "editor", "version": "version 1.2.3 (new)"}}
+    return b"lsp-session 1\n" + b"".join([
+        frame(b"E", request(1, "initialize", params)),
+        frame(b"S", result(1, answer)),
+        b"S 25\nContent-Length: 90\r\n\r\n{}{\n",
+    ])
+
+
+def damaged():
+    """A log that breaks a rule, and is cut off later."""
+    log = handshake() + frame(b"E", changed("file:///never.c", 1, {"text": "x"}))
+    return log + frame(b"E", request(3, "textDocument/hover")) + frame(b"S", result(3, None))[:-9]
+
+
+def evil():
+    """Small logs that attack whoever shows them, by name: in every place that a session has."""
+    mark, bytes_of = "\u202e\u2066\x1b[31m", lambda message: json.dumps(message, ensure_ascii=False).encode("utf-8", "surrogatepass")
+    offers = {"capabilities": {"general": {"positionEncodings": [f"utf-16{mark}", EVIL]}},
+              "clientInfo": {"name": f"{EVIL}{mark}", "version": f"{EVIL} 1.2{mark}"}}
+    picks = {"capabilities": {"positionEncoding": f"{EVIL}{mark}"}, "serverInfo": {"name": mark, "version": mark}}
+    start = handshake()
+    contents = {
+        "prototypes": bytes_of({"jsonrpc": "2.0", "id": "__proto__", "method": "constructor", "params": {"__proto__": {"uri": EVIL}}}),
+        "surrogates": b'{"jsonrpc":"2.0","method":"m","params":["\\ud800"]}',
+        "bytes": b"\xff\xfe\x00{",
+        "deep": b'{"jsonrpc":"2.0","method":"m","params":%s1%s}' % (b"[" * 3000, b"]" * 3000),
+        "numbers": b'{"jsonrpc":"2.0","id":99999999999999999999,"method":"m","params":[1e999]}',
+        "batch": b"[1,2]",
+        "keys": bytes_of({"jsonrpc": "2.0", "method": "m", "params": {f"{EVIL}{mark}": mark}}),
+        "nothing": b"null",
+        "versions": bytes_of({"jsonrpc": "2.0", "method": "textDocument/didChange", "params": {"textDocument": {"uri": mark, "version": 2**70}, "contentChanges": EVIL}}),
+    }
+    return {
+        "encodings": b"lsp-session 2\n" + frame(b"E", request(1, "initialize", offers)) + frame(b"S", result(1, picks)),
+        "header": start + b"S 60\n%s\r\n\r\n\n" % f"Content-{EVIL}{mark}: 1".encode()[:56].ljust(56, b"."),
+        "snapshot": start + snapshot(f"file:///{mark}{EVIL}", 3, f"\0{mark}{EVIL}\u2028"),
+        "damaged": start + f"{EVIL}{mark} 12\n".encode(),
+        "only the first line": b"lsp-session 1\n",
+        **{name: start + frame(b"E", content) + frame(b"S", content) for name, content in contents.items()},
+    }
+
+
+def telling():
+    """Logs that show what the examples do not, by name."""
+    return {
+        "differs.log": differs(),
+        "saves.log": saves(),
+        "unanswered.log": unanswered(),
+        "refused.log": refused(),
+        "damaged.log": damaged(),
+        "joined.log": joined(),
+    }
+
+
+def unquoted():
+    """Documents whose URIs a shell would obey."""
+    uris = ["file:///a.c'; touch x; echo '", "file:///$(touch y)`touch z`.c", "file:///a b\n\u202e\x1b.c", "-x"]
+    log = handshake()
+    for version, uri in enumerate(uris):
+        log += frame(b"E", opened(uri, version, f"text of {uri}\n"))
+        log += frame(b"E", changed(uri, version + 1, edit((0, 0), (0, 4), "TEXT")))
+    return log
+
+
+def many(events):
+    """A session of many small events."""
+    uri = "file:///many.c"
+    parts = [handshake(), frame(b"E", opened(uri, 0, "a\nb\nc\n"))]
+    for version in range(1, (events - 4) // 3 + 1):
+        asked = {"textDocument": {"uri": uri}, "position": {"line": 1, "character": 0}}
+        parts.append(frame(b"E", changed(uri, version, edit((1, 0), (1, 1), "bcdef"[version % 5]))))
+        parts.append(frame(b"E", request(10 + version, "textDocument/hover", asked)))
+        parts.append(frame(b"S", result(10 + version, None)))
+    return b"".join(parts)
+
+
+def blocks_of(page):
+    """The JSON of each block of data of a page."""
+    return {name: zlib.decompress(base64.b64decode(text)).decode() for name, text in BLOCK.findall(page)}
+
+
 def data_of(page):
-    """The index of a page and the contents of its events."""
-    blocks = {name: json.loads(text) for name, text in BLOCK.findall(page)}
+    """The index of a page, with its rows as objects, and the contents of its events."""
+    blocks = {name: json.loads(text) for name, text in blocks_of(page).items()}
     contents = [it for number in range(len(blocks) - 1) for it in blocks[f"contents-{number}"]]
-    return blocks["session"], contents
+    index = blocks["session"]
+    index["rows"] = [dict(zip(index["rows"], row)) for row in zip(*index["rows"].values())]
+    return index, contents

@@ -20,16 +20,12 @@ def node(script, given):
     return json.loads(done.stdout)
 
 
-def blocks_of(page):
-    return dict(logs.BLOCK.findall(page))
-
-
 def texts_are_those_of_lspcheck(program, place):
     """After each message of the editor, for each document: the text of `lspcheck text --all`."""
     made = [written(place, f"{name}.log", logs.edited(name, seed)) for seed, name in enumerate(logs.UNITS)]
     compared = 0
     for log in [*EXAMPLES, *made]:
-        for at in node("texts.js", blocks_of(page_of(program, log))):
+        for at in node("texts.js", logs.blocks_of(page_of(program, log))):
             words = ["text", "--all", str(at["number"]), at["uri"], log]
             wanted = output(program, *words).decode()
             assert (at["text"] or "") == wanted, f"{log.name}: {words[2:4]}"
@@ -39,9 +35,9 @@ def texts_are_those_of_lspcheck(program, place):
 
 def texts_after_a_gap(program, place):
     """A cut page makes the same texts from its checkpoints, or says that it cannot."""
-    log = written(place, "long.log", logs.long(1000, difference=501))
-    whole = {it["event"]: it["text"] for it in node("texts.js", blocks_of(page_of(program, log)))}
-    cut = node("texts.js", blocks_of(page_of(program, log, "--most-events", "150")))
+    log = written(place, "long.log", logs.long(1000, difference=501, lines=100))
+    whole = {it["event"]: it["text"] for it in node("texts.js", logs.blocks_of(page_of(program, log)))}
+    cut = node("texts.js", logs.blocks_of(page_of(program, log, "--most-events", "150")))
     known = [it for it in cut if it["text"] is not None]
     assert len(known) > 30 and all(it["text"] == whole[it["event"]] for it in known)
 

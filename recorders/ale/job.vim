@@ -26,14 +26,49 @@ endif
 
 let s:most = 1048576
 let s:logs = {}
+let s:deleted = {}
 let s:checks = {}
 let s:line_ends = {'unix': "\n", 'dos': "\r\n", 'mac': "\r"}
 " The names that Vim has for signals, in the order of their numbers.
 let s:signals = split('hup int quit ill trap abrt bus fpe kill usr1 segv usr2 pipe alrm term')
 
+" What may come before the server in a command: `env` and its options, a shell, Python that runs a
+" module, the commands and settings before that of the server.
+let s:before_server = '\C\v^(' . join([
+\ '\s+',
+\ '(\S*/)?env(\s+-([uC]\s+\S+|\S+))*\s',
+\ '(\S*/)?(ba|da|k|z)?sh\s+-\w*c\s',
+\ '(\S*/)?python[0-9.]*\s+(-[WX]\s+\S+\s+|-\w+\s+)*-m\s',
+\ '(cd|export|source|\.|set|umask)\s[^;&|\n]*[;&|\n]+',
+\ 'exec\s|\w+\=\S*\s',
+\], '|') . ')+'
+
+" The name of the server that a command starts.
+function! s:ServerName(command) abort
+  let l:command = substitute(a:command, '["'']', '', 'g')
+  let l:server = matchstr(substitute(l:command, s:before_server, '', ''), '^[^ \t\n;&|]*')
+  let l:name = empty(l:server) ? matchstr(l:command, '^\S*') : l:server
+
+  return substitute(fnamemodify(l:name, ':t'), '[^A-Za-z0-9._+-]', '_', 'g')
+endfunction
+
+" Whether a log was deleted, which is said once. A new file would lack the beginning of the log.
+function! s:IsDeleted(log) abort
+  if filereadable(a:log)
+    return 0
+  endif
+
+  if !has_key(s:deleted, a:log)
+    let s:deleted[a:log] = 1
+    call s:Say('lspcheck: nothing more is recorded: the log was deleted: ' . a:log)
+  endif
+
+  return 1
+endfunction
+
 " Without a log, nothing is recorded.
 function! s:Write(log, bytes) abort
-  if empty(a:log)
+  if empty(a:log) || s:IsDeleted(a:log)
     return
   endif
 
@@ -143,7 +178,7 @@ endfunction
 " Writes how the server ended to a file next to its log. ALE has only a number, but Vim has the
 " name of a signal.
 function! s:NoteExit(log, job_id, status) abort
-  if empty(a:log)
+  if empty(a:log) || s:IsDeleted(a:log)
     return
   endif
 
@@ -210,8 +245,7 @@ function! ale#job#Start(command, options) abort
     return s:Start(a:command, a:options)
   endif
 
-  let l:words = type(a:command) is v:t_list ? a:command[-1] : a:command
-  let l:name = matchstr(split(l:words, '&&\|\<exec\>')[-1], '[A-Za-z0-9._/+-]\+')
+  let l:name = s:ServerName(type(a:command) is v:t_list ? join(a:command) : a:command)
   let l:log = ''
   let l:options = copy(a:options)
   let l:Read = a:options.out_cb
@@ -225,7 +259,7 @@ function! ale#job#Start(command, options) abort
   " Nothing was read yet: Vim calls back only when this function is over.
   if l:job_id
     let l:time = strftime('%Y%m%dT%H%M%S')
-    let l:log = s:Create(join([s:folder . '/' . fnamemodify(l:name, ':t'), l:time, l:job_id], '-'))
+    let l:log = s:Create(join([s:folder . '/' . l:name, l:time, l:job_id], '-'))
   endif
 
   if !empty(l:log)

@@ -1,10 +1,13 @@
-"""`check` of several files: the line of each, the worst status, names, faults, and what is open."""
+"""`check` of several files: the line of each, the worst status, names, faults, and what is open; and
+`--compared`, of one file too."""
 
 import os
+import re
 import resource
 import subprocess
 import time
 
+import programs
 import sessions
 
 SECONDS = 60
@@ -26,7 +29,25 @@ NAMES = [
     ('"quoted".log', b'"quoted".log'),
     ("line\nfeed: yes.log", rb'"line\nfeed: yes.log"'),
     ("escape\x1b[2J\t\".log", rb'"escape\u001b[2J\t\".log"'),
+    # The controls end with U+001F and U+009F; the characters next to them are none.
+    ("tilde~\x7f.log", rb'"tilde~\u007f.log"'),
+    ("\x80next\x85line\x9b2J\x9f.log", rb'"\u0080next\u0085line\u009b2J\u009f.log"'),
+    ("no\xa0break\u2028.log", "no\xa0break\u2028.log".encode()),
+    ("both\x1f \xa0\x9e\u1f00.log", b'"both' + rb"\u001f" + " \xa0".encode() + rb"\u009e" + '\u1f00.log"'.encode()),
 ]
+
+# Logs that get yes: the counts in the report, and whether a snapshot is compared.
+SNAPSHOT = b"T %d 9 2\nfile:///a\nab\n"
+OPENED = sessions.HEAD + sessions.INITIALIZE + sessions.ANSWER + sessions.INITIALIZED + sessions.OPEN
+COUNTED = [
+    ("nothing", sessions.HEAD, b"messages 0 0\nsnapshots 0 unmatched 0\nencoding - sync -\n", False),
+    ("only", sessions.HEAD + SNAPSHOT % 1, b"messages 0 0\nsnapshots 1 unmatched 1\nencoding - sync -\n", False),
+    ("open", OPENED, b"messages 3 1\nsnapshots 0 unmatched 0\n", False),
+    ("later", OPENED + SNAPSHOT % 7 + SNAPSHOT % 8, b"messages 3 1\nsnapshots 2 unmatched 2\n", False),
+    ("some", OPENED + SNAPSHOT % 1 + SNAPSHOT % 7, b"messages 3 1\nsnapshots 2 unmatched 1\n", True),
+    ("all", OPENED + SNAPSHOT % 1, b"messages 3 1\nsnapshots 1 unmatched 0\n", True),
+]
+LACK = b"lspcheck: --compared: no snapshot was compared\n"
 
 
 def lines(*rows):
@@ -65,10 +86,10 @@ def try_options(trial):
     trial.run("several", ["check", whole, path], 1, differs)
     trial.run("several", ["check", "--ignore-line-ends", whole, path], 0, lines((whole, b"yes"), (path, b"yes")))
     ending = b"\n\nFor more information, try '--help'.\n"
-    listing = b"error: --all and --every list the violations of one FILE" + ending
-    for words in [["--all"], ["--every"], ["--all", "--complete"], ["--every", "--all"]]:
+    listing = b"lspcheck: error: --all and --every list the violations of one FILE" + ending
+    for words in [["--all"], ["--every"], ["--all", "--complete"], ["--every", "--all"], ["--all", "--compared"]]:
         trial.run("several", ["check", *words, whole, killed], 64, b"", listing)
-    twice = b"error: standard input ('-') can be read once" + ending
+    twice = b"lspcheck: error: standard input ('-') can be read only once" + ending
     trial.run("several", ["check", "-", "-"], 64, b"", twice, sessions.WHOLE)
     trial.run("several", ["check", "-", whole, "-"], 64, b"", twice, sessions.WHOLE)
     trial.run("several", ["check", killed, "-"], 0, lines((killed, b"yes"), ("-", b"yes")), b"", sessions.WHOLE)
@@ -76,8 +97,44 @@ def try_options(trial):
     trial.run("several", ["check", whole, whole], 0, lines((whole, b"yes"), (whole, b"yes")))
 
 
+def try_compared(trial):
+    """A yes that compared no snapshot: the line of such a log, and `--compared`, under which its
+    status is 1 and standard error says why once. Everything else stays as it is."""
+    paths = {name: trial.file(name, log) for name, log, _, _ in COUNTED}
+    said = {name: b"yes" if compared else b"yes nothing-compared" for name, _, _, compared in COUNTED}
+    for name, log, counts, compared in COUNTED:
+        begun = re.compile(rb"(?s)yes\n" + re.escape(counts) + b".*")
+        for words in [[], ["--all"], ["--every"], ["--ignore-line-ends"]]:
+            trial.each_way(["check", *words], log, 0, begun)
+            trial.each_way(["check", "--compared", *words], log, int(not compared), begun, b"" if compared else LACK)
+        other = paths["some" if compared else "nothing"]
+        out = lines((paths[name], said[name]), (other, said[other.name]))
+        trial.run("compared", ["check", paths[name], other], 0, out)
+        end = (0, out, b"") if compared else (1, out, LACK)
+        trial.run("compared", ["check", "--compared", paths[name], other], *end)
+    every = lines(*((paths[name], said[name]) for name in paths))
+    trial.run("compared", ["check", *paths.values()], 0, every)
+    trial.run("compared", ["check", *paths.values(), "--compared"], 1, every, LACK)
+    for status, (log, line) in LOGS.items():
+        path = trial.file(f"log{status}", log)
+        trial.run("compared", ["check", "--compared", path], status, re.compile(re.escape(line) + b"\n(?s:.*)"))
+        out = lines((path, line), (paths["open"], said["open"]))
+        trial.run("compared", ["check", "--compared", path, paths["open"]], max(status, 1), out, LACK)
+    trial.run("compared", ["check", "--compared", "missing"], 3, b"", READ_FAULT + cause("missing", 2))
+    out, err = lines(("missing", b"read fault"), (paths["open"], said["open"])), READ_FAULT + cause("missing", 2) + LACK
+    trial.run("compared", ["check", "--compared", "missing", paths["open"]], 3, out, err)
+    # Without `exit` the verdict is a no, and the option is not about that.
+    killed = b"no 407 editor 4 event 5\nexit is missing\n"
+    trial.each_way(["check", "--complete", "--compared"], OPENED, 1, killed)
+    with open("/dev/full", "wb") as full:
+        told = WRITE_FAULT + cause("standard output", 28)
+        trial.run("compared", ["check", "--compared", paths["open"]], 3, b"", told, stdout=full)
+        trial.run("compared", ["check", "--compared", paths["open"], paths["open"]], 3, b"", told, stdout=full)
+
+
 def try_names(trial):
-    """Names with spaces, colons, quotes, line feeds; and bytes that are not UTF-8."""
+    """Names with spaces, colons, quotes, line feeds and other control characters, on standard output
+    and in messages; and bytes that are not UTF-8."""
     folder = trial.folder / "names"
     folder.mkdir()
     for name, _ in NAMES:
@@ -88,7 +145,31 @@ def try_names(trial):
     wanted = b"".join(b"%s: yes\n" % shown for _, shown in NAMES)
     got = (run.returncode, run.stdout, run.stderr)
     trial.note("names", got == (0, wanted, b""), got)
-    refused = b"error: a word of the command line is not UTF-8\n"
+    empty = trial.folder / "empty"
+    empty.mkdir()
+    gone = [READ_FAULT + b"lspcheck: %s: No such file or directory (os error 2)\n" % shown for _, shown in NAMES]
+    run = subprocess.run(
+        [trial.program, "check", *(name for name, _ in NAMES)], cwd=empty, capture_output=True, timeout=SECONDS
+    )
+    wanted = (3, b"".join(b"%s: read fault\n" % shown for _, shown in NAMES), b"".join(gone))
+    got = (run.returncode, run.stdout, run.stderr)
+    trial.note("names of files that are not there", got == wanted, got)
+    for (name, _), told in zip(NAMES, gone):
+        run = subprocess.run([trial.program, "explain", name], cwd=empty, capture_output=True, timeout=SECONDS)
+        got = (run.returncode, run.stdout, run.stderr)
+        trial.note(f"the name {name!r} in a message", got == (3, b"", told), got)
+    stream = trial.file("stream\x1b[2J\x9b", sessions.CANONICAL)
+    told = b'lspcheck: hint: "%s/stream\\u001b[2J\\u009b": this looks like' % os.fsencode(trial.folder)
+    run = subprocess.run([trial.program, "check", stream, stream], capture_output=True, timeout=SECONDS)
+    trial.note("a name in a hint", run.stderr.count(told) == 2 and run.stderr.count(b"\n") == 2, run.stderr)
+    for words, shown in [
+        (["bad\x1b[2J\x9b"], rb"lspcheck: error: unrecognized subcommand 'bad\u001b[2J\u009b'"),
+        (["explain", "a", "b\x1b[2J"], rb"lspcheck: error: unexpected argument 'b\u001b[2J' found"),
+        (["check", "--\x85"], rb"lspcheck: error: unexpected argument '--\u0085' found"),
+        (["frames", "--as", "\x7f"], rb"lspcheck: error: invalid value '\u007f' for '--as <MODE>'"),
+    ]:
+        trial.run("names", words, 64, b"", re.compile(re.escape(shown) + b"\n(?s:.*)"))
+    refused = b"lspcheck: error: a word of the command line is not UTF-8\n"
     trial.run("names", ["check", b"\xff.log", "b.log"], 64, b"", refused)
 
 
@@ -118,7 +199,10 @@ def try_faults(trial, nobody):
 
 
 def try_memory(trial):
-    """Memory that suffices for all files but one, whose message is larger."""
+    """Memory that suffices for all files but one, whose message is larger. A program compiled with
+    checks needs more just to begin."""
+    if programs.leaves_out(trial.program, "memory of several logs"):
+        return
     small, large = trial.file("small", sessions.EXITS), trial.folder / "large"
     content = b'{"jsonrpc":"2.0","method":"%s"}' % (b"x" * 50_000_000)
     message = b"Content-Length: %d\r\n\r\n%s" % (len(content), content)
@@ -157,6 +241,8 @@ def opened_by(process, path):
 
 def try_many(trial):
     """A thousand logs: a line each, the worst status, and no more time than a run for each takes."""
+    if programs.leaves_out(trial.program, "a thousand logs"):
+        return
     folder = trial.folder / "many"
     folder.mkdir()
     names, wanted = [f"{number:03}.log" for number in range(1000)], []

@@ -179,7 +179,6 @@ RUNS = {
     "explain-all-ends": ["explain", "--all", "--ignore-line-ends"],
     "by-messages": ["explain", "--by-messages"],
     "in-editor": ["explain", "--in-editor"],
-    "both-texts": ["explain", "--in-editor", "--by-messages"],
     "by-messages-all": ["explain", "--all", "--by-messages"],
     "by-messages-complete": ["explain", "--by-messages", "--complete"],
     "by-messages-ends": ["explain", "--by-messages", "--ignore-line-ends"],

@@ -94,6 +94,17 @@ def names(place):
     yield "the folder is the owner's", stat.S_IMODE((place / "logs").stat().st_mode) == 0o700, None
 
 
+def started_by_others(place):
+    """Logs are named after the server, not after what starts it."""
+    for words in (["env", "A=1", "cat"], ["sh", "-c", "cd / && exec tee"]):
+        editor = Editor(place, server=words)
+        editor.write(b"x")
+        editor.process.stdin.close()
+        editor.wait()
+    names = [it.name.split("-")[0] for it in sorted((place / "logs").glob("*.log"))]
+    yield "env, and a shell", names == ["cat", "tee"], names
+
+
 def same_number(place):
     """Two recorders whose servers have one process number, as in two containers."""
     words = ["unshare", "--fork", "--pid", "--mount-proc"]
@@ -115,10 +126,10 @@ def same_number(place):
 
 def next_name(place):
     """The next free name is taken, whatever has the first: a file, a folder, a link to nowhere."""
-    stem = Path(proxy_log.create_log(place, "a", 1)[0]).stem
+    stem = Path(proxy_log.create_log(place, ["a"], 1)[0]).stem
     (place / f"{stem}-2.log").mkdir()
     (place / f"{stem}-3.log").symlink_to(place / "nowhere")
-    found = Path(proxy_log.create_log(place, "a", 1)[0]).name
+    found = Path(proxy_log.create_log(place, ["a"], 1)[0]).name
     # The second may have changed in between.
     good = found == f"{stem}-4.log" or not found.startswith(stem)
     yield "the next free name", good and not (place / "nowhere").exists(), found
@@ -143,6 +154,11 @@ def no_session(place):
 def help_text(place):
     run = subprocess.run([PROXY, "--help"], capture_output=True, text=True)
     yield "--help", run.returncode == 0 and run.stdout.startswith("usage: proxy"), run
+    source, sink = os.pipe()
+    os.close(source)
+    run = subprocess.run([PROXY, "--help"], stdout=sink, stderr=subprocess.PIPE)
+    os.close(sink)
+    yield "--help, nobody reads", (run.returncode, run.stderr) == (141, b""), run
     for words in [[], ["folder"], ["--other", "folder", "cat"]]:
         run = subprocess.run([PROXY, *words], capture_output=True, text=True, cwd=place)
         yield f"bad arguments {words}", run.returncode == 2 and "usage: proxy" in run.stderr, run
@@ -161,6 +177,7 @@ TESTS = {
     "end: the editor dies": editor_dies,
     "end: a child stays": child_stays,
     "names": names,
+    "names: started by others": started_by_others,
     "names: one number": same_number,
     "names: the next": next_name,
     "names: none": no_session,

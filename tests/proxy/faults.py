@@ -166,6 +166,17 @@ def folder_vanishes(place):
     yield "it is said once", editor.words().count("\n") == 1, editor.words()
 
 
+def log_deleted(place):
+    editor = Editor(place).start()
+    sent(editor)
+    log, = editor.logs.iterdir()
+    log.unlink()
+    yield "the session continues", keeps_going(editor) and editor.quit() == 0, editor.words()
+    wanted = f"proxy: {log}: the log was deleted; nothing more is recorded\n"
+    yield "it is said once", editor.words() == wanted, editor.words()
+    yield "nothing is left", not list(editor.logs.iterdir()), list(editor.logs.iterdir())
+
+
 def recorder_stops(number):
     """A test in which the process that records is sent a signal."""
 
@@ -197,6 +208,7 @@ TESTS = {
     "faults: below a file": no_folder(below_file),
     "faults: no files there": no_folder(read_only),
     "faults: the folder vanishes": folder_vanishes,
+    "faults: the log is deleted": log_deleted,
     "faults: the recorder is killed": recorder_stops(signal.SIGKILL),
     "faults: the recorder stops": recorder_stops(signal.SIGSTOP),
 }

@@ -77,6 +77,19 @@ def last_version(place):
     editor.quit()
 
 
+def lost_change(place):
+    """A change between two saves that never comes: both texts are recorded."""
+    editor, file, uri = saved(place)
+    for count, text in enumerate((b"two\n", b"three\n"), 1):
+        sent(editor)
+        file.write_bytes(text)
+        editor.save(uri)
+        editor.taken(count)
+    wanted = [(1, b"two\n"), (1, b"three\n")]
+    yield "both saves", editor.texts() == wanted, editor.texts()
+    editor.quit()
+
+
 def written_again(write):
     """A test in which the file is written in the second after the save."""
 
@@ -117,9 +130,9 @@ def become_pipe(file):
     os.mkfifo(file)
 
 
-def change_and_save(before, after, is_taken, clock=0):
-    """A test of a change before or after the file is written, and of `didSave` after a number of
-    seconds. The disk's clock may differ by some seconds."""
+def change_and_save(before, after, is_taken, clock=0, pause=0):
+    """A test of a change after a number of seconds since the file was written, or before that, and
+    of `didSave` after a pause. The disk's clock may differ by some seconds."""
 
     def write(file):
         file.write_bytes(b"two\n")
@@ -132,13 +145,16 @@ def change_and_save(before, after, is_taken, clock=0):
         sent(editor)
         if after is None:
             write(file)
+            editor.ask("wait")
+            time.sleep(before)
             editor.change(uri, 2, "two\n")
         else:
             editor.change(uri, 2, "two\n")
             sent(editor)
             write(file)
-        editor.ask("wait")
-        time.sleep(before if after is None else after)
+            editor.ask("wait")
+            time.sleep(after)
+        time.sleep(pause)
         editor.save(uri)
         wanted = [(2, b"two\n")] if is_taken else []
         found = editor.taken(1, 15 if is_taken else 1.5)
@@ -259,6 +275,7 @@ TESTS = {
     "save: again": begins_anew,
     "save: others": others_go_on,
     "save: the version": last_version,
+    "save: a lost change": lost_change,
     "save: written again": written_again(write_same_size),
     "save: another inode": written_again(write_at_same_time),
     "save: another size": written_again(write_longer),
@@ -268,6 +285,7 @@ TESTS = {
     "save: change, write, later": change_and_save(None, 0.4, True),
     "save: write, change, at once": change_and_save(0, None, True),
     "save: write, change, later": change_and_save(0.4, None, False),
+    "save: write, change, pause": change_and_save(0, None, False, pause=0.05),
     "save: a clock that is slow": change_and_save(None, 0.4, True, clock=-3600),
     "save: a clock that is fast": change_and_save(None, 0.4, True, clock=3600),
     "save: a fast clock, write, change": change_and_save(0.4, None, False, clock=3600),

@@ -1,7 +1,7 @@
 -- A task fails where its run does.
 use Rattle.std.proofs.Common.{◌≡◌, Result, Ok, Err, subst, sym}
 use Rattle.lsp_frame.specs.Bounds.{Bounds}
-use Rattle.lsp_judge.specs.declared.event.EventOutcome.{EventOutcome}
+use Rattle.lsp_extract.specs.declared.event.EventOutcome.{EventOutcome}
 use Rattle.lsp_verdict.specs.Runs.{CountsFaults, Ports, failures_read as source_failures}
 use Rattle.lsp_verdict.specs.Runs.{failures_written as sink_failures}
 use Rattle.lsp_verdict.specs.declared.outcome.Outcome.{Outcome}

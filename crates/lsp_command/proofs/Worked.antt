@@ -1,4 +1,5 @@
--- Words that were worked out by hand: what `clap` finds in them by the command line, and what they ask for.
+-- Words that were worked out by hand: what `clap` finds in them by the command line, and what they
+-- ask for.
 use Rattle.std.proofs.Common.{◌≡◌, List, [], ◌∷◌, Option, Some, None, codes, option_map, refl}
 use Rattle.clap.specs.Words.{App, Row, Text, all_of, fault_of, one_of, subcommand_of}
 use Rattle.clap.specs.declared.error.kind.ErrorKind.TheVariants as kind

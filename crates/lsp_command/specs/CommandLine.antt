@@ -68,14 +68,14 @@ mode modes = record (argument (codes "as")) {
 abbrev pub command : Text → List Rule → Shape
 command name rules = record (new_shape name) { rules = rules }
 
--- `check` with its own options alone
+-- `check` with the first of its options alone
 abbrev pub check_options : Shape
 check_options = command (codes "check")
     (flag (codes "complete") ∷ flag (codes "all") ∷ flag (codes "every")
-    ∷ ignore_line_ends ∷ [])
+    ∷ flag (codes "compared") ∷ [])
 
 abbrev pub check : Shape
-check = command (codes "check") (check_options.rules ++ quiet ∷ files ∷ [])
+check = command (codes "check") (check_options.rules ++ ignore_line_ends ∷ quiet ∷ files ∷ [])
 
 -- `explain` with its own options alone
 abbrev pub explain_options : Shape

@@ -1,9 +1,11 @@
 -- What an input seems to be by the bytes that it begins with.
-use Rattle.std.specs.Prelude.{ℕ, Bool, false, ◌||◌, ◌&&◌, ◌==◌, nat_le, not}
+use Rattle.std.specs.Prelude.{ℕ, Bool, false, ◌||◌, ◌&&◌, ◌==◌, nat_le, not, map, take, drop}
 use Rattle.std.specs.Prelude.{List, [], ◌∷◌, ◌++◌, Option, Some, None, Result, Ok, Err, codes, nat_eq, zero, suc, if◌then◌else◌}
-use Rattle.std.specs.List.{starts_with}
-use Rattle.lsp_judge.specs.declared.event.EventOutcome.{EventOutcome}
-use Rattle.lsp_judge.specs.declared.event.EventOutcome.TheVariants as events
+use Rattle.std.specs.Char.{is_ascii_alphanumeric, to_ascii_lowercase}
+use Rattle.std.specs.List.{starts_with, prefix_len}
+use Rattle.std.specs.Str.{bytes_eq}
+use Rattle.lsp_extract.specs.declared.event.EventOutcome.{EventOutcome}
+use Rattle.lsp_extract.specs.declared.event.EventOutcome.TheVariants as events
 use Rattle.lsp_command.specs.declared.task_outcome.TaskOutcome.{TaskOutcome}
 use Rattle.lsp_command.specs.declared.task_outcome.TaskOutcome.TheVariants as tasks
 use Rattle.lsp_verdict.specs.declared.outcome.Outcome.{Outcome}
@@ -30,9 +32,29 @@ is_compressed bytes = begins (31 ∷ 139 ∷ []) bytes || (begins (codes "BZh") 
 abbrev pub has_mark : List ℕ → Bool
 has_mark bytes = begins (239 ∷ 187 ∷ 191 ∷ []) bytes
 
--- a field of a header part
+-- a field of LSP's header part, whose name is written in any case
 abbrev pub is_stream : List ℕ → Bool
-is_stream bytes = begins (codes "Content-") bytes || begins (codes "content-") bytes
+is_stream bytes = bytes_eq (map to_ascii_lowercase (take 8 bytes)) (codes "content-")
+
+-- a letter, a digit or a hyphen
+abbrev pub is_name_byte : ℕ → Bool
+is_name_byte byte = is_ascii_alphanumeric byte || byte == 45
+
+-- neither CR nor LF
+abbrev pub is_line_byte : ℕ → Bool
+is_line_byte byte = not (byte == 13) && not (byte == 10)
+
+-- any field of a header part: a name and a colon, on a line that ends with CR before any LF
+abbrev pub is_field : List ℕ → Bool
+is_field bytes =
+    begins (codes ":") (drop (prefix_len is_name_byte bytes) bytes)
+    && begins (13 ∷ []) (drop (prefix_len is_line_byte bytes) bytes)
+
+-- a header part by which the rule can be understood: with a field of LSP's, or another one and a
+-- length
+abbrev pub has_header : ℕ → List ℕ → Bool
+has_header rule bytes =
+    is_stream bytes || (not (rule == rules.NOT_ONE_CONTENT_LENGTH) && is_field bytes)
 
 -- the first line of a log, and CR LF after it
 abbrev pub has_line_ends : List ℕ → Bool
@@ -53,11 +75,11 @@ log_hint (byte ∷ bytes) =
     else if has_mark (byte ∷ bytes) then hints.ByteOrderMark
     else session_hint (byte ∷ bytes)
 
--- the first frame has a fault of its header part or its length, and the bytes begin with no field
--- of LSP's
+-- the first frame has a fault of its header part or its length, and the bytes begin with no header
+-- part by which that can be understood
 abbrev pub has_no_header : ℕ → StreamFault → List ℕ → Bool
 has_no_header frame (Rule rule) bytes =
-    frame == 1 && (nat_le rule rules.STREAM_ENDS_INSIDE_FRAME && not (is_stream bytes))
+    frame == 1 && (nat_le rule rules.STREAM_ENDS_INSIDE_FRAME && not (has_header rule bytes))
 has_no_header frame TooLong bytes = false
 
 -- what an input seems to be of which a frame has a fault

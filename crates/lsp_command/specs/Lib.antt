@@ -7,3 +7,4 @@ pub mod CommandLine
 pub mod Words
 pub mod Slips
 pub mod Several
+pub mod ShownText

@@ -15,21 +15,21 @@ kept b = take b.count b.bytes
 -- ---- what is known of an input and an output
 
 -- the bytes that an output took and has not written
-abbrev pub unwritten : {W : Type 0} → BufferedOutput W → List ℕ
+abbrev pub unwritten : {W V : Type 0} → BufferedOutput W V → List ℕ
 unwritten o = writer_buffer o.writer.writer
 
 -- the first bytes that an input gave
-abbrev pub first_bytes : {R : Type 0} → BufferedInput R → List ℕ
+abbrev pub first_bytes : {R V : Type 0} → BufferedInput R V → List ℕ
 first_bytes i = kept i.beginning
 
 -- the error by which an input last failed
-abbrev pub input_error : {R : Type 0} → BufferedInput R → Option Error
+abbrev pub input_error : {R V : Type 0} → BufferedInput R V → Option Error
 input_error i = i.reader.tally.cause
 
 -- the error by which an output last failed
-abbrev pub output_error : {W : Type 0} → BufferedOutput W → Option Error
+abbrev pub output_error : {W V : Type 0} → BufferedOutput W V → Option Error
 output_error o = o.writer.tally.cause
 
 -- the error of its writer by which an output has still to fail
-abbrev pub late_error : {W : Type 0} → BufferedOutput W → Option Error
+abbrev pub late_error : {W V : Type 0} → BufferedOutput W V → Option Error
 late_error o = o.writer.late

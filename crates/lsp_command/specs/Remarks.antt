@@ -4,7 +4,7 @@ use Rattle.lsp_verdict.specs.Given.{verdict_view}
 use Rattle.lsp_verdict.specs.Report.{report, stream_report}
 use Rattle.lsp_verdict.specs.declared.outcome.Mode.TheVariants.{Canonical}
 use Rattle.lsp_verdict.specs.Verdict.{bad_log}
-use Rattle.lsp_judge.specs.declared.event.EventOutcome.TheVariants as events
+use Rattle.lsp_extract.specs.declared.event.EventOutcome.TheVariants as events
 use Rattle.lsp_command.specs.declared.task_outcome.TaskOutcome.{TaskOutcome}
 use Rattle.lsp_command.specs.declared.task_outcome.TaskOutcome.TheVariants as tasks
 use Rattle.lsp_verdict.specs.declared.outcome.Outcome.{Outcome}

@@ -1,11 +1,14 @@
 -- The exit statuses.
-use Rattle.std.specs.Prelude.{ℕ, Result, Ok, Err}
+use Rattle.std.specs.Prelude.{ℕ, Bool, false, ◌&&◌, Result, Ok, Err, if◌then◌else◌}
 use Rattle.clap.specs.declared.error.kind.ErrorKind.{ErrorKind}
 use Rattle.clap.specs.declared.error.kind.ErrorKind.TheVariants as kinds
-use Rattle.lsp_judge.specs.declared.event.EventOutcome.{EventOutcome}
-use Rattle.lsp_judge.specs.declared.event.EventOutcome.TheVariants as events
+use Rattle.lsp_extract.specs.declared.event.EventOutcome.{EventOutcome}
+use Rattle.lsp_extract.specs.declared.event.EventOutcome.TheVariants as events
+use Rattle.lsp_judge.specs.Checked.{compared_nothing}
+use Rattle.lsp_command.specs.declared.command_line.task.Request.{Request}
 use Rattle.lsp_command.specs.declared.task_outcome.TaskOutcome.{TaskOutcome}
 use Rattle.lsp_command.specs.declared.task_outcome.TaskOutcome.TheVariants as tasks
+use Rattle.lsp_verdict.specs.Given.{verdict_view}
 use Rattle.lsp_verdict.specs.declared.outcome.Outcome.{Outcome}
 use Rattle.lsp_verdict.specs.declared.outcome.Outcome.TheVariants.{Done, Judged, Stream, NoDocument}
 use Rattle.lsp_verdict.specs.declared.outcome.Outcome.TheVariants.{NoDifference, TooFew}
@@ -47,7 +50,31 @@ status_of_task (Ok (tasks.Run outcome)) = status_of_outcome outcome
 status_of_task (Ok (tasks.Event outcome)) = status_of_event outcome
 status_of_task (Err fault) = status_of_fault fault
 
--- where the words ask for no run: 0 for help and the version, 4 out of memory, 64 where they don't parse
+-- a log was judged, and the verdict is a Yes for which no snapshot was compared
+abbrev pub outcome_compared_nothing : Outcome → Bool
+outcome_compared_nothing (Judged v) = compared_nothing (verdict_view v)
+outcome_compared_nothing Done = false
+outcome_compared_nothing (Stream frame fault) = false
+outcome_compared_nothing NoDocument = false
+outcome_compared_nothing TooFew = false
+outcome_compared_nothing NoDifference = false
+
+abbrev pub task_compared_nothing : Result TaskOutcome RunFault → Bool
+task_compared_nothing (Ok (tasks.Run outcome)) = outcome_compared_nothing outcome
+task_compared_nothing (Ok (tasks.Event outcome)) = false
+task_compared_nothing (Err fault) = false
+
+-- the request wants a snapshot compared, and for the Yes that its task gave none was
+abbrev pub lacks_comparison : Request → Result TaskOutcome RunFault → Bool
+lacks_comparison request ended = request.compared && task_compared_nothing ended
+
+-- **the status of a request**: that of its task, but 1 for a Yes that lacks a comparison
+abbrev pub status_of_request : Request → Result TaskOutcome RunFault → ℕ
+status_of_request request ended =
+    if lacks_comparison request ended then 1 else status_of_task ended
+
+-- where the words ask for no run: 0 for help and the version, 4 out of memory, 64 where they don't
+-- parse
 abbrev pub status_of_words : ErrorKind → ℕ
 status_of_words kinds.DisplayHelp = 0
 status_of_words kinds.DisplayVersion = 0

@@ -1,12 +1,12 @@
 -- What each task answers and writes, and how it ends.
 use Rattle.std.specs.Prelude.{Result, Ok, Err, ◌≡◌, ℕ, List, [], OnOk}
 use Rattle.std.specs.Int.NonZero.{non_zero_u64_get}
-use Rattle.lsp_judge.specs.declared.event.EventOutcome.{EventOutcome}
-use Rattle.lsp_judge.specs.Event.{GivesEvent}
-use Rattle.lsp_judge.specs.Normal.{Normalizes}
+use Rattle.lsp_extract.specs.declared.event.EventOutcome.{EventOutcome}
+use Rattle.lsp_extract.specs.Event.{GivesEvent}
+use Rattle.lsp_extract.specs.Normal.{Normalizes}
 use Rattle.lsp_judge.specs.Checked.{Checked, CheckedLine}
 use Rattle.lsp_judge.specs.ShownLog.{Showed, UpgradesLog}
-use Rattle.lsp_judge.specs.Stream.{RunsFrames}
+use Rattle.lsp_extract.specs.Stream.{RunsFrames}
 use Rattle.lsp_verdict.specs.declared.outcome.Outcome.{Outcome}
 use Rattle.lsp_verdict.specs.declared.outcome.RunFault.{RunFault}
 use Rattle.lsp_verdict.specs.Runs.{Ports, failures_read as source_failures}

@@ -1,5 +1,5 @@
 -- What the words of a command line ask for, read off what `clap` finds in them.
-use Rattle.std.specs.Prelude.{◌≡◌, ◌⊎◌, ◌<◌, ◌^◌, ℕ, Bool, true, false, List, [], ◌∷◌, map, Option, Some, None, MatchOption, codes, option_and_then, option_map, if◌then◌else◌}
+use Rattle.std.specs.Prelude.{◌≡◌, ◌⊎◌, ◌<◌, ◌^◌, ◌&&◌, ℕ, Bool, true, false, List, [], ◌∷◌, map, Option, Some, None, MatchOption, codes, option_and_then, option_map, if◌then◌else◌}
 use Rattle.std.specs.Borrow.{Bor}
 use Rattle.std.specs.Str.{bytes_eq}
 use Rattle.std.specs.Str.Parse.{IsNumeral, digits_value, without_leading_plus}
@@ -126,8 +126,8 @@ abbrev pub AsksCompared : List Row → ComparedText → Type 0
 AsksCompared rows which =
     (completeness : Completeness) × (all : Bool) × AsksExplain rows completeness all (Some which)
 
--- the lines are long where the option for these is set, and each event that offends is skipped where
--- the option for that is set
+-- the lines are long where the option for these is set, and each event that offends is skipped
+-- where the option for that is set
 pub record AsksShow (rows : List Row) (lines : Lines) (all : Bool) : Type 0 where
   pub long : Bool
   pub long_is : IsFlag (one_of (codes "long") rows) long
@@ -141,6 +141,12 @@ show_of lines all = if all then tasks.ShowAll lines else tasks.Show lines
 abbrev pub AsksLineEnds : List Row → LineEnds → Type 0
 AsksLineEnds rows asked =
     (set : Bool) × IsFlag (one_of (codes "ignore-line-ends") rows) set × (asked ≡ line_ends_of set)
+
+-- both texts that differ are asked for, where only one can be written
+abbrev pub AsksBoth : List Row → Bool → Type 0
+AsksBoth rows both =
+    (by_messages : Bool) × (in_editor : Bool) × IsFlag (one_of (codes "by-messages") rows) by_messages
+    × IsFlag (one_of (codes "in-editor") rows) in_editor × (both ≡ by_messages && in_editor)
 
 -- the words give this number, which 64 bits hold, and not 0
 pub record GivesNumber (rows : List Row) (number : ℕ) : Type 0 where
@@ -213,12 +219,15 @@ TaskIn name rows result =
     MatchOption result ((task : Task) → HasTask name rows task → ⊥) (HasTask name rows)
 
 -- a command of this name asks for the request: its task, the file that it names, all files where
--- it names several, whether no progress is to be shown, and whether line ends count
+-- it names several, whether no progress is to be shown, whether a Yes must rest on a snapshot that
+-- was compared, whether both texts that differ are to be written, and whether line ends count
 pub record AsksOf (name : Text) (rows : List Row) (request : Request) : Type 0 where
   pub task : HasTask name rows request.task
   pub file : option_map (λ path. path.now) request.file ≡ file_of (first_of (codes "file") rows)
   pub files : map (λ path. path.now) request.files.items ≡ several_of (all_of (codes "file") rows)
   pub quiet : IsFlag (one_of (codes "quiet") rows) request.quiet
+  pub compared : IsFlag (one_of (codes "compared") rows) request.compared
+  pub both_texts : AsksBoth rows request.both_texts
   pub line_ends : AsksLineEnds rows request.line_ends
 
 abbrev pub AsksFor : Option (Text × List Row) → Request → Type 0
@@ -235,7 +244,8 @@ pub record Asks (app : App) (words : List Text) (request : Request) : Type 0 whe
   pub taken : fault_of app words ≡ []
   pub found : AsksFor (subcommand_of app words) request
 
--- **how words are refused**: as `clap` refuses them; or what it finds asks for nothing, and a command is required
+-- **how words are refused**: as `clap` refuses them; or what it finds asks for nothing, and a
+-- command is required
 abbrev pub Refuses : App → List Text → Error → Type 0
 Refuses app words error =
     HasKind (fault_of app words) error

@@ -1,7 +1,7 @@
 //! The words of the command line, and what they ask for.
 //!
 //! `request_of` reads the words: a [`Request`] is a [`Task`] and the file to do it on. A [`Slip`]
-//! says what the words may have left out, and a [`Misuse`] what several files cannot be asked for.
+//! says what the words may have left out, and a [`Misuse`] what is asked and cannot be done.
 
 mod commands;
 mod several;

@@ -1,6 +1,8 @@
 //! What an input seems to be that is not what the command reads.
-ghost use Rattle.std.specs.Prelude.{◌≡◌};
+ghost use Rattle.std.specs.Prelude.{◌≡◌, ◌≤◌, length, take};
+ghost use Rattle.std.specs.List.{prefix_len};
 ghost use Rattle.lsp_command.specs.Hints.{begins, has_line_ends, is_compressed, is_stream};
+ghost use Rattle.lsp_command.specs.Hints.{has_header, is_field, is_line_byte, is_name_byte};
 ghost use Rattle.lsp_command.specs.Hints.{has_no_header, log_hint, run_hint, session_hint};
 ghost use Rattle.lsp_command.specs.Hints.{hint_of, stream_hint};
 
@@ -74,11 +76,62 @@ fn is_compressed(bytes: &[u8]) -> bool
         || begins(b"PK\x03\x04", bytes)
 }
 
-/// Whether the bytes begin with a field of a header part (LSP 3.17, "Base Protocol").
+/// The first eight bytes, or all of fewer.
+fn eight(bytes: &[u8]) -> &[u8]
+    ensures { result.now ≡ take 8 bytes.now }
+{
+    &bytes[..bytes.len().min(8)]
+}
+
+/// Whether the bytes begin with a field of LSP's header part (LSP 3.17, "Base Protocol"), whose
+/// name is written in any case.
 fn is_stream(bytes: &[u8]) -> bool
     ensures { result ≡ is_stream bytes.now }
 {
-    begins(b"Content-", bytes) || begins(b"content-", bytes)
+    eight(bytes).eq_ignore_ascii_case(b"content-")
+}
+
+/// A letter, a digit or a hyphen.
+fn is_name_byte(byte: u8) -> bool
+    ensures { result ≡ is_name_byte byte }
+{
+    byte.is_ascii_alphanumeric() || byte == b'-'
+}
+
+/// Neither CR nor LF.
+fn is_line_byte(byte: u8) -> bool
+    ensures { result ≡ is_line_byte byte }
+{
+    !(byte == b'\r') && !(byte == b'\n')
+}
+
+fn name_len(bytes: &[u8]) -> usize
+    ensures value { result ≡ prefix_len is_name_byte bytes.now }
+    ensures bound { result ≤ length bytes.now }
+{
+    bytes.iter().take_while(|byte| is_name_byte(**byte)).count()
+}
+
+fn line_len(bytes: &[u8]) -> usize
+    ensures value { result ≡ prefix_len is_line_byte bytes.now }
+    ensures bound { result ≤ length bytes.now }
+{
+    bytes.iter().take_while(|byte| is_line_byte(**byte)).count()
+}
+
+/// Whether the bytes begin with any field of a header part: a name and a colon, on a line that ends
+/// with CR before any LF. A program that prints to the stream mostly ends its lines with LF alone.
+fn is_field(bytes: &[u8]) -> bool
+    ensures { result ≡ is_field bytes.now }
+{
+    begins(b":", &bytes[name_len(bytes)..]) && begins(b"\r", &bytes[line_len(bytes)..])
+}
+
+/// Whether the bytes begin with a header part by which the rule can be understood.
+fn has_header(rule: u16, bytes: &[u8]) -> bool
+    ensures { result ≡ has_header rule bytes.now }
+{
+    is_stream(bytes) || !(rule == rules::NOT_ONE_CONTENT_LENGTH) && is_field(bytes)
 }
 
 /// Whether the bytes begin with the first line of a log, and CR LF after it.
@@ -120,13 +173,14 @@ fn session_hint(bytes: &[u8]) -> Hint
     Hint::Unknown
 }
 
-/// Whether the first frame has a fault, and the bytes begin with no field of LSP's.
+/// Whether the first frame has a fault, and the bytes begin with no header part by which that can
+/// be understood.
 fn has_no_header(frame: u64, fault: StreamFault, bytes: &[u8]) -> bool
     ensures { result ≡ has_no_header frame fault bytes.now }
 {
     match fault {
         StreamFault::Rule(rule) => {
-            frame == 1 && rule <= rules::STREAM_ENDS_INSIDE_FRAME && !is_stream(bytes)
+            frame == 1 && rule <= rules::STREAM_ENDS_INSIDE_FRAME && !has_header(rule, bytes)
         }
         StreamFault::TooLong => false,
     }

@@ -10,6 +10,7 @@ use crate::beginning::Beginning;
 use crate::command_line::Task;
 use crate::pace::Supply;
 use crate::reader::CountedReader;
+use crate::watch::Watch;
 use lsp_frame::{Failed, Source};
 use std::alloc::{AllocError, Global};
 use std::io;
@@ -18,8 +19,8 @@ use std::io::{BufReader, Read};
 /// How many bytes are asked for at once.
 const GATHERED: usize = 65_536;
 
-/// How many bytes a call appends at most. Of what was read ahead, longer copies would be slower: the
-/// room for a long record is touched for the first time.
+/// How many bytes a call appends at most. Of what was read ahead, longer copies would be slower:
+/// the room for a long record is touched for the first time.
 const PIECE: usize = 2_048;
 
 /// A reader of what a run of this task asks for. Frames are asked for by as much as is read ahead
@@ -40,28 +41,28 @@ fn reader_for<R: Read + Drop>(
 }
 
 /// A source over a reader of std, which reads ahead. It keeps what the reader gave first, and the
-/// error by which it last failed, and notes whether anything is left of what was read ahead.
+/// error by which it last failed, and notes what is left of what was read ahead.
 #[derive(Drop)]
-pub struct BufferedInput<'a, R> {
-    reader: CountedReader<R>,
+pub struct BufferedInput<'a, R, V> {
+    reader: CountedReader<BufReader<R>>,
     beginning: Beginning,
-    supply: &'a Supply,
+    supply: &'a Supply<V>,
 }
 
-impl<'a, R: Read + Drop> BufferedInput<'a, R> {
+impl<'a, R: Read + Drop, V: Watch> BufferedInput<'a, R, V> {
     /// A source for a run of this task, which has not failed and has given nothing yet.
     pub fn new(
         alloc: Global,
         reader: R,
         task: &Task<'_>,
-        supply: &'a Supply,
-    ) -> Result<BufferedInput<'a, R>, AllocError>
+        supply: &'a Supply<V>,
+    ) -> Result<BufferedInput<'a, R, V>, AllocError>
         ensures remaining { IfOk result (λ input.
             Consumes (R.remaining reader)
-            (⟦<BufferedInput<'a, R> as Source>⟧.told input).bytes []) }
+            (⟦<BufferedInput<'a, R, V> as Source>⟧.told input).bytes []) }
         ensures first { IfOk result (λ input. first_bytes input ≡ []) }
         ensures failures { IfOk result (λ input.
-            (⟦<BufferedInput<'a, R> as Source>⟧.told input).failures ≡ 0) }
+            (⟦<BufferedInput<'a, R, V> as Source>⟧.told input).failures ≡ 0) }
     {
         Ok(BufferedInput {
             reader: CountedReader::new(reader_for(alloc, reader, task)?),
@@ -81,13 +82,13 @@ impl<'a, R: Read + Drop> BufferedInput<'a, R> {
     pub fn cause(&self) -> Option<io::Error>
         ensures value { result ≡ input_error self.now }
         ensures failed { IsSome result
-            ↔ (0 < (⟦<BufferedInput<'a, R> as Source>⟧.told self.now).failures) }
+            ↔ (0 < (⟦<BufferedInput<'a, R, V> as Source>⟧.told self.now).failures) }
     {
         self.reader.cause()
     }
 }
 
-impl<'a, R: Read> Source for BufferedInput<'a, R> {
+impl<'a, R: Read, V: Watch> Source for BufferedInput<'a, R, V> {
     ghost told = { λ s. record {
       bytes = ⟦<BufReader<R> as Read>⟧.remaining s.reader.reader;
       count = s.reader.tally.bytes;
@@ -99,44 +100,46 @@ impl<'a, R: Read> Source for BufferedInput<'a, R> {
     fn pull(&mut self, buffer: &mut [u8]) -> Result<usize, Failed>
         ensures count { ReadsAtMost result buffer.new }
         ensures gave { IfOk result (λ n.
-            Gave (⟦<BufferedInput<'a, R> as Source>⟧.told self.old)
-            (⟦<BufferedInput<'a, R> as Source>⟧.told self.new) (take n buffer.new)) }
+            Gave (⟦<BufferedInput<'a, R, V> as Source>⟧.told self.old)
+            (⟦<BufferedInput<'a, R, V> as Source>⟧.told self.new) (take n buffer.new)) }
         ensures end { IfOk result (λ n. n ≡ 0 → 0 < length buffer.new
-            → IsAtEnd (⟦<BufferedInput<'a, R> as Source>⟧.told self.new).bytes) }
+            → IsAtEnd (⟦<BufferedInput<'a, R, V> as Source>⟧.told self.new).bytes) }
         ensures err { OnErr result
-            (KeepsBytes (⟦<BufferedInput<'a, R> as Source>⟧.told self.old)
-            (⟦<BufferedInput<'a, R> as Source>⟧.told self.new)) }
-        ensures failures { CountsFailure (⟦<BufferedInput<'a, R> as Source>⟧.told self.old).failures
-            (⟦<BufferedInput<'a, R> as Source>⟧.told self.new).failures result }
+            (KeepsBytes (⟦<BufferedInput<'a, R, V> as Source>⟧.told self.old)
+            (⟦<BufferedInput<'a, R, V> as Source>⟧.told self.new)) }
+        ensures failures { CountsFailure
+            (⟦<BufferedInput<'a, R, V> as Source>⟧.told self.old).failures
+            (⟦<BufferedInput<'a, R, V> as Source>⟧.told self.new).failures result }
         // The first bytes are kept.
         ensures first { IfOk result (λ n.
             first_bytes self.new ≡ take 32 (first_bytes self.old ++ take n buffer.new)) }
         ensures same_first { OnErr result (first_bytes self.new ≡ first_bytes self.old) }
     {
-        let answer = self.reader.read(buffer);
-        self.supply.note(self.reader.ahead().len());
-        let count = answer?;
+        let count = self.reader.read(buffer)?;
+        self.supply.note(count, self.reader.ahead().len());
         self.beginning.keep(&buffer[..count]);
         Ok(count)
     }
 
-    /// Appends bytes to the buffer as the trait says, at most [`PIECE`]: those that were read ahead,
-    /// straight from there, or if there are none, what the reader gives.
+    /// Appends bytes to the buffer as the trait says, at most [`PIECE`]: those that were read
+    /// ahead, straight from there, or if there are none, what the reader gives.
     fn pull_onto(&mut self, buffer: &mut Vec<u8>, most: usize) -> Result<usize, Failed>
         requires room { vec_len buffer.old + most ≤ vec_capacity buffer.old }
         ensures room { vec_capacity buffer.old ≤ vec_capacity buffer.new }
         ensures gave { IfOk result (λ n.
-            GaveOnto (⟦<BufferedInput<'a, R> as Source>⟧.told self.old)
-            (⟦<BufferedInput<'a, R> as Source>⟧.told self.new) buffer.old.items buffer.new.items
+            GaveOnto (⟦<BufferedInput<'a, R, V> as Source>⟧.told self.old)
+            (⟦<BufferedInput<'a, R, V> as Source>⟧.told self.new) buffer.old.items buffer.new.items
             most n) }
         ensures end { IfOk result (λ n.
-            n ≡ 0 → 0 < most → IsAtEnd (⟦<BufferedInput<'a, R> as Source>⟧.told self.new).bytes) }
+            n ≡ 0 → 0 < most
+            → IsAtEnd (⟦<BufferedInput<'a, R, V> as Source>⟧.told self.new).bytes) }
         ensures same { OnErr result (buffer.new.items ≡ buffer.old.items) }
         ensures err { OnErr result
-            (KeepsBytes (⟦<BufferedInput<'a, R> as Source>⟧.told self.old)
-            (⟦<BufferedInput<'a, R> as Source>⟧.told self.new)) }
-        ensures failures { CountsFailure (⟦<BufferedInput<'a, R> as Source>⟧.told self.old).failures
-            (⟦<BufferedInput<'a, R> as Source>⟧.told self.new).failures result }
+            (KeepsBytes (⟦<BufferedInput<'a, R, V> as Source>⟧.told self.old)
+            (⟦<BufferedInput<'a, R, V> as Source>⟧.told self.new)) }
+        ensures failures { CountsFailure
+            (⟦<BufferedInput<'a, R, V> as Source>⟧.told self.old).failures
+            (⟦<BufferedInput<'a, R, V> as Source>⟧.told self.new).failures result }
         // The first bytes are kept.
         ensures first { OnOk result (first_bytes self.new
             ≡ take 32 (first_bytes self.old ++ appended_bytes buffer.old.items buffer.new.items)) }
@@ -150,31 +153,32 @@ impl<'a, R: Read> Source for BufferedInput<'a, R> {
         buffer.extend_from_slice(ahead).unwrap();
         self.beginning.keep(ahead);
         self.reader.consume(count);
-        self.supply.note(self.reader.ahead().len());
+        self.supply.note(count, self.reader.ahead().len());
         Ok(count)
     }
 }
 
 /// Appends what one call of the input gives, at most this many bytes and [`PIECE`].
-fn pull_fresh<'a, R: Read>(
-    input: &mut BufferedInput<'a, R>,
+fn pull_fresh<'a, R: Read, V: Watch>(
+    input: &mut BufferedInput<'a, R, V>,
     buffer: &mut Vec<u8>,
     most: usize,
 ) -> Result<usize, Failed>
     requires room { vec_len buffer.old + most ≤ vec_capacity buffer.old }
     ensures room { vec_capacity buffer.old ≤ vec_capacity buffer.new }
     ensures gave { IfOk result (λ n.
-        GaveOnto (⟦<BufferedInput<'a, R> as Source>⟧.told input.old)
-        (⟦<BufferedInput<'a, R> as Source>⟧.told input.new) buffer.old.items buffer.new.items
+        GaveOnto (⟦<BufferedInput<'a, R, V> as Source>⟧.told input.old)
+        (⟦<BufferedInput<'a, R, V> as Source>⟧.told input.new) buffer.old.items buffer.new.items
         most n) }
     ensures end { IfOk result (λ n.
-        n ≡ 0 → 0 < most → IsAtEnd (⟦<BufferedInput<'a, R> as Source>⟧.told input.new).bytes) }
+        n ≡ 0 → 0 < most → IsAtEnd (⟦<BufferedInput<'a, R, V> as Source>⟧.told input.new).bytes) }
     ensures same { OnErr result (buffer.new.items ≡ buffer.old.items) }
     ensures err { OnErr result
-        (KeepsBytes (⟦<BufferedInput<'a, R> as Source>⟧.told input.old)
-        (⟦<BufferedInput<'a, R> as Source>⟧.told input.new)) }
-    ensures failures { CountsFailure (⟦<BufferedInput<'a, R> as Source>⟧.told input.old).failures
-        (⟦<BufferedInput<'a, R> as Source>⟧.told input.new).failures result }
+        (KeepsBytes (⟦<BufferedInput<'a, R, V> as Source>⟧.told input.old)
+        (⟦<BufferedInput<'a, R, V> as Source>⟧.told input.new)) }
+    ensures failures { CountsFailure
+        (⟦<BufferedInput<'a, R, V> as Source>⟧.told input.old).failures
+        (⟦<BufferedInput<'a, R, V> as Source>⟧.told input.new).failures result }
     ensures first { OnOk result (first_bytes input.new
         ≡ take 32 (first_bytes input.old ++ appended_bytes buffer.old.items buffer.new.items)) }
     ensures same_first { OnErr result (first_bytes input.new ≡ first_bytes input.old) }

@@ -3,12 +3,14 @@
 //!
 //! `request_of` reads the words (module `command_line`), `run_task` does what they ask for over any
 //! source and sink, and `run_through` does it over a file or standard input and into
-//! standard output. `status_of_task` is the table of statuses, `remark_of`, `report_apart` and
-//! `hint_of` are what a user reads on standard error.
+//! standard output. `status_of_task` is the table of statuses, to which `status_of_request` adds
+//! what a request asks of a Yes. `remark_of`, `report_apart` and `hint_of` are what a user reads on
+//! standard error, where names are shown as `quoted_name` and `shown_text` give them.
 #![tactic(auto)]
 
 mod beginning;
 mod command_line;
+mod device;
 mod hint;
 mod input;
 mod io_state;
@@ -17,8 +19,10 @@ mod pace;
 mod reader;
 mod remark;
 mod run;
+mod shown;
 mod status;
 mod task_outcome;
+mod watch;
 mod writer;
 
 pub use beginning::Beginning;
@@ -31,5 +35,9 @@ pub use output::BufferedOutput;
 pub use pace::{Pace, Supply};
 pub use remark::{remark_of, report_apart};
 pub use run::{run_task, run_through};
-pub use status::{status_of, status_of_task, status_of_words, worse_of};
+pub use shown::shown_text;
+pub use status::{
+    lacks_comparison, status_of, status_of_request, status_of_task, status_of_words, worse_of,
+};
 pub use task_outcome::TaskOutcome;
+pub use watch::{Unwatched, Watch};

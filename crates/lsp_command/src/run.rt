@@ -9,6 +9,7 @@ use crate::command_line::Task;
 use crate::input::BufferedInput;
 use crate::output::BufferedOutput;
 use crate::task_outcome::{TaskOutcome, of_event, of_run};
+use crate::watch::Watch;
 use lsp_explain::{run_compared, run_explain, run_explain_all};
 use lsp_frame::{Failed, Limits, Sink, Source};
 use lsp_judge::{
@@ -82,18 +83,18 @@ fn handed_on(
 
 /// Does the task over an input and into an output. What the task wrote is passed on even if it
 /// failed.
-pub fn run_through<'a, R: Read + Drop, W: Write + Drop>(
+pub fn run_through<'a, R: Read + Drop, W: Write + Drop, V: Watch>(
     alloc: Global,
     task: Task<'_>,
-    input: &mut BufferedInput<'a, R>,
-    output: &mut BufferedOutput<'a, W>,
+    input: &mut BufferedInput<'a, R, V>,
+    output: &mut BufferedOutput<'a, W, V>,
     limits: Limits,
 ) -> Result<TaskOutcome, RunFault>
     ensures ran { RanThrough limits task.entry
-        (ports (⟦<BufferedInput<'a, R> as Source>⟧.told input.old)
-        (⟦<BufferedInput<'a, R> as Source>⟧.told input.new)
-        (⟦<BufferedOutput<'a, W> as Sink>⟧.told output.old)
-        (⟦<BufferedOutput<'a, W> as Sink>⟧.told output.new)) (unwritten output.new) result }
+        (ports (⟦<BufferedInput<'a, R, V> as Source>⟧.told input.old)
+        (⟦<BufferedInput<'a, R, V> as Source>⟧.told input.new)
+        (⟦<BufferedOutput<'a, W, V> as Sink>⟧.told output.old)
+        (⟦<BufferedOutput<'a, W, V> as Sink>⟧.told output.new)) (unwritten output.new) result }
     ensures flushed { OnOk result (unwritten output.new ≡ []) }
     // No error of the writer is left to be told.
     ensures settled { late_error output.new ≡ None }

@@ -1,11 +1,14 @@
 //! The status that the program ends with.
 ghost use Rattle.std.specs.Prelude.{◌≡◌, max};
 ghost use Rattle.lsp_command.specs.Status.{status_of, status_of_event, status_of_fault};
-ghost use Rattle.lsp_command.specs.Status.{status_of_outcome, status_of_task, status_of_words};
+ghost use Rattle.lsp_command.specs.Status.{lacks_comparison, outcome_compared_nothing};
+ghost use Rattle.lsp_command.specs.Status.{status_of_outcome, status_of_request, status_of_task};
+ghost use Rattle.lsp_command.specs.Status.{status_of_words, task_compared_nothing};
 
+use crate::command_line::Request;
 use crate::task_outcome::TaskOutcome;
 use clap::error::ErrorKind;
-use lsp_judge::{EventOutcome, Outcome, RunFault, Verdict};
+use lsp_judge::{EventOutcome, Outcome, RunFault, Verdict, compared_nothing};
 
 fn status_of_outcome(outcome: &Outcome) -> u8
     ensures { result ≡ status_of_outcome outcome.now }
@@ -56,6 +59,42 @@ pub fn status_of_task(ended: &Result<TaskOutcome, RunFault>) -> u8
         Ok(TaskOutcome::Event(outcome)) => status_of_event(*outcome),
         Err(fault) => status_of_fault(*fault),
     }
+}
+
+fn outcome_compared_nothing(outcome: &Outcome) -> bool
+    ensures { result ≡ outcome_compared_nothing outcome.now }
+{
+    match outcome {
+        Outcome::Judged(verdict) => compared_nothing(verdict),
+        _ => false,
+    }
+}
+
+fn task_compared_nothing(ended: &Result<TaskOutcome, RunFault>) -> bool
+    ensures { result ≡ task_compared_nothing ended.now }
+{
+    match ended {
+        Ok(TaskOutcome::Run(outcome)) => outcome_compared_nothing(outcome),
+        _ => false,
+    }
+}
+
+/// Whether the request wants a snapshot compared, and for the Yes that its task gave none was.
+pub fn lacks_comparison(request: &Request<'_>, ended: &Result<TaskOutcome, RunFault>) -> bool
+    ensures { result ≡ lacks_comparison request.now ended.now }
+{
+    request.compared && task_compared_nothing(ended)
+}
+
+/// The exit status of a request whose task ended so: that of the task, but 1 for a Yes that lacks
+/// a comparison.
+pub fn status_of_request(request: &Request<'_>, ended: &Result<TaskOutcome, RunFault>) -> u8
+    ensures { result ≡ status_of_request request.now ended.now }
+{
+    if lacks_comparison(request, ended) {
+        return 1;
+    }
+    status_of_task(ended)
 }
 
 /// The worse of two statuses of `check`, for several files: 4 out of memory, 3 a fault, 2 a bad

@@ -1,33 +1,34 @@
 //! A writer, each of whose errors is counted once.
 ghost use Rattle.std.specs.Prelude.{◌≡◌, ◌<◌, ◌↔◌, ◌⊎◌, [], length, None, Ok, Some, Err};
-ghost use Rattle.std.specs.Prelude.{IfOk, IfErr, IfSome, OnErr, IsErr, IsErrAnd, IsSome};
+ghost use Rattle.std.specs.Prelude.{IfOk, IfErr, IfSome, OnErr, IsErr, IsErrAnd, IsSome, IsSomeAnd};
+ghost use Rattle.std.specs.Prelude.{MatchOption, MatchResult};
 ghost use Rattle.std.specs.Io.{WritesAtMost};
-ghost use Rattle.std.specs.Io.Buffered.{writer_buffer};
 ghost use Rattle.std.specs.Io.KnownBytes.{Keeps, WriteAppends};
 ghost use Rattle.std.specs.IoError.{error_kind};
 ghost use Rattle.std.specs.declared.io.ErrorKind.TheVariants.{WriteZero};
 ghost use Rattle.lsp_frame.specs.Told.{CountsFailure, Raises};
 
+use crate::device::OutputDevice;
 use crate::io_state::IoState;
 use lsp_frame::Failed;
 use std::io;
 use std::io::{BufWriter, Write};
 
-/// A writer of std, which gathers bytes, and what came of its calls. Only `write` and `flush` call
-/// it. An error of `flush` is late until a call fails by it, and until then the writer cannot be
-/// called. So a caller that drops an error, or asks again after one, breaks its own contract, which
-/// ties its answer to the count of failures.
+/// A device that gathers bytes, and what came of its calls. Only `write` and `flush` call it. An
+/// error of `flush` is late until a call fails by it, and until then the device cannot be called.
+/// So a caller that drops an error, or asks again after one, breaks its own contract, which ties
+/// its answer to the count of failures.
 #[derive(Drop)]
-pub(crate) struct CountedWriter<W: Write + Drop> {
-    writer: BufWriter<W>,
+pub(crate) struct CountedWriter<D> {
+    writer: D,
     tally: IoState,
-    /// An error of the writer by which no call has failed yet.
+    /// An error of the device by which no call has failed yet.
     late: Option<io::Error>,
 }
 
-impl<W: Write + Drop> CountedWriter<W> {
-    /// Of a writer that was not called yet.
-    pub(crate) fn new(writer: BufWriter<W>) -> CountedWriter<W>
+impl<D: OutputDevice> CountedWriter<D> {
+    /// Of a device that was not called yet.
+    pub(crate) fn new(writer: D) -> CountedWriter<D>
         ensures writer { result.writer ≡ writer }
         ensures bytes { result.tally.bytes ≡ 0 }
         ensures failures { result.tally.failures ≡ 0 }
@@ -57,33 +58,41 @@ impl<W: Write + Drop> CountedWriter<W> {
         self.tally.heed(late.map_or(Ok(()), Err))
     }
 
-    /// Calls the writer once, and answers as it does, where taking none of some bytes is an error.
-    /// Nothing but tests shows that it is so.
+    /// Calls the device once, and answers as it does, where taking none of some bytes is an error.
+    /// Where it fails, its error is the cause.
     pub(crate) fn write(&mut self, bytes: &[u8]) -> Result<usize, Failed>
         requires { self.old.late ≡ None }
         ensures count { WritesAtMost result bytes.now }
         ensures some { IfOk result (λ n. 0 < length bytes.now → 0 < n) }
-        ensures bytes { WriteAppends (⟦<BufWriter<W> as Write>⟧.contents self.old.writer)
-            (⟦<BufWriter<W> as Write>⟧.contents self.new.writer) result bytes.now }
+        ensures bytes { WriteAppends (D.contents self.old.writer) (D.contents self.new.writer)
+            result bytes.now }
+        ensures took { MatchResult result
+            (λ n. D.took self.old.writer bytes.now (Ok n) self.new.writer)
+            (λ _. IsSomeAnd self.new.tally.cause (λ error.
+            D.took self.old.writer bytes.now (Err error) self.new.writer
+            ⊎ (D.took self.old.writer bytes.now (Ok 0) self.new.writer
+            × (error_kind error ≡ WriteZero)))) }
         ensures raises { IfOk result (λ n. Raises self.old.tally.bytes self.new.tally.bytes n) }
         ensures no_bytes { OnErr result (self.new.tally.bytes ≡ self.old.tally.bytes) }
         ensures failures { CountsFailure self.old.tally.failures self.new.tally.failures result }
         ensures settled { self.new.late ≡ None }
     {
-        let answer = taken(self.writer.write(bytes), bytes.len());
+        let answer = taken(self.writer.give(bytes), bytes.len());
         self.tally.count(answer)
     }
 
-    /// Has the writer write once what was gathered. Where it fails, its error is late, and what it
-    /// did not take stays gathered. Nothing but tests shows that no error is lost here.
+    /// Has the device pass on once what was gathered. Where it fails, its error is late, and what
+    /// it did not take stays gathered.
     pub(crate) fn flush(&mut self)
         requires { self.old.late ≡ None }
-        ensures whole { self.new.late ≡ None → writer_buffer self.new.writer ≡ [] }
-        ensures bytes { Keeps (⟦<BufWriter<W> as Write>⟧.contents self.old.writer)
-            (⟦<BufWriter<W> as Write>⟧.contents self.new.writer) }
+        ensures whole { self.new.late ≡ None → D.gathered self.new.writer ≡ [] }
+        ensures bytes { Keeps (D.contents self.old.writer) (D.contents self.new.writer) }
+        ensures passed_on { MatchOption self.new.late
+            (D.passed_on self.old.writer (Ok tt) self.new.writer)
+            (λ error. D.passed_on self.old.writer (Err error) self.new.writer) }
         ensures tally { self.new.tally ≡ self.old.tally }
     {
-        self.late = self.writer.flush().err();
+        self.late = self.writer.pass_on().err();
     }
 
     /// Why the last call failed that did.
@@ -92,6 +101,20 @@ impl<W: Write + Drop> CountedWriter<W> {
         ensures failed { IsSome result ↔ (0 < self.now.tally.failures) }
     {
         self.tally.cause()
+    }
+}
+
+impl<W: Write + Drop> CountedWriter<BufWriter<W>> {
+    /// Whether nothing is gathered.
+    pub(crate) fn is_empty(&self) -> bool {
+        self.writer.buffer().is_empty()
+    }
+
+    /// Whether so many bytes are gathered too, and nothing is passed on for them: std's writer
+    /// gathers what is shorter than the room that it has left.
+    pub(crate) fn has_room(&self, count: usize) -> bool {
+        let gathered = self.writer.buffer().len();
+        count < self.writer.capacity().saturating_sub(gathered)
     }
 }
 

@@ -1,25 +1,36 @@
 -- The steps of the accounts that explain a log.
-use Rattle.std.specs.Prelude.{filter, is_some, not, option_map, unwrap_or, if◌then◌else◌}
+use Rattle.std.specs.Borrow.{Bor}
+use Rattle.std.specs.Prelude.{◌||◌, filter, is_some, not, option_map, unwrap_or, if◌then◌else◌}
 use Rattle.std.specs.List.{cons_option}
 use Rattle.std.proofs.Common.{◌≡◌, ℕ, Bool, true, false, List, [], ◌∷◌, ◌++◌, Option, Some, None, refl}
 use Rattle.std.proofs.Common.{sym, ap, ◌∙◌, subst, append_assoc, append-nil}
+use Rattle.std.proofs.Math.Bool.{or-true}
 use Rattle.lsp_docs.specs.Documents.{Terms}
-use Rattle.lsp_replay.specs.Telling.{Says, rule_of}
+use Rattle.lsp_docs.specs.declared.tried.Tried.{Tried}
+use Rattle.lsp_rpc.specs.declared.act.Spoken.{Spoken}
+use Rattle.lsp_text.specs.Counted.{Counted}
+use Rattle.lsp_replay.specs.Telling.{Says, SeenAs, rule_of}
+use Rattle.lsp_replay.specs.declared.seen.Seen.{Seen}
+use Rattle.lsp_replay.specs.declared.seen.Seen.TheVariants as seen
 use Rattle.lsp_replay.specs.declared.seen.Flow.TheVariants.{GoOn, Stop}
 use Rattle.lsp_replay.proofs.PassEnds.{Boxed}
 use Rattle.lsp_replay.proofs.AllHeard.{first_after, none_is}
-use Rattle.lsp_survey.specs.Lost.{WasTold, follows_at}
+use Rattle.lsp_survey.specs.Lost.{WasTold, follows_at, may_lose}
 use Rattle.lsp_survey.specs.Reported.{IsTally}
 use Rattle.lsp_survey.proofs.SurveySteps.{kept_tally, offence_tally}
 use Rattle.lsp_verdict.specs.Event.{Event}
 use Rattle.lsp_verdict.specs.Given.{verdict_view}
 use Rattle.lsp_verdict.specs.Heard.{Heard, Rests, heard_events, notes_of}
-use Rattle.lsp_verdict.specs.Offences.{Offence, follows, offence_by}
+use Rattle.lsp_verdict.specs.Offences.{Offence, follows, offence_at, offence_by}
+use Rattle.lsp_verdict.specs.Placed.{Raw, broken, content, show}
 use Rattle.lsp_verdict.specs.Verdict.{Verdict, no_by}
+use Rattle.lsp_verdict.specs.declared.completeness.Completeness.{Completeness}
+use Rattle.lsp_verdict.specs.declared.raw.Raw as lent
 use Rattle.lsp_verdict.specs.declared.outcome.Outcome.TheVariants.{Judged}
 use Rattle.lsp_verdict.specs.declared.verdict.Verdict as code
 use Rattle.lsp_explain.specs.ExplainRuns.{AllStands, FirstStands, TellsOf, SaysCauses, SaysFirst}
-use Rattle.lsp_explain.specs.ExplainRuns.{all_run, cause_at, explain_run, first_lines}
+use Rattle.lsp_explain.specs.ExplainRuns.{all_run, cause_at, explain_run, first_lines, has_cause}
+use Rattle.lsp_explain.specs.ExplainRuns.{may_note}
 use Rattle.lsp_explain.specs.Explained.{cause_lines, is_cause, Breach, breach}
 use Rattle.lsp_explain.specs.Remarks.{noticed, remark_lines, remarks_of}
 use Rattle.lsp_explain.specs.Trails.{IsTrail}
@@ -29,6 +40,46 @@ use Rattle.lsp_explain.specs.declared.run_all.AllCauses.{AllCauses}
 module _ (terms : Terms) (before : List Heard) (h : Heard) where
   abbrev events : List Event
   events = heard_events before
+
+  -- ---- where memory may be wanted
+
+  pub lost_wants : (completeness : Completeness) (rule : Option ℕ) → may_lose h.raw rule ≡ true
+      → (all_run completeness).wants terms before h ≡ true
+  lost_wants completeness rule lost =
+      ap (λ b. b || has_cause (offence_at terms (notes_of before) h.note)) (by_raw h.raw lost)
+    where
+      by_raw : (raw : Raw) → may_lose raw rule ≡ true → may_note raw ≡ true
+      by_raw (content side bytes) lost = refl
+      by_raw (broken side by) lost = absurd (cc lost)
+      by_raw (show number uri text) lost = refl
+
+  -- an event that is kept is no fault of the frames
+  pub kept_wants : (completeness : Completeness) (s : Seen)
+      → ((raw : lent.Raw) (rule : ℕ) (spoken : Option (Bor Spoken))
+      (tried : Option (Bor (Tried Counted))) → s ≡ seen.Offence raw rule spoken tried → ⊥)
+      → SeenAs s terms before h → (all_run completeness).wants terms before h ≡ true
+  kept_wants completeness s not_so as_is =
+      ap (λ b. b || has_cause (offence_at terms (notes_of before) h.note)) (by_seen s not_so as_is)
+    where
+      by_seen : (x : Seen)
+          → ((raw : lent.Raw) (rule : ℕ) (spoken : Option (Bor Spoken))
+          (tried : Option (Bor (Tried Counted))) → x ≡ seen.Offence raw rule spoken tried → ⊥)
+          → SeenAs x terms before h → may_note h.raw ≡ true
+      by_seen (seen.Message side bytes spoken) not_so as_is = ap may_note as_is.0
+      by_seen (seen.Snapshot version uri text answer) not_so as_is = ap may_note as_is.0
+      by_seen (seen.Offence raw rule spoken tried) not_so as_is =
+          absurd (not_so raw rule spoken tried refl)
+
+  -- one that offends and follows from none is explained
+  pub cause_wants : (completeness : Completeness) (rule : ℕ) (o : Offence)
+      → rule_of terms before h ≡ Some rule → o ≡ offence_by terms (notes_of before) h.note rule
+      → o.follows ≡ false → (all_run completeness).wants terms before h ≡ true
+  cause_wants completeness rule o offends own none =
+      let noted = may_note h.raw in
+      ap (λ (x : Option ℕ). noted || has_cause
+      (option_map (offence_by terms (notes_of before) h.note) x)) offends
+      ∙ ap (λ (x : Offence). noted || not x.follows) (sym own)
+      ∙ ap (λ b. noted || not b) none ∙ or-true noted
 
   -- ---- `explain`
 

@@ -1,4 +1,5 @@
--- What is explained of all that is wrong with a log, beside what is listed of it, and what `explain --all` answers and writes.
+-- What is explained of all that is wrong with a log, beside what is listed of it, and what `explain
+-- --all` answers and writes.
 use Rattle.std.specs.Prelude.{map, filter, not, if◌then◌else◌}
 use Rattle.std.specs.List.{AllZip, cons_option, flat_map}
 use Rattle.std.proofs.Common.{◌≡◌, Bool, true, false, List, [], ◌∷◌, ◌++◌, Option, Some, None, refl}

@@ -1,4 +1,5 @@
--- What the kept events do, the last ones of a list, and the documents that were opened, closed, changed and shown, with one more.
+-- What the kept events do, the last ones of a list, and the documents that were opened, closed,
+-- changed and shown, with one more.
 use Rattle.std.specs.Prelude.{◌-◌, drop, length, map, nat_lt, not, option_map, reverse}
 use Rattle.std.specs.Prelude.{if◌then◌else◌, is_some, string_bytes, ◌||◌, String}
 use Rattle.std.specs.List.{find, take_while, cons_option, fold, list_any}

@@ -8,6 +8,7 @@ pub mod Waiting
 pub mod Explanations
 pub mod Explaining
 pub mod SaidFacts
+pub mod Methods
 pub mod Standard
 pub mod Quiet
 pub mod Trails

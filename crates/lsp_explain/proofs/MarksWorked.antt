@@ -15,7 +15,8 @@ use Rattle.lsp_verdict.specs.declared.verdict.Who.TheVariants.{Editor}
 abbrev at : ℕ → EventPlace
 at n = record { event = n; who = Editor; number = n }
 
--- the document of this URI comes to a version, shows one that is held or is still to come, is closed
+-- the document of this URI comes to a version, shows one that is held or is still to come, is
+-- closed
 abbrev uri : List ℕ
 uri = 97 ∷ []
 

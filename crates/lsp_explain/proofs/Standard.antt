@@ -23,10 +23,12 @@ use Rattle.lsp_replay.specs.Telling.{IsSpoken}
 use Rattle.lsp_verdict.specs.Event.{call_of, Event}
 use Rattle.lsp_verdict.specs.Placed.{Reads, content}
 use Rattle.lsp_verdict.proofs.Offences.Quiet.{IsNotified, IsPlain, is_notified}
-use Rattle.lsp_explain.specs.SessionRemarks.{notification_misuse, use_among, use_of}
+use Rattle.lsp_explain.specs.SessionRemarks.{notification_misuse}
+use Rattle.lsp_explain.specs.StandardMethods.{standard, use_among, use_of}
 use Rattle.lsp_explain.specs.Renames.{is_on_files}
 
--- a row whose messages say nothing of a document, or whose method has no misuse and is none on files
+-- a row whose messages say nothing of a document, or whose method has no misuse and is none on
+-- files
 abbrev IsRight : Side → List ℕ → Act → Type 0
 IsRight side method act =
     IsPlain act ⊎ ((notification_misuse side method ≡ None) × (is_on_files method ≡ false))
@@ -68,19 +70,19 @@ plain_params shape each None act e = absurd cc
 plain_params shape each (Some d) act e = each d act e
 
 open_right : notification_misuse Editor (codes "textDocument/didOpen") ≡ None
-unfolding use_of use_among
+unfolding use_of use_among standard
 open_right = refl
 
 change_right : notification_misuse Editor (codes "textDocument/didChange") ≡ None
-unfolding use_of use_among
+unfolding use_of use_among standard
 change_right = refl
 
 close_right : notification_misuse Editor (codes "textDocument/didClose") ≡ None
-unfolding use_of use_among
+unfolding use_of use_among standard
 close_right = refl
 
 save_right : notification_misuse Editor (codes "textDocument/didSave") ≡ None
-unfolding use_of use_among
+unfolding use_of use_among standard
 save_right = refl
 
 cancels : (params : Option Data) (act : Act) → option_and_then cancel_at params ≡ Some act

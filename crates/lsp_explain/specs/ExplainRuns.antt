@@ -1,6 +1,6 @@
 -- What is said where the verdict on a log is explained, or all that is wrong with it.
-use Rattle.std.specs.Prelude.{◌≡◌, ℕ, List, [], ◌++◌, map, take, filter, false, is_some, Option}
-use Rattle.std.specs.Prelude.{Some, None}
+use Rattle.std.specs.Prelude.{◌≡◌, ◌||◌, ℕ, List, [], ◌++◌, map, take, filter, Bool, false, true}
+use Rattle.std.specs.Prelude.{not, is_some, Option, Some, None}
 use Rattle.std.specs.List.{AllZip, cons_option, flat_map}
 use Rattle.lsp_docs.specs.Documents.{Terms}
 use Rattle.lsp_log.specs.declared.fault.LogCode.{LogCode}
@@ -17,7 +17,8 @@ use Rattle.lsp_verdict.specs.Heard.{Heard, Rests, heard_events, notes_of}
 use Rattle.lsp_verdict.specs.Survey.{by_itself, first_verdict}
 use Rattle.lsp_verdict.specs.Verdict.{Verdict, bad_log_of, summary, first_no, no_by}
 use Rattle.lsp_verdict.specs.declared.completeness.Completeness.{Completeness}
-use Rattle.lsp_verdict.specs.Offences.{offences}
+use Rattle.lsp_verdict.specs.Offences.{Offence, offence_at, offences}
+use Rattle.lsp_verdict.specs.Placed.{Raw, broken, content, show}
 use Rattle.lsp_facts.specs.Fact.{Fact}
 use Rattle.lsp_facts.specs.EventFacts.{flaw_facts}
 use Rattle.lsp_explain.specs.Asking.{numbered}
@@ -85,12 +86,26 @@ all_end terms heard rests fault flaw ends =
     ++ all_closing (all_found terms heard ends) (bad_log_of fault) flaw
     (summary terms (heard_events heard))
 
+-- ---- where memory may be wanted
+
+-- something may have to be noted of it: nothing of a fault of the frames
+abbrev pub may_note : Raw → Bool
+may_note (content side bytes) = true
+may_note (broken side rule) = false
+may_note (show number uri text) = true
+
+-- there is an offence, which follows from no earlier one
+abbrev pub has_cause : Option Offence → Bool
+has_cause None = false
+has_cause (Some o) = not o.follows
+
 -- ---- the runs
 
 -- **the run `explain`**: it explains the first event that offends, and stops there
 abbrev pub explain_run : Completeness → Run
 explain_run completeness = record {
   says = λ terms rests before h out. SaysFirst rests terms (breach_at terms before h) out;
+  wants = λ terms before h. true;
   stops = λ terms before h. is_some (rule_of terms before h);
   ends = λ terms before h outcome.
       (v : Verdict) × (no_of terms before h ≡ Some v) × IsJudged v outcome;
@@ -105,6 +120,8 @@ explain_run completeness = record {
 abbrev pub all_run : Completeness → Run
 all_run completeness = record {
   says = λ terms rests before h out. SaysCauses rests terms (cause_at terms before h) out;
+  wants = λ terms before h.
+      may_note h.raw || has_cause (offence_at terms (notes_of before) h.note);
   stops = λ terms before h. false;
   ends = λ terms before h outcome. ⊥;
   closes = λ terms heard tail out outcome.

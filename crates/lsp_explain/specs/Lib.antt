@@ -2,6 +2,7 @@ pub mod History
 pub mod Asking
 pub mod Marking
 pub mod Openings
+pub mod StandardMethods
 pub mod SessionRemarks
 pub mod Renames
 pub mod SessionNoting

@@ -67,8 +67,8 @@ pub record SessionStands (s : SessionNotes) (said : List Numbered) : Type 0 wher
   pub remarks_are : AreRemarks s.remarks said
   pub renames_are : AreRenames s.renames said
 
--- one more message of the sender, the event of this place, after which the session is in this phase,
--- and the handshake is settled or is not
+-- one more message of the sender, the event of this place, after which the session is in this
+-- phase, and the handshake is settled or is not
 pub record Says (p : EventPlace) (sender : Side) (m : Message) (after : Phase) (done : Bool)
     (old new : SessionNotes) : Type 0 where
   pub editor : Exchanges Editor p sender m old.editor new.editor

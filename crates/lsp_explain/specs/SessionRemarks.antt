@@ -18,25 +18,14 @@ use Rattle.lsp_session.specs.declared.phase.Phase.TheVariants.{Stopping, Exited}
 use Rattle.lsp_verdict.specs.LookBack.{each_of}
 use Rattle.lsp_verdict.specs.Offences.{last_or}
 use Rattle.lsp_explain.specs.declared.notes.standard_methods.MethodUse.{MethodUse}
-use Rattle.lsp_explain.specs.declared.notes.standard_methods.TheConstants.{METHODS}
 use Rattle.lsp_explain.specs.Asking.{Numbered, same_phase, sents}
+use Rattle.lsp_explain.specs.StandardMethods.{use_of}
 use Rattle.lsp_explain.specs.declared.notes.misuses.Misuse.{Misuse}
 use Rattle.lsp_explain.specs.declared.notes.misuses.Misuse.TheVariants.{AsRequest, AsNotification}
 use Rattle.lsp_explain.specs.declared.notes.misuses.Misuse.TheVariants.{ByEditor, ByServer}
 use Rattle.lsp_explain.specs.declared.notes.misuses.Misused as code
 use Rattle.lsp_explain.specs.declared.notes.standard_methods.MethodUse.TheVariants as uses
 use Rattle.lsp_explain.specs.declared.notes.remarks.Remarks.{Remarks}
-
--- ---- what LSP 3.17 has a method for, by the table of the code
-
--- what the first of these rows with this method says
-unfoldable pub use_among : List (List ℕ × MethodUse) → List ℕ → Option MethodUse
-use_among [] name = None
-use_among (row ∷ rows) name = if bytes_eq row.0 name then Some row.1 else use_among rows name
-
--- **what has this method**
-unfoldable pub use_of : List ℕ → Option MethodUse
-use_of name = use_among (map (λ row. (row.0.now, row.1)) METHODS) name
 
 -- ---- a call that is misused
 

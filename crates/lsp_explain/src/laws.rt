@@ -3,6 +3,7 @@ ghost use Rattle.lsp_explain.specs.Compared.{OneComparedText};
 ghost use Rattle.lsp_explain.specs.Explained.{BeginsWithReport, CausesAreExplained, FirstIsVerdict};
 ghost use Rattle.lsp_explain.specs.Explained.{OneExplanation, OneExplanationOfAll, SomeExplanation};
 ghost use Rattle.lsp_explain.specs.Explained.{SomeExplanationOfAll, YesIsReport};
+ghost use Rattle.lsp_explain.specs.StandardMethods.{MethodsHaveRows, RowsAreStandard};
 
 /// An explanation begins with the report of the verdict.
 pub fn explanation_begins_with_report()
@@ -47,4 +48,14 @@ pub fn one_explanation_of_all()
 /// A log has one answer for each of the two texts of a verdict that says that they differ.
 pub fn one_compared_text()
     ensures { OneComparedText }
+{}
+
+/// Each method of LSP 3.17 has a row of the table by which notes are made, with its kind and side.
+pub fn standard_methods_have_rows()
+    ensures { MethodsHaveRows }
+{}
+
+/// Each row of that table is that of a method of LSP 3.17.
+pub fn rows_are_standard_methods()
+    ensures { RowsAreStandard }
 {}

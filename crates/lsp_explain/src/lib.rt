@@ -2,10 +2,10 @@
 //! is wrong.
 //!
 //! [`run_explain`] reads a log and explains the verdict on it, and [`run_explain_all`] all that is
-//! wrong with it. An offence is explained by the facts of `lsp_facts` and by the earlier events that
-//! led to it. [`run_compared`] writes one of two whole texts, if the verdict says that they differ.
-//! Each is an account (`FirstOffence`, `AllCauses`, `OneText`) over the one `pass` of `lsp_replay`,
-//! and `Trail` keeps what is noted of the events on the way.
+//! wrong with it. An offence is explained by the facts of `lsp_facts` and by the earlier events
+//! that led to it. [`run_compared`] writes one of two whole texts, if the verdict says that they
+//! differ. Each is an account (`FirstOffence`, `AllCauses`, `OneText`) over the one `pass` of
+//! `lsp_replay`, and `Trail` keeps what is noted of the events on the way.
 #![tactic(auto)]
 
 mod compared;
@@ -25,7 +25,8 @@ pub use compared::{ComparedText, run_compared};
 pub use laws::{
     all_explained_are_causes, explanation_begins_with_report, explanation_of_yes_is_report,
     first_explained_is_verdict, one_compared_text, one_explanation, one_explanation_of_all,
-    some_explanation, some_explanation_of_all,
+    rows_are_standard_methods, some_explanation, some_explanation_of_all,
+    standard_methods_have_rows,
 };
 pub use run::run_explain;
 pub use run_all::run_explain_all;

@@ -14,9 +14,9 @@ ghost use Rattle.lsp_explain.specs.Trails.{StandsAfter, terms_in};
 use crate::notes::{DocumentEvent, Misuse, Misused};
 use crate::trace::push_earlier;
 use crate::trail::Past;
-use lsp_facts::{Facts, encoding_name, push_facts};
+use lsp_facts::{Facts, push_facts};
 use lsp_rpc::{Encoding, Result};
-use lsp_verdict::Verdict;
+use lsp_verdict::{Verdict, encoding_name};
 use std::fmt::Write;
 
 /// Adds the notes on the messages that were heard, each on a line, and how many they are.
@@ -137,7 +137,7 @@ fn other_name<'a>(name: Option<&'a str>, agreed: Option<Encoding>) -> Option<&'a
 {
     let name = name?;
     let agreed = agreed?;
-    if name == encoding_name(agreed) {
+    if name == encoding_name(Some(agreed)) {
         return None;
     }
     Some(name)

@@ -122,8 +122,8 @@ parts =
     )) PARAMS
 
 -- **the member of the params of a message that does not have its shape**, by the name of the method
--- alone: nothing is wrong with the params of a message of another kind or side that has such a name,
--- and so it is never asked
+-- alone: nothing is wrong with the params of a message of another kind or side that has such a
+-- name, and so it is never asked
 abbrev pub wrong_member : Message → Option Pointer
 wrong_member (request id method params) = wrong_by parts method params
 wrong_member (notification method params) = wrong_by parts method params

@@ -32,8 +32,8 @@ pub(crate) enum Row {
     Null,
     /// The last three digits of a code unit.
     Digits,
-    /// The last two digits of the first half of a pair, and the second half, dc00 to dfff, up to its
-    /// last two digits.
+    /// The last two digits of the first half of a pair, and the second half, dc00 to dfff, up to
+    /// its last two digits.
     Pair,
 }
 

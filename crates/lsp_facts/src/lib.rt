@@ -45,6 +45,5 @@ pub use lines::{
 };
 pub use messages::{front_facts, id_in};
 pub use offending::{message_facts, shown_facts};
-pub use text_facts::encoding_name;
 pub use two_texts::{TwoTexts, message_texts, shown_texts};
 pub use waiting::refuting;

@@ -17,6 +17,7 @@ use crate::facts::Facts;
 use lsp_rpc::Result;
 use lsp_text::{line_at, same_lines, width_of};
 use lsp_types::{Encoding, Position, Span};
+use lsp_verdict::encoding_name;
 use std::alloc::Global;
 use std::fmt::Write;
 
@@ -25,7 +26,7 @@ impl Facts {
     pub(crate) fn encoding(&mut self, encoding: Encoding) -> Result<()>
         ensures { OnOk result (self.new ≡ self.old ++ counts_in encoding ∷ []) }
     {
-        self.word("encoding", encoding_name(encoding))
+        self.word("encoding", encoding_name(Some(encoding)))
     }
 
     /// The change after this many others, and the encoding in which its columns are counted.
@@ -131,17 +132,6 @@ impl Facts {
     }
 }
 
-/// The name of an encoding (LSP 3.17, PositionEncodingKind).
-pub fn encoding_name(encoding: Encoding) -> &'static str
-    ensures { result.now ≡ encoding_name (Some encoding) }
-{
-    match encoding {
-        Encoding::Utf8 => "utf-8",
-        Encoding::Utf16 => "utf-16",
-        Encoding::Utf32 => "utf-32",
-    }
-}
-
 /// The encodings in which a position lies at an edge, after their key.
 fn fits_words(alloc: Global, names: &[Encoding]) -> Result<String>
     ensures { IfOk result (λ words. string_bytes words ≡ codes "fits"
@@ -158,7 +148,7 @@ fn push_encoding(words: &mut String, encoding: Encoding) -> Result<()>
     ensures { OnOk result (string_bytes words.new
         ≡ string_bytes words.old ++ spaced (encoding_name (Some encoding))) }
 {
-    let name = encoding_name(encoding);
+    let name = encoding_name(Some(encoding));
     write!(words, " {name}")?;
     Ok(())
 }

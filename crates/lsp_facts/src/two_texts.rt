@@ -121,8 +121,8 @@ fn act_texts<'a, S: TextStore>(
     }
 }
 
-/// A text that a call brings its document to at a version, and that of the first snapshot that waits
-/// for it and has another.
+/// A text that a call brings its document to at a version, and that of the first snapshot that
+/// waits for it and has another.
 fn against<'a, S: TextStore>(
     docs: &'a Docs<S>,
     uri: &str,

@@ -1,4 +1,5 @@
--- Each list of bytes has a reading: what stands in front of it is a frame, a fault, or the beginning of a frame.
+-- Each list of bytes has a reading: what stands in front of it is a frame, a fault, or the
+-- beginning of a frame.
 use Rattle.std.proofs.Common.{◌≡◌, ℕ, zero, suc, ◌+◌, ◌-◌, ◌<◌, ◌≤◌, Bool, true, false, List, [], ◌∷◌, ◌++◌, length, take, drop, Option, Some, None, Result, Ok, Err, refl, sym, ap, ◌∙◌, append_assoc, arith, inl, inr, ◌⊎◌}
 use Rattle.std.specs.Prelude.{nat_le, if◌then◌else◌}
 use Rattle.std.specs.List.{flat_map, prefix_len}

@@ -25,7 +25,8 @@ ReadsAhead old new (Ok (Some size)) = (new ≡ old) × (old.fault ≡ None) × S
 ReadsAhead old new (Ok None) = GivesNothing old new
 ReadsAhead old new (Err fault) = GivesFault old new fault.rule
 
--- going past the next frame: `next` without the loan, the content being the last bytes of those given
+-- going past the next frame: `next` without the loan, the content being the last bytes of those
+-- given
 abbrev pub Advances : State → State → Result (Option ℕ) FrameFault → Type 0
 Advances old new (Ok (Some len)) = (len ≤ length new.kept) × Next old new (Ok (Some (last_of new.kept len)))
 Advances old new (Ok None) = Next old new (Ok None)

@@ -5,8 +5,9 @@ use Rattle.lsp_frame.specs.Frame.{IsFrame, Begins, Frames, Breaks, HasFault, IsS
 use Rattle.lsp_frame.specs.declared.decoder.FrameFault.{FrameFault}
 use Rattle.lsp_types.specs.declared.rules.TheConstants as rules
 
--- kept: the bytes of frames given that are still in the buffer; rest: the bytes pushed that belong to no frame given;
--- fault: the fault given; room: how many bytes the buffer has, those that are not yet used included
+-- kept: the bytes of frames given that are still in the buffer; rest: the bytes pushed that belong
+-- to no frame given; fault: the fault given; room: how many bytes the buffer has, those that are
+-- not yet used included
 pub record State : Type 0 where
   pub limits : Bounds
   pub kept : List ℕ

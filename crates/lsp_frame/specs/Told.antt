@@ -2,8 +2,9 @@
 use Rattle.std.specs.Prelude.{◌≡◌, ℕ, ◌+◌, ◌-◌, ◌^◌, ◌≤◌, ◌++◌, min, List, length, Option, MatchResult, Result}
 use Rattle.std.specs.Io.KnownBytes.{Consumes, Appends, Keeps}
 
--- bytes: those that a source has still to give, or that a sink has taken, where they are known; count: how many bytes
--- it has given or taken; failures: how many calls have failed. No number is told past the greatest `u64`
+-- bytes: those that a source has still to give, or that a sink has taken, where they are known;
+-- count: how many bytes it has given or taken; failures: how many calls have failed. No number is
+-- told past the greatest `u64`
 pub record Told : Type 0 where
   pub bytes : Option (List ℕ)
   pub count : ℕ

@@ -1,11 +1,10 @@
--- How a run ends that has something due for its input, and what `check` answers.
-use Rattle.std.proofs.Common.{◌≡◌, List, ℕ, Ok, Err, Option, Result}
-use Rattle.std.specs.Io.KnownBytes.{IsAtEnd}
+-- What `check` answers.
+use Rattle.std.proofs.Common.{◌≡◌, List, ℕ, Option, Result}
 use Rattle.lsp_frame.specs.Bounds.{Bounds, IsInRange}
 use Rattle.lsp_frame.specs.declared.format.Format.{Format}
-use Rattle.lsp_verdict.specs.Runs.{OutputFor, Ports, failures_after, sink_failures_after}
+use Rattle.lsp_verdict.specs.Runs.{Ports}
 use Rattle.lsp_verdict.specs.declared.outcome.RunFault.{RunFault}
-use Rattle.lsp_verdict.proofs.RunsJudged.{read_within, read_map}
+use Rattle.lsp_verdict.proofs.RunsJudged.{read_map}
 use Rattle.lsp_verdict.specs.Complete.{IsVerdictBy}
 use Rattle.lsp_verdict.specs.Event.{Event}
 use Rattle.lsp_verdict.specs.Given.{verdict_view}
@@ -22,47 +21,9 @@ use Rattle.lsp_verdict.specs.declared.verdict.Who.{Who}
 use Rattle.lsp_verdict.proofs.Completing.{complete_means_ended, complete_means_fault, lack_is_named}
 use Rattle.lsp_verdict.proofs.Meanings.{yes_means_kept, no_names, bad_log_has}
 use Rattle.lsp_log.specs.declared.fault.LogCode.{LogCode}
-use Rattle.lsp_judge.specs.Written.{WritesDue}
 use Rattle.lsp_judge.specs.Answered.{IsClean}
 use Rattle.lsp_judge.specs.Checked.{Checked, YesMeans, NoMeans, EndsAsDue, WritesVerdict}
 use Rattle.lsp_judge.proofs.Answering.{clean_yes, clean_complete}
-
--- ---- a run that has something due for its input
-
-module _ {X : Type 0} (limits : Bounds) (io : Ports) (at_end : X)
-    (IsDue : List ℕ → List ℕ → X → Type 0) (Begins : List ℕ → List ℕ → Type 0) where
-  -- all that is due was written
-  pub due_written : (outcome : X) → OutputFor limits io (λ input out. IsDue input out outcome)
-      → (outcome ≡ at_end → IsAtEnd io.source_after.bytes)
-      → io.source_after.failures ≡ io.source_before.failures
-      → io.sink_after.failures ≡ io.sink_before.failures
-      → WritesDue limits io at_end IsDue Begins (Ok outcome)
-  due_written outcome written ended source sink = record {
-    written = written;
-    ended = λ is. ended (cc is);
-    fault = tt;
-    counts = record {
-      source_failures = source;
-      sink_failures = sink;
-      limit = read_within _ _ _ _ written.2;
-    };
-  }
-
-  -- a fault ended the run
-  pub due_begun : (fault : RunFault) → OutputFor limits io Begins
-      → io.source_after.failures ≡ failures_after fault io.source_before.failures
-      → io.sink_after.failures ≡ sink_failures_after fault io.sink_before.failures
-      → WritesDue limits io at_end IsDue Begins (Err fault)
-  due_begun fault begun source sink = record {
-    written = tt;
-    ended = λ is. absurd (cc is);
-    fault = begun;
-    counts = record {
-      source_failures = source;
-      sink_failures = sink;
-      limit = read_within _ _ _ _ begun.2;
-    };
-  }
 
 -- ---- what the verdict means
 

@@ -1,8 +1,8 @@
 -- The steps of the accounts that end with the verdict on a log.
-use Rattle.std.specs.Prelude.{◌&&◌, is_some, not, option_map, unwrap_or}
+use Rattle.std.specs.Prelude.{◌&&◌, ◌||◌, is_some, not, option_map, unwrap_or}
 use Rattle.std.proofs.Common.{◌≡◌, ℕ, ◌+◌, ◌<◌, ◌^◌, Bool, List, [], ◌∷◌, ◌++◌, length}
-use Rattle.std.proofs.Common.{Option, Some, None, refl, sym, ap, ◌∙◌, arith}
-use Rattle.std.proofs.Math.Bool.{and-true}
+use Rattle.std.proofs.Common.{Option, Some, None, true, refl, sym, ap, ◌∙◌, arith}
+use Rattle.std.proofs.Math.Bool.{and-true, or-true}
 use Rattle.lsp_docs.specs.State as docs
 use Rattle.lsp_docs.specs.Documents.{Terms}
 use Rattle.lsp_log.specs.declared.fault.LogCode.{LogCode}
@@ -30,6 +30,7 @@ use Rattle.lsp_verdict.specs.Verdict.{Verdict, bad_log, bad_log_of, first_no, no
 use Rattle.lsp_verdict.specs.declared.completeness.Completeness.{Completeness}
 use Rattle.lsp_verdict.specs.declared.completeness.Completeness.TheVariants.{Ignored, Required}
 use Rattle.lsp_verdict.specs.declared.counts.Counts.{Counts}
+use Rattle.lsp_verdict.specs.declared.lines.Lines.{Lines}
 use Rattle.lsp_verdict.specs.declared.outcome.Outcome.TheVariants.{Judged}
 use Rattle.lsp_verdict.specs.declared.verdict.Verdict as code
 use Rattle.lsp_verdict.specs.declared.verdict.Who.{Who}
@@ -69,6 +70,14 @@ module _ {terms : Terms} {before : List Heard} {h : Heard} {Fits : Rests → Typ
         is = λ rests fits. ap (said_by asked before h) (sym some);
         goes = (ap is_some some, (verdict_view given, some, (given, in_box, refl)));
       }
+
+-- and memory may be wanted for its No
+pub offence_wants : (lines : Option Lines) (terms : Terms) (before : List Heard) (h : Heard)
+    (rule : ℕ) → rule_of terms before h ≡ Some rule
+    → (is_some lines || is_some (no_of terms before h)) ≡ true
+offence_wants lines terms before h rule is =
+    ap (λ o. is_some lines || is_some (option_map (no_by (heard_events before) h.note.event) o)) is
+    ∙ or-true (is_some lines)
 
 -- ---- the end
 

@@ -8,7 +8,3 @@ pub mod TextRuns
 pub mod Finals
 pub mod JudgingSteps
 pub mod UpgradedLogs
-pub mod SameLimits
-pub mod Framing
-pub mod Forming
-pub mod Seeking

@@ -1,6 +1,6 @@
 -- What `check` answers and writes, of one log and for one of several.
 use Rattle.std.specs.Prelude.{◌≡◌, ◌⊎◌, ℕ, List, Option, Result, Ok, Err, IfOk, ◌==◌, [], ◌∷◌, ◌++◌}
-use Rattle.std.specs.Prelude.{codes}
+use Rattle.std.specs.Prelude.{Bool, false, codes, if◌then◌else◌}
 use Rattle.std.specs.Io.KnownBytes.{IsAtEnd}
 use Rattle.std.specs.List.{before_first}
 use Rattle.lsp_frame.specs.Bounds.{Bounds}
@@ -96,9 +96,20 @@ pub record Checked (completeness : Completeness) (limits : Bounds) (io : Ports)
 abbrev pub first_line : List ℕ → List ℕ
 first_line bytes = before_first (λ byte. byte == 10) bytes
 
--- **the line of a log**: its name, a colon and a space, the first line of the report, and LF
+-- the verdict is a Yes for which no snapshot was compared: there is none, or each is unmatched
+abbrev pub compared_nothing : spec.Verdict → Bool
+compared_nothing (spec.yes s) = s.snapshots == s.unmatched
+compared_nothing (spec.no rule who number event) = false
+compared_nothing (spec.bad_log number code) = false
+
+-- what follows the first line of the report
+abbrev pub line_remark : spec.Verdict → List ℕ
+line_remark v = if compared_nothing v then codes " nothing-compared" else []
+
+-- **the line of a log**: its name, a colon and a space, the first line of the report, what follows
+-- it, and LF
 abbrev pub line_for : List ℕ → spec.Verdict → List ℕ
-line_for name v = name ++ codes ": " ++ first_line (report v) ++ 10 ∷ []
+line_for name v = name ++ codes ": " ++ first_line (report v) ++ line_remark v ++ 10 ∷ []
 
 -- **what `check` answers and writes for one of several logs**
 abbrev pub CheckedLine : Completeness → Bounds → List ℕ → Ports → Result Outcome RunFault → Type 0

@@ -1,5 +1,5 @@
 -- What is said of a log up to its verdict, and for that.
-use Rattle.std.specs.Prelude.{◌≡◌, ℕ, List, [], Option, Some, None, is_some}
+use Rattle.std.specs.Prelude.{◌≡◌, ◌||◌, ℕ, List, [], Option, Some, None, is_some}
 use Rattle.lsp_docs.specs.Documents.{Terms}
 use Rattle.lsp_judge.specs.Checked.{line_for}
 use Rattle.lsp_replay.specs.Lines.{heard_line}
@@ -53,10 +53,12 @@ verdict_of completeness terms heard tail =
 
 -- ---- the run
 
--- **the runs `check` and `show`, which stop at the first No**
+-- **the runs `check` and `show`, which stop at the first No**; of an event that is kept they want
+-- memory only where its line is shown
 abbrev pub judging_run : JudgingAsked → Run
 judging_run asked = record {
   says = λ terms rests before h out. out ≡ said_by asked before h (no_of terms before h);
+  wants = λ terms before h. is_some asked.lines || is_some (no_of terms before h);
   stops = λ terms before h. is_some (no_of terms before h);
   ends = λ terms before h outcome.
       (v : Verdict) × (no_of terms before h ≡ Some v) × IsJudged v outcome;

@@ -1,4 +1,3 @@
-pub mod Written
 pub mod Answered
 pub mod Checked
 pub mod JudgingRun
@@ -6,6 +5,3 @@ pub mod TextRun
 pub mod Judging
 pub mod Standing
 pub mod ShownLog
-pub mod Stream
-pub mod Normal
-pub mod Event

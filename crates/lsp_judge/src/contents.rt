@@ -50,7 +50,7 @@ pub(crate) fn take<S: TextStore>(events: &mut Events<S>, raw: Raw<'_>) -> Result
         → IsNoAt events.old.docs.terms so_far (placed.Reads (raw_view raw.entry)) ruling) }
     ensures memory { IfErr result (λ ruling. ruling ≡ Ruling.Memory → (so_far : List Event)
         → Follows events.old.session events.old.docs events.old.counts so_far
-        → CanWantMemory (raw_view raw.entry)) }
+        → CanWantMemory events.old.docs.terms so_far (raw_view raw.entry)) }
 {
     let who = raw.who();
     match events.take(raw) {

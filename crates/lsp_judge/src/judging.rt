@@ -1,5 +1,6 @@
 //! What is said of a log up to its verdict, and for that.
-ghost use Rattle.std.specs.Prelude.{◌≡◌, ◌++◌, List, None, OnOk, option_map, string_bytes};
+ghost use Rattle.std.specs.Prelude.{◌≡◌, ◌++◌, List, None, OnErr, OnOk, is_some, option_map, true};
+ghost use Rattle.std.specs.Prelude.{string_bytes};
 ghost use Rattle.lsp_docs.specs.Documents.{Terms};
 ghost use Rattle.lsp_judge.specs.JudgingRun.{JudgingAsked, due_for, judging_run, shown_by};
 ghost use Rattle.lsp_replay.specs.Telling.{IsSeen, rule_of};
@@ -7,7 +8,7 @@ ghost use Rattle.lsp_verdict.specs.Given.{verdict_view};
 ghost use Rattle.lsp_verdict.specs.Heard.{Heard, heard_events};
 ghost use Rattle.lsp_verdict.specs.Verdict.{first_no};
 
-use crate::check_line::push_line;
+use crate::check_line::{line_remark, push_line};
 use crate::ending::verdict_at;
 use lsp_replay::{Account, End, Events, Flow, LogEvents, Seen, last_offence, push_kept_line};
 use lsp_rpc::Result;
@@ -28,10 +29,11 @@ pub(crate) struct Judging<'a> {
 impl Judging<'_> {
     /// Adds the line of an event that is kept, where such are shown.
     fn show(&self, held: &Events<Lined>, seen: Seen<'_>, text: &mut String) -> Result<()>
-        ensures { OnOk result ((terms : Terms) (before : List Heard) (h : Heard)
+        ensures shown { OnOk result ((terms : Terms) (before : List Heard) (h : Heard)
             → IsSeen held.now.session held.now.docs held.now.counts seen.entry terms before h
             → rule_of terms before h ≡ None
             → string_bytes text.new ≡ string_bytes text.old ++ shown_by self.now.lines before h) }
+        ensures memory { OnErr result (is_some self.now.lines ≡ true) }
     {
         match self.lines {
             Some(lines) => push_kept_line(text, lines, held, seen),
@@ -46,7 +48,7 @@ impl Judging<'_> {
     {
         let report = verdict_report(*text.allocator(), verdict)?;
         match self.name {
-            Some(name) => push_line(text, name, report.as_str()),
+            Some(name) => push_line(text, name, report.as_str(), line_remark(verdict)),
             None => Ok(text.push_str(report.as_str())?),
         }
     }

@@ -8,39 +8,31 @@
 //! up to its verdict. `Judge` takes the records of a log one by one, and `report_of` prints a
 //! verdict.
 //!
-//! Three runs judge nothing: `run_frames` reads one raw stream, one direction of a session, and
-//! says what its frames are; `run_normal` writes the normal form of a log; and `run_event` writes
-//! the content of one of its events.
-//!
-//! What a session is and means is defined in `lsp_verdict`, whose public names are exported again
-//! here, and how its events are heard in `lsp_replay`.
+//! What a session is and means is defined in `lsp_verdict`, and how its events are heard in
+//! `lsp_replay`. The public names of `lsp_verdict` are exported again here, and so are those of
+//! `lsp_extract`, whose runs judge nothing.
 #![tactic(auto)]
 
 mod check;
 mod check_line;
 mod contents;
 mod ending;
-mod event;
-mod event_laws;
-mod frames;
 mod judge;
 mod judging;
-mod normal;
-mod normal_laws;
-mod pieces;
 mod ruling;
 mod show;
 mod show_laws;
-mod stream_laws;
 mod text;
 mod upgrade;
 
 pub use check::{run_check, run_check_complete};
-pub use check_line::run_check_line;
-pub use event::{EventOutcome, run_event};
-pub use event_laws::{event_is_numbered, one_event, some_event};
-pub use frames::run_frames;
+pub use check_line::{compared_nothing, run_check_line};
 pub use judge::Judge;
+pub use lsp_extract::{
+    EventOutcome, event_is_numbered, normal_form_keeps_events, normal_form_keeps_verdict,
+    normal_form_stays, one_event, one_normal_form, one_run, run_event, run_frames, run_normal,
+    some_event, some_normal_form, some_run,
+};
 pub use lsp_frame::{Format, Input, Limits, Output};
 pub use lsp_log::LogCode;
 pub use lsp_replay::TextAnswer;
@@ -54,13 +46,7 @@ pub use lsp_verdict::{
     some_session, some_text, some_upgrade, some_verdict, stream_report, upgrade_keeps_yes,
     upgrade_stays, yes_means_kept,
 };
-pub use normal::run_normal;
-pub use normal_laws::{
-    normal_form_keeps_events, normal_form_keeps_verdict, normal_form_stays, one_normal_form,
-    some_normal_form,
-};
 pub use show::{run_show, run_show_long};
 pub use show_laws::{one_shown, some_shown};
-pub use stream_laws::{one_run, some_run};
 pub use text::{run_text, text_after};
 pub use upgrade::run_upgrade;

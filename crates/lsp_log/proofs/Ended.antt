@@ -317,7 +317,8 @@ lacks_at s bytes piece records (progress.Over end) free st fewer = absurd cc
 known_some : (format : Option Format) (f : Format) (n : ℕ) → format ≡ Some f → format ≡ None → n < 14
 known_some format f n known unknown = absurd cc
 
--- the bytes that the reader gave before it failed, and that they are too few where no first line was read
+-- the bytes that the reader gave before it failed, and that they are too few where no first line
+-- was read
 failed_behind : (format : Option Format) (tape : Held) (before after : Told) → FailsBehind format tape before after → (f : ReadFailed tape.left before after) × (format ≡ None → length (tape.rest ++ f.piece) < 14)
 failed_behind None tape before after f = (f.failed, λ unknown. f.fewer)
 failed_behind (Some format) tape before after f = (f, λ unknown. absurd cc)

@@ -15,7 +15,8 @@ take_none n xs (inl e) = ap (λ (k : ℕ). take k xs) e
 take_none zero xs (inr e) = refl
 take_none (suc n) xs (inr e) = ap (take (suc n)) e
 
--- the bytes up to here are within the limit, and then others follow; where bytes are wanted, none of those are within the limit
+-- the bytes up to here are within the limit, and then others follow; where bytes are wanted, none
+-- of those are within the limit
 pub shown_there : (limits : Bounds) (format : Format) (bytes more rest held : List ℕ) (records : List log.Record) (flaw : Option Flaw) → bytes ≡ (first_line format ++ flat_map spelling records) ++ rest → length bytes ≤ limits.log
     → HoldsLine held rest flaw → (wants_bytes flaw ≡ true → (limits.log - length bytes ≡ 0) ⊎ (more ≡ [])) → line_of (take 64 held) ≡ found_behind limits (Some format) records (bytes ++ more)
 shown_there limits format bytes more rest held records flaw is within line wants =

@@ -155,7 +155,8 @@ two_codes (Some bad_number) c d e = refl
 two_codes (Some bad_end) c d e = refl
 two_codes (Some not_utf8) c d e = refl
 
--- the bytes up to here are within the limit, and then others follow; where bytes are wanted, none of those are within the limit
+-- the bytes up to here are within the limit, and then others follow; where bytes are wanted, none
+-- of those are within the limit
 pub ends_there : (limits : Bounds) (format : Format) (bytes more rest : List ℕ) (records : List log.Record) (flaw : Option Flaw) → bytes ≡ (first_line format ++ flat_map spelling records) ++ rest → AllByRecursion (Fits limits) records → length bytes ≤ limits.log
     → EndsWith limits rest flaw → (wants_bytes flaw ≡ true → (limits.log - length bytes ≡ 0) ⊎ (more ≡ [])) → HasRecords limits format (bytes ++ more) records (code_of flaw (nat_lt limits.log (length (bytes ++ more))))
 ends_there limits format bytes more rest records flaw is fits within ends wants = record {

@@ -1,4 +1,5 @@
--- Each list of bytes is a log: what stands in front of it is a record, or there is a reason why none does.
+-- Each list of bytes is a log: what stands in front of it is a record, or there is a reason why
+-- none does.
 use Rattle.std.proofs.Common.{◌≡◌, ◌⊎◌, ℕ, zero, suc, ◌+◌, ◌<◌, ◌≤◌, true, false, List, [], ◌∷◌, ◌++◌, length, take, drop, Option, Some, None, refl, sym, ap, subst, ◌∙◌, append_assoc, inl, inr, arith}
 use Rattle.std.specs.Prelude.{◌==◌, nat_lt, slice_index, IsUtf8}
 use Rattle.std.specs.List.{flat_map, AllByRecursion}

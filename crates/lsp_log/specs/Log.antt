@@ -137,7 +137,8 @@ wants_bytes None = true
 wants_bytes (Some cut_short) = true
 wants_bytes (Some flaw) = false
 
--- the code of what ends the records; where the log was cut, L6 stands for an end without a fault and for bytes that are missing
+-- the code of what ends the records; where the log was cut, L6 stands for an end without a fault
+-- and for bytes that are missing
 abbrev pub code_of : Option Flaw → Bool → Option LogCode
 code_of None false = None
 code_of None true = Some L6
@@ -174,7 +175,8 @@ abbrev pub at_record : ℕ → Option LogCode → Option (ℕ × LogCode)
 at_record number None = None
 at_record number (Some code) = Some (number, code)
 
--- the format of a log, its records, and its fault with the number of its record; a log that begins with no first line has no format and no record
+-- the format of a log, its records, and its fault with the number of its record; a log that begins
+-- with no first line has no format and no record
 abbrev pub IsLog : Bounds → List ℕ → Option Format → List Record → Option (ℕ × LogCode) → Type 0
 IsLog limits log (Some format) rs fault = (code : Option LogCode) × HasRecords limits format log rs code × (fault ≡ at_record (length rs + 1) code)
 IsLog limits log None rs fault = (rs ≡ []) × (fault ≡ Some (0, L1)) × NoFirstLine (take limits.log log)

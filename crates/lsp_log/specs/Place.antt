@@ -16,7 +16,8 @@ abbrev pub line_of : List ℕ → List ℕ
 line_of [] = []
 line_of (b ∷ bytes) = if b == 10 then b ∷ [] else b ∷ line_of bytes
 
--- how many bytes are looked at: as many as a first line has where it is missing, and else as many as a record's first line has at most
+-- how many bytes are looked at: as many as a first line has where it is missing, and else as many
+-- as a record's first line has at most
 abbrev pub shown_bytes : Option Format → ℕ
 shown_bytes None = 14
 shown_bytes (Some format) = 64

@@ -94,7 +94,8 @@ KeepsFormat old new = (format : Format) → old ≡ Some format → new ≡ Some
 
 -- ---- what a reader stands for
 
--- the bytes are the first line of a format, these records within the limits, and the rest, which was not yet given
+-- the bytes are the first line of a format, these records within the limits, and the rest, which
+-- was not yet given
 pub record Reads (s : State) (bytes : List ℕ) (records : List log.Record) : Type 0 where
   pub format : Format
   pub known : s.format ≡ Some format
@@ -111,7 +112,8 @@ pub record ReadsNone (s : State) (bytes : List ℕ) (records : List log.Record) 
   pub left : s.tape.left + length bytes ≡ s.limits.log
   pub given : s.given ≡ 0
 
--- every log that begins with the bytes is of this format and begins with these records; with no format, no record was given
+-- every log that begins with the bytes is of this format and begins with these records; with no
+-- format, no record was given
 abbrev pub Begins : Bounds → List ℕ → Option Format → List log.Record → Type 0
 Begins limits bytes (Some format) records = (more : List ℕ) → (rest : List ℕ) × BeginsLog limits format (bytes ++ more) records rest
 Begins limits bytes None records = records ≡ []
@@ -162,14 +164,16 @@ abbrev pub Shows : State → Told → List ℕ → List log.Record → Result (O
 Shows new after bytes records (Err (Bad number code)) = (more : List ℕ) → MayFollow after more → shown_by new ≡ found_behind new.limits new.format records (bytes ++ more)
 Shows new after bytes records answer = Unit {0}
 
--- these bytes are the first line of a format, records, and then what no record begins with, for a reason that they show whatever may follow
+-- these bytes are the first line of a format, records, and then what no record begins with, for a
+-- reason that they show whatever may follow
 pub record ShowsFlaw (limits : Bounds) (format : Format) (bytes : List ℕ) (records : List log.Record) (flaw : Flaw) : Type 0 where
   pub rest : List ℕ
   pub whole : bytes ≡ (first_line format ++ flat_map spelling records) ++ rest
   pub breaks : Breaks limits rest flaw
   pub shown : wants_bytes (Some flaw) ≡ false
 
--- of the bytes read at most 64 come after those that show the fault; where the first line is missing, there are no more in all
+-- of the bytes read at most 64 come after those that show the fault; where the first line is
+-- missing, there are no more in all
 abbrev pub ShowsNear : Bounds → Option Format → List ℕ → List log.Record → Type 0
 ShowsNear limits None bytes records = length bytes ≤ 64
 ShowsNear limits (Some format) bytes records = (front after : List ℕ) (flaw : Flaw) → bytes ≡ front ++ after → ShowsFlaw limits format front records flaw → length after ≤ 64

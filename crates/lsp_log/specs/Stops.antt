@@ -34,7 +34,8 @@ TextAnswer bytes (Ok text) = string_bytes text ≡ bytes
 TextAnswer bytes (Err Text) = IsUtf8 bytes → ⊥
 TextAnswer bytes (Err stop) = ⊥
 
--- the bytes begin with the first line of no format, and where they are fewer than its 14, no more can be read
+-- the bytes begin with the first line of no format, and where they are fewer than its 14, no more
+-- can be read
 pub record LacksFirst (old new : Held) (before after : Told) : Type 0 where
   pub piece : List ℕ
   pub pulled : Pulled old.left new.left before after piece
@@ -87,7 +88,8 @@ put_back_at End line tape = record tape { rest = line }
 put_back_at Text line tape = record tape { rest = line }
 put_back_at stop line tape = tape
 
--- of these bytes, which end the records for this reason, the first line is held, whatever may follow
+-- of these bytes, which end the records for this reason, the first line is held, whatever may
+-- follow
 abbrev pub HoldsLine : List ℕ → List ℕ → Option Flaw → Type 0
 HoldsLine held bytes flaw = (more : List ℕ) → (wants_bytes flaw ≡ true → more ≡ []) → line_of (take 64 held) ≡ line_of (take 64 (bytes ++ more))
 

@@ -103,7 +103,8 @@ PartAnswer old new before after len (Err End) = Misses old new before after len
 PartAnswer old new before after len (Err Read) = ReadFailed old.left before after
 PartAnswer old new before after len (Err Memory) = Taken old new before after [] × (0 < len)
 
--- one byte past all that may be read was there; or nothing was read, and where nothing more may be read the reader is at its end
+-- one byte past all that may be read was there; or nothing was read, and where nothing more may be
+-- read the reader is at its end
 abbrev pub IsCutAt : ℕ → Told → Told → Bool → Type 0
 IsCutAt left before after true = (left ≡ 0) × (byte : ℕ) × Gave before after (byte ∷ []) × (after.failures ≡ before.failures)
 IsCutAt left before after false = Gave before after [] × (IsOver left before → IsAtEnd after.bytes) × (after.failures ≡ before.failures)

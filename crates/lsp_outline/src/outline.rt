@@ -77,8 +77,8 @@ fn put_otherwise(alloc: Global, method: Method, text: &str, act: &mut Act) -> Op
     Some(())
 }
 
-/// Puts what the text means as a call of this method, of whose params this was told, in the place of
-/// another act.
+/// Puts what the text means as a call of this method, of whose params this was told, in the place
+/// of another act.
 #[inline(always)]
 fn put_act(
     alloc: Global,
@@ -96,8 +96,8 @@ fn put_act(
     }
 }
 
-/// Puts what the text says as a message of the side in the place of another, where it has the common
-/// form.
+/// Puts what the text says as a message of the side in the place of another, where it has the
+/// common form.
 fn put_text(
     alloc: Global,
     side: Side,
@@ -144,7 +144,8 @@ fn blank_message(alloc: Global) -> Message
     }
 }
 
-/// The message that the text is, apart from its params and its result, where it has the common form.
+/// The message that the text is, apart from its params and its result, where it has the common
+/// form.
 fn outline_in(alloc: Global, text: &str) -> Option<Message>
     ensures { IfSome result (λ message. (ms : Members) × (read_text text.now ≡ Some (object ms))
         × ((whole : SpecMessage) × reading.IsMessage (object ms) whole

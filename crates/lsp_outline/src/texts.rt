@@ -262,7 +262,8 @@ fn copy_block(room: &mut [u8], len: usize, bytes: &[u8], at: usize)
 
 /// Writes what the 64 bytes there stand for behind the first bytes of the room, and gives where the
 /// text continues and how many bytes the room then holds. An escape that begins among the 64 is
-/// written whole. It stops early after a `\u` escape and before a byte that is not part of the text.
+/// written whole. It stops early after a `\u` escape and before a byte that is not part of the
+/// text.
 ///
 /// The 64 bytes are tested once: `stops` has a bit for each that ends a run of plain ones. A run is
 /// copied before it is known where it ends, with all of the 64 bytes that begin there, and what is

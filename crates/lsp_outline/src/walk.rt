@@ -205,8 +205,8 @@ pub(crate) fn value_end(bytes: &[u8], from: usize, depth: usize, tries: &mut Tri
     }
 }
 
-/// Where the items end that are numbers of one or two digits, each with its comma and the space past
-/// it. Arrays of numbers are mostly such.
+/// Where the items end that are numbers of one or two digits, each with its comma and the space
+/// past it. Arrays of numbers are mostly such.
 #[inline(always)]
 fn tiny_items_end(bytes: &[u8], from: usize) -> usize
     requires { from ≤ length bytes.now }

@@ -1,4 +1,5 @@
--- What a message that is read apart from the value of its result, and left without its params, means to a session.
+-- What a message that is read apart from the value of its result, and left without its params,
+-- means to a session.
 use Rattle.std.proofs.Common.{◌≡◌, ℕ, List, [], ◌∷◌, ◌++◌, false, not, inl, inr, refl, sym, ap, subst, ◌∙◌}
 use Rattle.std.specs.Prelude.{◌⊎◌}
 use Rattle.lsp_rpc.specs.Act.{Act}

@@ -12,7 +12,8 @@ use Rattle.lsp_log.specs.Log.{Record}
 use Rattle.lsp_log.specs.Place.{place_of, found_behind}
 use Rattle.lsp_types.specs.declared.side.Side.TheVariants.{Editor, Server}
 use Rattle.lsp_replay.specs.LogEvents.{GoesBehind, HasGiven}
-use Rattle.lsp_replay.specs.Run.{HasSaid, IsPassed, IsTold, Run, SaysAll, Tail}
+use Rattle.lsp_replay.specs.Run.{HasSaid, IsPassed, IsTold, RanOut, Run, SaysAll, Tail}
+use Rattle.lsp_replay.specs.Run.{WantsAt, WantsNext}
 use Rattle.lsp_verdict.specs.Heard.{AreRests, Heard, Rests, RestsBehind, notes_of, raws_of}
 use Rattle.lsp_verdict.specs.Offences.{IsNoted}
 use Rattle.lsp_verdict.specs.Outcome.{log_terms}
@@ -33,6 +34,10 @@ AreNoted heard = AllZip IsNoted (raws_of heard) (notes_of heard)
 pub join_heard : (hs more : List Heard) → AreNoted hs → AreNoted more → AreNoted (hs ++ more)
 join_heard [] more p q = q
 join_heard (h ∷ hs) more p q = (p.0, join_heard hs more p.1 q)
+
+part_heard : (hs more : List Heard) → AreNoted (hs ++ more) → AreNoted hs × AreNoted more
+part_heard [] more p = (tt, p)
+part_heard (h ∷ hs) more p = let rest = part_heard hs more p.1 in ((p.0, rest.0), rest.1)
 
 pub raws-push : (hs more : List Heard) → raws_of (hs ++ more) ≡ raws_of hs ++ raws_of more
 raws-push hs more = map-append (λ (h : Heard). h.raw) hs more
@@ -165,6 +170,28 @@ module _ {limits : Bounds} {format : Option Format} {front : List Record} (heard
     length-map heard (λ (h : Heard). h.raw),
   )
 
+-- what a run says of these events, where those of the records are these and those that are due
+pub ran_given : {limits : Bounds} {format : Option Format} {front : List Record}
+    (heard : List Heard) (noted : AreNoted heard) {log : List ℕ}
+    → HasGiven limits format front (raws_of heard) log
+    → (run : Run) (out : List ℕ)
+    → ((rests : Rests) → RestsBehind limits front rests
+    → SaysAll run (log_terms limits format) rests [] heard out)
+    → (due : List Heard) → AreNoted due → Placed limits front (raws_of heard ++ raws_of due)
+    → WantsNext run (log_terms limits format) heard due → RanOut run limits log out
+unfolding said_given
+ran_given {limits} {front = front} heard noted has run out says due due_noted whole wants = record {
+  said = said_given heard noted has run out says;
+  read = front;
+  goes = has.goes;
+  due = due;
+  session = record {
+    placed = subst (Placed limits front) (sym (raws-push heard due)) whole;
+    noted = join_heard heard due noted due_noted;
+  };
+  wants = wants;
+}
+
 module _ {limits : Bounds} {format : Option Format} {front : List Record} (heard : List Heard)
     (h : Heard) (noted : AreNoted (heard ++ h ∷ [])) {log : List ℕ}
     (has : HasGiven limits format front (raws_of (heard ++ h ∷ [])) log) where
@@ -227,3 +254,38 @@ module _ {limits : Bounds} {format : Option Format} {front : List Record} {start
   said_read run out says =
       read_map limits start now (HasGiven limits format front (raws_of heard))
       (λ log. HasSaid run limits log out) (λ log has. said_given heard noted has run out says) read
+
+  -- none is due
+  pub ran_idle : (run : Run) (out : List ℕ)
+      → ((rests : Rests) → RestsBehind limits front rests
+      → SaysAll run (log_terms limits format) rests [] heard out)
+      → Placed limits front (raws_of heard)
+      → OfRead limits start now (λ log. RanOut run limits log out)
+  ran_idle run out says placed =
+      read_map limits start now (HasGiven limits format front (raws_of heard))
+      (λ log. RanOut run limits log out) (λ log has. ran_given heard noted has run out says [] tt
+      (subst (Placed limits front) (sym (append-nil (raws_of heard))) placed) tt) read
+
+-- memory was refused at the last of these
+module _ {limits : Bounds} {format : Option Format} {front : List Record} {start now : Told}
+    (heard : List Heard) (h : Heard) (noted : AreNoted (heard ++ h ∷ []))
+    (read : OfRead limits start now (HasGiven limits format front (raws_of (heard ++ h ∷ []))))
+  where
+    pub ran_at : (run : Run) (out : List ℕ)
+        → ((rests : Rests) → RestsBehind limits front rests
+        → SaysAll run (log_terms limits format) rests [] heard out)
+        → (later : List Raw) → Placed limits front ((raws_of heard ++ h.raw ∷ []) ++ later)
+        → WantsAt run (log_terms limits format) heard h
+        → OfRead limits start now (λ log. RanOut run limits log out)
+    ran_at run out says later placed wants =
+        read_map limits start now (HasGiven limits format front (raws_of (heard ++ h ∷ [])))
+        (λ log. RanOut run limits log out) (λ log has. ran_given heard both.0
+        (given_before heard h noted has) run out says (h ∷ more.0) (both.1.0, more.2)
+        (subst (Placed limits front) (append_assoc (raws_of heard) (h.raw ∷ []) later
+        ∙ ap (λ w. raws_of heard ++ h.raw ∷ w) (sym more.1)) placed) wants) read
+      where
+        more : (hs : List Heard) × (raws_of hs ≡ later) × AreNoted hs
+        more = some_heard later
+
+        both : AreNoted heard × AreNoted (h ∷ [])
+        both = part_heard heard (h ∷ []) noted

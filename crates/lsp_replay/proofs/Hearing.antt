@@ -34,7 +34,7 @@ use Rattle.lsp_verdict.specs.Event.{call_of, call_at, calls, Event, message, fau
 use Rattle.lsp_verdict.specs.Event.{snapshot, sent_in}
 use Rattle.lsp_verdict.specs.Placed.{IsSent}
 use Rattle.lsp_replay.specs.Standing.{of_call, of_message, of_reading, HasValue, Hears, IsUnread}
-use Rattle.lsp_replay.specs.Standing.{RefusesBy, RefusesCall, RefusesFor, TakesCall}
+use Rattle.lsp_replay.specs.Standing.{CanWantMemory, RefusesBy, RefusesCall, RefusesFor, TakesCall}
 use Rattle.lsp_replay.specs.declared.fault.Fault.{Fault}
 use Rattle.lsp_replay.specs.declared.fault.Fault.TheVariants as own
 use Rattle.lsp_verdict.specs.Placed as placed
@@ -151,7 +151,8 @@ refused_for side bytes said act terms events own.Memory refuses = tt
 pub shown_for : (uri text : List ℕ) (number : ℤ) (terms : Terms) (events : List Event)
     (f : DocFault)
     → docs_fault.Names (call_rule terms (calls events) (shows uri number (chars text))) f
+    → (f ≡ faults.Memory → CanWantMemory terms events (placed.show number uri text))
     → RefusesFor (placed.show number uri text) terms events (of_call f)
-shown_for uri text number terms events (faults.Rule rule) named =
+shown_for uri text number terms events (faults.Rule rule) named waits =
     (snapshot uri number (chars text), refl, named)
-shown_for uri text number terms events faults.Memory named = tt
+shown_for uri text number terms events faults.Memory named waits = waits refl

@@ -16,13 +16,13 @@ use Rattle.lsp_log.specs.declared.fault.LogCode.{LogCode}
 use Rattle.lsp_types.specs.declared.side.Side.{Side}
 use Rattle.lsp_types.specs.declared.side.Side.TheVariants.{Editor, Server}
 use Rattle.lsp_replay.specs.LogEvents.{Ended, HasGiven, IsLogOf, NextIs, flaw_of}
-use Rattle.lsp_replay.specs.Run.{PartPassed, Passes, Steps, HasSaid, IsPassed, IsTold, Run, SaysAll}
+use Rattle.lsp_replay.specs.Run.{PartPassed, Passes, Steps, IsPassed, IsTold, RanOut, Run, SaysAll}
 use Rattle.lsp_replay.specs.Run.{Tail}
 use Rattle.lsp_replay.specs.Telling.{DueAtEnd, IsEnd, Stood}
 use Rattle.lsp_replay.specs.declared.log_events.End.{End}
 use Rattle.lsp_replay.specs.declared.log_events.LogEvents.{LogEvents}
 use Rattle.lsp_replay.specs.declared.log_events.Next.TheVariants as next
-use Rattle.lsp_replay.proofs.FirstEvents.{rests_behind, said_given, some_rests}
+use Rattle.lsp_replay.proofs.FirstEvents.{ran_given, rests_behind, some_rests}
 use Rattle.lsp_replay.proofs.Passing.{IsPassing, broke_at, cut_at, passing_few}
 use Rattle.lsp_replay.proofs.Pulling.{log_of}
 use Rattle.lsp_replay.proofs.SideEnds.{inside_is, rest_held}
@@ -142,33 +142,47 @@ module _ (Asked : Type 0) (run_of : Asked → Run) (asked : Asked)
         });
       }) gone.1.ends.of_read
 
-  end_fault : (fault : RunFault) (sink : Told) → Steps {X = Outcome} new sink Due (Err fault)
+  end_fault : (fault : RunFault) (sink : Told)
+      → Steps {X = Outcome} new sink (Unit {0}) Due (Err fault)
       → Passes run limits start last old sink (Err fault)
   end_fault faults.Write sink (outcome, said, due, stopped, some) =
       cut_at run limits start last old new sink p.out said p.wrote stopped some
       (inr (outcome, end_passed outcome said due)) gone.1.ends.failures
-  end_fault faults.Memory sink steps =
-      subst (λ (t : Told). PartPassed run limits start last old t faults.Memory) (sym steps)
+  end_fault faults.Memory sink (same, wants) =
+      subst (λ (t : Told). PartPassed run limits start last old t faults.Memory) (sym same)
       (broke_at run limits start last old new p.out p.wrote p.quiet faults.Memory
       (read_map limits start last (IsLogOf log.log limits all (flaw_of end))
-      (λ bytes. HasSaid run limits bytes p.out) said_in gone.1.ends.of_read)
+      (λ bytes. RanOut run limits bytes p.out) ran_in gone.1.ends.of_read)
       gone.1.ends.failures (λ same. absurd cc))
     where
-      said_in : (bytes : List ℕ) → IsLogOf log.log limits all (flaw_of end) bytes
-          → HasSaid run limits bytes p.out
-      said_in bytes is = record {
-        format = p.format;
-        records = all;
-        first = p.heard;
-        later = [];
-        tail = tail_of bytes;
-        told = subst (λ (w : List Heard). IsTold limits bytes p.format all w (tail_of bytes))
-            (sym (append-nil p.heard)) (told_whole bytes is);
-        says = said_whole;
+      told_in : (bytes : List ℕ) → IsLogOf log.log limits all (flaw_of end) bytes
+          → IsTold limits bytes p.format all (p.heard ++ []) (tail_of bytes)
+      told_in bytes is =
+          subst (λ (w : List Heard). IsTold limits bytes p.format all w (tail_of bytes))
+          (sym (append-nil p.heard)) (told_whole bytes is)
+
+      ran_in : (bytes : List ℕ) → IsLogOf log.log limits all (flaw_of end) bytes
+          → RanOut run limits bytes p.out
+      ran_in bytes is = record {
+        said = record {
+          format = p.format;
+          records = all;
+          first = p.heard;
+          later = [];
+          tail = tail_of bytes;
+          told = told_in bytes is;
+          says = said_whole;
+        };
+        read = all;
+        goes = ([], sym (append-nil all));
+        due = [];
+        session = (told_in bytes is).session;
+        wants = tt;
       }
   end_fault faults.Read sink steps = absurd steps
 
-  end_told : (result : Result Outcome RunFault) (sink : Told) → Steps new sink Due result
+  end_told : (result : Result Outcome RunFault) (sink : Told)
+      → Steps new sink (Unit {0}) Due result
       → Passes run limits start last old sink result
   end_told (Ok outcome) sink (said, due, wrote, still) = record {
     out = p.out ++ said;
@@ -182,10 +196,10 @@ module _ (Asked : Type 0) (run_of : Asked → Run) (asked : Asked)
   pub end_all : (own : Asked) → own ≡ asked → (result : Result Outcome RunFault) (sink : Told)
       → ((t : Terms) (heard : List Heard) → Stands t heard → Stood t m d c heard
       → length heard < 2 ^ 63
-      → Steps new sink (DueAtEnd (run_of own) t heard log end) result)
+      → Steps new sink (Unit {0}) (DueAtEnd (run_of own) t heard log end) result)
       → Passes run limits start last old sink result
   end_all own same result sink tells =
-      end_told result sink (subst (λ (a : Asked). Steps new sink
+      end_told result sink (subst (λ (a : Asked). Steps new sink (Unit {0})
       (DueAtEnd (run_of a) terms p.heard log end) result) same
       (tells terms p.heard p.stands p.stood end_few))
 
@@ -195,18 +209,18 @@ pub unopened : (run : Run) (limits : Bounds) (start now sink : Told) (fault : Ru
     → BreaksOff limits start now fault → Passes run limits start now sink sink (Err fault)
 unopened run limits start now sink fault off =
     broke_at run limits start now sink sink [] (wrote_nothing sink) (λ e. refl) fault
-    (read_map limits start now (λ log. Unit {0}) (λ log. HasSaid run limits log [])
+    (read_map limits start now (λ log. Unit {0}) (λ log. RanOut run limits log [])
     (λ log u. nothing log) off.of_read) off.failures off.unwritten
   where
-    nothing : (log : List ℕ) → HasSaid run limits log []
+    nothing : (log : List ℕ) → RanOut run limits log []
     nothing log =
         let v = some_verdict limits log in
-        let has : HasGiven limits v.1.format v.1.records [] log = record {
+        let has : HasGiven limits v.1.format [] [] log = record {
           records = v.1.records;
           log_fault = v.1.fault;
           later = v.1.final.session.0;
           is_log = v.1.is_log;
-          goes = ([], sym (append-nil v.1.records));
+          goes = (v.1.records, refl);
           placed = v.1.final.session.1;
         } in
-        said_given [] tt has run [] (λ rests behind. refl)
+        ran_given [] tt has run [] (λ rests behind. refl) [] tt refl tt

@@ -15,6 +15,7 @@ pub mod FirstEvents
 pub mod Passing
 pub mod LastEvents
 pub mod Seeing
+pub mod Wanting
 pub mod PassEnds
 pub mod JudgedRuns
 pub mod SeenLines

@@ -8,7 +8,8 @@ use Rattle.std.proofs.Common.{◌∙◌, append-nil}
 use Rattle.lsp_docs.specs.Documents.{Terms}
 use Rattle.lsp_frame.specs.Bounds.{Bounds}
 use Rattle.lsp_frame.specs.Told.{Told}
-use Rattle.lsp_replay.specs.Run.{DueAt, IsCut, PartPassed, Passes, HasSaid, IsPassed, Run, SaysAll}
+use Rattle.lsp_replay.specs.Run.{DueAt, IsCut, PartPassed, Passes, HasSaid, IsPassed, RanOut, Run}
+use Rattle.lsp_replay.specs.Run.{SaysAll}
 use Rattle.lsp_verdict.specs.Heard.{Heard, Rests}
 use Rattle.lsp_verdict.specs.Outcome.{log_terms}
 use Rattle.lsp_verdict.specs.Runs.{GaveAtMost, OfRead}
@@ -26,6 +27,13 @@ pub read_here : (limits : Bounds) (start now : Told) (P : List ℕ → Type 0)
     → (read : OfRead limits start now P) → P read.bytes
 read_here limits start now P read =
     read.holds read.bytes ([], sym (append-nil read.bytes), λ end. refl)
+
+-- before memory was refused, this was said
+said_out : (run : Run) (limits : Bounds) (start now : Told) (out : List ℕ)
+    → OfRead limits start now (λ log. RanOut run limits log out)
+    → OfRead limits start now (λ log. HasSaid run limits log out)
+said_out run limits start now out = read_map limits start now (λ log. RanOut run limits log out)
+    (λ log. HasSaid run limits log out) (λ log r. r.said)
 
 module _ (run : Run) (limits : Bounds) (start now old new : Told) (fault : RunFault)
     (p : PartPassed run limits start now old new fault) where
@@ -59,7 +67,7 @@ module _ (run : Run) (limits : Bounds) (start now old new : Told) (fault : RunFa
             → OfRead limits start now (λ log. Begins log p.out)
         by_fault faults.Read due = said_begins due
         by_fault faults.Write cut = cut_begins cut.left cut.due
-        by_fault faults.Memory due = said_begins due
+        by_fault faults.Memory due = said_begins (said_out run limits start now p.out due)
 
   -- no more was read than the limit lets
   pub part_within : GaveAtMost (limits.log + 1) start now
@@ -95,7 +103,8 @@ module _ (run : Run) (quiet : IsQuiet run) (limits : Bounds) (start now : Told) 
           → p.out ≡ []
       by_fault faults.Read never due = said_nothing p.out due
       by_fault faults.Write never due = absurd (never refl)
-      by_fault faults.Memory never due = said_nothing p.out due
+      by_fault faults.Memory never due =
+          said_nothing p.out (said_out run limits start now p.out due)
 
   pub silent_after : (old new : Told) (result : Result Outcome RunFault) (fault : RunFault)
       → (fault ≡ faults.Write → ⊥) → Passes run limits start now old new result

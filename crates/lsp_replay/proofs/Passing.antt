@@ -17,15 +17,17 @@ use Rattle.lsp_log.specs.Log.{Record}
 use Rattle.lsp_types.specs.declared.side.Side.{Side}
 use Rattle.lsp_types.specs.declared.side.Side.TheVariants.{Editor, Server}
 use Rattle.lsp_replay.specs.LogEvents.{HasGiven, NextIs, Opens, Reads}
-use Rattle.lsp_replay.specs.Run.{DueAt, PartPassed, Passes, Steps, HasSaid, IsPassed, Run, SaysAll}
+use Rattle.lsp_replay.specs.Run.{DueAt, PartPassed, Passes, Steps, HasSaid, IsPassed, RanOut, Run}
+use Rattle.lsp_replay.specs.Run.{SaysAll, WantsAt}
 use Rattle.lsp_replay.specs.Streams.{LendsRest}
 use Rattle.lsp_replay.specs.Telling.{Comes, DueOf, ShowsFault, Stood}
 use Rattle.lsp_replay.specs.declared.log_events.LogEvents.{LogEvents}
 use Rattle.lsp_replay.specs.declared.log_events.Next.TheVariants as next
 use Rattle.lsp_replay.specs.declared.seen.Flow.{Flow}
 use Rattle.lsp_replay.specs.declared.seen.Flow.TheVariants.{GoOn, Stop}
-use Rattle.lsp_replay.proofs.FirstEvents.{AreNoted, few_read, given_before, join_heard, raws-push}
-use Rattle.lsp_replay.proofs.FirstEvents.{rests_before, said_read, says_more, stops_given}
+use Rattle.lsp_replay.proofs.FirstEvents.{AreNoted, few_read, join_heard, ran_at, ran_idle}
+use Rattle.lsp_replay.proofs.FirstEvents.{raws-push, rests_before, said_read, says_more}
+use Rattle.lsp_replay.proofs.FirstEvents.{stops_given}
 use Rattle.lsp_replay.proofs.Fronts.{front_shown}
 use Rattle.lsp_replay.proofs.Owning.{given_fault}
 use Rattle.lsp_replay.proofs.PassEnds.{Boxed}
@@ -61,10 +63,10 @@ by_sink old new faults.Memory same other = same
 -- nothing new was written
 pub broke_at : (run : Run) (limits : Bounds) (start now old new : Told) (out : List ℕ)
     → Wrote old new out → (out ≡ [] → new ≡ old) → (fault : RunFault)
-    → OfRead limits start now (λ log. HasSaid run limits log out)
+    → OfRead limits start now (λ log. RanOut run limits log out)
     → now.failures ≡ failures_after fault start.failures → (fault ≡ faults.Write → ⊥)
     → PartPassed run limits start now old new fault
-broke_at run limits start now old new out wrote quiet fault said failures unwritten = record {
+broke_at run limits start now old new out wrote quiet fault ran failures unwritten = record {
   out = out;
   took = wrote.took;
   due = by_fault fault unwritten;
@@ -73,9 +75,10 @@ broke_at run limits start now old new out wrote quiet fault said failures unwrit
   quiet = λ never. quiet;
 } where
   by_fault : (f : RunFault) → (f ≡ faults.Write → ⊥) → DueAt f run limits start now out
-  by_fault faults.Read never = said
+  by_fault faults.Read never = read_map limits start now (λ log. RanOut run limits log out)
+      (λ log. HasSaid run limits log out) (λ log r. r.said) ran
   by_fault faults.Write never = absurd (never refl)
-  by_fault faults.Memory never = said
+  by_fault faults.Memory never = ran
 
 -- a write failed
 pub cut_at : (run : Run) (limits : Bounds) (start now old mid new : Told) (out said : List ℕ)
@@ -205,8 +208,8 @@ module _ (Asked : Type 0) (run_of : Asked → Run) (asked : Asked)
   broke_next log last fault told =
       let off = told limits p.format start p.records (raws_of p.heard) p.due p.reads in
       broke_at run limits start last old new p.out p.wrote p.quiet fault
-      (said_read p.heard p.noted off.1.of_read run p.out (said_before off.0)) off.1.failures
-      off.1.unwritten
+      (ran_idle p.heard p.noted off.1.of_read run p.out (said_before off.0) off.1.whole)
+      off.1.failures off.1.unwritten
 
   -- ---- one more event
 
@@ -259,6 +262,9 @@ module _ (Asked : Type 0) (run_of : Asked → Run) (asked : Asked)
 
     module _ (Later : Terms → List Heard → Type 0) (new_m : session.State) (new_d : docs.State)
         (new_c : Counts) (end : Told) where
+      abbrev Wants : Type 0
+      Wants = WantsAt run terms p.heard here
+
       -- what is due for it
       abbrev Due : Flow → List ℕ → Type 0
       Due flow said = DueOf run terms p.heard here (ShowsFault raw) (Later terms on) new_m new_d new_c
@@ -279,7 +285,7 @@ module _ (Asked : Type 0) (run_of : Asked → Run) (asked : Asked)
           due.goes.0 due.goes.1) on_first
 
       -- the run goes on
-      passing_next : Steps {X = Flow} new end Due (Ok GoOn)
+      passing_next : Steps {X = Flow} new end Wants Due (Ok GoOn)
           → IsPassing run Later limits log new_m new_d new_c start last old end
       passing_next (said, due, wrote, still) = record {
         format = p.format;
@@ -297,7 +303,7 @@ module _ (Asked : Type 0) (run_of : Asked → Run) (asked : Asked)
       }
 
       -- it stops
-      passing_stop : (boxed : Boxed) → Steps {X = Flow} new end Due (Ok (Stop boxed))
+      passing_stop : (boxed : Boxed) → Steps {X = Flow} new end Wants Due (Ok (Stop boxed))
           → Passes run limits start last old end (Ok boxed.value)
       passing_stop boxed (said, due, wrote, still) = record {
         out = p.out ++ said;
@@ -315,19 +321,16 @@ module _ (Asked : Type 0) (run_of : Asked → Run) (asked : Asked)
           (said_on said due))
       cut_by (Stop boxed) said due = inr (boxed.value, stopped_at boxed said due)
 
-      passing_fault : (fault : RunFault) → Steps {X = Flow} new end Due (Err fault)
+      passing_fault : (fault : RunFault) → Steps {X = Flow} new end Wants Due (Err fault)
           → Passes run limits start last old end (Err fault)
       passing_fault faults.Write (flow, said, due, stopped, some) =
           cut_at run limits start last old new end p.out said p.wrote stopped some
           (cut_by flow said due) on_failures
-      passing_fault faults.Memory steps =
-          subst (λ (t : Told). PartPassed run limits start last old t faults.Memory) (sym steps)
+      passing_fault faults.Memory (same, wants) =
+          subst (λ (t : Told). PartPassed run limits start last old t faults.Memory) (sym same)
           (broke_at run limits start last old new p.out p.wrote p.quiet faults.Memory
-          (said_read p.heard p.noted (read_map limits start last
-          (HasGiven limits p.format front (raws_of on))
-          (HasGiven limits p.format front (raws_of p.heard))
-          (λ log has. given_before p.heard here on_noted has) on_first) run p.out
-          (said_before gave.0)) on_failures (λ same. absurd cc))
+          (ran_at p.heard here on_noted on_first run p.out (said_before gave.0) gave.1
+          gave.2.stands.placed wants) on_failures (λ same. absurd cc))
       passing_fault faults.Read steps = absurd steps
 
       -- what the account says of it was written, by what it stands for
@@ -335,14 +338,16 @@ module _ (Asked : Type 0) (run_of : Asked → Run) (asked : Asked)
       TellsNext own result =
           (t : Terms) (before : List Heard) (h : Heard)
           → Comes (raw_view raw) t m d c before h (Stands t before)
-          → Steps new end (DueOf (run_of own) t before h (ShowsFault raw)
+          → Steps new end (WantsAt (run_of own) t before h)
+          (DueOf (run_of own) t before h (ShowsFault raw)
           (Later t (before ++ h ∷ [])) new_m new_d new_c) result
 
       steps_of : (own : Asked) (result : Result Flow RunFault) → own ≡ asked
-          → TellsNext own result → Steps new end Due result
+          → TellsNext own result → Steps new end Wants Due result
       steps_of own result same tells =
-          subst (λ (a : Asked). Steps new end (DueOf (run_of a) terms p.heard here (ShowsFault raw)
-          (Later terms on) new_m new_d new_c) result) same (tells terms p.heard here comes)
+          subst (λ (a : Asked). Steps new end (WantsAt (run_of a) terms p.heard here)
+          (DueOf (run_of a) terms p.heard here (ShowsFault raw) (Later terms on) new_m new_d new_c)
+          result) same (tells terms p.heard here comes)
 
       pub goes_on : (own : Asked) → own ≡ asked → TellsNext own (Ok GoOn)
           → IsPassing run Later limits log new_m new_d new_c start last old end
@@ -351,7 +356,7 @@ module _ (Asked : Type 0) (run_of : Asked → Run) (asked : Asked)
       pub goes_fewer : (own : Asked) → own ≡ asked → TellsNext own (Ok GoOn)
           → limits.log + 1 - new_c.all < limits.log + 1 - c.all
       goes_fewer own same tells =
-          let steps : Steps {X = Flow} new end Due (Ok GoOn) =
+          let steps : Steps {X = Flow} new end Wants Due (Ok GoOn) =
           steps_of own (Ok GoOn) same tells in
           omega (
             arith,

@@ -234,6 +234,7 @@ module _ (limits : Bounds) (start now : Told) (records : List Record) (given : L
               (first_given limits (Some format) records given [] h.placed refl)
               (subst (λ (f : Option Format). OfRead limits start now (HasFirst limits f records)) is
               first);
+          whole = subst (Placed limits records) (append-nil given) h.placed;
           failures = broke.failures;
           unwritten = broke.unwritten;
         },

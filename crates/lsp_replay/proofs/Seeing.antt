@@ -20,7 +20,8 @@ use Rattle.lsp_docs.specs.declared.fault.DocFault.TheVariants as calls_fault
 use Rattle.lsp_docs.specs.declared.snapshot.Match.{Match}
 use Rattle.lsp_replay.specs.Standing.{of_call, Hears, Holds, RefusesMessage}
 use Rattle.lsp_replay.specs.declared.fault.Fault.TheVariants as own
-use Rattle.lsp_replay.specs.Telling.{Comes, IsSpoken, Stood, kept_before, rule_of}
+use Rattle.lsp_replay.specs.Telling.{Comes, IsSeen, IsSpoken, SeenAs, Stood, kept_before, rule_of}
+use Rattle.lsp_replay.specs.declared.seen.Seen.{Seen}
 use Rattle.lsp_replay.proofs.Following.{shown_holds, whose_read}
 use Rattle.lsp_verdict.specs.Event.{calls, Event, message, fault as broken_rule, snapshot}
 use Rattle.lsp_verdict.specs.Placed.{ReadsAs, Raw, content, broken, show, Reads}
@@ -50,6 +51,13 @@ module _ {raw : Raw} {terms : Terms} {m : session.State} {d : docs.State} {c : C
 
   pub noted_here : IsNoted h.raw h.note
   noted_here = subst (λ (w : Raw). IsNoted w h.note) (sym comes.raw_is) comes.noted
+
+  -- it was seen so
+  pub seen_as : {new_m : session.State} {new_d : docs.State} {after : Counts} (s : Seen)
+      → Stood terms new_m new_d after (before ++ h ∷ []) → SeenAs s terms before h
+      → IsSeen new_m new_d after s terms before h
+  seen_as s stood as_is =
+      record { stood = stood; few = comes.few; noted = noted_here; as_is = as_is }
 
   -- the event is the one that is read so
   pub event_is : (event : Event) → Reads raw event → event ≡ h.note.event

@@ -160,6 +160,10 @@ module _ (asked : TextAsked) (terms : Terms) (before : List Heard) (h : Heard) w
         ∙ ap (λ (t : Terms). held_answer (held t asked.uri (calls (kept_before terms on))))
         stood.by))
 
+    pub some_at : c.editor ≡ asked.number → is_some (text_at asked terms before h) ≡ true
+    some_at reached = ap is_some
+        (by_reached true (now_reached asked.number c before h stood.counted few earlier reached))
+
     -- or another
     module _ (other : c.editor ≡ asked.number → ⊥) where
       pub none_at : text_at asked terms before h ≡ None

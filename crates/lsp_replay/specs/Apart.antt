@@ -15,7 +15,8 @@ pub record IsApart (session : State) (said whole : Message) : Type 0 where
   pub same : without_result said ≡ without_result whole
   pub read : (before : List Sent) → Stands session before → (open_initializes before ≡ []) ⊎ (said ≡ whole)
 
--- the content of the side says a message that means the act, and this is left of it without its params
+-- the content of the side says a message that means the act, and this is left of it without its
+-- params
 pub record Says (session : State) (side : Side) (content : List ℕ) (left : Message) (act : Act) : Type 0 where
   pub whole : Message
   pub said : Message

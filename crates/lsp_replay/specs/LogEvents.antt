@@ -84,10 +84,11 @@ pub record Ended (limits : Bounds) (format : Option Format) (e : LogEvents) (sta
   pub reads : Reads limits format e start now records given []
   pub ends : EndsBehind e.log limits start now records (flaw_of end)
 
--- reading broke off after these records and events of a log of this format
+-- reading broke off after these records of a log of this format, all of whose events were given
 pub record BrokeOff (limits : Bounds) (start now : Told) (format : Option Format)
     (records : List Record) (given : List Raw) (fault : RunFault) : Type 0 where
   pub of_read : OfRead limits start now (HasGiven limits format records given)
+  pub whole : Placed limits records given
   pub failures : now.failures ≡ failures_after fault start.failures
   pub unwritten : fault ≡ faults.Write → ⊥
 

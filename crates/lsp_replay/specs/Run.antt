@@ -11,7 +11,10 @@ use Rattle.lsp_log.specs.Log.{Record, IsLog}
 use Rattle.lsp_log.specs.Place.{place_of, found_behind}
 use Rattle.lsp_log.specs.declared.fault.LogCode.{LogCode}
 use Rattle.lsp_verdict.specs.Given.{verdict_view}
-use Rattle.lsp_verdict.specs.Heard.{AreRests, Heard, IsHeardSession, Rests}
+use Rattle.lsp_replay.specs.LogEvents.{GoesBehind}
+use Rattle.lsp_replay.specs.Standing.{CanWantMemory}
+use Rattle.lsp_verdict.specs.Heard.{AreRests, Heard, IsHeardSession, Rests, heard_events}
+use Rattle.lsp_verdict.specs.Offences.{kept_of}
 use Rattle.lsp_verdict.specs.Outcome.{log_terms}
 use Rattle.lsp_verdict.specs.Verdict.{Verdict}
 use Rattle.lsp_verdict.specs.declared.outcome.Outcome.{Outcome}
@@ -29,10 +32,12 @@ pub record Tail : Type 0 where
   pub line : List ℕ
   pub rests : Rests
 
--- **a run**: what it says of an event after these, whether it stops there, and how it ends then;
--- and what it says at the end of the log after all of them, and how it ends there
+-- **a run**: what it says of an event after these, whether it may want memory to say or to note it,
+-- whether it stops there, and how it ends then; and what it says at the end of the log after all of
+-- them, and how it ends there
 pub record Run : Type 1 where
   pub says : Terms → Rests → List Heard → Heard → List ℕ → Type 0
+  pub wants : Terms → List Heard → Heard → Bool
   pub stops : Terms → List Heard → Heard → Bool
   pub ends : Terms → List Heard → Heard → Outcome → Type 0
   pub closes : Terms → List Heard → Tail → List ℕ → Outcome → Type 0
@@ -79,6 +84,19 @@ pub record EndsAfter (run : Run) (terms : Terms) (tail : Tail) (heard : List Hea
 abbrev pub IsJudged : Verdict → Outcome → Type 0
 IsJudged v outcome = (given : code.Verdict) × (outcome ≡ Judged given) × (verdict_view given ≡ v)
 
+-- ---- where memory may be wanted
+
+-- at the event after these: to hear it, or by the run
+abbrev pub WantsAt : Run → Terms → List Heard → Heard → Type 0
+WantsAt run terms before h =
+    CanWantMemory terms (kept_of terms (heard_events before)) h.raw
+    ⊎ (run.wants terms before h ≡ true)
+
+-- at the first of these that come next; where none does, to read on or for what is said at the end
+abbrev pub WantsNext : Run → Terms → List Heard → List Heard → Type 0
+WantsNext run terms before [] = Unit {0}
+WantsNext run terms before (h ∷ due) = WantsAt run terms before h
+
 -- ---- a log
 
 -- a log of this format, its records, its events, and how it ends
@@ -111,6 +129,16 @@ pub record HasSaid (run : Run) (limits : Bounds) (log out : List ℕ) : Type 0 w
   pub told : IsTold limits log format records (first ++ later) tail
   pub says : SaysAll run (log_terms limits format) tail.rests [] first out
 
+-- **memory was refused after this was said of a log**: of some of its first records the events are
+-- those of which it was said, and those that are due; and memory may be wanted for what comes next
+pub record RanOut (run : Run) (limits : Bounds) (log out : List ℕ) : Type 0 where
+  pub said : HasSaid run limits log out
+  pub read : List Record
+  pub goes : GoesBehind read said.records
+  pub due : List Heard
+  pub session : IsHeardSession limits read (said.first ++ due)
+  pub wants : WantsNext run (log_terms limits said.format) said.first due
+
 -- ---- what a pass writes and answers
 
 -- what the run writes of the log read was written, and so it ended
@@ -136,7 +164,7 @@ DueAt faults.Read run limits start now out =
     OfRead limits start now (λ log. HasSaid run limits log out)
 DueAt faults.Write run limits start now out = IsCut run limits start now out
 DueAt faults.Memory run limits start now out =
-    OfRead limits start now (λ log. HasSaid run limits log out)
+    OfRead limits start now (λ log. RanOut run limits log out)
 
 -- a fault met
 pub record PartPassed (run : Run) (limits : Bounds) (start now old new : Told) (fault : RunFault)
@@ -158,11 +186,12 @@ Passes run limits start now old new (Err fault) =
 -- ---- a step
 
 -- there is an answer and what is due for it: it is written, or after a write fault a prefix of it;
--- where memory was refused, nothing is written
-abbrev pub Steps : {X : Type 0} → Told → Told → (X → List ℕ → Type 0) → Result X RunFault → Type 0
-Steps old new Due (Ok answer) =
+-- where memory was refused, nothing is written, and this holds
+abbrev pub Steps : {X : Type 0} → Told → Told → Type 0 → (X → List ℕ → Type 0)
+    → Result X RunFault → Type 0
+Steps old new Wants Due (Ok answer) =
     (said : List ℕ) × Due answer said × Wrote old new said × (said ≡ [] → new ≡ old)
-Steps {X} old new Due (Err faults.Write) =
+Steps {X} old new Wants Due (Err faults.Write) =
     (answer : X) × (said : List ℕ) × Due answer said × Stopped old new said × (said ≡ [] → ⊥)
-Steps old new Due (Err faults.Memory) = new ≡ old
-Steps old new Due (Err faults.Read) = ⊥
+Steps old new Wants Due (Err faults.Memory) = (new ≡ old) × Wants
+Steps old new Wants Due (Err faults.Read) = ⊥

@@ -12,9 +12,12 @@ use Rattle.lsp_session.specs.Sent.{Sent}
 use Rattle.lsp_session.specs.State as session
 use Rattle.lsp_docs.specs.declared.fault.DocFault.{DocFault}
 use Rattle.lsp_docs.specs.declared.fault.DocFault.TheVariants as refused
+use Rattle.lsp_docs.specs.declared.snapshot.Match.TheVariants.{Waits}
 use Rattle.lsp_docs.specs.Calls.{Call}
 use Rattle.lsp_docs.specs.State as docs
-use Rattle.lsp_docs.specs.Documents.{Terms}
+use Rattle.lsp_docs.specs.Stored.{answer_of}
+use Rattle.lsp_docs.specs.Documents.{held, Terms}
+use Rattle.lsp_docs.specs.Snapshots.{kept}
 use Rattle.lsp_types.specs.declared.side.Side.{Side}
 use Rattle.lsp_verdict.specs.declared.counts.Counts.{Counts}
 use Rattle.lsp_verdict.specs.Event.{calls, Event, message, fault, sent_in}
@@ -128,14 +131,16 @@ Takes raw terms before old_messages old_documents messages documents after =
     (events : List Event) → Holds old_messages old_documents events
     → Keeps raw terms before messages documents after events
 
--- memory may run out at this event: a fault of the frames wants none
-abbrev pub CanWantMemory : Raw → Type 0
-CanWantMemory (content side bytes) = Unit {0}
-CanWantMemory (broken side rule) = ⊥
-CanWantMemory (show number uri text) = Unit {0}
+-- memory may run out while an event is heard after these: a content is read, and a snapshot may
+-- have to wait; a fault of the frames wants none
+abbrev pub CanWantMemory : Terms → List Event → Raw → Type 0
+CanWantMemory terms events (content side bytes) = Unit {0}
+CanWantMemory terms events (broken side rule) = ⊥
+CanWantMemory terms events (show number uri text) =
+    answer_of number (kept terms uri (calls events)) (held terms uri (calls events)) ≡ Waits
 
 -- **the next event offends the rule of this fault**, after these events, unless memory ran out
 abbrev pub RefusesFor : Raw → Terms → List Event → Fault → Type 0
 RefusesFor raw terms events (faults.Rule rule) =
     (event : Event) × Reads raw event × (offence terms events event ≡ Some rule)
-RefusesFor raw terms events faults.Memory = CanWantMemory raw
+RefusesFor raw terms events faults.Memory = CanWantMemory terms events raw

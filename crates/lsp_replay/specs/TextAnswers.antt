@@ -58,6 +58,7 @@ abbrev pub answer_run : (Terms → List Heard → Heard → Option TextAnswer)
     → (Terms → List Heard → Tail → TextAnswer) → Run
 answer_run answer_at answer_behind = record {
   says = λ terms rests before h out. out ≡ said_of (answer_at terms before h);
+  wants = λ terms before h. is_some (answer_at terms before h);
   stops = λ terms before h. is_some (answer_at terms before h);
   ends = λ terms before h outcome. (answer : TextAnswer)
       × (answer_at terms before h ≡ Some answer) × EndsAs answer outcome;

@@ -1,6 +1,6 @@
 //! What a run says of a log.
 ghost use Rattle.std.specs.Prelude.{◌≡◌, ◌++◌, ◌∷◌, ◌+◌, ◌<◌, ◌^◌, [], List, IfOk, length};
-ghost use Rattle.std.specs.Prelude.{string_bytes};
+ghost use Rattle.std.specs.Prelude.{OnErr, string_bytes, true};
 ghost use Rattle.lsp_docs.specs.Documents.{Terms};
 ghost use Rattle.lsp_replay.specs.Run.{Run};
 ghost use Rattle.lsp_replay.specs.Telling.{Closes, FitsRests, IsEnd, IsSeen, Says, Stood};
@@ -27,9 +27,13 @@ pub trait Account {
     /// Says what there is to say of the next event.
     ///
     /// # Errors
-    /// `Memory` where memory was refused.
+    /// `Memory` where memory was refused, which the run wants of such an event.
     fn event(&mut self, held: &Events<Lined>, seen: Seen<'_>, text: &mut String) -> Result<Flow>
         ensures asked { asked self.new ≡ asked self.old }
+        ensures memory { OnErr result ((terms : Terms) (before : List Heard) (h : Heard)
+            → stands self.old terms before
+            → IsSeen held.now.session held.now.docs held.now.counts seen.entry terms before h
+            → (run (asked self.old)).wants terms before h ≡ true) }
         ensures says { IfOk result (λ flow. (terms : Terms) (before : List Heard) (h : Heard)
             → stands self.old terms before
             → IsSeen held.now.session held.now.docs held.now.counts seen.entry terms before h

@@ -156,7 +156,8 @@ fn wanted_results(session: &Session) -> Results
 /// it is followed.
 ///
 /// # Errors
-/// `Rule` by the least of 201 to 209 that the content breaks, and `Memory` where memory was refused.
+/// `Rule` by the least of 201 to 209 that the content breaks, and `Memory` where memory was
+/// refused.
 pub(crate) fn read_into(
     session: &Session,
     messages: &mut MessageReader,

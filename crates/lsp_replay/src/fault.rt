@@ -1,5 +1,5 @@
 //! Why an event is refused.
-ghost use Rattle.std.specs.Prelude.{◌≡◌, IfOk};
+ghost use Rattle.std.specs.Prelude.{◌≡◌, IfOk, OnErr};
 
 use lsp_docs::DocFault;
 use lsp_rpc::{Memory, Result, RpcFault};
@@ -18,7 +18,8 @@ impl Fault {
     /// # Errors
     /// `Memory` where memory was refused.
     pub(crate) fn rule(self) -> Result<u16>
-        ensures { IfOk result (λ rule. self ≡ Fault.Rule rule) }
+        ensures rule { IfOk result (λ rule. self ≡ Fault.Rule rule) }
+        ensures memory { OnErr result (self ≡ Fault.Memory) }
     {
         match self {
             Fault::Rule(rule) => Ok(rule),

@@ -2,9 +2,9 @@
 //! it breaks after the events before it, and the result of those that keep the rules.
 //!
 //! `LogEvents` gives the events of a log one after another. `Events` stands for the events that it
-//! heard: one that breaks a rule is refused, and leaves what is held as it was, so that the next can
-//! be heard after those before it. `pass` reads a log, hears its events, skips each that offends, and
-//! lends them all to the `Account` of a run, whose text it writes.
+//! heard: one that breaks a rule is refused, and leaves what is held as it was, so that the next
+//! can be heard after those before it. `pass` reads a log, hears its events, skips each that
+//! offends, and lends them all to the `Account` of a run, whose text it writes.
 #![tactic(auto)]
 
 mod account;

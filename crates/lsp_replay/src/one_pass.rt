@@ -1,6 +1,7 @@
 //! One pass over a log.
 ghost use Rattle.std.specs.Prelude.{◌≡◌, ◌++◌, ◌∷◌, ◌+◌, ◌<◌, ◌^◌, [], List, IfOk, IfErr, length};
 ghost use Rattle.std.specs.Prelude.{None, OnErr, OnOk, Option, Some, option_map, string_bytes};
+ghost use Rattle.std.specs.Prelude.{true};
 ghost use Rattle.lsp_docs.specs.Documents.{Terms};
 ghost use Rattle.lsp_frame.specs.Bounds.{IsInRange};
 ghost use Rattle.lsp_frame.specs.Sink.{Writes};
@@ -8,7 +9,7 @@ ghost use Rattle.lsp_frame.specs.Told.{Told};
 ghost use Rattle.lsp_rpc.specs.View.{act_view, message_view};
 ghost use Rattle.lsp_replay.specs.Apart as apart;
 ghost use Rattle.lsp_replay.specs.LogEvents.{Opens};
-ghost use Rattle.lsp_replay.specs.Run.{Passes, Steps};
+ghost use Rattle.lsp_replay.specs.Run.{Passes, Steps, WantsAt};
 ghost use Rattle.lsp_replay.specs.Telling.{Comes, DueAtEnd, DueOf, MaySpeak, Saw, ShowsFault};
 ghost use Rattle.lsp_replay.specs.Telling.{Stood};
 ghost use Rattle.lsp_replay.specs.Telling.{kept_before, rule_of};
@@ -126,7 +127,7 @@ fn close<W: Sink, A: Account>(
     ensures { (terms : Terms) (heard : List Heard) → A.stands account.old terms heard
         → Stood terms reading.old.held.session reading.old.held.docs reading.old.held.counts heard
         → length heard < 2 ^ 63
-        → Steps (W.told writer.old) (W.told writer.new)
+        → Steps (W.told writer.old) (W.told writer.new) (Unit {0})
         (DueAtEnd (A.run (A.asked account.old)) terms heard reading.old.log end) result }
 {
     let text = &mut reading.text;
@@ -149,6 +150,7 @@ fn tell<W: Sink, A: Account>(
         → Comes (raw_view raw.entry) terms held.old.session held.old.docs held.old.counts before h
         (A.stands account.old terms before)
         → Steps (W.told writer.old) (W.told writer.new)
+        (WantsAt (A.run (A.asked account.old)) terms before h)
         (DueOf (A.run (A.asked account.old)) terms before h (ShowsFault raw.entry)
         (A.stands account.new terms (before ++ h ∷ [])) held.new.session held.new.docs
         held.new.counts) result }
@@ -167,6 +169,10 @@ fn see<A: Account>(
     text: &mut String,
 ) -> Result<Flow>
     ensures asked { A.asked account.new ≡ A.asked account.old }
+    ensures memory { OnErr result ((terms : Terms) (before : List Heard) (h : Heard)
+        → Comes (raw_view raw.entry) terms held.old.session held.old.docs held.old.counts before h
+        (A.stands account.old terms before)
+        → WantsAt (A.run (A.asked account.old)) terms before h) }
     ensures saw { IfOk result (λ flow. (terms : Terms) (before : List Heard) (h : Heard)
         → Comes (raw_view raw.entry) terms held.old.session held.old.docs held.old.counts before h
         (A.stands account.old terms before)
@@ -266,6 +272,10 @@ fn see_shown<A: Account>(
     text: &mut String,
 ) -> Result<Flow>
     ensures asked { A.asked account.new ≡ A.asked account.old }
+    ensures memory { OnErr result ((terms : Terms) (before : List Heard) (h : Heard)
+        → Comes (placed.show version uri.now shown.now) terms held.old.session held.old.docs
+        held.old.counts before h (A.stands account.old terms before)
+        → WantsAt (A.run (A.asked account.old)) terms before h) }
     ensures saw { IfOk result (λ flow. (terms : Terms) (before : List Heard) (h : Heard)
         → Comes (placed.show version uri.now shown.now) terms held.old.session held.old.docs
         held.old.counts before h (A.stands account.old terms before)
@@ -298,7 +308,8 @@ fn see_shown<A: Account>(
     }
 }
 
-/// Counts an event that breaks this rule, and adds what an account says of it.
+/// Counts an event that breaks this rule, and adds what an account says of it. What was tried of it
+/// is let go of.
 #[cold]
 #[inline(never)]
 fn skip<A: Account>(
@@ -310,6 +321,16 @@ fn skip<A: Account>(
     text: &mut String,
 ) -> Result<Flow>
     ensures asked { A.asked account.new ≡ A.asked account.old }
+    ensures let_go { OnOk result (held.new.tried ≡ None) }
+    ensures memory { OnErr result ((terms : Terms) (before : List Heard) (h : Heard)
+        → Comes (raw_view raw.entry) terms held.old.session held.old.docs held.old.counts before h
+        (A.stands account.old terms before)
+        → rule_of terms before h ≡ Some rule
+        → MaySpeak (kept_before terms before) h.note.event
+        (option_map (λ s. s.now) spoken.entry)
+        → MayTry terms (kept_before terms before) rule (option_map (λ s. s.now) spoken.entry)
+        held.old.tried
+        → (A.run (A.asked account.old)).wants terms before h ≡ true) }
     ensures saw { IfOk result (λ flow. (terms : Terms) (before : List Heard) (h : Heard)
         → Comes (raw_view raw.entry) terms held.old.session held.old.docs held.old.counts before h
         (A.stands account.old terms before)

@@ -35,8 +35,8 @@ pub enum Seen<'a> {
         answer: Match,
     },
     /// An event that offends, by its least rule, and is skipped: session and documents are those
-    /// before it. Where it is a message (301 to 702), it is given as one that is kept, with what was
-    /// tried of its changes.
+    /// before it. Where it is a message (301 to 702), it is given as one that is kept, with what
+    /// was tried of its changes.
     Offence {
         raw: Raw<'a>,
         rule: u16,

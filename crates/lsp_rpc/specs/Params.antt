@@ -1,4 +1,5 @@
--- The methods whose params are read, and what is read of them. A shape answers `None` where the value does not have it.
+-- The methods whose params are read, and what is read of them. A shape answers `None` where the
+-- value does not have it.
 use Rattle.std.specs.Prelude.{ℕ, ℤ, pos, negsuc, List, [], ◌∷◌, if◌then◌else◌, Option, Some, None, option_map, option_and_then, codes}
 use Rattle.std.specs.Str.{bytes_eq}
 use Rattle.serde_json.specs.Data.{Data, Items, no_items, item}

@@ -1,9 +1,10 @@
 -- The survey of a log whose events were all told, and the steps of the account that lists it.
-use Rattle.std.proofs.Common.{ℕ, List, Option, refl, ◌≡◌, ◌<◌, ◌^◌, Bool, false, [], ◌∷◌, ◌++◌}
-use Rattle.std.proofs.Common.{length, Some, None, sym, ap, subst, ◌∙◌, append-nil, append_assoc}
-use Rattle.std.proofs.Common.{arith, length-append}
+use Rattle.std.proofs.Common.{ℕ, List, Option, refl, ◌≡◌, ◌<◌, ◌^◌, Bool, false, true, [], ◌∷◌}
+use Rattle.std.proofs.Common.{◌++◌, length, Some, None, sym, ap, subst, ◌∙◌, append-nil}
+use Rattle.std.proofs.Common.{append_assoc, arith, length-append}
 use Rattle.std.specs.List.{cons_option}
-use Rattle.std.specs.Prelude.{map, option_map, unwrap_or}
+use Rattle.std.specs.Prelude.{◌||◌, is_some, map, not, option_map, unwrap_or}
+use Rattle.std.proofs.Math.Bool.{or-true}
 use Rattle.std.proofs.lemmas.List.{length-map, map-append}
 use Rattle.lsp_frame.specs.Bounds.{Bounds}
 use Rattle.lsp_frame.specs.declared.format.Format.{Format}
@@ -29,10 +30,11 @@ use Rattle.lsp_verdict.proofs.Offences.Offending.{nothing_listed}
 use Rattle.lsp_verdict.proofs.Offences.Steps.{offences-push}
 use Rattle.lsp_docs.specs.Documents.{Terms}
 use Rattle.lsp_types.specs.declared.side.Side.TheVariants.{Editor, Server}
-use Rattle.lsp_survey.specs.Lost.{follows_at}
-use Rattle.lsp_survey.specs.Reported.{IsTally, closing, count_line, lines_of, verdict_lines}
+use Rattle.lsp_survey.specs.Lost.{follows_at, may_lose}
+use Rattle.lsp_survey.specs.Reported.{IsTally, closing, count_line, is_every, lines_of}
+use Rattle.lsp_survey.specs.Reported.{verdict_lines}
 use Rattle.lsp_survey.specs.SessionEnds.{ends_held, ends_of}
-use Rattle.lsp_survey.specs.SurveyRun.{event_said, kept_line, said_by, survey_run}
+use Rattle.lsp_survey.specs.SurveyRun.{event_said, has_lines, kept_line, said_by, survey_run}
 use Rattle.lsp_survey.specs.declared.offence_count.OffenceCount.{OffenceCount}
 use Rattle.lsp_survey.specs.declared.survey.Options.{Options}
 use Rattle.lsp_survey.proofs.SessionEnds.{ends_few, given_few, ends_fit}
@@ -108,6 +110,26 @@ module _ (terms : Terms) (before : List Heard) (h : Heard) where
         no = no_by (heard_events before) h.note.event rule;
         follows = same i;
       }
+
+  -- its lines may want memory
+  wants_on : (options : Options) (rule : Option ℕ) → rule_of terms before h ≡ rule
+      → has_lines options (option_map (offence_by terms notes h.note) rule) ≡ true
+      → (survey_run options).wants terms before h ≡ true
+  wants_on options rule is has =
+      let noted = may_lose h.raw (rule_of terms before h) in
+      ap (λ (o : Option ℕ). noted || has_lines options
+      (option_map (offence_by terms notes h.note) o)) is ∙ ap (λ b. noted || b) has ∙ or-true noted
+
+  pub kept_wants : (options : Options) → rule_of terms before h ≡ None
+      → is_some options.lines ≡ true → (survey_run options).wants terms before h ≡ true
+  kept_wants options is has = wants_on options None is has
+
+  pub offence_wants : (options : Options) (rule : ℕ) (o : Offence)
+      → rule_of terms before h ≡ Some rule → o ≡ offence_by terms notes h.note rule
+      → (is_every options.listing || not o.follows) ≡ true
+      → (survey_run options).wants terms before h ≡ true
+  offence_wants options rule o is own has = wants_on options (Some rule) is
+      (ap (λ (x : Offence). is_every options.listing || not x.follows) (sym own) ∙ has)
 
   -- the offences are counted with it
   module _ (old new : OffenceCount) (tally : IsTally old (offences terms notes)) where

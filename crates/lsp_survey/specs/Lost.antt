@@ -1,6 +1,6 @@
 -- What the offences so far have left lost.
-use Rattle.std.specs.Prelude.{◌≡◌, ◌&&◌, ◌||◌, ◌∷◌, ◌++◌, [], ℕ, List, Bool, false, Option, None}
-use Rattle.std.specs.Prelude.{Some, is_some, option_and_then, option_map, unwrap_or}
+use Rattle.std.specs.Prelude.{◌≡◌, ◌&&◌, ◌||◌, ◌∷◌, ◌++◌, [], ℕ, List, Bool, false, true, Option}
+use Rattle.std.specs.Prelude.{None, Some, is_some, option_and_then, option_map, unwrap_or}
 use Rattle.lsp_docs.specs.Calls.{Call}
 use Rattle.lsp_docs.specs.State as docs
 use Rattle.lsp_docs.specs.Documents.{Terms}
@@ -23,7 +23,7 @@ use Rattle.lsp_verdict.specs.Offences.{IsNoted, Noted, asks, breaks_handshake, b
 use Rattle.lsp_verdict.specs.Offences.{brought_by, events_of, follows, is_handshake_lost}
 use Rattle.lsp_verdict.specs.Offences.{is_initialized_by, is_lost, is_passed, is_reopened}
 use Rattle.lsp_verdict.specs.Offences.{is_unheard, kept_of, may_answer, wants_handshake, wants_text}
-use Rattle.lsp_verdict.specs.Placed.{Raw}
+use Rattle.lsp_verdict.specs.Placed.{Raw, broken, content, show}
 use Rattle.lsp_verdict.specs.declared.counts.Counts.{Counts}
 
 -- **on these terms this is lost after these events**
@@ -34,6 +34,13 @@ pub record AreLosses (terms : Terms) (l : Losses) (notes : List Noted) : Type 0 
   pub passed : (side : Side) (k : Id) → has_passed l.passed side (id_view k)
       ≡ is_passed terms side (id_view k) notes
   pub unheard : l.unheard ≡ is_unheard terms notes
+
+-- what is lost by an event that breaks this rule, or is kept, may have to be noted: nothing by a
+-- fault of the frames, or a snapshot that is kept
+abbrev pub may_lose : Raw → Option ℕ → Bool
+may_lose (content side bytes) rule = true
+may_lose (broken side by) rule = false
+may_lose (show number uri text) rule = is_some rule
 
 -- the session holds the messages of the kept ones of these events
 abbrev pub HoldsSent : session.State → Terms → List Noted → Type 0

@@ -58,8 +58,8 @@ abbrev pub closing : List Offence → Option Verdict → Summary → List ℕ
 closing [] bad s = report (first_verdict [] bad s)
 closing (o ∷ found) bad s = bad_lines bad ++ found_line (o ∷ found)
 
--- the first of them: the report of the verdict where nothing is listed, else those of a fault of the
--- log
+-- the first of them: the report of the verdict where nothing is listed, else those of a fault of
+-- the log
 abbrev pub verdict_lines : List Offence → Option Verdict → Summary → List ℕ
 verdict_lines [] bad s = report (first_verdict [] bad s)
 verdict_lines (o ∷ found) bad s = bad_lines bad

@@ -1,11 +1,12 @@
 -- What is said where all that is wrong with a log is listed.
-use Rattle.std.specs.Prelude.{◌≡◌, List, [], ◌∷◌, ◌++◌, ℕ, map, false, Option, Some, None}
-use Rattle.std.specs.Prelude.{unwrap_or}
+use Rattle.std.specs.Prelude.{◌≡◌, ◌||◌, List, [], ◌∷◌, ◌++◌, ℕ, map, Bool, false, Option, Some}
+use Rattle.std.specs.Prelude.{None, is_some, not, unwrap_or}
 use Rattle.lsp_docs.specs.Documents.{Terms}
 use Rattle.lsp_log.specs.declared.fault.LogCode.{LogCode}
 use Rattle.lsp_replay.specs.Run.{IsJudged, Run}
-use Rattle.lsp_survey.specs.Lost.{AreLosses}
-use Rattle.lsp_survey.specs.Reported.{IsTally, closing, lines_of}
+use Rattle.lsp_replay.specs.Telling.{rule_of}
+use Rattle.lsp_survey.specs.Lost.{AreLosses, may_lose}
+use Rattle.lsp_survey.specs.Reported.{IsTally, closing, is_every, lines_of}
 use Rattle.lsp_survey.specs.SessionEnds.{all_found, all_verdict, ends_of}
 use Rattle.lsp_survey.specs.declared.survey.Options.{Options}
 use Rattle.lsp_survey.specs.declared.survey.Survey.{Survey}
@@ -36,6 +37,11 @@ event_said options terms before h =
     said_by options (heard_events before) h.note.event
     (offence_at terms (notes_of before) h.note)
 
+-- there are such lines
+abbrev pub has_lines : Options → Option Offence → Bool
+has_lines options None = is_some options.lines
+has_lines options (Some o) = is_every options.listing || not o.follows
+
 -- the lines of the end, where this is listed of it, and what closes the report
 abbrev pub end_said : Options → Terms → List Heard → Option (ℕ × LogCode) → List Verdict → List ℕ
 end_said options terms heard fault ends =
@@ -46,6 +52,8 @@ end_said options terms heard fault ends =
 abbrev pub survey_run : Options → Run
 survey_run options = record {
   says = λ terms rests before h out. out ≡ event_said options terms before h;
+  wants = λ terms before h. may_lose h.raw (rule_of terms before h)
+      || has_lines options (offence_at terms (notes_of before) h.note);
   stops = λ terms before h. false;
   ends = λ terms before h outcome. ⊥;
   closes = λ terms heard tail out outcome.

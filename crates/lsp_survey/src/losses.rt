@@ -1,16 +1,16 @@
 //! What the offences so far have left lost, so that later ones follow from them.
 ghost use Rattle.std.specs.Prelude.{◌≡◌, ◌&&◌, ◌||◌, ◌==◌, ℕ, ℤ, [], List, Option, None, Some};
-ghost use Rattle.std.specs.Prelude.{IfOk, false, option_map};
+ghost use Rattle.std.specs.Prelude.{IfOk, OnErr, false, option_map, true};
 ghost use Rattle.lsp_docs.specs.Calls.{shows};
 ghost use Rattle.lsp_docs.specs.Documents.{Terms};
 ghost use Rattle.lsp_replay.specs.Standing.{Holds};
-ghost use Rattle.lsp_replay.specs.Telling.{IsSeen};
+ghost use Rattle.lsp_replay.specs.Telling.{IsSeen, rule_of};
 ghost use Rattle.lsp_rpc.specs.Message.{Message as AMessage};
 ghost use Rattle.lsp_rpc.specs.View.{act_view, message_view};
 ghost use Rattle.lsp_session.specs.Sent.{other_side, response_id, same_side};
 ghost use Rattle.lsp_session.specs.State.{Stands};
 ghost use Rattle.lsp_survey.specs.Lost.{AreLosses, HoldsSent, IsMessageOf, IsNotedIn, Offends};
-ghost use Rattle.lsp_survey.specs.Lost.{WasTold, follows_of};
+ghost use Rattle.lsp_survey.specs.Lost.{WasTold, follows_of, may_lose};
 ghost use Rattle.lsp_survey.specs.Notes.{is_noted, is_noted_lost, has_any, sides_failed};
 ghost use Rattle.lsp_types.specs.declared.change.SyncKind.{SyncKind};
 ghost use Rattle.lsp_types.specs.declared.position.Encoding.{Encoding};
@@ -71,10 +71,13 @@ impl Losses {
     /// `Memory` where memory was refused.
     #[inline(always)]
     pub fn tell(&mut self, held: &Events<Lined>, seen: Seen<'_>) -> Result<bool>
-        ensures { IfOk result (λ late. (terms : Terms) (before : List Heard) (h : Heard)
+        ensures told { IfOk result (λ late. (terms : Terms) (before : List Heard) (h : Heard)
             → AreLosses terms self.old (notes_of before)
             → IsSeen held.now.session held.now.docs held.now.counts seen.entry terms before h
             → WasTold self.new terms before h late) }
+        ensures memory { OnErr result ((terms : Terms) (before : List Heard) (h : Heard)
+            → IsSeen held.now.session held.now.docs held.now.counts seen.entry terms before h
+            → may_lose h.raw (rule_of terms before h) ≡ true) }
     {
         match seen {
             Seen::Message { side, spoken, .. } => {
@@ -101,11 +104,12 @@ impl Losses {
         rule: u16,
         spoken: Option<&Spoken>,
     ) -> Result<bool>
-        ensures { IfOk result (λ late. (terms : Terms) (before : List Heard) (h : Heard)
+        ensures told { IfOk result (λ late. (terms : Terms) (before : List Heard) (h : Heard)
             → AreLosses terms self.old (notes_of before)
             → Offends held.now.session held.now.docs held.now.counts (raw_view raw.entry) rule
             (option_map (λ s. s.now) spoken.entry) terms before h
             → WasTold self.new terms before h late) }
+        ensures memory { OnErr result (may_lose (raw_view raw.entry) (Some rule) ≡ true) }
     {
         match raw {
             Raw::Content { side, content } => {

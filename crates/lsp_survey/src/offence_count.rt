@@ -1,6 +1,6 @@
 //! How many offences were found, and what is said of them at the end of a log.
 ghost use Rattle.std.specs.Prelude.{◌≡◌, ◌++◌, ◌∷◌, ◌<◌, ◌^◌, ◌||◌, not, [], List, None, IfOk};
-ghost use Rattle.std.specs.Prelude.{OnOk, length, map, option_map, string_bytes};
+ghost use Rattle.std.specs.Prelude.{OnErr, OnOk, length, map, option_map, string_bytes, true};
 ghost use Rattle.lsp_docs.specs.Documents.{Terms};
 ghost use Rattle.lsp_replay.specs.Telling.{Stood};
 ghost use Rattle.lsp_survey.specs.Reported.{IsTally, count_line, is_every, lines_of, verdict_lines};
@@ -66,6 +66,7 @@ impl OffenceCount {
             → IsTally self.new (found ++ offence_view offence.now ∷ []) }
         ensures said { OnOk result (string_bytes text.new ≡ string_bytes text.old
             ++ lines_of listing (offence_view offence.now ∷ [])) }
+        ensures memory { OnErr result ((is_every listing || not offence.now.follows) ≡ true) }
     {
         self.add(offence);
         if !is_listed(listing, offence.follows) {

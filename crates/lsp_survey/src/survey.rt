@@ -1,6 +1,7 @@
 //! What is said where all that is wrong with a log is listed, and its kept events are shown or
 //! aren't.
-ghost use Rattle.std.specs.Prelude.{◌≡◌, ◌++◌, [], List, None, OnOk, string_bytes};
+ghost use Rattle.std.specs.Prelude.{◌≡◌, ◌++◌, [], List, None, OnErr, OnOk, is_some, string_bytes};
+ghost use Rattle.std.specs.Prelude.{true};
 ghost use Rattle.lsp_docs.specs.Documents.{Terms};
 ghost use Rattle.lsp_replay.specs.Telling.{IsSeen, rule_of};
 ghost use Rattle.lsp_survey.specs.SurveyRun.{SurveyAsked, SurveyStands, kept_line, survey_run};
@@ -50,11 +51,12 @@ impl Survey {
 
     /// Adds the line of an event that is kept to a text, where those are shown.
     fn show(&self, held: &Events<Lined>, seen: Seen<'_>, text: &mut String) -> Result<()>
-        ensures { OnOk result ((terms : Terms) (before : List Heard) (h : Heard)
+        ensures shown { OnOk result ((terms : Terms) (before : List Heard) (h : Heard)
             → IsSeen held.now.session held.now.docs held.now.counts seen.entry terms before h
             → rule_of terms before h ≡ None
             → string_bytes text.new ≡ string_bytes text.old
             ++ kept_line self.now.options.lines (heard_events before) h.note.event) }
+        ensures memory { OnErr result (is_some self.now.options.lines ≡ true) }
     {
         match self.options.lines {
             Some(lines) => push_kept_line(text, lines, held, seen),

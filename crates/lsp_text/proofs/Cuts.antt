@@ -186,7 +186,8 @@ AreEnded-before (l ∷ ls) s h apart = (
       (λ r. apart (last_is_return-append false (spelled l) (text_of ls) ∙ last_is_return-any (last_is_return false (spelled l)) false (text_of ls) r)),
 )
 
--- **Where the last line of a text is empty, its other lines stay before a text whose first LF joins no CR.**
+-- **Where the last line of a text is empty, its other lines stay before a text whose first LF joins
+-- no CR.**
 pub lines_of-joined : (t s : List ℕ) (front : List Line) → lines_of t ≡ front ++ open_line [] ∷ [] → (last_is_return false t ≡ true → starts_with_feed s ≡ false) →
     lines_of (t ++ s) ≡ front ++ lines_of s
 lines_of-joined t s front are apart =

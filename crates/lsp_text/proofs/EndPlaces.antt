@@ -132,7 +132,8 @@ moved_behind from removed inserted n m (b ∷ bs) le e =
     (cond-true _ _ _ (lt-ltb from (n + 1) (omega arith)) ∙ here)
     (moved_behind from removed inserted (n + 1) (m + 1) bs (omega arith) (omega arith))
 
--- **Where bytes without a line end take the place of others without one, the places after them move.**
+-- **Where bytes without a line end take the place of others without one, the places after them
+-- move.**
 pub places_moved : (a r s c : List ℕ) → ends_with_return false a ≡ false → ends_in r ≡ 0 → ends_in s ≡ 0 →
     places_behind 0 ((a ++ s) ++ c) ≡ map (moved_place (length a) (length r) (length s)) (places_behind 0 ((a ++ r) ++ c))
 places_moved a r s c last none_r none_s =

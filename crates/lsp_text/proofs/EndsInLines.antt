@@ -74,7 +74,8 @@ AreEnded-more (x ∷ ls) l s h apart =
       AreEnded-more ls l s h.2 (λ r. apart (last ∙ last_return_any (last_is_return (last_is_return false x.text) x.end) rest r)),
     )
 
--- a text that goes on with a line end: the lines before that, the line that it ends, and those after it
+-- a text that goes on with a line end: the lines before that, the line that it ends, and those
+-- after it
 pub record GoesOn (u e r : List ℕ) : Type 0 where
   pub front : List Line
   pub last : List ℕ

@@ -1,4 +1,5 @@
--- The place at which two texts, lists of characters, first differ, and the line in which a place lies.
+-- The place at which two texts, lists of characters, first differ, and the line in which a place
+-- lies.
 use Rattle.std.specs.Prelude.{◌≡◌, ◌≢◌, ◌⊎◌, ◌<◌, ◌≤◌, ◌+◌, ◌-◌, ◌^◌, ℕ, List, ◌∷◌, ◌++◌, length, take, drop, min, slice_get}
 use Rattle.lsp_types.specs.declared.position.Encoding.{Encoding}
 use Rattle.lsp_types.specs.declared.position.Position.{Position}
@@ -24,7 +25,8 @@ pub record IsOnlyDifference (a b : List ℕ) (n : ℕ) : Type 0 where
 abbrev pub OneDifference : Type 0
 OneDifference = (a b : List ℕ) → ((a ≡ b) × ((n : ℕ) → IsFirstDifference a b n → ⊥)) ⊎ ((n : ℕ) × IsOnlyDifference a b n)
 
--- the number of the line in which a place lies: all lines but those from there on. A place between a CR and a LF lies in the line that both end, and the end of a text in its last line
+-- the number of the line in which a place lies: all lines but those from there on. A place between
+-- a CR and a LF lies in the line that both end, and the end of a text in its last line
 abbrev pub line_number_at : List ℕ → ℕ → ℕ
 line_number_at t n = length (lines_of t) - length (lines_of (drop n t))
 
@@ -47,7 +49,8 @@ pub record LiesInsideEnd (t : List ℕ) (n : ℕ) : Type 0 where
   pub text : t ≡ before ++ 13 ∷ 10 ∷ after
   pub place : n ≡ length before + 1
 
--- every other place of a text is the one that its position denotes, where the position's numbers are below 2^32
+-- every other place of a text is the one that its position denotes, where the position's numbers
+-- are below 2^32
 abbrev pub PlacesHavePositions : Type 0
 PlacesHavePositions =
     (enc : Encoding) (t : List ℕ) (n : ℕ) → n ≤ length t → (LiesInsideEnd t n → ⊥) →

@@ -48,7 +48,8 @@ abbrev pub and_then : Result (List ℕ) ℕ → (List ℕ → Result (List ℕ) 
 and_then (Err rule) f = Err rule
 and_then (Ok t) f = f t
 
--- changes in order, each of the text that the one before left: the text, or the rule that refuses the first change that fails
+-- changes in order, each of the text that the one before left: the text, or the rule that refuses
+-- the first change that fails
 abbrev pub applied : ℕ → Encoding → List ℕ → List Edit → Result (List ℕ) ℕ
 applied limit enc t [] = Ok t
 applied limit enc t (c ∷ cs) = and_then (changed enc t c.span c.text limit) (λ u. applied limit enc u cs)

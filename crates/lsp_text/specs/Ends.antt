@@ -20,7 +20,8 @@ abbrev pub places_behind : ℕ → List ℕ → List ℕ
 places_behind n [] = []
 places_behind n (b ∷ bs) = cond (is_end b bs) ((n + 1) ∷ places_behind (n + 1) bs) (places_behind (n + 1) bs)
 
--- where `old` are the places after the line ends of the first `from` bytes, `new` are those of the first `to`
+-- where `old` are the places after the line ends of the first `from` bytes, `new` are those of the
+-- first `to`
 abbrev pub ArePlacesTo : List ℕ → ℕ → List ℕ → ℕ → List ℕ → Type 0
 ArePlacesTo bs from old to new =
     new ++ places_behind to (drop to bs) ≡ old ++ places_behind from (drop from bs)

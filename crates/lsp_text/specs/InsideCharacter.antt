@@ -19,7 +19,8 @@ pub record LiesInside (enc : Encoding) (t : List ℕ) (p : Position) (c : ℕ) :
   pub there : slice_get (lines_of t) p.line ≡ Some line
   pub falls : FallsInside enc line.text p.column c
 
--- **a position denotes no place exactly where it lies inside a character**, and it lies inside no two
+-- **a position denotes no place exactly where it lies inside a character**, and it lies inside no
+-- two
 pub record PositionsLieInside : Type 0 where
   pub inside : (enc : Encoding) (t : List ℕ) (p : Position) → (place_of enc t p ≡ None) ↔ ((c : ℕ) × LiesInside enc t p c)
   pub once : (enc : Encoding) (t : List ℕ) (p : Position) (c d : ℕ) → LiesInside enc t p c → LiesInside enc t p d → c ≡ d

@@ -89,7 +89,8 @@ pub record AreJoined (t s : List ℕ) : Type 0 where
   pub first : lines_of t ≡ front ++ open_line [] ∷ []
   pub both : lines_of (t ++ s) ≡ front ++ lines_of s
 
--- **The law of re-cutting,** where `t` ends with a line end, except where it ends with CR and `s` begins with LF
+-- **The law of re-cutting,** where `t` ends with a line end, except where it ends with CR and `s`
+-- begins with LF
 abbrev pub LinesOfJoined : Type 0
 LinesOfJoined = (t s : List ℕ) → EndsWithLineEnd t → (EndsWith t (13 ∷ []) → starts_with_feed s ≡ false) → AreJoined t s
 

@@ -19,13 +19,15 @@ pub record IsSkipped (enc : Encoding) (line : List ℕ) (column bytes left : ℕ
   pub boundary : IsCharBoundary line bytes
   pub left_is : units enc (chars (take bytes line)) + left ≡ column
 
--- the units that a byte of UTF-8 brings: outside UTF-8 those of the character that it begins, or none
+-- the units that a byte of UTF-8 brings: outside UTF-8 those of the character that it begins, or
+-- none
 abbrev pub byte_units : Encoding → ℕ → ℕ
 byte_units Utf8 b = 1
 byte_units Utf16 b = cond (nat_lt b 128) 1 (cond (nat_lt b 192) 0 (cond (nat_lt b 240) 1 2))
 byte_units Utf32 b = cond (nat_lt b 128) 1 (cond (nat_lt b 192) 0 1)
 
--- the first bytes of a line, which may end inside a character, bring no more units than the column, and `left` is what they leave of it
+-- the first bytes of a line, which may end inside a character, bring no more units than the column,
+-- and `left` is what they leave of it
 pub record IsPassed (enc : Encoding) (line : List ℕ) (column bytes left : ℕ) : Type 0 where
   pub within : bytes ≤ length line
   pub left_is : sum_by (byte_units enc) (take bytes line) + left ≡ column

@@ -50,7 +50,8 @@ pub record IsFoundBefore (ps : List (List ℕ)) (place : ℕ) (f : Found) : Type
   pub within : f.left ≤ length (part_at ps f.index)
   pub front : (0 < f.left) ⊎ (joined (take f.index ps) ≡ [])
 
--- an edit stays in this part, and leaves its first byte after others and its last byte before others
+-- an edit stays in this part, and leaves its first byte after others and its last byte before
+-- others
 pub record IsSpot (ps : List (List ℕ)) (from to : ℕ) (s : Spot) : Type 0 where
   pub index : s.index < length ps
   pub from_is : length (joined (take s.index ps)) + s.from ≡ from

@@ -20,7 +20,8 @@ abbrev pub units : Encoding → List ℕ → ℕ
 units enc [] = 0
 units enc (c ∷ cs) = units_of_char enc c + units enc cs
 
--- the characters of a line before a column: all where the column is at least the line's units, and none such where it lies inside a character
+-- the characters of a line before a column: all where the column is at least the line's units, and
+-- none such where it lies inside a character
 abbrev pub place_in_line : Encoding → List ℕ → ℕ → Option ℕ
 place_in_line enc [] column = Some 0
 place_in_line enc (c ∷ cs) column =
@@ -40,7 +41,8 @@ place_in enc ls p = place_at enc ls p (slice_get ls p.line)
 abbrev pub place_of : Encoding → List ℕ → Position → Option ℕ
 place_of enc t p = place_in enc (lines_of t) p
 
--- `k` is a place of the line at `p.line`, before its end, and the units before it there are the column, or the line's where the column is no less
+-- `k` is a place of the line at `p.line`, before its end, and the units before it there are the
+-- column, or the line's where the column is no less
 pub record IsPlaceInLine (enc : Encoding) (ls : List Line) (p : Position) (k : ℕ) : Type 0 where
   pub before : List Line
   pub line : Line

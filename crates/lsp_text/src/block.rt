@@ -1,9 +1,9 @@
 //! Blocks of a text, each a part that texts share.
 //!
-//! A block ends anywhere but inside a character or between CR and LF: so the line ends of a text are
-//! those of its blocks, and sums add up. It keeps the places after its line ends, two bytes each:
-//! searching 2 KB for the n-th line end takes 1,660 instructions. Its table is made with it, since
-//! an edit that made it would search bytes that its steps do not count.
+//! A block ends anywhere but inside a character or between CR and LF: so the line ends of a text
+//! are those of its blocks, and sums add up. It keeps the places after its line ends, two bytes
+//! each: searching 2 KB for the n-th line end takes 1,660 instructions. Its table is made with it,
+//! since an edit that made it would search bytes that its steps do not count.
 
 ghost use Rattle.std.specs.Prelude.{◌≡◌, ◌+◌, ◌-◌, ◌<◌, ◌≤◌, ◌^◌, ◌++◌, length, map, take, drop};
 ghost use Rattle.std.specs.Prelude.{None, MatchOption, IfSome, IfOk, OnOk, OnErr, EachIndex};
@@ -351,7 +351,8 @@ fn replace_in_place(
     Ok(())
 }
 
-/// Makes room in a text, unless it has that, for its bytes once some are removed and others inserted.
+/// Makes room in a text, unless it has that, for its bytes once some are removed and others
+/// inserted.
 fn make_room(text: &mut String, removed: usize, inserted: usize) -> Result<(), AllocError>
     ensures { string_bytes text.new ≡ string_bytes text.old }
 {

@@ -1,7 +1,7 @@
 //! Parts in chunks, which texts share: blocks, or smaller chunks.
 //!
-//! A copy of a text adds one owner to all chunks. The first write to a shared chunk makes a new one,
-//! and adds one owner to each of its parts. So a version of a document of 15 MB takes 4,800
+//! A copy of a text adds one owner to all chunks. The first write to a shared chunk makes a new
+//! one, and adds one owner to each of its parts. So a version of a document of 15 MB takes 4,800
 //! instructions with two levels of chunks, and 11,700 with one of 16 to 32 parts.
 
 ghost use Rattle.std.specs.Prelude.{◌≡◌, ◌<◌, ◌^◌, ◌++◌, length, map, take, drop, IfOk, OnOk, OnErr};

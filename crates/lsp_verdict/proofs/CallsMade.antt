@@ -1,4 +1,5 @@
--- Where no event offends, the calls on documents are accepted, versions rise, and held texts are those of the snapshots.
+-- Where no event offends, the calls on documents are accepted, versions rise, and held texts are
+-- those of the snapshots.
 use Rattle.std.proofs.Common.{◌≡◌, ℕ, Bool, true, false, List, [], ◌∷◌, ◌++◌, Option, Some, None, refl, sym, ap, subst, ◌∙◌, append-nil}
 use Rattle.std.specs.Prelude.{ℤ, int_lt, not, if◌then◌else◌, map, option_and_then, unwrap_or}
 use Rattle.std.specs.List.{cons_option}

@@ -1,4 +1,5 @@
--- A log within its limit has no more events than a u64 counts, so the counts of its verdict are exact.
+-- A log within its limit has no more events than a u64 counts, so the counts of its verdict are
+-- exact.
 use Rattle.std.proofs.Common.{◌≡◌, ℕ, ◌+◌, ◌≤◌, Bool, true, false, List, [], ◌∷◌, ◌++◌, Option, Some, None, refl, ap, length, map, length-append, arith}
 use Rattle.std.specs.List.{flat_map, AllZip, cons_option}
 use Rattle.std.specs.Prelude.{filter, if◌then◌else◌}

@@ -1,4 +1,5 @@
--- Where no event offends, the messages keep the rules of a session, and responses match their requests.
+-- Where no event offends, the messages keep the rules of a session, and responses match their
+-- requests.
 use Rattle.std.proofs.Common.{◌≡◌, ℕ, Bool, true, false, List, [], ◌∷◌, ◌++◌, length, None, refl, sym, ap, subst, ◌∙◌, append_assoc, append-nil, arith}
 use Rattle.std.proofs.lemmas.List.{length-append}
 use Rattle.std.proofs.lemmas.List.Elements.{filter_map-append}

@@ -1,4 +1,5 @@
--- A request of the editor's is open at the end just where no later message answers it, and `exit` was sent just where a message is it.
+-- A request of the editor's is open at the end just where no later message answers it, and `exit`
+-- was sent just where a message is it.
 use Rattle.std.proofs.Common.{◌≡◌, ℕ, ◌+◌, Bool, true, false, not, ◌&&◌, ◌||◌, true≢false, List, [], ◌∷◌, ◌++◌, length, Option, Some, None, is_some, refl, sym, ap, ◌∙◌}
 use Rattle.std.specs.Prelude.{if◌then◌else◌}
 use Rattle.std.proofs.lemmas.Bool.{and_parts}

@@ -54,7 +54,8 @@ pub record IsBroughtToEnd (events : List Event) : Type 0 where
   pub answered : AllAnswered (sent_in events)
   pub exited : HasExit (sent_in events)
 
--- 303 names that a request of the editor's has no answer; where each has one, 407 that `exit` was not sent
+-- 303 names that a request of the editor's has no answer; where each has one, 407 that `exit` was
+-- not sent
 abbrev pub NamesLack : List Event → Verdict → Type 0
 NamesLack events v =
     (HasUnanswered (sent_in events) × (v ≡ no_next rules.REQUEST_NOT_ANSWERED who.Editor events))

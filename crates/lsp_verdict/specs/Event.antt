@@ -14,7 +14,8 @@ use Rattle.lsp_text.specs.Edits.{Edit}
 use Rattle.lsp_docs.specs.Calls.{Call, opens, changes, closes, saves, shows}
 use Rattle.lsp_verdict.specs.LookBack.{each_of}
 
--- a message, with its side and what it means; a side's frame or content that breaks this rule; a snapshot of a URI, a version and a text. A URI is the bytes of its UTF-8, a text its characters
+-- a message, with its side and what it means; a side's frame or content that breaks this rule; a
+-- snapshot of a URI, a version and a text. A URI is the bytes of its UTF-8, a text its characters
 pub data Event : Type 0 where
   message : Sent → Event
   fault : Side → ℕ → Event

@@ -68,7 +68,8 @@ abbrev pub first_result : List Sent → Option Data
 first_result [] = None
 first_result (m ∷ later) = option_or (result_by m) (first_result later)
 
--- the response answers a request of the editor's, before which as many requests stand as responses of the server before the response: the k-th answers the k-th
+-- the response answers a request of the editor's, before which as many requests stand as responses
+-- of the server before the response: the k-th answers the k-th
 pub record AnswersInTurn (before : List Sent) (reply : Sent) : Type 0 where
   pub earlier : List Sent
   pub asked : Sent
@@ -84,7 +85,8 @@ pub record IsEarly (terms : Terms) (before : List Event) (m : Sent) : Type 0 whe
   pub clean : first_no terms (before ++ message m ∷ []) ≡ None
   pub unsettled : first_result (sent_in before) ≡ None
 
--- **Up to the server's first result, the k-th response answers the k-th request**, so what is agreed can be read off the server's own order.
+-- **Up to the server's first result, the k-th response answers the k-th request**, so what is
+-- agreed can be read off the server's own order.
 pub record HandshakeInTurn : Type 0 where
   -- each request of the editor is an `initialize`
   pub starts : (terms : Terms) (before : List Event) (m : Sent) → IsEarly terms before m → is_asked m ≡ true → is_initialize m.act ≡ true
@@ -109,7 +111,8 @@ is_order_rule rule =
     (nat_le rules.RESPONSE_TO_NO_OPEN_REQUEST rule && nat_le rule rules.ID_ALREADY_OPEN)
     || (nat_le rules.EDITOR_BEFORE_INITIALIZE rule && nat_le rule rules.SERVER_WHILE_INITIALIZE_OPEN)
 
--- the open documents with their versions and texts, the unmatched snapshots and what was agreed are the same
+-- the open documents with their versions and texts, the unmatched snapshots and what was agreed are
+-- the same
 pub record Agree (terms : Terms) (events others : List Event) (s t : Summary) : Type 0 where
   pub held : documents terms (calls events) ≡ documents terms (calls others)
   pub listed : s.documents ≡ t.documents

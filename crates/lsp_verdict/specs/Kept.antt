@@ -30,7 +30,8 @@ KeepsLifecycle events = (before after : List Event) (m : Sent) → events ≡ be
 
 -- ---- responses
 
--- the message at place j is a response that answers the request at place i, places among the messages counted from 0
+-- the message at place j is a response that answers the request at place i, places among the
+-- messages counted from 0
 pub record Answers (messages : List Sent) (i j : ℕ) : Type 0 where
   pub before : List Sent
   pub asked : Sent
@@ -64,7 +65,8 @@ pub record AnswersMatch (messages : List Sent) : Type 0 where
 
 -- ---- documents
 
--- **The versions of an open document rise**: a change is of an open document, and its version is greater than the held one.
+-- **The versions of an open document rise**: a change is of an open document, and its version is
+-- greater than the held one.
 abbrev pub VersionsRise : Terms → List Event → Type 0
 VersionsRise terms events =
     (before after : List Event) (m : Sent) (uri : List ℕ) (number : ℤ) (changes : List Change) → events ≡ before ++ message m ∷ after → m.act ≡ did_change uri number changes

@@ -53,7 +53,8 @@ abbrev pub merged : List Record → List Record
 merged [] = []
 merged (first ∷ records) = put first (merged records)
 
--- **How bytes are cut into records doesn't matter**: where two lists of records differ only by this, their events are the same.
+-- **How bytes are cut into records doesn't matter**: where two lists of records differ only by
+-- this, their events are the same.
 abbrev pub CutsDontMatter : Type 0
 CutsDontMatter = (limits : Bounds) (records others : List Record) (events more : List Event) → merged records ≡ merged others → IsSession limits records events → IsSession limits others more → events ≡ more
 
@@ -74,7 +75,8 @@ snapshots_in [] = []
 snapshots_in (chunk side bytes ∷ records) = snapshots_in records
 snapshots_in (shown number uri text ∷ records) = snapshot uri number (chars text) ∷ snapshots_in records
 
--- **The events of a side are those of its joined stream**: in order, what the contents of all its bytes are read as, and then the fault of their frames.
+-- **The events of a side are those of its joined stream**: in order, what the contents of all its
+-- bytes are read as, and then the fault of their frames.
 abbrev pub SidesAreStreams : Type 0
 SidesAreStreams =
     (limits : Bounds) → IsInRange limits → (records : List Record) (events : List Event) (side : Side) (contents : List (List ℕ)) (rest : List ℕ) (fault : Option ℕ)
@@ -96,7 +98,8 @@ EventsFirst =
     (limits : Bounds) → IsInRange limits → (format : Format) (log rest : List ℕ) (records : List Record) (events : List Event) (v : Verdict) → BeginsLog limits format log records rest → IsSession limits records events
     → (whole : IsVerdict limits log v) → (later : List Event) × (whole.final.events ≡ events ++ later)
 
--- **An offence decides**: where an event of the records that a log begins with offends, the No at the first is the verdict on the log.
+-- **An offence decides**: where an event of the records that a log begins with offends, the No at
+-- the first is the verdict on the log.
 abbrev pub OffenceDecides : Type 0
 OffenceDecides =
     (limits : Bounds) → IsInRange limits → (format : Format) (log rest : List ℕ) (records : List Record) (v : Verdict) → BeginsLog limits format log records rest → Offends limits format records v → IsVerdict limits log v
@@ -115,7 +118,8 @@ OneVerdict = (limits : Bounds) → IsInRange limits → (log : List ℕ) (v w : 
 abbrev pub YesMeansKept : Type 0
 YesMeansKept = (limits : Bounds) → IsInRange limits → (log : List ℕ) (s : Summary) → IsVerdict limits log (yes s) → IsKept limits log
 
--- **Yes is said wherever nothing offends**, the log has no fault and both streams are complete frames.
+-- **Yes is said wherever nothing offends**, the log has no fault and both streams are complete
+-- frames.
 abbrev pub KeptMeansYes : Type 0
 KeptMeansYes =
     (limits : Bounds) (log : List ℕ) (format : Option Format) (records : List Record) (events : List Event) → IsLog limits log format records None → IsSession limits records events → NothingOffends (log_terms limits format) events
@@ -229,7 +233,8 @@ pub record IsVerdictKeepingNone (limits : Bounds) (log : List ℕ) (v : Verdict)
 abbrev pub IsOfFormatOne : Bounds → List ℕ → Type 0
 IsOfFormatOne limits log = (rest : List ℕ) × (take limits.log log ≡ first_line One ++ rest)
 
--- **The verdict on a log of format 1 keeps nothing**: it is that of the definitions that keep no version.
+-- **The verdict on a log of format 1 keeps nothing**: it is that of the definitions that keep no
+-- version.
 abbrev pub FormatOneKeepsVerdict : Type 0
 FormatOneKeepsVerdict = (limits : Bounds) → IsInRange limits → (log : List ℕ) (v : Verdict) → IsOfFormatOne limits log
     → (IsVerdict limits log v → IsVerdictKeepingNone limits log v) × (IsVerdictKeepingNone limits log v → IsVerdict limits log v)
@@ -285,7 +290,8 @@ ListedOffend = (terms : Terms) (notes : List Noted) (o : Offence) → IsListed t
 
 -- ---- all that is listed of a log
 
--- **The verdict on a log is the first that is listed**; where nothing is listed, it is its fault, else Yes with the same summary.
+-- **The verdict on a log is the first that is listed**; where nothing is listed, it is its fault,
+-- else Yes with the same summary.
 abbrev pub SurveyAgrees : Type 0
 SurveyAgrees =
     (completeness : Completeness) (limits : Bounds) → IsInRange limits → (log : List ℕ) (found : List Offence) (bad : Option Verdict) (s : Summary) (v : Verdict)

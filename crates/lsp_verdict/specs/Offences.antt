@@ -350,7 +350,8 @@ follows terms before n rule =
 
 -- ---- all offences
 
--- an offence: the No by it, its numbers as `check` counts them, and whether it follows from an earlier one
+-- an offence: the No by it, its numbers as `check` counts them, and whether it follows from an
+-- earlier one
 pub record Offence : Type 0 where
   pub no : Verdict
   pub follows : Bool

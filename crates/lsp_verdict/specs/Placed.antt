@@ -59,7 +59,8 @@ abbrev pub new_fault : Side → Option ℕ → Option ℕ → List Raw
 new_fault side None (Some rule) = broken side rule ∷ []
 new_fault side _ _ = []
 
--- what a side's stream has with more bytes, and did not have before: the contents that these bytes make whole, and then a fault
+-- what a side's stream has with more bytes, and did not have before: the contents that these bytes
+-- make whole, and then a fault
 pub record Brings (limits : Bounds) (side : Side) (before more : List ℕ) (now : List Raw) : Type 0 where
   pub contents : List (List ℕ)
   pub rest : List ℕ

@@ -85,7 +85,8 @@ abbrev pub failures_written : {X : Type 0} → Result X RunFault → ℕ → ℕ
 failures_written (Ok answer) before = before
 failures_written (Err fault) before = sink_failures_after fault before
 
--- reading broke off, before anything was written: the source gave no more than it may, and it alone may have failed
+-- reading broke off, before anything was written: the source gave no more than it may, and it alone
+-- may have failed
 pub record BreaksOff (limits : Bounds) (start now : Told) (fault : RunFault) : Type 0 where
   pub of_read : OfRead limits start now (λ log. Unit {0})
   pub failures : now.failures ≡ failures_after fault start.failures
@@ -135,7 +136,8 @@ pub record CountsFaults {X : Type 0} (limits : Bounds) (io : Ports)
 
 -- ---- what is known of the log read
 
--- of the bytes that the source gave since the start, the reader of a log gave these records, and no end; with a record it knows the format
+-- of the bytes that the source gave since the start, the reader of a log gave these records, and no
+-- end; with a record it knows the format
 pub record IsAt (r : reader.State) (start now : Told) (records : List Record) : Type 0 where
   pub bytes : List ℕ
   pub gave : Gave start now bytes

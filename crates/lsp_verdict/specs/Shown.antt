@@ -35,7 +35,8 @@ message_words event m = decimal event ∷ side_name m.side ∷ words_of m.messag
 abbrev pub snapshot_words : ℕ → List ℕ → ℤ → List ℕ → List (List ℕ)
 snapshot_words event uri version text = decimal event ∷ codes "snapshot" ∷ signed_decimal version ∷ decimal (byte_len text) ∷ quoted uri ∷ []
 
--- of which document a message says something: its URI, and the version that it is opened at or changed to
+-- of which document a message says something: its URI, and the version that it is opened at or
+-- changed to
 abbrev pub document_words : Act → List (List ℕ)
 document_words (did_open uri version text) = quoted uri ∷ signed_decimal version ∷ []
 document_words (did_change uri version edits) = quoted uri ∷ signed_decimal version ∷ []
@@ -49,7 +50,8 @@ abbrev pub words_behind : Lines → ℕ → List (List ℕ) → List (List ℕ)
 words_behind Short number words = []
 words_behind Long number words = decimal number ∷ words
 
--- the line of an event, by its number among all and that among those of its side; a fault has none, since it offends, and the report tells it
+-- the line of an event, by its number among all and that among those of its side; a fault has none,
+-- since it offends, and the report tells it
 abbrev pub event_line : Lines → ℕ → ℕ → Event → Option (List ℕ)
 event_line lines event number (message m) = Some (line (message_words event m ++ words_behind lines number (document_words m.act)))
 event_line lines event number (fault side rule) = None
@@ -101,7 +103,8 @@ missing_answer (no rule who count event) = if rule == rules.STREAM_ENDS_INSIDE_F
     then too_few else refused (no rule who count event)
 missing_answer v = refused v
 
--- the text that is held for a URI just after the editor's n-th message, where these are the events up to it
+-- the text that is held for a URI just after the editor's n-th message, where these are the events
+-- up to it
 abbrev pub text_answer : Terms → List ℕ → Verdict → Option (List Event) → TextAnswer
 text_answer terms uri v (Some events) = if is_some (first_no terms events) then missing_answer v else held_answer (held terms uri (calls events))
 text_answer terms uri v None = missing_answer v

@@ -27,7 +27,8 @@ use Rattle.lsp_types.specs.declared.rules.TheConstants as rules
 abbrev pub document_rule : Terms → List Event → Event → Option ℕ
 document_rule terms before event = option_and_then (call_rule terms (calls before)) (call_at before event)
 
--- the least rule that the event offends after the events before it: of a message 301 to 504 come first
+-- the least rule that the event offends after the events before it: of a message 301 to 504 come
+-- first
 abbrev pub offence : Terms → List Event → Event → Option ℕ
 offence terms before (fault side rule) = Some rule
 offence terms before (message m) = option_or (rule_after (sent_in before) m) (document_rule terms before (message m))

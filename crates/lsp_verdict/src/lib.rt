@@ -39,7 +39,7 @@ pub use laws::{
 };
 pub use lines::Lines;
 pub use listing::Listing;
-pub use names::{kind_name, side_name, who_name};
+pub use names::{encoding_name, kind_name, side_name, who_name};
 pub use offence::{Offence, found_report, offence_report};
 pub use offence_laws::{
     all_are_kept, first_listed, kept_are_others, kept_offend_nowhere, listed_offend,

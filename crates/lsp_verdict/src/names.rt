@@ -27,7 +27,7 @@ pub fn who_name(who: Who) -> &'static str
 }
 
 /// The word for an encoding, `-` if none was agreed (LSP 3.17, PositionEncodingKind).
-pub(crate) fn encoding_name(encoding: Option<Encoding>) -> &'static str
+pub fn encoding_name(encoding: Option<Encoding>) -> &'static str
     ensures { result.now ≡ encoding_name encoding }
 {
     match encoding {

@@ -13,8 +13,8 @@ pub enum Raw<'a> {
         side: Side,
         content: &'a [u8],
     },
-    /// A fault of a side's frames, by its rule, 101 to 106, and the bytes of the side after its last
-    /// whole frame. They reach at least far enough to show the header part that has the fault.
+    /// A fault of a side's frames, by its rule, 101 to 106, and the bytes of the side after its
+    /// last whole frame. They reach at least far enough to show the header part that has the fault.
     Broken {
         side: Side,
         rule: u16,

@@ -1,10 +1,15 @@
 //! Which command explains a No.
+use crate::shown_name::ShownName;
 use lsp_command::{Request, Task};
 use lsp_judge::Completeness;
 use lsp_types::LineEnds;
 
 /// Says which command explains the No of `check` on this file, or on standard input.
-pub(crate) fn show_explaining<R: Eprint>(rt: &R, request: &Request<'_>, file: Option<&str>) {
+pub(crate) fn show_explaining<R: Eprint>(
+    rt: &R,
+    request: &Request<'_>,
+    file: Option<&ShownName<'_>>,
+) {
     let (all, completeness) = match request.task {
         Task::Check(completeness) => ("", completeness),
         Task::Survey(completeness, _) => (" --all", completeness),
@@ -19,8 +24,8 @@ pub(crate) fn show_explaining<R: Eprint>(rt: &R, request: &Request<'_>, file: Op
         LineEnds::Exact => "",
     };
     let _ = match file {
-        Some(path) => {
-            eprintln!(rt; "lspcheck: hint: lspcheck explain{all}{complete}{ends} {path} says why")
+        Some(name) => {
+            eprintln!(rt; "lspcheck: hint: lspcheck explain{all}{complete}{ends} {name} says why")
         }
         None => eprintln!(rt; "lspcheck: hint: lspcheck explain{all}{complete}{ends} says why"),
     };

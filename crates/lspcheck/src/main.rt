@@ -14,6 +14,7 @@
 mod explaining;
 mod progress;
 mod several;
+mod shown_name;
 mod wrong_words;
 
 use clap::error::ErrorKind;
@@ -21,18 +22,20 @@ use explaining::show_explaining;
 pub use lsp_command::status_of;
 use lsp_command::{
     BufferedInput, BufferedOutput, Hint, Pace, Request, Slip, Supply, TaskOutcome, hint_of,
-    remark_of, report_apart, request_of, run_through, status_of_task, status_of_words, uri_alone,
+    lacks_comparison, misuse_of, remark_of, report_apart, request_of, run_through,
+    status_of_request, status_of_task, status_of_words, uri_alone,
 };
 use lsp_judge::RunFault;
-use progress::{MakingWay, Progress, Watched};
-use several::status_of_several;
+use progress::Progress;
+use several::status_of_each;
+use shown_name::ShownName;
 use std::alloc::Global;
 use std::fs::OpenFile;
 use std::io::{IsTerminal, Read};
 use std::process::ExitCode;
 use std::rt::{Clock, Env, Files};
 use std::{env, fs, io};
-use wrong_words::{show_slip, status_of_wrong_words};
+use wrong_words::{show_slip, status_of_misuse, status_of_wrong_words};
 
 /// The status where the verdict is a No.
 const NO: u8 = 1;
@@ -84,13 +87,12 @@ fn run_on<R: Clock + Print + Eprint + AllocGlobal, I: Read + Drop>(
     progress: &Progress<'_, R>,
 ) -> Ended {
     let alloc = rt.alloc();
-    let supply = Supply::new();
-    let watched = Watched::new(progress, input);
-    let Ok(mut input) = BufferedInput::new(alloc, watched, &request.task, &supply) else {
+    let supply = Supply::watched_by(progress);
+    let Ok(mut input) = BufferedInput::new(alloc, input, &request.task, &supply) else {
         return Ended::by(RunFault::Memory);
     };
-    let output = MakingWay::new(progress, io::writer(rt));
-    let Ok(mut output) = BufferedOutput::new(alloc, output, Pace::of(&request.task, &supply)) else {
+    let pace = Pace::of(&request.task, &supply);
+    let Ok(mut output) = BufferedOutput::new(alloc, io::writer(rt), pace) else {
         return Ended::by(RunFault::Memory);
     };
     let limits = request.limits();
@@ -161,25 +163,36 @@ fn show_report<R: Eprint + AllocGlobal>(
 }
 
 /// Says on standard error what may help.
-fn show_advice<R: Eprint>(rt: &R, file: Option<&str>, advice: Option<Advice>) {
+fn show_advice<R: Eprint>(rt: &R, file: Option<&ShownName<'_>>, advice: Option<Advice>) {
     let _ = match advice {
         None => Ok(()),
-        Some(Advice::Input(cause)) => {
-            let name = file.unwrap_or("standard input");
-            eprintln!(rt; "lspcheck: {name}: {cause}")
-        }
+        Some(Advice::Input(cause)) => match file {
+            Some(name) => eprintln!(rt; "lspcheck: {name}: {cause}"),
+            None => eprintln!(rt; "lspcheck: standard input: {cause}"),
+        },
         Some(Advice::Output(cause)) => eprintln!(rt; "lspcheck: standard output: {cause}"),
         Some(Advice::Hint(hint)) => eprintln!(rt; "lspcheck: hint: {hint}"),
     };
 }
 
-/// The status of a run, of which is said on standard error what is to be said. A failure of
-/// standard error changes nothing.
-fn status_shown<R: Eprint>(rt: &R, answer: &Result<TaskOutcome, RunFault>) -> u8 {
+/// Says on standard error the fixed words for how a run ended. A failure of standard error changes
+/// nothing.
+fn show_remark<R: Eprint>(rt: &R, answer: &Result<TaskOutcome, RunFault>) {
     if let Some(remark) = remark_of(answer) {
         let _ = rt.eprintln(remark);
     }
-    status_of_task(answer)
+}
+
+/// Says on standard error why a Yes has the status of a No.
+fn show_lack<R: Eprint>(rt: &R) {
+    let _ = eprintln!(rt; "lspcheck: --compared: no snapshot was compared");
+}
+
+/// The status of a fault, which is said on standard error.
+fn status_shown<R: Eprint>(rt: &R, fault: RunFault) -> u8 {
+    let answer = Err(fault);
+    show_remark(rt, &answer);
+    status_of_task(&answer)
 }
 
 /// Runs, and writes to standard error what there is to report. Where the words left something out,
@@ -196,12 +209,22 @@ fn status_of_run<R: Clock + Files + io::Input + Print + Eprint + AllocGlobal>(
         Some(Advice::Hint(_)) if has_slip => None,
         advice => advice,
     };
-    let status = status_shown(rt, &show_report(rt, request, ended.answer));
-    show_advice(rt, request.file, advice);
-    if is_no && terminals.error {
-        show_explaining(rt, request, request.file);
+    let answer = show_report(rt, request, ended.answer);
+    show_remark(rt, &answer);
+    if lacks_comparison(request, &answer) {
+        show_lack(rt);
     }
-    status
+    let file = shown_file(rt.alloc(), request);
+    show_advice(rt, file.as_ref(), advice);
+    if is_no && terminals.error {
+        show_explaining(rt, request, file.as_ref());
+    }
+    status_of_request(request, &answer)
+}
+
+/// The file as messages show it, unless it is standard input.
+fn shown_file<'a>(alloc: Global, request: &Request<'a>) -> Option<ShownName<'a>> {
+    Some(ShownName::new(alloc, request.file?))
 }
 
 /// The words of the command line.
@@ -216,21 +239,33 @@ fn answer<R: Clock + Env + Files + io::Input + Print + Eprint + AllocGlobal>(
     let words = match words_of(rt) {
         Ok(words) => words,
         Err(error) if error.kind() == io::ErrorKind::OutOfMemory => {
-            return status_shown(rt, &Err(RunFault::Memory));
+            return status_shown(rt, RunFault::Memory);
         }
         Err(_) => {
-            let _ = eprintln!(rt; "error: a word of the command line is not UTF-8");
+            let _ = eprintln!(rt; "lspcheck: error: a word of the command line is not UTF-8");
             return status_of_words(ErrorKind::InvalidValue);
         }
     };
     match request_of(rt.alloc(), words.as_slice()) {
         Err(error) => status_of_wrong_words(rt, words.as_slice(), &error),
-        Ok(request) if request.files.is_empty() => {
-            let has_slip = show_slip(rt, Slip::Uri, uri_alone(&request));
-            status_of_run(rt, &request, has_slip, terminals)
-        }
-        Ok(request) => status_of_several(rt, &request, terminals),
+        Ok(request) => status_of_what_is_asked(rt, &request, terminals),
     }
+}
+
+/// Does what is asked, if it can be done.
+fn status_of_what_is_asked<R: Clock + Files + io::Input + Print + Eprint + AllocGlobal>(
+    rt: &R,
+    request: &Request<'_>,
+    terminals: Terminals,
+) -> u8 {
+    if let Some(misuse) = misuse_of(request) {
+        return status_of_misuse(rt, misuse);
+    }
+    if request.files.is_empty() {
+        let has_slip = show_slip(rt, Slip::Uri, uri_alone(request));
+        return status_of_run(rt, request, has_slip, terminals);
+    }
+    status_of_each(rt, request, terminals)
 }
 
 fn main(rt: HostRuntime) -> ExitCode {

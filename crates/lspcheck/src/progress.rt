@@ -1,7 +1,6 @@
 //! How far the input was read: a line on standard error, where that is a terminal.
+use lsp_command::Watch;
 use std::cell::Cell;
-use std::io;
-use std::io::{Read, Write};
 use std::rt::Clock;
 use std::time::Instant;
 
@@ -45,15 +44,6 @@ impl<'a, R: Clock + Eprint> Progress<'a, R> {
         }
     }
 
-    /// Takes note of bytes that were read.
-    fn advance(&self, count: usize) {
-        self.read.set(self.read.get().saturating_add(count as u64));
-        if self.is_due() {
-            self.since.set(Instant::now(self.rt).ok());
-            self.show(self.read.get() / MEGABYTE);
-        }
-    }
-
     /// Whether a second has passed. A clock that fails ends the line.
     fn is_due(&self) -> bool {
         match self.since.get() {
@@ -82,9 +72,19 @@ impl<'a, R: Clock + Eprint> Progress<'a, R> {
             let _ = self.rt.eprint(BLANK);
         }
     }
+}
 
-    /// Makes way for text on standard output. Where that is a terminal the text itself shows how
-    /// far the run is, and the line does not come again.
+impl<R: Clock + Eprint> Watch for &Progress<'_, R> {
+    fn advance(&self, count: usize) {
+        self.read.set(self.read.get().saturating_add(count as u64));
+        if self.is_due() {
+            self.since.set(Instant::now(self.rt).ok());
+            self.show(self.read.get() / MEGABYTE);
+        }
+    }
+
+    /// Takes the line back for text on standard output. Where that is a terminal the text itself
+    /// shows how far the run is, and the line does not come again.
     fn make_way(&self) {
         if self.is_shared {
             self.clear();
@@ -99,56 +99,5 @@ fn percent_of(megabytes: u64, all: u64) -> u64 {
         100
     } else {
         megabytes.saturating_mul(100) / all
-    }
-}
-
-/// An input that reports how far it was read.
-#[derive(Drop)]
-pub(crate) struct Watched<'a, 'b, R, I> {
-    progress: &'b Progress<'a, R>,
-    input: I,
-}
-
-impl<'a, 'b, R, I> Watched<'a, 'b, R, I> {
-    /// The input, whose bytes read are counted in `progress`.
-    pub(crate) fn new(progress: &'b Progress<'a, R>, input: I) -> Watched<'a, 'b, R, I> {
-        Watched { progress, input }
-    }
-}
-
-impl<R: Clock + Eprint, I: Read> Read for Watched<'_, '_, R, I> {
-    ghost remaining = { λ w. I.remaining w.input };
-
-    fn read(&mut self, buffer: &mut [u8]) -> io::Result<usize> {
-        let count = self.input.read(buffer)?;
-        self.progress.advance(count);
-        Ok(count)
-    }
-}
-
-/// An output that takes the line back before it writes.
-#[derive(Drop)]
-pub(crate) struct MakingWay<'a, 'b, R, O> {
-    progress: &'b Progress<'a, R>,
-    output: O,
-}
-
-impl<'a, 'b, R, O> MakingWay<'a, 'b, R, O> {
-    /// The output, which takes the line of `progress` back before each write.
-    pub(crate) fn new(progress: &'b Progress<'a, R>, output: O) -> MakingWay<'a, 'b, R, O> {
-        MakingWay { progress, output }
-    }
-}
-
-impl<R: Clock + Eprint, O: Write> Write for MakingWay<'_, '_, R, O> {
-    ghost contents = { λ w. O.contents w.output };
-
-    fn write(&mut self, bytes: &[u8]) -> io::Result<usize> {
-        self.progress.make_way();
-        self.output.write(bytes)
-    }
-
-    fn flush(&mut self) -> io::Result<()> {
-        self.output.flush()
     }
 }

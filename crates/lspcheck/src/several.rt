@@ -1,7 +1,7 @@
 //! `check` of several files: a line for each, and the worst of their statuses.
-use crate::{Advice, Ended, Terminals, run, show_advice, show_explaining, status_shown};
-use clap::error::ErrorKind;
-use lsp_command::{Request, misuse_of, quoted_name, status_of_words, worse_of};
+use crate::shown_name::ShownName;
+use crate::{Advice, Ended, Terminals, run, show_advice, show_explaining, show_lack, show_remark};
+use lsp_command::{Request, lacks_comparison, status_of_request, worse_of};
 use lsp_judge::RunFault;
 use std::alloc::Global;
 use std::io;
@@ -35,26 +35,25 @@ fn run_named<R: Clock + Files + io::Input + Print + Eprint + AllocGlobal>(
     after_line(ended, println!(rt; "{name}: {fault}"))
 }
 
-/// The same, with the name of the file as it is written.
+/// The same, with the name of the file as it is shown.
 fn run_one<R: Clock + Files + io::Input + Print + Eprint + AllocGlobal>(
     rt: &R,
     request: &Request<'_>,
     file: &str,
+    shown: &ShownName<'_>,
     terminals: Terminals,
 ) -> Ended {
-    match quoted_name(rt.alloc(), file) {
-        Ok(Some(name)) => run_named(rt, request, file, name.as_str(), terminals),
-        Ok(None) => run_named(rt, request, file, file, terminals),
-        // Rust's escapes take no memory, unlike those of JSON.
-        Err(_) => {
+    match shown.as_str() {
+        Some(name) => run_named(rt, request, file, name, terminals),
+        None => {
             let fault = RunFault::Memory;
-            after_line(Ended::by(fault), println!(rt; "{file:?}: {fault}"))
+            after_line(Ended::by(fault), println!(rt; "{shown}: {fault}"))
         }
     }
 }
 
 /// Says on standard error what may help with this file, one of several.
-fn show_advice_on<R: Eprint>(rt: &R, file: &str, advice: Option<Advice>) {
+fn show_advice_on<R: Eprint>(rt: &R, file: &ShownName<'_>, advice: Option<Advice>) {
     match advice {
         Some(Advice::Hint(hint)) => {
             let _ = eprintln!(rt; "lspcheck: hint: {file}: {hint}");
@@ -65,39 +64,31 @@ fn show_advice_on<R: Eprint>(rt: &R, file: &str, advice: Option<Advice>) {
 
 /// Judges each file in turn, and writes a line for it before the next is opened. Only one is open
 /// at a time. It stops where standard output fails, since no other line could be written either.
-fn status_of_each<R: Clock + Files + io::Input + Print + Eprint + AllocGlobal>(
+pub(crate) fn status_of_each<R: Clock + Files + io::Input + Print + Eprint + AllocGlobal>(
     rt: &R,
     request: &Request<'_>,
     terminals: Terminals,
 ) -> u8 {
     let mut worst = 0;
     let mut has_no = false;
+    let mut has_lack = false;
     for file in request.files.as_slice() {
-        let ended = run_one(rt, request, file, terminals);
+        let shown = ShownName::new(rt.alloc(), file);
+        let ended = run_one(rt, request, file, &shown, terminals);
         has_no = has_no || ended.is_no();
-        worst = worse_of(worst, status_shown(rt, &ended.answer));
-        show_advice_on(rt, file, ended.advice);
+        has_lack = has_lack || lacks_comparison(request, &ended.answer);
+        worst = worse_of(worst, status_of_request(request, &ended.answer));
+        show_remark(rt, &ended.answer);
+        show_advice_on(rt, &shown, ended.advice);
         if let Err(RunFault::Write) = ended.answer {
             return worst;
         }
     }
+    if has_lack {
+        show_lack(rt);
+    }
     if has_no && terminals.error {
-        show_explaining(rt, request, Some("FILE"));
+        show_explaining(rt, request, Some(&ShownName::new(rt.alloc(), "FILE")));
     }
     worst
-}
-
-/// Judges several files, where what is asked of them can be done.
-pub(crate) fn status_of_several<R: Clock + Files + io::Input + Print + Eprint + AllocGlobal>(
-    rt: &R,
-    request: &Request<'_>,
-    terminals: Terminals,
-) -> u8 {
-    match misuse_of(request) {
-        None => status_of_each(rt, request, terminals),
-        Some(misuse) => {
-            let _ = eprintln!(rt; "error: {misuse}\n\nFor more information, try '--help'.");
-            status_of_words(ErrorKind::ArgumentConflict)
-        }
-    }
 }

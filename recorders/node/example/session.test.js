@@ -10,7 +10,7 @@ const fs = require("fs");
 const os = require("os");
 const path = require("path");
 const test = require("node:test");
-const { record, assertClean } = require("../lspcheck-recorder");
+const { record, assertClean, isInstalled } = require("../lspcheck-recorder.cjs");
 
 const URI = "file:///greeting.txt";
 
@@ -52,7 +52,7 @@ class Client {
   }
 }
 
-test("the session is clean", async () => {
+test("the session is clean", { skip: !isInstalled() }, async () => {
   const folder = fs.mkdtempSync(path.join(os.tmpdir(), "session-"));
   const child = spawn(process.execPath, [path.join(__dirname, "server.js")]);
   const log = record(child, folder);

@@ -16,7 +16,7 @@ from pathlib import Path
 HERE = Path(__file__).resolve().parent
 sys.path.insert(0, str(HERE.parent))
 
-from lspcheck_recorder import assert_clean, record  # noqa: E402
+from lspcheck_recorder import assert_clean, is_installed, record  # noqa: E402
 
 SERVER = [sys.executable, str(HERE / "server.py")]
 PIPES = {"stdin": subprocess.PIPE, "stdout": subprocess.PIPE}
@@ -52,6 +52,7 @@ class Document:
         return frame(method="textDocument/didChange", params=params)
 
 
+@unittest.skipUnless(is_installed(), "no lspcheck")
 class SessionTest(unittest.TestCase):
     def setUp(self):
         folder = tempfile.TemporaryDirectory()

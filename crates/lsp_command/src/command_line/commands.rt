@@ -127,7 +127,7 @@ fn mode<'a>(alloc: Global) -> Arg<'a>
         .help("What to write for each frame")
 }
 
-/// The command with its own options, and without those that every command has.
+/// The command with the first of its options.
 fn check_options<'a>(alloc: Global) -> Result<Command<'a>, AllocError>
     ensures { IfOk result (λ command. shape_of command ≡ check_options) }
 {
@@ -148,13 +148,18 @@ fn check_options<'a>(alloc: Global) -> Result<Command<'a>, AllocError>
             "every",
             "Lists every violation, consequences included",
         ))?
-        .arg(ignore_line_ends(alloc))
+        .arg(flag(
+            alloc,
+            "compared",
+            "Ends with status 1 after a yes for which no snapshot was compared",
+        ))
 }
 
 fn check<'a>(alloc: Global) -> Result<Command<'a>, AllocError>
     ensures { IfOk result (λ command. shape_of command ≡ check) }
 {
     check_options(alloc)?
+        .arg(ignore_line_ends(alloc))?
         .arg(quiet(alloc))?
         .arg(log_files(alloc))
 }

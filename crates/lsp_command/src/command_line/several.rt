@@ -1,20 +1,25 @@
-//! What is asked of several files, of which `check` writes a line each.
-ghost use Rattle.std.specs.Prelude.{◌≡◌, IfOk, map, nat_lt, option_map, string_bytes};
+//! What is asked and cannot be done, and how each of several files is named.
+ghost use Rattle.std.specs.Prelude.{◌≡◌, IfOk, map, option_map, string_bytes};
 ghost use Rattle.std.specs.List.{list_any};
+ghost use Rattle.std.specs.Str.{chars};
 ghost use Rattle.lsp_command.specs.Several.{inputs, is_listing, misuse_of, quoted_name};
+ghost use Rattle.lsp_command.specs.ShownText as shown;
 
 use crate::command_line::task::{Request, Task};
+use crate::shown::{is_control, shown_text};
 use lsp_rpc::{Memory, push_quoted};
 use std::alloc::Global;
 use std::fmt;
 
-/// What several files cannot be asked for.
+/// What is asked and cannot be done.
 #[derive(Clone, Copy, Debug, PartialEq, Eq)]
 pub enum Misuse {
-    /// A list of violations, since each file has one line.
+    /// A list of the violations of several files, each of which has one line.
     Listing,
-    /// Standard input twice, since it can be read once.
+    /// Standard input twice, since it can be read only once.
     InputTwice,
+    /// Both of the texts that differ, since one is written.
+    BothTexts,
 }
 
 impl fmt::Display for Misuse {
@@ -26,7 +31,8 @@ impl fmt::Display for Misuse {
     fn fmt<W: fmt::Write>(&self, f: &mut fmt::Formatter<W>) -> fmt::Result {
         f.write_str(match self {
             Misuse::Listing => "--all and --every list the violations of one FILE",
-            Misuse::InputTwice => "standard input ('-') can be read once",
+            Misuse::InputTwice => "standard input ('-') can be read only once",
+            Misuse::BothTexts => "the argument '--by-messages' cannot be used with '--in-editor'",
         })
     }
 }
@@ -45,7 +51,7 @@ fn inputs(files: &[&str]) -> usize
     files.iter().filter(|file| **file == "-").count()
 }
 
-/// What the request asks of several files that cannot be asked of them.
+/// What the request asks that cannot be done.
 pub fn misuse_of(request: &Request<'_>) -> Option<Misuse>
     ensures { result ≡ misuse_of request.now }
 {
@@ -55,18 +61,21 @@ pub fn misuse_of(request: &Request<'_>) -> Option<Misuse>
     if inputs(request.files.as_slice()) > 1 {
         return Some(Misuse::InputTwice);
     }
+    if request.both_texts {
+        return Some(Misuse::BothTexts);
+    }
     None
 }
 
-/// Whether a control character of ASCII below 32 is in the name, such as LF.
+/// Whether a control character is in the name, such as LF.
 fn has_control(name: &str) -> bool
-    ensures { result ≡ list_any (λ byte. nat_lt byte 32) name.now }
+    ensures { result ≡ list_any shown.is_control (chars name.now) }
 {
-    name.as_bytes().iter().any(|byte| *byte < 32)
+    name.chars().any(is_control)
 }
 
-/// The name of a file as JSON text, where a character below U+0020 is in it: so it is one line, and
-/// no terminal takes a part of it for a command.
+/// The name of a file as JSON text, where a control character is in it: so it is one line, and no
+/// terminal takes a part of it for a command.
 ///
 /// # Errors
 /// `Memory` where memory was refused.
@@ -79,5 +88,5 @@ pub fn quoted_name(alloc: Global, name: &str) -> Result<Option<String>, Memory>
     }
     let mut text = String::new(alloc);
     push_quoted(alloc, &mut text, name)?;
-    Ok(Some(text))
+    Ok(Some(shown_text(alloc, text.as_str())?))
 }

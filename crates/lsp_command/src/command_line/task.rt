@@ -67,6 +67,10 @@ pub struct Request<'a> {
     pub files: Vec<&'a str>,
     /// Whether no progress is shown.
     pub quiet: bool,
+    /// Whether the status tells a Yes for which no snapshot was compared from any other.
+    pub compared: bool,
+    /// Whether both texts that differ are asked for, where only one can be written.
+    pub both_texts: bool,
     /// Whether the texts of snapshots and saves are compared with their line ends.
     pub line_ends: LineEnds,
 }
@@ -91,6 +95,8 @@ impl<'a> Request<'a> {
             file: file_of(Some(file)),
             files: Vec::new(alloc),
             quiet: self.quiet,
+            compared: self.compared,
+            both_texts: self.both_texts,
             line_ends: self.line_ends,
         }
     }

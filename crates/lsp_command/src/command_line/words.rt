@@ -2,7 +2,7 @@
 ghost use Rattle.std.specs.Prelude.{◌≡◌, IfErr, IfOk, codes, map, option_map, string_bytes};
 ghost use Rattle.clap.specs.Words.{App, all_of, one_of, subcommand_rows_of};
 ghost use Rattle.lsp_command.specs.CommandLine.{IsCommandLine};
-ghost use Rattle.lsp_command.specs.Words.{Asks, HasTask, IsFlag, NumberIn, Refuses, RequestIn};
+ghost use Rattle.lsp_command.specs.Words.{Asks, AsksBoth, HasTask, IsFlag, NumberIn, Refuses, RequestIn};
 ghost use Rattle.lsp_command.specs.Words.{TaskIn, check_of, compared_of, completeness_of};
 ghost use Rattle.lsp_command.specs.Words.{explain_of, file_of};
 ghost use Rattle.lsp_command.specs.Words.{line_ends_of, lines_of, listing_of, mode_of, rows_in};
@@ -146,6 +146,15 @@ fn number_of(arguments: &ArgMatches<'_>) -> Option<NonZeroU64>
     NonZeroU64::new(arguments.get_one::<u64>("number")?)
 }
 
+/// Whether both texts that differ are asked for.
+fn asks_both(arguments: &ArgMatches<'_>) -> bool
+    ensures { AsksBoth (rows_in arguments.now) result }
+{
+    let by_messages = is_set(arguments, "by-messages");
+    let in_editor = is_set(arguments, "in-editor");
+    by_messages && in_editor
+}
+
 fn check_task<'a>(arguments: &ArgMatches<'_>) -> Task<'a>
     ensures { HasTask (codes "check") (rows_in arguments.now) result }
 {
@@ -257,12 +266,16 @@ fn request_in<'a>(
     let file = file_of(arguments.get_str("file"));
     let files = several_of(alloc, arguments)?;
     let quiet = is_set(arguments, "quiet");
+    let compared = is_set(arguments, "compared");
+    let both_texts = asks_both(arguments);
     let ignored = is_set(arguments, "ignore-line-ends");
     Ok(Some(Request {
         task,
         file,
         files,
         quiet,
+        compared,
+        both_texts,
         line_ends: line_ends_of(ignored),
     }))
 }

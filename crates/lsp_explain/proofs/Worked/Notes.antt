@@ -14,7 +14,7 @@ use Rattle.lsp_verdict.specs.Event.{Event}
 use Rattle.lsp_verdict.specs.Verdict.{no, summary, yes}
 use Rattle.lsp_verdict.specs.declared.verdict.Who.TheVariants.{Editor}
 use Rattle.lsp_verdict.proofs.Worked.Templates.{terms, E, S, I1, N1, START, OPEN, REQ, SH, RN, EX, T}
-use Rattle.lsp_explain.specs.SessionRemarks.{use_among, use_of}
+use Rattle.lsp_explain.specs.StandardMethods.{standard, use_among, use_of}
 use Rattle.lsp_explain.specs.Remarks.{noticed, remark_lines, remarks_of}
 
 -- the notes after a No at what comes next, and after a Yes
@@ -37,7 +37,7 @@ shutdown_notified : notes_before (START ++ E (NOTIFY (codes "shutdown")) ∷ EX 
     ≡ codes "note as-notification \"shutdown\" event 4 editor 3\n"
     ++ codes "note exit-without-shutdown event 5 editor 4\nnotes 2\n"
 unfolding value punctuate lex content word after_number number_of scan_numeral chars digits
-    escape_byte use_of use_among
+    escape_byte use_of use_among standard
 shutdown_notified = refl
 
 -- of a method the first is named, and of each side
@@ -49,27 +49,27 @@ asked_and_told : notes_before (START ++ E (NOTIFY (codes "textDocument/hover"))
     ++ codes "note by-server \"textDocument/didSave\" event 7 server 3\n"
     ++ codes "note by-editor \"workspace/configuration\" event 8 editor 5\nnotes 4\n"
 unfolding value punctuate lex content word after_number number_of scan_numeral chars digits
-    escape_byte use_of use_among
+    escape_byte use_of use_among standard
 asked_and_told = refl
 
 -- a method that LSP 3.17 does not have, and one that both sides send
 others : notes_before (START ++ E (NOTIFY (codes "$/own")) ∷ S (ASK (codes "own/ask"))
     ∷ S (NOTIFY (codes "$/progress")) ∷ REQ ∷ []) ≡ []
 unfolding value punctuate lex content word after_number number_of scan_numeral chars digits
-    escape_byte use_of use_among
+    escape_byte use_of use_among standard
 others = refl
 
 -- ---- `exit`
 
 stopped : notes_before (START ++ SH ∷ RN ∷ EX ∷ []) ≡ []
 unfolding value punctuate lex content word after_number number_of scan_numeral chars digits
-    escape_byte use_of use_among
+    escape_byte use_of use_among standard
 stopped = refl
 
 never_began : notes_before (EX ∷ [])
     ≡ codes "note exit-without-shutdown event 1 editor 1\nnotes 1\n"
 unfolding value punctuate lex content word after_number number_of scan_numeral chars digits
-    escape_byte use_of use_among
+    escape_byte use_of use_among standard
 never_began = refl
 
 -- ---- the older `offsetEncoding`
@@ -82,33 +82,33 @@ ANSWER name =
 another : notes_before (I1 ∷ ANSWER (codes "\"utf-8\"") ∷ N1 ∷ [])
     ≡ codes "note offset-encoding \"utf-8\"\nnotes 1\n"
 unfolding value punctuate lex content word after_number number_of scan_numeral chars digits
-    escape_byte use_of use_among
+    escape_byte use_of use_among standard
 another = refl
 
 the_agreed : notes_before (I1 ∷ ANSWER (codes "\"utf-16\"") ∷ N1 ∷ []) ≡ []
 unfolding value punctuate lex content word after_number number_of scan_numeral chars digits
-    escape_byte use_of use_among
+    escape_byte use_of use_among standard
 the_agreed = refl
 
 no_name : notes_before (I1 ∷ ANSWER (codes "null") ∷ N1 ∷ []) ≡ []
 unfolding value punctuate lex content word after_number number_of scan_numeral chars digits
-    escape_byte use_of use_among
+    escape_byte use_of use_among standard
 no_name = refl
 
 -- ---- snapshots
 
 nothing_shown : notes_after START ≡ codes "note nothing-compared\nnotes 1\n"
 unfolding value punctuate lex content word after_number number_of scan_numeral chars digits
-    escape_byte use_of use_among
+    escape_byte use_of use_among standard
 nothing_shown = refl
 
 only_waiting : notes_after (START ++ T 5 (codes "ab") ∷ [])
     ≡ codes "note nothing-compared\nnotes 1\n"
 unfolding value punctuate lex content word after_number number_of scan_numeral chars digits
-    escape_byte use_of use_among
+    escape_byte use_of use_among standard
 only_waiting = refl
 
 one_compared : notes_after (START ++ OPEN (codes "1") (codes "ab") ∷ T 1 (codes "ab") ∷ []) ≡ []
 unfolding value punctuate lex content word after_number number_of scan_numeral chars digits
-    escape_byte use_of use_among
+    escape_byte use_of use_among standard
 one_compared = refl

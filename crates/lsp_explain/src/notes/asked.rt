@@ -48,7 +48,8 @@ impl AskedRequests {
         last_place(&self.last, id).or(self.others.get(id).copied())
     }
 
-    /// Adds a request with this id, the event of this place. Usually the one before it was answered.
+    /// Adds a request with this id, the event of this place. Usually the one before it was
+    /// answered.
     pub(crate) fn add(&mut self, id: &Id, place: EventPlace) -> Result<()>
         ensures { OnOk result ((k : AnId) → place_in self.new (id_view k)
             ≡ (if same_id (id_view id.now) (id_view k) then Some place

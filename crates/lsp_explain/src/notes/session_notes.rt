@@ -1,10 +1,10 @@
 //! Which events sent and answered requests, and which event led to the phase.
-ghost use Rattle.std.specs.Prelude.{◌≡◌, [], List, OnOk};
+ghost use Rattle.std.specs.Prelude.{◌≡◌, [], List, OnOk, unwrap_or};
 ghost use Rattle.lsp_docs.specs.Documents.{Terms};
 ghost use Rattle.lsp_rpc.specs.Ident.{id_view};
 ghost use Rattle.lsp_rpc.specs.View.{act_view, message_view};
 ghost use Rattle.lsp_verdict.specs.Event.{Event};
-ghost use Rattle.lsp_explain.specs.Asking.{answered, asked, numbered, same_phase, since};
+ghost use Rattle.lsp_explain.specs.Asking.{answered, asked, leads, numbered, same_phase, since};
 ghost use Rattle.lsp_explain.specs.Renames.{RenamesIn};
 ghost use Rattle.lsp_explain.specs.SessionNoting.{AreNotes, Exchanges, Says, SessionStands};
 
@@ -83,7 +83,8 @@ impl SessionNotes {
     /// after which the session is in this phase, and the handshake is settled or is not.
     ///
     /// # Errors
-    /// `Memory` where memory was refused; nothing is then known of the requests.
+    /// `Memory` where memory was refused; nothing is then known of the requests, but the phase and
+    /// the event that led to it are.
     pub fn keep(
         &mut self,
         place: EventPlace,
@@ -93,6 +94,9 @@ impl SessionNotes {
         phase: Phase,
         done: bool,
     ) -> Result<()>
+        ensures phase { self.new.phase ≡ phase }
+        ensures since { self.new.since
+            ≡ unwrap_or (leads place self.old.phase phase) self.old.since }
         ensures said { OnOk result (Says place side (message_view spoken.now.message) phase done
             self.old self.new) }
         ensures renames { OnOk result (RenamesIn place side content.now

@@ -1,7 +1,7 @@
 //! The methods of LSP 3.17: which of them requests have, which notifications have, and which side
 //! sends them.
 ghost use Rattle.std.specs.Prelude.{◌≡◌, map};
-ghost use Rattle.lsp_explain.specs.SessionRemarks as spec;
+ghost use Rattle.lsp_explain.specs.StandardMethods as spec;
 
 use MethodUse::{Notification, Request, Shared};
 use lsp_rpc::Side::{self, Editor, Server};
@@ -112,14 +112,13 @@ pub(crate) const METHODS: [(&str, MethodUse); 90] = [
 ];
 
 /// What has this method; nothing where LSP 3.17 does not have it.
-#[tactic(auto, unfolding(crate::specs::SessionRemarks::use_of))]
 pub(crate) fn use_of(name: &str) -> Option<MethodUse>
     ensures { result ≡ spec.use_of name.now }
 {
     use_among(&METHODS, name)
 }
 
-#[tactic(auto, unfolding(crate::specs::SessionRemarks::use_among))]
+#[tactic(auto, unfolding(crate::specs::StandardMethods::use_among))]
 fn use_among(mut rows: &[(&str, MethodUse)], name: &str) -> Option<MethodUse>
     ensures { result ≡ spec.use_among (map (λ row. (row.0.now, row.1)) rows.entry.now) name.now }
 {

@@ -1,4 +1,5 @@
--- The place at which two texts first differ: there is one or they are equal, and it is found in their bytes.
+-- The place at which two texts first differ: there is one or they are equal, and it is found in
+-- their bytes.
 use Rattle.std.proofs.Common.{◌≡◌, ◌⊎◌, ◌<◌, ◌≤◌, ◌+◌, ℕ, zero, suc, List, [], ◌∷◌, ◌++◌, length, take, drop, refl, sym, ap, subst, ◌∙◌, inl, inr, ⊎_elim, arith, length-append}
 use Rattle.std.proofs.lemmas.List.{length-take-le, take-append-drop, take-take, take_at}
 use Rattle.std.proofs.lemmas.Bool.{cases_eq, cases_lt}
@@ -79,7 +80,8 @@ heads_differ a b (c ∷ cs) (d ∷ ds) at offset h left right e =
     (λ le. h.last (offset + n) (omega (arith, (len_utf8_bounds c).0)) le (IsCharBoundary-past_char a (encodes cs) offset c h.boundary.0 (IsUtf8-drop a offset h.left h.boundary) left))
     (cases_lt at (offset + n))
 
--- **Texts whose bytes first differ at `at` part at the last place before it at which one of them may be cut.**
+-- **Texts whose bytes first differ at `at` part at the last place before it at which one of them
+-- may be cut.**
 pub parts_before : (a b : List ℕ) (at offset : ℕ) → IsUtf8 a → IsUtf8 b → IsFirstDifference a b at → offset ≤ at → IsCharBoundary a offset →
     ((i : ℕ) → offset < i → i ≤ at → IsCharBoundary a i → ⊥) → IsParting a b offset
 parts_before a b at offset u v h le cut last =

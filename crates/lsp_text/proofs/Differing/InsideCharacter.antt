@@ -82,7 +82,8 @@ nowhere_lies enc t p (Some line) there h =
     let falls = nowhere_falls enc line.text p.column (none_added (length (text_of (take p.line (lines_of t)))) (place_in_line enc line.text p.column) h) in
     (falls.0, record { line = line; there = there; falls = falls.1 })
 
--- **A position denotes no place exactly where it lies inside a character, and it lies inside no two.**
+-- **A position denotes no place exactly where it lies inside a character, and it lies inside no
+-- two.**
 pub positions_lie_inside : PositionsLieInside
 positions_lie_inside =
     record {

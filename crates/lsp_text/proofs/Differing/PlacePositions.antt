@@ -16,7 +16,8 @@ no_end-drop (c ∷ cs) (suc n) h =
     let p : (is_feed c ≡ false) × (is_return c ≡ false) × (has_no_line_end cs ≡ true) = whole_parts (is_feed c) (is_return c) (has_no_line_end cs) h in
     no_end-drop cs n p.2
 
--- the place n of a text of these lines stands in one of them, not behind its text, and with it so many lines follow
+-- the place n of a text of these lines stands in one of them, not behind its text, and with it so
+-- many lines follow
 record StandsIn (ls : List Line) (t : List ℕ) (n : ℕ) : Type 0 where
   before : List Line
   line : Line

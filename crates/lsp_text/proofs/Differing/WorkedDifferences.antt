@@ -26,7 +26,8 @@ in_a_line_end = record { before = refl; here = λ e. true≢false (ap (is_char 1
 
 -- ---- where a place lies
 
--- the third character of a line is the fourth unit of UTF-16 and the eighth byte: a surrogate pair stands before it
+-- the third character of a line is the fourth unit of UTF-16 and the eighth byte: a surrogate pair
+-- stands before it
 abbrev behind_a_pair : List ℕ
 behind_a_pair = codes "x\n" ++ 233 ∷ 128512 ∷ codes "b\n"
 

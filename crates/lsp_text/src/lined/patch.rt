@@ -1,8 +1,8 @@
 //! What remains to be replaced when a text takes the place of one that it mostly repeats.
 //!
 //! Editors without incremental changes send the whole text after each key. The unchanged blocks at
-//! both ends stay, so versions share them, and no line end is looked for there. The comparison stops
-//! at the first character that differs from each end, so it costs little where most is new.
+//! both ends stay, so versions share them, and no line end is looked for there. The comparison
+//! stops at the first character that differs from each end, so it costs little where most is new.
 
 ghost use Rattle.std.specs.Prelude.{◌<◌, ◌^◌, length};
 ghost use Rattle.lsp_text.specs.Patches.{IsPatch};

@@ -1,12 +1,12 @@
 //! A text in blocks, and a window on it: a short text that replaces some of its bytes.
 //!
 //! Editors mostly make one edit near another. The first of them is made in the blocks; from the
-//! second on, they are made in a window around the place, so that the chunks and blocks stay as they
-//! are and copies of the text share them all: a version takes three allocations and 900 instructions,
-//! where a path of shared chunks takes eight and 2,400. An edit elsewhere closes the window first,
-//! which puts its changed bytes into the blocks, mostly those that were typed. Which bytes at its
-//! ends are unchanged is known by two numbers and not by comparing: an edit looks at no byte for it
-//! that its steps do not count.
+//! second on, they are made in a window around the place, so that the chunks and blocks stay as
+//! they are and copies of the text share them all: a version takes three allocations and 900
+//! instructions, where a path of shared chunks takes eight and 2,400. An edit elsewhere closes the
+//! window first, which puts its changed bytes into the blocks, mostly those that were typed. Which
+//! bytes at its ends are unchanged is known by two numbers and not by comparing: an edit looks at
+//! no byte for it that its steps do not count.
 
 ghost use Rattle.std.specs.Prelude.{◌≡◌, ◌+◌, ◌-◌, ◌<◌, ◌≤◌, ◌^◌, ◌++◌, None, length, take};
 ghost use Rattle.std.specs.Prelude.{drop, false, IfOk, IfSome, OnOk, OnErr, IsTrue, MatchOption};

@@ -308,7 +308,8 @@ last_rows h act =
 abbrev pub late_rows : List Sent → Act → List (Bool × Option ℕ)
 late_rows h act = ((state_of h).shutdown, Some 405) ∷ (is_initialize act, Some 404) ∷ last_rows h act
 
--- before the first result a request of the editor's comes while nothing is open, and is an `initialize`
+-- before the first result a request of the editor's comes while nothing is open, and is an
+-- `initialize`
 pub early_request : (h : List Sent) (id : Ident) (method : List ℕ) (params : Option Data) (act : Act) → act_at Editor (request id method params) ≡ Some act → rule_after h (starting id method params act) ≡ None
     → first_settled h ≡ None → (is_empty (open_initializes h) ≡ true) × (is_initialize act ≡ true)
 early_request h id method params act read none early =

@@ -1,4 +1,5 @@
--- The handshake of a session in which nothing offends: how far it has come, and that each side's own order settles it.
+-- The handshake of a session in which nothing offends: how far it has come, and that each side's
+-- own order settles it.
 use Rattle.std.proofs.Common.{◌≡◌, true, not, ◌&&◌, List, [], ◌∷◌, ◌++◌, All, Option, Some, None, is_some, refl, sym, ap, subst, ◌∙◌, append_assoc, append-nil, true≢false}
 use Rattle.std.specs.Prelude.{option_and_then, option_map}
 use Rattle.std.proofs.lemmas.List.Elements.{All-head, All-tail}

@@ -1,4 +1,5 @@
--- A message that says something of a document leaves what a session keeps: such a message is a notification.
+-- A message that says something of a document leaves what a session keeps: such a message is a
+-- notification.
 use Rattle.std.specs.Prelude.{if◌then◌else◌, option_map, option_and_then}
 use Rattle.std.specs.Option.{option_or}
 use Rattle.std.specs.Str.{bytes_eq}

@@ -1,4 +1,5 @@
--- Worked sessions that offend more than once: all their offences, and which of these follow from an earlier one.
+-- Worked sessions that offend more than once: all their offences, and which of these follow from an
+-- earlier one.
 use Rattle.std.proofs.Common.{◌≡◌, ℕ, ◌∷◌, [], List, ◌++◌, refl}
 use Rattle.std.specs.Prelude.{codes, map, Bool, true, false, Option, Some, None, option_and_then}
 use Rattle.std.specs.Float.Numeral.{scan_numeral}
@@ -58,7 +59,8 @@ keeps_the_rules = refl
 
 -- ---- documents
 
--- the version of a change stays: the document is lost, so the snapshots behind it follow, until a whole text comes
+-- the version of a change stays: the document is lost, so the snapshots behind it follow, until a
+-- whole text comes
 abbrev drifted : List Event
 drifted =
     START ++ OPEN (codes "1") (codes "ab") ∷ CHG (codes "1") (REP (codes "0") (codes "0") (codes "0") (codes "0") (codes "x"))
@@ -74,7 +76,8 @@ found_again : all_of (drifted ++ CHG (codes "3") (FULL (codes "c")) ∷ T 3 (cod
 unfolding value punctuate lex content word after_number number_of scan_numeral chars
 found_again = refl
 
--- a version that stays without a change loses nothing, so a snapshot behind it is an offence of its own
+-- a version that stays without a change loses nothing, so a snapshot behind it is an offence of its
+-- own
 nothing_lost : all_of (START ++ OPEN (codes "1") (codes "ab") ∷ CHG (codes "1") [] ∷ T 1 (codes "c") ∷ [])
     ≡ cause 603 who.Editor 4 5 ∷ cause 702 who.Snapshot 1 6 ∷ []
 unfolding value punctuate lex content word after_number number_of scan_numeral chars
@@ -118,7 +121,8 @@ line_ends_ignored : offences loose (noted (opened_again_from (codes "a\\nb") (co
 unfolding value punctuate lex content word after_number number_of scan_numeral chars short_escape
 line_ends_ignored = refl
 
--- a message whose params do not have their shape loses the document that it was to open or to change
+-- a message whose params do not have their shape loses the document that it was to open or to
+-- change
 abbrev on_document : List ℕ → List ℕ → Noted
 on_document method uri = malformed (codes "{\"jsonrpc\":\"2.0\",\"method\":\"textDocument/" ++ method
     ++ codes "\",\"params\":{\"textDocument\":{\"uri\":\"file:///" ++ uri
@@ -213,7 +217,8 @@ refused_answer : all_of (I1 ∷ A (codes "1") (codes "{\"textDocumentSync\":3}")
 unfolding value punctuate lex content word after_number number_of scan_numeral chars
 refused_answer = refl
 
--- an `initialize` without its shape, and another message of a bad shape: only behind the first is the handshake lost
+-- an `initialize` without its shape, and another message of a bad shape: only behind the first is
+-- the handshake lost
 refused_initialize : offences terms
     (malformed (codes "{\"jsonrpc\":\"2.0\",\"id\":1,\"method\":\"initialize\"}")
     ∷ noted (REQ ∷ []))
@@ -239,7 +244,8 @@ unread_answer : all_of (I1 ∷ fault Server 201 ∷ N1 ∷ A1 ∷ REQ ∷ [])
 unfolding value punctuate lex content word after_number number_of scan_numeral chars
 unread_answer = refl
 
--- an `initialized` that comes too early is passed over: all that wants it follows, until one is kept
+-- an `initialized` that comes too early is passed over: all that wants it follows, until one is
+-- kept
 early_initialized : all_of (I1 ∷ N1 ∷ A1 ∷ REQ ∷ N1 ∷ REQ ∷ [])
     ≡ cause 402 who.Editor 2 2 ∷ after_it 403 who.Editor 3 4 ∷ []
 unfolding value punctuate lex content word after_number number_of scan_numeral chars

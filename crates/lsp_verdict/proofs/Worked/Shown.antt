@@ -37,7 +37,8 @@ left_over = refl
 
 -- ---- long lines
 
--- a side's messages count from 1 for themselves, and a message that opens a document tells its URI and version
+-- a side's messages count from 1 for themselves, and a message that opens a document tells its URI
+-- and version
 whole_long : show_of Long (judged whole) whole
     ≡ codes "1 editor request 1 \"initialize\" 1\n2 server result 1 1\n3 editor notification \"initialized\" 2\n4 editor notification \"textDocument/didOpen\" 3 \"file:///a\" 1\n5 snapshot 1 2 \"file:///a\" 1\n6 editor request 2 \"shutdown\" 4\n7 server result 2 2\n8 editor notification \"exit\" 5\nyes\nmessages 5 2\nsnapshots 1 unmatched 0\nencoding utf-16 sync incremental\ndocument 1 2 \"file:///a\"\n"
 unfolding value punctuate lex content word after_number number_of scan_numeral chars digits escape_byte

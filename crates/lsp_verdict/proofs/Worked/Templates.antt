@@ -142,7 +142,8 @@ terms = limited 16777216
 abbrev pub judged : List Event → Verdict
 judged events = verdict terms events complete
 
--- what is said of a session that keeps the rules: counts, what was agreed, documents by version and bytes, and open requests with whether they are cancelled
+-- what is said of a session that keeps the rules: counts, what was agreed, documents by version and
+-- bytes, and open requests with whether they are cancelled
 pub record Kept : Type 0 where
   pub editor : ℕ
   pub server : ℕ

@@ -1,4 +1,5 @@
--- The texts after messages of sessions that go on: behind an offence, a fault of the log, and a rest.
+-- The texts after messages of sessions that go on: behind an offence, a fault of the log, and a
+-- rest.
 use Rattle.std.proofs.Common.{◌≡◌, ◌∷◌, [], List, ◌++◌, refl}
 use Rattle.std.specs.Prelude.{codes, Some, None, true, false}
 use Rattle.std.specs.Float.Numeral.{scan_numeral}

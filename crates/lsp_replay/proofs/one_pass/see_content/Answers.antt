@@ -14,7 +14,7 @@ pub returns-in_ok-rule-in-Err-clause-saw : goal.returns-in_ok-rule-in-Err-clause
 returns-in_ok-rule-in-Err-clause-saw g c =
     let rule = c.in_ok-rule-in-Err.rule in
     let reads = subst (λ (f : Fault). IsUnread c.args.side c.args.content.now f)
-    c.in_ok-rule-in-Err.ensures c.in-Err.ensures.rule in
+    c.in_ok-rule-in-Err.ensures.rule c.in-Err.ensures.rule in
     IfOk-weaker c.skip.result _ _ (λ flow saw terms before h comes.
     saw terms before h comes (unread_rule comes rule reads) (unread_silent comes rule reads) tt)
     c.skip.ensures.saw

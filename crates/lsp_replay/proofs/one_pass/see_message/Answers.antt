@@ -7,7 +7,7 @@ use Rattle.lsp_replay.specs.Tries.{MayTry, Tries, made_in}
 use Rattle.lsp_docs.specs.Documents.{Terms}
 use Rattle.lsp_replay.specs.declared.fault.Fault.{Fault}
 use Rattle.lsp_replay.proofs.Seeing.{comes_still, counted_on, heard_rule, heard_spoken}
-use Rattle.lsp_replay.proofs.Seeing.{heard_stood, noted_here, refused_rule, refused_spoken}
+use Rattle.lsp_replay.proofs.Seeing.{heard_stood, refused_rule, refused_spoken, seen_as}
 use Rattle.lsp_verdict.specs.Given.{AreCounts}
 use Rattle.lsp_verdict.specs.declared.counts.Counts.{Counts}
 use Rattle.lsp_replay.proofs.one_pass.see_message.Goals as goal
@@ -23,16 +23,8 @@ returns-in_ok-flow-in-Ok-clause-saw g c = λ terms before h comes says.
     (sym c.in-Ok.ensures.counts) counts) (whose ∙ sym c.who_of.ensures))) in
     record {
       stood = stood;
-      says = c.in_ok-flow-in-Ok.ensures.says terms before h comes.stands (record {
-        stood = stood;
-        few = comes.few;
-        noted = noted_here comes;
-        as_is = (
-          comes.raw_is,
-          heard_rule comes spoken hears,
-          heard_spoken comes spoken hears,
-        );
-      });
+      says = c.in_ok-flow-in-Ok.ensures.says terms before h comes.stands (seen_as comes _ stood
+          (comes.raw_is, heard_rule comes spoken hears, heard_spoken comes spoken hears));
     }
 
 pub returns-in_ok-rule-in-Err-clause-saw : goal.returns-in_ok-rule-in-Err-clause-saw
@@ -44,10 +36,10 @@ returns-in_ok-rule-in-Err-clause-saw g c =
     IfOk-weaker c.skip.result _ _ (λ flow saw terms before h comes says.
     let kept = kept_before terms before in
     let refuses = subst (λ (f : Fault). RefusesBy side bytes (message_view spoken.message)
-    (act_view spoken.act) c.args.held.now.docs.terms kept f) c.in_ok-rule-in-Err.ensures
+    (act_view spoken.act) c.args.held.now.docs.terms kept f) c.in_ok-rule-in-Err.ensures.rule
     (c.in-Err.ensures.rule bytes kept says comes.stood.holds) in
     let tries = subst (λ (f : Fault). Tries c.args.held.now.docs.terms kept (act_view spoken.act) f
-    (made_in c.follow.new.self.tried)) c.in_ok-rule-in-Err.ensures
+    (made_in c.follow.new.self.tried)) c.in_ok-rule-in-Err.ensures.rule
     (c.in-Err.ensures.tried kept comes.stood.holds) in
     saw terms before h (comes_still comes _ _ _ c.in-Err.ensures.terms
     (c.in-Err.ensures.err bytes kept says comes.stood.holds) c.in-Err.ensures.counts)

@@ -19,6 +19,8 @@ returns c =
       file = c.file_of-file.result;
       files = c.in_ok-files.files;
       quiet = c.is_set-quiet.result;
+      compared = c.is_set-compared.result;
+      both_texts = c.asks_both-both_texts.result;
       line_ends = c.line_ends_of.result;
     } in
     let asked : AsksFor (Some (name, rows_in arguments)) request = record {
@@ -26,6 +28,8 @@ returns c =
       file = c.file_of-file.ensures ∙ ap file_of file;
       files = c.in_ok-files.ensures;
       quiet = c.is_set-quiet.ensures;
+      compared = c.is_set-compared.ensures;
+      both_texts = c.asks_both-both_texts.ensures;
       line_ends = (c.is_set-ignored.result, c.is_set-ignored.ensures, c.line_ends_of.ensures);
     } in
     subst (λ (o : Option (Text × List Row)). AsksFor o request) (sym found) asked

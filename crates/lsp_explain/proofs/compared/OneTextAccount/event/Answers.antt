@@ -1,7 +1,9 @@
+use Rattle.std.specs.Prelude.{is_some}
 use Rattle.std.proofs.Common.{◌∙◌, None, Some, ap, refl, sym}
 use Rattle.std.proofs.lemmas.Result.{IfOk-weaker}
 use Rattle.lsp_replay.proofs.AllHeard.{first_after, kept_seen, none_is, offence_seen}
 use Rattle.lsp_replay.proofs.TextRuns.{says_answer, says_none}
+use Rattle.lsp_replay.proofs.Wanting.{on_err}
 use Rattle.lsp_explain.specs.Compared.{answer_after, answer_behind, answer_of}
 use Rattle.lsp_explain.proofs.Comparing.{answer_is}
 use Rattle.lsp_explain.proofs.compared.OneTextAccount.event.Goals as goal
@@ -10,6 +12,7 @@ use Rattle.lsp_explain.proofs.compared.OneTextAccount.event.Goals as goal
 pub returns-in_default : goal.returns-in_default
 returns-in_default c = record {
   asked = refl;
+  memory = tt;
   says = λ terms before h clean seen.
       let which = c.args.self.now.which in
       let rule = kept_seen terms before h c.args.seen c.in_default.not-Offence seen.as_is in
@@ -17,10 +20,19 @@ returns-in_default c = record {
       (first_after terms before h clean ∙ none_is terms before h rule);
 }
 
+-- memory is refused
+pub returns-in_err-one_of-clause-memory : goal.returns-in_err-one_of-clause-memory
+returns-in_err-one_of-clause-memory c = on_err c.from_residual.result (λ terms before h clean seen.
+    let own = offence_seen terms before h c.args.seen _ _ _ _ c.in-Offence.is seen.as_is in
+    ap is_some (answer_is c.args.self.now.which terms before h (Some c.in-Offence.rule) own.1))
+
 -- it offends
 pub returns : goal.returns
 returns c = record {
   asked = refl;
+  memory = on_err c.stop.result (λ terms before h clean seen.
+      let own = offence_seen terms before h c.args.seen _ _ _ _ c.in-Offence.is seen.as_is in
+      ap is_some (answer_is c.args.self.now.which terms before h (Some c.in-Offence.rule) own.1));
   says = IfOk-weaker c.stop.result _ _ (λ flow stops terms before h clean seen.
       let which = c.args.self.now.which in
       let own = offence_seen terms before h c.args.seen _ _ _ _ c.in-Offence.is seen.as_is in

@@ -1,5 +1,5 @@
 use Rattle.std.proofs.Common.{◌≡◌, length, map}
-use Rattle.lsp_explain.specs.SessionRemarks.{use_among}
+use Rattle.lsp_explain.specs.StandardMethods.{use_among}
 use Rattle.lsp_explain.proofs.notes.standard_methods.use_among.Given as goal
 
 abbrev pub invariant-loop-rows : goal.invariant-loop-rows

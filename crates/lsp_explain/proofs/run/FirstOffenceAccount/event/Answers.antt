@@ -1,6 +1,7 @@
 use Rattle.std.proofs.Common.{◌≡◌, ◌∙◌, ◌++◌, ap, refl, string_bytes, subst}
 use Rattle.lsp_docs.specs.Documents.{Terms}
 use Rattle.lsp_replay.proofs.AllHeard.{kept_seen, offence_seen}
+use Rattle.lsp_replay.proofs.Wanting.{on_err}
 use Rattle.lsp_replay.specs.Telling.{FitsRests}
 use Rattle.lsp_verdict.specs.Given.{verdict_view}
 use Rattle.lsp_verdict.specs.Heard.{heard_events}
@@ -14,16 +15,35 @@ use Rattle.lsp_explain.proofs.run.FirstOffenceAccount.event.Goals as goal
 pub returns-in_default : goal.returns-in_default
 returns-in_default c = record {
   asked = refl;
+  memory = tt;
   says = λ terms before h stands seen.
       let rule = kept_seen terms before h c.args.seen c.in_default.not-Offence seen.as_is in
       first_kept terms before h c.args.self.now _ stands (FitsRests c.args.seen)
       (string_bytes c.args.text.now) rule (c.in_ok-keep.ensures terms before h stands.noted seen);
 }
 
+-- memory is refused
+pub returns-in_err-keep-clause-memory : goal.returns-in_err-keep-clause-memory
+returns-in_err-keep-clause-memory c =
+    on_err c.from_residual.result (λ terms before h stands seen. refl)
+
+pub returns-in_err-push_offence-clause-memory : goal.returns-in_err-push_offence-clause-memory
+returns-in_err-push_offence-clause-memory c =
+    on_err c.from_residual-in_err-push_offence.result (λ terms before h stands seen. refl)
+
+pub returns-in_err-push_remarks-clause-memory : goal.returns-in_err-push_remarks-clause-memory
+returns-in_err-push_remarks-clause-memory c =
+    on_err c.from_residual-in_err-push_remarks.result (λ terms before h stands seen. refl)
+
+pub returns-in_err-boxed-clause-memory : goal.returns-in_err-boxed-clause-memory
+returns-in_err-boxed-clause-memory c =
+    on_err c.from_residual-in_err-boxed.result (λ terms before h stands seen. refl)
+
 -- it offends
 pub returns : goal.returns
 returns c = record {
   asked = refl;
+  memory = tt;
   says = λ terms before h stands seen.
       let rule = c.in-Offence.rule in
       let offence = c.last_offence-offence.result in

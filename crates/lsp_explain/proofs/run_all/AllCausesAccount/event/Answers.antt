@@ -1,8 +1,11 @@
-use Rattle.std.proofs.Common.{refl, string_bytes}
-use Rattle.lsp_replay.specs.Telling.{FitsRests}
+use Rattle.std.proofs.Common.{◌∙◌, ap, refl, string_bytes}
+use Rattle.lsp_replay.specs.Telling.{FitsRests, rule_of}
 use Rattle.lsp_replay.proofs.AllHeard.{kept_seen, offence_seen}
 use Rattle.lsp_survey.proofs.SurveySteps.{offence_is}
-use Rattle.lsp_explain.proofs.AccountSteps.{all_kept, all_late, all_told}
+use Rattle.lsp_replay.proofs.Wanting.{on_err}
+use Rattle.lsp_verdict.specs.Offences.{Offence}
+use Rattle.lsp_explain.proofs.AccountSteps.{all_kept, all_late, all_told, cause_wants, kept_wants}
+use Rattle.lsp_explain.proofs.AccountSteps.{lost_wants}
 use Rattle.lsp_explain.proofs.Telling.{told_of}
 use Rattle.lsp_explain.proofs.Trails.{trail_past}
 use Rattle.lsp_explain.proofs.run_all.AllCausesAccount.event.Goals as goal
@@ -11,20 +14,46 @@ use Rattle.lsp_explain.proofs.run_all.AllCausesAccount.event.Goals as goal
 pub returns-in_default : goal.returns-in_default
 returns-in_default c = record {
   asked = refl;
+  memory = tt;
   says = λ terms before h stands seen.
-      let told = c.in_ok-follows.ensures terms before h stands.lost seen in
+      let told = c.in_ok-follows.ensures.told terms before h stands.lost seen in
       let rule = kept_seen terms before h c.args.seen c.in_default.not-Offence seen.as_is in
       all_kept terms before h c.args.self.now _ stands (FitsRests c.args.seen)
       (string_bytes c.args.text.now) _ told rule refl
       (c.in_ok-keep.ensures terms before h stands.noted seen);
 }
 
+-- memory is refused
+pub returns-in_err-follows-clause-memory : goal.returns-in_err-follows-clause-memory
+returns-in_err-follows-clause-memory c =
+    on_err c.from_residual.result (λ terms before h stands seen.
+    lost_wants terms before h c.args.self.now.completeness (rule_of terms before h)
+    (c.in_err-follows.ensures.memory terms before h seen))
+
+pub returns-in_err-keep-clause-memory : goal.returns-in_err-keep-clause-memory
+returns-in_err-keep-clause-memory c =
+    on_err c.from_residual-in_err-keep.result (λ terms before h stands seen.
+    kept_wants terms before h c.args.self.now.completeness c.args.seen c.in_default.not-Offence
+    seen.as_is)
+
+pub returns-in_err-push_offence-clause-memory : goal.returns-in_err-push_offence-clause-memory
+returns-in_err-push_offence-clause-memory c =
+    on_err c.from_residual-in_err-push_offence.result (λ terms before h stands seen.
+    let told = c.in_ok-follows.ensures.told terms before h stands.lost seen in
+    let own = offence_seen terms before h c.args.seen _ _ _ _ c.in-Offence.is seen.as_is in
+    let last = c.last_offence-offence.ensures before h seen.stood.counted seen.few own.0
+    seen.noted in
+    let is = offence_is terms before h c.in-Offence.rule _ _ own.1 told.late_is last in
+    cause_wants terms before h c.args.self.now.completeness c.in-Offence.rule _ own.1 is
+    (ap (λ (o : Offence). o.follows) last ∙ c.if-follows.false))
+
 -- it offends, and follows from an earlier one
 pub returns-then-follows : goal.returns-then-follows
 returns-then-follows c = record {
   asked = refl;
+  memory = tt;
   says = λ terms before h stands seen.
-      let told = c.in_ok-follows.ensures terms before h stands.lost seen in
+      let told = c.in_ok-follows.ensures.told terms before h stands.lost seen in
       let own = offence_seen terms before h c.args.seen _ _ _ _ c.in-Offence.is seen.as_is in
       let is = offence_is terms before h c.in-Offence.rule _ _ own.1 told.late_is
       (c.last_offence-offence.ensures before h seen.stood.counted seen.few own.0 seen.noted) in
@@ -37,10 +66,11 @@ returns-then-follows c = record {
 pub returns : goal.returns
 returns c = record {
   asked = refl;
+  memory = tt;
   says = λ terms before h stands seen.
       let rule = c.in-Offence.rule in
       let offence = c.last_offence-offence.result in
-      let told = c.in_ok-follows.ensures terms before h stands.lost seen in
+      let told = c.in_ok-follows.ensures.told terms before h stands.lost seen in
       let own = offence_seen terms before h c.args.seen _ _ _ _ c.in-Offence.is seen.as_is in
       let last = c.last_offence-offence.ensures before h seen.stood.counted seen.few own.0
       seen.noted in

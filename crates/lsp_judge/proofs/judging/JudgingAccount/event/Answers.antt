@@ -1,5 +1,8 @@
+use Rattle.std.specs.Prelude.{◌||◌, is_some}
 use Rattle.std.proofs.Common.{◌∙◌, ap}
-use Rattle.lsp_judge.proofs.JudgingSteps.{kept_says, offence_says}
+use Rattle.lsp_judge.proofs.JudgingSteps.{kept_says, offence_says, offence_wants}
+use Rattle.lsp_replay.specs.Telling.{no_of}
+use Rattle.lsp_replay.proofs.Wanting.{on_err}
 use Rattle.lsp_replay.proofs.AllHeard.{kept_seen}
 use Rattle.lsp_verdict.specs.Offences.{Offence}
 use Rattle.lsp_judge.proofs.judging.JudgingAccount.event.Goals as goal
@@ -12,7 +15,23 @@ returns-in-Offence-clause-says c = λ terms before h clean seen.
     (c.last_offence.ensures before h seen.stood.counted seen.few own.0 seen.noted))
     c.in_ok-say.ensures
 
+pub returns-in_err-say-clause-memory : goal.returns-in_err-say-clause-memory
+returns-in_err-say-clause-memory c = on_err c.from_residual.result (λ terms before h clean seen.
+    let own = rw c.in-Offence.is at seen.as_is in
+    offence_wants c.args.self.now.lines terms before h c.in-Offence.rule own.1)
+
+pub returns-in_err-boxed-clause-memory : goal.returns-in_err-boxed-clause-memory
+returns-in_err-boxed-clause-memory c =
+    on_err c.from_residual-in_err-boxed.result (λ terms before h clean seen.
+    let own = rw c.in-Offence.is at seen.as_is in
+    offence_wants c.args.self.now.lines terms before h c.in-Offence.rule own.1)
+
+pub returns-in_err-show-clause-memory : goal.returns-in_err-show-clause-memory
+returns-in_err-show-clause-memory c =
+    on_err c.from_residual-in_err-show.result (λ terms before h clean seen.
+    ap (λ b. b || is_some (no_of terms before h)) c.in_err-show.ensures.memory)
+
 pub returns-clause-says : goal.returns-clause-says
 returns-clause-says c = λ terms before h clean seen.
     let rule = kept_seen terms before h c.args.seen c.in_default.not-Offence seen.as_is in
-    kept_says _ clean rule (c.in_ok-show.ensures terms before h seen rule)
+    kept_says _ clean rule (c.in_ok-show.ensures.shown terms before h seen rule)

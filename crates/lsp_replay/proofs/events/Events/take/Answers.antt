@@ -79,8 +79,10 @@ returns-in_err-_answer-in-Snapshot-clause-rule g c =
     let at = c.in-Snapshot in
     let fits : SFits w32 at.version = search rules in
     let told = simp to_z-of_z at c.in_err-_answer-in-Snapshot.ensures.refuses in
+    let waits = simp to_z-of_z at c.in_err-_answer-in-Snapshot.ensures.memory_waits in
     let from = c.from_residual-in_err-_answer-in-Snapshot in
     let p = err_from_is_err_and from.result from.ensures.1 in
     rw (p.1, at.is) (λ events holds.
     rw p.2 (shown_for at.uri.now at.text.now at.version c.args.self.now.docs.terms
-    events _ (told (calls events) holds.called)))
+    events _ (told (calls events) holds.called)
+    (λ same. sym (waits (cc same) (calls events) holds.called))))

@@ -1,23 +1,27 @@
+use Rattle.std.specs.Prelude.{◌||◌}
 use Rattle.std.proofs.Common.{◌∙◌, ◌++◌, ◌∷◌, [], ap, refl, string_bytes}
 use Rattle.lsp_replay.proofs.AllHeard.{kept_seen, offence_seen}
+use Rattle.lsp_replay.proofs.Wanting.{on_err}
 use Rattle.lsp_survey.specs.Reported.{lines_of}
-use Rattle.lsp_survey.specs.SurveyRun.{event_said}
-use Rattle.lsp_survey.proofs.SurveySteps.{kept_said, kept_tally, offence_is, offence_said}
-use Rattle.lsp_survey.proofs.SurveySteps.{offence_tally}
-use Rattle.lsp_verdict.specs.Offences.{Offence}
+use Rattle.lsp_survey.specs.SurveyRun.{event_said, has_lines}
+use Rattle.lsp_survey.proofs.SurveySteps.{kept_said, kept_tally, kept_wants, offence_is}
+use Rattle.lsp_survey.proofs.SurveySteps.{offence_said, offence_tally, offence_wants}
+use Rattle.lsp_verdict.specs.Heard.{notes_of}
+use Rattle.lsp_verdict.specs.Offences.{Offence, offence_at}
 use Rattle.lsp_survey.proofs.survey.SurveyAccount.event.Goals as goal
 
 -- it is kept
 pub returns-in_default : goal.returns-in_default
 returns-in_default c = record {
   asked = refl;
+  memory = tt;
   says = λ terms before h stands seen.
       let old = c.args.self.now in
-      let told = c.in_ok-follows.ensures terms before h stands.losses seen in
+      let told = c.in_ok-follows.ensures.told terms before h stands.losses seen in
       let rule = kept_seen terms before h c.args.seen c.in_default.not-Offence seen.as_is in
       record {
         said = event_said old.options terms before h;
-        added = c.in_ok-show.ensures terms before h seen rule
+        added = c.in_ok-show.ensures.shown terms before h seen rule
             ∙ ap (λ w. string_bytes c.args.text.now ++ w) (kept_said terms before h old.options rule);
         is = λ rests fits. refl;
         goes = (
@@ -30,11 +34,35 @@ returns-in_default c = record {
       };
 }
 
+-- memory is refused
+pub returns-in_err-follows-clause-memory : goal.returns-in_err-follows-clause-memory
+returns-in_err-follows-clause-memory c =
+    on_err c.from_residual.result (λ terms before h stands seen.
+    ap (λ b. b || has_lines c.args.self.now.options (offence_at terms (notes_of before) h.note))
+    (c.in_err-follows.ensures.memory terms before h seen))
+
+pub returns-in_err-show-clause-memory : goal.returns-in_err-show-clause-memory
+returns-in_err-show-clause-memory c =
+    on_err c.from_residual-in_err-show.result (λ terms before h stands seen.
+    kept_wants terms before h c.args.self.now.options
+    (kept_seen terms before h c.args.seen c.in_default.not-Offence seen.as_is)
+    c.in_err-show.ensures.memory)
+
+pub returns-in_err-list-clause-memory : goal.returns-in_err-list-clause-memory
+returns-in_err-list-clause-memory c =
+    on_err c.from_residual-in_err-list.result (λ terms before h stands seen.
+    let told = c.in_ok-follows.ensures.told terms before h stands.losses seen in
+    let own = offence_seen terms before h c.args.seen _ _ _ _ c.in-Offence.is seen.as_is in
+    let is = offence_is terms before h c.in-Offence.rule _ _ own.1 told.late_is
+    (c.last_offence-offence.ensures before h seen.stood.counted seen.few own.0 seen.noted) in
+    offence_wants terms before h c.args.self.now.options c.in-Offence.rule _ own.1 is
+    c.in_err-list.ensures.memory)
+
 -- it offends
 pub returns-clause-says : goal.returns-clause-says
 returns-clause-says c = λ terms before h stands seen.
     let old = c.args.self.now in
-    let told = c.in_ok-follows.ensures terms before h stands.losses seen in
+    let told = c.in_ok-follows.ensures.told terms before h stands.losses seen in
     let own = offence_seen terms before h c.args.seen _ _ _ _ c.in-Offence.is seen.as_is in
     let is = offence_is terms before h c.in-Offence.rule _ _ own.1 told.late_is
     (c.last_offence-offence.ensures before h seen.stood.counted seen.few own.0 seen.noted) in

@@ -1,0 +1,5 @@
+pub mod Due
+pub mod SameLimits
+pub mod Framing
+pub mod Forming
+pub mod Seeking

@@ -1,0 +1,4 @@
+pub mod Written
+pub mod Stream
+pub mod Normal
+pub mod Event

@@ -1,0 +1,31 @@
+// Who took part in the session, and on what they agreed.
+
+const VERSION_NUMBER = /\d+(?:\.\d+)+/;
+
+// A name with the number in its version, which may be a sentence.
+function shortName({ name, version }) {
+  if (!name) {
+    return null;
+  }
+  const number = VERSION_NUMBER.exec(version ?? "")?.[0] ?? version;
+  return namedText(number ? `${name} ${number}` : name);
+}
+
+function longName({ name, version }) {
+  return namedText([name, version].filter(Boolean).join(" "));
+}
+
+const editorName = shortName(session.client), serverName = shortName(session.server);
+
+function whoLine() {
+  const names = `${editorName ?? "an editor without a name"} to ` +
+    `${serverName ?? "a server without a name"}`;
+  return titled(element("p", "who", element("strong", "", names),
+    ` · columns in ${session.encoding} · synchronisation: ${session.sync}`),
+  [session.client, session.server].map(longName).filter(Boolean).join("; "));
+}
+
+function laneHeads() {
+  const head = (label, name) => element("div", "", name ? `${label}: ${name}` : label);
+  return [head("Editor", editorName), element("div", "", "event"), head("Server", serverName)];
+}

@@ -1,0 +1,102 @@
+"""Runs several commands of lspcheck on a log at once, and tells how far they are."""
+
+import os
+import subprocess
+import sys
+import tempfile
+import time
+
+from program import Failed, end, printable
+from stops import held
+
+MEGABYTE = 1_000_000
+
+
+class Progress:
+    """How far a log was read: a line on a terminal each second, like that of lspcheck."""
+
+    def __init__(self, size):
+        self.size, self.length = size // MEGABYTE, 0
+        self.is_on = sys.stderr is not None and sys.stderr.isatty()
+        self.last = time.monotonic()
+
+    def advance(self, who, read):
+        if self.is_on and time.monotonic() - self.last >= 1:
+            self.last = time.monotonic()
+            read //= MEGABYTE
+            percent = 100 * read // self.size if self.size else 100
+            line = f"lspcheck-page: {who} read {read} of {self.size} MB, {percent} %"
+            print(f"\r{line:<{self.length}}", end="", file=sys.stderr, flush=True)
+            self.length = max(self.length, len(line))
+
+    def clear(self):
+        if self.length:
+            print(f"\r{'':<{self.length}}\r", end="", file=sys.stderr, flush=True)
+            self.length = 0
+
+
+class Run:
+    """A command of lspcheck, which reads the log on standard input: its name may be any bytes."""
+
+    def __init__(self, program, words, progress):
+        self.program, self.words, self.progress = program, words, progress
+        self.log = open(program.log, "rb")
+        self.out, self.errors = tempfile.TemporaryFile(), tempfile.TemporaryFile()
+        how = {"stdin": self.log, "stdout": self.out, "stderr": self.errors}
+        try:
+            self.running = subprocess.Popen([program.path, *words, "--quiet"], **how)
+        except OSError as error:
+            raise Failed(f"{printable(program.path)}: {error.strerror}") from error
+
+    def wait(self):
+        """Waits for the end, and shows how far the log was read. Returns the status."""
+        while True:
+            try:
+                return self.running.wait(timeout=0.2)
+            except subprocess.TimeoutExpired:
+                # The command reads from the same open file, so its place there is this one's too.
+                read = os.lseek(self.log.fileno(), 0, os.SEEK_CUR)
+                self.progress.advance(f"lspcheck {self.words[0]}", read)
+
+    def done(self):
+        """Waits for an answer, or fails with the command's own words."""
+        status = self.wait()
+        self.errors.seek(0)
+        self.program.check_status(self.words, status, self.errors.read())
+        return self
+
+    def text(self):
+        self.done().out.seek(0)
+        return self.out.read().decode("utf-8", "replace")
+
+    def lines(self):
+        """The lines without LF: other line ends may be in the texts that a line shows."""
+        self.done().out.seek(0)
+        for line in self.out:
+            yield line.decode("utf-8", "replace").removesuffix("\n")
+
+    def close(self):
+        end(self.running)
+        for file in (self.log, self.out, self.errors):
+            file.close()
+
+
+class Runs:
+    """The runs of lspcheck on a log. On leaving, none of them is left."""
+
+    def __init__(self, program, log):
+        self.program, self.log = program, log
+        self.progress, self.runs = Progress(log.size), []
+
+    def __enter__(self):
+        return self
+
+    def __exit__(self, *_):
+        self.progress.clear()
+        for run in self.runs:
+            run.close()
+
+    def start(self, *words):
+        with held():
+            self.runs.append(Run(self.program, words, self.progress))
+        return self.runs[-1]

@@ -1,0 +1,68 @@
+"""What lspcheck-page and lspcheck-replay do alike: arguments, the log, and what they write."""
+
+import argparse
+import os
+import sys
+import tempfile
+
+from outputs import say
+from program import Failed, printable
+
+
+class Parser(argparse.ArgumentParser):
+    """Reads arguments. If they are bad, the status is 64, and one line says why."""
+
+    def error(self, message):
+        say(f"{self.prog}: {printable(message)} (try --help)")
+        sys.exit(64)
+
+    def _print_message(self, message, file=None):
+        try:
+            put(message.encode())
+        except Failed as failed:
+            say(f"{self.prog}: {failed}")
+            sys.exit(failed.status)
+
+
+def number(word):
+    """A number from 1 that is an argument."""
+    if not word.isascii() or not word.isdigit() or int(word) == 0:
+        raise argparse.ArgumentTypeError(f"{word} is not a number from 1")
+    return int(word)
+
+
+def check_log(path):
+    """Fails if the log is not a file that can be read more than once."""
+    try:
+        with open(path, "rb"):
+            pass
+    except OSError as error:
+        raise Failed(f"{path}: {error.strerror}", 3) from error
+    if not os.path.isfile(path):
+        raise Failed(f"{path}: not a plain file: it is read several times", 3)
+
+
+def write(path, data):
+    """Writes a file as a whole or not at all, readable only by its owner."""
+    folder, name = os.path.split(os.path.abspath(path))
+    try:
+        with tempfile.NamedTemporaryFile(dir=folder, prefix=f".{name}-", delete=False) as file:
+            try:
+                file.write(data)
+                file.close()
+                os.replace(file.name, path)
+            except BaseException:
+                os.unlink(file.name)
+                raise
+    except OSError as error:
+        raise Failed(f"{path}: {error.strerror}", 3) from error
+
+
+def put(data):
+    """Writes to standard output. What could not be written is not tried again at the end."""
+    try:
+        sys.stdout.buffer.write(data)
+        sys.stdout.buffer.flush()
+    except OSError as error:
+        os.dup2(os.open(os.devnull, os.O_WRONLY), sys.stdout.fileno())
+        raise Failed(f"standard output: {error.strerror}", 3) from error

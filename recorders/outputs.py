@@ -1,0 +1,64 @@
+"""How scripts end if their standard output can't be written: without a word and with status 141 if
+its reader is gone, as in `| head -1`, and otherwise with a line that says why, and status 3. If
+nobody reads what they say on standard error, they continue."""
+
+import errno
+import io
+import os
+import sys
+
+
+class Guarded(io.FileIO):
+    """Standard output, which ends the script at a failed write."""
+
+    def __init__(self, script):
+        super().__init__(sys.stdout.fileno(), "w", closefd=False)
+        self.script = script
+
+    def write(self, data):
+        try:
+            return super().write(data)
+        except OSError as error:
+            drop(self.fileno())
+            if error.errno == errno.EPIPE:
+                sys.exit(141)
+            say(f"{self.script}: standard output: {error.strerror}")
+            sys.exit(3)
+
+
+# The status of a script whose standard output could not be written.
+UNWRITTEN = (141, 3)
+
+
+def drop(file):
+    """Drops what could not be written, so that nothing is tried again at the end, and all after
+    it."""
+    os.dup2(os.open(os.devnull, os.O_WRONLY), file)
+
+
+def say(line):
+    """Writes a line to standard error, unless that was closed when the script began."""
+    try:
+        if sys.stderr:
+            print(line, file=sys.stderr, flush=True)
+    except OSError:
+        drop(2)
+
+
+def guard(script):
+    """Replaces sys.stdout, for the script of this name."""
+    how = {name: getattr(sys.stdout, name) for name in ("encoding", "errors", "line_buffering")}
+    sys.stdout = io.TextIOWrapper(io.BufferedWriter(Guarded(script)), **how)
+
+
+def ended(script, main, *words):
+    """Runs the main function of a script, and gives its status, once all that it wrote is
+    written."""
+    if sys.stdout is None:
+        say(f"{script}: standard output: {os.strerror(errno.EBADF)}")
+        return 3
+    guard(script)
+    try:
+        return main(*words)
+    finally:
+        sys.stdout.flush()

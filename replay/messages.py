@@ -1,0 +1,113 @@
+"""What a message says, as far as a replay needs it, and messages of its own."""
+
+import json
+from dataclasses import dataclass
+
+
+@dataclass
+class Message:
+    """A message of one side of the log. Events and messages of a side are counted from 1."""
+
+    event: int
+    number: int
+    content: bytes
+    method: str = None
+    # The id as JSON text, so that 7 and "7" differ.
+    id: str = None
+    is_error: bool = False
+    uri: str = None
+    version: int = None
+    language: str = None
+    # Whether it sets the whole text of a document, whatever that was.
+    has_whole_text: bool = False
+    # For a request: how the log answers it, `result` or `error`, or None if it doesn't.
+    answer: str = None
+    # For a message of the editor: the requests that are answered between the one before and this.
+    answered_before: tuple = ()
+
+    @property
+    def is_request(self):
+        return self.method is not None and self.id is not None
+
+    @property
+    def is_response(self):
+        return self.method is None
+
+    def is_text_of(self, uri):
+        """Whether the message sets the text of a document."""
+        methods = ("textDocument/didOpen", "textDocument/didChange")
+        return self.uri == uri and self.method in methods
+
+
+def value_of(content):
+    """The JSON object of a content, or an empty one if Python cannot read it."""
+    try:
+        value = json.loads(content)
+    except (ValueError, RecursionError):
+        return {}
+    return value if isinstance(value, dict) else {}
+
+
+def member(value, *path):
+    """The member of a JSON value at the end of a path, or None."""
+    for name in path:
+        value = value.get(name) if isinstance(value, dict) else None
+    return value
+
+
+def key_of(id):
+    """An id as JSON text."""
+    return json.dumps(id)
+
+
+def sets_whole_text(method, params):
+    changes = member(params, "contentChanges")
+    if method == "textDocument/didChange" and isinstance(changes, list):
+        return any(isinstance(it, dict) and it.get("range") is None for it in changes)
+    return method == "textDocument/didOpen"
+
+
+def message_of(event, number, content):
+    """A message of the log."""
+    value = value_of(content)
+    document = member(value, "params", "textDocument")
+    method, uri = value.get("method"), member(document, "uri")
+    return Message(
+        event,
+        number,
+        content,
+        method if isinstance(method, str) else None,
+        key_of(value["id"]) if "id" in value else None,
+        "error" in value,
+        uri if isinstance(uri, str) else None,
+        member(document, "version"),
+        member(document, "languageId"),
+        sets_whole_text(method, value.get("params")),
+    )
+
+
+def encoded(value):
+    """A JSON value as the content of a message."""
+    text = json.dumps(value, ensure_ascii=False, separators=(",", ":"))
+    return text.encode("utf-8", "replace")
+
+
+def request(id, method, params=None):
+    params = {} if params is None else {"params": params}
+    return encoded({"jsonrpc": "2.0", "id": id, "method": method, **params})
+
+
+def notification(method, params=None):
+    params = {} if params is None else {"params": params}
+    return encoded({"jsonrpc": "2.0", "method": method, **params})
+
+
+def response(id, name, value):
+    """A response whose member `result` or `error` has this value."""
+    return encoded({"jsonrpc": "2.0", "id": id, name: value})
+
+
+def opened(uri, language, version, text):
+    """A `didOpen` of a document."""
+    document = {"uri": uri, "languageId": language, "version": version, "text": text}
+    return notification("textDocument/didOpen", {"textDocument": document})

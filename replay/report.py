@@ -1,0 +1,90 @@
+"""The lines that lspcheck-replay writes."""
+
+import json
+
+from drive import named, place
+from questions import DIFFERS, NOTHING, bare
+from script import put
+
+# The most characters of an answer in a line, and how many of them precede what is different.
+MOST_SHOWN, BEFORE = 200, 40
+CUT = ".."
+
+
+def line(*words):
+    put(" ".join(map(str, words)).encode("utf-8", "replace") + b"\n")
+
+
+def shown(answer):
+    """An answer as text: what is compared of its result, or its error."""
+    if "result" in answer and "error" not in answer:
+        return json.dumps(bare(answer["result"]), ensure_ascii=False, separators=(",", ":"))
+    error = answer.get("error")
+    code, said = (error.get(it) if isinstance(error, dict) else None for it in ("code", "message"))
+    return f"error {json.dumps(code)} {json.dumps(said, ensure_ascii=False)}"
+
+
+def cut(text, start):
+    """A text from this character on, as much of it as a line holds."""
+    before = CUT if start else ""
+    after = CUT if len(text) > start + MOST_SHOWN else ""
+    return before + text[start : start + MOST_SHOWN] + after
+
+
+def both(replayed, fresh):
+    """Two answers as text, cut so that what is different can be seen."""
+    replayed, fresh = shown(replayed), shown(fresh)
+    pairs = enumerate(zip(replayed, fresh))
+    end = min(len(replayed), len(fresh))
+    first = next((it for it, (one, other) in pairs if one != other), end)
+    start = max(first - BEFORE, 0) if first >= MOST_SHOWN - BEFORE else 0
+    return cut(replayed, start), cut(fresh, start)
+
+
+def say_replayed(recording, received):
+    bound = [f"before {recording.bound}"] if recording.bound else []
+    line("replayed", len(recording.messages), "editor", received, "server", *bound)
+
+
+def say_answers(recording, answered, silent):
+    """Compares how requests were answered with the log."""
+    both_times = [it for it in recording.messages if it.answer and it.number in answered]
+    changed = {
+        kind: [it for it in both_times if it.answer != kind and answered[it.number] == kind]
+        for kind in ("error", "result")
+    }
+    same = len(both_times) - sum(map(len, changed.values()))
+    counts = [word for kind in changed for word in (f"became-{kind}", len(changed[kind]))]
+    line("answers", len(both_times), "same", same, *counts)
+    for kind, requests in changed.items():
+        for request in requests:
+            line(f"became-{kind}", named(request))
+    for request in silent.values():
+        line("unanswered", named(request))
+
+
+def say_document(document, questions):
+    counted = [it for it in questions if it.verdict != NOTHING]
+    differ = [it for it in counted if it.verdict == DIFFERS]
+    uri = json.dumps(document.uri, ensure_ascii=False)
+    counts = ("questions", len(counted), "differ", len(differ))
+    line("document", uri, "version", document.version, *counts)
+
+
+def say_found(found):
+    """What a search found."""
+    if not found.questions:
+        line("repeated runs disagree after", named(found.message))
+        return
+    line("differs after", named(found.message))
+    if found.before:
+        line("same after" if found.is_same_before else "unknown after", place(found.before))
+    for question in found.questions:
+        line("question", json.dumps(question.method))
+        replayed, fresh = both(*question.rounds[-1][:2])
+        line("replayed", replayed)
+        line("fresh", fresh)
+
+
+def say_agreed(answers, documents):
+    line("no difference in", answers, "answers about", documents, "documents")

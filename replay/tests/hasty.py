@@ -1,0 +1,18 @@
+"""lspcheck-replay as it is, but that it asks again after tenths of a second instead of seconds: the
+server of the tests answers at once."""
+
+import runpy
+import sys
+from pathlib import Path
+
+sys.dont_write_bytecode = True
+REPLAY = Path(__file__).resolve().parent.parent
+sys.path.insert(0, str(REPLAY))
+sys.path += [str(REPLAY.parent / folder) for folder in ("page", "recorders")]
+
+import questions  # noqa: E402
+
+questions.PAUSES = (0.1, 0.2)
+questions.SHORT_PAUSES = (0.05,)
+sys.argv[0] = str(REPLAY / "lspcheck-replay")
+runpy.run_path(sys.argv[0], run_name="__main__")

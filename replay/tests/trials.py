@@ -1,0 +1,87 @@
+"""Runs lspcheck-replay for the tests, and reads what it writes."""
+
+import json
+import re
+import subprocess
+import sys
+from concurrent.futures import ThreadPoolExecutor
+from pathlib import Path
+
+HERE = Path(__file__).resolve().parent
+TOP = HERE.parent.parent
+COMMAND, HASTY = TOP / "replay/lspcheck-replay", HERE / "hasty.py"
+SERVER = [sys.executable, "-IS", HERE / "server.py"]
+SECONDS = 300
+# How many trials run at a time.
+WIDTH = 4
+
+DIFFERS = re.compile(r'differs after editor (\d+) event (\d+) notification "textDocument/did\w+"')
+
+
+def run(program, log, *faults, options=(), command=HASTY, server=SERVER, **how):
+    """Runs the command on a log with the server of the tests."""
+    patience = [] if "--wait" in options else ["--wait", SECONDS]
+    words = [sys.executable, command, "--program", program, *patience, *options, log, *server, *faults]
+    how = {"capture_output": True, "text": True, "timeout": SECONDS, **how}
+    return subprocess.run([str(it) for it in words], **how)
+
+
+def run_waiting(program, log, *faults):
+    """The same with `--wait`, for a server that leaves something unanswered after its first answer.
+    On a busy machine that one may take long, so the time grows until it comes. Also the time."""
+    for seconds in (2, 8, 32):
+        done = run(program, log, *faults, options=["--wait", seconds])
+        if 'request 1 "initialize"' not in done.stderr:
+            break
+    return done, seconds
+
+
+def check(program, log):
+    """The first line of the report of lspcheck."""
+    done = subprocess.run([program, "check", log], capture_output=True, text=True)
+    return done.stdout.partition("\n")[0]
+
+
+def blocks(done):
+    """The lines about each document: its URI, and the lines up to the next document."""
+    lines = done.stdout.splitlines()
+    start = next((it for it, line in enumerate(lines) if line.startswith("replayed ")), len(lines))
+    found = {}
+    for line in lines[start:]:
+        if line.startswith("document "):
+            uri, _ = json.JSONDecoder().raw_decode(line, len("document "))
+            found[uri] = []
+        if found:
+            found[uri].append(line)
+    return found
+
+
+def named(done):
+    """For each document, the number and the event of the message that is named."""
+    found = {}
+    for uri, lines in blocks(done).items():
+        matches = [match for match in map(DIFFERS.fullmatch, lines) if match]
+        assert len(matches) < 2, lines
+        if matches:
+            found[uri] = int(matches[0][1]), int(matches[0][2])
+    return found
+
+
+def side_by_side(trial, rows):
+    """Runs a trial of each row, some at a time. Fails with all faults, each with its row."""
+    def tried(row):
+        try:
+            return trial(*row)
+        except AssertionError as error:
+            return f"{row}: {error}"
+
+    with ThreadPoolExecutor(WIDTH) as pool:
+        faults = [it for it in pool.map(tried, rows) if it]
+    assert not faults, "\n".join(faults)
+
+
+def is_clean(done):
+    """Fails unless standard error is one line of the command, or nothing."""
+    assert "Traceback" not in done.stderr, done.stderr
+    lines = done.stderr.splitlines()
+    assert not lines or lines[0].startswith("lspcheck-replay: "), done.stderr

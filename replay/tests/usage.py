@@ -1,0 +1,320 @@
+"""The command: its statuses and messages, each value that it writes, and its options."""
+
+import json
+import re
+import shutil
+import subprocess
+
+import sessions
+from expected import messages_of
+from logs import frame, notification, request, result, snapshot
+from trials import COMMAND, TOP, check, run, run_waiting
+
+URI = "file:///old/folder/a%20b.py"
+AT_THE_END = ('"shutdown"', '"exit"')
+TEXT = "def f():\n    return 1\n"
+
+
+def small_session(uri=URI):
+    """Two texts, five requests, and what a server asks, answered once."""
+    session = sessions.Session(5)
+    session.open(uri, TEXT)
+    session.hear(request("s", "workspace/configuration", {"items": [{}, {}]}))
+    session.send(result("s", [{"kept": "é"}, None]))
+    session.change(uri, [(0, 0, "😀")])
+    session.ask(uri)
+    session.ask(uri, "textDocument/references")
+    session.change(uri, [(4, 5, "g")])
+    return session
+
+
+def put(place, session, name="session.log"):
+    log = place / name
+    log.write_bytes(session.log)
+    return log
+
+
+def refuses(done, status, words):
+    """Fails unless the run ended with this status, and said one thing on standard error."""
+    assert done.returncode == status, done
+    last = done.stderr.splitlines()[-1]
+    assert last.startswith("lspcheck-replay: ") and words in last, done.stderr
+    assert "Traceback" not in done.stderr, done.stderr
+
+
+def answers_bad_arguments(program, place):
+    log = put(place, small_session().end())
+    for options, words in [
+        (["--every", "0"], "0 is not a number from 1"),
+        (["--every", "x"], "x is not a number from 1"),
+        (["--wait", "0"], "0 is not a number of seconds"),
+        (["--wait", "nan"], "nan is not a number of seconds"),
+        (["--map", "/a"], "/a is not OLD=NEW"),
+        (["--map", "a=/tmp"], "a=/tmp is not OLD=NEW"),
+        (["--map", f"/a={place}/none"], f"{place}/none is not a folder"),
+        (["--write", log], "is the log that is replayed"),
+        (["--small", log], "is the log that is replayed"),
+        (["--write", place / "x", "--small", place / "x"], "name the same file"),
+        (["--bogus"], "--bogus"),
+    ]:
+        refuses(run(program, log, options=options), 64, words)
+    refuses(run(program, log, server=[]), 64, "SERVER")
+
+
+def answers_faults_of_files(program, place):
+    log = put(place, small_session().end())
+    refuses(run(program, place / "none"), 3, "none: No such file or directory")
+    refuses(run(program, place), 3, "Is a directory")
+    for option in ("--write", "--small"):
+        refuses(run(program, log, options=[option, place / "no/file"]), 3, "No such file or directory")
+        refuses(run(program, log, options=[option, place]), 3, "Is a directory")
+    with open("/dev/full", "w") as full:
+        done = run(program, log, capture_output=False, stdout=full, stderr=-1)
+    refuses(done, 3, "standard output: No space left on device")
+
+
+def says_why_nothing_can_be_said(program, place):
+    log = put(place, small_session().end())
+    bad = place / "bad.log"
+    bad.write_bytes(b"hello\n")
+    done = run(program, bad)
+    refuses(done, 2, "nothing to replay")
+    assert done.stdout == "bad log L1 record 0\nbad first line\n", done.stdout
+    refuses(run(program, log, server=["/no/such/server"]), 2, "/no/such/server: No such file")
+    refuses(run(program, log, "offerless"), 2, "offers none of the questions")
+    failing = 'fails at textDocument/formatting: error -32602 "no such document"'
+    refuses(run(program, log, "closed"), 2, failing)
+    refuses(run(program, log, "utf-8"), 2, "agrees on utf-8 columns, and not on utf-16, as in the log")
+    refuses(run("/no/such/lspcheck", log), 2, "/no/such/lspcheck: there is no such program")
+    refuses(run(shutil.which("true"), log), 2, "this program is not lspcheck")
+    plain = put(place, sessions.Session(1).end(), "plain.log")
+    refuses(run(program, plain), 2, "opens no document")
+
+
+def writes_each_value(program, place):
+    """The lines of a session without a difference, and of one with a difference."""
+    session = small_session()
+    asked = session.ask(URI, "textDocument/references")
+    session.log = session.log.replace(b'"id": %d, "result": null' % asked, b'"id": %d, "error": {"code": 1, "message": ""}' % asked)
+    session.log = re.sub(rb"S (\d+)\nContent-Length: (\d+)(\r\n\r\n.*?\"error\": .*?\}\})\n", grown, session.log)
+    log = put(place, session.end())
+    report = run(program, log).stdout.splitlines()
+    judged = report.index(next(it for it in report if it.startswith("replayed ")))
+    numbers = session.numbers
+    refused = next(it for it, message in enumerate(messages_of(session.log), 1) if message.get("method") == "textDocument/hover")
+    done = run(program, log, "refuse=textDocument/hover")
+    assert report[0] == "yes" and report[judged - 1] == f'document 2 {len(TEXT) + 4} "{URI}"', report
+    # The server sends: answers to initialize, three requests and shutdown; three diagnostics.
+    assert report[judged:] == [
+        f"replayed {session.sent} editor 8 server",
+        "answers 4 same 3 became-error 0 became-result 1",
+        f'became-result editor {session.sent - 2} event {numbers[session.sent - 2]} request {asked} "textDocument/references"',
+        f'document "{URI}" version 2 questions 3 differ 0',
+        "no difference in 3 answers about 1 documents",
+    ], report
+    assert (done.returncode, done.stderr) == (0, ""), done
+    lines = done.stdout.splitlines()[judged:]
+    assert lines[1] == "answers 4 same 2 became-error 1 became-result 1", lines
+    assert lines[2] == f'became-error editor {refused} event {numbers[refused]} request 2 "textDocument/hover"', lines
+
+
+def grown(found):
+    """A record whose content has grown."""
+    content = found[3][4:]
+    data = b"Content-Length: %d\r\n\r\n%s" % (len(content), content)
+    return b"S %d\n%s\n" % (len(data), data)
+
+
+def writes_the_difference(program, place):
+    session = small_session()
+    last, before = session.sent, session.sent - 1
+    log = put(place, session.end())
+    small = place / "small.log"
+    done = run(program, log, "lose=2", options=["--small", small])
+    lines = done.stdout.splitlines()
+    start = lines.index(f'document "{URI}" version 2 questions 3 differ 2')
+    whole = {"start": {"line": 0, "character": 0}, "end": {"line": 3, "character": 0}}
+    texts = ["😀def f():\n    return 1\n", "😀defgf():\n    return 1\n"]
+    formatted = [json.dumps([{"range": whole, "newText": it}], ensure_ascii=False, separators=(",", ":")) for it in texts]
+    assert lines[start + 1 : start + 6] == [
+        f'differs after editor {last} event {session.numbers[last]} notification "textDocument/didChange"',
+        f"same after editor {before} event {session.numbers[before]}",
+        'question "textDocument/formatting"',
+        f"replayed {formatted[0]}",
+        f"fresh {formatted[1]}",
+    ], lines
+    assert lines[start + 6] == 'question "textDocument/documentSymbol"' and len(lines) == start + 10, lines
+    # The change is the second in the process, so the small case has both, and what is between them:
+    # initialize, initialized, didOpen, didChange, two requests, didChange, shutdown, exit.
+    assert lines[-1] == f"small {small} 9 messages", lines
+    # This one shows itself: initialize, initialized, didOpen, didChange, shutdown, exit.
+    done = run(program, log, "characters", options=["--small", small])
+    assert done.stdout.endswith(f"\nsmall {small} 6 messages\n"), done.stdout
+
+
+def cuts_long_answers(program, place):
+    """What is different is shown, whatever precedes it."""
+    session = sessions.Session(5)
+    session.open(URI, "x = 1\n" * 100)
+    session.change(URI, [(300, 301, "DIFFERENT")])
+    done = run(program, put(place, session.end()), "lose=1")
+    shown = [it for it in done.stdout.splitlines() if it.startswith(("replayed ..", "fresh .."))]
+    assert len(shown) == 4 and all(len(it) < 250 and it.endswith("..") for it in shown), shown
+    assert ["DIFFERENT" in it for it in shown] == [False, True] * 2, shown
+
+
+def lists_what_is_not_answered(program, place):
+    log = put(place, small_session().end())
+    done, _ = run_waiting(program, log, "mute=textDocument/hover")
+    assert done.returncode == 0, done
+    assert "answers 2 same 2 became-error 0 became-result 0\n" in done.stdout, done.stdout
+    assert re.search(r'^unanswered editor 6 event \d+ request 2 "textDocument/hover"$', done.stdout, re.M), done.stdout
+    session = small_session()
+    for _ in range(4):
+        session.ask(URI)
+    done, seconds = run_waiting(program, put(place, session.end()), "mute=textDocument/hover")
+    # The third request without an answer is the last that is waited for.
+    where = f"editor 10 event {session.numbers[10]} request 5"
+    refuses(done, 2, f'gave no answer in {seconds} seconds to {where} "textDocument/hover"')
+
+
+def replays_as_far_as_it_goes(program, place):
+    """A log that is cut, one with a bad record, and one that breaks a rule: what precedes is tried."""
+    session = small_session()
+    good = session.log
+    number, event = session.sent, session.events
+    cut = place / "cut.log"
+    cut.write_bytes(good + b"E 100\nab")
+    done = run(program, cut)
+    assert done.returncode == 0 and done.stdout.startswith("bad log L4 record "), done
+    record = done.stdout.split()[4]
+    assert f"replayed {number} editor 7 server before record {record}\n" in done.stdout, done.stdout
+    cut.write_bytes(good + b"X 1\na\n" + frame(b"E", notification("exit", {})))
+    done = run(program, cut, "lose=1")
+    assert done.returncode == 1 and f"replayed {number} editor 7 server before record" in done.stdout, done
+    broken = [
+        frame(b"E", {"jsonrpc": "2.0", "method": "textDocument/didClose", "params": {"textDocument": {"uri": "file:///none"}}}),
+        frame(b"E", b"{"),
+        b"E 21\nContent-Length: x\r\n\r\n\n",
+        frame(b"S", result(99, None)),
+        snapshot(URI, 2, "another text"),
+    ]
+    for last in broken:
+        log = place / "no.log"
+        log.write_bytes(good + last + frame(b"E", request(77, "textDocument/hover", {})))
+        done = run(program, log)
+        assert re.match(rf"no \d+ \w+ \d+ event {event + 1}\n", done.stdout), done.stdout
+        line = f"replayed {number} editor 7 server before event {event + 1}\n"
+        assert done.returncode == 0 and line in done.stdout, done
+
+
+def asks_before_all_is_closed(program, place):
+    """An editor that closes its documents before it quits."""
+    session = small_session()
+    last = session.sent
+    session.close(URI)
+    log = put(place, session.end())
+    done = run(program, log)
+    assert f'document "{URI}" version 2 questions 3 differ 0\n' in done.stdout, done
+    done = run(program, log, "lose=2")
+    assert f"differs after editor {last} event {session.numbers[last]} " in done.stdout, done.stdout
+
+
+def writes_the_session(program, place):
+    """--write: the editor's bytes, its answers, the snapshots in their places; lspcheck says yes."""
+    session = small_session()
+    session.form = 1
+    log, new = put(place, session.end()), place / "new.log"
+    done = run(program, log, "ask", "slow=0.1", options=["--write", new])
+    assert done.returncode == 0 and check(program, new) == "yes", done
+    assert new.read_bytes().startswith(b"lsp-session 2\n") and new.stat().st_mode & 0o777 == 0o600
+    assert answered_before(program, log) == answered_before(program, new)[: session.sent - 3]
+    kept, sent = list(messages_of(session.log)), list(messages_of(new.read_bytes()))
+    kept[0]["params"]["processId"] = sent[0]["params"]["processId"]
+    assert isinstance(sent[0]["params"]["processId"], int) and sent[0]["params"]["processId"] != 1
+    answers = [it for it in sent if "method" not in it]
+    assert answers == [
+        {"jsonrpc": "2.0", "id": "ask-3", "result": [{"kept": "é"}, None]},
+        {"jsonrpc": "2.0", "id": 3, "error": {"code": -32601, "message": "Method not found"}},
+    ], answers
+    asked = [it for it in sent if it.get("id") in (5, 6, 7)]
+    assert [it["method"].partition("/")[2] for it in asked] == ["formatting", "foldingRange", "documentSymbol"]
+    rest = [it for it in sent if it not in answers and it not in asked]
+    assert rest == [it for it in kept if "method" in it], rest
+    records = [re.findall(rb"^(?:T \d+|E(?= \d+\nContent-Length: \d+\r\n\r\n.*didChange))", it.read_bytes(), re.M) for it in (log, new)]
+    assert records[0] == records[1] and b"T 2" in records[0], records
+
+
+def answered_before(program, log):
+    """The methods that the editor sends, each with how many of its requests were answered by then."""
+    shown = subprocess.run([program, "show", log], capture_output=True, text=True).stdout
+    found, answers = [], 0
+    for line in shown.splitlines():
+        words = line.split()
+        answers += words[1:3] == ["server", "result"]
+        if words[1:3] in (["editor", "request"], ["editor", "notification"]) and words[-1] not in AT_THE_END:
+            found.append((words[-1], answers))
+    return found
+
+
+def puts_other_folders(program, place):
+    """--map: in URIs and paths, escaped or not, and nowhere else."""
+    new_folder = place / "new é"
+    new_folder.mkdir()
+    session = sessions.Session(5)
+    start = b'"params": {"processId": 1, '
+    roots = b'"rootUri": "file:\\/\\/\\/old\\/folder", "rootPath": "/old/folder", "workspaceFolders": [{"uri": "file:///old/folder2"}], '
+    head, _, rest = session.log.partition(b"\n")
+    session.log = head + b"\n" + rest.replace(start, start + roots)
+    session.log = re.sub(rb"^E \d+\nContent-Length: \d+(\r\n\r\n.*?)\nS ", lengthened, session.log, 1, re.M | re.S)
+    session.open(URI, "/old/folder/x\n")
+    session.send(notification("workspace/didChangeConfiguration", {"settings": {"/old/folder/x": ["/old/folder/y/", "-I/old/folder", "/old/folder2"]}}))
+    log, new = put(place, session.end()), place / "new.log"
+    done = run(program, log, options=["--write", new, "--map", f"/old/folder/={new_folder}"])
+    assert done.returncode == 0 and check(program, new) == "yes", done
+    assert f'document "{URI}" version 0 questions 3 differ 0' in done.stdout, done.stdout
+    first, _, opened, settings, *_ = messages_of(new.read_bytes())
+    uri = "file://" + str(new_folder).replace(" ", "%20").replace("é", "%C3%A9")
+    assert first["params"]["rootUri"] == uri and first["params"]["rootPath"] == str(new_folder), first
+    assert first["params"]["workspaceFolders"] == [{"uri": "file:///old/folder2"}], first
+    document = opened["params"]["textDocument"]
+    assert (document["uri"], document["text"]) == (f"{uri}/a%20b.py", "/old/folder/x\n"), document
+    assert settings["params"]["settings"] == {f"{new_folder}/x": [f"{new_folder}/y/", "-I/old/folder", "/old/folder2"]}, settings
+    refuses(run(program, log, options=["--map", f"/nowhere={new_folder}"]), 2, "/nowhere is in no message")
+
+
+def lengthened(found):
+    """The first record of a log, whose content has grown."""
+    content = found[1][4:]
+    data = b"Content-Length: %d\r\n\r\n%s" % (len(content), content)
+    return b"E %d\n%s\nS " % (len(data), data)
+
+
+def asks_what_is_offered(program, place):
+    """The help, and the manual page: they have the same options."""
+    helped = run(program, "--help", server=[], command=COMMAND).stdout
+    manual = (TOP / "docs/lspcheck-replay.1").read_text().replace("\\-", "-")
+    options = re.findall(r"^  (--\w+)", helped, re.M)
+    assert len(options) == 6, helped
+    assert re.findall(r"^\.BI (--\w+)", manual, re.M) == sorted(options), options
+    synopsis = manual.partition(".SH DESCRIPTION")[0]
+    assert sorted(re.findall(r"--\w+", synopsis)) == sorted(options), synopsis
+    statuses = re.findall(r"^\.TP\n\.B (\d+)$", manual, re.M)
+    assert statuses == ["0", "1", "2", "3", "64"], statuses
+    assert re.findall(r"\b(\d+) (?:no|a|nothing|bad) ", helped.replace("\n", " ")) == statuses, helped
+
+
+TESTS = [
+    answers_bad_arguments,
+    answers_faults_of_files,
+    says_why_nothing_can_be_said,
+    writes_each_value,
+    writes_the_difference,
+    cuts_long_answers,
+    lists_what_is_not_answered,
+    replays_as_far_as_it_goes,
+    asks_before_all_is_closed,
+    writes_the_session,
+    puts_other_folders,
+    asks_what_is_offered,
+]
