@@ -20,3 +20,4 @@ pub mod Unmatched
 pub mod Others
 pub mod Trying
 pub mod Sessions
+pub mod Taking

@@ -12,6 +12,10 @@ use Rattle.lsp_docs.specs.Calls.{Text, Call, opens, changes, closes, saves, show
 use Rattle.lsp_docs.specs.Documents.{Terms, Version, versioned, held, documents}
 use Rattle.lsp_docs.specs.Snapshots.{waiting, unmatched}
 use Rattle.lsp_docs.specs.Rules.{call_rule}
+use Rattle.lsp_docs.specs.Taken.{took_by}
+use Rattle.lsp_docs.specs.declared.call.Took.TheVariants.{Done, Changed, Shown}
+use Rattle.lsp_docs.specs.declared.snapshot.Match.TheVariants.{Equal, Waits}
+use Rattle.lsp_text.specs.declared.findings.Extent.TheVariants.{Units}
 
 -- what the calls leave of the one document: what is held, how many snapshots wait, and how many
 -- were never compared
@@ -64,7 +68,7 @@ abbrev edited : Encoding → ℕ → List Edit → Call
 edited enc n cs = changes enc Incremental a (pos n) cs
 
 abbrev whole : Text → Edit
-whole t = record { span = None; text = t }
+whole t = record { span = None; range_length = None; text = t }
 
 abbrev part : ℕ → ℕ → ℕ → ℕ → Text → Edit
 part l c m d t = record {
@@ -73,6 +77,7 @@ part l c m d t = record {
     second =
         record { line = m; column = d };
   });
+  range_length = None;
   text = t;
 }
 
@@ -294,3 +299,40 @@ sixteenth_is_kept = refl
 
 seventeenth_is_not : call_rule keeping (through 17) (shown 1 (codes "a")) ≡ Some 701
 seventeenth_is_not = refl
+
+-- ---- what a call says
+
+abbrev ab : List Call
+ab = opened 1 (codes "ab") ∷ []
+
+abbrev inserted : Encoding → ℕ → Call
+inserted enc column = edited enc 2 (part 0 column 0 column (codes "x") ∷ [])
+
+end_says_nothing : took_by keeping ab (inserted Utf16 2) ≡ Done
+end_says_nothing = refl
+
+past_the_end_said : took_by keeping ab (inserted Utf16 3)
+    ≡ Changed (record {
+      past_end = Some (record { position = record { line = 0; column = 3 }; extent = Units 2 });
+      range_length = None;
+    })
+past_the_end_said = refl
+
+-- the text is the one that is held at the call
+in_the_held_text : took_by keeping (ab ++ inserted Utf16 2 ∷ []) (inserted Utf16 3) ≡ Done
+in_the_held_text = refl
+
+counted_in_its_encoding : took_by keeping (opened 1 (codes "é") ∷ []) (inserted Utf8 2) ≡ Done
+counted_in_its_encoding = refl
+
+not_open_says_nothing : took_by keeping [] (inserted Utf16 3) ≡ Done
+not_open_says_nothing = refl
+
+equal_said : took_by keeping ab (shown 1 (codes "ab")) ≡ Shown Equal
+equal_said = refl
+
+waiting_said : took_by keeping ab (shown 2 (codes "ab")) ≡ Shown Waits
+waiting_said = refl
+
+closing_says_nothing : took_by keeping ab (closes a) ≡ Done
+closing_says_nothing = refl

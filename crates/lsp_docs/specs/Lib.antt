@@ -7,3 +7,4 @@ pub mod Stored
 pub mod Laws
 pub mod Rules
 pub mod Tried
+pub mod Taken

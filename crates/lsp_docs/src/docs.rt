@@ -15,9 +15,11 @@ ghost use Rattle.lsp_docs.specs.Stored.{texts_of, answer_of, IsAnswer};
 ghost use Rattle.lsp_docs.specs.State.{capped, held_in, queue_of, early_rule, rule_at};
 ghost use Rattle.lsp_docs.specs.State.{Stands, Allows, Accepts, Refuses};
 ghost use Rattle.lsp_docs.specs.Fault.{Names, IsRule};
+ghost use Rattle.lsp_docs.specs.Taken.{call_view, IsTook, MayLackMemory};
 ghost use Rattle.lsp_docs.specs.Tried.{IsTried, tried_in};
 ghost use Rattle.lsp_text.specs.Changes.{edits_of};
 
+use crate::call::{Call, Took};
 use crate::document::Document;
 use crate::fault::DocFault;
 use crate::open_uris::OpenUris;
@@ -28,7 +30,7 @@ use crate::terms::Terms;
 use crate::tried::Tried;
 use crate::waiting::Waiting;
 use lsp_frame::{Format, Limits};
-use lsp_text::TextStore;
+use lsp_text::{Findings, TextStore};
 use lsp_types::{Change, Encoding, LineEnds, Memory, SyncKind, rules};
 use std::alloc::Global;
 use std::marker::Model;
@@ -214,6 +216,50 @@ impl<S: TextStore> Docs<S> {
         self.waiting.unmatched()
     }
 
+    /// Takes a call. Answers what it says: of changes, what of them does not fit the text, and of a
+    /// snapshot, how it was compared. Puts there what was tried of changes that are refused.
+    ///
+    /// Refused as by [`did_open`](Docs::did_open), [`did_change`](Docs::did_change),
+    /// [`did_close`](Docs::did_close), [`did_save`](Docs::did_save) or
+    /// [`snapshot`](Docs::snapshot).
+    pub fn take(&mut self, call: Call<'_>, tried: &mut Option<Tried<S>>) -> Result<Took, DocFault>
+        ensures accepts { OnOk result (Accepts self.old self.new (call_view call.entry)) }
+        ensures took { IfOk result (IsTook self.old (call_view call.entry)) }
+        ensures refuses { IfErr result (Refuses self.old (call_view call.entry)) }
+        ensures memory { result ≡ Err DocFault.Memory
+            → MayLackMemory self.old (call_view call.entry) }
+        ensures tried { IfErr result (λ fault. (calls : List Call)
+            → Stands self.old calls → IsRule fault → IsTried self.old.terms calls
+            (call_view call.entry) (tried_in S.content tried.new)) }
+        ensures err { OnErr result (self.new ≡ self.old) }
+    {
+        match call {
+            Call::Opens { uri, version, text } => {
+                self.did_open(uri, version, text)?;
+                Ok(Took::Done)
+            }
+            Call::Changes {
+                encoding,
+                kind,
+                uri,
+                version,
+                changes,
+            } => self.change(encoding, kind, uri, version, changes, tried),
+            Call::Closes { uri } => {
+                self.did_close(uri)?;
+                Ok(Took::Done)
+            }
+            Call::Saves { uri, text } => {
+                self.did_save(uri, text)?;
+                Ok(Took::Done)
+            }
+            Call::Shows { uri, version, text } => {
+                let answer = self.snapshot(uri, version, text)?;
+                Ok(Took::Shown(answer))
+            }
+        }
+    }
+
     /// Opens a document (LSP 3.17, "DidOpenTextDocument Notification").
     ///
     /// Refused by 601 where the URI is open, 607 where the text has more bytes of UTF-8 than the
@@ -289,12 +335,42 @@ impl<S: TextStore> Docs<S> {
             (tried_in S.content tried.new)) }
         ensures err { OnErr result (self.new ≡ self.old) }
     {
+        self.change(encoding, kind, uri, version, changes, tried)?;
+        Ok(())
+    }
+
+    /// Makes changes, and answers what they say.
+    fn change(
+        &mut self,
+        encoding: Encoding,
+        kind: SyncKind,
+        uri: &str,
+        version: i32,
+        changes: &[Change],
+        tried: &mut Option<Tried<S>>,
+    ) -> Result<Took, DocFault>
+        ensures took { IfOk result (IsTook self.old
+            (changes_by encoding kind uri.now version (edits_of changes.now))) }
+        ensures accepts { OnOk result (Accepts self.old self.new
+            (changes_by encoding kind uri.now version (edits_of changes.now))) }
+        ensures refuses { IfErr result (Refuses self.old
+            (changes_by encoding kind uri.now version (edits_of changes.now))) }
+        ensures memory { result ≡ Err DocFault.Memory → ((calls : List Call) → Stands self.old calls
+            → early_rule kind version (edits_of changes.now) (held self.old.terms uri.now calls)
+            ≡ None) }
+        ensures tried { IfErr result (λ fault. (calls : List Call)
+            → Stands self.old calls → IsRule fault → IsTried self.old.terms calls
+            (changes_by encoding kind uri.now version (edits_of changes.now))
+            (tried_in S.content tried.new)) }
+        ensures err { OnErr result (self.new ≡ self.old) }
+    {
         let due = self.waiting.texts(uri, version);
+        let mut found = Findings::none();
         self.documents.change(
-            self.terms, encoding, kind, uri, version, changes, due, tried,
+            self.terms, encoding, kind, uri, version, changes, due, tried, &mut found,
         )?;
         self.waiting.reach(uri, version);
-        Ok(())
+        Ok(Took::of(found))
     }
 
     /// Closes a document, and ends the waiting of its snapshots (LSP 3.17, "DidCloseTextDocument

@@ -6,6 +6,7 @@ ghost use Rattle.std.specs.Option.{option_copied};
 ghost use Rattle.std.specs.Str.{chars};
 ghost use Rattle.lsp_text.specs.Changes.{edits_of};
 ghost use Rattle.lsp_text.specs.Edits.{applied};
+ghost use Rattle.lsp_text.specs.Findings.{nothing, findings};
 ghost use Rattle.lsp_docs.specs.Documents.{versioned};
 ghost use Rattle.lsp_docs.specs.Snapshots.{last_of};
 ghost use Rattle.lsp_docs.specs.Rules.{show_rule, text_at};
@@ -21,7 +22,7 @@ use crate::revision::Revision;
 use crate::snapshot::{Match, Texts, refutes};
 use crate::terms::Terms;
 use crate::tried::Tried;
-use lsp_text::TextStore;
+use lsp_text::{Findings, TextStore};
 use lsp_types::{Change, Encoding, LineEnds, SyncKind, rules};
 use std::alloc::{AllocError, Global};
 
@@ -67,7 +68,8 @@ impl<S: TextStore> Document<S> {
     ///
     /// They are made in a copy, which replaces the held store if no text that is due contradicts
     /// it. Where no version is kept, one change is made in the held store itself, which a refused
-    /// change leaves as it is. What was tried in a copy that is refused is put there.
+    /// change leaves as it is. What was tried in a copy that is refused is put there, and what the
+    /// changes found.
     pub(crate) fn change(
         &mut self,
         terms: Terms,
@@ -77,7 +79,12 @@ impl<S: TextStore> Document<S> {
         changes: &[Change],
         due: Option<&Texts>,
         tried: &mut Option<Tried<S>>,
+        found: &mut Findings,
     ) -> Result<(), DocFault>
+        requires { found.old ≡ nothing }
+        ensures found { OnOk result (found.new
+            ≡ findings terms.limit encoding (S.content self.old.held.store)
+            (edits_of changes.now)) }
         ensures version { OnOk result (self.new.held.version ≡ version) }
         ensures store { OnOk result
             (applied terms.limit encoding (S.content self.old.held.store) (edits_of changes.now)
@@ -110,7 +117,10 @@ impl<S: TextStore> Document<S> {
         }
         if terms.kept == 0 && changes.len() == 1 && due.is_none() {
             let change = &changes[0];
-            if let Err(fault) = self.held.change(terms.limit, encoding, version, change) {
+            if let Err(fault) = self
+                .held
+                .change(terms.limit, encoding, version, change, found)
+            {
                 *tried = None;
                 return Err(fault);
             }
@@ -118,7 +128,7 @@ impl<S: TextStore> Document<S> {
         }
         let alloc = self.kept.alloc();
         let held = &self.held;
-        let changed = held.changed(alloc, terms.limit, encoding, changes, tried)?;
+        let changed = held.changed(alloc, terms.limit, encoding, changes, tried, found)?;
         if refutes(due, terms.line_ends, &changed) {
             *tried = Some(Tried {
                 store: changed,

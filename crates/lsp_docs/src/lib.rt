@@ -8,6 +8,7 @@
 //! rule's number and changes nothing.
 #![tactic(auto)]
 
+mod call;
 mod docs;
 mod document;
 mod fault;
@@ -23,6 +24,7 @@ mod terms;
 mod tried;
 mod waiting;
 
+pub use call::{Call, Took};
 pub use docs::Docs;
 pub use fault::DocFault;
 pub use laws::{

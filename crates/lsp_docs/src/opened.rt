@@ -5,11 +5,13 @@ ghost use Rattle.std.specs.Prelude.{is_some, Err, IfErr, OnOk, OnErr, option_map
 ghost use Rattle.std.specs.Option.{option_copied};
 ghost use Rattle.lsp_text.specs.Changes.{edits_of};
 ghost use Rattle.lsp_text.specs.Edits.{applied};
+ghost use Rattle.lsp_text.specs.Findings.{nothing};
 ghost use Rattle.lsp_docs.specs.Documents.{versioned};
 ghost use Rattle.lsp_docs.specs.Fault.{IsRule, Names};
 ghost use Rattle.lsp_docs.specs.Stored.{IsChanged};
 ghost use Rattle.lsp_docs.specs.State.{KeepsNone, KeepsSame, held_in, queue_of};
 ghost use Rattle.lsp_docs.specs.State.{early_rule, rule_with, text_in, without};
+ghost use Rattle.lsp_docs.specs.Taken.{found_on};
 ghost use Rattle.lsp_docs.specs.Tried.{AreTriedOn, tried_in};
 
 use crate::document::Document;
@@ -18,7 +20,7 @@ use crate::open_uris::OpenUris;
 use crate::snapshot::Texts;
 use crate::terms::Terms;
 use crate::tried::Tried;
-use lsp_text::TextStore;
+use lsp_text::{Findings, TextStore};
 use lsp_types::{Change, Encoding, OrderedMap, SyncKind, rules};
 use std::alloc::{AllocError, Global};
 use std::marker::Model;
@@ -119,7 +121,7 @@ impl<S: TextStore> OpenDocuments<S> {
 
     /// Makes the changes of a document, where `due` are the texts of the snapshots that wait for
     /// the version. A refused change leaves the document as it is, and what was tried of it is put
-    /// there.
+    /// there, and what the changes found.
     pub(crate) fn change(
         &mut self,
         terms: Terms,
@@ -130,7 +132,12 @@ impl<S: TextStore> OpenDocuments<S> {
         changes: &[Change],
         due: Option<&Texts>,
         tried: &mut Option<Tried<S>>,
+        found: &mut Findings,
     ) -> Result<(), DocFault>
+        requires { found.old ≡ nothing }
+        ensures found { OnOk result (found.new
+            ≡ found_on terms.limit encoding (held_in uri.now self.old.held)
+            (edits_of changes.now)) }
         ensures accepts { OnOk result (IsChanged
             (rule_with terms.limit terms.line_ends (unwrap_or (option_copied due.entry) [])
             encoding kind version (edits_of changes.now) (held_in uri.now self.old.held))
@@ -152,6 +159,6 @@ impl<S: TextStore> OpenDocuments<S> {
         let Some(document) = self.documents.get_str_mut(uri) else {
             return Err(DocFault::Rule(rules::DOCUMENT_NOT_OPEN));
         };
-        document.change(terms, encoding, kind, version, changes, due, tried)
+        document.change(terms, encoding, kind, version, changes, due, tried, found)
     }
 }

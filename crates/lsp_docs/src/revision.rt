@@ -5,6 +5,7 @@ ghost use Rattle.std.specs.Str.{chars};
 ghost use Rattle.lsp_text.specs.Edits.{applied};
 ghost use Rattle.lsp_text.specs.SameText.{same_text};
 ghost use Rattle.lsp_text.specs.Changes.{edit_of, edits_of};
+ghost use Rattle.lsp_text.specs.Findings.{nothing, findings};
 ghost use Rattle.lsp_docs.specs.Documents.{versioned};
 ghost use Rattle.lsp_docs.specs.Rules.{differs, text_in};
 ghost use Rattle.lsp_docs.specs.Fault.{Breaks, IsRule};
@@ -12,7 +13,7 @@ ghost use Rattle.lsp_docs.specs.Tried.{AreTried, tried_in};
 
 use crate::fault::DocFault;
 use crate::tried::Tried;
-use lsp_text::{TextStore, change, change_all};
+use lsp_text::{Findings, TextStore, change_all, change_noting};
 use lsp_types::{Change, Encoding, LineEnds};
 use std::alloc::Global;
 
@@ -24,14 +25,18 @@ pub(crate) struct Revision<S: TextStore> {
 }
 
 impl<S: TextStore> Revision<S> {
-    /// Makes one change, and holds the version if it was made.
+    /// Makes one change, and holds the version if it was made. Puts there what it found.
     pub(crate) fn change(
         &mut self,
         limit: u64,
         encoding: Encoding,
         version: i32,
         edit: &Change,
+        found: &mut Findings,
     ) -> Result<(), DocFault>
+        requires { found.old ≡ nothing }
+        ensures found { OnOk result (found.new
+            ≡ findings limit encoding (S.content self.old.store) (edit_of edit.now ∷ [])) }
         ensures ok { OnOk result
             (applied limit encoding (S.content self.old.store) (edit_of edit.now ∷ [])
             ≡ Ok (S.content self.new.store)) }
@@ -42,18 +47,21 @@ impl<S: TextStore> Revision<S> {
         ensures err { OnErr result ((self.new.version ≡ self.old.version)
             × (S.content self.new.store ≡ S.content self.old.store)) }
     {
-        change(
+        change_noting(
             &mut self.store,
             encoding,
             edit.span,
+            edit.range_length,
             edit.text.as_str(),
             limit,
+            found,
         )?;
         self.version = version;
         Ok(())
     }
 
-    /// A copy of its store with the changes made; where one fails, it is put there instead.
+    /// A copy of its store with the changes made; where one fails, it is put there instead. What
+    /// they found is put there too.
     pub(crate) fn changed(
         &self,
         alloc: Global,
@@ -61,7 +69,10 @@ impl<S: TextStore> Revision<S> {
         encoding: Encoding,
         changes: &[Change],
         tried: &mut Option<Tried<S>>,
+        found: &mut Findings,
     ) -> Result<S, DocFault>
+        ensures found { OnOk result (found.new
+            ≡ findings limit encoding (S.content self.now.store) (edits_of changes.now)) }
         ensures ok { IfOk result
             (λ store. applied limit encoding (S.content self.now.store) (edits_of changes.now)
             ≡ Ok (S.content store)) }
@@ -73,7 +84,10 @@ impl<S: TextStore> Revision<S> {
     {
         let mut store = self.store.copy(alloc)?;
         match change_all(&mut store, encoding, changes, limit) {
-            Ok(()) => Ok(store),
+            Ok(all) => {
+                *found = all;
+                Ok(store)
+            }
             Err(failed) => {
                 let count = failed.made;
                 *tried = Some(Tried { store, count });

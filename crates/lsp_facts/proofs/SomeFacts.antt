@@ -133,9 +133,9 @@ some_apart ends enc t u key differ =
 
 -- ---- a change that a rule refuses
 
-module _ (limit : ℕ) (enc : Encoding) (t : Text) (x : Text) (rule : ℕ) where
+module _ (limit : ℕ) (enc : Encoding) (t : Text) (sent : Option ℤ) (x : Text) (rule : ℕ) where
   abbrev HasReason : Option Span → Type 0
-  HasReason span = (facts : List Fact) × IsReason limit enc t (record { span = span; text = x }) rule facts
+  HasReason span = (facts : List Fact) × IsReason limit enc t (record { span = span; range_length = sent; text = x }) rule facts
 
   -- the text that it would make is over the limit
   too_long : (span : Option Span) (made : Text) → ((l : ℕ) → changed enc t span x l ≡ limited l made) → limited limit made ≡ Err rule → HasReason span
@@ -197,7 +197,7 @@ module _ (limit : ℕ) (enc : Encoding) (rule : ℕ) where
   some_failing : (t : Text) (cs : List Edit) → applied limit enc t cs ≡ Err rule → (facts : List Fact) × IsFailing limit enc t cs rule facts
   some_failing t cs e =
       let at = fails_at t cs e in
-      let reason = some_reason limit enc at.text at.edit.text rule at.edit.span at.failed in (
+      let reason = some_reason limit enc at.text at.edit.range_length at.edit.text rule at.edit.span at.failed in (
         counts_in enc ∷ fails (at.n + 1) at.edit.span ∷ reason.0,
         record { n = at.n; text = at.text; made = at.made; edit = at.edit; here = at.here; failed = at.failed; refused = record { reason = reason.0; says = reason.1; are = refl } },
       )

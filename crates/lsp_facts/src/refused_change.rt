@@ -59,7 +59,7 @@ fn misfit_at<S: TextStore>(
     facts.change(encoding, count, span)?;
     let mut copy = store.copy(alloc)?;
     match change_all(&mut copy, encoding, &changes[..count], limit) {
-        Ok(()) => {
+        Ok(_) => {
             let text = copy.to_text(alloc)?;
             facts.first_length(text.as_str(), encoding, span)?;
             Ok(facts)

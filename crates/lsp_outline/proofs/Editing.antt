@@ -73,6 +73,47 @@ module _ {X Y : Type 0} (f : Option Data → X) (g : Option Data → Y) (a b k :
   neither_came not_a not_b ms old =
       (stays f a k d ms x (λ e. not_a (sym e)) old.0, stays g b k d ms y (λ e. not_b (sym e)) old.1)
 
+-- of three names
+module _ {X Y Z : Type 0} (f : Option Data → X) (g : Option Data → Y) (h : Option Data → Z)
+    (a b c k : List ℕ) (d : Data) (x : X) (y : Y) (z : Z) where
+  abbrev Three : X → Y → Z → Members → Type 0
+  Three x y z ms = (f (get_member a ms) ≡ x)
+      × ((g (get_member b ms) ≡ y) × (h (get_member c ms) ≡ z))
+
+  pub first_of_three : bytes_eq b a ≡ false → bytes_eq c a ≡ false → k ≡ a → (now : X)
+      → f (Some d) ≡ now → (ms : Members) → Three x y z ms → Three now y z (put k d ms)
+  first_of_three apart other is now read ms old = (
+    last_of f a k d ms now is read,
+    (
+      stays g b k d ms y (not_this b a k apart is) old.1.0,
+      stays h c k d ms z (not_this c a k other is) old.1.1,
+    ),
+  )
+
+  pub second_of_three : bytes_eq a b ≡ false → bytes_eq c b ≡ false → k ≡ b → (now : Y)
+      → g (Some d) ≡ now → (ms : Members) → Three x y z ms → Three x now z (put k d ms)
+  second_of_three apart other is now read ms old = (
+    stays f a k d ms x (not_this a b k apart is) old.0,
+    (last_of g b k d ms now is read, stays h c k d ms z (not_this c b k other is) old.1.1),
+  )
+
+  pub third_of_three : bytes_eq a c ≡ false → bytes_eq b c ≡ false → k ≡ c → (now : Z)
+      → h (Some d) ≡ now → (ms : Members) → Three x y z ms → Three x y now (put k d ms)
+  third_of_three apart other is now read ms old = (
+    stays f a k d ms x (not_this a c k apart is) old.0,
+    (stays g b k d ms y (not_this b c k other is) old.1.0, last_of h c k d ms now is read),
+  )
+
+  pub none_of_three : (k ≡ a → ⊥) → (k ≡ b → ⊥) → (k ≡ c → ⊥) → (ms : Members)
+      → Three x y z ms → Three x y z (put k d ms)
+  none_of_three not_a not_b not_c ms old = (
+    stays f a k d ms x (λ e. not_a (sym e)) old.0,
+    (
+      stays g b k d ms y (λ e. not_b (sym e)) old.1.0,
+      stays h c k d ms z (λ e. not_c (sym e)) old.1.1,
+    ),
+  )
+
 -- ---- changes
 
 behind : {X : Type 0} (done : List X) (x : X) (o : Option (List X))

@@ -254,6 +254,29 @@ some_numeral d from end s same number fits le ended =
       within = omega (arith, ends.0);
     }
 
+-- one digit, where a number may end after it
+pub digit_natural : (d : List ℕ) (from n : ℕ) → is_ascii_digit (get_or d from 0) ≡ true
+    → n ≡ digit_value (get_or d from 0)
+    → (is_operator (get_or d (from + 1) 0) || is_space (get_or d (from + 1) 0)) ≡ true
+    → IsNatural d from (from + 1) n
+digit_natural d from n digit is ended =
+    let after = ends_at d (from + 1) ended in
+    let s = drop from d in
+    let no : from - from ≡ 0 = zero_from from from (omega arith) in
+    let none : AreFewDigits d from from 0 = record {
+      digits = ap (λ m. list_all is_ascii_digit (take m s)) no;
+      value = sym (ap (λ m. digits_value 10 (take m s)) no);
+      forward = omega arith;
+      few = omega arith;
+      within = omega (arith, after.0);
+    } in
+    let one = one_digit_more d from from 0 n none (omega arith) (omega (arith, after.0)) digit
+    (omega (arith, is)) in
+    let len : length (part d from (from + 1)) ≡ 1 =
+    length-take-le (from + 1 - from) s (omega (arith, after.0, length-drop from d))
+    ∙ (let e : from + 1 - from ≡ 1 = omega arith in e) in
+    few_natural d from (from + 1) n one (omega (arith, len)) (omega (arith, len)) (inl len) after.1
+
 -- one or two digits before a comma
 pub one_digit : (d : List ℕ) (from : ℕ) → is_ascii_digit (get_or d from 0) ≡ true
     → get_or d (from + 1) 0 ≡ 44 → IsNumeral d from (from + 1)

@@ -4,12 +4,13 @@ ghost use Rattle.std.specs.Prelude.{◌≡◌, ◌<◌, ◌≤◌, ℕ, length, 
 ghost use Rattle.std.specs.Prelude.{string_bytes};
 ghost use Rattle.serde_json.specs.Data.{Data, Members, Items, object, array};
 ghost use Rattle.lsp_rpc.specs.Params as spec;
-ghost use Rattle.lsp_rpc.specs.Shape.{unless_null};
+ghost use Rattle.lsp_rpc.specs.Shape.{as_integer, unless_null};
 ghost use Rattle.lsp_rpc.specs.View.{change_view, changes_view};
 ghost use Rattle.lsp_outline.specs.Walk.{IsValue, AreItems};
 
 use crate::bytes::{byte_at, spaces_end};
-use crate::members::{Gathered, object_at, object_into, skipped, uinteger_at};
+use crate::members::{Gathered, integer_at, object_at, object_into, skipped, uinteger_at};
+use crate::numbers::digit_at;
 use crate::positions::range_at;
 use crate::walk::{literal_end, string_copy};
 use lsp_types::{Change, Position, Span};
@@ -200,10 +201,31 @@ fn span_unless_null_at(
     Some((Some(span), end))
 }
 
-/// The members of a change. A `range` that is null is none.
+/// The integer of 32 bits that begins there, where it is not null, and where it ends. Most have one
+/// digit.
+#[inline(always)]
+fn integer_unless_null_at(text: &str, from: usize) -> Option<(Option<i32>, usize)>
+    requires { from ≤ length text.now }
+    ensures { IfSome result (λ r. (d : Data) × ((depth : ℕ) → IsValue depth text.now from r.1 d)
+        × (as_integer d ≡ r.0)) }
+{
+    let bytes = text.as_bytes();
+    if let Some((n, end)) = digit_at(bytes, from) {
+        return Some((Some(n as i32), end));
+    }
+    if byte_at(bytes, from) == b'n' {
+        let end = literal_end(bytes, from, b"null")?;
+        return Some((None, end));
+    }
+    let (n, end) = integer_at(text, from)?;
+    Some((Some(n), end))
+}
+
+/// The members of a change. A `range` that is null is none, and so is a length of it.
 #[derive(Drop)]
 struct ChangeParts {
     span: Option<Span>,
+    range_length: Option<i32>,
     text: Option<String>,
     /// Whether spans are still tried as most programs write them.
     tries: bool,
@@ -212,11 +234,13 @@ struct ChangeParts {
 impl Gathered for ChangeParts {
     ghost gathers = { λ ms parts.
         (spec.allowed (codes "range") spec.span_at (object ms) ≡ Some parts.span)
-        × (spec.text_at (object ms) ≡ option_map (λ s. string_bytes s) parts.text) };
+        × ((spec.range_length_at (object ms) ≡ parts.range_length)
+        × (spec.text_at (object ms) ≡ option_map (λ s. string_bytes s) parts.text)) };
 
     fn none() -> ChangeParts {
         ChangeParts {
             span: None,
+            range_length: None,
             text: None,
             tries: true,
         }
@@ -242,6 +266,11 @@ impl Gathered for ChangeParts {
                 self.text = Some(copy);
                 Some(end)
             }
+            "rangeLength" => {
+                let (range_length, end) = integer_unless_null_at(text, from)?;
+                self.range_length = range_length;
+                Some(end)
+            }
             _ => skipped(text, from, depth),
         }
     }
@@ -265,6 +294,7 @@ fn change_at(
     *tries = parts.tries;
     let change = Change {
         span: parts.span,
+        range_length: parts.range_length,
         text: parts.text?,
     };
     Some((change, end))

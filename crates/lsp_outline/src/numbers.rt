@@ -251,6 +251,23 @@ pub(crate) fn short_natural_at(bytes: &[u8], from: usize) -> Option<(u32, usize)
     }
 }
 
+/// The digit that begins there, where a number may end after it, and where it ends.
+#[inline(always)]
+pub(crate) fn digit_at(bytes: &[u8], from: usize) -> Option<(u32, usize)>
+    requires { from ≤ length bytes.now }
+    ensures read { IfSome result (λ r. IsNatural bytes.now from r.1 r.0) }
+    ensures fits { IfSome result (λ r. r.0 < 10) }
+{
+    let digit = byte_at(bytes, from);
+    if !digit.is_ascii_digit() {
+        return None;
+    }
+    if !is_delimiter(byte_at(bytes, from + 1)) {
+        return None;
+    }
+    Some((u32::from(digit - b'0'), from + 1))
+}
+
 /// The integer that begins there and is not negative, and where it ends.
 #[inline(always)]
 pub(crate) fn natural_at(bytes: &[u8], from: usize) -> Option<(u64, usize)>

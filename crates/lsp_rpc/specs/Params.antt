@@ -91,9 +91,13 @@ span_at d =
     (required (codes "start") position_at d)
     (required (codes "end") position_at d)
 
+-- no other value is refused, since nothing judges the length
+abbrev pub range_length_at : Data → Option ℤ
+range_length_at = required (codes "rangeLength") as_integer
+
 abbrev pub change_at : Data → Option Change
 change_at d =
-    both (λ span text. record { span = span; text = text })
+    both (λ span text. record { span = span; range_length = range_length_at d; text = text })
     (allowed (codes "range") span_at d)
     (text_at d)
 

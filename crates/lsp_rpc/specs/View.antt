@@ -55,7 +55,7 @@ abbrev pub picked_view : picked.Picked → Picked
 picked_view p = record { encoding = string_bytes p.encoding; kind = p.kind }
 
 abbrev pub change_view : change.Change → Change
-change_view c = record { span = c.span; text = string_bytes c.text }
+change_view c = record { span = c.span; range_length = c.range_length; text = string_bytes c.text }
 
 abbrev pub changes_view : List change.Change → List Change
 changes_view cs = map change_view cs

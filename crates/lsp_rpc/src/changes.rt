@@ -9,7 +9,7 @@ ghost use Rattle.lsp_types.specs.declared.rules.TheConstants as rules;
 
 use crate::fault::RpcFault;
 use crate::params::{PARAMS_FAULT, into_text, items_of, uinteger_of};
-use crate::shape::given;
+use crate::shape::{given, integer_of};
 use lsp_types::{Change, Position, Span};
 use serde_json::Value;
 use std::alloc::Global;
@@ -40,12 +40,24 @@ fn range_of(value: &Value) -> Option<Option<Span>>
     }
 }
 
+/// The length that a change gives of its range, where that is an integer.
+fn range_length_of(value: &Value) -> Option<i32>
+    ensures { result ≡ spec.range_length_at (view value.now) }
+{
+    integer_of(value.get("rangeLength")?)
+}
+
 fn change_of(value: Value) -> Option<Change>
     ensures { option_map change_view result ≡ spec.change_at (view value) }
 {
     let span = range_of(&value)?;
+    let range_length = range_length_of(&value);
     let text = into_text(value, "text")?;
-    Some(Change { span, text })
+    Some(Change {
+        span,
+        range_length,
+        text,
+    })
 }
 
 /// The changes that a JSON array lists (LSP 3.17, TextDocumentContentChangeEvent).

@@ -40,6 +40,8 @@ pub mod Recuts
 pub mod Spots
 pub mod StepCounts
 pub mod PartEdits
+pub mod PastEnds
+pub mod FoundChanges
 pub mod PartLines
 pub mod Rests
 pub mod Patches

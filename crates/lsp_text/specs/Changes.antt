@@ -7,7 +7,11 @@ use Rattle.lsp_text.specs.Edits.{Edit}
 
 -- a change, its text as characters
 abbrev pub edit_of : Change → Edit
-edit_of c = record { span = c.span; text = chars (string_bytes c.text) }
+edit_of c = record {
+  span = c.span;
+  range_length = c.range_length;
+  text = chars (string_bytes c.text);
+}
 
 abbrev pub edits_of : List Change → List Edit
 edits_of cs = map edit_of cs

@@ -1,5 +1,5 @@
 -- What a change makes of a text.
-use Rattle.std.specs.Prelude.{◌≡◌, ℕ, cond, nat_lt, List, [], ◌∷◌, ◌++◌, take, drop, slice_get}
+use Rattle.std.specs.Prelude.{◌≡◌, ℕ, ℤ, cond, nat_lt, List, [], ◌∷◌, ◌++◌, take, drop, slice_get}
 use Rattle.std.specs.declared.option.Option.{Option}
 use Rattle.std.specs.declared.option.Option.TheVariants.{Some, None}
 use Rattle.std.specs.declared.result.Result.{Result}
@@ -38,9 +38,11 @@ abbrev pub changed : Encoding → List ℕ → Option Span → List ℕ → ℕ 
 changed enc t None s limit = limited limit s
 changed enc t (Some span) s limit = replaced enc t span s limit
 
--- a change: `text` in place of the span, or of all where there is none
+-- a change: `text` in place of the span, or of all where there is none; the text that it replaces
+-- is said to be so long
 pub record Edit : Type 0 where
   pub span : Option Span
+  pub range_length : Option ℤ
   pub text : List ℕ
 
 -- what comes next, unless a rule was broken

@@ -28,6 +28,10 @@ pub record IsHeldLine (l : LentLine) : Type 0 where
   pub end : IsCharBoundary (text_with l.held.now) l.end
   pub near : IsNear (drop l.start (text_with l.held.now)) l.near.now l.is_plain
 
+-- its bytes, without its end
+abbrev pub line_of : LentLine → List ℕ
+line_of l = bytes_between (text_with l.held.now) l.start l.end
+
 abbrev pub IsOffsetIn : Encoding → LentLine → ℕ → ℕ → Type 0
 IsOffsetIn enc l column offset = IsOffsetFrom enc (text_with l.held.now) l.start l.end column offset
 

@@ -3,6 +3,7 @@ pub mod SameText
 pub mod Places
 pub mod Edits
 pub mod Changes
+pub mod Findings
 pub mod FirstLine
 pub mod LineEnd
 pub mod Offsets

@@ -1,11 +1,13 @@
 //! The changes of a document, made in any store.
 
-ghost use Rattle.std.specs.Prelude.{◌≡◌, Ok, OnOk, OnErr, IfErr};
+ghost use Rattle.std.specs.Prelude.{◌≡◌, Ok, OnOk, OnErr, IfOk, IfErr};
 ghost use Rattle.std.specs.Str.{chars};
 ghost use Rattle.lsp_text.specs.Edits.{changed, applied, IsFaultOf, FailsAfter};
 ghost use Rattle.lsp_text.specs.Changes.{edits_of};
+ghost use Rattle.lsp_text.specs.Findings.{noted, found_of, findings};
 
 use crate::fault::TextFault;
+use crate::findings::Findings;
 use crate::store::TextStore;
 use lsp_types::{Change, Encoding, Span};
 
@@ -25,8 +27,30 @@ pub fn change<S: TextStore>(
         (IsFaultOf (changed encoding (S.content store.old) span (chars text.now) limit)) }
     ensures err { OnErr result (S.content store.new ≡ S.content store.old) }
 {
+    let found = &mut Findings::none();
+    change_noting(store, encoding, span, None, text, limit, found)
+}
+
+/// The same, which notes what of the change does not fit the text.
+pub fn change_noting<S: TextStore>(
+    store: &mut S,
+    encoding: Encoding,
+    span: Option<Span>,
+    range_length: Option<i32>,
+    text: &str,
+    limit: u64,
+    found: &mut Findings,
+) -> Result<(), TextFault>
+    ensures found { OnOk result (found.new
+        ≡ noted found.old (found_of encoding (S.content store.old) span range_length)) }
+    ensures ok { OnOk result (changed encoding (S.content store.old) span (chars text.now) limit
+        ≡ Ok (S.content store.new)) }
+    ensures fault { IfErr result
+        (IsFaultOf (changed encoding (S.content store.old) span (chars text.now) limit)) }
+    ensures err { OnErr result (S.content store.new ≡ S.content store.old) }
+{
     match span {
-        Some(span) => store.replace(encoding, span, text, limit),
+        Some(span) => store.replace_noting(encoding, span, range_length, text, limit, found),
         None => store.replace_all(text, limit),
     }
 }
@@ -42,13 +66,15 @@ pub struct ChangeFault {
 
 /// Makes changes in order, each of the text that the one before left (LSP 3.17,
 /// "DidChangeTextDocument"). The first one that fails decides, and leaves the text that the changes
-/// before it made.
+/// before it made. Answers what was found first.
 pub fn change_all<S: TextStore>(
     store: &mut S,
     encoding: Encoding,
     changes: &[Change],
     limit: u64,
-) -> Result<(), ChangeFault>
+) -> Result<Findings, ChangeFault>
+    ensures found { IfOk result (λ found. found
+        ≡ findings limit encoding (S.content store.old) (edits_of changes.now)) }
     ensures ok { OnOk result (applied limit encoding (S.content store.old) (edits_of changes.now)
         ≡ Ok (S.content store.new)) }
     ensures fault { IfErr result (λ failed.
@@ -58,10 +84,14 @@ pub fn change_all<S: TextStore>(
         (FailsAfter limit encoding (S.content store.old) (edits_of changes.now)
         (S.content store.new)) }
 {
+    let mut found = Findings::none();
     for (made, next) in changes.iter().enumerate() {
-        if let Err(fault) = change(store, encoding, next.span, next.text.as_str(), limit) {
+        let text = next.text.as_str();
+        let length = next.range_length;
+        let span = next.span;
+        if let Err(fault) = change_noting(store, encoding, span, length, text, limit, &mut found) {
             return Err(ChangeFault { made, fault });
         }
     }
-    Ok(())
+    Ok(found)
 }

@@ -1,8 +1,9 @@
 //! Texts as lists of characters: the places that positions denote, and stores that are edited.
 //!
 //! [`TextStore`] says what a store of a text is, and [`change`] and [`change_all`] make the changes
-//! of a `textDocument/didChange` in any of them. [`Plain`] keeps a text in one `String`,
-//! [`Lined`] in blocks, so that an edit moves few bytes and copies share the rest. [`measure`]
+//! of a `textDocument/didChange` in any of them. [`Findings`] are what of these does not fit the
+//! text. [`Plain`] keeps a text in one `String`, [`Lined`] in blocks, so that an edit moves few
+//! bytes and copies share the rest. [`measure`]
 //! counts characters and units of UTF-16, [`first_difference`] tells where two texts first differ,
 //! and [`line_at`], [`width_of`], [`char_inside`] and [`size_with`] read a text by its lines and
 //! columns. A store of one's own cuts lines with [`FirstLine`] and finds columns with
@@ -19,6 +20,7 @@ mod difference;
 mod edit;
 mod ends;
 mod fault;
+mod findings;
 mod lanes;
 mod laws;
 mod lined;
@@ -32,12 +34,13 @@ mod stretches;
 mod sums;
 mod walk;
 
-pub use changes::{ChangeFault, change, change_all};
+pub use changes::{ChangeFault, change, change_all, change_noting};
 pub use columns::offset_in_line;
 pub use counts::{TextCounts, measure};
 pub use cut::FirstLine;
 pub use difference::{Difference, first_difference};
 pub use fault::TextFault;
+pub use findings::{Extent, Findings, OtherLength, PastEnd};
 pub use laws::{
     characters_denote, exact_texts_are_equal, feeds_end_lines, line_ends_are_whole,
     lines_are_the_cut, lines_of_joined, one_difference, places_are_denoted, places_have_positions,

@@ -45,9 +45,11 @@ ghost use Rattle.lsp_text.specs.Edits.{replaced, limited, IsFaultOf};
 ghost use Rattle.lsp_text.specs.Places.{place_of};
 ghost use Rattle.lsp_text.specs.Steps.{RisesWithin, touched};
 ghost use Rattle.lsp_text.specs.Offsets.{IsTextOffset};
+ghost use Rattle.lsp_text.specs.Findings.{noted, found_in};
 
 use crate::edit::edit;
 use crate::fault::TextFault;
+use crate::findings::Findings;
 use crate::store::{Place, TextStore};
 use lines::{Lines, Steps};
 use lsp_types::{Encoding, Memory, Position, Span, rules};
@@ -124,13 +126,43 @@ impl TextStore for Lined {
             (RisesWithin self.old.steps self.new.steps 0
             (4 * touched self.old.content span (chars text.now))) }
     {
+        self.replace_noting(encoding, span, None, text, limit, &mut Findings::none())
+    }
+
+    fn replace_noting(
+        &mut self,
+        encoding: Encoding,
+        span: Span,
+        range_length: Option<i32>,
+        text: &str,
+        limit: u64,
+        found: &mut Findings,
+    ) -> Result<(), TextFault>
+        ensures found { OnOk result (found.new
+            ≡ noted found.old (found_in encoding self.old.content span range_length)) }
+        ensures ok { OnOk result (replaced encoding self.old.content span (chars text.now) limit
+            ≡ Ok self.new.content) }
+        ensures fault { IfErr result
+            (IsFaultOf (replaced encoding self.old.content span (chars text.now) limit)) }
+        ensures err { OnErr result (self.new.content ≡ self.old.content) }
+
+        // The steps rise by about what the edit has to touch.
+        ensures counted { OnOk result
+            (RisesWithin self.old.steps self.new.steps (length text.now)
+            (4 * touched self.old.content span (chars text.now))) }
+        ensures err_counted { OnErr result
+            (RisesWithin self.old.steps self.new.steps 0
+            (4 * touched self.old.content span (chars text.now))) }
+    {
         edit(
             &mut self.lines,
             &mut self.steps,
             encoding,
             span,
+            range_length,
             text,
             limit,
+            found,
         )
     }
 

@@ -10,6 +10,7 @@ use crate::columns::offset_in_line;
 use crate::counts::measure;
 use crate::cut::FirstLine;
 use crate::fault::TextFault;
+use crate::findings::{Findings, found_in_text};
 use crate::same::same_lines;
 use crate::store::{Place, TextStore};
 use lsp_types::{Encoding, Memory, Position, Span, rules};
@@ -54,12 +55,14 @@ impl TextStore for Plain {
         }
     }
 
-    fn replace(
+    fn replace_noting(
         &mut self,
         encoding: Encoding,
         span: Span,
+        range_length: Option<i32>,
         text: &str,
         limit: u64,
+        found: &mut Findings,
     ) -> Result<(), TextFault> {
         let held = self.text.as_str();
         let Some(first) = offset_of(held, encoding, span.first) else {
@@ -74,6 +77,9 @@ impl TextStore for Plain {
         if limit < (first + text.len() + (held.len() - second)) as u64 {
             return Err(TextFault::Rule(rules::DOCUMENT_OVER_LIMIT));
         }
+        let (front, _) = held.split_at(second);
+        let (_, range) = front.split_at(first);
+        found.note(found_in_text(held, range, encoding, span, range_length));
         self.text.replace_range(first..second, text)?;
         Ok(())
     }

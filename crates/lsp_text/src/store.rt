@@ -7,8 +7,10 @@ ghost use Rattle.lsp_text.specs.Lines.{lines_of};
 ghost use Rattle.lsp_text.specs.Places.{units, place_of};
 ghost use Rattle.lsp_text.specs.Edits.{replaced, limited, IsFaultOf, IsPlaceOr605};
 ghost use Rattle.lsp_text.specs.SameText.{SameText};
+ghost use Rattle.lsp_text.specs.Findings.{noted, found_in};
 
 use crate::fault::TextFault;
+use crate::findings::Findings;
 use lsp_types::{Encoding, LineEnds, Memory, Position, Span};
 use std::alloc::Global;
 
@@ -48,6 +50,28 @@ pub trait TextStore: Drop {
         text: &str,
         limit: u64,
     ) -> Result<(), TextFault>
+        ensures ok { OnOk result (replaced encoding (content self.old) span (chars text.now) limit
+            ≡ Ok (content self.new)) }
+        ensures fault { IfErr result
+            (IsFaultOf (replaced encoding (content self.old) span (chars text.now) limit)) }
+        ensures err { OnErr result (content self.new ≡ content self.old) }
+    {
+        self.replace_noting(encoding, span, None, text, limit, &mut Findings::none())
+    }
+
+    /// The same, which notes a position past the end, and a length that is not that of the text in
+    /// the span.
+    fn replace_noting(
+        &mut self,
+        encoding: Encoding,
+        span: Span,
+        range_length: Option<i32>,
+        text: &str,
+        limit: u64,
+        found: &mut Findings,
+    ) -> Result<(), TextFault>
+        ensures found { OnOk result (found.new
+            ≡ noted found.old (found_in encoding (content self.old) span range_length)) }
         ensures ok { OnOk result (replaced encoding (content self.old) span (chars text.now) limit
             ≡ Ok (content self.new)) }
         ensures fault { IfErr result

@@ -17,5 +17,8 @@ pub enum SyncKind {
 #[derive(Debug, Drop, PartialEq, Eq)]
 pub struct Change {
     pub span: Option<Span>,
+    /// How long the replaced text is said to be: `rangeLength`, where that is an integer. No rule
+    /// judges it.
+    pub range_length: Option<i32>,
     pub text: String,
 }

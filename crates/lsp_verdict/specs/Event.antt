@@ -33,7 +33,11 @@ sent_in events = filter_map sent_of events
 
 -- a change, with the characters of its text
 abbrev pub edit_of : act.Change → Edit
-edit_of change = record { span = change.span; text = chars change.text }
+edit_of change = record {
+  span = change.span;
+  range_length = change.range_length;
+  text = chars change.text;
+}
 
 -- what an act says about a document, under this encoding and kind
 abbrev pub call_of : Encoding → SyncKind → Act → Option Call

@@ -25,7 +25,7 @@ abbrev between : Position → Position → Option Span
 between first second = Some (record { first = first; second = second })
 
 abbrev edit : Option Span → Text → Edit
-edit span text = record { span = span; text = text }
+edit span text = record { span = span; range_length = None; text = text }
 
 -- at most 20 bytes, and two versions are kept
 abbrev terms : Terms

@@ -46,6 +46,11 @@ one_more_made limit enc t u v cs n c lt is h step =
       rest = h.rest ∙ next_first limit enc u cs n c lt is ∙ ap (λ r. and_then r (λ x. applied limit enc x (edits_of (drop (n + 1) cs)))) step;
     }
 
+-- what holds in any case holds of a success
+pub on_ok_always : {T E : Type 0} (made : Result T E) (P : Type 0) → P → OnOk made P
+on_ok_always (Ok u) P h = h
+on_ok_always (Err fault) P h = tt
+
 -- what holds of a success, where there is no fault
 pub on_success : (made : Result (Unit {0}) TextFault) (P : Type 0) → OnOk made P
     → ((fault : TextFault) → made ≡ Err fault → ⊥) → P

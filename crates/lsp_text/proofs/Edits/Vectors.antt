@@ -15,7 +15,7 @@ abbrev pub between : ℕ → ℕ → ℕ → ℕ → Span
 between line column to_line to_column = record { first = at line column; second = at to_line to_column }
 
 -- é U+1F600 b CR LF c CR
-abbrev sample : List ℕ
+abbrev pub sample : List ℕ
 sample = 0xE9 ∷ 0x1F600 ∷ 98 ∷ 13 ∷ 10 ∷ 99 ∷ 13 ∷ []
 
 -- the units of the sample in each encoding
@@ -94,13 +94,13 @@ over_the_limit = refl
 
 -- changes in order: each of the text that the one before left, and the first that fails decides
 each_after_the_other :
-    applied 100 Utf16 (97 ∷ 98 ∷ []) (record { span = Some (between 0 0 0 1); text = [] } ∷ record { span = Some (between 0 1 0 1); text = 88 ∷ [] } ∷ []) ≡ Ok (98 ∷ 88 ∷ [])
+    applied 100 Utf16 (97 ∷ 98 ∷ []) (record { span = Some (between 0 0 0 1); range_length = None; text = [] } ∷ record { span = Some (between 0 1 0 1); range_length = None; text = 88 ∷ [] } ∷ []) ≡ Ok (98 ∷ 88 ∷ [])
 each_after_the_other = refl
 
 third_is_reversed :
-    applied 100 Utf16 (97 ∷ 98 ∷ []) (record { span = Some (between 0 0 0 1); text = [] } ∷ record { span = Some (between 0 1 0 1); text = 88 ∷ [] } ∷ record { span = Some (between 0 1 0 0); text = [] } ∷ [])
+    applied 100 Utf16 (97 ∷ 98 ∷ []) (record { span = Some (between 0 0 0 1); range_length = None; text = [] } ∷ record { span = Some (between 0 1 0 1); range_length = None; text = 88 ∷ [] } ∷ record { span = Some (between 0 1 0 0); range_length = None; text = [] } ∷ [])
     ≡ Err 606
 third_is_reversed = refl
 
-over_the_limit_in_between : applied 1 Utf16 (97 ∷ []) (record { span = None; text = 97 ∷ 98 ∷ [] } ∷ record { span = None; text = [] } ∷ []) ≡ Err 607
+over_the_limit_in_between : applied 1 Utf16 (97 ∷ []) (record { span = None; range_length = None; text = 97 ∷ 98 ∷ [] } ∷ record { span = None; range_length = None; text = [] } ∷ []) ≡ Err 607
 over_the_limit_in_between = refl

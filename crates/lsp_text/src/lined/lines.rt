@@ -12,13 +12,16 @@ ghost use Rattle.lsp_text.specs.Places.{units};
 ghost use Rattle.lsp_text.specs.Offsets.{IsAtLine};
 ghost use Rattle.lsp_text.specs.Steps.{raised, line_bytes, line_number};
 ghost use Rattle.lsp_text.specs.Ends.{IsNear};
-ghost use Rattle.lsp_text.specs.Parts.{CanReplace};
+ghost use Rattle.lsp_text.specs.Parts.{CanReplace, bytes_between};
+ghost use Rattle.lsp_text.specs.Findings.{extent_of};
 ghost use Rattle.lsp_text.specs.Windows.{text_with};
 ghost use Rattle.lsp_text.specs.LentLines.{IsLentLine, IsHeldLine, IsEndOf, IsOffsetIn};
-ghost use Rattle.lsp_text.specs.LentLines.{NoOffsetIn};
+ghost use Rattle.lsp_text.specs.LentLines.{NoOffsetIn, line_of};
 
 use crate::columns::offset_in_line;
+use crate::findings::{Extent, extent_past};
 use crate::lined::window::Windowed;
+use crate::reading::width_of;
 use crate::same::{LinesLeft, is_taken, without_last_end};
 use crate::sums::Measure;
 use crate::walk::{Differs, Front, LinesAhead};
@@ -152,6 +155,16 @@ impl Lines {
         self.held.units_before(Encoding::Utf32, offset)
     }
 
+    /// The units of the text between two places.
+    pub(crate) fn units_between(&self, encoding: Encoding, from: usize, to: usize) -> u64
+        requires { CanReplace self.now from to }
+        ensures { result ≡ units encoding (chars (bytes_between self.now from to)) }
+    {
+        let before = self.held.units_before(encoding, from);
+        let through = self.held.units_before(encoding, to);
+        through - before
+    }
+
     /// Whether the lines spell a text.
     pub(super) fn spell(&self, text: &str) -> bool
         ensures value { IsTrue result ↔ (self.now ≡ text.now) }
@@ -237,6 +250,7 @@ impl<'a> LentLine<'a> {
 
     /// The bytes of the text before a column of the line, or `None` where it lies inside a
     /// character.
+    #[inline(always)]
     pub(crate) fn offset_of(&self, encoding: Encoding, column: u32) -> Option<usize>
         requires { IsHeldLine self.now }
         ensures { MatchOption result (NoOffsetIn encoding self.now column)
@@ -254,7 +268,49 @@ impl<'a> LentLine<'a> {
         Some(self.start + offset)
     }
 
-    /// The same of a line that goes over several blocks.
+    /// How far the line goes, where a column is greater than its units. The offset is the place of
+    /// the column: where it is before the end of the line, the column is not greater.
+    #[inline(always)]
+    pub(crate) fn extent(&self, encoding: Encoding, column: u32, offset: usize) -> Option<Extent>
+        requires line { IsHeldLine self.now }
+        requires place { IsOffsetIn encoding self.now column offset }
+        ensures { result ≡ extent_of (units encoding (chars (line_of self.now))) column }
+    {
+        if offset < self.end {
+            return None;
+        }
+        extent_past(self.width(encoding), column)
+    }
+
+    /// The units of the line.
+    #[inline(always)]
+    fn width(&self, encoding: Encoding) -> u64
+        requires { IsHeldLine self.now }
+        ensures { result ≡ units encoding (chars (line_of self.now)) }
+    {
+        let size = self.end - self.start;
+        if self.near.len() < size {
+            return self.far_width(encoding);
+        }
+        if self.is_plain {
+            return size as u64;
+        }
+        let (line, _) = self.near.split_at(size);
+        width_of(line, encoding)
+    }
+
+    /// The units of a line that goes over several blocks.
+    #[inline(never)]
+    fn far_width(&self, encoding: Encoding) -> u64
+        requires { IsHeldLine self.now }
+        ensures { result ≡ units encoding (chars (line_of self.now)) }
+    {
+        let before = self.units_before(encoding, self.start);
+        let through = self.units_before(encoding, self.end);
+        through - before
+    }
+
+    /// The bytes before a column of a line that goes over several blocks.
     fn offset_of_far(&self, encoding: Encoding, column: u32) -> Option<usize>
         requires { IsHeldLine self.now }
         ensures { MatchOption result (NoOffsetIn encoding self.now column)

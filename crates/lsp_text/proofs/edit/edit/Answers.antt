@@ -14,8 +14,8 @@ returns-in_default-find_second-clause-err_counted c =
 
 pub returns-then-second-first-clause-fault : goal.returns-then-second-first-clause-fault
 returns-then-second-first-clause-fault c =
-    replaced-reversed c.args.encoding c.args.lines.now (chars c.args.text.now) c.args.span c.args.limit c.in-Some.first c.in-Some-find_second.second c.byte_len-bytes.ensures.utf8
-    c.in-Some.ensures c.in-Some-find_second.ensures.found c.if-second-first.true
+    replaced-reversed c.args.encoding c.args.lines.now (chars c.args.text.now) c.args.span c.args.limit c.in-Some.first.offset c.in-Some-find_second.second.offset c.byte_len-bytes.ensures.utf8
+    c.in-Some.ensures.place c.in-Some-find_second.ensures.place c.if-second-first.true
 
 pub returns-then-second-first-clause-err_counted : goal.returns-then-second-first-clause-err_counted
 returns-then-second-first-clause-err_counted c =
@@ -23,17 +23,17 @@ returns-then-second-first-clause-err_counted c =
 
 pub returns-then-is_over-clause-fault : goal.returns-then-is_over-clause-fault
 returns-then-is_over-clause-fault c =
-    let le = c.in-Some-find_second.ensures.found.boundary.0 in
+    let le = c.in-Some-find_second.ensures.place.boundary.0 in
     let over = c.is_over.ensures.0 c.if-is_over.true in
-    replaced-over c.args.encoding c.args.lines.now c.args.text.now c.args.span c.args.limit c.in-Some.first c.in-Some-find_second.second c.byte_len-bytes.ensures.utf8 c.utf8.text
-    c.in-Some.ensures c.in-Some-find_second.ensures.found c.if-second-first.false (omega (arith, c.byte_len-bytes.ensures.value))
+    replaced-over c.args.encoding c.args.lines.now c.args.text.now c.args.span c.args.limit c.in-Some.first.offset c.in-Some-find_second.second.offset c.byte_len-bytes.ensures.utf8 c.utf8.text
+    c.in-Some.ensures.place c.in-Some-find_second.ensures.place c.if-second-first.false (omega (arith, c.byte_len-bytes.ensures.value))
 
 pub returns-then-is_over-clause-err_counted : goal.returns-then-is_over-clause-err_counted
 returns-then-is_over-clause-err_counted c =
     counted_second (chars c.args.lines.now) (chars c.args.text.now) c.args.span c.args.steps.now c.read_at-line.new.steps c.find_second.new.steps c.read_at-line.ensures.counted c.find_second.ensures.counted
 
 pub replace-requires : goal.replace-requires
-replace-requires c = record { order = c.if-second-first.false; first = c.in-Some.ensures.boundary; second = c.in-Some-find_second.ensures.found.boundary }
+replace-requires c = record { order = c.if-second-first.false; first = c.in-Some.ensures.place.boundary; second = c.in-Some-find_second.ensures.place.boundary }
 
 pub returns-in_err-replace-clause-err_counted : goal.returns-in_err-replace-clause-err_counted
 returns-in_err-replace-clause-err_counted c =
@@ -42,13 +42,23 @@ returns-in_err-replace-clause-err_counted c =
 
 pub returns-clause-ok : goal.returns-clause-ok
 returns-clause-ok c =
-    let le = c.in-Some-find_second.ensures.found.boundary.0 in
+    let le = c.in-Some-find_second.ensures.place.boundary.0 in
     let done : List ℕ → Result (List ℕ) ℕ = λ x. Ok x in
-    let within = within_limit c.in-Some.first c.in-Some-find_second.second c.byte_len-bytes.result (length c.args.text.now) c.args.limit c.is_over.result c.is_over.ensures c.if-is_over.false in
-    replaced-within c.args.encoding c.args.lines.now c.args.text.now c.args.span c.args.limit c.in-Some.first c.in-Some-find_second.second c.byte_len-bytes.ensures.utf8 c.utf8.text
-    c.in-Some.ensures c.in-Some-find_second.ensures.found c.if-second-first.false (omega (arith, c.byte_len-bytes.ensures.value, within))
+    let within = within_limit c.in-Some.first.offset c.in-Some-find_second.second.offset c.byte_len-bytes.result (length c.args.text.now) c.args.limit c.is_over.result c.is_over.ensures c.if-is_over.false in
+    replaced-within c.args.encoding c.args.lines.now c.args.text.now c.args.span c.args.limit c.in-Some.first.offset c.in-Some-find_second.second.offset c.byte_len-bytes.ensures.utf8 c.utf8.text
+    c.in-Some.ensures.place c.in-Some-find_second.ensures.place c.if-second-first.false (omega (arith, c.byte_len-bytes.ensures.value, within))
     ∙ ap done (ap chars (sym c.in_ok-replace.ensures.ok))
 
 pub returns-clause-counted : goal.returns-clause-counted
 returns-clause-counted c =
     counted_all (chars c.args.lines.now) c.args.text.now c.args.span c.args.steps.now c.read_at-line.new.steps c.find_second.new.steps c.add.new.self c.utf8.text c.read_at-line.ensures.counted c.find_second.ensures.counted c.add.ensures
+
+pub note-requires : goal.note-requires
+note-requires c = record {
+  first = c.in-Some.ensures.place;
+  second = c.in-Some-find_second.ensures.place;
+  first_extent = c.in-Some.ensures.extent;
+  second_extent = c.in-Some-find_second.ensures.extent;
+  order = c.if-second-first.false;
+  utf8 = c.byte_len-bytes.ensures.utf8;
+}

@@ -6,13 +6,14 @@ use Rattle.std.specs.Prelude.{unwrap_or}
 use Rattle.lsp_types.specs.Texts.{is_text}
 use Rattle.std.proofs.lemmas.Int.{to_z-of_z}
 use mir.Val.{SFits}
-use Rattle.std.proofs.lemmas.Result.{on_err_weaker, IfErr-weaker}
+use Rattle.std.proofs.lemmas.Result.{on_err_weaker, on_ok_weaker, IfErr-weaker}
 use Rattle.lsp_text.specs.Changes.{edits_of}
 use Rattle.lsp_text.specs.Edits.{applied}
 use Rattle.lsp_docs.specs.declared.document.Document.{Document}
 use Rattle.lsp_docs.specs.Documents.{Version, versioned}
 use Rattle.lsp_docs.specs.Fault.{Names}
 use Rattle.lsp_docs.specs.Stored.{kept_of}
+use Rattle.lsp_docs.specs.Taken.{found_on}
 use Rattle.lsp_docs.specs.Tried.{AreTriedOn, tried_in}
 use Rattle.lsp_docs.specs.State.{KeepsOn, early_rule, held_in, rule_with, set_in, text_in}
 use Rattle.lsp_docs.proofs.Entries.{held_in-of, held-set, keeps-on}
@@ -141,3 +142,16 @@ returns-clause-err g c =
     }) same.0) documents found in
     (λ i. record { held = same_held i; kept = same_kept i }) ∙ c.self.view_is)
     c.change.ensures.err
+
+pub returns-clause-found : goal.returns-clause-found
+returns-clause-found g c =
+    let uri = c.args.uri.now in
+    let cs = edits_of c.args.changes.now in
+    let d = c.in-Some.document.now in
+    let is_now : held_in uri c.args.self.now.held ≡ Some (seen g d) =
+    ap (λ s. held_in uri s.held) (sym c.self.view_is)
+    ∙ (held_in-of (seen g) uri c.self.inside.documents
+    ∙ ap (option_map (seen g)) (sym c.in-Some.ensures.value)) in
+    on_ok_weaker c.change.result
+    (λ e. e ∙ ap (λ o. found_on c.args.terms.limit c.args.encoding o cs) (sym is_now))
+    c.change.ensures.found

@@ -3,12 +3,13 @@ use Rattle.std.proofs.lemmas.Int.{to_z-of_z}
 use mir.Val.{SFits}
 use Rattle.lsp_docs.specs.Calls.{Call, changes}
 use Rattle.lsp_docs.specs.State.{Refuses, Stands, early_rule, held_in, queue_of}
+use Rattle.lsp_docs.specs.Taken.{found_on, took_found}
 use Rattle.lsp_docs.specs.Tried.{AreTriedOn, IsTried, tried_in}
 use Rattle.lsp_text.specs.Changes.{edits_of}
 use Rattle.lsp_docs.specs.Fault.{IsRule, Names}
 use Rattle.lsp_docs.proofs.SameVersions.{change-due}
 use Rattle.lsp_docs.proofs.Stepping.{accepts-changed, held-stands, refuses, stated, terms_in}
-use Rattle.lsp_docs.proofs.docs.Docs.try_change.Goals as goal
+use Rattle.lsp_docs.proofs.docs.Docs.change.Goals as goal
 
 pub returns-in_err-change-clause-refuses : goal.returns-in_err-change-clause-refuses
 returns-in_err-change-clause-refuses g c =
@@ -75,3 +76,15 @@ returns-clause-accepts g c =
     let reaches = simp to_z-of_z at c.reach.ensures in
     rw (← c.self.view_is) (accepts-changed was c.args.encoding c.args.kind uri n cs _ _ _
     (sym same ∙ made.accepted) made reaches)
+
+pub returns-clause-took : goal.returns-clause-took
+returns-clause-took g c = λ calls h.
+    let uri = c.args.uri.now in
+    let cs = edits_of c.args.changes.now in
+    let held = held_in uri c.self.inside.documents.held in
+    let same = sym (held-stands c.args.self.now calls uri h)
+    ∙ sym (ap (λ x. held_in uri x.documents) c.self.view_is) in
+    c.of.ensures
+    ∙ ap took_found (c.in_ok-change.ensures.found
+    ∙ ap (λ n. found_on n c.args.encoding held cs) (ap (λ x. x.terms.limit) c.self.view_is)
+    ∙ ap (λ o. found_on c.args.self.now.terms.limit c.args.encoding o cs) (sym same))
