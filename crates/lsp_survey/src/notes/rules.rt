@@ -1,9 +1,8 @@
-//! What rules say about an offence: whether it may follow from an earlier one, and what it leaves
-//! after.
+//! What its rule says about an offence: whether it may follow from an earlier one, and whether it
+//! leaves the handshake lost.
 ghost use Rattle.std.specs.Prelude.{◌≡◌};
 ghost use Rattle.lsp_verdict.specs.Offences.{breaks_handshake, is_within, wants_handshake};
 ghost use Rattle.lsp_verdict.specs.Offences.{wants_other, wants_text};
-ghost use Rattle.lsp_survey.specs.Notes.{loses_by};
 
 use lsp_types::rules;
 
@@ -74,24 +73,4 @@ pub(crate) fn breaks_handshake(asks: bool, rule: u16) -> bool
         rules::ENCODING_OUTSIDE_PROFILE,
         rule,
     )
-}
-
-/// Whether what is said about a document, which is opened again with another text or not, and sets
-/// its text or not, leaves the held text another than the sender's where it breaks the rule.
-pub(crate) fn loses(rule: u16, other: bool, sets: bool) -> bool
-    ensures { result ≡ loses_by rule other sets }
-{
-    if rule == rules::DOCUMENT_ALREADY_OPEN {
-        return other;
-    }
-    if sets {
-        return true;
-    }
-    if rule == rules::DOCUMENT_NOT_OPEN {
-        return true;
-    }
-    if rule == rules::SAVED_TEXT_DIFFERS {
-        return true;
-    }
-    rule == rules::SNAPSHOT_DIFFERS
 }
