@@ -60,8 +60,9 @@ pub(crate) fn message_traced(
         (id_in refused.sent.message)) }
 {
     let Past { held, trail } = past;
-    let mut facts = session_facts(held.docs.alloc(), &held.session, side, spoken, rule)?;
-    trace_message(&mut facts, &trail.said, side, &spoken.message, rule)?;
+    let Spoken { message, act } = spoken;
+    let mut facts = session_facts(held.docs.alloc(), &held.session, side, message, act, rule)?;
+    trace_message(&mut facts, &trail.said, side, message, rule)?;
     Ok(facts)
 }
 
