@@ -1,6 +1,7 @@
 //! What is said about documents, and what it leaves of the notes.
-ghost use Rattle.std.specs.Prelude.{◌≡◌, List, Some, None, OnOk, chars, false, option_map};
-ghost use Rattle.std.specs.Prelude.{string_bytes};
+ghost use Rattle.std.specs.Prelude.{◌≡◌, List, Some, None, OnOk, chars, false, is_none};
+ghost use Rattle.std.specs.Prelude.{option_map, string_bytes};
+ghost use Rattle.std.specs.List.{list_any};
 ghost use Rattle.lsp_docs.specs.Calls.{Call as SpecCall, opens};
 ghost use Rattle.lsp_docs.specs.Documents.{held};
 ghost use Rattle.lsp_docs.specs.State.{Stands};
@@ -10,7 +11,7 @@ ghost use Rattle.lsp_survey.specs.Notes.{AreAfter, Leaves};
 
 use crate::notes::note::Notes;
 use lsp_docs::{Call, Docs, has_text};
-use lsp_rpc::Result;
+use lsp_rpc::{Change, Result};
 use lsp_text::TextStore;
 use lsp_types::rules;
 
@@ -27,13 +28,20 @@ fn sets_text(call: Call<'_>) -> bool
     }
 }
 
+/// Whether a change is of the whole text.
+fn any_whole(changes: &[Change]) -> bool
+    ensures { result ≡ list_any (λ change. is_none change.span) changes.now }
+{
+    changes.iter().any(|change| change.span.is_none())
+}
+
 /// Whether a call gives the whole text of its document again.
 fn renews(call: Call<'_>) -> bool
     ensures { result ≡ renews (call_view call.entry) }
 {
     match call {
         Call::Opens { .. } => true,
-        Call::Changes { changes, .. } => changes.iter().any(|change| change.span.is_none()),
+        Call::Changes { changes, .. } => any_whole(changes),
         Call::Closes { .. } => false,
         Call::Saves { .. } => false,
         Call::Shows { .. } => false,
