@@ -20,7 +20,6 @@ use lsp_frame::{Limits, Sink, Source};
 use lsp_replay::{Account, End, Events, Fate, Flow, LogEvents, Seen, TextAnswer, pass};
 use lsp_rpc::Result;
 use lsp_text::Lined;
-use lsp_types::rules;
 use lsp_verdict::{Outcome, RunFault, Verdict};
 use std::alloc::Global;
 
@@ -103,11 +102,10 @@ fn texts_at<'a>(
         (made_in (option_map (λ t. t.now) tried.entry))
         → option_map seen_texts result ≡ texts_at held.now.docs.terms kept event rule }
 {
-    let call = call?;
-    if rule < rules::FIRST_ON_DOCUMENTS {
-        return None;
+    match call {
+        Some(call) => texts_of(&held.docs, call, rule, tried),
+        None => None,
     }
-    texts_of(&held.docs, call, rule, tried)
 }
 
 /// The one of two texts, where there are two.

@@ -65,7 +65,7 @@ impl Trail {
         let Some(call) = seen.call else {
             return self.keep_message(held, place, seen.raw, seen.spoken);
         };
-        keep_call(&mut self.marks, &mut self.openings, place, call, took)?;
+        keep_step(&mut self.marks, &mut self.openings, place, call, took)?;
         self.said.renames.keep_call(place, call)
     }
 
@@ -102,7 +102,7 @@ impl Trail {
 
 /// Notes what a kept call, the event of this place, which says this, does to its document.
 #[inline(always)]
-fn keep_call(
+fn keep_step(
     marks: &mut Marks,
     openings: &mut Openings,
     place: EventPlace,
@@ -115,6 +115,7 @@ fn keep_call(
     let Some(step) = step_of(call, said) else {
         return Ok(());
     };
-    marks.keep(place, call.uri(), step)?;
-    openings.keep(place, call.uri(), step)
+    let uri = call.uri();
+    marks.keep(place, uri, step)?;
+    openings.keep(place, uri, step)
 }
