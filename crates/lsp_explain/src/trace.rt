@@ -1,5 +1,5 @@
 //! Which events led to an offence: lines that name earlier events.
-ghost use Rattle.std.specs.Prelude.{◌≡◌, ◌++◌, ◌∷◌, [], ℕ, List, Some, IfOk, OnOk, codes, map};
+ghost use Rattle.std.specs.Prelude.{◌≡◌, ◌++◌, ◌∷◌, [], List, Some, IfOk, OnOk, codes, map};
 ghost use Rattle.std.specs.Prelude.{option_map};
 ghost use Rattle.lsp_docs.specs.Calls.{uri_of};
 ghost use Rattle.lsp_docs.specs.Documents.{Terms};
@@ -7,13 +7,13 @@ ghost use Rattle.lsp_docs.specs.Rules.{call_rule};
 ghost use Rattle.lsp_docs.specs.Taken.{call_view};
 ghost use Rattle.lsp_docs.specs.Tried.{IsTried};
 ghost use Rattle.lsp_rpc.specs.Ident.{id_view};
-ghost use Rattle.lsp_rpc.specs.View.{act_view, message_view};
+ghost use Rattle.lsp_rpc.specs.View.{message_view};
 ghost use Rattle.lsp_session.specs.Entry.{request_view};
 ghost use Rattle.lsp_session.specs.Sent.{other_side};
 ghost use Rattle.lsp_verdict.specs.Event.{Event, calls, sent_in};
 ghost use Rattle.lsp_verdict.specs.Verdict.{document_rule};
 ghost use Rattle.lsp_replay.specs.Lines.{place_of};
-ghost use Rattle.lsp_replay.specs.Standing.{RefusesMessage};
+ghost use Rattle.lsp_replay.specs.Telling.{IsSpoken};
 ghost use Rattle.lsp_replay.specs.Tries.{IsTriedOf, made_in};
 ghost use Rattle.lsp_verdict.specs.Offences.{kept_of, said_at};
 ghost use Rattle.lsp_explain.specs.Asking.{numbered};
@@ -50,18 +50,16 @@ pub(crate) fn message_traced(
     spoken: &Spoken,
     rule: u16,
 ) -> Result<Facts>
-    ensures { IfOk result (λ facts. (content : List ℕ) (before : List Event)
+    ensures { IfOk result (λ facts. (event : Event) (before : List Event)
         → StandsAfter past.entry before
-        → (refused : RefusesMessage side content (message_view spoken.now.message)
-        (act_view spoken.now.act) (terms_in past.entry)
-        (kept_of (terms_in past.entry) before) rule)
-        → facts ≡ session_facts rule (sent_in (kept_of (terms_in past.entry) before)) refused.sent
-        ++ spec.session_trace rule (numbered (terms_in past.entry) before) refused.sent.side
-        (id_in refused.sent.message)) }
+        → (heard : IsSpoken (kept_of (terms_in past.entry) before) event side spoken.now)
+        → facts ≡ session_facts rule (sent_in (kept_of (terms_in past.entry) before)) heard.sent
+        ++ spec.session_trace rule (numbered (terms_in past.entry) before) heard.sent.side
+        (id_in heard.sent.message)) }
 {
     let Past { held, trail } = past;
-    let Spoken { message, act } = spoken;
-    let mut facts = session_facts(held.docs.alloc(), &held.session, side, message, act, rule)?;
+    let (alloc, message) = (held.docs.alloc(), &spoken.message);
+    let mut facts = session_facts(alloc, &held.session, side, message, &spoken.act, rule)?;
     trace_message(&mut facts, &trail.said, side, message, rule)?;
     Ok(facts)
 }
@@ -164,12 +162,13 @@ fn trace_call(
         (call_view call.entry)) }
 {
     let marks = &past.trail.marks;
+    let uri = call.uri();
     let until = until_of(place, call);
     if rule != rules::SNAPSHOT_DIFFERS {
-        return trace_document(facts, marks, call.uri(), &[], until, rule);
+        return trace_document(facts, marks, uri, &[], until, rule);
     }
     let snapshots = differing(past, place, call, tried)?;
-    trace_document(facts, marks, call.uri(), snapshots.as_slice(), until, rule)
+    trace_document(facts, marks, uri, snapshots.as_slice(), until, rule)
 }
 
 /// By which message the text came about that differs.
