@@ -130,6 +130,12 @@ message_breaks terms kept event side s rule own least offends =
     ∙ by_rule terms kept own.sent rule least (rule_after (sent_in kept) own.sent) refl
     (ap (offence terms kept) (sym own.is) ∙ offends)
 
+pub shown_breaks : (terms : Terms) (kept : List Event) (event : Event) (number : ℤ)
+    (uri text : List ℕ) (rule : ℕ) → event ≡ snapshot uri number text
+    → offence terms kept event ≡ Some rule → document_rule terms kept event ≡ Some rule
+shown_breaks terms kept event number uri text rule own offends =
+    ap (document_rule terms kept) own ∙ ap (offence terms kept) (sym own) ∙ offends
+
 -- and by the call of any event that says something of one
 pub call_breaks : (terms : Terms) (kept : List Event) (event : Event) (call : Call) (rule : ℕ)
     → 601 ≤ rule → offence terms kept event ≡ Some rule → call_at kept event ≡ Some call
