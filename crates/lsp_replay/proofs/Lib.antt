@@ -21,4 +21,3 @@ pub mod JudgedRuns
 pub mod SeenLines
 pub mod AllHeard
 pub mod TextRuns
-pub mod Trying
