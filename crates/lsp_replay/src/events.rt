@@ -49,6 +49,7 @@ pub struct Events<S: TextStore> {
 }
 
 /// An event as it was read.
+#[derive(Clone, Copy)]
 pub(crate) struct ReadEvent<'a> {
     pub(crate) raw: Raw<'a>,
     /// The message that it is, without its params and the value of a result that nothing reads.

@@ -18,6 +18,7 @@ use lsp_text::Lined;
 use lsp_verdict::{Counts, Lines, Offence, Outcome, Raw};
 
 /// What happened at an event, which is counted. All of it is lent.
+#[derive(Clone, Copy)]
 pub struct Seen<'a> {
     /// The event, as it was read.
     pub raw: Raw<'a>,
@@ -30,6 +31,7 @@ pub struct Seen<'a> {
 }
 
 /// What became of an event.
+#[derive(Clone, Copy)]
 pub enum Fate<'a> {
     /// It is kept, and this is what its call says. Session and documents are those after it.
     Kept(Took),
