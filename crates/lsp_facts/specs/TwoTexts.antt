@@ -34,7 +34,7 @@ pub record TwoTexts : Type 0 where
   pub in_editor : Text
 
 abbrev pub two_texts : Text → Text → TwoTexts
-two_texts made recorded = record { by_messages = made; in_editor = recorded }
+two_texts made other = record { by_messages = made; in_editor = other }
 
 abbrev pub texts_view : {S : Type 0} → (S → Text) → code.TwoTexts S → TwoTexts
 texts_view content t = two_texts (lent_text content t.by_messages) (chars t.in_editor.now)
@@ -46,16 +46,19 @@ abbrev pub against : Terms → List Call → Bytes → Version → Option TwoTex
 against terms before uri v = option_map (two_texts v.text)
     (first_other terms.line_ends v.text (waiting_texts terms before uri v.number))
 
+-- a text that was recorded, and the one that is held of its document, where there is one
+abbrev pub recorded : Text → Option Text → Option TwoTexts
+recorded text held = option_map (λ other. two_texts other text) held
+
 -- **the two texts that differ, where a call after these compares a text with another**: a save has
 -- another than is held, a snapshot another than is held or kept of its version, and an opening and
 -- a change bring one that a waiting snapshot refutes
 abbrev pub compared : Terms → List Call → Call → Option TwoTexts
 compared terms before (saves uri text) =
-    option_and_then (λ t. option_map (λ (v : Version). two_texts v.text t) (held terms uri before))
+    option_and_then (λ t. recorded t (option_map (λ (v : Version). v.text) (held terms uri before)))
     text
 compared terms before (shows uri number text) =
-    option_map (λ other. two_texts other text)
-    (other_than terms.line_ends (versioned number text) (kept terms uri before)
+    recorded text (other_than terms.line_ends (versioned number text) (kept terms uri before)
     (held terms uri before))
 compared terms before call =
     option_and_then (against terms before (uri_of call)) (brings terms before call)

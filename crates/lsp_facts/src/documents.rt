@@ -201,11 +201,12 @@ fn of_change<S: TextStore>(
         return misfit(alloc, store, encoding, kind, changes, docs.limit());
     }
     let Made { store, count } = as_tried(store, tried);
-    let Some(change) = changes.get(count) else {
+    if changes.len() <= count {
         return Ok(Facts::new(alloc));
-    };
+    }
     let text = store.to_text(alloc)?;
     let text = text.as_str();
+    let change = &changes[count];
     refused(alloc, encoding, text, count, change, rule, docs.limit())
 }
 

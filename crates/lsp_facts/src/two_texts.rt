@@ -72,7 +72,10 @@ fn compared<'a, S: TextStore>(
     match call {
         Call::Saves { uri, text } => stored(docs.store_of(uri), text?),
         Call::Shows { uri, version, text } => stored(docs.store_at(uri, version), text),
-        _ => against(docs, call.uri(), brought(docs, call, tried)?),
+        _ => {
+            let brought = brought(docs, call, tried)?;
+            against(docs, call.uri(), brought)
+        }
     }
 }
 
@@ -98,7 +101,7 @@ fn against<'a, S: TextStore>(
 /// The text of a store, where there is one, and this one.
 fn stored<'a, S: TextStore>(store: Option<&'a S>, text: &'a str) -> Option<TwoTexts<'a, S>>
     ensures { option_map (texts_view S.content) result
-        ≡ option_map (λ s. spec.two_texts (S.content s.now) (chars text.now)) store.entry }
+        ≡ spec.recorded (chars text.now) (option_map (λ s. S.content s.now) store.entry) }
 {
     Some(TwoTexts {
         by_messages: LentText::Stored(store?),
