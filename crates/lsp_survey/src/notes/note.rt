@@ -83,7 +83,7 @@ impl Notes {
         self.map.is_empty()
     }
 
-    /// Whether a document is lost that something is said about, if anything is.
+    /// Whether what is said, if anything, is about a document that is lost.
     ///
     /// # Errors
     /// `Memory` where memory was refused.
