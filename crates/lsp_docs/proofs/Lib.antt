@@ -20,4 +20,3 @@ pub mod Unmatched
 pub mod Others
 pub mod Trying
 pub mod Sessions
-pub mod Taking

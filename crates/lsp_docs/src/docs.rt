@@ -5,7 +5,7 @@ ghost use Rattle.std.specs.Prelude.{length, map, slice_get, nat_lt, IfErr, IfOk}
 ghost use Rattle.std.specs.Prelude.{OnOk, OnErr, option_map, unwrap_or};
 ghost use Rattle.std.specs.List.{list_any};
 ghost use Rattle.std.specs.Str.{chars};
-ghost use Rattle.lsp_docs.specs.Calls.{byte_len, Call, opens, changes as changes_by, closes, saves};
+ghost use Rattle.lsp_docs.specs.Calls.{byte_len, Call as SpecCall, opens, changes as changes_by, closes, saves};
 ghost use Rattle.lsp_docs.specs.Calls.{shows};
 ghost use Rattle.lsp_docs.specs.Documents.{terms_of, kept_of as kept_by, versioned, held};
 ghost use Rattle.lsp_docs.specs.Documents.{documents};
@@ -99,7 +99,7 @@ impl<S: TextStore> Docs<S> {
 
     /// How many documents are open.
     pub fn len(&self) -> usize
-        ensures { (calls : List Call) → Stands self.now calls
+        ensures { (calls : List SpecCall) → Stands self.now calls
             → result ≡ length (documents self.now.terms calls) }
     {
         self.documents.len()
@@ -108,7 +108,7 @@ impl<S: TextStore> Docs<S> {
     /// The URI of the document at this place in the order in which they were opened, from 0.
     /// [`Docs::uris`] finds all of them faster.
     pub fn at(&self, index: usize) -> Option<&str>
-        ensures { (calls : List Call) → Stands self.now calls
+        ensures { (calls : List SpecCall) → Stands self.now calls
             → option_map (λ uri. uri.now) result
             ≡ slice_get (map (λ h. h.uri) (documents self.now.terms calls)) index }
     {
@@ -117,7 +117,7 @@ impl<S: TextStore> Docs<S> {
 
     /// The URIs of the open documents, one after another, in the order in which they were opened.
     pub fn uris(&self) -> OpenUris<'_, S>
-        ensures { (calls : List Call) → Stands self.now calls
+        ensures { (calls : List SpecCall) → Stands self.now calls
             → result ≡ map (λ h. h.uri) (documents self.now.terms calls) }
     {
         self.documents.uris()
@@ -125,7 +125,7 @@ impl<S: TextStore> Docs<S> {
 
     /// The version that the server holds of a URI, if it is open.
     pub fn version_of(&self, uri: &str) -> Option<i32>
-        ensures { (calls : List Call) → Stands self.now calls
+        ensures { (calls : List SpecCall) → Stands self.now calls
             → result ≡ option_map (λ v. v.number) (held self.now.terms uri.now calls) }
     {
         match self.get(uri) {
@@ -136,7 +136,7 @@ impl<S: TextStore> Docs<S> {
 
     /// The text that the server holds of a URI, if it is open.
     pub fn store_of(&self, uri: &str) -> Option<&S>
-        ensures { (calls : List Call) → Stands self.now calls
+        ensures { (calls : List SpecCall) → Stands self.now calls
             → option_map (λ store. S.content store.now) result
             ≡ option_map (λ v. v.text) (held self.now.terms uri.now calls) }
     {
@@ -163,7 +163,7 @@ impl<S: TextStore> Docs<S> {
     /// The numbers of the versions that are kept of a URI before the held one, the oldest first;
     /// none where it is not open.
     pub fn kept_versions(&self, uri: &str) -> Result<Vec<i32>, Memory>
-        ensures { IfOk result (λ numbers. (calls : List Call) → Stands self.now calls
+        ensures { IfOk result (λ numbers. (calls : List SpecCall) → Stands self.now calls
             → numbers.items ≡ map (λ v. v.number) (kept self.now.terms uri.now calls)) }
     {
         let alloc = self.documents.alloc();
@@ -176,7 +176,7 @@ impl<S: TextStore> Docs<S> {
     /// The text that the server holds of a URI at this version, or that is kept of it: a snapshot
     /// with another one is refused by 702.
     pub fn store_at(&self, uri: &str, version: i32) -> Option<&S>
-        ensures { (calls : List Call) → Stands self.now calls
+        ensures { (calls : List SpecCall) → Stands self.now calls
             → option_map (λ store. S.content store.now) result
             ≡ text_at version (kept self.now.terms uri.now calls)
             (held self.now.terms uri.now calls) }
@@ -190,7 +190,7 @@ impl<S: TextStore> Docs<S> {
     /// The texts of the snapshots that wait for this version of a URI, in the order in which they
     /// came: one with another text refuses an opening or a change by 702.
     pub fn waiting_texts(&self, uri: &str, version: i32) -> &[String]
-        ensures { (calls : List Call) → Stands self.now calls
+        ensures { (calls : List SpecCall) → Stands self.now calls
             → texts_of result.now ≡ texts_at version
             (versions_of uri.now (waiting self.now.terms calls)) }
     {
@@ -202,7 +202,7 @@ impl<S: TextStore> Docs<S> {
 
     /// How many snapshots may still be compared, at most 2^64 - 1.
     pub fn waiting(&self) -> u64
-        ensures { (calls : List Call) → Stands self.now calls
+        ensures { (calls : List SpecCall) → Stands self.now calls
             → result ≡ capped (length (waiting self.now.terms calls)) }
     {
         self.waiting.len()
@@ -210,7 +210,7 @@ impl<S: TextStore> Docs<S> {
 
     /// How many snapshots were never compared so far, those that wait included, at most 2^64 - 1.
     pub fn unmatched(&self) -> u64
-        ensures { (calls : List Call) → Stands self.now calls
+        ensures { (calls : List SpecCall) → Stands self.now calls
             → result ≡ capped (unmatched self.now.terms calls) }
     {
         self.waiting.unmatched()
@@ -228,7 +228,7 @@ impl<S: TextStore> Docs<S> {
         ensures refuses { IfErr result (Refuses self.old (call_view call.entry)) }
         ensures memory { result ≡ Err DocFault.Memory
             → MayLackMemory self.old (call_view call.entry) }
-        ensures tried { IfErr result (λ fault. (calls : List Call)
+        ensures tried { IfErr result (λ fault. (calls : List SpecCall)
             → Stands self.old calls → IsRule fault → IsTried self.old.terms calls
             (call_view call.entry) (tried_in S.content tried.new)) }
         ensures err { OnErr result (self.new ≡ self.old) }
@@ -303,7 +303,7 @@ impl<S: TextStore> Docs<S> {
             (changes_by encoding kind uri.now version (edits_of changes.now))) }
         ensures refuses { IfErr result (Refuses self.old
             (changes_by encoding kind uri.now version (edits_of changes.now))) }
-        ensures memory { result ≡ Err DocFault.Memory → ((calls : List Call) → Stands self.old calls
+        ensures memory { result ≡ Err DocFault.Memory → ((calls : List SpecCall) → Stands self.old calls
             → early_rule kind version (edits_of changes.now) (held self.old.terms uri.now calls)
             ≡ None) }
         ensures err { OnErr result (self.new ≡ self.old) }
@@ -326,10 +326,10 @@ impl<S: TextStore> Docs<S> {
             (changes_by encoding kind uri.now version (edits_of changes.now))) }
         ensures refuses { IfErr result (Refuses self.old
             (changes_by encoding kind uri.now version (edits_of changes.now))) }
-        ensures memory { result ≡ Err DocFault.Memory → ((calls : List Call) → Stands self.old calls
+        ensures memory { result ≡ Err DocFault.Memory → ((calls : List SpecCall) → Stands self.old calls
             → early_rule kind version (edits_of changes.now) (held self.old.terms uri.now calls)
             ≡ None) }
-        ensures tried { IfErr result (λ fault. (calls : List Call)
+        ensures tried { IfErr result (λ fault. (calls : List SpecCall)
             → Stands self.old calls → IsRule fault → IsTried self.old.terms calls
             (changes_by encoding kind uri.now version (edits_of changes.now))
             (tried_in S.content tried.new)) }
@@ -355,10 +355,10 @@ impl<S: TextStore> Docs<S> {
             (changes_by encoding kind uri.now version (edits_of changes.now))) }
         ensures refuses { IfErr result (Refuses self.old
             (changes_by encoding kind uri.now version (edits_of changes.now))) }
-        ensures memory { result ≡ Err DocFault.Memory → ((calls : List Call) → Stands self.old calls
+        ensures memory { result ≡ Err DocFault.Memory → ((calls : List SpecCall) → Stands self.old calls
             → early_rule kind version (edits_of changes.now) (held self.old.terms uri.now calls)
             ≡ None) }
-        ensures tried { IfErr result (λ fault. (calls : List Call)
+        ensures tried { IfErr result (λ fault. (calls : List SpecCall)
             → Stands self.old calls → IsRule fault → IsTried self.old.terms calls
             (changes_by encoding kind uri.now version (edits_of changes.now))
             (tried_in S.content tried.new)) }

@@ -1,7 +1,8 @@
-use Rattle.std.proofs.Common.{◌≡◌, Some, get_or, refl, arith, sym, ap, ◌∙◌, w32}
+use Rattle.std.proofs.Common.{◌≡◌, ◌<◌, ◌^◌, Some, get_or, refl, arith, sym, ap, ◌∙◌, w32}
 use Rattle.std.proofs.lemmas.Int.{to_z_pos}
 use Rattle.serde_json.specs.Data.{null, number, unsigned}
 use Rattle.lsp_outline.proofs.Editing.{small_natural}
+use Rattle.lsp_outline.proofs.Negatives.{integer_passed}
 use Rattle.lsp_outline.proofs.Walking.{null_value, numeral_value}
 use Rattle.lsp_outline.proofs.edits.integer_unless_null_at.Goals as goal
 
@@ -29,4 +30,6 @@ returns-then-byte_at-eq110 c =
     )
 
 pub returns : goal.returns
-returns c = let read = c.in_ok-n.ensures in (read.0, read.1, read.2)
+returns c =
+    let read = c.in_ok-n.ensures in
+    (read.0, read.1, integer_passed read.0 c.in_ok-n.n read.2)

@@ -1,5 +1,6 @@
 use Rattle.std.proofs.Common.{◌≡◌, ℕ, List, None, ap, ◌∙◌, sym, subst, w32, rules}
 use Rattle.std.proofs.lemmas.Int.{to_z-of_z}
+use Rattle.std.proofs.lemmas.Result.{err_from_is_err_and}
 use mir.Val.{SFits}
 use Rattle.lsp_docs.specs.Calls.{Call, changes}
 use Rattle.lsp_docs.specs.State.{Refuses, Stands, early_rule, held_in, queue_of}
@@ -58,7 +59,8 @@ returns-in_err-change-clause-tried g c =
     subst (λ o. AreTriedOn limit c.args.encoding o cs made) (sym same)
     (subst (λ (n : ℕ). AreTriedOn n c.args.encoding held cs made)
     (ap (λ x. x.terms.limit) c.self.view_is) here) in
-    search rules
+    let p = err_from_is_err_and c.from_residual.result c.from_residual.ensures.1 in
+    rw (p.1, p.2) tried
 
 pub returns-clause-accepts : goal.returns-clause-accepts
 returns-clause-accepts g c =
