@@ -305,9 +305,6 @@ seventeenth_is_not = refl
 abbrev ab : List Call
 ab = opened 1 (codes "ab") ∷ []
 
-abbrev inserted : Encoding → ℕ → Call
-inserted enc column = edited enc 2 (part 0 column 0 column (codes "x") ∷ [])
-
 end_says_nothing : took_by keeping ab (inserted Utf16 2) ≡ Done
 end_says_nothing = refl
 
