@@ -86,7 +86,7 @@ impl Losses {
                     return Ok(false);
                 };
                 self.sides = self.sides.after_message(side);
-                note_kept(&mut self.documents, &seen.call)?;
+                note_kept(&mut self.documents, seen.call)?;
                 Ok(false)
             }
             Fate::Offends { rule, .. } => self.offend(held, seen, rule),

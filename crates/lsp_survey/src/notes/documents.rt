@@ -112,24 +112,11 @@ pub(crate) fn note_malformed(notes: &mut Notes, rule: u16, brings: Option<String
     }
 }
 
-/// Notes a message that is kept, with what it says about a document, if it says anything. Usually no
-/// document is lost, and nothing changes.
+/// Notes a message that is kept, with what it says about a document, if it says anything.
 ///
 /// # Errors
 /// `Memory` where memory was refused; nothing is then known of the notes.
-pub(crate) fn note_kept(notes: &mut Notes, said: &Option<Call<'_>>) -> Result<()>
-    ensures { OnOk result (AreAfter (option_map call_view said.now) notes.old.map.entries
-        notes.new.map.entries) }
-{
-    if notes.is_empty() {
-        return Ok(());
-    }
-    note_renewed(notes, *said)
-}
-
-/// Notes the same where a document may be lost.
-#[inline(never)]
-fn note_renewed(notes: &mut Notes, said: Option<Call<'_>>) -> Result<()>
+pub(crate) fn note_kept(notes: &mut Notes, said: Option<Call<'_>>) -> Result<()>
     ensures { OnOk result (AreAfter (option_map call_view said.entry) notes.old.map.entries
         notes.new.map.entries) }
 {
