@@ -137,21 +137,6 @@ pub nothing_said : (rule : Option ℕ) (other : Bool) (notes : List (Vec ℕ Glo
     → Leaves rule None other None notes notes
 nothing_said rule other notes uri = refl
 
--- nothing was noted before
-pub nothing_noted : (said : Option Call) (notes : List (Vec ℕ Global × Spelling)) → notes ≡ []
-    → AreAfter said notes notes
-nothing_noted None notes none uri = refl
-nothing_noted (Some call) notes none uri =
-    subst (λ (ns : List (Vec ℕ Global × Spelling)). is_noted ns uri
-    ≡ unwrap_or (if bytes_eq uri (uri_of call) then left_lost None false call else None)
-    (is_noted ns uri)) (sym none) (by_test (bytes_eq uri (uri_of call)) (renews call))
-  where
-    by_test : (own renewed : Bool) → false
-        ≡ unwrap_or (if own then (if renewed then Some false else None) else None) false
-    by_test true true = refl
-    by_test true false = refl
-    by_test false renewed = refl
-
 -- it leaves all notes as they are
 pub notes_stay : (call : Call) (notes : List (Vec ℕ Global × Spelling))
     → left_lost None false call ≡ None → AreAfter (Some call) notes notes

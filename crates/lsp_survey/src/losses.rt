@@ -86,7 +86,7 @@ impl Losses {
                     return Ok(false);
                 };
                 self.sides = self.sides.after_message(side);
-                note_kept(&mut self.documents, &seen.call)?;
+                note_kept(&mut self.documents, seen.call)?;
                 Ok(false)
             }
             Fate::Offends { rule, .. } => self.offend(held, seen, rule),
@@ -130,7 +130,7 @@ impl Losses {
         }
     }
 
-    /// A message of a side offends that says this about a document, or nothing.
+    /// A message of a side offends, with what it says about a document, if it says anything.
     fn offend_message(
         &mut self,
         held: &Events<Lined>,
@@ -159,8 +159,8 @@ impl Losses {
         Ok(follows)
     }
 
-    /// A message or a snapshot offends that says this about a document, or nothing. It is `late`
-    /// where it follows from bytes that failed, or from a message that was passed over.
+    /// A message or a snapshot offends, with what it says about a document, if it says anything. It
+    /// is `late` if it follows from bytes that failed, or from a message that was passed over.
     fn offend_call(
         &mut self,
         held: &Events<Lined>,

@@ -6,27 +6,15 @@ ghost use Rattle.lsp_docs.specs.Calls.{Call as SpecCall, opens};
 ghost use Rattle.lsp_docs.specs.Documents.{held};
 ghost use Rattle.lsp_docs.specs.State.{Stands};
 ghost use Rattle.lsp_docs.specs.Taken.{call_view};
-ghost use Rattle.lsp_verdict.specs.Offences.{is_other, is_reopened, loses, renews, sets_text};
+ghost use Rattle.lsp_verdict.specs.Offences.{is_other, is_reopened, renews};
 ghost use Rattle.lsp_survey.specs.Notes.{AreAfter, Leaves};
 
 use crate::notes::note::Notes;
+use crate::notes::rules::loses;
 use lsp_docs::{Call, Docs, has_text};
 use lsp_rpc::{Change, Result};
 use lsp_text::TextStore;
 use lsp_types::rules;
-
-/// Whether the sender has another text of the document after a call: it opens it, or changes it.
-fn sets_text(call: Call<'_>) -> bool
-    ensures { result ≡ sets_text (call_view call.entry) }
-{
-    match call {
-        Call::Opens { .. } => true,
-        Call::Changes { changes, .. } => !changes.is_empty(),
-        Call::Closes { .. } => false,
-        Call::Saves { .. } => false,
-        Call::Shows { .. } => false,
-    }
-}
 
 /// Whether a change is of the whole text.
 fn any_whole(changes: &[Change]) -> bool
@@ -77,27 +65,8 @@ fn reopens<S: TextStore>(docs: &Docs<S>, call: Call<'_>) -> bool
     }
 }
 
-/// Whether a call that breaks this rule leaves the held text another than the sender's. An opening
-/// of an open document does only if it is `reopened` with another version or text.
-fn loses(rule: u16, reopened: bool, call: Call<'_>) -> bool
-    ensures { result ≡ loses rule reopened (call_view call.entry) }
-{
-    if rule == rules::DOCUMENT_ALREADY_OPEN {
-        return reopened;
-    }
-    if sets_text(call) {
-        return true;
-    }
-    if rule == rules::DOCUMENT_NOT_OPEN {
-        return true;
-    }
-    if rule == rules::SAVED_TEXT_DIFFERS {
-        return true;
-    }
-    rule == rules::SNAPSHOT_DIFFERS
-}
-
-/// Notes that a message or a snapshot breaks this rule that says this about a document, or nothing.
+/// Notes a message or a snapshot that breaks this rule, with what it says about a document, if it
+/// says anything.
 ///
 /// # Errors
 /// `Memory` where memory was refused; nothing is then known of the notes.
@@ -124,7 +93,8 @@ pub(crate) fn note_refused<S: TextStore>(
     notes.lose(call.uri())
 }
 
-/// Notes that a message breaks this rule that was to open or to change this document.
+/// Notes a message that breaks this rule, and the URI of the document that it was to open or to
+/// change, if any.
 ///
 /// # Errors
 /// `Memory` where memory was refused; nothing is then known of the notes.
@@ -142,24 +112,11 @@ pub(crate) fn note_malformed(notes: &mut Notes, rule: u16, brings: Option<String
     }
 }
 
-/// Notes that a message is kept that says this about a document, or nothing. Usually no document is
-/// lost.
+/// Notes a message that is kept, with what it says about a document, if it says anything.
 ///
 /// # Errors
 /// `Memory` where memory was refused; nothing is then known of the notes.
-pub(crate) fn note_kept(notes: &mut Notes, said: &Option<Call<'_>>) -> Result<()>
-    ensures { OnOk result (AreAfter (option_map call_view said.now) notes.old.map.entries
-        notes.new.map.entries) }
-{
-    if notes.is_empty() {
-        return Ok(());
-    }
-    note_renewed(notes, *said)
-}
-
-/// Notes the same where a document may be lost.
-#[inline(never)]
-fn note_renewed(notes: &mut Notes, said: Option<Call<'_>>) -> Result<()>
+pub(crate) fn note_kept(notes: &mut Notes, said: Option<Call<'_>>) -> Result<()>
     ensures { OnOk result (AreAfter (option_map call_view said.entry) notes.old.map.entries
         notes.new.map.entries) }
 {

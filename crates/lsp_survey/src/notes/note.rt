@@ -1,5 +1,5 @@
 //! Which documents are lost.
-ghost use Rattle.std.specs.Prelude.{◌≡◌, [], false, List, ℕ, IfOk, None, OnOk, Some, true};
+ghost use Rattle.std.specs.Prelude.{◌≡◌, false, List, ℕ, IfOk, None, OnOk, Some, true};
 ghost use Rattle.std.specs.Prelude.{if◌then◌else◌, option_map};
 ghost use Rattle.std.specs.Str.{bytes_eq};
 ghost use Rattle.lsp_docs.specs.Taken.{call_view};
@@ -76,14 +76,7 @@ impl Notes {
         }
     }
 
-    /// Whether nothing is noted of any.
-    pub(crate) fn is_empty(&self) -> bool
-        ensures { result ≡ true → self.now.map.entries ≡ [] }
-    {
-        self.map.is_empty()
-    }
-
-    /// Whether a document is lost that something is said about, if anything is.
+    /// Whether what is said, if anything, is about a document that is lost.
     ///
     /// # Errors
     /// `Memory` where memory was refused.
