@@ -21,8 +21,8 @@ returns-in_default c = λ terms before h is seen.
     trail_past terms before h _ is own.0 own.1
 
 -- it says nothing of a document
-pub returns-in_default-2 : goal.returns-in_default-2
-returns-in_default-2 c = on_ok_weaker c.keep_message.result (λ told terms before h is seen.
+pub returns-in_default-call : goal.returns-in_default-call
+returns-in_default-call c = on_ok_weaker c.keep_message.result (λ told terms before h is seen.
     let raw = raw_view c.args.seen.now.raw in
     let noted = subst (λ (w : Raw). IsNoted w h.note) seen.is seen.noted in
     told terms before h is seen.stood
@@ -30,7 +30,7 @@ returns-in_default-2 c = on_ok_weaker c.keep_message.result (λ told terms befor
     (subst (AreCounts c.args.held.now.counts) (events-push before h) seen.stood.counted)
     (c.who.ensures ∙ sym (whose_read raw h.note.event noted.0)))
     (subst (λ (f : Fate). HasFate terms before h f) c.in-Kept.is seen.fate).0 noted seen.spoken
-    (sym seen.says ∙ ap (option_map call_view) c.in_default-2.is)) c.keep_message.ensures
+    (sym seen.says ∙ ap (option_map call_view) c.in_default-call.is)) c.keep_message.ensures
 
 -- a call
 pub returns : goal.returns

@@ -11,10 +11,10 @@ returns-in_default c = λ terms before h is stood place rule noted spoken says.
     let own = is_message terms (heard_events before) h.note.event rule says in
     absurd (no_content c.args.raw own.0 c.in_default.not-Content (rw own.1 at noted.0))
 
-pub returns-in_default-2 : goal.returns-in_default-2
-returns-in_default-2 c = λ terms before h is stood place rule noted spoken says.
+pub returns-in_default-spoken : goal.returns-in_default-spoken
+returns-in_default-spoken c = λ terms before h is stood place rule noted spoken says.
     let own = is_message terms (heard_events before) h.note.event rule says in
-    absurd ((rw c.in_default-2.is at spoken) own.0 own.1)
+    absurd ((rw c.in_default-spoken.is at spoken) own.0 own.1)
 
 pub returns : goal.returns
 returns c = on_ok_two c.keep.result (λ told renamed terms before h is stood place rule noted spoken
