@@ -10,6 +10,7 @@ ghost use Rattle.lsp_rpc.specs.Ident.{id_view};
 ghost use Rattle.lsp_rpc.specs.View.{message_view};
 ghost use Rattle.lsp_session.specs.Entry.{request_view};
 ghost use Rattle.lsp_session.specs.Sent.{other_side};
+ghost use Rattle.lsp_types.specs.declared.rules.TheConstants as rules;
 ghost use Rattle.lsp_verdict.specs.Event.{Event, calls, sent_in};
 ghost use Rattle.lsp_verdict.specs.Verdict.{document_rule};
 ghost use Rattle.lsp_replay.specs.Lines.{place_of};

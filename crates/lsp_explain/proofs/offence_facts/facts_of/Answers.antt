@@ -6,6 +6,7 @@ use Rattle.lsp_replay.specs.Tries.{IsTriedOf, made_in}
 use Rattle.lsp_text.specs.Counted.{Counted}
 use Rattle.lsp_verdict.specs.Event.{Event, call_at, calls}
 use Rattle.lsp_verdict.specs.Offences.{kept_of}
+use Rattle.lsp_verdict.specs.Placed.{content, show}
 use Rattle.lsp_explain.specs.Trails.{terms_in}
 use Rattle.lsp_explain.proofs.SaidFacts.{call_said, frames_said, heard_by, message_breaks}
 use Rattle.lsp_explain.proofs.SaidFacts.{message_said, shown_breaks, shown_said, unread_said}
@@ -24,20 +25,23 @@ returns-then-rule-lt-FIRST_ON_DOCUMENTS c =
     (λ facts are event before stands place reads speaks says tries offends rests fits.
     let terms = terms_in c.args.past in
     let s = c.in-Some.spoken.now in
-    let own = heard_by (kept_of terms before) event c.in-Content.side speaks.0 _ s reads speaks.1 in
-    message_said terms before c.args.offence.now.rule rests _ event facts c.in-Content.side s own
+    let side = c.in-Content.side in
+    let bytes = c.in-Content.content.now in
+    let own = heard_by (kept_of terms before) event side speaks.0 bytes s reads speaks.1 in
+    message_said terms before c.args.offence.now.rule rests (content side bytes) event facts side s own
     c.if-rule-lt-FIRST_ON_DOCUMENTS.true (are event before stands own)) c.message_traced.ensures)
 
 -- one on documents
-pub returns-in-Some : goal.returns-in-Some
-returns-in-Some c =
+pub returns-else-rule-lt-FIRST_ON_DOCUMENTS : goal.returns-else-rule-lt-FIRST_ON_DOCUMENTS
+returns-else-rule-lt-FIRST_ON_DOCUMENTS c =
     rw (c.in-Content.is, c.in-Some.is) (IfOk-weaker c.said_traced.result _ _
     (λ facts are event before stands place reads speaks says tries offends rests fits.
     let terms = terms_in c.args.past in
     let rule = c.args.offence.now.rule in
     let least = c.if-rule-lt-FIRST_ON_DOCUMENTS.false in
     let s = c.in-Some.spoken.now in
-    call_said terms before rule rests _ event facts speaks.0 s speaks.1 least
+    call_said terms before rule rests (content c.in-Content.side c.in-Content.content.now) event
+    facts speaks.0 s speaks.1 least
     (are before event stands (c.place_in.ensures ∙ place) says
     (message_breaks terms (kept_of terms before) event speaks.0 s rule speaks.1 least offends)
     (tries least))) c.said_traced.ensures)
@@ -55,10 +59,13 @@ returns-in-Snapshot c =
     let terms = terms_in c.args.past in
     let rule = c.args.offence.now.rule in
     let made = made_in (option_map (λ (t : Bor (Tried Counted)). t.now) c.args.tried) in
-    shown_said terms before rule rests _ event facts c.in-Snapshot.version c.in-Snapshot.uri.now
-    (chars c.in-Snapshot.text.now) reads
+    let number = c.in-Snapshot.version in
+    let uri = c.in-Snapshot.uri.now in
+    let text = c.in-Snapshot.text.now in
+    shown_said terms before rule rests (show number uri text) event facts number uri (chars text)
+    reads
     (are before event stands (c.place_in-in-Snapshot.ensures ∙ place) says
-    (shown_breaks terms (kept_of terms before) event _ _ _ rule reads offends)
+    (shown_breaks terms (kept_of terms before) event number uri (chars text) rule reads offends)
     (subst (λ (e : Event). IsTriedOf terms (calls (kept_of terms before))
     (call_at (kept_of terms before) e) made) (sym reads) tt)))
     c.said_traced-in-Snapshot.ensures)

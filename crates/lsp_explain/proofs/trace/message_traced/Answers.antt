@@ -17,6 +17,6 @@ returns c = λ event before stands heard.
     let side = c.args.side in
     c.in_ok-trace_message.ensures terms before stands.trail.noted
     ∙ (λ i. (c.in_ok-facts.ensures sents stands.holds.sent
-    ∙ session_heard rule sents heard.sent side said act heard.by heard.says heard.means
-    heard.has_value) i ++ trace_heard rule (numbered terms before) heard.sent side said heard.by
-    heard.says i)
+    ∙ session_heard rule heard.sent side said heard.by heard.says sents act heard.means
+    heard.has_value) i ++ trace_heard rule heard.sent side said heard.by heard.says
+    (numbered terms before) i)
