@@ -147,6 +147,7 @@ impl<S: TextStore> Events<S> {
     }
 
     /// What a message says about a document, under what was agreed before it.
+    #[inline(always)]
     pub(crate) fn call_in<'a>(&self, spoken: &'a Spoken) -> Option<Call<'a>>
         ensures { (events : List Event) (m : Sent) → Stands self.now.session (sent_in events)
             → m.act ≡ act_view spoken.now.act
@@ -164,6 +165,7 @@ impl<S: TextStore> Events<S> {
     /// `Rule` by the least of the rules 301 to 702 that the event offends, and `Memory` where
     /// memory was refused. What is held and the counts stay, so that the event after it can be
     /// heard, and what was tried of refused changes is kept.
+    #[inline(always)]
     pub(crate) fn keep(&mut self, read: &ReadEvent<'_>) -> Result<Took, Fault>
         ensures terms { self.new.docs.terms ≡ self.old.docs.terms }
         ensures ok { IfOk result (λ took. (events : List Event) (event : Event)
@@ -192,6 +194,7 @@ impl<S: TextStore> Events<S> {
 }
 
 /// Admits the message that an event is, if it is one.
+#[inline(always)]
 fn admit(session: &mut Session, read: &ReadEvent<'_>) -> Result<(), Refusal>
     ensures ok { OnOk result ((events : List Event) (event : Event)
         → Stands session.old (sent_in events) → IsSound event → IsRead events event read.now
@@ -212,6 +215,7 @@ fn admit(session: &mut Session, read: &ReadEvent<'_>) -> Result<(), Refusal>
 }
 
 /// Takes over what is said about a document, if anything is.
+#[inline(always)]
 fn take_call<S: TextStore>(
     docs: &mut Docs<S>,
     call: Option<Call<'_>>,

@@ -228,6 +228,7 @@ fn see_content<A: Account>(
 }
 
 /// Hears an event that was read, and adds what an account says of it.
+#[inline(always)]
 fn see_read<A: Account>(
     held: &mut Events<Lined>,
     account: &mut A,
