@@ -36,10 +36,7 @@ impl Judging<'_> {
         ensures memory { OnErr result (is_some self.now.lines ≡ true) }
     {
         match self.lines {
-            Some(lines) => {
-                let seen = *seen;
-                push_kept_line(text, lines, held, &seen)
-            }
+            Some(lines) => push_kept_line(text, lines, held, seen),
             None => Ok(()),
         }
     }

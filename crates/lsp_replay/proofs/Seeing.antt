@@ -1,5 +1,5 @@
 -- What is held once one more event was heard, and how the event was seen.
-use Rattle.std.proofs.Common.{◌≡◌, ℕ, List, [], ◌∷◌, ◌++◌, Option, Some, None, sym, ap, subst, ◌∙◌}
+use Rattle.std.proofs.Common.{◌≡◌, ℕ, List, [], ◌∷◌, ◌++◌, Option, Some, None, refl, sym, ap, subst, ◌∙◌}
 use Rattle.std.proofs.lemmas.List.{map-append}
 use Rattle.lsp_session.specs.State as session
 use Rattle.lsp_docs.specs.Documents.{Terms}
@@ -7,11 +7,13 @@ use Rattle.lsp_docs.specs.State as docs
 use Rattle.lsp_docs.specs.Tried.{Made}
 use Rattle.lsp_docs.specs.declared.call.Took.{Took}
 use Rattle.lsp_types.specs.declared.side.Side.{Side}
-use Rattle.lsp_replay.specs.Keeping.{IsKept, IsRead}
-use Rattle.lsp_replay.specs.Standing.{Holds}
+use Rattle.lsp_replay.specs.Keeping.{IsKept, IsRead, IsSound, RefusesEvent, Tries}
+use Rattle.lsp_replay.specs.Standing.{CanWantMemory, Holds}
 use Rattle.lsp_replay.specs.Telling.{Comes, HasFate, IsSeen, Stood, kept_before, rule_of, took_of}
 use Rattle.lsp_replay.specs.Tries.{TriesCall}
 use Rattle.lsp_replay.specs.declared.events.ReadEvent.{ReadEvent}
+use Rattle.lsp_replay.specs.declared.fault.Fault.{Fault}
+use Rattle.lsp_replay.specs.declared.fault.Fault.TheVariants as own
 use Rattle.lsp_replay.specs.declared.seen.Fate.{Fate}
 use Rattle.lsp_replay.specs.declared.seen.Fate.TheVariants as fates
 use Rattle.lsp_replay.specs.declared.seen.Seen.{Seen}
@@ -26,6 +28,10 @@ use Rattle.lsp_verdict.specs.declared.counts.Counts.{Counts}
 use Rattle.lsp_verdict.specs.declared.raw.Raw as code
 use Rattle.lsp_verdict.proofs.Offences.Steps.{events_of-push, kept-push, kept-refused}
 use Rattle.lsp_verdict.proofs.OneEvent.{one_read}
+
+abbrev pub seen_of : ReadEvent → Fate → Seen
+seen_of read fate =
+    record { raw = read.raw; spoken = read.spoken; call = read.call; fate = fate }
 
 pub events-push : (before : List Heard) (h : Heard)
     → heard_events (before ++ h ∷ []) ≡ heard_events before ++ h.note.event ∷ []
@@ -113,46 +119,85 @@ module _ {raw : Raw} {terms : Terms} {m : session.State} {d : docs.State} {c : C
     kept_fate = (
       kept_rule,
       is.says
-      ∙ ap (λ (t : Terms). took_of t (calls kept) (call_at kept h.note.event)) comes.stood.by,
+          ∙ ap (λ (t : Terms). took_of t (calls kept) (call_at kept h.note.event)) comes.stood.by,
     )
 
-  -- so it was seen
-  pub seen_so : {new_m : session.State} {new_d : docs.State} {after : Counts} {read : ReadEvent}
-      (fate : Fate) → IsRead kept h.note.event read → raw_view read.raw ≡ raw
-      → Stood terms new_m new_d after (before ++ h ∷ []) → HasFate terms before h fate
-      → IsSeen new_m new_d after (record {
-        raw = read.raw; spoken = read.spoken; call = read.call; fate = fate }) terms before h
-  seen_so fate read is stood fated = record {
-    stood = stood;
-    few = comes.few;
-    noted = noted_here;
-    is = comes.raw_is ∙ sym is;
-    spoken = read.spoken;
-    says = read.says;
-    fate = fated;
-  }
+  -- it is refused by this rule, or memory ran out
+  module _ (fault : Fault) where
+    pub refused_here : (rule : ℕ) → fault ≡ own.Rule rule
+        → RefusesEvent raw d.terms kept h.note.event fault → rule_of terms before h ≡ Some rule
+    refused_here rule is refuses = rule_here (Some rule)
+        (subst (λ (f : Fault). RefusesEvent raw d.terms kept h.note.event f) is refuses)
+
+    pub wants_here : fault ≡ own.Memory → RefusesEvent raw d.terms kept h.note.event fault
+        → CanWantMemory terms kept h.raw
+    wants_here is refuses = subst (CanWantMemory terms kept) (sym comes.raw_is)
+        (subst (λ (t : Terms). CanWantMemory t kept raw) comes.stood.by
+        (subst (λ (f : Fault). RefusesEvent raw d.terms kept h.note.event f) is refuses))
+
+    pub tried_here : (rule : ℕ) (tried : Option Made) → fault ≡ own.Rule rule
+        → Tries d.terms kept h.note.event fault tried
+        → TriesCall terms kept (call_at kept h.note.event) rule tried
+    tried_here rule tried is tries =
+        subst (λ (t : Terms). TriesCall t kept (call_at kept h.note.event) rule tried) comes.stood.by
+        (subst (λ (f : Fault). Tries d.terms kept h.note.event f tried) is tries)
+
+-- so an event was seen
+pub seen_so : {read : ReadEvent} {terms : Terms} {m : session.State} {d : docs.State} {c : Counts}
+    {before : List Heard} {h : Heard} {Stands : Type 0}
+    (comes : Comes (raw_view read.raw) terms m d c before h Stands)
+    {new_m : session.State} {new_d : docs.State} {after : Counts} (fate : Fate)
+    → IsRead (kept_before terms before) h.note.event read
+    → Stood terms new_m new_d after (before ++ h ∷ []) → HasFate terms before h fate
+    → IsSeen new_m new_d after (seen_of read fate) terms before h
+seen_so comes fate is stood fated = record {
+  stood = stood;
+  few = comes.few;
+  noted = noted_here comes;
+  is = comes.raw_is;
+  spoken = is.spoken;
+  says = is.says;
+  fate = fated;
+}
 
 -- ---- a fault: a content that is no message, or of the frames
 
-module _ {raw : code.Raw} {terms : Terms} {m : session.State} {d : docs.State} {c : Counts}
-    {before : List Heard} {h : Heard} {Stands : Type 0} {side : Side} {rule : ℕ}
+module _ (raw : code.Raw) {terms : Terms} {m : session.State} {d : docs.State} {c : Counts}
+    {before : List Heard} {h : Heard} {Stands : Type 0} (side : Side) (rule : ℕ)
     (comes : Comes (raw_view raw) terms m d c before h Stands)
     (reads : Reads (raw_view raw) (broken_rule side rule)) where
+  abbrev heard_kept : List Event
+  heard_kept = kept_before terms before
+
   is_fault : broken_rule side rule ≡ h.note.event
   is_fault = event_is comes (broken_rule side rule) reads
 
   pub fault_rule : rule_of terms before h ≡ Some rule
   fault_rule = ap (λ (e : Event). rule_at terms (heard_events before) e) (sym is_fault)
 
-  pub fault_read : IsRead (kept_before terms before) h.note.event
+  pub fault_read : IsRead heard_kept h.note.event
       (record { raw = raw; spoken = None; call = None })
   fault_read = record {
     reads = comes.noted.0;
     spoken = λ sent is. let same = is_fault ∙ is in absurd (cc same);
-    says = ap (call_at (kept_before terms before)) is_fault;
+    says = ap (call_at heard_kept) is_fault;
   }
 
-  pub fault_tries : (tried : Option Made) → TriesCall terms (kept_before terms before)
-      (call_at (kept_before terms before) h.note.event) rule tried
-  fault_tries tried = subst (λ (e : Event). TriesCall terms (kept_before terms before)
-      (call_at (kept_before terms before) e) rule tried) is_fault (λ least. tt)
+  pub fault_tries : (tried : Option Made)
+      → TriesCall terms heard_kept (call_at heard_kept h.note.event) rule tried
+  fault_tries tried =
+      subst (λ (e : Event). TriesCall terms heard_kept (call_at heard_kept e) rule tried) is_fault
+      (λ least. tt)
+
+-- ---- an event that was read
+
+module _ {raw : Raw} {terms : Terms} {m : session.State} {d : docs.State} {c : Counts}
+    {before : List Heard} {h : Heard} {Stands : Type 0} (event : Event) (reads : Reads raw event)
+    (comes : Comes raw terms m d c before h Stands) where
+  pub sound_here : IsSound event → IsSound h.note.event
+  sound_here = subst IsSound (event_is comes event reads)
+
+  pub read_here : {read : ReadEvent} → IsRead (kept_before terms before) event read
+      → IsRead (kept_before terms before) h.note.event read
+  read_here {read} =
+      subst (λ (e : Event). IsRead (kept_before terms before) e read) (event_is comes event reads)

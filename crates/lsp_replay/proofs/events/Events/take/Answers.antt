@@ -1,11 +1,10 @@
-use Rattle.std.proofs.Common.{ap, chars, refl, rules, subst, w32}
+use Rattle.std.proofs.Common.{ap, chars, refl, rules, w32}
 use Rattle.std.proofs.lemmas.Int.{to_z-of_z}
 use Rattle.std.proofs.lemmas.Result.{err_from_is_err_and}
 use mir.Val.{SFits}
 use Rattle.lsp_verdict.specs.Event.{fault, snapshot}
 use Rattle.lsp_verdict.specs.Given.{raw_view}
-use Rattle.lsp_verdict.specs.Placed.{Raw}
-use Rattle.lsp_replay.specs.Keeping.{RefusesEvent}
+use Rattle.lsp_verdict.specs.Placed.{show}
 use Rattle.lsp_replay.proofs.Following.{keeps, refused_for}
 use Rattle.lsp_replay.proofs.Hearing.{unread_for}
 use Rattle.lsp_replay.proofs.Reading.{content_read, content_sound, shown_read}
@@ -62,38 +61,31 @@ pub returns-in_err-keep-in-Snapshot-clause-rule : goal.returns-in_err-keep-in-Sn
 returns-in_err-keep-in-Snapshot-clause-rule g c =
     let at = c.in-Snapshot in
     let fits : SFits w32 at.version = search rules in
-    let raw = simp to_z-of_z at c.shown-read.ensures.raw in
-    let call = simp to_z-of_z at c.shown-read.ensures.call in
+    let rule = rw (c.silent-read.ensures, at.is) at c.in_err-keep-in-Snapshot.ensures.rule in
     let from = c.from_residual-in_err-keep-in-Snapshot in
     let p = err_from_is_err_and from.result from.ensures.1 in
     rw (p.1, at.is) (λ events holds.
     let event = snapshot at.uri.now at.version (chars at.text.now) in
-    rw p.2 (refused_for _ _ events event refl _
-    (subst (λ (r : Raw). RefusesEvent r c.args.self.now.docs.terms events event _) raw
-    (c.in_err-keep-in-Snapshot.ensures.rule events event holds tt
-    (shown_read events _ at.version at.uri.now at.text.now raw c.shown-read.ensures.silent
-    call)))))
+    rw p.2 (refused_for (show at.version at.uri.now at.text.now) c.args.self.now.docs.terms events
+    event refl _ (rule events event holds tt
+    (shown_read events _ _ at.version at.uri at.text (to_z-of_z w32 at.version fits) refl))))
 
 pub returns-in_err-keep-in-Snapshot-clause-err : goal.returns-in_err-keep-in-Snapshot-clause-err
 returns-in_err-keep-in-Snapshot-clause-err g c =
     let at = c.in-Snapshot in
     let fits : SFits w32 at.version = search rules in
-    let raw = simp to_z-of_z at c.shown-read.ensures.raw in
-    let call = simp to_z-of_z at c.shown-read.ensures.call in
+    let err = rw c.silent-read.ensures at c.in_err-keep-in-Snapshot.ensures.err in
     let from = c.from_residual-in_err-keep-in-Snapshot in
     let p = err_from_is_err_and from.result from.ensures.1 in
-    rw p.1 (λ events holds. c.in_err-keep-in-Snapshot.ensures.err events _ holds tt
-    (shown_read events _ at.version at.uri.now at.text.now raw c.shown-read.ensures.silent
-    call))
+    rw p.1 (λ events holds. err events _ holds tt
+    (shown_read events _ _ at.version at.uri at.text (to_z-of_z w32 at.version fits) at.is))
 
 pub returns-in_ok-keep-in-Snapshot-clause-ok : goal.returns-in_ok-keep-in-Snapshot-clause-ok
 returns-in_ok-keep-in-Snapshot-clause-ok g c =
     let at = c.in-Snapshot in
     let fits : SFits w32 at.version = search rules in
-    let raw = simp to_z-of_z at c.shown-read.ensures.raw in
-    let call = simp to_z-of_z at c.shown-read.ensures.call in
+    let ok = rw c.silent-read.ensures at c.in_ok-keep-in-Snapshot.ensures.ok in
     rw at.is (λ events holds.
     keeps _ _ events (snapshot at.uri.now at.version (chars at.text.now)) refl _ _ _ _ _
-    (c.in_ok-keep-in-Snapshot.ensures.ok events _ holds tt
-    (shown_read events _ at.version at.uri.now at.text.now raw c.shown-read.ensures.silent
-    call)))
+    (ok events _ holds tt
+    (shown_read events _ _ at.version at.uri at.text (to_z-of_z w32 at.version fits) at.is)))
