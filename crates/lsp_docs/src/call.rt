@@ -1,7 +1,8 @@
 //! What is said about documents, and what an accepted call says.
 
 ghost use Rattle.std.specs.Prelude.{◌≡◌};
-ghost use Rattle.lsp_docs.specs.Taken.{took_found};
+ghost use Rattle.lsp_docs.specs.Calls.{uri_of};
+ghost use Rattle.lsp_docs.specs.Taken.{call_view, took_found};
 
 use crate::snapshot::Match;
 use lsp_text::Findings;
@@ -40,6 +41,21 @@ pub enum Call<'a> {
         version: i32,
         text: &'a str,
     },
+}
+
+impl<'a> Call<'a> {
+    /// The URI of its document.
+    pub fn uri(self) -> &'a str
+        ensures { result.now ≡ uri_of (call_view self.entry) }
+    {
+        match self {
+            Call::Opens { uri, .. } => uri,
+            Call::Changes { uri, .. } => uri,
+            Call::Closes { uri } => uri,
+            Call::Saves { uri, .. } => uri,
+            Call::Shows { uri, .. } => uri,
+        }
+    }
 }
 
 /// What an accepted call says.

@@ -10,7 +10,7 @@ ghost use Rattle.lsp_verdict.specs.Verdict.{first_no};
 
 use crate::check_line::{line_remark, push_line};
 use crate::ending::verdict_at;
-use lsp_replay::{Account, End, Events, Flow, LogEvents, Seen, last_offence, push_kept_line};
+use lsp_replay::{Account, End, Events, Fate, Flow, LogEvents, Seen, last_offence, push_kept_line};
 use lsp_rpc::Result;
 use lsp_text::Lined;
 use lsp_verdict::{Completeness, Lines, Outcome, Verdict, verdict_report};
@@ -28,9 +28,9 @@ pub(crate) struct Judging<'a> {
 
 impl Judging<'_> {
     /// Adds the line of an event that is kept, where such are shown.
-    fn show(&self, held: &Events<Lined>, seen: Seen<'_>, text: &mut String) -> Result<()>
+    fn show(&self, held: &Events<Lined>, seen: &Seen<'_>, text: &mut String) -> Result<()>
         ensures shown { OnOk result ((terms : Terms) (before : List Heard) (h : Heard)
-            → IsSeen held.now.session held.now.docs held.now.counts seen.entry terms before h
+            → IsSeen held.now.session held.now.docs held.now.counts seen.now terms before h
             → rule_of terms before h ≡ None
             → string_bytes text.new ≡ string_bytes text.old ++ shown_by self.now.lines before h) }
         ensures memory { OnErr result (is_some self.now.lines ≡ true) }
@@ -68,9 +68,9 @@ impl Account for Judging<'_> {
     ghost stands = { λ account terms heard. first_no terms (heard_events heard) ≡ None };
 
     #[inline(always)]
-    fn event(&mut self, held: &Events<Lined>, seen: Seen<'_>, text: &mut String) -> Result<Flow> {
-        if let Seen::Offence { raw, rule, .. } = seen {
-            let verdict = last_offence(&held.counts, raw, rule, false).verdict();
+    fn event(&mut self, held: &Events<Lined>, seen: &Seen<'_>, text: &mut String) -> Result<Flow> {
+        if let Fate::Offends { rule, .. } = seen.fate {
+            let verdict = last_offence(&held.counts, seen.raw, rule, false).verdict();
             self.say(&verdict, text)?;
             let boxed = Box::new(*text.allocator(), Outcome::Judged(verdict))?;
             return Ok(Flow::Stop(boxed));

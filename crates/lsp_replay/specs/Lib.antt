@@ -1,4 +1,3 @@
-pub mod Apart
 pub mod Standing
 pub mod Tries
 pub mod Lines
@@ -7,5 +6,6 @@ pub mod Lending
 pub mod LogEvents
 pub mod LogLending
 pub mod Telling
+pub mod Keeping
 pub mod TextAnswers
 pub mod Run

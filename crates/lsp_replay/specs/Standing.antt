@@ -2,26 +2,27 @@
 use Rattle.std.specs.Prelude.{◌≡◌, ◌⊎◌, ℕ, List, [], ◌∷◌, ◌++◌, Option, Some, None}
 use Rattle.lsp_rpc.specs.declared.fault.RpcFault.{RpcFault}
 use Rattle.lsp_rpc.specs.declared.fault.RpcFault.TheVariants as contents
-use Rattle.lsp_rpc.specs.Act.{Act}
 use Rattle.lsp_rpc.specs.Message as rpc
-use Rattle.lsp_rpc.specs.Outline.{outline, without_params}
+use Rattle.lsp_rpc.specs.Outline.{without_params}
 use Rattle.lsp_session.specs.declared.refusal.Refusal.{Refusal}
 use Rattle.lsp_session.specs.declared.refusal.Refusal.TheVariants as messages
 use Rattle.lsp_session.specs.Handshake.{open_initializes}
-use Rattle.lsp_session.specs.Sent.{Sent}
 use Rattle.lsp_session.specs.State as session
 use Rattle.lsp_docs.specs.declared.fault.DocFault.{DocFault}
 use Rattle.lsp_docs.specs.declared.fault.DocFault.TheVariants as refused
+use Rattle.lsp_docs.specs.declared.call.Took.{Took}
+use Rattle.lsp_docs.specs.declared.call.Took.TheVariants.{Done}
 use Rattle.lsp_docs.specs.declared.snapshot.Match.TheVariants.{Waits}
 use Rattle.lsp_docs.specs.Calls.{Call}
 use Rattle.lsp_docs.specs.State as docs
 use Rattle.lsp_docs.specs.Stored.{answer_of}
 use Rattle.lsp_docs.specs.Documents.{held, Terms}
 use Rattle.lsp_docs.specs.Snapshots.{kept}
+use Rattle.lsp_docs.specs.Taken.{IsTook, MayLackMemory}
 use Rattle.lsp_types.specs.declared.side.Side.{Side}
 use Rattle.lsp_verdict.specs.declared.counts.Counts.{Counts}
-use Rattle.lsp_verdict.specs.Event.{calls, Event, message, fault, sent_in}
-use Rattle.lsp_verdict.specs.Placed.{IsSent, ReadsAs, Raw, content, broken, show, Reads}
+use Rattle.lsp_verdict.specs.Event.{calls, Event, fault, sent_in}
+use Rattle.lsp_verdict.specs.Placed.{ReadsAs, Raw, content, broken, show, Reads}
 use Rattle.lsp_verdict.specs.Given.{AreCounts}
 use Rattle.lsp_verdict.specs.Verdict.{offence, first_no}
 use Rattle.lsp_replay.specs.declared.fault.Fault.{Fault}
@@ -58,15 +59,20 @@ pub record Follows (messages : session.State) (documents : docs.State) (counts :
 
 -- ---- a call
 
--- what an act says about a document is accepted; where it says nothing, what is held stays
-abbrev pub TakesCall : docs.State → docs.State → Option Call → Type 0
-TakesCall old new None = new ≡ old
-TakesCall old new (Some call) = docs.Accepts old new call
+-- what is said about a document is accepted, and says this; where nothing is, what is held stays
+abbrev pub TakesCall : docs.State → docs.State → Option Call → Took → Type 0
+TakesCall old new None took = (new ≡ old) × (took ≡ Done)
+TakesCall old new (Some call) took = docs.Accepts old new call × IsTook old call took
 
--- the act says something about a document, which is refused
+-- something is said about a document, which is refused
 abbrev pub RefusesCall : docs.State → Option Call → DocFault → Type 0
 RefusesCall old None why = ⊥
 RefusesCall old (Some call) why = docs.Refuses old call why
+
+-- memory may be refused
+abbrev pub MayLackFor : docs.State → Option Call → Type 0
+MayLackFor old None = ⊥
+MayLackFor old (Some call) = MayLackMemory old call
 
 -- ---- a content
 
@@ -75,35 +81,6 @@ RefusesCall old (Some call) why = docs.Refuses old call why
 abbrev pub HasValue : List Event → rpc.Message → rpc.Message → Type 0
 HasValue events said whole =
     (open_initializes (sent_in events) ≡ []) ⊎ (said ≡ without_params whole)
-
--- the content is this message, but for its params and the value of a result, and means this act; it
--- doesn't offend, and what is held is the result of the events with it
-pub record Hears (side : Side) (bytes : List ℕ) (said : rpc.Message) (act : Act) (terms : Terms)
-    (messages : session.State) (documents : docs.State) (events : List Event) : Type 0 where
-  pub sent : Sent
-  pub reads : IsSent side bytes sent
-  pub says : outline sent.message ≡ outline said
-  pub means : sent.act ≡ act
-  pub accepted : offence terms events (message sent) ≡ None
-  pub holds : Holds messages documents (events ++ message sent ∷ [])
-  pub has_value : HasValue events said sent.message
-
--- the content is this message, but for its params and the value of a result, and means this act; it
--- offends this rule
-pub record RefusesMessage (side : Side) (bytes : List ℕ) (said : rpc.Message) (act : Act)
-    (terms : Terms) (events : List Event) (rule : ℕ) : Type 0 where
-  pub sent : Sent
-  pub reads : IsSent side bytes sent
-  pub says : outline sent.message ≡ outline said
-  pub means : sent.act ≡ act
-  pub offends : offence terms events (message sent) ≡ Some rule
-  pub whole : HasValue events said sent.message
-
--- the message that the content is offends the rule of this fault, unless memory ran out
-abbrev pub RefusesBy : Side → List ℕ → rpc.Message → Act → Terms → List Event → Fault → Type 0
-RefusesBy side bytes said act terms events (faults.Rule rule) =
-    RefusesMessage side bytes said act terms events rule
-RefusesBy side bytes said act terms events faults.Memory = Unit {0}
 
 -- the content is no message that means something: it breaks the rule of this fault, unless memory
 -- ran out

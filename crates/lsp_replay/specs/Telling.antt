@@ -1,10 +1,12 @@
 -- What an account is told, and what it owes.
 use Rattle.std.specs.Prelude.{◌≡◌, ℕ, ◌+◌, ◌<◌, ◌^◌, List, [], ◌∷◌, ◌++◌, length, true, false}
 use Rattle.std.specs.Prelude.{Option, Some, None, IsSome, option_map}
-use Rattle.lsp_docs.specs.Stored.{answer_of}
-use Rattle.lsp_docs.specs.Documents.{held, Terms}
-use Rattle.lsp_docs.specs.Snapshots.{kept}
+use Rattle.lsp_docs.specs.Calls.{Call}
+use Rattle.lsp_docs.specs.Documents.{Terms}
 use Rattle.lsp_docs.specs.State as docs
+use Rattle.lsp_docs.specs.Taken.{call_view, took_by}
+use Rattle.lsp_docs.specs.declared.call.Took.{Took}
+use Rattle.lsp_docs.specs.declared.call.Took.TheVariants.{Done}
 use Rattle.lsp_frame.specs.Front.{header_front}
 use Rattle.lsp_log.specs.Reader.{shown_by}
 use Rattle.lsp_rpc.specs.Outline.{outline}
@@ -18,19 +20,20 @@ use Rattle.lsp_replay.specs.Run.{Run, Tail}
 use Rattle.lsp_replay.specs.Standing.{HasValue, Holds}
 use Rattle.lsp_replay.specs.Streams as streams
 use Rattle.lsp_replay.specs.Streams.{decoder_of}
-use Rattle.lsp_replay.specs.Tries.{MayTry}
+use Rattle.lsp_replay.specs.Tries.{TriesCall, made_in}
 use Rattle.lsp_replay.specs.declared.log_events.End.{End}
 use Rattle.lsp_replay.specs.declared.log_events.LogEvents.{LogEvents}
+use Rattle.lsp_replay.specs.declared.seen.Fate.{Fate}
+use Rattle.lsp_replay.specs.declared.seen.Fate.TheVariants as fates
 use Rattle.lsp_replay.specs.declared.seen.Flow.{Flow}
 use Rattle.lsp_replay.specs.declared.seen.Flow.TheVariants.{GoOn, Stop}
 use Rattle.lsp_replay.specs.declared.seen.Seen.{Seen}
-use Rattle.lsp_replay.specs.declared.seen.Seen.TheVariants as seen
-use Rattle.lsp_verdict.specs.Event.{calls, Event, message}
+use Rattle.lsp_verdict.specs.Event.{call_at, calls, Event, message}
 use Rattle.lsp_verdict.specs.Given.{AreCounts, raw_view}
 use Rattle.lsp_verdict.specs.Heard.{Heard, Rests, heard_events, rest_of}
 use Rattle.lsp_verdict.specs.Offences.{IsNoted, has_broken, kept_of, rule_at}
 use Rattle.lsp_verdict.specs.Outcome.{is_rest}
-use Rattle.lsp_verdict.specs.Placed.{Raw, content, show}
+use Rattle.lsp_verdict.specs.Placed.{Raw}
 use Rattle.lsp_verdict.specs.Survey.{ends_inside}
 use Rattle.lsp_verdict.specs.Verdict.{Verdict, no_by}
 use Rattle.lsp_verdict.specs.declared.counts.Counts.{Counts}
@@ -77,19 +80,19 @@ abbrev pub MaySpeak : List Event → Event → Option Spoken → Type 0
 MaySpeak kept_events event None = (sent : Sent) → event ≡ message sent → ⊥
 MaySpeak kept_events event (Some s) = (side : Side) × IsSpoken kept_events event side s
 
-abbrev pub SeenAs : Seen → Terms → List Heard → Heard → Type 0
-SeenAs (seen.Message side bytes spoken) terms before h =
-    (h.raw ≡ content side bytes.now) × (rule_of terms before h ≡ None)
-    × IsSpoken (kept_before terms before) h.note.event side spoken.now
-SeenAs (seen.Snapshot version uri text answer) terms before h =
-    (h.raw ≡ show version uri.now text.now) × (rule_of terms before h ≡ None)
-    × (answer ≡ answer_of version (kept terms uri.now (calls (kept_before terms before)))
-    (held terms uri.now (calls (kept_before terms before))))
-SeenAs (seen.Offence raw rule spoken tried) terms before h =
-    (h.raw ≡ raw_view raw) × (rule_of terms before h ≡ Some rule)
-    × MaySpeak (kept_before terms before) h.note.event (option_map (λ s. s.now) spoken)
-    × MayTry terms (kept_before terms before) rule (option_map (λ s. s.now) spoken)
-    (option_map (λ t. t.now) tried)
+-- what the call of an event says, where it is one
+abbrev pub took_of : Terms → List Call → Option Call → Took
+took_of terms before None = Done
+took_of terms before (Some call) = took_by terms before call
+
+-- what became of an event after these
+abbrev pub HasFate : Terms → List Heard → Heard → Fate → Type 0
+HasFate terms before h (fates.Kept took) = (rule_of terms before h ≡ None)
+    × (took ≡ took_of terms (calls (kept_before terms before))
+    (call_at (kept_before terms before) h.note.event))
+HasFate terms before h (fates.Offends rule tried) = (rule_of terms before h ≡ Some rule)
+    × TriesCall terms (kept_before terms before) (call_at (kept_before terms before) h.note.event)
+    rule (made_in (option_map (λ t. t.now) tried))
 
 -- **this was seen of an event after these**
 pub record IsSeen (messages : session.State) (documents : docs.State) (counts : Counts) (s : Seen)
@@ -97,7 +100,10 @@ pub record IsSeen (messages : session.State) (documents : docs.State) (counts : 
   pub stood : Stood terms messages documents counts (before ++ h ∷ [])
   pub few : length before + 1 < 2 ^ 64
   pub noted : IsNoted h.raw h.note
-  pub as_is : SeenAs s terms before h
+  pub is : h.raw ≡ raw_view s.raw
+  pub spoken : MaySpeak (kept_before terms before) h.note.event (option_map (λ s. s.now) s.spoken)
+  pub says : option_map call_view s.call ≡ call_at (kept_before terms before) h.note.event
+  pub fate : HasFate terms before h s.fate
 
 -- of a fault of the frames the bytes that are lent show the header part that has it
 abbrev pub ShowsFault : code.Raw → Rests → Type 0
@@ -105,11 +111,6 @@ ShowsFault (lent.Content side bytes) rests = Unit {0}
 ShowsFault (lent.Broken side rule rest) rests =
     header_front rest.now ≡ header_front (rest_of rests side)
 ShowsFault (lent.Snapshot version uri text) rests = Unit {0}
-
-abbrev pub FitsRests : Seen → Rests → Type 0
-FitsRests (seen.Message side bytes spoken) rests = Unit {0}
-FitsRests (seen.Snapshot version uri text answer) rests = Unit {0}
-FitsRests (seen.Offence raw rule spoken tried) rests = ShowsFault raw rests
 
 -- **one more event comes after these**, which were told
 pub record Comes (raw : Raw) (terms : Terms) (messages : session.State) (documents : docs.State)

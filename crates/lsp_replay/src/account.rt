@@ -3,7 +3,7 @@ ghost use Rattle.std.specs.Prelude.{◌≡◌, ◌++◌, ◌∷◌, ◌+◌, ◌
 ghost use Rattle.std.specs.Prelude.{OnErr, string_bytes, true};
 ghost use Rattle.lsp_docs.specs.Documents.{Terms};
 ghost use Rattle.lsp_replay.specs.Run.{Run};
-ghost use Rattle.lsp_replay.specs.Telling.{Closes, FitsRests, IsEnd, IsSeen, Says, Stood};
+ghost use Rattle.lsp_replay.specs.Telling.{Closes, IsEnd, IsSeen, Says, ShowsFault, Stood};
 ghost use Rattle.lsp_verdict.specs.Heard.{Heard};
 
 use crate::events::Events;
@@ -28,16 +28,16 @@ pub trait Account {
     ///
     /// # Errors
     /// `Memory` where memory was refused, which the run wants of such an event.
-    fn event(&mut self, held: &Events<Lined>, seen: Seen<'_>, text: &mut String) -> Result<Flow>
+    fn event(&mut self, held: &Events<Lined>, seen: &Seen<'_>, text: &mut String) -> Result<Flow>
         ensures asked { asked self.new ≡ asked self.old }
         ensures memory { OnErr result ((terms : Terms) (before : List Heard) (h : Heard)
             → stands self.old terms before
-            → IsSeen held.now.session held.now.docs held.now.counts seen.entry terms before h
+            → IsSeen held.now.session held.now.docs held.now.counts seen.now terms before h
             → (run (asked self.old)).wants terms before h ≡ true) }
         ensures says { IfOk result (λ flow. (terms : Terms) (before : List Heard) (h : Heard)
             → stands self.old terms before
-            → IsSeen held.now.session held.now.docs held.now.counts seen.entry terms before h
-            → Says (run (asked self.old)) terms before h (FitsRests seen.entry)
+            → IsSeen held.now.session held.now.docs held.now.counts seen.now terms before h
+            → Says (run (asked self.old)) terms before h (ShowsFault seen.now.raw)
             (string_bytes text.old) (string_bytes text.new)
             (stands self.new terms (before ++ h ∷ [])) flow) };
 

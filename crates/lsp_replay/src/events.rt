@@ -1,30 +1,35 @@
 //! The events of a session, heard one after another.
-ghost use Rattle.std.specs.Prelude.{◌≡◌, [], ℕ, List, IfErr, OnOk, OnErr};
-ghost use Rattle.lsp_rpc.specs.View.{act_view, message_view};
-ghost use Rattle.lsp_docs.specs.Calls.{Call};
+ghost use Rattle.std.specs.Prelude.{◌≡◌, [], List, IfErr, IfOk, None, OnErr, OnOk};
+ghost use Rattle.std.specs.Prelude.{Err, option_map};
+ghost use Rattle.lsp_rpc.specs.View.{act_view};
+ghost use Rattle.lsp_docs.specs.Calls as spec;
+ghost use Rattle.lsp_docs.specs.Documents.{Terms, terms_of};
 ghost use Rattle.lsp_docs.specs.Fault.{IsRule};
 ghost use Rattle.lsp_docs.specs.State as documents;
-ghost use Rattle.lsp_docs.specs.Documents.{terms_of};
+ghost use Rattle.lsp_docs.specs.Taken.{call_view};
 ghost use Rattle.lsp_docs.specs.Tried.{tried_in};
 ghost use Rattle.lsp_outline.specs.declared.outline.Results.TheVariants.{LeftOut};
 ghost use Rattle.lsp_session.specs.Handshake.{open_initializes};
+ghost use Rattle.lsp_session.specs.Refusal.{Names};
 ghost use Rattle.lsp_session.specs.Sent.{Sent};
 ghost use Rattle.lsp_session.specs.State.{Stands};
-ghost use Rattle.lsp_verdict.specs.Event.{call_of, Event};
-ghost use Rattle.lsp_replay.specs.Apart.{Says};
+ghost use Rattle.lsp_verdict.specs.Event as event;
+ghost use Rattle.lsp_verdict.specs.Event.{Event, call_at, message, sent_in};
 ghost use Rattle.lsp_verdict.specs.Given.{raw_view};
-ghost use Rattle.lsp_replay.specs.Standing.{Follows, Hears, Holds, IsUnread, RefusesBy};
+ghost use Rattle.lsp_replay.specs.Keeping.{IsAdmitted, IsKept, IsMessageOf, IsRead, IsSound};
+ghost use Rattle.lsp_replay.specs.Keeping.{RefusesEvent, Tries, message_rule};
+ghost use Rattle.lsp_replay.specs.Standing.{CanWantMemory, Follows, Holds, IsUnread, MayLackFor};
 ghost use Rattle.lsp_replay.specs.Standing.{RefusesCall, RefusesFor, Takes, TakesCall};
-ghost use Rattle.lsp_replay.specs.Tries.{IsTriedOf, Tries};
+ghost use Rattle.lsp_replay.specs.Tries.{IsTriedOf};
 
 use crate::fault::Fault;
-use lsp_docs::{DocFault, Docs, Tried};
+use lsp_docs::{Call, DocFault, Docs, Took, Tried};
 use lsp_frame::{Format, Limits};
 use lsp_outline::{MessageReader, Results};
 use lsp_rpc::{Act, Encoding, Side, Spoken, SyncKind};
-use lsp_session::Session;
+use lsp_session::{Refusal, Session};
 use lsp_text::TextStore;
-use lsp_verdict::{Counts, Raw, Who, who_of};
+use lsp_verdict::{Counts, Raw};
 use std::alloc::Global;
 
 /// The result of the events heard so far, none of which offends after those before it.
@@ -39,6 +44,29 @@ pub struct Events<S: TextStore> {
     pub(crate) messages: MessageReader,
     /// What was tried of the changes that the documents refused last.
     pub(crate) tried: Option<Tried<S>>,
+}
+
+/// An event as it was read.
+#[derive(Clone, Copy)]
+pub(crate) struct ReadEvent<'a> {
+    pub(crate) raw: Raw<'a>,
+    /// The message that it is, without its params and the value of a result that nothing reads.
+    pub(crate) spoken: Option<&'a Spoken>,
+    /// What it says about a document, under what was agreed before it.
+    pub(crate) call: Option<Call<'a>>,
+}
+
+impl<'a> ReadEvent<'a> {
+    /// An event that is no message.
+    pub(crate) fn silent(raw: Raw<'a>, call: Option<Call<'a>>) -> ReadEvent<'a>
+        ensures { result ≡ record { raw = raw.entry; spoken = None; call = call.entry } }
+    {
+        ReadEvent {
+            raw,
+            spoken: None,
+            call,
+        }
+    }
 }
 
 impl<S: TextStore> Events<S> {
@@ -84,59 +112,114 @@ impl<S: TextStore> Events<S> {
                     content,
                     &mut spoken,
                 )?;
-                self.follow(side, &spoken)?;
-                self.counts.add(who_of(side));
+                let call = self.call_in(&spoken);
+                let read = ReadEvent {
+                    raw,
+                    spoken: Some(&spoken),
+                    call,
+                };
+                self.keep(&read)?;
                 Ok(())
             }
             Raw::Broken { rule, .. } => Err(Fault::Rule(rule)),
             Raw::Snapshot { version, uri, text } => {
-                let _answer = self.docs.snapshot(uri, version, text)?;
-                let who = Who::Snapshot;
-                self.counts.add(who);
+                let call = Call::Shows { version, uri, text };
+                let read = ReadEvent::silent(raw, Some(call));
+                self.keep(&read)?;
                 Ok(())
             }
         }
     }
 
-    /// Admits the message that a content is, and takes over what it says about a document. The
-    /// counts stay.
-    ///
-    /// # Errors
-    /// `Rule` by the least of the rules 301 to 702 that the message offends, and `Memory` where
-    /// memory was refused. What is held stays, so that the event after it can be heard, and what
-    /// was tried of refused changes is kept.
-    pub fn follow(&mut self, side: Side, spoken: &Spoken) -> Result<(), Fault>
-        ensures terms { self.new.docs.terms ≡ self.old.docs.terms }
-        ensures counts { self.new.counts ≡ self.old.counts }
-        ensures ok { OnOk result ((content : List ℕ) (events : List Event)
-            → Says self.old.session side content (message_view spoken.now.message)
-            (act_view spoken.now.act)
-            → Holds self.old.session self.old.docs events
-            → Hears side content (message_view spoken.now.message)
-            (act_view spoken.now.act) self.old.docs.terms self.new.session self.new.docs
-            events) }
-        ensures rule { IfErr result
-            (λ fault. (content : List ℕ) (events : List Event)
-            → Says self.old.session side content (message_view spoken.now.message)
-            (act_view spoken.now.act)
-            → Holds self.old.session self.old.docs events
-            → RefusesBy side content (message_view spoken.now.message)
-            (act_view spoken.now.act) self.old.docs.terms events fault) }
-        ensures tried { IfErr result (λ fault. (events : List Event)
-            → Holds self.old.session self.old.docs events
-            → Tries self.old.docs.terms events (act_view spoken.now.act) fault
-            (tried_in S.content self.new.tried)) }
-        ensures err { OnErr result ((content : List ℕ) (events : List Event)
-            → Says self.old.session side content (message_view spoken.now.message)
-            (act_view spoken.now.act)
-            → Holds self.old.session self.old.docs events
-            → Holds self.new.session self.new.docs events) }
+    /// What a message says about a document, under what was agreed before it.
+    #[inline(always)]
+    pub(crate) fn call_in<'a>(&self, spoken: &'a Spoken) -> Option<Call<'a>>
+        ensures { (events : List Event) (m : Sent) → Stands self.now.session (sent_in events)
+            → m.act ≡ act_view spoken.now.act
+            → option_map call_view result ≡ call_at events (message m) }
     {
         let encoding = self.session.encoding().unwrap_or(Encoding::Utf16);
         let kind = self.session.sync_kind().unwrap_or(SyncKind::Nothing);
-        self.session.admit(side, &spoken.message, &spoken.act)?;
-        apply(&mut self.docs, encoding, kind, &spoken.act, &mut self.tried)?;
-        Ok(())
+        call_of(encoding, kind, &spoken.act)
+    }
+
+    /// Keeps an event that was read: admits the message that it is, takes over what it says about a
+    /// document, and counts it. What its call says is answered.
+    ///
+    /// # Errors
+    /// `Rule` by the least of the rules 301 to 702 that the event offends, and `Memory` where
+    /// memory was refused. What is held and the counts stay, so that the event after it can be
+    /// heard, and what was tried of refused changes is kept.
+    #[inline(always)]
+    pub(crate) fn keep(&mut self, read: &ReadEvent<'_>) -> Result<Took, Fault>
+        ensures terms { self.new.docs.terms ≡ self.old.docs.terms }
+        ensures ok { IfOk result (λ took. (events : List Event) (event : Event)
+            → Holds self.old.session self.old.docs events → IsSound event
+            → IsRead events event read.now
+            → IsKept self.old.docs.terms self.old.counts self.new.session self.new.docs
+            self.new.counts events event took) }
+        ensures rule { IfErr result (λ fault. (events : List Event) (event : Event)
+            → Holds self.old.session self.old.docs events → IsSound event
+            → IsRead events event read.now
+            → RefusesEvent (raw_view read.now.raw) self.old.docs.terms events event fault) }
+        ensures tried { IfErr result (λ fault. (events : List Event) (event : Event)
+            → Holds self.old.session self.old.docs events → IsSound event
+            → IsRead events event read.now
+            → Tries self.old.docs.terms events event fault (tried_in S.content self.new.tried)) }
+        ensures err { OnErr result ((events : List Event) (event : Event)
+            → Holds self.old.session self.old.docs events → IsSound event
+            → IsRead events event read.now → Holds self.new.session self.new.docs events) }
+        ensures uncounted { OnErr result (self.new.counts ≡ self.old.counts) }
+    {
+        admit(&mut self.session, read)?;
+        let took = take_call(&mut self.docs, read.call, &mut self.tried)?;
+        self.counts.add(read.raw.who());
+        Ok(took)
+    }
+}
+
+/// Admits the message that an event is, if it is one.
+#[inline(always)]
+fn admit(session: &mut Session, read: &ReadEvent<'_>) -> Result<(), Refusal>
+    ensures ok { OnOk result ((events : List Event) (event : Event)
+        → Stands session.old (sent_in events) → IsSound event → IsRead events event read.now
+        → IsAdmitted session.new events event) }
+    ensures rule { IfErr result (λ refusal. (events : List Event) (event : Event)
+        → Stands session.old (sent_in events) → IsSound event → IsRead events event read.now
+        → Names (message_rule events event) refusal) }
+    ensures content { OnErr result ((terms : Terms) (events : List Event)
+        → CanWantMemory terms events (raw_view read.now.raw)) }
+    ensures err { OnErr result (session.new ≡ session.old) }
+{
+    if let Raw::Content { side, .. } = read.raw {
+        if let Some(spoken) = read.spoken {
+            session.admit(side, &spoken.message, &spoken.act)?;
+        }
+    }
+    Ok(())
+}
+
+/// Takes over what is said about a document, if anything is.
+#[inline(always)]
+fn take_call<S: TextStore>(
+    docs: &mut Docs<S>,
+    call: Option<Call<'_>>,
+    tried: &mut Option<Tried<S>>,
+) -> Result<Took, DocFault>
+    ensures takes { IfOk result
+        (TakesCall docs.old docs.new (option_map call_view call.entry)) }
+    ensures refuses { IfErr result (RefusesCall docs.old (option_map call_view call.entry)) }
+    ensures memory { result ≡ Err DocFault.Memory
+        → MayLackFor docs.old (option_map call_view call.entry) }
+    ensures tried { IfErr result (λ fault. (calls : List spec.Call)
+        → documents.Stands docs.old calls → IsRule fault
+        → IsTriedOf docs.old.terms calls (option_map call_view call.entry)
+        (tried_in S.content tried.new)) }
+    ensures err { OnErr result (docs.new ≡ docs.old) }
+{
+    match call {
+        Some(call) => docs.take(call, tried),
+        None => Ok(Took::Done),
     }
 }
 
@@ -165,48 +248,40 @@ pub(crate) fn read_into(
     content: &[u8],
     spoken: &mut Spoken,
 ) -> Result<(), Fault>
-    ensures ok { OnOk result (Says session.now side content.now
-        (message_view spoken.new.message) (act_view spoken.new.act)) }
+    ensures ok { OnOk result ((events : List Event) → Stands session.now (sent_in events)
+        → IsMessageOf events side content.now spoken.new) }
     ensures rule { IfErr result (IsUnread side content.now) }
 {
     messages.hear_into(side, content, wanted_results(session), spoken)?;
     Ok(())
 }
 
-/// Takes over what an act says about a document.
-fn apply<S: TextStore>(
-    docs: &mut Docs<S>,
-    encoding: Encoding,
-    kind: SyncKind,
-    act: &Act,
-    tried: &mut Option<Tried<S>>,
-) -> Result<(), DocFault>
-    ensures accepts { OnOk result
-        (TakesCall docs.old docs.new (call_of encoding kind (act_view act.now))) }
-    ensures refuses { IfErr result (RefusesCall docs.old (call_of encoding kind (act_view act.now))) }
-    ensures tried { IfErr result (λ fault. (calls : List Call) → documents.Stands docs.old calls
-        → IsRule fault → IsTriedOf docs.old.terms calls (call_of encoding kind (act_view act.now))
-        (tried_in S.content tried.new)) }
-    ensures err { OnErr result (docs.new ≡ docs.old) }
+/// What an act says about a document, under this encoding and kind.
+fn call_of(encoding: Encoding, kind: SyncKind, act: &Act) -> Option<Call<'_>>
+    ensures { option_map call_view result ≡ event.call_of encoding kind (act_view act.now) }
 {
     match act {
-        Act::DidOpen { uri, version, text } => {
-            docs.did_open(uri.as_str(), *version, text.as_str())?
-        }
+        Act::DidOpen { uri, version, text } => Some(Call::Opens {
+            uri: uri.as_str(),
+            version: *version,
+            text: text.as_str(),
+        }),
         Act::DidChange {
             uri,
             version,
             changes,
-        } => {
-            let version = *version;
-            let uri = uri.as_str();
-            docs.try_change(encoding, kind, uri, version, changes.as_slice(), tried)?
-        }
-        Act::DidClose { uri } => docs.did_close(uri.as_str())?,
-        Act::DidSave { uri, text } => {
-            docs.did_save(uri.as_str(), text.as_ref().map(|text| text.as_str()))?
-        }
-        _ => {}
+        } => Some(Call::Changes {
+            encoding,
+            kind,
+            uri: uri.as_str(),
+            version: *version,
+            changes: changes.as_slice(),
+        }),
+        Act::DidClose { uri } => Some(Call::Closes { uri: uri.as_str() }),
+        Act::DidSave { uri, text } => Some(Call::Saves {
+            uri: uri.as_str(),
+            text: text.as_ref().map(|text| text.as_str()),
+        }),
+        _ => None,
     }
-    Ok(())
 }

@@ -11,7 +11,7 @@ ghost use Rattle.lsp_verdict.specs.Verdict.{count_of, is_of};
 use crate::account::Account;
 use crate::events::Events;
 use crate::log_events::{End, LogEvents};
-use crate::seen::{Flow, Seen, last_offence};
+use crate::seen::{Fate, Flow, Seen, last_offence};
 use crate::text_answer::TextAnswer;
 use lsp_rpc::Result;
 use lsp_text::Lined;
@@ -28,19 +28,19 @@ pub struct HeldText<'a> {
 
 impl HeldText<'_> {
     /// The No at an event that ends the run.
-    fn refusal(&self, held: &Events<Lined>, seen: Seen<'_>) -> Option<Verdict>
+    fn refusal(&self, held: &Events<Lined>, seen: &Seen<'_>) -> Option<Verdict>
         ensures { (terms : Terms) (before : List Heard) (h : Heard)
-            → IsSeen held.now.session held.now.docs held.now.counts seen.entry terms before h
+            → IsSeen held.now.session held.now.docs held.now.counts seen.now terms before h
             → option_map verdict_view result ≡ refusal_by self.now.skips (no_of terms before h) }
     {
         if self.skips {
             return None;
         }
-        match seen {
-            Seen::Offence { raw, rule, .. } => {
-                Some(last_offence(&held.counts, raw, rule, false).verdict())
+        match seen.fate {
+            Fate::Offends { rule, .. } => {
+                Some(last_offence(&held.counts, seen.raw, rule, false).verdict())
             }
-            _ => None,
+            Fate::Kept(_) => None,
         }
     }
 }
@@ -59,7 +59,7 @@ impl Account for HeldText<'_> {
     ghost stands = { λ account terms heard.
         count_of (is_of Editor) (heard_events heard) < account.number };
 
-    fn event(&mut self, held: &Events<Lined>, seen: Seen<'_>, text: &mut String) -> Result<Flow> {
+    fn event(&mut self, held: &Events<Lined>, seen: &Seen<'_>, text: &mut String) -> Result<Flow> {
         if let Some(verdict) = self.refusal(held, seen) {
             return TextAnswer::missing(verdict).stop(text);
         }

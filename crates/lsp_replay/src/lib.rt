@@ -27,7 +27,7 @@ pub use heard::EventPlace;
 pub use held_text::HeldText;
 pub use log_events::{End, Entry, LogEvents, Next};
 pub use one_pass::pass;
-pub use seen::{Flow, Seen, last_offence, push_kept_line};
+pub use seen::{Fate, Flow, Seen, last_offence, push_kept_line};
 pub use streams::Streams;
 pub use summary::summary_of;
 pub use text_answer::TextAnswer;

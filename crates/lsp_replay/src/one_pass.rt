@@ -1,19 +1,17 @@
 //! One pass over a log.
 ghost use Rattle.std.specs.Prelude.{◌≡◌, ◌++◌, ◌∷◌, ◌+◌, ◌<◌, ◌^◌, [], List, IfOk, IfErr, length};
-ghost use Rattle.std.specs.Prelude.{None, OnErr, OnOk, Option, Some, option_map, string_bytes};
-ghost use Rattle.std.specs.Prelude.{true};
+ghost use Rattle.std.specs.Prelude.{None, OnErr, OnOk, Some, string_bytes, true};
 ghost use Rattle.lsp_docs.specs.Documents.{Terms};
 ghost use Rattle.lsp_frame.specs.Bounds.{IsInRange};
 ghost use Rattle.lsp_frame.specs.Sink.{Writes};
 ghost use Rattle.lsp_frame.specs.Told.{Told};
-ghost use Rattle.lsp_rpc.specs.View.{act_view, message_view};
-ghost use Rattle.lsp_replay.specs.Apart as apart;
+ghost use Rattle.lsp_replay.specs.Keeping.{IsRead, IsSound};
 ghost use Rattle.lsp_replay.specs.LogEvents.{Opens};
 ghost use Rattle.lsp_replay.specs.Run.{Passes, Steps, WantsAt};
-ghost use Rattle.lsp_replay.specs.Telling.{Comes, DueAtEnd, DueOf, MaySpeak, Saw, ShowsFault};
-ghost use Rattle.lsp_replay.specs.Telling.{Stood};
+ghost use Rattle.lsp_replay.specs.Telling.{Comes, DueAtEnd, DueOf, Saw, ShowsFault, Stood};
 ghost use Rattle.lsp_replay.specs.Telling.{kept_before, rule_of};
-ghost use Rattle.lsp_replay.specs.Tries.{MayTry};
+ghost use Rattle.lsp_replay.specs.Tries.{TriesCall, made_in};
+ghost use Rattle.lsp_verdict.specs.Event.{call_at};
 ghost use Rattle.lsp_verdict.specs.Heard.{Heard};
 ghost use Rattle.lsp_verdict.specs.Given.{raw_view};
 ghost use Rattle.lsp_verdict.specs.Outcome.{log_terms};
@@ -21,14 +19,14 @@ ghost use Rattle.lsp_verdict.specs.Placed as placed;
 ghost use Rattle.lsp_verdict.specs.Runs.{BreaksOff};
 
 use crate::account::Account;
-use crate::events::{Events, read_into};
-use crate::fault::Fault;
+use crate::events::{Events, ReadEvent, read_into};
 use crate::log_events::{End, LogEvents, Next};
-use crate::seen::{Flow, Seen};
+use crate::seen::{Fate, Flow, Seen};
+use lsp_docs::Call;
 use lsp_frame::{Format, Limits, Sink, Source, WriteFault, put_all};
 use lsp_rpc::{Result, Side, Spoken};
 use lsp_text::Lined;
-use lsp_verdict::{Outcome, Raw, RunFault, Who, who_of};
+use lsp_verdict::{Outcome, Raw, RunFault};
 use std::alloc::Global;
 
 /// A log that is read, what is held of its events, and what is said of one.
@@ -186,12 +184,19 @@ fn see<A: Account>(
             let mut spoken = held.messages.blank();
             see_content(held, account, side, content, &mut spoken, text)
         }
-        Raw::Broken { rule, .. } => skip(held, account, raw, rule, None, text),
+        Raw::Broken { rule, .. } => skip(held, account, ReadEvent::silent(raw, None), rule, text),
         Raw::Snapshot {
             version,
             uri,
             text: shown,
-        } => see_shown(held, account, version, uri, shown, text),
+        } => {
+            let call = Call::Shows {
+                version,
+                uri,
+                text: shown,
+            };
+            see_read(held, account, ReadEvent::silent(raw, Some(call)), text)
+        }
     }
 }
 
@@ -213,97 +218,60 @@ fn see_content<A: Account>(
         (A.stands account.new terms (before ++ h ∷ [])) held.new.session held.new.docs
         held.new.counts flow) }
 {
+    let raw = Raw::Content { side, content };
     match read_into(&held.session, &mut held.messages, side, content, spoken) {
-        Ok(()) => see_message(held, account, side, content, spoken, text),
-        Err(fault) => {
-            let rule = fault.rule()?;
-            let raw = Raw::Content { side, content };
-            skip(held, account, raw, rule, None, text)
-        }
-    }
-}
-
-/// Hears a message of a side, which this content is, and adds what an account says of it.
-fn see_message<A: Account>(
-    held: &mut Events<Lined>,
-    account: &mut A,
-    side: Side,
-    content: &[u8],
-    spoken: &Spoken,
-    text: &mut String,
-) -> Result<Flow>
-    ensures asked { A.asked account.new ≡ A.asked account.old }
-    ensures saw { IfOk result (λ flow. (terms : Terms) (before : List Heard) (h : Heard)
-        → Comes (placed.content side content.now) terms held.old.session held.old.docs
-        held.old.counts before h (A.stands account.old terms before)
-        → apart.Says held.old.session side content.now (message_view spoken.now.message)
-        (act_view spoken.now.act)
-        → Saw (A.run (A.asked account.old)) terms before h (λ rests. Unit {0})
-        (string_bytes text.old) (string_bytes text.new)
-        (A.stands account.new terms (before ++ h ∷ [])) held.new.session held.new.docs
-        held.new.counts flow) }
-{
-    match held.follow(side, spoken) {
         Ok(()) => {
-            held.counts.add(who_of(side));
-            let seen = Seen::Message {
-                side,
-                content,
-                spoken,
+            let read = ReadEvent {
+                raw,
+                spoken: Some(spoken),
+                call: held.call_in(spoken),
             };
-            let flow = account.event(held, seen, text)?;
-            Ok(flow)
+            see_read(held, account, read, text)
         }
         Err(fault) => {
             let rule = fault.rule()?;
-            let raw = Raw::Content { side, content };
-            skip(held, account, raw, rule, Some(spoken), text)
+            skip(held, account, ReadEvent::silent(raw, None), rule, text)
         }
     }
 }
 
-/// Hears a text that the editor showed, and adds what an account says of it.
-fn see_shown<A: Account>(
+/// Hears an event that was read, and adds what an account says of it.
+#[inline(always)]
+fn see_read<A: Account>(
     held: &mut Events<Lined>,
     account: &mut A,
-    version: i32,
-    uri: &str,
-    shown: &str,
+    read: ReadEvent<'_>,
     text: &mut String,
 ) -> Result<Flow>
     ensures asked { A.asked account.new ≡ A.asked account.old }
     ensures memory { OnErr result ((terms : Terms) (before : List Heard) (h : Heard)
-        → Comes (placed.show version uri.now shown.now) terms held.old.session held.old.docs
-        held.old.counts before h (A.stands account.old terms before)
+        → Comes (raw_view read.entry.raw) terms held.old.session held.old.docs held.old.counts
+        before h (A.stands account.old terms before)
+        → IsSound h.note.event → IsRead (kept_before terms before) h.note.event read.entry
         → WantsAt (A.run (A.asked account.old)) terms before h) }
     ensures saw { IfOk result (λ flow. (terms : Terms) (before : List Heard) (h : Heard)
-        → Comes (placed.show version uri.now shown.now) terms held.old.session held.old.docs
-        held.old.counts before h (A.stands account.old terms before)
-        → Saw (A.run (A.asked account.old)) terms before h (λ rests. Unit {0})
+        → Comes (raw_view read.entry.raw) terms held.old.session held.old.docs held.old.counts
+        before h (A.stands account.old terms before)
+        → IsSound h.note.event → IsRead (kept_before terms before) h.note.event read.entry
+        → Saw (A.run (A.asked account.old)) terms before h (ShowsFault read.entry.raw)
         (string_bytes text.old) (string_bytes text.new)
         (A.stands account.new terms (before ++ h ∷ [])) held.new.session held.new.docs
         held.new.counts flow) }
 {
-    match held.docs.snapshot(uri, version, shown) {
-        Ok(answer) => {
-            held.counts.add(Who::Snapshot);
-            let seen = Seen::Snapshot {
-                version,
-                uri,
-                text: shown,
-                answer,
+    match held.keep(&read) {
+        Ok(took) => {
+            let seen = Seen {
+                raw: read.raw,
+                spoken: read.spoken,
+                call: read.call,
+                fate: Fate::Kept(took),
             };
-            let flow = account.event(held, seen, text)?;
+            let flow = account.event(held, &seen, text)?;
             Ok(flow)
         }
         Err(fault) => {
-            let rule = Fault::from(fault).rule()?;
-            let raw = Raw::Snapshot {
-                version,
-                uri,
-                text: shown,
-            };
-            skip(held, account, raw, rule, None, text)
+            let rule = fault.rule()?;
+            skip(held, account, read, rule, text)
         }
     }
 }
@@ -315,43 +283,43 @@ fn see_shown<A: Account>(
 fn skip<A: Account>(
     held: &mut Events<Lined>,
     account: &mut A,
-    raw: Raw<'_>,
+    read: ReadEvent<'_>,
     rule: u16,
-    spoken: Option<&Spoken>,
     text: &mut String,
 ) -> Result<Flow>
     ensures asked { A.asked account.new ≡ A.asked account.old }
     ensures let_go { OnOk result (held.new.tried ≡ None) }
     ensures memory { OnErr result ((terms : Terms) (before : List Heard) (h : Heard)
-        → Comes (raw_view raw.entry) terms held.old.session held.old.docs held.old.counts before h
-        (A.stands account.old terms before)
+        → Comes (raw_view read.entry.raw) terms held.old.session held.old.docs held.old.counts
+        before h (A.stands account.old terms before)
         → rule_of terms before h ≡ Some rule
-        → MaySpeak (kept_before terms before) h.note.event
-        (option_map (λ s. s.now) spoken.entry)
-        → MayTry terms (kept_before terms before) rule (option_map (λ s. s.now) spoken.entry)
-        held.old.tried
+        → IsRead (kept_before terms before) h.note.event read.entry
+        → TriesCall terms (kept_before terms before)
+        (call_at (kept_before terms before) h.note.event) rule (made_in held.old.tried)
         → (A.run (A.asked account.old)).wants terms before h ≡ true) }
     ensures saw { IfOk result (λ flow. (terms : Terms) (before : List Heard) (h : Heard)
-        → Comes (raw_view raw.entry) terms held.old.session held.old.docs held.old.counts before h
-        (A.stands account.old terms before)
+        → Comes (raw_view read.entry.raw) terms held.old.session held.old.docs held.old.counts
+        before h (A.stands account.old terms before)
         → rule_of terms before h ≡ Some rule
-        → MaySpeak (kept_before terms before) h.note.event
-        (option_map (λ s. s.now) spoken.entry)
-        → MayTry terms (kept_before terms before) rule (option_map (λ s. s.now) spoken.entry)
-        held.old.tried
-        → Saw (A.run (A.asked account.old)) terms before h (ShowsFault raw.entry)
+        → IsRead (kept_before terms before) h.note.event read.entry
+        → TriesCall terms (kept_before terms before)
+        (call_at (kept_before terms before) h.note.event) rule (made_in held.old.tried)
+        → Saw (A.run (A.asked account.old)) terms before h (ShowsFault read.entry.raw)
         (string_bytes text.old) (string_bytes text.new)
         (A.stands account.new terms (before ++ h ∷ [])) held.new.session held.new.docs
         held.new.counts flow) }
 {
-    held.counts.add(raw.who());
-    let seen = Seen::Offence {
-        raw,
-        rule,
-        spoken,
-        tried: held.tried.as_ref(),
+    held.counts.add(read.raw.who());
+    let seen = Seen {
+        raw: read.raw,
+        spoken: read.spoken,
+        call: read.call,
+        fate: Fate::Offends {
+            rule,
+            tried: held.tried.as_ref(),
+        },
     };
-    let flow = account.event(held, seen, text)?;
+    let flow = account.event(held, &seen, text)?;
     held.tried = None;
     Ok(flow)
 }

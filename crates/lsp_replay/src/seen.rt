@@ -12,35 +12,33 @@ ghost use Rattle.lsp_verdict.specs.Verdict.{no_by};
 use crate::events::Events;
 use crate::heard::EventPlace;
 use crate::lines::{push_message_line, push_snapshot_line};
-use lsp_docs::{Match, Tried};
-use lsp_rpc::{Result, Side, Spoken};
+use lsp_docs::{Call, Took, Tried};
+use lsp_rpc::{Result, Spoken};
 use lsp_text::Lined;
-use lsp_verdict::{Counts, Lines, Offence, Outcome, Raw, Who, who_of};
+use lsp_verdict::{Counts, Lines, Offence, Outcome, Raw};
 
 /// What happened at an event, which is counted. All of it is lent.
 #[derive(Clone, Copy)]
-pub enum Seen<'a> {
-    /// A message that is kept, of this content: without its params and the value of a result that
-    /// nothing reads, with what it means. Session and documents are those after it.
-    Message {
-        side: Side,
-        content: &'a [u8],
-        spoken: &'a Spoken,
-    },
-    /// A text that the editor showed, which is kept, and how it was compared.
-    Snapshot {
-        version: i32,
-        uri: &'a str,
-        text: &'a str,
-        answer: Match,
-    },
-    /// An event that offends, by its least rule, and is skipped: session and documents are those
-    /// before it. Where it is a message (301 to 702), it is given as one that is kept, with what
-    /// was tried of its changes.
-    Offence {
-        raw: Raw<'a>,
+pub struct Seen<'a> {
+    /// The event, as it was read.
+    pub raw: Raw<'a>,
+    /// The message that it is, without its params and the value of a result that nothing reads, with
+    /// what it means.
+    pub spoken: Option<&'a Spoken>,
+    /// What it says about a document, under what was agreed before it.
+    pub call: Option<Call<'a>>,
+    pub fate: Fate<'a>,
+}
+
+/// What became of an event.
+#[derive(Clone, Copy)]
+pub enum Fate<'a> {
+    /// It is kept, and this is what its call says. Session and documents are those after it.
+    Kept(Took),
+    /// It offends, by its least rule, and is skipped: session and documents are those before it.
+    /// This was tried of its changes.
+    Offends {
         rule: u16,
-        spoken: Option<&'a Spoken>,
         tried: Option<&'a Tried<Lined>>,
     },
 }
@@ -58,32 +56,30 @@ pub enum Flow {
 ///
 /// # Errors
 /// `Memory` where memory was refused.
+#[inline(always)]
 pub fn push_kept_line(
     text: &mut String,
     lines: Lines,
     held: &Events<Lined>,
-    seen: Seen<'_>,
+    seen: &Seen<'_>,
 ) -> Result<()>
     ensures { OnOk result ((terms : Terms) (before : List Heard) (h : Heard)
-        → IsSeen held.now.session held.now.docs held.now.counts seen.entry terms before h
+        → IsSeen held.now.session held.now.docs held.now.counts seen.now terms before h
         → rule_of terms before h ≡ None
         → string_bytes text.new ≡ string_bytes text.old ++ heard_line lines before h) }
 {
-    match seen {
-        Seen::Message { side, spoken, .. } => {
-            let place = EventPlace::last(&held.counts, who_of(side));
-            push_message_line(text, lines, place, side, spoken)
-        }
-        Seen::Snapshot {
+    let place = EventPlace::last(&held.counts, seen.raw.who());
+    match seen.raw {
+        Raw::Content { side, .. } => match seen.spoken {
+            Some(spoken) => push_message_line(text, lines, place, side, spoken),
+            None => Ok(()),
+        },
+        Raw::Broken { .. } => Ok(()),
+        Raw::Snapshot {
             version,
             uri,
             text: shown,
-            ..
-        } => {
-            let place = EventPlace::last(&held.counts, Who::Snapshot);
-            push_snapshot_line(text, lines, place, version, uri, shown)
-        }
-        Seen::Offence { .. } => Ok(()),
+        } => push_snapshot_line(text, lines, place, version, uri, shown),
     }
 }
 
