@@ -6,7 +6,7 @@ use Rattle.lsp_docs.specs.Snapshots.{waiting, versions_of}
 use Rattle.lsp_docs.specs.Taken.{call_view}
 use Rattle.lsp_facts.specs.Refuting.{brings}
 use Rattle.lsp_facts.proofs.DocumentRules.{tried_change}
-use Rattle.lsp_facts.proofs.made.brought.Goals as goal
+use Rattle.lsp_facts.proofs.made.brings.Goals as goal
 
 pub returns-in_err-store-in-Changes : goal.returns-in_err-store-in-Changes
 returns-in_err-store-in-Changes g c = rw c.from_residual.ensures (rw c.in-Changes.is
