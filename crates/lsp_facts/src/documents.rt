@@ -161,10 +161,11 @@ fn of_opening(alloc: Global, text: &str, rule: u16, limit: u64) -> Result<Facts>
     ensures { IfOk result (λ facts. facts ≡ opening_facts limit (chars text.now) rule) }
 {
     let mut facts = Facts::new(alloc);
-    if rule == rules::DOCUMENT_OVER_LIMIT {
-        facts.number("bytes", text.len() as u64)?;
-        facts.number("limit", limit)?;
+    if rule != rules::DOCUMENT_OVER_LIMIT {
+        return Ok(facts);
     }
+    facts.number("bytes", text.len() as u64)?;
+    facts.number("limit", limit)?;
     Ok(facts)
 }
 
