@@ -41,9 +41,10 @@ pub fn refuting<S: TextStore>(
         → others.items
         ≡ spec.refuting docs.now.terms calls (call_view call.entry) snapshots.now) }
 {
-    let Some(Brought { version, text }) = brings(docs, call, tried) else {
+    let Some(brought) = brings(docs, call, tried) else {
         return Ok(Vec::new(docs.alloc()));
     };
+    let Brought { version, text } = brought;
     let texts = docs.waiting_texts(call.uri(), version);
     let others = differing(docs.alloc(), docs.line_ends(), texts, text, snapshots)?;
     Ok(others)
