@@ -3,7 +3,7 @@ use Rattle.lsp_docs.specs.Documents.{held}
 use Rattle.lsp_text.specs.Changes.{edits_of}
 use Rattle.lsp_facts.proofs.MadeChanges.{all_seen, seen_length, tried_there}
 use Rattle.lsp_facts.proofs.OtherTexts.{all_make, none_held, one_fails}
-use Rattle.lsp_facts.proofs.waiting.whole.Goals as goal
+use Rattle.lsp_facts.proofs.made.whole.Goals as goal
 
 pub returns-in_err-store_of : goal.returns-in_err-store_of
 returns-in_err-store_of g c = rw c.from_residual.ensures (λ enc calls h tries.
