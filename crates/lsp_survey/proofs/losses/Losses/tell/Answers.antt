@@ -4,7 +4,6 @@ use Rattle.lsp_survey.proofs.Losing.{message_kept, shown_kept}
 use Rattle.lsp_verdict.specs.Placed.{Raw}
 use Rattle.lsp_verdict.specs.Given.{raw_view}
 use Rattle.lsp_replay.specs.Telling.{HasFate, rule_of}
-use Rattle.lsp_replay.specs.declared.seen.Fate.{Fate}
 use Rattle.lsp_replay.proofs.Wanting.{on_err}
 use Rattle.lsp_survey.specs.Lost.{may_lose}
 use Rattle.lsp_survey.proofs.losses.Losses.tell.Goals as goal
