@@ -2,7 +2,7 @@
 use Rattle.std.proofs.Common.{◌≡◌, ◌<◌, ◌+◌, ℕ, Bool, true, false, List, [], ◌∷◌, ◌++◌, length}
 use Rattle.std.proofs.Common.{get_or, take, drop, Some, None, sym, ap, ◌∙◌, ◌≤◌, zero, suc}
 use Rattle.std.proofs.Common.{append-nil, Option, Result, Ok, Err, refl, arith, inl, inr}
-use Rattle.std.proofs.Common.{String, true≢false}
+use Rattle.std.proofs.Common.{Bor, String, true≢false}
 use Rattle.std.proofs.lemmas.Bool.{cases_Bool, cond-true, cond-false}
 use Rattle.std.proofs.lemmas.Slice.Eq.{bytes_eq-Decides}
 use Rattle.std.proofs.lemmas.List.{length-map, take_more, take-append-drop, at_drop_more}
@@ -10,7 +10,7 @@ use Rattle.std.proofs.lemmas.List.Folds.{find-append}
 use Rattle.std.specs.Global.{Global}
 use Rattle.std.specs.List.{find, list_any}
 use Rattle.std.specs.Option.{option_or, option_map}
-use Rattle.std.specs.Prelude.{slice_get, if◌then◌else◌, unwrap_or, not, ◌||◌, option_and_then}
+use Rattle.std.specs.Prelude.{slice_get, if◌then◌else◌, unwrap_or, not, ◌||◌, option_and_then, ℤ}
 use Rattle.std.specs.Str.{bytes_eq}
 use Rattle.std.specs.Result.{result_ok}
 use Rattle.std.proofs.lemmas.Option.{slice_get-get_or}
@@ -20,6 +20,9 @@ use Rattle.lsp_text.specs.Edits.{Edit, applied}
 use Rattle.lsp_text.specs.SameText.{compared as compared_text, same_text}
 use Rattle.lsp_docs.specs.Calls.{Text, Call, opens, changes, closes, saves, shows, uri_of}
 use Rattle.lsp_docs.specs.Documents.{Terms, Version}
+use Rattle.lsp_docs.specs.Taken.{call_view}
+use Rattle.lsp_docs.specs.declared.call.Call as code
+use Rattle.lsp_docs.specs.declared.call.Call.TheVariants.{Opens, Changes, Closes, Saves, Shows}
 use Rattle.lsp_docs.specs.Stored.{are_mixed, text_of, texts_of}
 use Rattle.lsp_docs.specs.Tried.{IsMade}
 use Rattle.lsp_docs.proofs.Mixed.{alike_any}
@@ -194,6 +197,18 @@ compared_brought terms calls (changes enc kind uri number edits) v is =
 compared_brought terms calls (closes uri) v is = absurd (cc)
 compared_brought terms calls (saves uri text) v is = absurd (cc)
 compared_brought terms calls (shows uri number text) v is = absurd (cc)
+
+-- so is one of a call that is neither a save nor a snapshot
+pub by_brought : (terms : Terms) (calls : List Call) (call : code.Call)
+    → ((uri : Bor (List ℕ)) (text : Option (Bor (List ℕ))) → call ≡ Saves uri text → ⊥)
+    → ((uri : Bor (List ℕ)) (number : ℤ) (text : Bor (List ℕ)) → call ≡ Shows uri number text → ⊥)
+    → option_and_then (against terms calls (uri_of (call_view call)))
+    (brings terms calls (call_view call)) ≡ compared terms calls (call_view call)
+by_brought terms calls (Opens uri number text) no_save no_show = refl
+by_brought terms calls (Changes enc kind uri number cs) no_save no_show = refl
+by_brought terms calls (Closes uri) no_save no_show = refl
+by_brought terms calls (Saves uri text) no_save no_show = absurd (no_save uri text refl)
+by_brought terms calls (Shows uri number text) no_save no_show = absurd (no_show uri number text refl)
 
 pub refuting_brought : (terms : Terms) (calls : List Call) (call : Call) (v : Option Version)
     (ns others : List EventPlace) → v ≡ brings terms calls call

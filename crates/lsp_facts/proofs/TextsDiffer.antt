@@ -1,6 +1,6 @@
 -- A call that breaks 608 or 702 compares two texts, and they differ.
 use Rattle.std.proofs.Common.{◌≡◌, ℕ, [], ◌∷◌, List, Option, length, ap, subst, ◌∙◌, ℤ, true, false}
-use Rattle.std.proofs.Common.{Some, None, inl, inr, refl, sym, true≢false, Result, Ok, Err, arith}
+use Rattle.std.proofs.Common.{Some, None, inl, inr, refl, sym, true≢false, Result, Ok, Err, arith, ◌≤◌}
 use Rattle.std.proofs.lemmas.Option.{same_Some, none-some}
 use Rattle.std.specs.Prelude.{codes, option_map, option_and_then, if◌then◌else◌, Bool, is_some}
 use Rattle.std.specs.Prelude.{int_lt, nat_lt, not}

@@ -5,7 +5,7 @@ ghost use Rattle.std.specs.Prelude.{option_map};
 ghost use Rattle.std.specs.Str.{chars};
 ghost use Rattle.json.specs.Print.{quoted};
 ghost use Rattle.lsp_text.specs.Changes.{edits_of};
-ghost use Rattle.lsp_docs.specs.Calls.{Call, changes as changes_by, uri_of};
+ghost use Rattle.lsp_docs.specs.Calls.{Call as SpecCall, changes as changes_by, uri_of};
 ghost use Rattle.lsp_docs.specs.Documents.{held};
 ghost use Rattle.lsp_docs.specs.Snapshots.{kept};
 ghost use Rattle.lsp_docs.specs.Rules.{call_rule};
@@ -44,7 +44,7 @@ pub fn call_facts<S: TextStore>(
     tried: Option<&Tried<S>>,
     set_by: Option<EventPlace>,
 ) -> Result<Facts>
-    ensures { IfOk result (λ facts. (calls : List Call) → Stands docs.now calls
+    ensures { IfOk result (λ facts. (calls : List SpecCall) → Stands docs.now calls
         → call_rule docs.now.terms calls (call_view call.entry) ≡ Some rule
         → IsTried docs.now.terms calls (call_view call.entry)
         (tried_in S.content (option_map (λ t. t.now) tried.entry))
@@ -59,7 +59,7 @@ pub fn call_facts<S: TextStore>(
 
 /// The URI, the version that is held of it, and the event that set that.
 fn head<S: TextStore>(docs: &Docs<S>, uri: &str, set_by: Option<EventPlace>) -> Result<Facts>
-    ensures { IfOk result (λ facts. (calls : List Call) → Stands docs.now calls
+    ensures { IfOk result (λ facts. (calls : List SpecCall) → Stands docs.now calls
         → facts ≡ line (codes "uri" ∷ quoted uri.now ∷ [])
         ∷ held_fact set_by (held docs.now.terms uri.now calls)) }
 {
@@ -96,7 +96,7 @@ fn details<S: TextStore>(
     rule: u16,
     tried: Option<&Tried<S>>,
 ) -> Result<Facts>
-    ensures { IfOk result (λ facts. (calls : List Call) → Stands docs.now calls
+    ensures { IfOk result (λ facts. (calls : List SpecCall) → Stands docs.now calls
         → call_rule docs.now.terms calls (call_view call.entry) ≡ Some rule
         → IsTried docs.now.terms calls (call_view call.entry)
         (tried_in S.content (option_map (λ t. t.now) tried.entry))
@@ -132,7 +132,7 @@ fn of_rule<S: TextStore>(
     rule: u16,
     tried: Option<&Tried<S>>,
 ) -> Result<Facts>
-    ensures { IfOk result (λ facts. (calls : List Call) → Stands docs.now calls
+    ensures { IfOk result (λ facts. (calls : List SpecCall) → Stands docs.now calls
         → call_rule docs.now.terms calls (call_view call.entry) ≡ Some rule
         → IsTried docs.now.terms calls (call_view call.entry)
         (tried_in S.content (option_map (λ t. t.now) tried.entry))
@@ -161,10 +161,11 @@ fn of_opening(alloc: Global, text: &str, rule: u16, limit: u64) -> Result<Facts>
     ensures { IfOk result (λ facts. facts ≡ opening_facts limit (chars text.now) rule) }
 {
     let mut facts = Facts::new(alloc);
-    if rule == rules::DOCUMENT_OVER_LIMIT {
-        facts.number("bytes", text.len() as u64)?;
-        facts.number("limit", limit)?;
+    if rule != rules::DOCUMENT_OVER_LIMIT {
+        return Ok(facts);
     }
+    facts.number("bytes", text.len() as u64)?;
+    facts.number("limit", limit)?;
     Ok(facts)
 }
 
@@ -179,7 +180,7 @@ fn of_change<S: TextStore>(
     rule: u16,
     tried: Option<&Tried<S>>,
 ) -> Result<Facts>
-    ensures { IfOk result (λ facts. (calls : List Call) → Stands docs.now calls
+    ensures { IfOk result (λ facts. (calls : List SpecCall) → Stands docs.now calls
         → call_rule docs.now.terms calls
         (changes_by encoding kind uri.now version (edits_of changes.now)) ≡ Some rule
         → IsTried docs.now.terms calls
@@ -212,7 +213,7 @@ fn of_change<S: TextStore>(
 
 /// The versions that are kept of a URI, where there are any.
 fn kept_facts<S: TextStore>(docs: &Docs<S>, uri: &str) -> Result<Facts>
-    ensures { IfOk result (λ facts. (calls : List Call) → Stands docs.now calls
+    ensures { IfOk result (λ facts. (calls : List SpecCall) → Stands docs.now calls
         → facts ≡ kept_fact (kept docs.now.terms uri.now calls)) }
 {
     let mut facts = Facts::new(docs.alloc());

@@ -2,7 +2,7 @@
 
 ghost use Rattle.std.specs.Prelude.{◌≡◌, ℕ, List, Some, true, option_map};
 ghost use Rattle.lsp_types.specs.declared.position.Encoding.{Encoding};
-ghost use Rattle.lsp_docs.specs.Calls.{Call};
+ghost use Rattle.lsp_docs.specs.Calls.{Call as SpecCall};
 ghost use Rattle.lsp_docs.specs.Documents.{held};
 ghost use Rattle.lsp_docs.specs.Rules.{call_rule};
 ghost use Rattle.lsp_docs.specs.State.{Stands};
@@ -33,12 +33,12 @@ pub(crate) struct Brought<'a, S: TextStore> {
 
 /// The version to which a call that breaks 608 or 702 brings its document, if it does and its
 /// changes can be made. The documents are those before it, and this was tried of its changes.
-pub(crate) fn brought<'a, S: TextStore>(
+pub(crate) fn brings<'a, S: TextStore>(
     docs: &'a Docs<S>,
     call: Call<'a>,
     tried: Option<&'a Tried<S>>,
 ) -> Option<Brought<'a, S>>
-    ensures { (calls : List Call) (rule : ℕ) → Stands docs.now calls
+    ensures { (calls : List SpecCall) (rule : ℕ) → Stands docs.now calls
         → call_rule docs.now.terms calls (call_view call.entry) ≡ Some rule
         → is_of_texts rule ≡ true
         → IsTried docs.now.terms calls (call_view call.entry)
@@ -74,7 +74,7 @@ fn whole<'a, S: TextStore>(
     changes: &[Change],
     tried: Option<&'a Tried<S>>,
 ) -> Option<&'a S>
-    ensures { (encoding : Encoding) (calls : List Call) → Stands docs.now calls
+    ensures { (encoding : Encoding) (calls : List SpecCall) → Stands docs.now calls
         → AreTriedOn docs.now.terms.limit encoding (held docs.now.terms uri.now calls)
         (edits_of changes.now) (tried_in S.content (option_map (λ t. t.now) tried.entry))
         → option_map (λ store. S.content store.now) result

@@ -2,7 +2,7 @@
 
 ghost use Rattle.std.specs.Prelude.{◌≡◌, ℕ, List, Some, true, option_map};
 ghost use Rattle.std.specs.Str.{chars};
-ghost use Rattle.lsp_docs.specs.Calls.{Call};
+ghost use Rattle.lsp_docs.specs.Calls.{Call as SpecCall};
 ghost use Rattle.lsp_docs.specs.Rules.{call_rule};
 ghost use Rattle.lsp_docs.specs.State.{Stands};
 ghost use Rattle.lsp_docs.specs.Taken.{call_view};
@@ -11,7 +11,7 @@ ghost use Rattle.lsp_facts.specs.TwoTexts as spec;
 ghost use Rattle.lsp_facts.specs.TwoTexts.{brought_view, texts_view};
 
 use crate::lent_text::LentText;
-use crate::made::{Brought, brought};
+use crate::made::{Brought, brings};
 use lsp_docs::{Call, Docs, Tried};
 use lsp_text::TextStore;
 use lsp_types::rules;
@@ -33,7 +33,7 @@ pub fn texts_of<'a, S: TextStore>(
     rule: u16,
     tried: Option<&'a Tried<S>>,
 ) -> Option<TwoTexts<'a, S>>
-    ensures { (calls : List Call) → Stands docs.now calls
+    ensures { (calls : List SpecCall) → Stands docs.now calls
         → (spec.is_of_texts rule ≡ true
         → call_rule docs.now.terms calls (call_view call.entry) ≡ Some rule)
         → (spec.is_of_texts rule ≡ true → IsTried docs.now.terms calls (call_view call.entry)
@@ -61,7 +61,7 @@ fn compared<'a, S: TextStore>(
     call: Call<'a>,
     tried: Option<&'a Tried<S>>,
 ) -> Option<TwoTexts<'a, S>>
-    ensures { (calls : List Call) (rule : ℕ) → Stands docs.now calls
+    ensures { (calls : List SpecCall) (rule : ℕ) → Stands docs.now calls
         → call_rule docs.now.terms calls (call_view call.entry) ≡ Some rule
         → spec.is_of_texts rule ≡ true
         → IsTried docs.now.terms calls (call_view call.entry)
@@ -73,7 +73,7 @@ fn compared<'a, S: TextStore>(
         Call::Saves { uri, text } => stored(docs.store_of(uri), text?),
         Call::Shows { uri, version, text } => stored(docs.store_at(uri, version), text),
         _ => {
-            let brought = brought(docs, call, tried)?;
+            let brought = brings(docs, call, tried)?;
             against(docs, call.uri(), brought)
         }
     }
@@ -85,7 +85,7 @@ fn against<'a, S: TextStore>(
     uri: &str,
     brought: Brought<'a, S>,
 ) -> Option<TwoTexts<'a, S>>
-    ensures { (calls : List Call) → Stands docs.now calls
+    ensures { (calls : List SpecCall) → Stands docs.now calls
         → option_map (texts_view S.content) result
         ≡ spec.against docs.now.terms calls uri.now (brought_view S.content brought.entry) }
 {

@@ -3,7 +3,7 @@
 ghost use Rattle.std.specs.Prelude.{◌≡◌, List, Some, true, not, IfOk, option_map, slice_get};
 ghost use Rattle.std.specs.List.{list_any};
 ghost use Rattle.lsp_types.specs.declared.rules.TheConstants as rules;
-ghost use Rattle.lsp_docs.specs.Calls.{Call};
+ghost use Rattle.lsp_docs.specs.Calls.{Call as SpecCall};
 ghost use Rattle.lsp_docs.specs.Rules.{call_rule};
 ghost use Rattle.lsp_docs.specs.State.{Stands};
 ghost use Rattle.lsp_docs.specs.Stored.{are_mixed, text_of, texts_of};
@@ -14,7 +14,7 @@ ghost use Rattle.lsp_facts.specs.TwoTexts.{lent_text};
 ghost use Rattle.lsp_facts.specs.Refuting as spec;
 
 use crate::lent_text::LentText;
-use crate::made::{Brought, brought};
+use crate::made::{Brought, brings};
 use lsp_docs::{Call, Docs, Tried, is_other_text};
 use lsp_replay::EventPlace;
 use lsp_rpc::Result;
@@ -34,16 +34,17 @@ pub fn refuting<S: TextStore>(
     tried: Option<&Tried<S>>,
     snapshots: &[EventPlace],
 ) -> Result<Vec<EventPlace>>
-    ensures { IfOk result (λ others. (calls : List Call) → Stands docs.now calls
+    ensures { IfOk result (λ others. (calls : List SpecCall) → Stands docs.now calls
         → call_rule docs.now.terms calls (call_view call.entry) ≡ Some rules.SNAPSHOT_DIFFERS
         → IsTried docs.now.terms calls (call_view call.entry)
         (tried_in S.content (option_map (λ t. t.now) tried.entry))
         → others.items
         ≡ spec.refuting docs.now.terms calls (call_view call.entry) snapshots.now) }
 {
-    let Some(Brought { version, text }) = brought(docs, call, tried) else {
+    let Some(brought) = brings(docs, call, tried) else {
         return Ok(Vec::new(docs.alloc()));
     };
+    let Brought { version, text } = brought;
     let texts = docs.waiting_texts(call.uri(), version);
     let others = differing(docs.alloc(), docs.line_ends(), texts, text, snapshots)?;
     Ok(others)

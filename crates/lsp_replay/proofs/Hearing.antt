@@ -4,6 +4,7 @@ use Rattle.std.proofs.Common.{append-nil, arith, subst, ◌∙◌}
 use Rattle.std.specs.Prelude.{chars, option_and_then, option_map}
 use Rattle.std.specs.List.{cons_option}
 use Rattle.std.specs.Option.{option_or}
+use Rattle.lsp_rpc.specs.Params.{act_at}
 use Rattle.lsp_rpc.specs.View.{act_view, message_view}
 use Rattle.lsp_rpc.specs.declared.act.Spoken.{Spoken}
 use Rattle.lsp_rpc.specs.declared.fault.RpcFault.{RpcFault}
@@ -77,9 +78,9 @@ module _ (messages : session.State) (events : List Event)
     (stands : session.Stands messages (sent_in events)) where
   pub unsaid : (event : Event) → ((sent : Sent) → event ≡ message sent → ⊥) → IsSound event
       → IsAdmitted messages events event
-  unsaid (message m) no sound = absurd (no m refl)
-  unsaid (broken_rule side rule) no sound = absurd sound
-  unsaid (snapshot uri n t) no sound = (
+  unsaid (message m) not sound = absurd (not m refl)
+  unsaid (broken_rule side rule) not sound = absurd sound
+  unsaid (snapshot uri n t) not sound = (
     refl,
     subst (λ (w : List Sent). session.Stands messages w)
         (sym (sent_in-append events (snapshot uri n t ∷ []) ∙ append-nil (sent_in events))) stands,
@@ -164,16 +165,15 @@ not_tried terms events event refusals.Memory tried named = tt
 -- ---- its call
 
 module _ (old : docs.State) (events : List Event) (h : docs.Stands old (calls events))
-    (event : Event) (sound : IsSound event) (none : message_rule events event ≡ None) where
-  abbrev said : Option Call
-  said = call_at events event
-
+    (event : Event) (sound : IsSound event) (none : message_rule events event ≡ None)
+    (said : Option Call) (says : said ≡ call_at events event) where
   -- it is refused
   pub refused_as_call : (raw : Raw) (f : DocFault) → Reads raw event → RefusesCall old said f
       → (f ≡ faults.Memory → MayLackFor old said)
       → RefusesEvent raw old.terms events event (of_call f)
   refused_as_call raw (faults.Rule rule) reads refuses lacks =
-      document_offence old.terms events event sound none ∙ named said refuses
+      document_offence old.terms events event sound none
+      ∙ ap (option_and_then (call_rule old.terms (calls events))) (sym says) ∙ named said refuses
     where
       named : (o : Option Call) → RefusesCall old o (faults.Rule rule)
           → option_and_then (call_rule old.terms (calls events)) o ≡ Some rule
@@ -183,7 +183,7 @@ module _ (old : docs.State) (events : List Event) (h : docs.Stands old (calls ev
   refused_as_call (broken side rule) faults.Memory reads refuses lacks =
       absurd (subst IsSound reads sound)
   refused_as_call (show n uri t) faults.Memory reads refuses lacks =
-      let lacking = subst (λ (e : Event). MayLackFor old (call_at events e)) reads (lacks refl) in
+      let lacking = subst (MayLackFor old) (says ∙ ap (call_at events) reads) (lacks refl) in
       sym (lacking.1 (calls events) h)
 
   -- and the messages stay
@@ -191,7 +191,8 @@ module _ (old : docs.State) (events : List Event) (h : docs.Stands old (calls ev
       → RefusesCall old said f → IsAdmitted messages events event
       → session.Stands messages (sent_in events)
   refused_leaves raw messages f reads refuses admitted =
-      leaves raw event reads (some_said said refuses) admitted.1
+      let some = some_said said refuses in
+      leaves raw event reads (some.0, sym says ∙ some.1) admitted.1
     where
       some_said : (o : Option Call) → RefusesCall old o f → (call : Call) × (o ≡ Some call)
       some_said None refused = absurd refused
@@ -230,23 +231,27 @@ module _ (old : docs.State) (events : List Event) (h : docs.Stands old (calls ev
         (accepts.accepted (calls events) h, (accepts.stands (calls events) h, tells (calls events) h))
 
     pub taken_rule : offence old.terms events event ≡ None
-    taken_rule = document_offence old.terms events event sound none ∙ (accepted_call said takes).0
+    taken_rule = document_offence old.terms events event sound none
+        ∙ ap (option_and_then (call_rule old.terms (calls events))) (sym says)
+        ∙ (accepted_call said takes).0
 
-    pub taken_says : took ≡ took_of old.terms (calls events) said
-    taken_says = (accepted_call said takes).1.1
+    pub taken_says : took ≡ took_of old.terms (calls events) (call_at events event)
+    taken_says = (accepted_call said takes).1.1 ∙ ap (took_of old.terms (calls events)) says
 
     pub taken_holds : (messages : session.State) → IsAdmitted messages events event
         → Holds messages new (events ++ event ∷ [])
     taken_holds messages admitted = record {
       sent = admitted.1;
-      called = subst (λ (w : List Call). docs.Stands new w) (sym (each_of-snoc call_at events event))
-          (accepted_call said takes).1.0;
+      called = subst (λ (w : List Call). docs.Stands new w)
+          (ap (λ (o : Option Call). calls events ++ cons_option o []) says
+          ∙ sym (each_of-snoc call_at events event)) (accepted_call said takes).1.0;
     }
 
 -- what was tried of it
-pub tried_as_call : (terms : Terms) (events : List Event) (event : Event) (f : DocFault)
-    (tried : Option Made)
-    → (docs_fault.IsRule f → IsTriedOf terms (calls events) (call_at events event) tried)
+pub tried_as_call : (terms : Terms) (events : List Event) (event : Event) (said : Option Call)
+    → said ≡ call_at events event → (f : DocFault) (tried : Option Made)
+    → (docs_fault.IsRule f → IsTriedOf terms (calls events) said tried)
     → Tries terms events event (of_call f) tried
-tried_as_call terms events event (faults.Rule rule) tried told = λ least. told tt
-tried_as_call terms events event faults.Memory tried told = tt
+tried_as_call terms events event said says (faults.Rule rule) tried told = λ least.
+    subst (λ (o : Option Call). IsTriedOf terms (calls events) o tried) says (told tt)
+tried_as_call terms events event said says faults.Memory tried told = tt

@@ -1,6 +1,7 @@
 pub mod Edits
 pub mod Apart
 pub mod Hearing
+pub mod Reading
 pub mod Following
 pub mod Listing
 pub mod Giving

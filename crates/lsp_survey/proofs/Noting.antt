@@ -159,6 +159,9 @@ pub any_renews : (changes : List Change)
 any_renews [] = refl
 any_renews (c ∷ cs) = ap (λ (b : Bool). is_none c.span || b) (any_renews cs)
 
+positive : (n : ℕ) → 0 < n → not (n == 0) ≡ true
+positive n some = grind (arith, nat_tests)
+
 -- a list of changes, or none
 pub some_changes : (enc : Encoding) (kind : SyncKind) (uri : List ℕ) (number : ℤ)
     (changes : List Change)

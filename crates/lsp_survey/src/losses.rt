@@ -22,7 +22,6 @@ ghost use Rattle.lsp_verdict.specs.Given.{raw_view};
 ghost use Rattle.lsp_verdict.specs.Offences.{IsReading, Noted, breaks_handshake, events_of};
 ghost use Rattle.lsp_verdict.specs.Offences.{follows_bytes, follows_passed, is_handshake_lost};
 ghost use Rattle.lsp_verdict.specs.Offences.{is_reopened, kept_of, may_answer, tells_initialized};
-ghost use Rattle.lsp_verdict.specs.Placed as placed;
 
 use crate::notes::{
     Malformed, Notes, Passed, Sides, breaks_handshake, meant_again, note_kept, note_malformed,
@@ -103,30 +102,12 @@ impl Losses {
         ensures memory { OnErr result (may_lose (raw_view seen.now.raw) (Some rule) ≡ true) }
     {
         match seen.raw {
-            Raw::Content { side, content } => self.offend_content(held, side, content, seen, rule),
+            Raw::Content { side, content } => match seen.spoken {
+                Some(spoken) => self.offend_message(held, side, rule, &spoken.message, seen.call),
+                None => self.offend_unread(held.docs.alloc(), &held.session, side, rule, content),
+            },
             Raw::Broken { side, .. } => Ok(self.offend_fault(&held.session, side, rule, false)),
             Raw::Snapshot { .. } => self.offend_call(held, rule, seen.call, false),
-        }
-    }
-
-    /// A content of a side offends: this message, or none that can be read.
-    fn offend_content(
-        &mut self,
-        held: &Events<Lined>,
-        side: Side,
-        content: &[u8],
-        seen: &Seen<'_>,
-        rule: u16,
-    ) -> Result<bool>
-        ensures { IfOk result (λ late. (terms : Terms) (before : List Heard) (h : Heard)
-            → AreLosses terms self.old (notes_of before)
-            → IsSeen held.now.session held.now.docs held.now.counts seen.now terms before h
-            → h.raw ≡ placed.content side content.now → rule_of terms before h ≡ Some rule
-            → WasTold self.new terms before h late) }
-    {
-        match seen.spoken {
-            Some(spoken) => self.offend_message(held, side, rule, &spoken.message, seen.call),
-            None => self.offend_unread(held.docs.alloc(), &held.session, side, rule, content),
         }
     }
 

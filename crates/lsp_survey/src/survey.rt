@@ -10,9 +10,7 @@ ghost use Rattle.lsp_verdict.specs.Heard.{Heard, heard_events};
 use crate::end_of_session::{SessionEnd, session_end};
 use crate::losses::Losses;
 use crate::offence_count::OffenceCount;
-use lsp_replay::{
-    Account, End, Events, Fate, Flow, LogEvents, Seen, last_offence, push_kept_line,
-};
+use lsp_replay::{Account, End, Events, Fate, Flow, LogEvents, Seen, last_offence, push_kept_line};
 use lsp_rpc::Result;
 use lsp_text::Lined;
 use lsp_verdict::{Completeness, Lines, Listing, Outcome};

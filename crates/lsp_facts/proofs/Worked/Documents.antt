@@ -283,3 +283,20 @@ refuted =
       };
       are = refl;
     }
+
+-- or the text that changes make
+refuted_change :
+    AreDocumentFacts terms Utf16 (opened ++ shows A (pos 2) (codes "p") ∷ []) (changes Utf16 Full A (pos 2) (edit None (codes "pq") ∷ [])) 702 None
+    (said (codes "uri \"a\"\nheld 1\nsent 2\nchanges 1\nencoding utf-16\nat 0 1\nby-messages \"pq\"\n"
+    ++ codes "in-editor \"p\"\n"))
+unfolding digits escape_byte encode
+refuted_change =
+    record {
+      details = _;
+      says = record {
+        place = _;
+        at = (1, record { before = refl; here = λ e. true≢false (ap (is_char 113) e) }, refl);
+        are = refl;
+      };
+      are = refl;
+    }

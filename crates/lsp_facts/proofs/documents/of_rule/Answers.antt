@@ -1,4 +1,4 @@
-use Rattle.std.proofs.Common.{ap, subst, sym, w32}
+use Rattle.std.proofs.Common.{w32, rules}
 use Rattle.std.proofs.lemmas.Int.{to_z-of_z}
 use mir.Val.{SFits}
 use Rattle.lsp_facts.proofs.documents.of_rule.Goals as goal

@@ -1,4 +1,4 @@
-use Rattle.std.proofs.Common.{◌≡◌, ℕ, [], ◌∷◌, ◌++◌, ap, sym, ◌∙◌, w32, append_assoc}
+use Rattle.std.proofs.Common.{◌≡◌, ℕ, [], ◌∷◌, ◌++◌, ap, sym, ◌∙◌, w32, append_assoc, rules}
 use Rattle.std.proofs.lemmas.Int.{to_z-of_z}
 use Rattle.std.proofs.lemmas.Result.{on_ok_weaker}
 use Rattle.std.specs.Prelude.{codes, decimal, length}
@@ -15,8 +15,8 @@ use Rattle.lsp_facts.proofs.documents.push_sent.Goals as goal
 abbrev has : ℕ → Fact
 has n = line (codes "changes" ∷ decimal n ∷ [])
 
-pub returns-in-Changes : goal.returns-in-Changes
-returns-in-Changes c =
+pub returns-in_ok-version-in-Changes : goal.returns-in_ok-version-in-Changes
+returns-in_ok-version-in-Changes c =
     let fits : SFits w32 c.in-Changes.version = search rules in
     let cs = c.in-Changes.changes.now in
     let said : Fact = sends c.in-Changes.version in

@@ -1,4 +1,4 @@
-use Rattle.std.proofs.Common.{◌∙◌, ap, w32}
+use Rattle.std.proofs.Common.{◌∙◌, ap, w32, rules}
 use Rattle.std.proofs.lemmas.Int.{to_z-of_z}
 use Rattle.std.specs.Option.{option_map}
 use mir.Val.{SFits}
@@ -9,7 +9,7 @@ use Rattle.lsp_facts.proofs.two_texts.against.Goals as goal
 
 pub returns-in_err-in_editor : goal.returns-in_err-in_editor
 returns-in_err-in_editor g c = rw c.from_residual.ensures (λ calls h.
-    let fits : SFits w32 c.args.brought.version = c.ranges.brought.version in
+    let fits : SFits w32 c.args.brought.version = search rules in
     let waits = simp to_z-of_z at c.waiting_texts-waiting.ensures in
     let text = lent_text g.S.TextStore.content c.args.brought.text in
     let ends = c.args.docs.now.terms.line_ends in
@@ -19,7 +19,7 @@ returns-in_err-in_editor g c = rw c.from_residual.ensures (λ calls h.
 
 pub returns : goal.returns
 returns g c = λ calls h.
-    let fits : SFits w32 c.args.brought.version = c.ranges.brought.version in
+    let fits : SFits w32 c.args.brought.version = search rules in
     let waits = simp to_z-of_z at c.waiting_texts-waiting.ensures in
     let text = lent_text g.S.TextStore.content c.args.brought.text in
     let ends = c.args.docs.now.terms.line_ends in

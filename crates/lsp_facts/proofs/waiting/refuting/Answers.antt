@@ -17,12 +17,12 @@ returns-in_default g c = λ calls h e tries.
 
 pub returns : goal.returns
 returns g c = λ calls h e tries.
-    let version = c.in-Some.version in
+    let version = c.in-Some.brought.version in
     let fits : SFits w32 version = search rules in
     let waits = simp to_z-of_z at c.waiting_texts-texts.ensures in
     let terms = c.args.docs.now.terms in
     let call = call_view c.args.call in
-    let text = lent_text g.S.TextStore.content c.in-Some.text in
+    let text = lent_text g.S.TextStore.content c.in-Some.brought.text in
     let brings = c.in-Some.ensures calls 702 h e refl tries in
     let differ = texts_differ terms calls call 702 refl e in
     let others = c.in_ok-others.others.items in

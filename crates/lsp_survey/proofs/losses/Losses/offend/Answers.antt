@@ -1,22 +1,30 @@
-use Rattle.std.proofs.Common.{◌∙◌, ap, refl, sym}
-use Rattle.std.specs.Prelude.{IfOk, OnOk, Result, Ok, Err}
+use Rattle.std.specs.Borrow.{Bor}
+use Rattle.std.specs.Prelude.{IfOk, OnOk, Option, Result, Ok, Err, option_map}
+use Rattle.std.proofs.Common.{◌∙◌, ap, subst, sym}
 use Rattle.std.proofs.lemmas.Result.{IfOk-weaker}
 use Rattle.lsp_verdict.specs.Given.{raw_view}
-use Rattle.lsp_survey.proofs.Losing.{frames_lost, shown_lost}
-use Rattle.lsp_replay.proofs.Wanting.{on_err}
+use Rattle.lsp_replay.specs.Telling.{MaySpeak, kept_before}
+use Rattle.lsp_rpc.specs.declared.act.Spoken.{Spoken}
+use Rattle.lsp_survey.proofs.Losing.{frames_lost, message_lost, shown_lost, unread_lost}
 use Rattle.lsp_survey.proofs.losses.Losses.offend.Goals as goal
 
-pub returns-in-Content-clause-memory : goal.returns-in-Content-clause-memory
-returns-in-Content-clause-memory c = rw c.in-Content.is (on_err c.offend_content.result refl)
-
-pub returns-in-Snapshot-clause-memory : goal.returns-in-Snapshot-clause-memory
-returns-in-Snapshot-clause-memory c = rw c.in-Snapshot.is (on_err c.offend_call.result refl)
-
-pub returns-in-Content-clause-told : goal.returns-in-Content-clause-told
-returns-in-Content-clause-told c = IfOk-weaker c.offend_content.result _ _
+pub returns-in-Some-clause-told : goal.returns-in-Some-clause-told
+returns-in-Some-clause-told c = IfOk-weaker c.offend_message.result _ _
     (λ late told terms before h losses seen breaks.
-    told terms before h losses seen (seen.is ∙ ap raw_view c.in-Content.is) breaks)
-    c.offend_content.ensures
+    message_lost terms before h _ _ _ c.args.rule breaks seen.stood seen.noted late _ _ losses
+    c.in-Content.side _ _ _ (seen.is ∙ ap raw_view c.in-Content.is)
+    (subst (λ (o : Option (Bor Spoken)). MaySpeak (kept_before terms before) h.note.event
+    (option_map (λ (s : Bor Spoken). s.now) o)) c.in-Some.is seen.spoken)
+    (sym seen.says) (told terms)) c.offend_message.ensures
+
+pub returns-in-None-clause-told : goal.returns-in-None-clause-told
+returns-in-None-clause-told c = IfOk-weaker c.offend_unread.result _ _
+    (λ late told terms before h losses seen breaks.
+    unread_lost terms before h _ _ _ c.args.rule breaks seen.stood seen.noted late _ _ losses
+    c.in-Content.side _ (seen.is ∙ ap raw_view c.in-Content.is)
+    (subst (λ (o : Option (Bor Spoken)). MaySpeak (kept_before terms before) h.note.event
+    (option_map (λ (s : Bor Spoken). s.now) o)) c.in-None.is seen.spoken)
+    told.0 told.1 (told.2 terms)) c.offend_unread.ensures
 
 pub returns-in-Broken-clause-told : goal.returns-in-Broken-clause-told
 returns-in-Broken-clause-told c =

@@ -39,7 +39,7 @@ returns c = λ terms before event losses same holds is.
         unheard = c.unheard_after-unheard.ensures
             ∙ ap (λ b. old.unheard || b) (message_initialized side message event is);
         noted = subst (λ (t : Terms). Leaves (Some rule) None (is_reopened t (calls kept) said) said
-            old.documents.map.entries c.offend_call-follows.new.self.documents.map.entries) same
+            old.documents.map.entries c.offend_call.new.self.documents.map.entries) same
             (told.noted (calls kept) holds.called);
       },
     )

@@ -4,7 +4,6 @@ use Rattle.lsp_survey.proofs.Losing.{message_kept, shown_kept}
 use Rattle.lsp_verdict.specs.Placed.{Raw}
 use Rattle.lsp_verdict.specs.Given.{raw_view}
 use Rattle.lsp_replay.specs.Telling.{HasFate, rule_of}
-use Rattle.lsp_replay.specs.declared.seen.Fate.{Fate}
 use Rattle.lsp_replay.proofs.Wanting.{on_err}
 use Rattle.lsp_survey.specs.Lost.{may_lose}
 use Rattle.lsp_survey.proofs.losses.Losses.tell.Goals as goal
@@ -29,8 +28,8 @@ returns-in_ok-note_kept-in-Kept-clause-told c = λ terms before h losses seen.
     (seen.is ∙ ap raw_view c.in-Content.is) c.in_ok-note_kept-in-Kept.ensures
     c.after_message-self.ensures refl refl refl
 
-pub returns-in_default-in-Kept-clause-told : goal.returns-in_default-in-Kept-clause-told
-returns-in_default-in-Kept-clause-told c = λ terms before h losses seen.
+pub returns-in_default-clause-told : goal.returns-in_default-clause-told
+returns-in_default-clause-told c = λ terms before h losses seen.
     shown_kept terms before h _ (sym seen.says) seen.noted
     (subst (HasFate terms before h) c.in-Kept.is seen.fate).0 _ losses c.args.seen.now.raw seen.is
     c.in_default.not-Content
