@@ -9,14 +9,13 @@ use Rattle.lsp_replay.specs.Telling.{Says, rule_of}
 use Rattle.lsp_replay.specs.declared.seen.Flow.TheVariants.{GoOn, Stop}
 use Rattle.lsp_replay.proofs.PassEnds.{Boxed}
 use Rattle.lsp_replay.proofs.AllHeard.{first_after, none_is}
-use Rattle.lsp_replay.proofs.Seeing.{broken_here}
 use Rattle.lsp_survey.specs.Lost.{WasTold, follows_at, may_lose}
 use Rattle.lsp_survey.specs.Reported.{IsTally}
 use Rattle.lsp_survey.proofs.SurveySteps.{kept_tally, offence_tally}
 use Rattle.lsp_verdict.specs.Event.{Event}
 use Rattle.lsp_verdict.specs.Given.{verdict_view}
 use Rattle.lsp_verdict.specs.Heard.{Heard, Rests, heard_events, notes_of}
-use Rattle.lsp_verdict.specs.Offences.{IsNoted, Offence, follows, offence_at, offence_by}
+use Rattle.lsp_verdict.specs.Offences.{IsNoted, Offence, follows, offence_at, offence_by, rule_at}
 use Rattle.lsp_verdict.specs.Placed.{Raw, broken, content, show}
 use Rattle.lsp_verdict.specs.Verdict.{Verdict, no_by}
 use Rattle.lsp_verdict.specs.declared.completeness.Completeness.{Completeness}
@@ -58,7 +57,7 @@ module _ (terms : Terms) (before : List Heard) (h : Heard) where
           → may_note raw ≡ true
       by_raw (content side bytes) noted kept = refl
       by_raw (broken side rule) noted kept =
-          let same = sym (broken_here side rule terms before h noted) ∙ kept in absurd (cc same)
+          let same = sym (ap (λ (e : Event). rule_at terms events e) noted.0) ∙ kept in absurd (cc same)
       by_raw (show number uri text) noted kept = refl
 
   -- one that offends and follows from none is explained

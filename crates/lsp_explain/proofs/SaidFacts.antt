@@ -155,7 +155,7 @@ call_breaks terms kept event call rule least offends says =
 -- it is of the side whose content it is
 pub heard_by : (kept : List Event) (event : Event) (side by : Side) (bytes : List ℕ) (s : Spoken)
     → Reads (content side bytes) event → IsSpoken kept event by s → IsSpoken kept event side s
-heard_by kept event side by bytes s reads own = record {
+heard_by _ event side by bytes s reads own = record {
   sent = own.sent;
   is = own.is;
   by = (subst (λ (e : Event). Reads (content side bytes) e) own.is reads).by;

@@ -9,7 +9,6 @@ use Rattle.lsp_docs.specs.Calls.{Call}
 use Rattle.lsp_docs.specs.Documents.{Terms}
 use Rattle.lsp_docs.specs.Taken.{took_by}
 use Rattle.lsp_docs.specs.declared.call.Took.{Took}
-use Rattle.lsp_docs.specs.declared.tried.Tried.{Tried}
 use Rattle.lsp_replay.specs.Lines.{place_of}
 use Rattle.lsp_replay.specs.Telling.{HasFate, IsSpoken, kept_before, rule_of, took_of}
 use Rattle.lsp_replay.specs.declared.heard.EventPlace.{EventPlace}
@@ -20,7 +19,6 @@ use Rattle.lsp_rpc.specs.View.{message_view}
 use Rattle.lsp_rpc.specs.declared.act.Spoken.{Spoken}
 use Rattle.lsp_session.specs.Handshake.{is_done, phase}
 use Rattle.lsp_session.specs.Sent.{Sent}
-use Rattle.lsp_text.specs.Counted.{Counted}
 use Rattle.lsp_types.specs.declared.side.Side.{Side}
 use Rattle.lsp_verdict.specs.Event.{call_at, calls, Event, fault, message, sent_in, snapshot}
 use Rattle.lsp_verdict.specs.Given.{raw_view}
@@ -77,13 +75,6 @@ pub fate_offends : (terms : Terms) (before : List Heard) (h : Heard) (f : Fate)
     → (rule : ℕ) × (rule_of terms before h ≡ Some rule)
 fate_offends terms before h (fates.Kept took) not has = absurd (not took refl)
 fate_offends terms before h (fates.Offends rule tried) not has = (rule, has.0)
-
--- and of one that is
-pub fate_kept : (terms : Terms) (before : List Heard) (h : Heard) (f : Fate)
-    → ((rule : ℕ) (tried : Option (Bor (Tried Counted))) → f ≡ fates.Offends rule tried → ⊥)
-    → HasFate terms before h f → rule_of terms before h ≡ None
-fate_kept terms before h (fates.Kept took) not has = has.0
-fate_kept terms before h (fates.Offends rule tried) not has = absurd (not rule tried refl)
 
 module _ (terms : Terms) (before : List Heard) (h : Heard) (old : Trail)
     (is : IsTrail terms old (heard_events before)) where

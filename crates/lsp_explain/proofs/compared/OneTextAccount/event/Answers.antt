@@ -3,12 +3,11 @@ use Rattle.std.proofs.Common.{◌∙◌, None, Some, ap, refl, subst, sym}
 use Rattle.std.proofs.lemmas.Result.{IfOk-weaker}
 use Rattle.lsp_replay.specs.Telling.{HasFate}
 use Rattle.lsp_replay.specs.declared.seen.Fate.{Fate}
-use Rattle.lsp_replay.proofs.AllHeard.{first_after, none_is}
+use Rattle.lsp_replay.proofs.AllHeard.{first_after, kept_seen, none_is}
 use Rattle.lsp_replay.proofs.TextRuns.{says_answer, says_none}
 use Rattle.lsp_replay.proofs.Wanting.{on_err}
 use Rattle.lsp_explain.specs.Compared.{answer_after, answer_behind, answer_of}
 use Rattle.lsp_explain.proofs.Comparing.{answer_is, compared_here}
-use Rattle.lsp_explain.proofs.Trails.{fate_kept}
 use Rattle.lsp_explain.proofs.compared.OneTextAccount.event.Goals as goal
 
 -- it is kept
@@ -18,7 +17,7 @@ returns-in_default c = record {
   memory = tt;
   says = λ terms before h clean seen.
       let which = c.args.self.now.which in
-      let rule = fate_kept terms before h c.args.seen.now.fate c.in_default.not-Offends seen.fate in
+      let rule = kept_seen terms before h c.args.seen.now.fate c.in_default.not-Offends seen.fate in
       says_none (answer_after which) answer_behind (answer_is which terms before h None rule)
       (first_after terms before h clean ∙ none_is terms before h rule);
 }

@@ -1,5 +1,6 @@
 use Rattle.std.proofs.Common.{◌≡◌, ◌∙◌, ◌++◌, ap, refl, string_bytes, subst}
 use Rattle.lsp_docs.specs.Documents.{Terms}
+use Rattle.lsp_replay.proofs.AllHeard.{kept_seen}
 use Rattle.lsp_replay.proofs.Wanting.{on_err}
 use Rattle.lsp_replay.specs.Telling.{HasFate, ShowsFault}
 use Rattle.lsp_replay.specs.declared.seen.Fate.{Fate}
@@ -9,7 +10,6 @@ use Rattle.lsp_verdict.specs.Offences.{Offence}
 use Rattle.lsp_explain.specs.Remarks.{noticed, remark_lines, remarks_of}
 use Rattle.lsp_explain.proofs.AccountSteps.{first_kept, first_told}
 use Rattle.lsp_explain.proofs.Telling.{stands_before, told_of}
-use Rattle.lsp_explain.proofs.Trails.{fate_kept}
 use Rattle.lsp_explain.proofs.run.FirstOffenceAccount.event.Goals as goal
 
 -- it is kept
@@ -18,7 +18,7 @@ returns-in_default c = record {
   asked = refl;
   memory = tt;
   says = λ terms before h stands seen.
-      let rule = fate_kept terms before h c.args.seen.now.fate c.in_default.not-Offends seen.fate in
+      let rule = kept_seen terms before h c.args.seen.now.fate c.in_default.not-Offends seen.fate in
       first_kept terms before h c.args.self.now _ stands (ShowsFault c.args.seen.now.raw)
       (string_bytes c.args.text.now) rule (c.in_ok-keep.ensures terms before h stands.noted seen);
 }

@@ -2,12 +2,13 @@ use Rattle.std.proofs.Common.{◌∙◌, ap, refl, string_bytes, subst}
 use Rattle.lsp_replay.specs.Telling.{HasFate, ShowsFault, rule_of}
 use Rattle.lsp_replay.specs.declared.seen.Fate.{Fate}
 use Rattle.lsp_survey.proofs.SurveySteps.{offence_is}
+use Rattle.lsp_replay.proofs.AllHeard.{kept_seen}
 use Rattle.lsp_replay.proofs.Wanting.{on_err}
 use Rattle.lsp_verdict.specs.Offences.{Offence}
 use Rattle.lsp_explain.proofs.AccountSteps.{all_kept, all_late, all_told, cause_wants, kept_wants}
 use Rattle.lsp_explain.proofs.AccountSteps.{lost_wants}
 use Rattle.lsp_explain.proofs.Telling.{told_of}
-use Rattle.lsp_explain.proofs.Trails.{fate_kept, trail_past}
+use Rattle.lsp_explain.proofs.Trails.{trail_past}
 use Rattle.lsp_explain.proofs.run_all.AllCausesAccount.event.Goals as goal
 
 -- it is kept
@@ -17,7 +18,7 @@ returns-in_default c = record {
   memory = tt;
   says = λ terms before h stands seen.
       let told = c.in_ok-follows.ensures.told terms before h stands.lost seen in
-      let rule = fate_kept terms before h c.args.seen.now.fate c.in_default.not-Offends seen.fate in
+      let rule = kept_seen terms before h c.args.seen.now.fate c.in_default.not-Offends seen.fate in
       all_kept terms before h c.args.self.now _ stands (ShowsFault c.args.seen.now.raw)
       (string_bytes c.args.text.now) _ told rule refl
       (c.in_ok-keep.ensures terms before h stands.noted seen);
@@ -34,7 +35,7 @@ pub returns-in_err-keep-clause-memory : goal.returns-in_err-keep-clause-memory
 returns-in_err-keep-clause-memory c =
     on_err c.from_residual-in_err-keep.result (λ terms before h stands seen.
     kept_wants terms before h c.args.self.now.completeness
-    (fate_kept terms before h c.args.seen.now.fate c.in_default.not-Offends seen.fate) seen.noted)
+    (kept_seen terms before h c.args.seen.now.fate c.in_default.not-Offends seen.fate) seen.noted)
 
 pub returns-in_err-push_offence-clause-memory : goal.returns-in_err-push_offence-clause-memory
 returns-in_err-push_offence-clause-memory c =
