@@ -1,5 +1,5 @@
 -- What is marked of a document, and the marks by URI, with one step more.
-use Rattle.std.specs.Prelude.{ℤ, int_lt, not, length, if◌then◌else◌, ◌+◌, filter, unwrap_or, String}
+use Rattle.std.specs.Prelude.{ℤ, int_lt, not, length, if◌then◌else◌, filter, unwrap_or, String}
 use Rattle.std.specs.List.{cons_option, filter_map, fold}
 use Rattle.std.specs.Ordering.{int_eq}
 use Rattle.std.proofs.Common.{◌≡◌, ℕ, Bool, true, false, List, [], ◌∷◌, ◌++◌, Option, Some, None}

@@ -2,7 +2,7 @@
 use Rattle.std.specs.Prelude.{map, take, filter, if◌then◌else◌}
 use Rattle.std.specs.List.{AllByRecursion, AllZip, cons_option}
 use Rattle.std.specs.Option.{option_map}
-use Rattle.std.proofs.Common.{◌≡◌, ◌+◌, ℕ, Bool, true, false, List, [], ◌∷◌, ◌++◌, Option, Some}
+use Rattle.std.proofs.Common.{◌≡◌, ℕ, Bool, true, false, List, [], ◌∷◌, ◌++◌, Option, Some}
 use Rattle.std.proofs.Common.{None, refl, sym, ap, subst, ◌∙◌}
 use Rattle.lsp_docs.specs.Documents.{Terms}
 use Rattle.lsp_frame.specs.Bounds.{Bounds, IsInRange}

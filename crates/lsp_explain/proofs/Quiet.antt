@@ -2,7 +2,7 @@
 use Rattle.std.specs.Prelude.{◌&&◌, not, if◌then◌else◌, is_some, option_and_then, option_map}
 use Rattle.std.specs.Prelude.{option_to_list, unwrap_or}
 use Rattle.std.specs.Option.{option_or}
-use Rattle.std.proofs.Common.{◌≡◌, ℕ, Bool, true, false, List, [], ◌∷◌, ◌++◌, Option, Some, None}
+use Rattle.std.proofs.Common.{◌≡◌, Bool, true, false, List, [], ◌∷◌, ◌++◌, Option, Some, None}
 use Rattle.std.proofs.Common.{inr, refl, sym, ap, ◌∙◌, append-nil, subst}
 use Rattle.std.proofs.lemmas.List.Elements.{filter_map-append}
 use Rattle.lsp_docs.proofs.Entries.{is_some-mapped}

@@ -3,7 +3,7 @@ use Rattle.std.specs.Prelude.{ℕ, ◌-◌, Bool, List, Option, drop, length, na
 use Rattle.std.specs.Prelude.{if◌then◌else◌, Some, None, true, false, is_some, option_and_then}
 use Rattle.std.specs.Prelude.{option_map}
 use Rattle.std.specs.List.{find, take_while, filter_map}
-use Rattle.lsp_docs.specs.Calls.{Call, opens, changes, closes, saves, shows, uri_of}
+use Rattle.lsp_docs.specs.Calls.{Call, opens, changes, closes, shows, uri_of}
 use Rattle.lsp_docs.specs.Documents.{Terms}
 use Rattle.lsp_docs.specs.Taken.{took_by}
 use Rattle.lsp_docs.specs.declared.call.Took.{Took}

@@ -1,5 +1,5 @@
 -- Which event brought what: what is added to the facts on an offence.
-use Rattle.std.specs.Prelude.{ℕ, ℤ, List, Option, Some, option_and_then, option_map, ◌+◌, ◌-◌}
+use Rattle.std.specs.Prelude.{ℕ, ℤ, List, Option, Some, option_and_then, option_map, ◌-◌}
 use Rattle.std.specs.Prelude.{int_lt, nat_lt, [], ◌∷◌, ◌++◌, map, take, drop, Bool, true, not, None}
 use Rattle.std.specs.Prelude.{codes, decimal, ◌*◌, length, false, ◌&&◌, ◌==◌, if◌then◌else◌}
 use Rattle.std.specs.Prelude.{is_some, ◌≡◌, option_to_list, unwrap_or}

@@ -1,4 +1,4 @@
-use Rattle.std.proofs.Common.{◌++◌, ◌∙◌, ap}
+use Rattle.std.proofs.Common.{◌++◌, ◌∙◌}
 use Rattle.lsp_rpc.specs.View.{act_view, message_view}
 use Rattle.lsp_verdict.specs.Event.{sent_in}
 use Rattle.lsp_verdict.specs.Offences.{kept_of}

@@ -1,5 +1,5 @@
 use Rattle.std.specs.Prelude.{option_and_then, option_map, unwrap_or}
-use Rattle.std.proofs.Common.{◌≡◌, ◌∙◌, [], Bor, Option, Some, None, ap, subst, sym}
+use Rattle.std.proofs.Common.{◌≡◌, ◌∙◌, [], Bor, Some, None, ap, subst, sym}
 use Rattle.std.proofs.lemmas.Option.{none-some}
 use Rattle.std.proofs.lemmas.Result.{IfOk-weaker}
 use Rattle.lsp_docs.specs.Calls.{uri_of}
