@@ -1,5 +1,5 @@
 -- What was read of an event.
-use Rattle.std.proofs.Common.{◌≡◌, ℕ, ℤ, Bor, List, Option, Some, None, refl, sym, ap, subst, ◌∙◌}
+use Rattle.std.proofs.Common.{◌≡◌, ℕ, ℤ, Bor, List, Some, None, refl, sym, ap, subst, ◌∙◌}
 use Rattle.std.specs.Prelude.{chars, option_map}
 use Rattle.lsp_docs.specs.Calls.{shows}
 use Rattle.lsp_docs.specs.Taken.{call_view}

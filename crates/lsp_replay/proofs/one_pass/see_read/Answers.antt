@@ -1,9 +1,5 @@
-use Rattle.std.proofs.Common.{inl, inr, subst, sym}
+use Rattle.std.proofs.Common.{inl, inr}
 use Rattle.std.proofs.lemmas.Result.{IfOk-weaker, on_err_weaker}
-use Rattle.lsp_replay.specs.Keeping.{RefusesEvent, Tries}
-use Rattle.lsp_replay.specs.Standing.{CanWantMemory}
-use Rattle.lsp_replay.specs.Telling.{kept_before}
-use Rattle.lsp_replay.specs.declared.fault.Fault.{Fault}
 use Rattle.lsp_replay.proofs.Seeing.{comes_still, kept_fate, kept_stood, refused_here, seen_so, tried_here, wants_here}
 use Rattle.lsp_replay.proofs.Wanting.{on_err}
 use Rattle.lsp_replay.proofs.one_pass.see_read.Goals as goal

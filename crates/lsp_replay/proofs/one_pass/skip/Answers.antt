@@ -1,4 +1,4 @@
-use Rattle.std.proofs.Common.{◌∙◌, ◌≡◌, Option, Some, None, subst, sym}
+use Rattle.std.proofs.Common.{◌∙◌, Option, subst, sym}
 use Rattle.lsp_docs.specs.declared.tried.Tried.{Tried}
 use Rattle.lsp_text.specs.Counted.{Counted}
 use Rattle.lsp_replay.specs.Telling.{kept_before}
