@@ -222,6 +222,7 @@ impl<S: TextStore> Docs<S> {
     /// Refused as by [`did_open`](Docs::did_open), [`did_change`](Docs::did_change),
     /// [`did_close`](Docs::did_close), [`did_save`](Docs::did_save) or
     /// [`snapshot`](Docs::snapshot).
+    #[inline(always)]
     pub fn take(&mut self, call: Call<'_>, tried: &mut Option<Tried<S>>) -> Result<Took, DocFault>
         ensures accepts { OnOk result (Accepts self.old self.new (call_view call.entry)) }
         ensures took { IfOk result (IsTook self.old (call_view call.entry)) }
@@ -340,6 +341,7 @@ impl<S: TextStore> Docs<S> {
     }
 
     /// Makes changes, and answers what they say.
+    #[inline(always)]
     fn change(
         &mut self,
         encoding: Encoding,

@@ -266,8 +266,7 @@ fn see_read<A: Account>(
                 call: read.call,
                 fate: Fate::Kept(took),
             };
-            let flow = account.event(held, &seen, text)?;
-            Ok(flow)
+            account.event(held, &seen, text)
         }
         Err(fault) => {
             let rule = fault.rule()?;

@@ -4,22 +4,24 @@ use Rattle.lsp_replay.proofs.Seeing.{comes_still, kept_fate, kept_stood, refused
 use Rattle.lsp_replay.proofs.Wanting.{on_err}
 use Rattle.lsp_replay.proofs.one_pass.see_read.Goals as goal
 
-pub returns-in_ok-flow-in-Ok-clause-saw : goal.returns-in_ok-flow-in-Ok-clause-saw
-returns-in_ok-flow-in-Ok-clause-saw g c = λ terms before h comes sound read.
+pub returns-in-Ok-clause-saw : goal.returns-in-Ok-clause-saw
+returns-in-Ok-clause-saw g c =
+    IfOk-weaker c.event.result _ _ (λ flow says terms before h comes sound read.
     let kept = c.in-Ok.ensures.ok _ h.note.event comes.stood.holds sound read in
     let stood = kept_stood comes kept c.in-Ok.ensures.terms in
     record {
       stood = stood;
-      says = c.in_ok-flow-in-Ok.ensures.says terms before h comes.stands
+      says = says terms before h comes.stands
           (seen_so comes _ read stood (kept_fate comes kept));
-    }
+    }) c.event.ensures.says
 
-pub returns-in_err-flow-in-Ok-clause-memory : goal.returns-in_err-flow-in-Ok-clause-memory
-returns-in_err-flow-in-Ok-clause-memory g c =
-    on_err c.from_residual.result (λ terms before h comes sound read.
+pub returns-in-Ok-clause-memory : goal.returns-in-Ok-clause-memory
+returns-in-Ok-clause-memory g c =
+    on_err_weaker c.event.result (λ wants terms before h comes sound read.
     let kept = c.in-Ok.ensures.ok _ h.note.event comes.stood.holds sound read in
-    inr (c.in_err-flow-in-Ok.ensures.memory terms before h comes.stands
+    inr (wants terms before h comes.stands
     (seen_so comes _ read (kept_stood comes kept c.in-Ok.ensures.terms) (kept_fate comes kept))))
+    c.event.ensures.memory
 
 pub returns-in_err-rule-in-Err-clause-memory : goal.returns-in_err-rule-in-Err-clause-memory
 returns-in_err-rule-in-Err-clause-memory g c =
