@@ -1,5 +1,5 @@
--- What a message that is left without its params, and perhaps without the value of its result, means
--- to a session.
+-- What a message that is left without its params, and perhaps without the value of its result,
+-- means to a session.
 use Rattle.std.proofs.Common.{◌≡◌, ℕ, List, [], ◌∷◌, ◌++◌, Some, false, not, inl, inr, refl, sym, ap}
 use Rattle.std.proofs.Common.{◌∙◌, subst}
 use Rattle.std.specs.Prelude.{◌⊎◌}
