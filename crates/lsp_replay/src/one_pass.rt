@@ -22,7 +22,6 @@ use crate::account::Account;
 use crate::events::{Events, ReadEvent, read_into};
 use crate::log_events::{End, LogEvents, Next};
 use crate::seen::{Fate, Flow, Seen};
-use lsp_docs::Call;
 use lsp_frame::{Format, Limits, Sink, Source, WriteFault, put_all};
 use lsp_rpc::{Result, Side, Spoken};
 use lsp_text::Lined;
@@ -184,18 +183,13 @@ fn see<A: Account>(
             let mut spoken = held.messages.blank();
             see_content(held, account, side, content, &mut spoken, text)
         }
-        Raw::Broken { rule, .. } => skip(held, account, ReadEvent::silent(raw, None), rule, text),
-        Raw::Snapshot {
-            version,
-            uri,
-            text: shown,
-        } => {
-            let call = Call::Shows {
-                version,
-                uri,
-                text: shown,
-            };
-            see_read(held, account, ReadEvent::silent(raw, Some(call)), text)
+        Raw::Broken { rule, .. } => {
+            let read = held.as_read(raw, None);
+            skip(held, account, read, rule, text)
+        }
+        Raw::Snapshot { .. } => {
+            let read = held.as_read(raw, None);
+            see_read(held, account, read, text)
         }
     }
 }
@@ -221,16 +215,13 @@ fn see_content<A: Account>(
     let raw = Raw::Content { side, content };
     match read_into(&held.session, &mut held.messages, side, content, spoken) {
         Ok(()) => {
-            let read = ReadEvent {
-                raw,
-                spoken: Some(spoken),
-                call: held.call_in(spoken),
-            };
+            let read = held.as_read(raw, Some(spoken));
             see_read(held, account, read, text)
         }
         Err(fault) => {
             let rule = fault.rule()?;
-            skip(held, account, ReadEvent::silent(raw, None), rule, text)
+            let read = held.as_read(raw, None);
+            skip(held, account, read, rule, text)
         }
     }
 }
@@ -263,7 +254,7 @@ fn see_read<A: Account>(
             let seen = Seen {
                 raw: read.raw,
                 spoken: read.spoken,
-                call: read.call,
+                call: read.call(),
                 fate: Fate::Kept(took),
             };
             account.event(held, &seen, text)
@@ -312,7 +303,7 @@ fn skip<A: Account>(
     let seen = Seen {
         raw: read.raw,
         spoken: read.spoken,
-        call: read.call,
+        call: read.call(),
         fate: Fate::Offends {
             rule,
             tried: held.tried.as_ref(),

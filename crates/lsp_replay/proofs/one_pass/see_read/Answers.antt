@@ -12,7 +12,8 @@ returns-in-Ok-clause-saw g c =
     record {
       stood = stood;
       says = says terms before h comes.stands
-          (seen_so comes _ read stood (kept_fate comes kept));
+          (seen_so comes _ read (c.call.ensures _ h.note.event read) stood
+          (kept_fate comes kept));
     }) c.event.ensures.says
 
 pub returns-in-Ok-clause-memory : goal.returns-in-Ok-clause-memory
@@ -20,7 +21,8 @@ returns-in-Ok-clause-memory g c =
     on_err_weaker c.event.result (λ wants terms before h comes sound read.
     let kept = c.in-Ok.ensures.ok _ h.note.event comes.stood.holds sound read in
     inr (wants terms before h comes.stands
-    (seen_so comes _ read (kept_stood comes kept c.in-Ok.ensures.terms) (kept_fate comes kept))))
+    (seen_so comes _ read (c.call.ensures _ h.note.event read)
+    (kept_stood comes kept c.in-Ok.ensures.terms) (kept_fate comes kept))))
     c.event.ensures.memory
 
 pub returns-in_err-rule-in-Err-clause-memory : goal.returns-in_err-rule-in-Err-clause-memory

@@ -15,7 +15,7 @@ returns-clause-saw g c = λ terms before h comes offends read tries.
     let kept = kept_before terms before in
     record {
       stood = stood;
-      says = c.in_ok-flow.ensures.says terms before h comes.stands (seen_so comes _ read stood (
+      says = c.in_ok-flow.ensures.says terms before h comes.stands (seen_so comes _ read (c.call.ensures kept h.note.event read) stood (
         offends,
         subst (λ (o : Option (Tried Counted)). TriesCall terms kept (call_at kept h.note.event)
             c.args.rule (made_in o)) (sym c.as_ref.ensures.value) tries,
@@ -28,7 +28,7 @@ returns-in_err-flow-clause-memory g c =
     let stood = stood_past comes _ _ offends (counted_on comes _ (λ events event counts own.
     c.add.ensures events event counts (own ∙ sym c.who.ensures))) in
     let kept = kept_before terms before in
-    c.in_err-flow.ensures.memory terms before h comes.stands (seen_so comes _ read stood (
+    c.in_err-flow.ensures.memory terms before h comes.stands (seen_so comes _ read (c.call.ensures kept h.note.event read) stood (
       offends,
       subst (λ (o : Option (Tried Counted)). TriesCall terms kept (call_at kept h.note.event)
           c.args.rule (made_in o)) (sym c.as_ref.ensures.value) tries,
