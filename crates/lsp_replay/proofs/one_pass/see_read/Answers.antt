@@ -27,7 +27,7 @@ returns-in-Ok-clause-memory g c =
 
 pub returns-in_err-rule-in-Err-clause-memory : goal.returns-in_err-rule-in-Err-clause-memory
 returns-in_err-rule-in-Err-clause-memory g c =
-    on_err c.from_residual-in_err-rule-in-Err.result (λ terms before h comes sound read.
+    on_err c.from_residual.result (λ terms before h comes sound read.
     inl (wants_here comes _ c.in_err-rule-in-Err.ensures.memory
     (c.in-Err.ensures.rule _ h.note.event comes.stood.holds sound read)))
 
