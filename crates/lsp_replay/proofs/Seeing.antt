@@ -14,14 +14,16 @@ use Rattle.std.specs.Prelude.{option_map}
 use Rattle.lsp_types.specs.declared.side.Side.{Side}
 use Rattle.lsp_replay.specs.Keeping.{IsKept, IsRead, IsSound, RefusesEvent, Tries}
 use Rattle.lsp_replay.specs.Standing.{CanWantMemory, Holds}
-use Rattle.lsp_replay.specs.Telling.{Comes, HasFate, IsSeen, MaySpeak, Stood, kept_before, rule_of, took_of}
+use Rattle.lsp_replay.specs.Telling.{Comes, HasFate, IsSeen, MaySpeak, Saw, ShowsFault, Stood, kept_before, rule_of, took_of}
 use Rattle.lsp_replay.specs.Tries.{TriesCall}
 use Rattle.lsp_replay.specs.declared.events.ReadEvent.{ReadEvent}
 use Rattle.lsp_replay.specs.declared.fault.Fault.{Fault}
 use Rattle.lsp_replay.specs.declared.fault.Fault.TheVariants as own
 use Rattle.lsp_replay.specs.declared.seen.Fate.{Fate}
 use Rattle.lsp_replay.specs.declared.seen.Fate.TheVariants as fates
+use Rattle.lsp_replay.specs.declared.seen.Flow.{Flow}
 use Rattle.lsp_replay.specs.declared.seen.Seen.{Seen}
+use Rattle.lsp_replay.specs.Run.{Run}
 use Rattle.lsp_replay.proofs.Following.{whose_read}
 use Rattle.lsp_verdict.specs.Event.{calls, call_at, Event, fault as broken_rule, message}
 use Rattle.lsp_verdict.specs.Placed.{Raw, Reads}
@@ -167,6 +169,21 @@ seen_so comes fate is says stood fated = record {
   fate = fated;
 }
 
+-- raws that are the same
+module _ {from to : code.Raw} (same : from ≡ to) {terms : Terms} {before : List Heard} {h : Heard}
+    {Stands : Type 0} where
+  pub comes_of : {m : session.State} {d : docs.State} {c : Counts}
+      → Comes (raw_view from) terms m d c before h Stands
+      → Comes (raw_view to) terms m d c before h Stands
+  comes_of {m} {d} {c} =
+      subst (λ (r : code.Raw). Comes (raw_view r) terms m d c before h Stands) same
+
+  pub saw_of : {run : Run} {old new : List ℕ} {m : session.State} {d : docs.State} {c : Counts}
+      {flow : Flow} → Saw run terms before h (ShowsFault from) old new Stands m d c flow
+      → Saw run terms before h (ShowsFault to) old new Stands m d c flow
+  saw_of {run} {old} {new} {m} {d} {c} {flow} =
+      subst (λ (r : code.Raw). Saw run terms before h (ShowsFault r) old new Stands m d c flow) same
+
 -- ---- a fault: a content that is no message, or of the frames
 
 module _ {raw : Raw} {terms : Terms} {m : session.State} {d : docs.State} {c : Counts}
@@ -194,7 +211,7 @@ module _ {raw : Raw} {terms : Terms} {m : session.State} {d : docs.State} {c : C
   pub sound_here : IsSound event → IsSound h.note.event
   sound_here = subst IsSound (event_is comes event reads)
 
-  pub speaks_here : {s : Option Spoken} → MaySpeak (kept_before terms before) event s
+  pub speaks_here : (s : Option Spoken) → MaySpeak (kept_before terms before) event s
       → MaySpeak (kept_before terms before) h.note.event s
-  speaks_here {s} =
+  speaks_here s =
       subst (λ (e : Event). MaySpeak (kept_before terms before) e s) (event_is comes event reads)

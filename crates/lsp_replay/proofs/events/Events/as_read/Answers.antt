@@ -9,8 +9,8 @@ pub returns-clause-read : goal.returns-clause-read
 returns-clause-read g c = λ events event stands reads speaks. record {
   reads = reads;
   spoken = speaks;
-  encoding = c.unwrap_or-encoding.ensures
+  encoding = c.unwrap_or.ensures
       ∙ ap (λ o. unwrap_or o Utf16) (c.encoding.ensures (sent_in events) stands);
-  kind = c.unwrap_or-kind.ensures
+  kind = c.unwrap_or-2.ensures
       ∙ ap (λ o. unwrap_or o Nothing) (c.sync_kind.ensures (sent_in events) stands);
 }
