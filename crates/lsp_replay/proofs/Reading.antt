@@ -1,7 +1,6 @@
 -- What was read of an event, and what it says about a document.
-use Rattle.std.proofs.Common.{◌≡◌, ℕ, List, Option, Some, None, refl, sym, ap, subst, ◌∙◌}
+use Rattle.std.proofs.Common.{◌≡◌, ℕ, List, Some, None, refl, sym, ap, subst, ◌∙◌}
 use Rattle.std.specs.Prelude.{ℤ, unwrap_or}
-use Rattle.lsp_docs.specs.Calls.{Call}
 use Rattle.lsp_rpc.specs.Act.{Act}
 use Rattle.lsp_rpc.specs.View.{act_view}
 use Rattle.lsp_rpc.specs.declared.act.Spoken.{Spoken}

@@ -1,5 +1,5 @@
 -- What is held once one more event was heard, and how the event was seen.
-use Rattle.std.proofs.Common.{◌≡◌, ℕ, List, [], ◌∷◌, ◌++◌, Option, Some, None, sym, ap, subst, ◌∙◌}
+use Rattle.std.proofs.Common.{◌≡◌, Bor, ℕ, List, [], ◌∷◌, ◌++◌, Option, Some, None, sym, ap, subst, ◌∙◌}
 use Rattle.std.proofs.lemmas.List.{map-append}
 use Rattle.lsp_session.specs.State as session
 use Rattle.lsp_docs.specs.Documents.{Terms}
@@ -35,10 +35,6 @@ use Rattle.lsp_verdict.specs.declared.counts.Counts.{Counts}
 use Rattle.lsp_verdict.specs.declared.raw.Raw as code
 use Rattle.lsp_verdict.proofs.Offences.Steps.{events_of-push, kept-push, kept-refused}
 use Rattle.lsp_verdict.proofs.OneEvent.{one_read}
-
-abbrev pub seen_of : ReadEvent → Option code_call.Call → Fate → Seen
-seen_of read call fate =
-    record { raw = read.raw; spoken = read.spoken; call = call; fate = fate }
 
 pub events-push : (before : List Heard) (h : Heard)
     → heard_events (before ++ h ∷ []) ≡ heard_events before ++ h.note.event ∷ []
@@ -150,21 +146,21 @@ module _ {raw : Raw} {terms : Terms} {m : session.State} {d : docs.State} {c : C
         (subst (λ (f : Fault). Tries d.terms kept h.note.event f tried) is tries)
 
 -- so an event was seen
-pub seen_so : {read : ReadEvent} {terms : Terms} {m : session.State} {d : docs.State} {c : Counts}
-    {before : List Heard} {h : Heard} {Stands : Type 0}
-    (comes : Comes (raw_view read.raw) terms m d c before h Stands)
-    {new_m : session.State} {new_d : docs.State} {after : Counts}
-    {call : Option code_call.Call} (fate : Fate)
-    → IsRead (kept_before terms before) h.note.event read
+pub seen_so : {raw : code.Raw} {spoken : Option (Bor Spoken)} {call : Option code_call.Call}
+    {terms : Terms} {m : session.State} {d : docs.State} {c : Counts} {before : List Heard}
+    {h : Heard} {Stands : Type 0} (comes : Comes (raw_view raw) terms m d c before h Stands)
+    {new_m : session.State} {new_d : docs.State} {after : Counts} (fate : Fate)
+    → MaySpeak (kept_before terms before) h.note.event (option_map (λ s. s.now) spoken)
     → option_map call_view call ≡ call_at (kept_before terms before) h.note.event
     → Stood terms new_m new_d after (before ++ h ∷ []) → HasFate terms before h fate
-    → IsSeen new_m new_d after (seen_of read call fate) terms before h
-seen_so comes fate is says stood fated = record {
+    → IsSeen new_m new_d after
+    (record { raw = raw; spoken = spoken; call = call; fate = fate }) terms before h
+seen_so comes fate speaks says stood fated = record {
   stood = stood;
   few = comes.few;
   noted = noted_here comes;
   is = comes.raw_is;
-  spoken = is.spoken;
+  spoken = speaks;
   says = says;
   fate = fated;
 }

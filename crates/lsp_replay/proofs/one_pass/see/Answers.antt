@@ -20,32 +20,26 @@ returns-in-Content-clause-memory g c =
 pub returns-in-Broken-clause-memory : goal.returns-in-Broken-clause-memory
 returns-in-Broken-clause-memory g c =
     let at = c.in-Broken in
-    let read = c.as_read-read.ensures in
     on_err_weaker c.skip.result (λ wants terms before h comes.
     let reads : Reads (raw_view c.args.raw) (fault at.side at.rule) = rw at.is refl in
-    inr (wants terms before h (comes_of (sym read.raw) comes)
-    (fault_rule at.side at.rule comes reads)
-    (read.read _ h.note.event comes.stood.holds.sent comes.noted.0
-    (fault_silent at.side at.rule comes reads)) (fault_tries at.side at.rule comes reads _)))
+    inr (wants terms before h comes (fault_rule at.side at.rule comes reads)
+    (fault_silent at.side at.rule comes reads) (fault_tries at.side at.rule comes reads _)))
     c.skip.ensures.memory
 
 pub returns-in-Broken-clause-saw : goal.returns-in-Broken-clause-saw
 returns-in-Broken-clause-saw g c =
     let at = c.in-Broken in
-    let read = c.as_read-read.ensures in
     IfOk-weaker c.skip.result _ _ (λ flow saw terms before h comes.
     let reads : Reads (raw_view c.args.raw) (fault at.side at.rule) = rw at.is refl in
-    saw_of read.raw (saw terms before h (comes_of (sym read.raw) comes)
-    (fault_rule at.side at.rule comes reads)
-    (read.read _ h.note.event comes.stood.holds.sent comes.noted.0
-    (fault_silent at.side at.rule comes reads)) (fault_tries at.side at.rule comes reads _)))
+    saw terms before h comes (fault_rule at.side at.rule comes reads)
+    (fault_silent at.side at.rule comes reads) (fault_tries at.side at.rule comes reads _))
     c.skip.ensures.saw
 
 pub returns-in-Snapshot-clause-memory : goal.returns-in-Snapshot-clause-memory
 returns-in-Snapshot-clause-memory g c =
     let at = c.in-Snapshot in
     let event = snapshot at.uri.now at.version (chars at.text.now) in
-    let read = c.as_read-read-in-Snapshot.ensures in
+    let read = c.as_read-read.ensures in
     on_err_weaker c.see_read.result (λ wants terms before h comes.
     let reads : Reads (raw_view c.args.raw) event = rw at.is refl in
     wants terms before h (comes_of (sym read.raw) comes) (sound_here event reads comes tt)
@@ -56,7 +50,7 @@ pub returns-in-Snapshot-clause-saw : goal.returns-in-Snapshot-clause-saw
 returns-in-Snapshot-clause-saw g c =
     let at = c.in-Snapshot in
     let event = snapshot at.uri.now at.version (chars at.text.now) in
-    let read = c.as_read-read-in-Snapshot.ensures in
+    let read = c.as_read-read.ensures in
     IfOk-weaker c.see_read.result _ _ (λ flow saw terms before h comes.
     let reads : Reads (raw_view c.args.raw) event = rw at.is refl in
     saw_of read.raw (saw terms before h (comes_of (sym read.raw) comes)

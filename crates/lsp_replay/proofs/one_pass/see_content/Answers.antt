@@ -27,10 +27,6 @@ returns-in_ok-rule-in-Err-clause-saw g c =
     let rule = c.in_ok-rule-in-Err.rule in
     let reads = subst (λ (f : Fault). IsUnread side c.args.content.now f)
     c.in_ok-rule-in-Err.ensures.rule c.in-Err.ensures.rule in
-    let read = c.as_read-read-in-Err.ensures in
     IfOk-weaker c.skip.result _ _ (λ flow saw terms before h comes.
-    saw_of read.raw (saw terms before h (comes_of (sym read.raw) comes)
-    (fault_rule side rule comes reads)
-    (read.read _ h.note.event comes.stood.holds.sent comes.noted.0
-    (fault_silent side rule comes reads)) (fault_tries side rule comes reads _)))
-    c.skip.ensures.saw
+    saw terms before h comes (fault_rule side rule comes reads) (fault_silent side rule comes reads)
+    (fault_tries side rule comes reads _)) c.skip.ensures.saw

@@ -12,7 +12,7 @@ returns-in-Ok-clause-saw g c =
     record {
       stood = stood;
       says = says terms before h comes.stands
-          (seen_so comes _ read (c.call.ensures _ h.note.event read) stood
+          (seen_so comes _ read.spoken (c.call.ensures _ h.note.event read) stood
           (kept_fate comes kept));
     }) c.event.ensures.says
 
@@ -21,7 +21,7 @@ returns-in-Ok-clause-memory g c =
     on_err_weaker c.event.result (λ wants terms before h comes sound read.
     let kept = c.in-Ok.ensures.ok _ h.note.event comes.stood.holds sound read in
     inr (wants terms before h comes.stands
-    (seen_so comes _ read (c.call.ensures _ h.note.event read)
+    (seen_so comes _ read.spoken (c.call.ensures _ h.note.event read)
     (kept_stood comes kept c.in-Ok.ensures.terms) (kept_fate comes kept))))
     c.event.ensures.memory
 
@@ -39,7 +39,7 @@ returns-in_ok-rule-in-Err-clause-memory g c =
     let holds = comes.stood.holds in
     inr (wants terms before h
     (comes_still comes _ _ _ err.terms (err.err _ h.note.event holds sound read) err.uncounted)
-    (refused_here comes _ _ is (err.rule _ h.note.event holds sound read)) read
+    (refused_here comes _ _ is (err.rule _ h.note.event holds sound read)) read.spoken
     (tried_here comes _ _ _ is (err.tried _ h.note.event holds sound read))))
     c.skip.ensures.memory
 
@@ -51,6 +51,6 @@ returns-in_ok-rule-in-Err-clause-saw g c =
     let holds = comes.stood.holds in
     saw terms before h
     (comes_still comes _ _ _ err.terms (err.err _ h.note.event holds sound read) err.uncounted)
-    (refused_here comes _ _ is (err.rule _ h.note.event holds sound read)) read
+    (refused_here comes _ _ is (err.rule _ h.note.event holds sound read)) read.spoken
     (tried_here comes _ _ _ is (err.tried _ h.note.event holds sound read)))
     c.skip.ensures.saw

@@ -1,8 +1,8 @@
 use Rattle.std.proofs.Common.{chars, refl, subst, sym}
 use Rattle.std.proofs.lemmas.Result.{err_from_is_err_and}
-use Rattle.lsp_verdict.specs.Event.{Event, fault, message, snapshot}
+use Rattle.lsp_verdict.specs.Event.{fault, snapshot}
 use Rattle.lsp_verdict.specs.Given.{raw_view}
-use Rattle.lsp_verdict.specs.Placed.{Reads, content, show}
+use Rattle.lsp_verdict.specs.Placed.{Reads}
 use Rattle.lsp_verdict.specs.declared.raw.Raw.{Raw}
 use Rattle.lsp_replay.specs.Keeping.{RefusesEvent}
 use Rattle.lsp_replay.proofs.Following.{keeps, refused_for}

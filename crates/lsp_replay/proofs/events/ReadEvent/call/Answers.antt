@@ -1,4 +1,4 @@
-use Rattle.std.proofs.Common.{◌∙◌, Bor, Option, ap, refl, rules, subst, sym, w32}
+use Rattle.std.proofs.Common.{◌∙◌, Bor, Option, ap, rules, subst, sym, w32}
 use Rattle.std.specs.Prelude.{option_map}
 use Rattle.std.proofs.lemmas.Int.{to_z-of_z}
 use mir.Val.{SFits}
