@@ -12,17 +12,15 @@ use Rattle.lsp_docs.specs.Taken.{call_view}
 use Rattle.lsp_docs.specs.declared.call.Call as code_call
 use Rattle.std.specs.Prelude.{option_map}
 use Rattle.lsp_types.specs.declared.side.Side.{Side}
-use Rattle.lsp_replay.specs.Keeping.{IsKept, IsRead, IsSound, RefusesEvent, Tries}
+use Rattle.lsp_replay.specs.Keeping.{IsKept, IsSound, RefusesEvent, Tries}
 use Rattle.lsp_replay.specs.Standing.{CanWantMemory, Holds}
 use Rattle.lsp_replay.specs.Telling.{Comes, HasFate, IsSeen, MaySpeak, Saw, ShowsFault, Stood, kept_before, rule_of, took_of}
 use Rattle.lsp_replay.specs.Tries.{TriesCall}
-use Rattle.lsp_replay.specs.declared.events.ReadEvent.{ReadEvent}
 use Rattle.lsp_replay.specs.declared.fault.Fault.{Fault}
 use Rattle.lsp_replay.specs.declared.fault.Fault.TheVariants as own
 use Rattle.lsp_replay.specs.declared.seen.Fate.{Fate}
 use Rattle.lsp_replay.specs.declared.seen.Fate.TheVariants as fates
 use Rattle.lsp_replay.specs.declared.seen.Flow.{Flow}
-use Rattle.lsp_replay.specs.declared.seen.Seen.{Seen}
 use Rattle.lsp_replay.specs.Run.{Run}
 use Rattle.lsp_replay.proofs.Following.{whose_read}
 use Rattle.lsp_verdict.specs.Event.{calls, call_at, Event, fault as broken_rule, message}
