@@ -1,9 +1,8 @@
 //! The events of a session, heard one after another.
-ghost use Rattle.std.specs.Prelude.{◌≡◌, [], List, IfErr, IfOk, None, OnErr, OnOk, Some, chars};
+ghost use Rattle.std.specs.Prelude.{◌≡◌, [], List, IfErr, IfOk, None, OnErr, OnOk};
 ghost use Rattle.std.specs.Prelude.{Err, option_map};
 ghost use Rattle.lsp_rpc.specs.View.{act_view};
 ghost use Rattle.lsp_docs.specs.Calls as spec;
-ghost use Rattle.lsp_docs.specs.Calls.{shows};
 ghost use Rattle.lsp_docs.specs.Documents.{Terms, terms_of};
 ghost use Rattle.lsp_docs.specs.Fault.{IsRule};
 ghost use Rattle.lsp_docs.specs.State as documents;
@@ -17,7 +16,6 @@ ghost use Rattle.lsp_session.specs.State.{Stands};
 ghost use Rattle.lsp_verdict.specs.Event as event;
 ghost use Rattle.lsp_verdict.specs.Event.{Event, call_at, message, sent_in};
 ghost use Rattle.lsp_verdict.specs.Given.{raw_view};
-ghost use Rattle.lsp_verdict.specs.Placed.{show};
 ghost use Rattle.lsp_replay.specs.Keeping.{IsAdmitted, IsKept, IsMessageOf, IsRead, IsSound};
 ghost use Rattle.lsp_replay.specs.Keeping.{RefusesEvent, Tries, message_rule};
 ghost use Rattle.lsp_replay.specs.Standing.{CanWantMemory, Follows, Holds, IsUnread, MayLackFor};
@@ -59,28 +57,14 @@ pub(crate) struct ReadEvent<'a> {
 }
 
 impl<'a> ReadEvent<'a> {
-    /// An event that is no message and says nothing.
-    pub(crate) fn unread(raw: Raw<'a>) -> ReadEvent<'a>
-        ensures { result ≡ record { raw = raw.entry; spoken = None; call = None } }
+    /// An event that is no message.
+    pub(crate) fn silent(raw: Raw<'a>, call: Option<Call<'a>>) -> ReadEvent<'a>
+        ensures { result ≡ record { raw = raw.entry; spoken = None; call = call.entry } }
     {
         ReadEvent {
             raw,
             spoken: None,
-            call: None,
-        }
-    }
-
-    /// A text that the editor showed.
-    pub(crate) fn shown(version: i32, uri: &'a str, text: &'a str) -> ReadEvent<'a>
-        ensures raw { raw_view result.raw ≡ show version uri.now text.now }
-        ensures silent { result.spoken ≡ None }
-        ensures call { option_map call_view result.call
-            ≡ Some (shows uri.now version (chars text.now)) }
-    {
-        ReadEvent {
-            raw: Raw::Snapshot { version, uri, text },
-            spoken: None,
-            call: Some(Call::Shows { version, uri, text }),
+            call,
         }
     }
 }
@@ -139,7 +123,8 @@ impl<S: TextStore> Events<S> {
             }
             Raw::Broken { rule, .. } => Err(Fault::Rule(rule)),
             Raw::Snapshot { version, uri, text } => {
-                let read = ReadEvent::shown(version, uri, text);
+                let call = Call::Shows { version, uri, text };
+                let read = ReadEvent::silent(raw, Some(call));
                 self.keep(&read)?;
                 Ok(())
             }
@@ -147,6 +132,7 @@ impl<S: TextStore> Events<S> {
     }
 
     /// What a message says about a document, under what was agreed before it.
+    #[inline(always)]
     pub(crate) fn call_in<'a>(&self, spoken: &'a Spoken) -> Option<Call<'a>>
         ensures { (events : List Event) (m : Sent) → Stands self.now.session (sent_in events)
             → m.act ≡ act_view spoken.now.act
@@ -164,6 +150,7 @@ impl<S: TextStore> Events<S> {
     /// `Rule` by the least of the rules 301 to 702 that the event offends, and `Memory` where
     /// memory was refused. What is held and the counts stay, so that the event after it can be
     /// heard, and what was tried of refused changes is kept.
+    #[inline(always)]
     pub(crate) fn keep(&mut self, read: &ReadEvent<'_>) -> Result<Took, Fault>
         ensures terms { self.new.docs.terms ≡ self.old.docs.terms }
         ensures ok { IfOk result (λ took. (events : List Event) (event : Event)
@@ -192,6 +179,7 @@ impl<S: TextStore> Events<S> {
 }
 
 /// Admits the message that an event is, if it is one.
+#[inline(always)]
 fn admit(session: &mut Session, read: &ReadEvent<'_>) -> Result<(), Refusal>
     ensures ok { OnOk result ((events : List Event) (event : Event)
         → Stands session.old (sent_in events) → IsSound event → IsRead events event read.now
@@ -212,6 +200,7 @@ fn admit(session: &mut Session, read: &ReadEvent<'_>) -> Result<(), Refusal>
 }
 
 /// Takes over what is said about a document, if anything is.
+#[inline(always)]
 fn take_call<S: TextStore>(
     docs: &mut Docs<S>,
     call: Option<Call<'_>>,

@@ -22,6 +22,7 @@ use crate::account::Account;
 use crate::events::{Events, ReadEvent, read_into};
 use crate::log_events::{End, LogEvents, Next};
 use crate::seen::{Fate, Flow, Seen};
+use lsp_docs::Call;
 use lsp_frame::{Format, Limits, Sink, Source, WriteFault, put_all};
 use lsp_rpc::{Result, Side, Spoken};
 use lsp_text::Lined;
@@ -183,12 +184,19 @@ fn see<A: Account>(
             let mut spoken = held.messages.blank();
             see_content(held, account, side, content, &mut spoken, text)
         }
-        Raw::Broken { rule, .. } => skip(held, account, &ReadEvent::unread(raw), rule, text),
+        Raw::Broken { rule, .. } => skip(held, account, ReadEvent::silent(raw, None), rule, text),
         Raw::Snapshot {
             version,
             uri,
             text: shown,
-        } => see_read(held, account, &ReadEvent::shown(version, uri, shown), text),
+        } => {
+            let call = Call::Shows {
+                version,
+                uri,
+                text: shown,
+            };
+            see_read(held, account, ReadEvent::silent(raw, Some(call)), text)
+        }
     }
 }
 
@@ -218,38 +226,39 @@ fn see_content<A: Account>(
                 spoken: Some(spoken),
                 call: held.call_in(spoken),
             };
-            see_read(held, account, &read, text)
+            see_read(held, account, read, text)
         }
         Err(fault) => {
             let rule = fault.rule()?;
-            skip(held, account, &ReadEvent::unread(raw), rule, text)
+            skip(held, account, ReadEvent::silent(raw, None), rule, text)
         }
     }
 }
 
 /// Hears an event that was read, and adds what an account says of it.
+#[inline(always)]
 fn see_read<A: Account>(
     held: &mut Events<Lined>,
     account: &mut A,
-    read: &ReadEvent<'_>,
+    read: ReadEvent<'_>,
     text: &mut String,
 ) -> Result<Flow>
     ensures asked { A.asked account.new ≡ A.asked account.old }
     ensures memory { OnErr result ((terms : Terms) (before : List Heard) (h : Heard)
-        → Comes (raw_view read.now.raw) terms held.old.session held.old.docs held.old.counts
+        → Comes (raw_view read.entry.raw) terms held.old.session held.old.docs held.old.counts
         before h (A.stands account.old terms before)
-        → IsSound h.note.event → IsRead (kept_before terms before) h.note.event read.now
+        → IsSound h.note.event → IsRead (kept_before terms before) h.note.event read.entry
         → WantsAt (A.run (A.asked account.old)) terms before h) }
     ensures saw { IfOk result (λ flow. (terms : Terms) (before : List Heard) (h : Heard)
-        → Comes (raw_view read.now.raw) terms held.old.session held.old.docs held.old.counts
+        → Comes (raw_view read.entry.raw) terms held.old.session held.old.docs held.old.counts
         before h (A.stands account.old terms before)
-        → IsSound h.note.event → IsRead (kept_before terms before) h.note.event read.now
-        → Saw (A.run (A.asked account.old)) terms before h (ShowsFault read.now.raw)
+        → IsSound h.note.event → IsRead (kept_before terms before) h.note.event read.entry
+        → Saw (A.run (A.asked account.old)) terms before h (ShowsFault read.entry.raw)
         (string_bytes text.old) (string_bytes text.new)
         (A.stands account.new terms (before ++ h ∷ [])) held.new.session held.new.docs
         held.new.counts flow) }
 {
-    match held.keep(read) {
+    match held.keep(&read) {
         Ok(took) => {
             let seen = Seen {
                 raw: read.raw,
@@ -274,28 +283,28 @@ fn see_read<A: Account>(
 fn skip<A: Account>(
     held: &mut Events<Lined>,
     account: &mut A,
-    read: &ReadEvent<'_>,
+    read: ReadEvent<'_>,
     rule: u16,
     text: &mut String,
 ) -> Result<Flow>
     ensures asked { A.asked account.new ≡ A.asked account.old }
     ensures let_go { OnOk result (held.new.tried ≡ None) }
     ensures memory { OnErr result ((terms : Terms) (before : List Heard) (h : Heard)
-        → Comes (raw_view read.now.raw) terms held.old.session held.old.docs held.old.counts
+        → Comes (raw_view read.entry.raw) terms held.old.session held.old.docs held.old.counts
         before h (A.stands account.old terms before)
         → rule_of terms before h ≡ Some rule
-        → IsRead (kept_before terms before) h.note.event read.now
+        → IsRead (kept_before terms before) h.note.event read.entry
         → TriesCall terms (kept_before terms before)
         (call_at (kept_before terms before) h.note.event) rule (made_in held.old.tried)
         → (A.run (A.asked account.old)).wants terms before h ≡ true) }
     ensures saw { IfOk result (λ flow. (terms : Terms) (before : List Heard) (h : Heard)
-        → Comes (raw_view read.now.raw) terms held.old.session held.old.docs held.old.counts
+        → Comes (raw_view read.entry.raw) terms held.old.session held.old.docs held.old.counts
         before h (A.stands account.old terms before)
         → rule_of terms before h ≡ Some rule
-        → IsRead (kept_before terms before) h.note.event read.now
+        → IsRead (kept_before terms before) h.note.event read.entry
         → TriesCall terms (kept_before terms before)
         (call_at (kept_before terms before) h.note.event) rule (made_in held.old.tried)
-        → Saw (A.run (A.asked account.old)) terms before h (ShowsFault read.now.raw)
+        → Saw (A.run (A.asked account.old)) terms before h (ShowsFault read.entry.raw)
         (string_bytes text.old) (string_bytes text.new)
         (A.stands account.new terms (before ++ h ∷ [])) held.new.session held.new.docs
         held.new.counts flow) }

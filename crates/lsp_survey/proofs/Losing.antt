@@ -1,4 +1,5 @@
 -- What is lost after one event more.
+use Rattle.std.specs.Borrow.{Bor}
 use Rattle.std.specs.Prelude.{ℤ, ◌||◌, chars, if◌then◌else◌, is_some, option_and_then, option_map}
 use Rattle.std.specs.Prelude.{unwrap_or}
 use Rattle.std.proofs.Common.{◌≡◌, ℕ, Bool, true, false, List, [], ◌∷◌, ◌++◌, Option, Some, None}
@@ -9,28 +10,25 @@ use Rattle.lsp_docs.specs.Calls.{Call, shows}
 use Rattle.lsp_docs.specs.Documents.{Terms}
 use Rattle.lsp_rpc.specs.Ident.{id_view}
 use Rattle.lsp_rpc.specs.Message.{Message}
-use Rattle.lsp_rpc.specs.View.{act_view, message_view}
+use Rattle.lsp_rpc.specs.View.{message_view}
 use Rattle.lsp_rpc.specs.declared.act.Spoken.{Spoken}
-use Rattle.lsp_session.specs.Negotiation.{encoding, sync_kind}
 use Rattle.lsp_session.specs.State as session
-use Rattle.lsp_types.specs.declared.change.SyncKind.{SyncKind}
-use Rattle.lsp_types.specs.declared.change.SyncKind.TheVariants.{Nothing}
-use Rattle.lsp_types.specs.declared.position.Encoding.{Encoding}
-use Rattle.lsp_types.specs.declared.position.Encoding.TheVariants.{Utf16}
 use Rattle.lsp_types.specs.declared.side.Side.{Side}
 use Rattle.lsp_replay.specs.Standing.{Holds}
-use Rattle.lsp_replay.specs.Telling.{IsSpoken, kept_before, rule_of}
+use Rattle.lsp_replay.specs.Telling.{MaySpeak, Stood, kept_before, rule_of}
 use Rattle.lsp_replay.proofs.Seeing.{events-push}
-use Rattle.lsp_survey.specs.Lost.{AreLosses, HoldsSent, IsMessageOf, IsNotedIn, Offends}
-use Rattle.lsp_survey.specs.Lost.{WasTold, breaks_by, follows_of, unheard_with}
-use Rattle.lsp_survey.specs.Notes.{AreAfter, Leaves, is_noted, is_noted_lost, sides_after}
+use Rattle.lsp_survey.specs.Lost.{AreLosses, HoldsSent, IsMessageOf, IsNotedIn, WasTold}
+use Rattle.lsp_survey.specs.Lost.{breaks_by, follows_of, unheard_with}
+use Rattle.lsp_survey.specs.Notes.{AreAfter, Leaves, has_passed, is_noted_lost, sides_after}
 use Rattle.lsp_survey.specs.Notes.{sides_failed, sides_of, sides_read}
 use Rattle.lsp_survey.specs.declared.losses.Losses.{Losses}
 use Rattle.lsp_survey.specs.declared.notes.note.Notes as code_notes
+use Rattle.lsp_survey.specs.declared.notes.sides.Sides.{Sides}
 use Rattle.lsp_survey.proofs.Noting.{notes_stay, nothing_said}
 use Rattle.lsp_survey.proofs.PassedSteps.{fault_passes, kept_passes}
 use Rattle.lsp_survey.proofs.SidesSteps.{sides_pushed}
-use Rattle.lsp_verdict.specs.Event.{call_of, calls, Event, fault, message, sent_in, snapshot}
+use Rattle.lsp_verdict.specs.Event.{calls, Event, fault, message, sent_in, snapshot}
+use Rattle.lsp_verdict.specs.Given.{raw_view}
 use Rattle.lsp_verdict.specs.Heard.{Heard, heard_events, notes_of}
 use Rattle.lsp_verdict.specs.LookBack.{first_of}
 use Rattle.lsp_verdict.specs.Offences.{IsMalformed, IsNoted, IsReading, Noted, answered_by}
@@ -42,6 +40,8 @@ use Rattle.lsp_verdict.specs.Offences.{passes, rule_at, said_at}
 use Rattle.lsp_verdict.specs.Placed.{Raw, Reads, broken, content, show}
 use Rattle.lsp_verdict.specs.Verdict.{offence}
 use Rattle.lsp_verdict.specs.declared.counts.Counts.{Counts}
+use Rattle.lsp_verdict.specs.declared.raw.Raw as lent
+use Rattle.lsp_verdict.specs.declared.raw.Raw.TheVariants as lent_as
 use Rattle.lsp_verdict.proofs.Offences.Steps.{broken-push, events_of-push, is_lost-push}
 use Rattle.lsp_verdict.proofs.Offences.Steps.{is_passed-push, kept-refused, unheard-push}
 use Rattle.lsp_verdict.proofs.Offences.Surveying.{one_malformed}
@@ -190,76 +190,79 @@ notes-push : (before : List Heard) (h : Heard)
     → notes_of (before ++ h ∷ []) ≡ notes_of before ++ h.note ∷ []
 notes-push before h = map-append (λ (x : Heard). x.note) before (h ∷ [])
 
--- the call that a message makes after these kept events
-abbrev enc_after : List Event → Encoding
-enc_after kept = unwrap_or (encoding (sent_in kept)) Utf16
-
-abbrev kind_after : List Event → SyncKind
-kind_after kept = unwrap_or (sync_kind (sent_in kept)) Nothing
-
 -- ---- all losses after an event that is kept
 
-module _ (terms : Terms) (before : List Heard) (h : Heard) (old new : Losses)
-    (losses : AreLosses terms old (notes_of before)) (noted : IsNoted h.raw h.note)
+module _ (terms : Terms) (before : List Heard) (h : Heard) (said : Option Call)
+    (says : said_at terms (heard_events before) h.note.event ≡ said) (noted : IsNoted h.raw h.note)
     (rule : rule_of terms before h ≡ None) where
-  told_kept : AreLosses terms new (notes_of before ++ h.note ∷ [])
+  told_kept : (new : Losses) → AreLosses terms new (notes_of before ++ h.note ∷ [])
       → WasTold new terms before h false
-  told_kept are = record {
+  told_kept new are = record {
     late_is = ap (λ (o : Option ℕ). unwrap_or
         (option_map (follows terms (notes_of before) h.note) o) false) (sym rule);
     losses = subst (AreLosses terms new) (sym (notes-push before h)) are;
   }
 
   -- a message
-  pub message_kept : (side : Side) (bytes : List ℕ) (s : Spoken) → h.raw ≡ content side bytes
-      → IsSpoken (kept_before terms before) h.note.event side s
-      → ((enc : Encoding) (kind : SyncKind) → AreAfter (call_of enc kind (act_view s.act))
-      old.documents.map.entries new.documents.map.entries)
+  pub message_kept : (side : Side) (bytes : List ℕ) (old new : Losses)
+      → AreLosses terms old (notes_of before) → h.raw ≡ content side bytes
+      → AreAfter said old.documents.map.entries new.documents.map.entries
       → new.sides ≡ sides_read side old.sides → new.handshake ≡ old.handshake
       → new.passed ≡ old.passed → new.unheard ≡ old.unheard → WasTold new terms before h false
-  message_kept side bytes s raw speaks after sides handshake passed unheard =
-      let enc = enc_after (kept_before terms before) in
-      let kind = kind_after (kept_before terms before) in
-      let call = call_of enc kind (act_view s.act) in
-      let whole = subst (λ (e : Event). IsMalformed (content side bytes) e h.note.malformed)
-      speaks.is (subst (λ (w : Raw). IsNoted w h.note) raw noted).1 in
-      told_kept (kept_on terms (notes_of before) h.note call old new losses rule
-      (ap (λ (e : Event). said_at terms (heard_events before) e) speaks.is
-      ∙ ap (call_of enc kind) speaks.means) handshake
-      (sides ∙ ap (λ (x : Side). sides_read x old.sides) (sym speaks.by)
-      ∙ ap (λ (e : Event). sides_after e old.sides) (sym speaks.is)) passed unheard
-      (subst (λ (m : Option Message). Leaves None (option_and_then brought_by m) false call
-      old.documents.map.entries new.documents.map.entries) (sym whole) (after enc kind)))
+  message_kept side bytes old new losses raw after sides handshake passed unheard =
+      let own = subst (λ (w : Raw). IsNoted w h.note) raw noted in
+      let is = read h.note.event h.note.malformed own.0 own.1 rule in
+      told_kept new (kept_on terms (notes_of before) h.note said old new losses rule says handshake
+      (sides ∙ is.1 old.sides) passed unheard
+      (subst (λ (m : Option Message). Leaves None (option_and_then brought_by m) false said
+      old.documents.map.entries new.documents.map.entries) (sym is.0) after))
+    where
+      -- it is no fault
+      read : (e : Event) (m : Option Message) → Reads (content side bytes) e
+          → IsMalformed (content side bytes) e m → offence terms (kept_before terms before) e ≡ None
+          → (m ≡ None) × ((s : Sides) → sides_read side s ≡ sides_after e s)
+      read (message sent) m reads whole none =
+          (whole, λ s. ap (λ (by : Side). sides_read by s) (sym reads.by))
+      read (fault by code) m reads whole none = absurd (cc none)
+      read (snapshot uri number text) m reads whole none = absurd reads
 
   -- a snapshot
-  pub shown_kept : (number : ℤ) (uri text : List ℕ) → h.raw ≡ show number uri text → new ≡ old
-      → WasTold new terms before h false
-  shown_kept number uri text raw same =
+  pub shown_kept : (l : Losses) → AreLosses terms l (notes_of before) → (raw : lent.Raw)
+      → h.raw ≡ raw_view raw
+      → ((side : Side) (bytes : Bor (List ℕ)) → raw ≡ lent_as.Content side bytes → ⊥)
+      → WasTold l terms before h false
+  shown_kept l losses (lent_as.Content side bytes) raw not = absurd (not side bytes refl)
+  shown_kept l losses (lent_as.Broken side code rest) raw not =
       let own = subst (λ (w : Raw). IsNoted w h.note) raw noted in
-      let call = shows uri number (chars text) in
-      told_kept (subst (λ (l : Losses). AreLosses terms l (notes_of before ++ h.note ∷ []))
-      (sym same)
-      (kept_on terms (notes_of before) h.note (Some call) old old losses rule
-      (ap (λ (e : Event). said_at terms (heard_events before) e) own.0) refl
-      (ap (λ (e : Event). sides_after e old.sides) (sym own.0)) refl refl
-      (subst (λ (m : Option Message). Leaves None (option_and_then brought_by m) false (Some call)
-      old.documents.map.entries old.documents.map.entries) (sym own.1)
-      (notes_stay call old.documents.map.entries refl))))
+      absurd (some_none code (sym (ap (offence terms (kept_before terms before)) own.0) ∙ rule))
+    where
+      some_none : (code : ℕ) → (let o : Option ℕ = Some code in o) ≡ None → ⊥
+      some_none code is = cc is
+  shown_kept l losses (lent_as.Snapshot number uri text) raw not =
+      let own = subst (λ (w : Raw). IsNoted w h.note) raw noted in
+      let call = shows uri.now number (chars text.now) in
+      let is : said ≡ Some call =
+      sym says ∙ ap (λ (e : Event). said_at terms (heard_events before) e) own.0 in
+      told_kept l (kept_on terms (notes_of before) h.note said l l losses rule says refl
+      (ap (λ (e : Event). sides_after e l.sides) (sym own.0)) refl refl
+      (subst (λ (m : Option Message). Leaves None (option_and_then brought_by m) false said
+      l.documents.map.entries l.documents.map.entries) (sym own.1)
+      (subst (λ (o : Option Call). AreAfter o l.documents.map.entries l.documents.map.entries)
+      (sym is) (notes_stay call l.documents.map.entries refl))))
 
 -- ---- all losses after an event that offends
 
-module _ (raw : Raw) (terms : Terms) (before : List Heard) (h : Heard) (m : session.State)
-    (d : docs.State) (c : Counts) (rule : ℕ) (spoken : Option Spoken) (late : Bool)
-    (old new : Losses) (losses : AreLosses terms old (notes_of before))
-    (offends : Offends m d c raw rule spoken terms before h) where
+module _ (terms : Terms) (before : List Heard) (h : Heard) (m : session.State) (d : docs.State)
+    (c : Counts) (rule : ℕ) (breaks : rule_of terms before h ≡ Some rule)
+    (stood : Stood terms m d c (before ++ h ∷ [])) (noted : IsNoted h.raw h.note)
+    (late : Bool) (old new : Losses) (losses : AreLosses terms old (notes_of before)) where
   abbrev notes : List Noted
   notes = notes_of before
 
   -- what is held is the result of the kept events before it
-  pub held_before : Holds m d (kept_before terms before)
+  held_before : Holds m d (kept_before terms before)
   held_before = subst (Holds m d) (ap (kept_of terms) (events-push before h)
-      ∙ kept-refused terms (heard_events before) h.note.event rule offends.breaks)
-      offends.stood.holds
+      ∙ kept-refused terms (heard_events before) h.note.event rule breaks) stood.holds
 
   told_by : (said : Option Call) (malformed : Option Message)
       → said_at terms (events_of notes) h.note.event ≡ said → h.note.malformed ≡ malformed
@@ -271,141 +274,128 @@ module _ (raw : Raw) (terms : Terms) (before : List Heard) (h : Heard) (m : sess
   told_by said malformed said_is whole is l = record {
     late_is = follows_on terms notes h.note rule said old late losses said_is is
         ∙ ap (λ (o : Option ℕ). unwrap_or (option_map (follows terms notes h.note) o) false)
-        (sym offends.breaks);
+        (sym breaks);
     losses = subst (AreLosses terms new) (sym (notes-push before h))
-        (losses_on terms notes h.note (Some rule) said old new losses offends.breaks said_is
+        (losses_on terms notes h.note (Some rule) said old new losses breaks said_is
         (subst (λ (x : Option Message).
         IsNotedIn terms notes h.note.event x said (Some rule) old new) (sym whole) l));
   }
 
--- a message
-pub message_lost : (side : Side) (bytes : List ℕ) (terms : Terms) (before : List Heard) (h : Heard)
-    (m : session.State) (d : docs.State) (c : Counts) (s : Spoken) (rule : ℕ) (late : Bool)
-    (old new : Losses) → AreLosses terms old (notes_of before)
-    → Offends m d c (content side bytes) rule (Some s) terms before h
-    → ((notes : List Noted) (event : Event) (enc : Encoding) (kind : SyncKind)
-    → AreLosses terms old notes → d.terms ≡ terms → Holds m d (kept_of terms (events_of notes))
-    → IsMessageOf side (message_view s.message) event
-    → (late ≡ follows_of terms notes rule (is_noted_lost old.documents.map.entries
-    (call_of enc kind (act_view s.act)))
-    (follows_passed terms rule notes event || follows_bytes rule (events_of notes) event))
-    × IsNotedIn terms notes event None (call_of enc kind (act_view s.act)) (Some rule) old new)
-    → WasTold new terms before h late
-message_lost side bytes terms before h m d c s rule late old new losses offends told =
-    let raw = content side bytes in
-    let enc = enc_after (kept_before terms before) in
-    let kind = kind_after (kept_before terms before) in
-    let by = offends.speaks.0 in
-    let speaks : IsSpoken (kept_before terms before) h.note.event by s = offends.speaks.1 in
-    let reads = subst (λ (e : Event). Reads raw e) speaks.is offends.noted.0 in
-    let whole = subst (λ (e : Event). IsMalformed raw e h.note.malformed) speaks.is offends.noted.1
-    in
-    let both = told (notes_of before) h.note.event enc kind losses offends.stood.by
-    (held_before raw terms before h m d c rule (Some s) late old new losses offends)
-    (speaks.sent, speaks.is, reads.by, speaks.says) in
-    told_by raw terms before h m d c rule (Some s) late old new losses offends
-    (call_of enc kind (act_view s.act)) None
-    (ap (λ (e : Event). said_at terms (heard_events before) e) speaks.is
-    ∙ ap (call_of enc kind) speaks.means) whole both.0 both.1
+  -- a message
+  pub message_lost : (side : Side) (bytes : List ℕ) (s : Spoken) (said : Option Call)
+      → h.raw ≡ content side bytes → MaySpeak (kept_before terms before) h.note.event (Some s)
+      → said_at terms (events_of notes) h.note.event ≡ said
+      → ((notes : List Noted) (event : Event) → AreLosses terms old notes → d.terms ≡ terms
+      → Holds m d (kept_of terms (events_of notes))
+      → IsMessageOf side (message_view s.message) event
+      → (late ≡ follows_of terms notes rule (is_noted_lost old.documents.map.entries said)
+      (follows_passed terms rule notes event || follows_bytes rule (events_of notes) event))
+      × IsNotedIn terms notes event None said (Some rule) old new)
+      → WasTold new terms before h late
+  message_lost side bytes s said raw (by, speaks) says told =
+      let own = subst (λ (w : Raw). IsNoted w h.note) raw noted in
+      let reads = subst (Reads (content side bytes)) speaks.is own.0 in
+      let both = told notes h.note.event losses stood.by held_before
+      (speaks.sent, speaks.is, reads.by, speaks.says) in
+      told_by said None says
+      (subst (λ (e : Event). IsMalformed (content side bytes) e h.note.malformed) speaks.is own.1)
+      both.0 both.1
 
--- a content that is no message with a meaning
-pub unread_lost : (side : Side) (bytes : List ℕ) (terms : Terms) (before : List Heard) (h : Heard)
-    (m : session.State) (d : docs.State) (c : Counts) (rule : ℕ) (late : Bool) (old new : Losses)
-    → AreLosses terms old (notes_of before)
-    → Offends m d c (content side bytes) rule None terms before h
-    → (malformed : Option Message) → IsReading bytes malformed
-    → ((notes : List Noted) → AreLosses terms old notes → HoldsSent m terms notes
-    → (late ≡ follows_of terms notes rule false
-    (follows_bytes rule (events_of notes) (fault side rule)))
-    × IsNotedIn terms notes (fault side rule) malformed None (Some rule) old new)
-    → WasTold new terms before h late
-unread_lost side bytes terms before h m d c rule late old new losses offends malformed reading
-    told =
-    let raw = content side bytes in
-    let notes = notes_of before in
-    let both = told notes losses
-    (held_before raw terms before h m d c rule None late old new losses offends).sent in
-    let own = fault_is h.note.event refl offends.noted.0 offends.breaks in
-    let whole = subst (λ (x : Event). IsMalformed raw x h.note.malformed) own offends.noted.1 in
-    told_by raw terms before h m d c rule None late old new losses offends None malformed
-    (ap (λ (x : Event). said_at terms (heard_events before) x) own)
-    (one_malformed raw (fault side rule) h.note.malformed malformed whole reading)
-    (both.0 ∙ ap (λ (x : Event). follows_of terms notes rule false
-    (follows_passed terms rule notes x || follows_bytes rule (heard_events before) x)) (sym own))
-    (subst (λ (x : Event). IsNotedIn terms notes x malformed None (Some rule) old new) (sym own)
-    both.1)
-  where
-    -- the event is that fault
-    fault_is : (e : Event) → h.note.event ≡ e → Reads (content side bytes) e
-        → offence terms (kept_before terms before) e ≡ Some rule → e ≡ fault side rule
-    fault_is (message sent) is reads breaks = absurd (offends.speaks sent is)
-    fault_is (fault by code) is reads breaks =
-        let code_is : code ≡ rule = cc breaks in
-        ap (λ (s : Side). fault s code) reads.0 ∙ ap (fault side) code_is
-    fault_is (snapshot uri number text) is reads breaks = absurd reads
+  -- a content that is no message with a meaning
+  pub unread_lost : (side : Side) (bytes : List ℕ) → h.raw ≡ content side bytes
+      → MaySpeak (kept_before terms before) h.note.event None
+      → (malformed : Option Message) → IsReading bytes malformed
+      → ((notes : List Noted) → AreLosses terms old notes → HoldsSent m terms notes
+      → (late ≡ follows_of terms notes rule false
+      (follows_bytes rule (events_of notes) (fault side rule)))
+      × IsNotedIn terms notes (fault side rule) malformed None (Some rule) old new)
+      → WasTold new terms before h late
+  unread_lost side bytes raw speaks malformed reading told =
+      let reads = subst (λ (w : Raw). IsNoted w h.note) raw noted in
+      let both = told notes losses held_before.sent in
+      let own = fault_is h.note.event refl reads.0 breaks in
+      let whole = subst (λ (x : Event). IsMalformed (content side bytes) x h.note.malformed) own
+      reads.1 in
+      told_by None malformed (ap (λ (x : Event). said_at terms (heard_events before) x) own)
+      (one_malformed (content side bytes) (fault side rule) h.note.malformed malformed whole
+      reading)
+      (both.0 ∙ ap (λ (x : Event). follows_of terms notes rule false
+      (follows_passed terms rule notes x || follows_bytes rule (heard_events before) x)) (sym own))
+      (subst (λ (x : Event). IsNotedIn terms notes x malformed None (Some rule) old new) (sym own)
+      both.1)
+    where
+      -- the event is that fault
+      fault_is : (e : Event) → h.note.event ≡ e → Reads (content side bytes) e
+          → offence terms (kept_before terms before) e ≡ Some rule → e ≡ fault side rule
+      fault_is (message sent) is reads breaks = absurd (speaks sent is)
+      fault_is (fault by code) is reads breaks =
+          let code_is : code ≡ rule = cc breaks in
+          ap (λ (s : Side). fault s code) reads.0 ∙ ap (fault side) code_is
+      fault_is (snapshot uri number text) is reads breaks = absurd reads
 
--- a fault of the frames
-pub frames_lost : (side : Side) (code : ℕ) (terms : Terms) (before : List Heard) (h : Heard)
-    (m : session.State) (d : docs.State) (c : Counts) (rule : ℕ) (spoken : Option Spoken)
-    (late : Bool) (old new : Losses) → AreLosses terms old (notes_of before)
-    → Offends m d c (broken side code) rule spoken terms before h
-    → new ≡ record old { handshake = new.handshake; sides = sides_failed side rule old.sides }
-    → ((kept : List Event) → session.Stands m (sent_in kept)
-    → new.handshake ≡ (old.handshake || (breaks_handshake false rule
-    || may_answer kept (fault side rule))))
-    → ((t : Terms) (notes : List Noted) → AreLosses t old notes → HoldsSent m t notes
-    → late ≡ follows_of t notes rule false (follows_bytes rule (events_of notes) (fault side rule)))
-    → WasTold new terms before h late
-frames_lost side code terms before h m d c rule spoken late old new losses offends stays broke
-    follows_is =
-    let raw = broken side code in
-    let notes = notes_of before in
-    let stands = (held_before raw terms before h m d c rule spoken late old new losses offends).sent
-    in
-    let code_is : code ≡ rule = same_rule code rule (sym (ap (λ (e : Event).
-    rule_at terms (heard_events before) e) offends.noted.0) ∙ offends.breaks) in
-    let own : h.note.event ≡ fault side rule = offends.noted.0 ∙ ap (fault side) code_is in
-    told_by raw terms before h m d c rule spoken late old new losses offends None None
-    (ap (λ (e : Event). said_at terms (heard_events before) e) own) offends.noted.1
-    (follows_is terms notes losses stands
-    ∙ ap (λ (e : Event). follows_of terms notes rule false
-    (follows_passed terms rule notes e || follows_bytes rule (heard_events before) e)) (sym own))
-    (subst (λ (e : Event). IsNotedIn terms notes e None None (Some rule) old new) (sym own)
-    (record {
-      is_broken = broke (kept_before terms before) stands;
-      sides = ap (λ (l : Losses). l.sides) stays;
-      passed = fault_passes (fault side rule) side rule rule old.passed new.passed refl
-          (ap (λ (l : Losses). l.passed) stays);
-      unheard = ap (λ (l : Losses). l.unheard) stays ∙ or_false old.unheard;
-      noted = subst (λ (w : code_notes.Notes). Leaves (Some rule) None false None
-          old.documents.map.entries w.map.entries) (sym (ap (λ (l : Losses). l.documents) stays))
-          (nothing_said (Some rule) false old.documents.map.entries);
-    }))
-  where
-    same_rule : (a b : ℕ) → (let o : Option ℕ = Some a in o) ≡ Some b → a ≡ b
-    same_rule a b e = cc e
+  -- a fault of the frames
+  pub frames_lost : (side : Side) (code : ℕ) → h.raw ≡ broken side code
+      → new ≡ record old { handshake = new.handshake; sides = sides_failed side rule old.sides }
+      → ((kept : List Event) → session.Stands m (sent_in kept)
+      → new.handshake ≡ (old.handshake || (breaks_handshake false rule
+      || may_answer kept (fault side rule))))
+      → ((t : Terms) (notes : List Noted) → AreLosses t old notes → HoldsSent m t notes
+      → late ≡ follows_of t notes rule false
+      (follows_bytes rule (events_of notes) (fault side rule)))
+      → WasTold new terms before h late
+  frames_lost side code raw stays broke follows_is =
+      let reads = subst (λ (w : Raw). IsNoted w h.note) raw noted in
+      let code_is : code ≡ rule = same_rule code rule (sym (ap (λ (e : Event).
+      rule_at terms (heard_events before) e) reads.0) ∙ breaks) in
+      let own : h.note.event ≡ fault side rule = reads.0 ∙ ap (fault side) code_is in
+      told_by None None (ap (λ (e : Event). said_at terms (heard_events before) e) own) reads.1
+      (follows_is terms notes losses held_before.sent
+      ∙ ap (λ (e : Event). follows_of terms notes rule false
+      (follows_passed terms rule notes e || follows_bytes rule (heard_events before) e)) (sym own))
+      (subst (λ (e : Event). IsNotedIn terms notes e None None (Some rule) old new) (sym own)
+      (record {
+        is_broken = broke (kept_before terms before) held_before.sent;
+        sides = ap (λ (l : Losses). l.sides) stays;
+        passed = fault_passes (fault side rule) side rule rule old.passed new.passed refl
+            (ap (λ (l : Losses). l.passed) stays);
+        unheard = ap (λ (l : Losses). l.unheard) stays ∙ or_false old.unheard;
+        noted = subst (λ (w : code_notes.Notes). Leaves (Some rule) None false None
+            old.documents.map.entries w.map.entries) (sym (ap (λ (l : Losses). l.documents) stays))
+            (nothing_said (Some rule) false old.documents.map.entries);
+      }))
+    where
+      same_rule : (a b : ℕ) → (let o : Option ℕ = Some a in o) ≡ Some b → a ≡ b
+      same_rule a b e = cc e
 
--- a snapshot
-pub shown_lost : (number : ℤ) (uri text : List ℕ) (terms : Terms) (before : List Heard) (h : Heard)
-    (m : session.State) (d : docs.State) (c : Counts) (rule : ℕ) (spoken : Option Spoken)
-    (late : Bool) (old new : Losses) → AreLosses terms old (notes_of before)
-    → Offends m d c (show number uri text) rule spoken terms before h
-    → ((t : Terms) (notes : List Noted) (n : ℤ) (shown : List ℕ) → AreLosses t old notes
-    → HoldsSent m t notes
-    → (late ≡ follows_of t notes rule (is_noted old.documents.map.entries uri) false)
-    × IsNotedIn t notes (snapshot uri n shown) None (Some (shows uri n shown)) (Some rule) old new)
-    → WasTold new terms before h late
-shown_lost number uri text terms before h m d c rule spoken late old new losses offends told =
-    let raw = show number uri text in
-    let notes = notes_of before in
-    let call = shows uri number (chars text) in
-    let both = told terms notes number (chars text) losses
-    (held_before raw terms before h m d c rule spoken late old new losses offends).sent in
-    told_by raw terms before h m d c rule spoken late old new losses offends (Some call) None
-    (ap (λ (e : Event). said_at terms (heard_events before) e) offends.noted.0) offends.noted.1
-    (both.0 ∙ ap (λ (e : Event). follows_of terms notes rule
-    (is_noted old.documents.map.entries uri)
-    (follows_passed terms rule notes e || follows_bytes rule (heard_events before) e))
-    (sym offends.noted.0))
-    (subst (λ (e : Event). IsNotedIn terms notes e None (Some call) (Some rule) old new)
-    (sym offends.noted.0) both.1)
+  -- a snapshot
+  pub shown_lost : (number : ℤ) (uri text : List ℕ) (said : Option Call)
+      → h.raw ≡ show number uri text → said_at terms (events_of notes) h.note.event ≡ said
+      → new ≡ record old {
+        documents = new.documents;
+        handshake = old.handshake || breaks_handshake false rule;
+      }
+      → ((calls : List Call) → docs.Stands d calls → Leaves (Some rule) None
+      (is_reopened d.terms calls said) said old.documents.map.entries new.documents.map.entries)
+      → ((t : Terms) (notes : List Noted) → AreLosses t old notes → HoldsSent m t notes
+      → late ≡ follows_of t notes rule (is_noted_lost old.documents.map.entries said) false)
+      → WasTold new terms before h late
+  shown_lost number uri text said raw says stays leaves follows_is =
+      let own = subst (λ (w : Raw). IsNoted w h.note) raw noted in
+      told_by said None says own.1
+      (follows_is terms notes losses held_before.sent
+      ∙ ap (λ (e : Event). follows_of terms notes rule
+      (is_noted_lost old.documents.map.entries said)
+      (follows_passed terms rule notes e || follows_bytes rule (heard_events before) e))
+      (sym own.0))
+      (subst (λ (e : Event). IsNotedIn terms notes e None said (Some rule) old new) (sym own.0)
+      (record {
+        is_broken = ap (λ (l : Losses). l.handshake) stays
+            ∙ ap (λ (b : Bool). old.handshake || b) (or_false (breaks_handshake false rule));
+        sides = ap (λ (l : Losses). l.sides) stays;
+        passed = λ side k. ap (λ (l : Losses). has_passed l.passed side (id_view k)) stays;
+        unheard = ap (λ (l : Losses). l.unheard) stays ∙ or_false old.unheard;
+        noted = subst (λ (t : Terms). Leaves (Some rule) None
+            (is_reopened t (calls (kept_before terms before)) said) said old.documents.map.entries
+            new.documents.map.entries) stood.by
+            (leaves (calls (kept_before terms before)) held_before.called);
+      }))

@@ -2,7 +2,7 @@
 use Rattle.std.proofs.Common.{◌≡◌, ℕ, Bool, true, false, List, Option, option_map, inl, inr, refl}
 use Rattle.std.proofs.Common.{sym, ap, ◌∙◌, subst, string_bytes, String, Global, arith, ◌<◌, []}
 use Rattle.std.proofs.Common.{◌∷◌, Some, None, true≢false}
-use Rattle.std.specs.Prelude.{if◌then◌else◌, unwrap_or, Vec, map, is_none, length, vec_len, ◌==◌}
+use Rattle.std.specs.Prelude.{if◌then◌else◌, unwrap_or, Vec, is_none, length, ◌==◌}
 use Rattle.std.specs.Prelude.{◌||◌, not, ℤ, is_some}
 use Rattle.std.specs.String.{string_eq}
 use Rattle.std.specs.Map.{lookup, KeepsOthers}
@@ -12,12 +12,11 @@ use Rattle.std.specs.List.{list_any}
 use Rattle.std.proofs.lemmas.Bool.Decides.{nat_tests}
 use Rattle.lsp_docs.proofs.Words.{uri_is, uri_flip, uri_same}
 use Rattle.lsp_docs.specs.Calls.{Call, uri_of, changes as changes_by}
-use Rattle.lsp_rpc.specs.View.{changes_view}
+use Rattle.lsp_text.specs.Changes.{edits_of}
 use Rattle.lsp_text.specs.Edits.{Edit}
 use Rattle.lsp_types.specs.declared.change.Change.{Change}
 use Rattle.lsp_types.specs.declared.change.SyncKind.{SyncKind}
 use Rattle.lsp_types.specs.declared.position.Encoding.{Encoding}
-use Rattle.lsp_verdict.specs.Event.{edit_of}
 use Rattle.lsp_verdict.specs.Offences.{renews, left_lost, sets_text}
 use Rattle.lsp_verdict.specs.Spelling.{folded}
 use Rattle.lsp_survey.specs.Notes.{held_by, AreAfter, Leaves, PutsSpelling, Sets, has_uri, is_noted}
@@ -138,21 +137,6 @@ pub nothing_said : (rule : Option ℕ) (other : Bool) (notes : List (Vec ℕ Glo
     → Leaves rule None other None notes notes
 nothing_said rule other notes uri = refl
 
--- nothing was noted before
-pub nothing_noted : (said : Option Call) (notes : List (Vec ℕ Global × Spelling)) → notes ≡ []
-    → AreAfter said notes notes
-nothing_noted None notes none uri = refl
-nothing_noted (Some call) notes none uri =
-    subst (λ (ns : List (Vec ℕ Global × Spelling)). is_noted ns uri
-    ≡ unwrap_or (if bytes_eq uri (uri_of call) then left_lost None false call else None)
-    (is_noted ns uri)) (sym none) (by_test (bytes_eq uri (uri_of call)) (renews call))
-  where
-    by_test : (own renewed : Bool) → false
-        ≡ unwrap_or (if own then (if renewed then Some false else None) else None) false
-    by_test true true = refl
-    by_test true false = refl
-    by_test false renewed = refl
-
 -- it leaves all notes as they are
 pub notes_stay : (call : Call) (notes : List (Vec ℕ Global × Spelling))
     → left_lost None false call ≡ None → AreAfter (Some call) notes notes
@@ -169,31 +153,18 @@ pub kept_leaves : (call : Call) → renews call ≡ false → left_lost None fal
 kept_leaves call is = ap (λ (b : Bool). if b then Some false else None) is
 
 -- changes with one of the whole text
-pub any_renews : (changes seen : List Change) → seen ≡ changes → (b : Bool)
-    → b ≡ list_any (λ (change : Change). is_none change.span) seen
-    → list_any (λ (edit : Edit). is_none edit.span) (map edit_of (changes_view changes)) ≡ b
-any_renews changes seen same b is =
-    in_all changes ∙ ap (list_any (λ (change : Change). is_none change.span)) (sym same) ∙ sym is
-  where
-    in_all : (cs : List Change)
-        → list_any (λ (edit : Edit). is_none edit.span) (map edit_of (changes_view cs))
-        ≡ list_any (λ (change : Change). is_none change.span) cs
-    in_all [] = refl
-    in_all (c ∷ cs) = ap (λ (o : Bool). is_none c.span || o) (in_all cs)
+pub any_renews : (changes : List Change)
+    → list_any (λ (edit : Edit). is_none edit.span) (edits_of changes)
+    ≡ list_any (λ (change : Change). is_none change.span) changes
+any_renews [] = refl
+any_renews (c ∷ cs) = ap (λ (b : Bool). is_none c.span || b) (any_renews cs)
 
-positive : (n : ℕ) → 0 < n → true ≡ not (n == 0)
+positive : (n : ℕ) → 0 < n → not (n == 0) ≡ true
 positive n some = grind (arith, nat_tests)
 
 -- a list of changes, or none
 pub some_changes : (enc : Encoding) (kind : SyncKind) (uri : List ℕ) (number : ℤ)
-    (changes : Vec Change Global) (empty : Bool) → empty ≡ (vec_len changes == 0)
-    → sets_text (changes_by enc kind uri number (map edit_of (changes_view changes.items)))
-    ≡ not empty
-some_changes enc kind uri number changes empty is =
-    by_length changes.items (vec_len changes) (changes.ok.0) ∙ ap not (sym is)
-  where
-    by_length : (cs : List Change) (n : ℕ) → n ≡ length cs
-        → sets_text (changes_by enc kind uri number (map edit_of (changes_view cs)))
-        ≡ not (n == 0)
-    by_length [] n e = ap (λ (k : ℕ). not (k == 0)) (sym e)
-    by_length (c ∷ cs) n e = positive n (omega (arith, e))
+    (changes : List Change)
+    → not (length changes == 0) ≡ sets_text (changes_by enc kind uri number (edits_of changes))
+some_changes enc kind uri number [] = refl
+some_changes enc kind uri number (c ∷ cs) = positive (length (c ∷ cs)) (omega arith)

@@ -2,13 +2,11 @@
 use Rattle.std.specs.Prelude.{◌≡◌, ◌&&◌, ◌||◌, ◌∷◌, ◌++◌, [], ℕ, List, Bool, false, true, Option}
 use Rattle.std.specs.Prelude.{None, Some, is_some, option_and_then, option_map, unwrap_or}
 use Rattle.lsp_docs.specs.Calls.{Call}
-use Rattle.lsp_docs.specs.State as docs
 use Rattle.lsp_docs.specs.Documents.{Terms}
-use Rattle.lsp_replay.specs.Telling.{MaySpeak, Stood, kept_before, rule_of}
+use Rattle.lsp_replay.specs.Telling.{rule_of}
 use Rattle.lsp_rpc.specs.Ident.{id_view}
 use Rattle.lsp_rpc.specs.Message.{Message}
 use Rattle.lsp_rpc.specs.Outline.{outline}
-use Rattle.lsp_rpc.specs.declared.act.Spoken.{Spoken}
 use Rattle.lsp_rpc.specs.declared.message.Id.{Id}
 use Rattle.lsp_session.specs.Sent.{Sent}
 use Rattle.lsp_session.specs.State as session
@@ -19,12 +17,11 @@ use Rattle.lsp_types.specs.declared.side.Side.{Side}
 use Rattle.lsp_verdict.specs.Event.{calls, Event, message, sent_in}
 use Rattle.lsp_verdict.specs.Heard.{Heard, notes_of}
 use Rattle.lsp_verdict.specs.LookBack.{first_of}
-use Rattle.lsp_verdict.specs.Offences.{IsNoted, Noted, asks, breaks_handshake, broken_by}
+use Rattle.lsp_verdict.specs.Offences.{Noted, asks, breaks_handshake, broken_by}
 use Rattle.lsp_verdict.specs.Offences.{brought_by, events_of, follows, is_handshake_lost}
 use Rattle.lsp_verdict.specs.Offences.{is_initialized_by, is_lost, is_passed, is_reopened}
 use Rattle.lsp_verdict.specs.Offences.{is_unheard, kept_of, may_answer, wants_handshake, wants_text}
 use Rattle.lsp_verdict.specs.Placed.{Raw, broken, content, show}
-use Rattle.lsp_verdict.specs.declared.counts.Counts.{Counts}
 
 -- **on these terms this is lost after these events**
 pub record AreLosses (terms : Terms) (l : Losses) (notes : List Noted) : Type 0 where
@@ -81,16 +78,6 @@ pub record IsNotedIn (terms : Terms) (before : List Noted) (event : Event)
     pub noted : Leaves rule (option_and_then brought_by malformed)
         (is_reopened terms (calls (kept_of terms (events_of before))) said) said
         old.documents.map.entries new.documents.map.entries
-
--- **this event after these offends by this rule**, and is this message or none; what is held is
--- that before it
-pub record Offends (messages : session.State) (documents : docs.State) (counts : Counts)
-    (raw : Raw) (rule : ℕ) (spoken : Option Spoken) (terms : Terms) (before : List Heard)
-    (h : Heard) : Type 0 where
-  pub stood : Stood terms messages documents counts (before ++ h ∷ [])
-  pub noted : IsNoted raw h.note
-  pub breaks : rule_of terms before h ≡ Some rule
-  pub speaks : MaySpeak (kept_before terms before) h.note.event spoken
 
 -- whether an event after these offends and follows from an earlier one
 abbrev pub follows_at : Terms → List Heard → Heard → Bool

@@ -95,14 +95,6 @@ abbrev pub is_noted_lost : List (Vec ℕ Global × Spelling) → Option Call →
 is_noted_lost notes None = false
 is_noted_lost notes (Some call) = is_noted notes (uri_of call)
 
--- what is said about a document, which is opened again with another text or not, and sets its text
--- or not, leaves it lost where it breaks the rule
-abbrev pub loses_by : ℕ → Bool → Bool → Bool
-loses_by rule other sets =
-    if rule == rules.DOCUMENT_ALREADY_OPEN then other
-    else sets || (rule == rules.DOCUMENT_NOT_OPEN ||
-    (rule == rules.SAVED_TEXT_DIFFERS || rule == rules.SNAPSHOT_DIFFERS))
-
 -- ---- a malformed message
 
 -- what this message was to do, if a content reads as one

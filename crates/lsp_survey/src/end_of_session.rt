@@ -1,18 +1,18 @@
 //! How the session of a log ends.
-ghost use Rattle.std.specs.Prelude.{◌≡◌, ◌++◌, ◌+◌, ◌<◌, ◌^◌, [], List, map, IfOk, OnOk, length};
+ghost use Rattle.std.specs.Prelude.{◌≡◌, ◌++◌, ◌+◌, ◌<◌, ◌^◌, List, map, IfOk, OnOk, length};
 ghost use Rattle.std.specs.Prelude.{option_map};
 ghost use Rattle.lsp_docs.specs.Documents.{Terms};
 ghost use Rattle.lsp_replay.specs.LogEvents.{flaw_of};
-ghost use Rattle.lsp_replay.specs.Standing.{Follows, Holds};
+ghost use Rattle.lsp_replay.specs.Standing.{Holds};
 ghost use Rattle.lsp_replay.specs.Telling.{Stood};
 ghost use Rattle.lsp_survey.specs.SessionEnds.{lack_by, listed_by, rest_rule, ends_held};
-ghost use Rattle.lsp_verdict.specs.Given.{AreCounts, as_given, offence_view, verdict_view};
+ghost use Rattle.lsp_verdict.specs.Given.{AreCounts, offence_view, verdict_view};
 ghost use Rattle.lsp_verdict.specs.Event.{Event};
 ghost use Rattle.lsp_verdict.specs.Heard.{Heard};
-ghost use Rattle.lsp_verdict.specs.Survey.{by_itself, first_verdict};
-ghost use Rattle.lsp_verdict.specs.Verdict.{bad_log_of, summary, yes};
+ghost use Rattle.lsp_verdict.specs.Survey.{by_itself};
+ghost use Rattle.lsp_verdict.specs.Verdict.{bad_log_of};
 
-use lsp_replay::{End, Events, LogEvents, summary_of};
+use lsp_replay::{End, Events, LogEvents};
 use lsp_rpc::{Result, Side};
 use lsp_text::Lined;
 use lsp_types::rules;
@@ -59,24 +59,6 @@ pub fn session_end(
     let lack = lack(held, editor, server, completeness);
     list(&mut listed, counts, lack, Who::Editor)?;
     Ok(SessionEnd { listed, bad: None })
-}
-
-/// The verdict where nothing is listed: the fault of the log, else Yes.
-///
-/// # Errors
-/// `Memory` where memory was refused.
-pub fn sound(held: &Events<Lined>, bad: Option<Verdict>) -> Result<Verdict>
-    ensures { IfOk result (λ verdict. (events : List Event)
-        → Follows held.now.session held.now.docs held.now.counts events
-        → as_given (yes (summary held.now.docs.terms events))
-        ≡ yes (summary held.now.docs.terms events)
-        → verdict_view verdict ≡ first_verdict [] (option_map verdict_view bad)
-        (summary held.now.docs.terms events)) }
-{
-    match bad {
-        Some(verdict) => Ok(verdict),
-        None => Ok(Verdict::Yes(summary_of(held.docs.alloc(), held)?)),
-    }
 }
 
 /// Lists the offence of the end by this rule, if one is broken, whose it is.

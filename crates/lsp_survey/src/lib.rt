@@ -18,11 +18,11 @@ mod run;
 mod survey;
 mod text;
 
-pub use end_of_session::{SessionEnd, session_end, sound};
+pub use end_of_session::{SessionEnd, session_end};
 pub use laws::{all_shown_is_report, one_all_shown, one_kept_text};
 pub use losses::Losses;
 pub use lsp_verdict::Listing;
-pub use notes::{folded, forget, uri_in};
+pub use notes::{folded, forget};
 pub use offence_count::OffenceCount;
 pub use run::{run_show_all, run_survey};
 pub use text::run_text_all;

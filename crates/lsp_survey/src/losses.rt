@@ -1,35 +1,35 @@
 //! What the offences so far have left lost, so that later ones follow from them.
-ghost use Rattle.std.specs.Prelude.{◌≡◌, ◌&&◌, ◌||◌, ◌==◌, ℕ, ℤ, [], List, Option, None, Some};
-ghost use Rattle.std.specs.Prelude.{IfOk, OnErr, false, option_map, true};
-ghost use Rattle.lsp_docs.specs.Calls.{shows};
+ghost use Rattle.std.specs.Prelude.{◌≡◌, ◌&&◌, ◌||◌, ◌==◌, ℕ, [], List, Option, None, Some};
+ghost use Rattle.std.specs.Prelude.{IfOk, OnErr, OnOk, false, option_map, true};
+ghost use Rattle.lsp_docs.specs.Calls.{Call as SpecCall};
 ghost use Rattle.lsp_docs.specs.Documents.{Terms};
+ghost use Rattle.lsp_docs.specs.State as documents;
+ghost use Rattle.lsp_docs.specs.Taken.{call_view};
 ghost use Rattle.lsp_replay.specs.Standing.{Holds};
 ghost use Rattle.lsp_replay.specs.Telling.{IsSeen, rule_of};
 ghost use Rattle.lsp_rpc.specs.Message.{Message as AMessage};
-ghost use Rattle.lsp_rpc.specs.View.{act_view, message_view};
+ghost use Rattle.lsp_rpc.specs.View.{message_view};
 ghost use Rattle.lsp_session.specs.Sent.{other_side, response_id, same_side};
 ghost use Rattle.lsp_session.specs.State.{Stands};
-ghost use Rattle.lsp_survey.specs.Lost.{AreLosses, HoldsSent, IsMessageOf, IsNotedIn, Offends};
-ghost use Rattle.lsp_survey.specs.Lost.{WasTold, follows_of, may_lose};
-ghost use Rattle.lsp_survey.specs.Notes.{is_noted, is_noted_lost, has_any, sides_failed};
-ghost use Rattle.lsp_types.specs.declared.change.SyncKind.{SyncKind};
-ghost use Rattle.lsp_types.specs.declared.position.Encoding.{Encoding};
+ghost use Rattle.lsp_survey.specs.Lost.{AreLosses, HoldsSent, IsMessageOf, IsNotedIn, WasTold};
+ghost use Rattle.lsp_survey.specs.Lost.{follows_of, may_lose};
+ghost use Rattle.lsp_survey.specs.Notes.{Leaves, has_any, is_noted_lost, sides_failed};
 ghost use Rattle.lsp_types.specs.declared.rules.TheConstants as rules;
 ghost use Rattle.lsp_types.specs.declared.side.Side.TheVariants.{Editor};
-ghost use Rattle.lsp_verdict.specs.Event.{call_of, Event, fault, sent_in, snapshot};
+ghost use Rattle.lsp_verdict.specs.Event.{Event, fault, sent_in};
 ghost use Rattle.lsp_verdict.specs.Heard.{Heard, notes_of};
 ghost use Rattle.lsp_verdict.specs.Given.{raw_view};
 ghost use Rattle.lsp_verdict.specs.Offences.{IsReading, Noted, breaks_handshake, events_of};
 ghost use Rattle.lsp_verdict.specs.Offences.{follows_bytes, follows_passed, is_handshake_lost};
-ghost use Rattle.lsp_verdict.specs.Offences.{kept_of, may_answer, tells_initialized};
-ghost use Rattle.lsp_verdict.specs.Placed as placed;
+ghost use Rattle.lsp_verdict.specs.Offences.{is_reopened, kept_of, may_answer, tells_initialized};
 
 use crate::notes::{
-    Malformed, Notes, Passed, Sides, breaks_handshake, is_on_lost, meant_again, note_kept_act,
-    note_malformed, note_refused, note_refused_act, reopens, wants_handshake, wants_text,
+    Malformed, Notes, Passed, Sides, breaks_handshake, meant_again, note_kept, note_malformed,
+    note_refused, wants_handshake, wants_text,
 };
-use lsp_replay::{Events, Seen};
-use lsp_rpc::{Message, Result, Side, Spoken};
+use lsp_docs::Call;
+use lsp_replay::{Events, Fate, Seen};
+use lsp_rpc::{Message, Result, Side};
 use lsp_session::Session;
 use lsp_text::Lined;
 use lsp_types::rules;
@@ -70,112 +70,109 @@ impl Losses {
     /// # Errors
     /// `Memory` where memory was refused.
     #[inline(always)]
-    pub fn tell(&mut self, held: &Events<Lined>, seen: Seen<'_>) -> Result<bool>
+    pub fn tell(&mut self, held: &Events<Lined>, seen: &Seen<'_>) -> Result<bool>
         ensures told { IfOk result (λ late. (terms : Terms) (before : List Heard) (h : Heard)
             → AreLosses terms self.old (notes_of before)
-            → IsSeen held.now.session held.now.docs held.now.counts seen.entry terms before h
+            → IsSeen held.now.session held.now.docs held.now.counts seen.now terms before h
             → WasTold self.new terms before h late) }
         ensures memory { OnErr result ((terms : Terms) (before : List Heard) (h : Heard)
-            → IsSeen held.now.session held.now.docs held.now.counts seen.entry terms before h
+            → IsSeen held.now.session held.now.docs held.now.counts seen.now terms before h
             → may_lose h.raw (rule_of terms before h) ≡ true) }
     {
-        match seen {
-            Seen::Message { side, spoken, .. } => {
+        match seen.fate {
+            Fate::Kept(_) => {
+                let Raw::Content { side, .. } = seen.raw else {
+                    return Ok(false);
+                };
                 self.sides = self.sides.after_message(side);
-                note_kept_act(&mut self.documents, &spoken.act)?;
+                note_kept(&mut self.documents, seen.call)?;
                 Ok(false)
             }
-            Seen::Snapshot { .. } => Ok(false),
-            Seen::Offence {
-                raw,
-                rule,
-                spoken,
-                ..
-            } => self.offend(held, raw, rule, spoken),
+            Fate::Offends { rule, .. } => self.offend(held, seen, rule),
         }
     }
 
-    /// An event offends by this rule, and is this message or none; session and documents are those
-    /// before it. Whether it follows from an earlier one.
-    fn offend(
-        &mut self,
-        held: &Events<Lined>,
-        raw: Raw<'_>,
-        rule: u16,
-        spoken: Option<&Spoken>,
-    ) -> Result<bool>
+    /// An event offends by this rule; session and documents are those before it. Whether it follows
+    /// from an earlier one.
+    fn offend(&mut self, held: &Events<Lined>, seen: &Seen<'_>, rule: u16) -> Result<bool>
         ensures told { IfOk result (λ late. (terms : Terms) (before : List Heard) (h : Heard)
             → AreLosses terms self.old (notes_of before)
-            → Offends held.now.session held.now.docs held.now.counts (raw_view raw.entry) rule
-            (option_map (λ s. s.now) spoken.entry) terms before h
-            → WasTold self.new terms before h late) }
-        ensures memory { OnErr result (may_lose (raw_view raw.entry) (Some rule) ≡ true) }
+            → IsSeen held.now.session held.now.docs held.now.counts seen.now terms before h
+            → rule_of terms before h ≡ Some rule → WasTold self.new terms before h late) }
+        ensures memory { OnErr result (may_lose (raw_view seen.now.raw) (Some rule) ≡ true) }
     {
-        match raw {
-            Raw::Content { side, content } => {
-                self.offend_content(held, side, rule, content, spoken)
-            }
+        match seen.raw {
+            Raw::Content { side, content } => match seen.spoken {
+                Some(spoken) => self.offend_message(held, side, rule, &spoken.message, seen.call),
+                None => self.offend_unread(held.docs.alloc(), &held.session, side, rule, content),
+            },
             Raw::Broken { side, .. } => Ok(self.offend_fault(&held.session, side, rule, false)),
-            Raw::Snapshot { uri, .. } => self.offend_shown(&held.session, rule, uri),
+            Raw::Snapshot { .. } => self.offend_call(held, rule, seen.call, false),
         }
     }
 
-    /// A content of a side offends, which is this message or none.
-    fn offend_content(
-        &mut self,
-        held: &Events<Lined>,
-        side: Side,
-        rule: u16,
-        content: &[u8],
-        spoken: Option<&Spoken>,
-    ) -> Result<bool>
-        ensures { IfOk result (λ late. (terms : Terms) (before : List Heard) (h : Heard)
-            → AreLosses terms self.old (notes_of before)
-            → Offends held.now.session held.now.docs held.now.counts
-            (placed.content side content.now) rule
-            (option_map (λ s. s.now) spoken.entry) terms before h
-            → WasTold self.new terms before h late) }
-    {
-        match spoken {
-            Some(spoken) => self.offend_message(held, side, rule, spoken),
-            None => self.offend_unread(held.docs.alloc(), &held.session, side, rule, content),
-        }
-    }
-
-    /// A message of a side offends.
+    /// A message of a side offends, with what it says about a document, if it says anything.
     fn offend_message(
         &mut self,
         held: &Events<Lined>,
         side: Side,
         rule: u16,
-        spoken: &Spoken,
+        message: &Message,
+        said: Option<Call<'_>>,
     ) -> Result<bool>
         ensures { IfOk result (λ late. (terms : Terms) (before : List Noted) (event : Event)
-            (enc : Encoding) (kind : SyncKind) → AreLosses terms self.old before
-            → held.now.docs.terms ≡ terms
+            → AreLosses terms self.old before → held.now.docs.terms ≡ terms
             → Holds held.now.session held.now.docs (kept_of terms (events_of before))
-            → IsMessageOf side (message_view spoken.now.message) event
-            → (late ≡ follows_of terms before rule (is_noted_lost self.old.documents.map.entries
-            (call_of enc kind (act_view spoken.now.act))) (follows_passed terms rule before event
+            → IsMessageOf side (message_view message.now) event
+            → (late ≡ follows_of terms before rule
+            (is_noted_lost self.old.documents.map.entries (option_map call_view said.entry))
+            (follows_passed terms rule before event
             || follows_bytes rule (events_of before) event))
-            × IsNotedIn terms before event None (call_of enc kind (act_view spoken.now.act))
+            × IsNotedIn terms before event None (option_map call_view said.entry)
             (Some rule) self.old self.new) }
     {
-        let breaks = breaks_handshake(false, rule);
-        let unheard = self.unheard_after(side, &spoken.message);
-        let other = reopens(&held.docs, &spoken.act);
-        let on_lost = is_on_lost(&self.documents, &spoken.act)?;
-        let late = self.message_follows(side, rule, &spoken.message);
-        let follows = self.follows(&held.session, rule, on_lost, late);
-        self.handshake = self.handshake_after(breaks);
+        let unheard = self.unheard_after(side, message);
+        let late = self.message_follows(side, rule, message);
+        let follows = self.offend_call(held, rule, said, late)?;
         self.sides = self.sides.after_message(side);
-        note_refused_act(&mut self.documents, rule, other, &spoken.act)?;
-        self.passed.note(side, rule, &spoken.message)?;
+        self.passed.note(side, rule, message)?;
         self.unheard = unheard;
         Ok(follows)
     }
 
-    /// A content of a side offends that is no message, or one whose params don't have their shape.
+    /// A message or a snapshot offends, with what it says about a document, if it says anything. It
+    /// is `late` if it follows from bytes that failed, or from a message that was passed over.
+    fn offend_call(
+        &mut self,
+        held: &Events<Lined>,
+        rule: u16,
+        said: Option<Call<'_>>,
+        late: bool,
+    ) -> Result<bool>
+        ensures stays { OnOk result (self.new ≡ record self.old {
+          documents = self.new.documents;
+          handshake = self.old.handshake || breaks_handshake false rule;
+        }) }
+        ensures noted { OnOk result ((calls : List SpecCall) → documents.Stands held.now.docs calls
+            → Leaves (Some rule) None
+            (is_reopened held.now.docs.terms calls (option_map call_view said.entry))
+            (option_map call_view said.entry) self.old.documents.map.entries
+            self.new.documents.map.entries) }
+        ensures follows { IfOk result (λ follows. (terms : Terms) (before : List Noted)
+            → AreLosses terms self.old before → HoldsSent held.now.session terms before
+            → follows ≡ follows_of terms before rule
+            (is_noted_lost self.old.documents.map.entries (option_map call_view said.entry))
+            late) }
+    {
+        let on_lost = self.documents.is_lost(said)?;
+        let follows = self.follows(&held.session, rule, on_lost, late);
+        let breaks = breaks_handshake(false, rule);
+        self.handshake = self.handshake_after(breaks);
+        note_refused(&mut self.documents, &held.docs, rule, said)?;
+        Ok(follows)
+    }
+
+    /// A content of a side offends that is no message, or is one whose params have the wrong shape.
     fn offend_unread(
         &mut self,
         alloc: Global,
@@ -203,23 +200,6 @@ impl Losses {
         Ok(follows)
     }
 
-    /// A snapshot of the document of this URI offends.
-    fn offend_shown(&mut self, session: &Session, rule: u16, uri: &str) -> Result<bool>
-        ensures { IfOk result (λ late. (terms : Terms) (before : List Noted) (number : ℤ)
-            (text : List ℕ) → AreLosses terms self.old before → HoldsSent session.now terms before
-            → (late ≡ follows_of terms before rule
-            (is_noted self.old.documents.map.entries uri.now) false)
-            × IsNotedIn terms before (snapshot uri.now number text) None
-            (Some (shows uri.now number text)) (Some rule) self.old self.new) }
-    {
-        let on_lost = self.documents.is_lost(uri)?;
-        let follows = self.follows(session, rule, on_lost, false);
-        let breaks = breaks_handshake(false, rule);
-        self.handshake = self.handshake_after(breaks);
-        note_refused(&mut self.documents, rule, uri, false, false)?;
-        Ok(follows)
-    }
-
     /// A frame or a content of a side offends; the content may ask for the handshake.
     fn offend_fault(&mut self, session: &Session, side: Side, rule: u16, asks: bool) -> bool
         ensures stays { self.new ≡ record self.old {
@@ -241,7 +221,7 @@ impl Losses {
         follows
     }
 
-    /// Whether an event of the handshake was refused, once one is that breaks it or doesn't.
+    /// Whether an event of the handshake was refused, or the next event `breaks` it.
     fn handshake_after(&self, breaks: bool) -> bool
         ensures { result ≡ (self.now.handshake || breaks) }
     {
@@ -296,9 +276,9 @@ impl Losses {
         rule == rules::RESPONSE_TO_NO_OPEN_REQUEST && self.passed.answers(side, message)
     }
 
-    /// Whether an offence by this rule follows from an earlier one, where its event speaks of a
-    /// lost document or doesn't, and is late or isn't: follows from bytes that failed or from a
-    /// request that was passed over.
+    /// Whether an offence by this rule follows from an earlier one. It may be `on_lost`, about a
+    /// document that is lost, or `late`, the result of bytes that failed or of a message that was
+    /// passed over.
     fn follows(&self, session: &Session, rule: u16, on_lost: bool, late: bool) -> bool
         ensures { (terms : Terms) (before : List Noted) → AreLosses terms self.now before
             → HoldsSent session.now terms before

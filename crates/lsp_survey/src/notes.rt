@@ -16,10 +16,7 @@ mod sides;
 mod spelling;
 
 pub use by_id::forget;
-pub use documents::uri_in;
-pub(crate) use documents::{
-    is_on_lost, note_kept_act, note_malformed, note_refused, note_refused_act, reopens,
-};
+pub(crate) use documents::{note_kept, note_malformed, note_refused};
 pub(crate) use malformed::{Malformed, meant_again};
 pub(crate) use note::Notes;
 pub(crate) use passed::Passed;

@@ -2,17 +2,18 @@
 ghost use Rattle.std.specs.Prelude.{◌≡◌, ◌++◌, ◌∷◌, ◌<◌, ◌^◌, ◌||◌, not, [], List, None, IfOk};
 ghost use Rattle.std.specs.Prelude.{OnErr, OnOk, length, map, option_map, string_bytes, true};
 ghost use Rattle.lsp_docs.specs.Documents.{Terms};
+ghost use Rattle.lsp_replay.specs.Standing.{Follows};
 ghost use Rattle.lsp_replay.specs.Telling.{Stood};
 ghost use Rattle.lsp_survey.specs.Reported.{IsTally, count_line, is_every, lines_of, verdict_lines};
-ghost use Rattle.lsp_verdict.specs.Given.{offence_view, verdict_view};
+ghost use Rattle.lsp_verdict.specs.Event.{Event};
+ghost use Rattle.lsp_verdict.specs.Given.{as_given, offence_view, verdict_view};
 ghost use Rattle.lsp_verdict.specs.Heard.{Heard, heard_events};
 ghost use Rattle.lsp_verdict.specs.Offences.{Offence as SpecOffence};
 ghost use Rattle.lsp_verdict.specs.Report.{report};
 ghost use Rattle.lsp_verdict.specs.Survey.{bad_lines, first_verdict};
-ghost use Rattle.lsp_verdict.specs.Verdict.{first_no, summary};
+ghost use Rattle.lsp_verdict.specs.Verdict.{first_no, summary, yes};
 
-use crate::end_of_session::sound;
-use lsp_replay::Events;
+use lsp_replay::{Events, summary_of};
 use lsp_rpc::Result;
 use lsp_text::Lined;
 use lsp_verdict::{Listing, Offence, Verdict, found_report, offence_report, verdict_report};
@@ -145,6 +146,24 @@ impl OffenceCount {
         }
         let count = found_report(*text.allocator(), self.found, self.following)?;
         Ok(text.push_str(count.as_str())?)
+    }
+}
+
+/// The verdict where nothing is listed: the fault of the log, else Yes.
+///
+/// # Errors
+/// `Memory` where memory was refused.
+fn sound(held: &Events<Lined>, bad: Option<Verdict>) -> Result<Verdict>
+    ensures { IfOk result (λ verdict. (events : List Event)
+        → Follows held.now.session held.now.docs held.now.counts events
+        → as_given (yes (summary held.now.docs.terms events))
+        ≡ yes (summary held.now.docs.terms events)
+        → verdict_view verdict ≡ first_verdict [] (option_map verdict_view bad)
+        (summary held.now.docs.terms events)) }
+{
+    match bad {
+        Some(verdict) => Ok(verdict),
+        None => Ok(Verdict::Yes(summary_of(held.docs.alloc(), held)?)),
     }
 }
 

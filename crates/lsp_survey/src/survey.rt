@@ -10,7 +10,7 @@ ghost use Rattle.lsp_verdict.specs.Heard.{Heard, heard_events};
 use crate::end_of_session::{SessionEnd, session_end};
 use crate::losses::Losses;
 use crate::offence_count::OffenceCount;
-use lsp_replay::{Account, End, Events, Flow, LogEvents, Seen, last_offence, push_kept_line};
+use lsp_replay::{Account, End, Events, Fate, Flow, LogEvents, Seen, last_offence, push_kept_line};
 use lsp_rpc::Result;
 use lsp_text::Lined;
 use lsp_verdict::{Completeness, Lines, Listing, Outcome};
@@ -50,9 +50,9 @@ impl Survey {
     }
 
     /// Adds the line of an event that is kept to a text, where those are shown.
-    fn show(&self, held: &Events<Lined>, seen: Seen<'_>, text: &mut String) -> Result<()>
+    fn show(&self, held: &Events<Lined>, seen: &Seen<'_>, text: &mut String) -> Result<()>
         ensures shown { OnOk result ((terms : Terms) (before : List Heard) (h : Heard)
-            → IsSeen held.now.session held.now.docs held.now.counts seen.entry terms before h
+            → IsSeen held.now.session held.now.docs held.now.counts seen.now terms before h
             → rule_of terms before h ≡ None
             → string_bytes text.new ≡ string_bytes text.old
             ++ kept_line self.now.options.lines (heard_events before) h.note.event) }
@@ -75,13 +75,13 @@ impl Account for Survey {
     ghost stands = { SurveyStands };
 
     #[inline(always)]
-    fn event(&mut self, held: &Events<Lined>, seen: Seen<'_>, text: &mut String) -> Result<Flow> {
+    fn event(&mut self, held: &Events<Lined>, seen: &Seen<'_>, text: &mut String) -> Result<Flow> {
         let follows = self.losses.tell(held, seen)?;
-        let Seen::Offence { raw, rule, .. } = seen else {
+        let Fate::Offends { rule, .. } = seen.fate else {
             self.show(held, seen, text)?;
             return Ok(Flow::GoOn);
         };
-        let offence = last_offence(&held.counts, raw, rule, follows);
+        let offence = last_offence(&held.counts, seen.raw, rule, follows);
         let listing = self.options.listing;
         self.tally.list(listing, &offence, text)?;
         Ok(Flow::GoOn)

@@ -1,12 +1,14 @@
 //! Which documents are lost.
-ghost use Rattle.std.specs.Prelude.{◌≡◌, [], false, List, ℕ, IfOk, None, OnOk, Some, true};
-ghost use Rattle.std.specs.Prelude.{if◌then◌else◌};
+ghost use Rattle.std.specs.Prelude.{◌≡◌, false, List, ℕ, IfOk, None, OnOk, Some, true};
+ghost use Rattle.std.specs.Prelude.{if◌then◌else◌, option_map};
 ghost use Rattle.std.specs.Str.{bytes_eq};
+ghost use Rattle.lsp_docs.specs.Taken.{call_view};
 ghost use Rattle.lsp_survey.specs.Notes.{PutsSpelling, Sets, SetsAlike, has_uri, is_lost_in};
-ghost use Rattle.lsp_survey.specs.Notes.{is_noted, lost_among, spelling_in};
+ghost use Rattle.lsp_survey.specs.Notes.{is_noted, is_noted_lost, lost_among, spelling_in};
 
 use crate::notes::spelling::folded;
 use indexmap::IndexMap;
+use lsp_docs::Call;
 use lsp_rpc::Result;
 use std::alloc::Global;
 
@@ -74,23 +76,21 @@ impl Notes {
         }
     }
 
-    /// Whether nothing is noted of any.
-    pub(crate) fn is_empty(&self) -> bool
-        ensures { result ≡ true → self.now.map.entries ≡ [] }
-    {
-        self.map.is_empty()
-    }
-
-    /// Whether the document of this URI is lost.
+    /// Whether what is said, if anything, is about a document that is lost.
     ///
     /// # Errors
     /// `Memory` where memory was refused.
-    pub(crate) fn is_lost(&self, uri: &str) -> Result<bool>
-        ensures { IfOk result (λ lost. lost ≡ is_noted self.now.map.entries uri.now) }
+    pub(crate) fn is_lost(&self, said: Option<Call<'_>>) -> Result<bool>
+        ensures { IfOk result (λ lost. lost
+            ≡ is_noted_lost self.now.map.entries (option_map call_view said.entry)) }
     {
+        let Some(call) = said else {
+            return Ok(false);
+        };
         if self.map.is_empty() {
             return Ok(false);
         }
+        let uri = call.uri();
         let key = folded(*self.map.allocator(), uri)?;
         match self.map.get(&key) {
             Some(spelling) => Ok(spelling.is_lost(uri)),

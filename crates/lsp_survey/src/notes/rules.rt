@@ -1,10 +1,11 @@
-//! What rules say about an offence: whether it may follow from an earlier one, and what it leaves
-//! after.
+//! What its rule says about an offence: whether it may follow from an earlier one, and whether it
+//! leaves the handshake or a document lost.
 ghost use Rattle.std.specs.Prelude.{◌≡◌};
-ghost use Rattle.lsp_verdict.specs.Offences.{breaks_handshake, is_within, wants_handshake};
-ghost use Rattle.lsp_verdict.specs.Offences.{wants_other, wants_text};
-ghost use Rattle.lsp_survey.specs.Notes.{loses_by};
+ghost use Rattle.lsp_docs.specs.Taken.{call_view};
+ghost use Rattle.lsp_verdict.specs.Offences.{breaks_handshake, is_within, loses, sets_text};
+ghost use Rattle.lsp_verdict.specs.Offences.{wants_handshake, wants_other, wants_text};
 
+use lsp_docs::Call;
 use lsp_types::rules;
 
 fn is_within(least: u16, most: u16, rule: u16) -> bool
@@ -76,15 +77,28 @@ pub(crate) fn breaks_handshake(asks: bool, rule: u16) -> bool
     )
 }
 
-/// Whether what is said about a document, which is opened again with another text or not, and sets
-/// its text or not, leaves the held text another than the sender's where it breaks the rule.
-pub(crate) fn loses(rule: u16, other: bool, sets: bool) -> bool
-    ensures { result ≡ loses_by rule other sets }
+/// Whether a call opens its document or changes it, so that its sender has another text.
+fn sets_text(call: Call<'_>) -> bool
+    ensures { result ≡ sets_text (call_view call.entry) }
+{
+    match call {
+        Call::Opens { .. } => true,
+        Call::Changes { changes, .. } => !changes.is_empty(),
+        Call::Closes { .. } => false,
+        Call::Saves { .. } => false,
+        Call::Shows { .. } => false,
+    }
+}
+
+/// Whether a call that breaks this rule leaves the held text another than the sender's. An opening
+/// of an open document does only if it is `reopened` with another version or text.
+pub(crate) fn loses(rule: u16, reopened: bool, call: Call<'_>) -> bool
+    ensures { result ≡ loses rule reopened (call_view call.entry) }
 {
     if rule == rules::DOCUMENT_ALREADY_OPEN {
-        return other;
+        return reopened;
     }
-    if sets {
+    if sets_text(call) {
         return true;
     }
     if rule == rules::DOCUMENT_NOT_OPEN {

@@ -1,42 +1,45 @@
-use Rattle.std.specs.Prelude.{◌||◌}
-use Rattle.std.proofs.Common.{◌∙◌, Bool, Some, None, false, ap, subst}
-use Rattle.lsp_rpc.specs.View.{act_view, message_view}
-use Rattle.lsp_survey.specs.Lost.{follows_of}
-use Rattle.lsp_survey.specs.Notes.{Leaves, is_noted_lost}
-use Rattle.lsp_verdict.specs.Event.{call_of, calls}
-use Rattle.lsp_verdict.specs.Offences.{breaks_handshake, events_of, is_reopened, kept_of}
+use Rattle.std.specs.Prelude.{◌||◌, option_map}
+use Rattle.std.proofs.Common.{◌∙◌, Some, None, false, ap, subst}
 use Rattle.lsp_docs.specs.Documents.{Terms}
+use Rattle.lsp_docs.specs.Taken.{call_view}
+use Rattle.lsp_rpc.specs.View.{message_view}
+use Rattle.lsp_survey.specs.Lost.{follows_of}
+use Rattle.lsp_survey.specs.Notes.{Leaves, Passes, is_noted_lost, sides_read}
+use Rattle.lsp_survey.specs.declared.losses.Losses.{Losses}
+use Rattle.lsp_survey.specs.declared.notes.passed.Passed.{Passed}
+use Rattle.lsp_verdict.specs.Event.{calls}
+use Rattle.lsp_verdict.specs.Offences.{breaks_handshake, events_of, is_reopened, kept_of}
 use Rattle.lsp_survey.proofs.PassedSteps.{message_initialized, message_passes}
 use Rattle.lsp_survey.proofs.SidesSteps.{message_after, message_answers}
 use Rattle.lsp_survey.proofs.losses.Losses.offend_message.Goals as goal
 
 pub returns : goal.returns
-returns c = λ terms before event enc kind losses same holds is.
+returns c = λ terms before event losses same holds is.
     let old = c.args.self.now in
     let side = c.args.side in
     let rule = c.args.rule in
-    let said = message_view c.args.spoken.now.message in
-    let call = call_of enc kind (act_view c.args.spoken.now.act) in
-    let kept = kept_of terms (events_of before) in (
-      c.follows-follows.ensures terms before losses holds.sent
-          ∙ ap (λ on_lost. follows_of terms before rule on_lost c.message_follows-late.result)
-          (c.in_ok-on_lost.ensures enc kind)
+    let message = message_view c.args.message.now in
+    let said = option_map call_view c.args.said in
+    let kept = kept_of terms (events_of before) in
+    let told = c.in_ok-follows.ensures in (
+      told.follows terms before losses holds.sent
           ∙ ap (λ late. follows_of terms before rule
-          (is_noted_lost old.documents.map.entries call) late)
+          (is_noted_lost old.documents.map.entries said) late)
           (c.message_follows-late.ensures terms before event losses is),
       record {
-        is_broken = c.handshake_after-self.ensures
-            ∙ ap (λ b. old.handshake || b) (c.breaks_handshake-breaks.ensures
-            ∙ message_answers side (breaks_handshake false rule) kept said event is);
-        sides = c.after_message-self.ensures ∙ message_after side old.sides said event is;
-        passed = message_passes side said event is rule old.passed c.note.new.self
-            c.in_ok-note.ensures;
+        is_broken = ap (λ (l : Losses). l.handshake) told.stays
+            ∙ ap (λ b. old.handshake || b)
+            (message_answers side (breaks_handshake false rule) kept message event is);
+        sides = c.after_message-self.ensures
+            ∙ ap (λ (l : Losses). sides_read side l.sides) told.stays
+            ∙ message_after side old.sides message event is;
+        passed = message_passes side message event is rule old.passed c.note.new.self
+            (subst (λ (p : Passed). Passes rule side message p c.note.new.self)
+            (ap (λ (l : Losses). l.passed) told.stays) c.in_ok-note.ensures);
         unheard = c.unheard_after-unheard.ensures
-            ∙ ap (λ b. old.unheard || b) (message_initialized side said event is);
-        noted = subst (λ (b : Bool). Leaves (Some rule) None b call old.documents.map.entries
-            c.note_refused_act.new.notes.map.entries)
-            (c.reopens-other.ensures (calls kept) holds.called enc kind
-            ∙ ap (λ (t : Terms). is_reopened t (calls kept) call) same)
-            (c.in_ok-note_refused_act.ensures enc kind);
+            ∙ ap (λ b. old.unheard || b) (message_initialized side message event is);
+        noted = subst (λ (t : Terms). Leaves (Some rule) None (is_reopened t (calls kept) said) said
+            old.documents.map.entries c.offend_call.new.self.documents.map.entries) same
+            (told.noted (calls kept) holds.called);
       },
     )

@@ -1,6 +1,7 @@
 use Rattle.std.specs.Prelude.{◌||◌}
-use Rattle.std.proofs.Common.{◌∙◌, ◌++◌, ◌∷◌, [], ap, refl, string_bytes}
-use Rattle.lsp_replay.proofs.AllHeard.{kept_seen, offence_seen}
+use Rattle.std.proofs.Common.{◌∙◌, ◌++◌, ◌∷◌, [], ap, refl, string_bytes, subst}
+use Rattle.lsp_replay.specs.Telling.{HasFate}
+use Rattle.lsp_replay.proofs.AllHeard.{kept_seen}
 use Rattle.lsp_replay.proofs.Wanting.{on_err}
 use Rattle.lsp_survey.specs.Reported.{lines_of}
 use Rattle.lsp_survey.specs.SurveyRun.{event_said, has_lines}
@@ -18,7 +19,7 @@ returns-in_default c = record {
   says = λ terms before h stands seen.
       let old = c.args.self.now in
       let told = c.in_ok-follows.ensures.told terms before h stands.losses seen in
-      let rule = kept_seen terms before h c.args.seen c.in_default.not-Offence seen.as_is in
+      let rule = kept_seen terms before h c.args.seen.now.fate c.in_default.not-Offends seen.fate in
       record {
         said = event_said old.options terms before h;
         added = c.in_ok-show.ensures.shown terms before h seen rule
@@ -45,17 +46,17 @@ pub returns-in_err-show-clause-memory : goal.returns-in_err-show-clause-memory
 returns-in_err-show-clause-memory c =
     on_err c.from_residual-in_err-show.result (λ terms before h stands seen.
     kept_wants terms before h c.args.self.now.options
-    (kept_seen terms before h c.args.seen c.in_default.not-Offence seen.as_is)
+    (kept_seen terms before h c.args.seen.now.fate c.in_default.not-Offends seen.fate)
     c.in_err-show.ensures.memory)
 
 pub returns-in_err-list-clause-memory : goal.returns-in_err-list-clause-memory
 returns-in_err-list-clause-memory c =
     on_err c.from_residual-in_err-list.result (λ terms before h stands seen.
     let told = c.in_ok-follows.ensures.told terms before h stands.losses seen in
-    let own = offence_seen terms before h c.args.seen _ _ _ _ c.in-Offence.is seen.as_is in
-    let is = offence_is terms before h c.in-Offence.rule _ _ own.1 told.late_is
-    (c.last_offence-offence.ensures before h seen.stood.counted seen.few own.0 seen.noted) in
-    offence_wants terms before h c.args.self.now.options c.in-Offence.rule _ own.1 is
+    let breaks = (subst (HasFate terms before h) c.in-Offends.is seen.fate).0 in
+    let is = offence_is terms before h c.in-Offends.rule _ _ breaks told.late_is
+    (c.last_offence-offence.ensures before h seen.stood.counted seen.few seen.is seen.noted) in
+    offence_wants terms before h c.args.self.now.options c.in-Offends.rule _ breaks is
     c.in_err-list.ensures.memory)
 
 -- it offends
@@ -63,22 +64,22 @@ pub returns-clause-says : goal.returns-clause-says
 returns-clause-says c = λ terms before h stands seen.
     let old = c.args.self.now in
     let told = c.in_ok-follows.ensures.told terms before h stands.losses seen in
-    let own = offence_seen terms before h c.args.seen _ _ _ _ c.in-Offence.is seen.as_is in
-    let is = offence_is terms before h c.in-Offence.rule _ _ own.1 told.late_is
-    (c.last_offence-offence.ensures before h seen.stood.counted seen.few own.0 seen.noted) in
+    let breaks = (subst (HasFate terms before h) c.in-Offends.is seen.fate).0 in
+    let is = offence_is terms before h c.in-Offends.rule _ _ breaks told.late_is
+    (c.last_offence-offence.ensures before h seen.stood.counted seen.few seen.is seen.noted) in
     record {
       said = event_said old.options terms before h;
       added = c.in_ok-list.ensures.said
           ∙ ap (λ (o : Offence). string_bytes c.args.text.now
           ++ lines_of old.options.listing (o ∷ [])) is
           ∙ ap (λ w. string_bytes c.args.text.now ++ w)
-          (offence_said terms before h old.options c.in-Offence.rule own.1);
+          (offence_said terms before h old.options c.in-Offends.rule breaks);
       is = λ rests fits. refl;
       goes = (
         refl,
         record {
           losses = told.losses;
-          tally = offence_tally terms before h _ _ stands.tally c.in-Offence.rule _ own.1 is
+          tally = offence_tally terms before h _ _ stands.tally c.in-Offends.rule _ breaks is
               c.in_ok-list.ensures.tally;
         },
       );
