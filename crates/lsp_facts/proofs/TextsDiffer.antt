@@ -3,7 +3,7 @@ use Rattle.std.proofs.Common.{◌≡◌, ℕ, [], ◌∷◌, List, Option, lengt
 use Rattle.std.proofs.Common.{Some, None, inl, inr, refl, sym, true≢false, Result, Ok, Err, arith, ◌≤◌}
 use Rattle.std.proofs.lemmas.Option.{same_Some, none-some}
 use Rattle.std.specs.Prelude.{codes, option_map, option_and_then, if◌then◌else◌, Bool, is_some}
-use Rattle.std.specs.Prelude.{int_lt, nat_lt, not}
+use Rattle.std.specs.Prelude.{nat_lt}
 use Rattle.std.specs.List.{list_any}
 use Rattle.std.specs.Result.{result_ok}
 use Rattle.std.proofs.lemmas.Slice.Eq.{bytes_eq-Decides}

@@ -78,7 +78,9 @@ fn push_sent(facts: &mut Facts, call: Call<'_>) -> Result<()>
     match call {
         Call::Opens { version, .. } => facts.version("sent", version),
         Call::Changes {
-            version, changes, ..
+            version,
+            changes,
+            ..
         } => {
             facts.version("sent", version)?;
             facts.number("changes", changes.len() as u64)

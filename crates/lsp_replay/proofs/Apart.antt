@@ -1,8 +1,8 @@
--- What a message that is left without its params, and perhaps without the value of its result, means
--- to a session.
+-- What a message that is left without its params, and perhaps without the value of its result,
+-- means to a session.
 use Rattle.std.proofs.Common.{◌≡◌, ℕ, List, [], ◌∷◌, ◌++◌, Some, false, not, inl, inr, refl, sym, ap}
 use Rattle.std.proofs.Common.{◌∙◌, subst}
-use Rattle.std.specs.Prelude.{◌⊎◌, option_map}
+use Rattle.std.specs.Prelude.{◌⊎◌}
 use Rattle.lsp_rpc.specs.Message.{Message, request, notification, response, result, error}
 use Rattle.lsp_rpc.specs.Outline.{outline, without_params, without_result}
 use Rattle.lsp_rpc.specs.View.{act_view, message_view}

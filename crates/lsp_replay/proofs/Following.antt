@@ -9,7 +9,7 @@ use Rattle.lsp_docs.specs.Documents.{Terms}
 use Rattle.lsp_docs.specs.declared.call.Took.{Took}
 use Rattle.lsp_verdict.specs.Event.{Event, message, fault, snapshot}
 use Rattle.lsp_verdict.specs.Placed.{ReadsAs, Raw, content, broken, show, Reads}
-use Rattle.lsp_verdict.specs.Given.{AreCounts, whose_raw}
+use Rattle.lsp_verdict.specs.Given.{whose_raw}
 use Rattle.lsp_verdict.specs.Verdict.{offence, first_no, no_at, no_by, whose, who_of}
 use Rattle.lsp_verdict.specs.declared.counts.Counts.{Counts}
 use Rattle.lsp_verdict.proofs.LookBackLemmas.{first_of-snoc}

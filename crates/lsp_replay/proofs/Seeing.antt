@@ -1,24 +1,29 @@
 -- What is held once one more event was heard, and how the event was seen.
-use Rattle.std.proofs.Common.{◌≡◌, ℕ, List, [], ◌∷◌, ◌++◌, Option, Some, None, refl, sym, ap, subst, ◌∙◌}
+use Rattle.std.proofs.Common.{◌≡◌, Bor, ℕ, List, [], ◌∷◌, ◌++◌, Option, Some, None, sym, ap, subst, ◌∙◌}
 use Rattle.std.proofs.lemmas.List.{map-append}
 use Rattle.lsp_session.specs.State as session
 use Rattle.lsp_docs.specs.Documents.{Terms}
 use Rattle.lsp_docs.specs.State as docs
 use Rattle.lsp_docs.specs.Tried.{Made}
 use Rattle.lsp_docs.specs.declared.call.Took.{Took}
+use Rattle.lsp_rpc.specs.declared.act.Spoken.{Spoken}
+use Rattle.lsp_session.specs.Sent.{Sent}
+use Rattle.lsp_docs.specs.Taken.{call_view}
+use Rattle.lsp_docs.specs.declared.call.Call as code_call
+use Rattle.std.specs.Prelude.{option_map}
 use Rattle.lsp_types.specs.declared.side.Side.{Side}
-use Rattle.lsp_replay.specs.Keeping.{IsKept, IsRead, IsSound, RefusesEvent, Tries}
+use Rattle.lsp_replay.specs.Keeping.{IsKept, IsSound, RefusesEvent, Tries}
 use Rattle.lsp_replay.specs.Standing.{CanWantMemory, Holds}
-use Rattle.lsp_replay.specs.Telling.{Comes, HasFate, IsSeen, Stood, kept_before, rule_of, took_of}
+use Rattle.lsp_replay.specs.Telling.{Comes, HasFate, IsSeen, MaySpeak, Saw, ShowsFault, Stood, kept_before, rule_of, took_of}
 use Rattle.lsp_replay.specs.Tries.{TriesCall}
-use Rattle.lsp_replay.specs.declared.events.ReadEvent.{ReadEvent}
 use Rattle.lsp_replay.specs.declared.fault.Fault.{Fault}
 use Rattle.lsp_replay.specs.declared.fault.Fault.TheVariants as own
 use Rattle.lsp_replay.specs.declared.seen.Fate.{Fate}
 use Rattle.lsp_replay.specs.declared.seen.Fate.TheVariants as fates
-use Rattle.lsp_replay.specs.declared.seen.Seen.{Seen}
+use Rattle.lsp_replay.specs.declared.seen.Flow.{Flow}
+use Rattle.lsp_replay.specs.Run.{Run}
 use Rattle.lsp_replay.proofs.Following.{whose_read}
-use Rattle.lsp_verdict.specs.Event.{calls, call_at, Event, fault as broken_rule}
+use Rattle.lsp_verdict.specs.Event.{calls, call_at, Event, fault as broken_rule, message}
 use Rattle.lsp_verdict.specs.Placed.{Raw, Reads}
 use Rattle.lsp_verdict.specs.Given.{AreCounts, raw_view, whose_raw}
 use Rattle.lsp_verdict.specs.Heard.{Heard, heard_events, notes_of}
@@ -28,10 +33,6 @@ use Rattle.lsp_verdict.specs.declared.counts.Counts.{Counts}
 use Rattle.lsp_verdict.specs.declared.raw.Raw as code
 use Rattle.lsp_verdict.proofs.Offences.Steps.{events_of-push, kept-push, kept-refused}
 use Rattle.lsp_verdict.proofs.OneEvent.{one_read}
-
-abbrev pub seen_of : ReadEvent → Fate → Seen
-seen_of read fate =
-    record { raw = read.raw; spoken = read.spoken; call = read.call; fate = fate }
 
 pub events-push : (before : List Heard) (h : Heard)
     → heard_events (before ++ h ∷ []) ≡ heard_events before ++ h.note.event ∷ []
@@ -143,51 +144,58 @@ module _ {raw : Raw} {terms : Terms} {m : session.State} {d : docs.State} {c : C
         (subst (λ (f : Fault). Tries d.terms kept h.note.event f tried) is tries)
 
 -- so an event was seen
-pub seen_so : {read : ReadEvent} {terms : Terms} {m : session.State} {d : docs.State} {c : Counts}
-    {before : List Heard} {h : Heard} {Stands : Type 0}
-    (comes : Comes (raw_view read.raw) terms m d c before h Stands)
+pub seen_so : {raw : code.Raw} {spoken : Option (Bor Spoken)} {call : Option code_call.Call}
+    {terms : Terms} {m : session.State} {d : docs.State} {c : Counts} {before : List Heard}
+    {h : Heard} {Stands : Type 0} (comes : Comes (raw_view raw) terms m d c before h Stands)
     {new_m : session.State} {new_d : docs.State} {after : Counts} (fate : Fate)
-    → IsRead (kept_before terms before) h.note.event read
+    → MaySpeak (kept_before terms before) h.note.event (option_map (λ s. s.now) spoken)
+    → option_map call_view call ≡ call_at (kept_before terms before) h.note.event
     → Stood terms new_m new_d after (before ++ h ∷ []) → HasFate terms before h fate
-    → IsSeen new_m new_d after (seen_of read fate) terms before h
-seen_so comes fate is stood fated = record {
+    → IsSeen new_m new_d after
+    (record { raw = raw; spoken = spoken; call = call; fate = fate }) terms before h
+seen_so comes fate speaks says stood fated = record {
   stood = stood;
   few = comes.few;
   noted = noted_here comes;
   is = comes.raw_is;
-  spoken = is.spoken;
-  says = is.says;
+  spoken = speaks;
+  says = says;
   fate = fated;
 }
 
+-- raws that are the same
+module _ {from to : code.Raw} (same : from ≡ to) {terms : Terms} {before : List Heard} {h : Heard}
+    {Stands : Type 0} where
+  pub comes_of : {m : session.State} {d : docs.State} {c : Counts}
+      → Comes (raw_view from) terms m d c before h Stands
+      → Comes (raw_view to) terms m d c before h Stands
+  comes_of {m} {d} {c} =
+      subst (λ (r : code.Raw). Comes (raw_view r) terms m d c before h Stands) same
+
+  pub saw_of : {run : Run} {old new : List ℕ} {m : session.State} {d : docs.State} {c : Counts}
+      {flow : Flow} → Saw run terms before h (ShowsFault from) old new Stands m d c flow
+      → Saw run terms before h (ShowsFault to) old new Stands m d c flow
+  saw_of {run} {old} {new} {m} {d} {c} {flow} =
+      subst (λ (r : code.Raw). Saw run terms before h (ShowsFault r) old new Stands m d c flow) same
+
 -- ---- a fault: a content that is no message, or of the frames
 
-module _ (raw : code.Raw) {terms : Terms} {m : session.State} {d : docs.State} {c : Counts}
+module _ {raw : Raw} {terms : Terms} {m : session.State} {d : docs.State} {c : Counts}
     {before : List Heard} {h : Heard} {Stands : Type 0} (side : Side) (rule : ℕ)
-    (comes : Comes (raw_view raw) terms m d c before h Stands)
-    (reads : Reads (raw_view raw) (broken_rule side rule)) where
-  abbrev heard_kept : List Event
-  heard_kept = kept_before terms before
-
+    (comes : Comes raw terms m d c before h Stands) (reads : Reads raw (broken_rule side rule)) where
   is_fault : broken_rule side rule ≡ h.note.event
   is_fault = event_is comes (broken_rule side rule) reads
 
   pub fault_rule : rule_of terms before h ≡ Some rule
   fault_rule = ap (λ (e : Event). rule_at terms (heard_events before) e) (sym is_fault)
 
-  pub fault_read : IsRead heard_kept h.note.event
-      (record { raw = raw; spoken = None; call = None })
-  fault_read = record {
-    reads = comes.noted.0;
-    spoken = λ sent is. let same = is_fault ∙ is in absurd (cc same);
-    says = ap (call_at heard_kept) is_fault;
-  }
+  pub fault_silent : (sent : Sent) → h.note.event ≡ message sent → ⊥
+  fault_silent sent is = let same = is_fault ∙ is in absurd (cc same)
 
-  pub fault_tries : (tried : Option Made)
-      → TriesCall terms heard_kept (call_at heard_kept h.note.event) rule tried
-  fault_tries tried =
-      subst (λ (e : Event). TriesCall terms heard_kept (call_at heard_kept e) rule tried) is_fault
-      (λ least. tt)
+  pub fault_tries : (tried : Option Made) → TriesCall terms (kept_before terms before)
+      (call_at (kept_before terms before) h.note.event) rule tried
+  fault_tries tried = subst (λ (e : Event). TriesCall terms (kept_before terms before)
+      (call_at (kept_before terms before) e) rule tried) is_fault (λ least. tt)
 
 -- ---- an event that was read
 
@@ -197,7 +205,7 @@ module _ {raw : Raw} {terms : Terms} {m : session.State} {d : docs.State} {c : C
   pub sound_here : IsSound event → IsSound h.note.event
   sound_here = subst IsSound (event_is comes event reads)
 
-  pub read_here : {read : ReadEvent} → IsRead (kept_before terms before) event read
-      → IsRead (kept_before terms before) h.note.event read
-  read_here {read} =
-      subst (λ (e : Event). IsRead (kept_before terms before) e read) (event_is comes event reads)
+  pub speaks_here : (s : Option Spoken) → MaySpeak (kept_before terms before) event s
+      → MaySpeak (kept_before terms before) h.note.event s
+  speaks_here s =
+      subst (λ (e : Event). MaySpeak (kept_before terms before) e s) (event_is comes event reads)

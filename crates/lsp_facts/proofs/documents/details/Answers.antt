@@ -1,9 +1,7 @@
-use Rattle.std.proofs.Common.{◌≡◌, List, Option, Some, ap, sym, ◌∙◌, subst}
+use Rattle.std.proofs.Common.{Option, ap, sym, ◌∙◌, subst}
 use Rattle.std.specs.Str.{chars}
-use Rattle.lsp_docs.specs.Calls.{Text}
 use Rattle.lsp_docs.specs.Taken.{call_view}
 use Rattle.lsp_facts.specs.DocumentFacts.{AreDetails, editor_key}
-use Rattle.lsp_facts.specs.Fact.{Fact}
 use Rattle.lsp_facts.specs.TwoTexts.{TwoTexts, lent_text, texts_view}
 use Rattle.lsp_facts.proofs.TextsDiffer.{apart_moved, found_differ, none_found}
 use Rattle.lsp_facts.proofs.documents.details.Goals as goal

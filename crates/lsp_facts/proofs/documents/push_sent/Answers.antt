@@ -1,10 +1,9 @@
-use Rattle.std.proofs.Common.{◌≡◌, ℕ, [], ◌∷◌, ◌++◌, ap, sym, ◌∙◌, w32, append_assoc, rules}
+use Rattle.std.proofs.Common.{ℕ, [], ◌∷◌, ◌++◌, ap, sym, ◌∙◌, w32, append_assoc, rules}
 use Rattle.std.proofs.lemmas.Int.{to_z-of_z}
 use Rattle.std.proofs.lemmas.Result.{on_ok_weaker}
 use Rattle.std.specs.Prelude.{codes, decimal, length}
 use mir.Val.{SFits}
 use Rattle.lsp_docs.specs.Taken.{call_view}
-use Rattle.lsp_text.specs.Changes.{edits_of}
 use Rattle.lsp_verdict.specs.Report.{line}
 use Rattle.lsp_facts.specs.DocumentFacts.{sent_facts}
 use Rattle.lsp_facts.specs.Fact.{Fact, sends}

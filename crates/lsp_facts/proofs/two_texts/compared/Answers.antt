@@ -1,6 +1,5 @@
-use Rattle.std.proofs.Common.{List, ℕ, None, Some, ap, refl, ◌∙◌, w32, rules}
+use Rattle.std.proofs.Common.{List, ℕ, ap, refl, ◌∙◌, w32, rules}
 use Rattle.std.proofs.lemmas.Int.{to_z-of_z}
-use Rattle.std.specs.Option.{option_map}
 use Rattle.std.specs.Prelude.{option_and_then}
 use Rattle.std.specs.Str.{chars}
 use mir.Val.{SFits}

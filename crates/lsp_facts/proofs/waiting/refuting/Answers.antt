@@ -1,4 +1,4 @@
-use Rattle.std.proofs.Common.{List, ℕ, Some, None, ap, refl, sym, ◌∙◌, w32, rules}
+use Rattle.std.proofs.Common.{List, ℕ, Some, None, ap, refl, ◌∙◌, w32, rules}
 use Rattle.std.proofs.lemmas.Int.{to_z-of_z}
 use mir.Val.{SFits}
 use Rattle.lsp_docs.specs.Calls.{uri_of}

@@ -43,7 +43,7 @@ returns-in_err-took-clause-rule g c =
     let err = c.in_err-took.ensures in
     rw p.1 (λ events event holds sound read.
     rw p.2 (refused_as_call c.args.self.now.docs events holds.called event sound
-    (c.in_ok-admit.ensures.ok events event holds.sent sound read).0 _ read.says _ fault read.reads
+    (c.in_ok-admit.ensures.ok events event holds.sent sound read).0 _ (c.call.ensures events event read) _ fault read.reads
     err.refuses (λ (lacks : fault ≡ Memory). err.memory (cc lacks))))
 
 pub returns-in_err-took-clause-tried : goal.returns-in_err-took-clause-tried
@@ -51,7 +51,7 @@ returns-in_err-took-clause-tried g c =
     let from = c.from_residual-in_err-took in
     let p = err_from_is_err_and from.result from.ensures.1 in
     rw p.1 (λ events event holds sound read.
-    rw p.2 (tried_as_call c.args.self.now.docs.terms events event _ read.says _ _
+    rw p.2 (tried_as_call c.args.self.now.docs.terms events event _ (c.call.ensures events event read) _ _
     (c.in_err-took.ensures.tried (calls events) holds.called)))
 
 pub returns-in_err-took-clause-err : goal.returns-in_err-took-clause-err
@@ -63,7 +63,7 @@ returns-in_err-took-clause-err g c =
     let admitted = c.in_ok-admit.ensures.ok events event holds.sent sound read in
     record {
       sent = refused_leaves c.args.self.now.docs events holds.called event sound admitted.0 _
-          read.says _ _ c.in_err-took.field-0.0 read.reads err.refuses admitted;
+          (c.call.ensures events event read) _ _ c.in_err-took.field-0.0 read.reads err.refuses admitted;
       called = subst (λ (d : docs.State). docs.Stands d (calls events)) (sym err.err) holds.called;
     })
 
@@ -72,11 +72,12 @@ returns-clause-ok g c = λ events event holds sound read.
     let old = c.args.self.now.docs in
     let admitted = c.in_ok-admit.ensures.ok events event holds.sent sound read in
     let takes = c.in_ok-took.ensures.takes in
+    let says = c.call.ensures events event read in
     record {
-      accepted = taken_rule old events holds.called event sound admitted.0 _ read.says _ _ takes;
-      holds = taken_holds old events holds.called event sound admitted.0 _ read.says _ _ takes _
+      accepted = taken_rule old events holds.called event sound admitted.0 _ says _ _ takes;
+      holds = taken_holds old events holds.called event sound admitted.0 _ says _ _ takes _
           admitted;
       counted = λ all counts. c.add.ensures all event counts
           (whose_read _ event read.reads ∙ sym c.who.ensures);
-      says = taken_says old events holds.called event sound admitted.0 _ read.says _ _ takes;
+      says = taken_says old events holds.called event sound admitted.0 _ says _ _ takes;
     }
