@@ -38,8 +38,8 @@ use lsp_text::Lined;
 use lsp_types::rules;
 use lsp_verdict::{Offence, Raw, Who, verdict_report};
 
-/// Adds what is said about an event that offends, of which this was tried. The past is of the events
-/// before it, apart from the counts, which are with it.
+/// Adds what is said about an event that offends, of which this was tried. The past is of the
+/// events before it, apart from the counts, which are with it.
 ///
 /// # Errors
 /// `Memory` where memory was refused.

@@ -144,8 +144,8 @@ fn last_place(setters: &[VersionEvent]) -> Option<EventPlace>
 }
 
 /// Adds to the facts on a call, the event of this place, that breaks this rule, under 702 the
-/// snapshots that differ from its text; under 608 and 702 the snapshot that was found equal, and the
-/// messages that can have made the texts differ.
+/// snapshots that differ from its text; under 608 and 702 the snapshot that was found equal, and
+/// the messages that can have made the texts differ.
 fn trace_call(
     facts: &mut Facts,
     past: Past<'_>,

@@ -46,8 +46,8 @@ impl Trail {
         }
     }
 
-    /// Notes the next event. One that offends leaves nothing to note, and one that says something of
-    /// a document leaves the session as it is.
+    /// Notes the next event. One that offends leaves nothing to note, and one that says something
+    /// of a document leaves the session as it is.
     ///
     /// # Errors
     /// `Memory` where memory was refused; nothing is then known of what is noted.
