@@ -152,18 +152,6 @@ call_breaks terms kept event call rule least offends says =
 
 -- ---- a message as it was heard
 
--- it is of the side whose content it is
-pub heard_by : (kept : List Event) (event : Event) (side by : Side) (bytes : List ℕ) (s : Spoken)
-    → Reads (content side bytes) event → IsSpoken kept event by s → IsSpoken kept event side s
-heard_by _ event side by bytes s reads own = record {
-  sent = own.sent;
-  is = own.is;
-  by = (subst (λ (e : Event). Reads (content side bytes) e) own.is reads).by;
-  says = own.says;
-  means = own.means;
-  has_value = own.has_value;
-}
-
 bare_settles : (opens : List Initialize) (side : Side) (m : Message)
     → settled_among opens side (without_params m) ≡ settled_among opens side m
 bare_settles opens side (request id method params) = refl

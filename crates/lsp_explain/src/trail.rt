@@ -65,8 +65,8 @@ impl Trail {
         let Some(call) = seen.call else {
             return self.keep_message(held, place, seen.raw, seen.spoken);
         };
-        keep_step(&mut self.marks, &mut self.openings, place, call, took)?;
-        self.said.renames.keep_call(place, call)
+        self.said.renames.keep_call(place, call)?;
+        keep_step(&mut self.marks, &mut self.openings, place, call, took)
     }
 
     /// Notes a message that is kept, the event of this place, and says nothing of a document.

@@ -89,7 +89,20 @@ impl Renames {
         ensures renamed { OnOk result (renamed_held self.new ≡ option_or (renamed_held self.old)
             (spec.renamed_by place (moves_view self.old.moves.items) (call_view call.entry))) }
     {
-        if self.moves.is_empty() || self.renamed.is_some() {
+        if self.moves.is_empty() {
+            return Ok(());
+        }
+        self.find(place, call)
+    }
+
+    /// The same where something is held about files.
+    #[inline(never)]
+    fn find(&mut self, place: EventPlace, call: Call<'_>) -> Result<()>
+        ensures moves { self.new.moves ≡ self.old.moves }
+        ensures renamed { OnOk result (renamed_held self.new ≡ option_or (renamed_held self.old)
+            (spec.renamed_by place (moves_view self.old.moves.items) (call_view call.entry))) }
+    {
+        if self.renamed.is_some() {
             return Ok(());
         }
         self.renamed = renamed_by(&self.moves, place, call)?;
@@ -99,7 +112,6 @@ impl Renames {
 
 /// The call, of the event of this place, if it opens or changes a document under a URI that is gone
 /// after these moves.
-#[inline(never)]
 fn renamed_by(
     moves: &VecDeque<Move>,
     place: EventPlace,

@@ -2,13 +2,14 @@ use Rattle.std.specs.Prelude.{chars, option_map}
 use Rattle.std.proofs.Common.{◌∙◌, Bor, subst, sym}
 use Rattle.std.proofs.lemmas.Result.{IfOk-weaker}
 use Rattle.lsp_docs.specs.declared.tried.Tried.{Tried}
+use Rattle.lsp_replay.proofs.Apart.{said_by}
 use Rattle.lsp_replay.specs.Tries.{IsTriedOf, made_in}
 use Rattle.lsp_text.specs.Counted.{Counted}
 use Rattle.lsp_verdict.specs.Event.{Event, call_at, calls}
 use Rattle.lsp_verdict.specs.Offences.{kept_of}
 use Rattle.lsp_verdict.specs.Placed.{content, show}
 use Rattle.lsp_explain.specs.Trails.{terms_in}
-use Rattle.lsp_explain.proofs.SaidFacts.{call_said, frames_said, heard_by, message_breaks}
+use Rattle.lsp_explain.proofs.SaidFacts.{call_said, frames_said, message_breaks}
 use Rattle.lsp_explain.proofs.SaidFacts.{message_said, shown_breaks, shown_said, unread_said}
 use Rattle.lsp_explain.proofs.offence_facts.facts_of.Goals as goal
 
@@ -27,7 +28,7 @@ returns-then-rule-lt-FIRST_ON_DOCUMENTS c =
     let s = c.in-Some.spoken.now in
     let side = c.in-Content.side in
     let bytes = c.in-Content.content.now in
-    let own = heard_by (kept_of terms before) event side speaks.0 bytes s reads speaks.1 in
+    let own = said_by side bytes (kept_of terms before) event s reads speaks in
     message_said terms before c.args.offence.now.rule rests (content side bytes) event facts side s own
     c.if-rule-lt-FIRST_ON_DOCUMENTS.true (are event before stands own)) c.message_traced.ensures)
 

@@ -34,7 +34,7 @@ returns-in_default-call c = on_ok_weaker c.keep_message.result (λ told terms be
 
 -- a call
 pub returns : goal.returns
-returns c = on_ok_weaker c.keep_call.result (λ renamed terms before h is seen.
+returns c = on_ok_weaker c.keep_step.result (λ keeps terms before h is seen.
     let raw = raw_view c.args.seen.now.raw in
     let call = call_view c.in-Some.call in
     let noted = subst (λ (w : Raw). IsNoted w h.note) seen.is seen.noted in
@@ -44,5 +44,5 @@ returns c = on_ok_weaker c.keep_call.result (λ renamed terms before h is seen.
     let has = subst (λ (f : Fate). HasFate terms before h f) c.in-Kept.is seen.fate in
     let says = sym seen.says ∙ ap (option_map call_view) c.in-Some.is in
     trail_called terms before h _ is _ has.0 _ place call c.in-Kept.took c.keep_call.new.self
-    seen.noted.0 says (has.1 ∙ ap (took_of terms (calls (kept_before terms before))) says)
-    c.in_ok-keep_step.ensures refl c.keep_call.ensures.moves renamed) c.keep_call.ensures.renamed
+    seen.noted.0 says (has.1 ∙ ap (took_of terms (calls (kept_before terms before))) says) keeps
+    refl c.keep_call.ensures.moves c.in_ok-keep_call.ensures.renamed) c.keep_step.ensures
