@@ -9,7 +9,8 @@ use Rattle.std.proofs.Common.{codes, take, get_or, length}
 use Rattle.std.proofs.lemmas.List.{map-append, take_more}
 use Rattle.std.proofs.lemmas.List.Concat.{flat_map-append}
 use Rattle.serde_json.specs.Data.{Data}
-use Rattle.lsp_docs.specs.Calls.{Call}
+use Rattle.lsp_docs.specs.Calls.{Call, opens, changes, closes, saves, shows}
+use Rattle.lsp_docs.specs.declared.call.Took.{Took}
 use Rattle.lsp_rpc.specs.Message.{Message, request, notification, response, result, error}
 use Rattle.lsp_rpc.specs.Outline.{outline}
 use Rattle.lsp_rpc.specs.Params.{both}
@@ -20,7 +21,7 @@ use Rattle.lsp_types.specs.declared.side.Side.TheVariants.{Editor, Server}
 use Rattle.lsp_verdict.proofs.LookBackLemmas.{first_of-snoc}
 use Rattle.lsp_replay.specs.declared.heard.EventPlace.{EventPlace}
 use Rattle.lsp_explain.specs.Asking.{Numbered, numbered_as}
-use Rattle.lsp_explain.specs.History.{last_ones}
+use Rattle.lsp_explain.specs.History.{last_ones, step_of}
 use Rattle.lsp_explain.specs.Renames.{AreRenames, Move, Moves, RenamesBy, RenamesIn, creations_in}
 use Rattle.lsp_explain.specs.Renames.{call_by, each_move, most_moves, moves}
 use Rattle.lsp_explain.specs.Renames.{moves_at, moves_by, moves_in, moves_view}
@@ -75,6 +76,16 @@ renames_given params olds news is_old is_new old mid new first second =
     λ i. or_none (both renames (is_old i) (is_new i)) in
     subst (λ (w : List Move). Moves w old new) (sym whole)
     (both_moves (each_move true olds) (each_move false news) old mid new first second)
+
+-- ---- a call that leaves its document as it is
+
+pub no_edit : (call : Call) (said : Took) (p : EventPlace) (moved : List Move)
+    → step_of call said ≡ None → renamed_by p moved call ≡ None
+no_edit (opens uri number text) said p moved is = absurd (cc is)
+no_edit (changes enc kind uri number edits) said p moved is = absurd (cc is)
+no_edit (closes uri) said p moved is = refl
+no_edit (saves uri text) said p moved is = refl
+no_edit (shows uri number text) said p moved is = refl
 
 -- ---- a message that says nothing of files
 

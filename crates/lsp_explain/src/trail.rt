@@ -1,21 +1,18 @@
 //! What is noted of the events of a session on the way: which of them led to what.
-ghost use Rattle.std.specs.Prelude.{◌≡◌, ◌++◌, ◌∷◌, [], List, None, OnOk, option_map};
+ghost use Rattle.std.specs.Prelude.{◌≡◌, ◌++◌, ◌∷◌, [], List, None, OnOk, Some, option_map};
 ghost use Rattle.lsp_docs.specs.Documents.{Terms};
-ghost use Rattle.lsp_docs.specs.Taken.{call_view};
-ghost use Rattle.lsp_replay.specs.Lines.{place_of};
 ghost use Rattle.lsp_replay.specs.Telling.{IsSeen, MaySpeak, Stood, kept_before, rule_of};
 ghost use Rattle.lsp_verdict.specs.Given.{raw_view};
 ghost use Rattle.lsp_verdict.specs.Heard.{Heard, heard_events};
 ghost use Rattle.lsp_verdict.specs.Offences.{IsNoted, said_at};
-ghost use Rattle.lsp_explain.specs.History.{call_kept};
+ghost use Rattle.lsp_explain.specs.History.{kept_call};
 ghost use Rattle.lsp_explain.specs.Trails.{IsTrail, Keeps};
 
-use crate::notes::{Marks, Openings, SessionNotes, step_of};
-use lsp_docs::{Call, Took};
+use crate::notes::{Marks, Openings, SessionNotes, Step, step_of};
 use lsp_replay::{EventPlace, Events, Fate, Seen};
 use lsp_rpc::{Result, Spoken};
 use lsp_text::Lined;
-use lsp_verdict::Raw;
+use lsp_verdict::{Raw, who_of};
 use std::alloc::Global;
 
 /// Which kept events left the documents as they are, which opened and closed them last, and which
@@ -61,27 +58,28 @@ impl Trail {
         let Fate::Kept(took) = seen.fate else {
             return Ok(());
         };
-        let place = EventPlace::last(&held.counts, seen.raw.who());
         let Some(call) = seen.call else {
-            return self.keep_message(held, place, seen.raw, seen.spoken);
+            return self.keep_message(held, seen.raw, seen.spoken);
         };
+        let Some(step) = step_of(call, took) else {
+            return Ok(());
+        };
+        let place = EventPlace::last(&held.counts, seen.raw.who());
         self.said.renames.keep_call(place, call)?;
-        keep_step(&mut self.marks, &mut self.openings, place, call, took)
+        keep_step(&mut self.marks, &mut self.openings, place, call.uri(), step)
     }
 
-    /// Notes a message that is kept, the event of this place, and says nothing of a document.
+    /// Notes a message that is kept and says nothing of a document.
     #[inline(always)]
     fn keep_message(
         &mut self,
         held: &Events<Lined>,
-        place: EventPlace,
         raw: Raw<'_>,
         spoken: Option<&Spoken>,
     ) -> Result<()>
         ensures { OnOk result ((terms : Terms) (before : List Heard) (h : Heard)
             → IsTrail terms self.old (heard_events before)
             → Stood terms held.now.session held.now.docs held.now.counts (before ++ h ∷ [])
-            → place ≡ place_of (heard_events before) h.note.event
             → rule_of terms before h ≡ None → IsNoted (raw_view raw.entry) h.note
             → MaySpeak (kept_before terms before) h.note.event (option_map (λ s. s.now) spoken.entry)
             → said_at terms (heard_events before) h.note.event ≡ None
@@ -93,6 +91,7 @@ impl Trail {
         let Some(spoken) = spoken else {
             return Ok(());
         };
+        let place = EventPlace::last(&held.counts, who_of(side));
         let phase = held.session.phase();
         let done = held.session.is_done();
         self.said
@@ -100,22 +99,18 @@ impl Trail {
     }
 }
 
-/// Notes what a kept call, the event of this place, which says this, does to its document.
+/// Notes what a kept event, that of this place, does to the document of a URI.
 #[inline(always)]
 fn keep_step(
     marks: &mut Marks,
     openings: &mut Openings,
     place: EventPlace,
-    call: Call<'_>,
-    said: Took,
+    uri: &str,
+    step: Step,
 ) -> Result<()>
-    ensures { OnOk result (Keeps (call_kept place (call_view call.entry) said) marks.old openings.old
+    ensures { OnOk result (Keeps (Some (kept_call uri.now place step)) marks.old openings.old
         marks.new openings.new) }
 {
-    let Some(step) = step_of(call, said) else {
-        return Ok(());
-    };
-    let uri = call.uri();
     marks.keep(place, uri, step)?;
     openings.keep(place, uri, step)
 }

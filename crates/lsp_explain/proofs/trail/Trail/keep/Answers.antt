@@ -1,17 +1,26 @@
 use Rattle.std.specs.Prelude.{option_map}
-use Rattle.std.proofs.Common.{◌∙◌, ap, refl, subst, sym}
+use Rattle.std.proofs.Common.{◌∙◌, Option, Some, ap, refl, subst, sym}
 use Rattle.std.proofs.lemmas.Result.{on_ok_weaker}
+use Rattle.lsp_docs.specs.Calls.{uri_of}
 use Rattle.lsp_docs.specs.Taken.{call_view}
+use Rattle.lsp_replay.specs.Lines.{place_of}
 use Rattle.lsp_replay.specs.Telling.{HasFate, kept_before, took_of}
 use Rattle.lsp_replay.specs.declared.seen.Fate.{Fate}
 use Rattle.lsp_replay.proofs.Following.{whose_read}
 use Rattle.lsp_replay.proofs.Seeing.{events-push}
+use Rattle.lsp_session.proofs.Steps.{option_or-none}
 use Rattle.lsp_verdict.specs.Event.{calls}
 use Rattle.lsp_verdict.specs.Given.{AreCounts, raw_view}
 use Rattle.lsp_verdict.specs.Heard.{heard_events}
 use Rattle.lsp_verdict.specs.Offences.{IsNoted}
 use Rattle.lsp_verdict.specs.Placed.{Raw}
-use Rattle.lsp_explain.proofs.Trails.{fate_offends, trail_called, trail_past}
+use Rattle.std.specs.Option.{option_or}
+use Rattle.lsp_explain.specs.History.{kept_call}
+use Rattle.lsp_explain.specs.Renames.{moves_view, renamed_held}
+use Rattle.lsp_explain.specs.Trails.{Keeps}
+use Rattle.lsp_explain.specs.declared.notes.step.Step.{Step}
+use Rattle.lsp_explain.proofs.RenameSteps.{no_edit}
+use Rattle.lsp_explain.proofs.Trails.{fate_offends, none_kept, trail_called, trail_past}
 use Rattle.lsp_explain.proofs.trail.Trail.keep.Goals as goal
 
 -- it offends
@@ -23,26 +32,48 @@ returns-in_default c = λ terms before h is seen.
 -- it says nothing of a document
 pub returns-in_default-call : goal.returns-in_default-call
 returns-in_default-call c = on_ok_weaker c.keep_message.result (λ told terms before h is seen.
-    let raw = raw_view c.args.seen.now.raw in
     let noted = subst (λ (w : Raw). IsNoted w h.note) seen.is seen.noted in
     told terms before h is seen.stood
-    (c.last-place.ensures (heard_events before) h.note.event
-    (subst (AreCounts c.args.held.now.counts) (events-push before h) seen.stood.counted)
-    (c.who.ensures ∙ sym (whose_read raw h.note.event noted.0)))
     (subst (λ (f : Fate). HasFate terms before h f) c.in-Kept.is seen.fate).0 noted seen.spoken
     (sym seen.says ∙ ap (option_map call_view) c.in_default-call.is)) c.keep_message.ensures
 
--- a call
+-- it leaves its document as it is
+pub returns-in_default-step : goal.returns-in_default-step
+returns-in_default-step c = λ terms before h is seen.
+    let old = c.args.self.now in
+    let call = call_view c.in-Some.call in
+    let took = c.in-Kept.took in
+    let place = place_of (heard_events before) h.note.event in
+    let moved = moves_view old.said.renames.moves.items in
+    let has = subst (λ (f : Fate). HasFate terms before h f) c.in-Kept.is seen.fate in
+    let says = sym seen.says ∙ ap (option_map call_view) c.in-Some.is in
+    trail_called terms before h old is old has.0 place refl call took old.said.renames seen.noted.0
+    says (has.1 ∙ ap (took_of terms (calls (kept_before terms before))) says)
+    (subst (λ (o : Option Step). Keeps (option_map (kept_call (uri_of call) place) o) old.marks
+    old.openings old.marks old.openings) c.in_default-step.ensures
+    (none_kept old.marks old.openings)) refl refl
+    (sym (ap (option_or (renamed_held old.said.renames))
+    (no_edit call took place moved (sym c.in_default-step.ensures))
+    ∙ option_or-none (renamed_held old.said.renames)))
+
+-- it does something to one
 pub returns : goal.returns
 returns c = on_ok_weaker c.keep_step.result (λ keeps terms before h is seen.
+    let old = c.args.self.now in
+    let new = c.keep_step.new in
     let raw = raw_view c.args.seen.now.raw in
     let call = call_view c.in-Some.call in
+    let step = c.in-Some-2.step in
+    let place = c.last-place.result in
     let noted = subst (λ (w : Raw). IsNoted w h.note) seen.is seen.noted in
-    let place = c.last-place.ensures (heard_events before) h.note.event
+    let at = c.last-place.ensures (heard_events before) h.note.event
     (subst (AreCounts c.args.held.now.counts) (events-push before h) seen.stood.counted)
     (c.who.ensures ∙ sym (whose_read raw h.note.event noted.0)) in
     let has = subst (λ (f : Fate). HasFate terms before h f) c.in-Kept.is seen.fate in
     let says = sym seen.says ∙ ap (option_map call_view) c.in-Some.is in
-    trail_called terms before h _ is _ has.0 _ place call c.in-Kept.took c.keep_call.new.self
-    seen.noted.0 says (has.1 ∙ ap (took_of terms (calls (kept_before terms before))) says) keeps
+    trail_called terms before h _ is _ has.0 _ at call c.in-Kept.took c.keep_call.new.self
+    seen.noted.0 says (has.1 ∙ ap (took_of terms (calls (kept_before terms before))) says)
+    (subst (λ more. Keeps more old.marks old.openings new.marks new.openings)
+    (ap (λ u. Some (kept_call u place step)) c.uri.ensures
+    ∙ ap (option_map (kept_call (uri_of call) place)) c.in-Some-2.ensures) keeps)
     refl c.keep_call.ensures.moves c.in_ok-keep_call.ensures.renamed) c.keep_step.ensures
