@@ -1,6 +1,6 @@
 -- What commands ask for, by what was found of their arguments.
-use Rattle.std.proofs.Common.{◌≡◌, ◌∙◌, ◌<◌, ◌≤◌, ◌==◌, ◌^◌, ℕ, Bool, true, false, List, [], ◌∷◌}
-use Rattle.std.proofs.Common.{length, map, option_map, Option, Some, None, Result, refl, sym, ap}
+use Rattle.std.proofs.Common.{◌≡◌, ◌∙◌, ◌<◌, ◌==◌, ◌^◌, ℕ, Bool, true, false, List}
+use Rattle.std.proofs.Common.{option_map, Option, Some, None, Result, refl, sym, ap}
 use Rattle.std.proofs.Common.{subst, codes, arith, slice_index}
 use Rattle.std.specs.Prelude.{MatchOption, unwrap_or}
 use Rattle.std.specs.Borrow.{Bor}

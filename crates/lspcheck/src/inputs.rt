@@ -3,7 +3,8 @@
 use crate::shown_name::ShownName;
 use crate::wrong_words::show_slip;
 use crate::{
-    Advice, Ended, Terminals, run, show_advice, show_explaining, show_lack, show_remark, show_report,
+    Advice, Ended, Terminals, run, show_advice, show_explaining, show_lack, show_remark,
+    show_report,
 };
 use lsp_command::{
     Request, Slip, file_of, lacks_comparison, status_of_request, uri_alone, worse_of,
@@ -69,8 +70,9 @@ fn run_one<R: Clock + Files + io::Input + Print + Eprint + AllocGlobal>(
     shown: Option<&ShownName<'_>>,
     terminals: Terminals,
 ) -> Ended {
+    let has_line = request.is_several();
     match shown {
-        Some(shown) if request.is_several() => run_line(rt, request, input, shown, terminals),
+        Some(shown) if has_line => run_line(rt, request, input, shown, terminals),
         _ => run(rt, request, request.task, input, terminals),
     }
 }
@@ -91,15 +93,16 @@ pub(crate) fn status_of_inputs<R: Clock + Files + io::Input + Print + Eprint + A
         let shown = shown_input(rt.alloc(), request, input);
         let ended = run_one(rt, request, input, shown.as_ref(), terminals);
         has_no = has_no || ended.is_no();
+        // Where the words left something out, and that was said, there is no hint on the input.
+        let advice = match ended.advice {
+            Some(Advice::Hint(_)) if has_slip => None,
+            advice => advice,
+        };
         let answer = show_report(rt, request, ended.answer);
         has_lack = has_lack || lacks_comparison(request, &answer);
         worst = worse_of(worst, status_of_request(request, &answer));
         show_remark(rt, &answer);
-        // Where the words left something out, and that was said, there is no hint on the input.
-        match ended.advice {
-            Some(Advice::Hint(_)) if has_slip => {}
-            advice => show_advice(rt, request, shown.as_ref(), advice),
-        }
+        show_advice(rt, request, shown.as_ref(), advice);
         if let Err(RunFault::Write) = answer {
             return worst;
         }

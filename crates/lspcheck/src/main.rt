@@ -22,8 +22,9 @@ use explaining::show_explaining;
 use inputs::status_of_inputs;
 pub use lsp_command::status_of;
 use lsp_command::{
-    BufferedInput, BufferedOutput, Hint, Pace, Request, Supply, Task, TaskOutcome, file_of, hint_of,
-    misuse_of, remark_of, report_apart, request_of, run_through, status_of_task, status_of_words,
+    BufferedInput, BufferedOutput, Hint, Pace, Request, Supply, Task, TaskOutcome, file_of,
+    hint_of, misuse_of, remark_of, report_apart, request_of, run_through, status_of_task,
+    status_of_words,
 };
 use lsp_judge::RunFault;
 use progress::Progress;
@@ -172,6 +173,7 @@ fn show_advice<R: Eprint>(
     file: Option<&ShownName<'_>>,
     advice: Option<Advice>,
 ) {
+    let is_one = request.is_several();
     let _ = match advice {
         None => Ok(()),
         Some(Advice::Input(cause)) => match file {
@@ -180,7 +182,7 @@ fn show_advice<R: Eprint>(
         },
         Some(Advice::Output(cause)) => eprintln!(rt; "lspcheck: standard output: {cause}"),
         Some(Advice::Hint(hint)) => match file {
-            Some(name) if request.is_several() => eprintln!(rt; "lspcheck: hint: {name}: {hint}"),
+            Some(name) if is_one => eprintln!(rt; "lspcheck: hint: {name}: {hint}"),
             _ => eprintln!(rt; "lspcheck: hint: {hint}"),
         },
     };
