@@ -222,6 +222,7 @@ impl<S: TextStore> Docs<S> {
     /// Refused as by [`did_open`](Docs::did_open), [`did_change`](Docs::did_change),
     /// [`did_close`](Docs::did_close), [`did_save`](Docs::did_save) or
     /// [`snapshot`](Docs::snapshot).
+    #[inline(always)]
     pub fn take(&mut self, call: Call<'_>, tried: &mut Option<Tried<S>>) -> Result<Took, DocFault>
         ensures accepts { OnOk result (Accepts self.old self.new (call_view call.entry)) }
         ensures took { IfOk result (IsTook self.old (call_view call.entry)) }
@@ -308,38 +309,12 @@ impl<S: TextStore> Docs<S> {
             ≡ None) }
         ensures err { OnErr result (self.new ≡ self.old) }
     {
-        self.try_change(encoding, kind, uri, version, changes, &mut None)
-    }
-
-    /// Makes changes as [`did_change`](Docs::did_change) does, and puts there what was tried of
-    /// those that are refused.
-    pub fn try_change(
-        &mut self,
-        encoding: Encoding,
-        kind: SyncKind,
-        uri: &str,
-        version: i32,
-        changes: &[Change],
-        tried: &mut Option<Tried<S>>,
-    ) -> Result<(), DocFault>
-        ensures accepts { OnOk result (Accepts self.old self.new
-            (changes_by encoding kind uri.now version (edits_of changes.now))) }
-        ensures refuses { IfErr result (Refuses self.old
-            (changes_by encoding kind uri.now version (edits_of changes.now))) }
-        ensures memory { result ≡ Err DocFault.Memory → ((calls : List SpecCall) → Stands self.old calls
-            → early_rule kind version (edits_of changes.now) (held self.old.terms uri.now calls)
-            ≡ None) }
-        ensures tried { IfErr result (λ fault. (calls : List SpecCall)
-            → Stands self.old calls → IsRule fault → IsTried self.old.terms calls
-            (changes_by encoding kind uri.now version (edits_of changes.now))
-            (tried_in S.content tried.new)) }
-        ensures err { OnErr result (self.new ≡ self.old) }
-    {
-        self.change(encoding, kind, uri, version, changes, tried)?;
+        self.change(encoding, kind, uri, version, changes, &mut None)?;
         Ok(())
     }
 
     /// Makes changes, and answers what they say.
+    #[inline(always)]
     fn change(
         &mut self,
         encoding: Encoding,

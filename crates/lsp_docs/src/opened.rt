@@ -122,6 +122,7 @@ impl<S: TextStore> OpenDocuments<S> {
     /// Makes the changes of a document, where `due` are the texts of the snapshots that wait for
     /// the version. A refused change leaves the document as it is, and what was tried of it is put
     /// there, and what the changes found.
+    #[inline(always)]
     pub(crate) fn change(
         &mut self,
         terms: Terms,

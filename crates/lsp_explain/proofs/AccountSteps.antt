@@ -1,17 +1,11 @@
 -- The steps of the accounts that explain a log.
-use Rattle.std.specs.Borrow.{Bor}
 use Rattle.std.specs.Prelude.{◌||◌, filter, is_some, not, option_map, unwrap_or, if◌then◌else◌}
 use Rattle.std.specs.List.{cons_option}
 use Rattle.std.proofs.Common.{◌≡◌, ℕ, Bool, true, false, List, [], ◌∷◌, ◌++◌, Option, Some, None, refl}
 use Rattle.std.proofs.Common.{sym, ap, ◌∙◌, subst, append_assoc, append-nil}
 use Rattle.std.proofs.Math.Bool.{or-true}
 use Rattle.lsp_docs.specs.Documents.{Terms}
-use Rattle.lsp_docs.specs.declared.tried.Tried.{Tried}
-use Rattle.lsp_rpc.specs.declared.act.Spoken.{Spoken}
-use Rattle.lsp_text.specs.Counted.{Counted}
-use Rattle.lsp_replay.specs.Telling.{Says, SeenAs, rule_of}
-use Rattle.lsp_replay.specs.declared.seen.Seen.{Seen}
-use Rattle.lsp_replay.specs.declared.seen.Seen.TheVariants as seen
+use Rattle.lsp_replay.specs.Telling.{Says, rule_of}
 use Rattle.lsp_replay.specs.declared.seen.Flow.TheVariants.{GoOn, Stop}
 use Rattle.lsp_replay.proofs.PassEnds.{Boxed}
 use Rattle.lsp_replay.proofs.AllHeard.{first_after, none_is}
@@ -21,11 +15,10 @@ use Rattle.lsp_survey.proofs.SurveySteps.{kept_tally, offence_tally}
 use Rattle.lsp_verdict.specs.Event.{Event}
 use Rattle.lsp_verdict.specs.Given.{verdict_view}
 use Rattle.lsp_verdict.specs.Heard.{Heard, Rests, heard_events, notes_of}
-use Rattle.lsp_verdict.specs.Offences.{Offence, follows, offence_at, offence_by}
+use Rattle.lsp_verdict.specs.Offences.{IsNoted, Offence, follows, offence_at, offence_by, rule_at}
 use Rattle.lsp_verdict.specs.Placed.{Raw, broken, content, show}
 use Rattle.lsp_verdict.specs.Verdict.{Verdict, no_by}
 use Rattle.lsp_verdict.specs.declared.completeness.Completeness.{Completeness}
-use Rattle.lsp_verdict.specs.declared.raw.Raw as lent
 use Rattle.lsp_verdict.specs.declared.outcome.Outcome.TheVariants.{Judged}
 use Rattle.lsp_verdict.specs.declared.verdict.Verdict as code
 use Rattle.lsp_explain.specs.ExplainRuns.{AllStands, FirstStands, TellsOf, SaysCauses, SaysFirst}
@@ -54,21 +47,18 @@ module _ (terms : Terms) (before : List Heard) (h : Heard) where
       by_raw (show number uri text) lost = refl
 
   -- an event that is kept is no fault of the frames
-  pub kept_wants : (completeness : Completeness) (s : Seen)
-      → ((raw : lent.Raw) (rule : ℕ) (spoken : Option (Bor Spoken))
-      (tried : Option (Bor (Tried Counted))) → s ≡ seen.Offence raw rule spoken tried → ⊥)
-      → SeenAs s terms before h → (all_run completeness).wants terms before h ≡ true
-  kept_wants completeness s not_so as_is =
-      ap (λ b. b || has_cause (offence_at terms (notes_of before) h.note)) (by_seen s not_so as_is)
+  pub kept_wants : (completeness : Completeness) → rule_of terms before h ≡ None
+      → IsNoted h.raw h.note → (all_run completeness).wants terms before h ≡ true
+  kept_wants completeness kept noted =
+      ap (λ b. b || has_cause (offence_at terms (notes_of before) h.note))
+      (by_raw h.raw noted kept)
     where
-      by_seen : (x : Seen)
-          → ((raw : lent.Raw) (rule : ℕ) (spoken : Option (Bor Spoken))
-          (tried : Option (Bor (Tried Counted))) → x ≡ seen.Offence raw rule spoken tried → ⊥)
-          → SeenAs x terms before h → may_note h.raw ≡ true
-      by_seen (seen.Message side bytes spoken) not_so as_is = ap may_note as_is.0
-      by_seen (seen.Snapshot version uri text answer) not_so as_is = ap may_note as_is.0
-      by_seen (seen.Offence raw rule spoken tried) not_so as_is =
-          absurd (not_so raw rule spoken tried refl)
+      by_raw : (raw : Raw) → IsNoted raw h.note → rule_of terms before h ≡ None
+          → may_note raw ≡ true
+      by_raw (content side bytes) noted kept = refl
+      by_raw (broken side rule) noted kept =
+          let same = sym (ap (λ (e : Event). rule_at terms events e) noted.0) ∙ kept in absurd (cc same)
+      by_raw (show number uri text) noted kept = refl
 
   -- one that offends and follows from none is explained
   pub cause_wants : (completeness : Completeness) (rule : ℕ) (o : Offence)

@@ -1,40 +1,38 @@
 -- The two whole texts of the first event that offends.
-use Rattle.std.specs.Prelude.{Bool, ℤ, chars, if◌then◌else◌, option_map, unwrap_or}
+use Rattle.std.specs.Prelude.{option_map, unwrap_or}
 use Rattle.std.specs.Option.{option_or}
-use Rattle.std.proofs.Common.{◌≡◌, ℕ, true, false, List, [], ◌∷◌, ◌++◌, Option, Some, None, refl}
-use Rattle.std.proofs.Common.{sym, ap, subst, ◌∙◌, Bor}
+use Rattle.std.proofs.Common.{◌≡◌, ◌≤◌, ℕ, List, [], ◌∷◌, ◌++◌, Option, Some, None, refl, true}
+use Rattle.std.proofs.Common.{arith, sym, ap, subst, ◌∙◌, Bor}
+use Rattle.std.proofs.lemmas.Bool.Decides.{nat_tests}
 use Rattle.lsp_docs.specs.State as docs
 use Rattle.lsp_docs.specs.Documents.{Terms}
-use Rattle.lsp_docs.specs.Tried.{Made}
+use Rattle.lsp_docs.specs.Taken.{call_view}
+use Rattle.lsp_docs.specs.declared.tried.Tried.{Tried}
 use Rattle.lsp_frame.specs.Bounds.{Bounds}
 use Rattle.lsp_frame.specs.declared.format.Format.{Format}
 use Rattle.lsp_log.specs.Log.{Record}
 use Rattle.lsp_facts.specs.TwoTexts.{TwoTexts, is_of_texts, texts_at}
 use Rattle.lsp_replay.specs.Run.{IsTold, Tail}
 use Rattle.lsp_replay.specs.Standing.{Holds}
-use Rattle.lsp_replay.specs.Telling.{IsSpoken, MaySpeak, Stood, kept_before, rule_of}
-use Rattle.lsp_replay.specs.Tries.{TriesCall, said_after}
+use Rattle.lsp_replay.specs.Telling.{HasFate, IsSeen, kept_before, rule_of}
+use Rattle.lsp_replay.specs.Tries.{TriesCall, made_in}
+use Rattle.lsp_replay.specs.declared.seen.Fate.{Fate}
+use Rattle.lsp_replay.specs.declared.seen.Fate.TheVariants.{Offends}
+use Rattle.lsp_replay.specs.declared.seen.Seen.{Seen}
 use Rattle.lsp_replay.proofs.AllHeard.{first_after, none_is}
 use Rattle.lsp_replay.proofs.Seeing.{events-push}
-use Rattle.lsp_rpc.specs.View.{act_view}
-use Rattle.lsp_rpc.specs.declared.act.Spoken.{Spoken}
-use Rattle.lsp_session.specs.Sent.{Sent}
 use Rattle.lsp_session.specs.State as session
 use Rattle.lsp_survey.proofs.SurveySteps.{survey_told}
-use Rattle.lsp_types.specs.declared.side.Side.{Side}
-use Rattle.lsp_verdict.specs.Event.{calls, Event, fault, message, snapshot}
+use Rattle.lsp_text.specs.Counted.{Counted}
+use Rattle.lsp_verdict.specs.Event.{call_at, calls, Event}
 use Rattle.lsp_verdict.specs.Heard.{Heard, heard_events, notes_of}
-use Rattle.lsp_verdict.specs.Given.{raw_view}
 use Rattle.lsp_verdict.specs.LookBack.{first_from, first_of}
 use Rattle.lsp_verdict.specs.Offences.{events_of, kept_of}
 use Rattle.lsp_verdict.specs.Outcome.{ending, log_terms}
 use Rattle.lsp_verdict.specs.Survey as survey
-use Rattle.lsp_verdict.specs.Placed.{Reads, content}
 use Rattle.lsp_verdict.specs.Verdict.{bad_log_of, first_no, offence, summary}
 use Rattle.lsp_verdict.specs.declared.counts.Counts.{Counts}
 use Rattle.lsp_verdict.specs.declared.completeness.Completeness.TheVariants.{Ignored}
-use Rattle.lsp_verdict.specs.declared.raw.Raw as lent
-use Rattle.lsp_verdict.specs.declared.raw.Raw.TheVariants as lents
 use Rattle.lsp_verdict.proofs.Offences.Offending.{all_are_kept}
 use Rattle.lsp_verdict.proofs.Offences.Steps.{kept-refused}
 use Rattle.lsp_verdict.proofs.Offences.Surveying.{one_part}
@@ -108,72 +106,26 @@ compared_told which limits log format records heard tail told = (
 
 -- ---- what is compared of an event
 
-of_fault : (terms : Terms) (kept : List Event) (rule : ℕ) (side : Side) (code : ℕ)
-    → texts_at terms kept (fault side code) rule ≡ None
-of_fault terms kept rule side code = by_test (is_of_texts rule)
-  where
-    none : Option TwoTexts
-    none = None
+pub is_on_documents : (rule : ℕ) → is_of_texts rule ≡ true → 601 ≤ rule
+is_on_documents rule is = grind (arith, nat_tests)
 
-    by_test : (b : Bool) → (if b then none else None) ≡ None
-    by_test true = refl
-    by_test false = refl
-
-module _ (terms : Terms) (before : List Heard) (h : Heard) (rule : ℕ) where
-  abbrev kept : List Event
-  kept = kept_before terms before
-
-  abbrev due : Option TwoTexts
-  due = texts_at terms kept h.note.event rule
-
-  -- a content that is no message and a fault of the frames compare none
-  pub unread_compared : (raw : lent.Raw)
-      → ((version : ℤ) (uri text : Bor (List ℕ)) → raw ≡ lents.Snapshot version uri text → ⊥)
-      → Reads (raw_view raw) h.note.event → MaySpeak kept h.note.event None → None ≡ due
-  unread_compared (lents.Content side bytes) not reads silent =
-      by_event h.note.event reads silent
-    where
-      by_event : (e : Event) → Reads (content side bytes.now) e → MaySpeak kept e None
-          → None ≡ texts_at terms kept e rule
-      by_event (fault by code) reads silent = sym (of_fault terms kept rule by code)
-      by_event (message m) reads silent = absurd (silent m refl)
-      by_event (snapshot uri number text) reads silent = absurd reads
-  unread_compared (lents.Broken side code rest) not reads silent =
-      sym (ap (λ (e : Event). texts_at terms kept e rule) reads ∙ of_fault terms kept rule side code)
-  unread_compared (lents.Snapshot version uri text) not reads silent =
-      absurd (not version uri text refl)
-
-  module _ (m : session.State) (d : docs.State) (c : Counts)
-      (stood : Stood terms m d c (before ++ h ∷ [])) (offends : rule_of terms before h ≡ Some rule)
-    where
-      -- what is held is that before it
-      held_before : Holds m d kept
-      held_before = subst (Holds m d) (ap (kept_of terms) (events-push before h)
-          ∙ kept-refused terms (heard_events before) h.note.event rule offends) stood.holds
-
-      -- a message compares what it says
-      pub message_compared : (side : Side) (s : Spoken) (texts : Option TwoTexts)
-          (tried : Option Made) → IsSpoken kept h.note.event side s
-          → TriesCall terms kept (said_after kept (act_view s.act)) rule tried
-          → ((events : List Event) (sent : Sent) → docs.Stands d (calls events)
-          → sent.act ≡ act_view s.act → offence d.terms events (message sent) ≡ Some rule
-          → TriesCall d.terms events (said_after events (act_view s.act)) rule tried
-          → texts ≡ texts_at d.terms events (message sent) rule) → texts ≡ due
-      message_compared side s texts tried spoken tries are =
-          are kept spoken.sent held_before.called spoken.means
-          (ap (λ (t : Terms). offence t kept (message spoken.sent)) stood.by
-          ∙ ap (λ (e : Event). offence terms kept e) (sym spoken.is) ∙ offends)
-          (subst (λ (t : Terms). TriesCall t kept (said_after kept (act_view s.act)) rule tried)
-          (sym stood.by) tries)
-          ∙ (λ i. texts_at (stood.by i) kept ((sym spoken.is) i) rule)
-
-      -- a snapshot its text
-      pub shown_compared : (version : ℤ) (uri text : List ℕ) (texts : Option TwoTexts)
-          → h.note.event ≡ snapshot uri version (chars text)
-          → ((events : List Event) → docs.Stands d (calls events)
-          → offence d.terms events (snapshot uri version (chars text)) ≡ Some rule
-          → texts ≡ texts_at d.terms events (snapshot uri version (chars text)) rule) → texts ≡ due
-      shown_compared version uri text texts own are =
-          are kept held_before.called
-          ((λ i. offence (stood.by i) kept ((sym own) i)) ∙ offends)
-          ∙ (λ i. texts_at (stood.by i) kept ((sym own) i) rule)
+-- what compares what this event says, is compared of it
+pub compared_here : (terms : Terms) (before : List Heard) (h : Heard) (rule : ℕ) (s : Seen)
+    (tried : Option (Bor (Tried Counted))) (m : session.State) (d : docs.State) (c : Counts)
+    (texts : Option TwoTexts) → s.fate ≡ Offends rule tried → IsSeen m d c s terms before h
+    → ((kept : List Event) (event : Event) → docs.Stands d (calls kept)
+    → option_map call_view s.call ≡ call_at kept event → offence d.terms kept event ≡ Some rule
+    → TriesCall d.terms kept (call_at kept event) rule (made_in (option_map (λ t. t.now) tried))
+    → texts ≡ texts_at d.terms kept event rule)
+    → texts ≡ texts_at terms (kept_before terms before) h.note.event rule
+compared_here terms before h rule s tried m d c texts is seen are =
+    let stood = seen.stood in
+    let event = h.note.event in
+    let kept = kept_before terms before in
+    let has = subst (λ (f : Fate). HasFate terms before h f) is seen.fate in
+    let holds : Holds m d kept = subst (Holds m d) (ap (kept_of terms) (events-push before h)
+    ∙ kept-refused terms (heard_events before) event rule has.0) stood.holds in
+    are kept event holds.called seen.says (ap (λ (t : Terms). offence t kept event) stood.by ∙ has.0)
+    (subst (λ (t : Terms). TriesCall t kept (call_at kept event) rule
+    (made_in (option_map (λ t. t.now) tried))) (sym stood.by) has.1)
+    ∙ ap (λ (t : Terms). texts_at t kept event rule) stood.by

@@ -1,5 +1,5 @@
 -- What is noted of renamed files, with one message more.
-use Rattle.std.specs.Prelude.{◌||◌, if◌then◌else◌, string_bytes, String}
+use Rattle.std.specs.Prelude.{◌||◌, if◌then◌else◌, option_and_then, string_bytes, String}
 use Rattle.std.specs.Global.{Global}
 use Rattle.std.specs.Option.{option_or}
 use Rattle.std.specs.Str.{bytes_eq}
@@ -9,7 +9,7 @@ use Rattle.std.proofs.Common.{codes, take, get_or, length}
 use Rattle.std.proofs.lemmas.List.{map-append, take_more}
 use Rattle.std.proofs.lemmas.List.Concat.{flat_map-append}
 use Rattle.serde_json.specs.Data.{Data}
-use Rattle.lsp_rpc.specs.Act.{Act}
+use Rattle.lsp_docs.specs.Calls.{Call}
 use Rattle.lsp_rpc.specs.Message.{Message, request, notification, response, result, error}
 use Rattle.lsp_rpc.specs.Outline.{outline}
 use Rattle.lsp_rpc.specs.Params.{both}
@@ -22,7 +22,7 @@ use Rattle.lsp_replay.specs.declared.heard.EventPlace.{EventPlace}
 use Rattle.lsp_explain.specs.Asking.{Numbered, numbered_as}
 use Rattle.lsp_explain.specs.History.{last_ones}
 use Rattle.lsp_explain.specs.Renames.{AreRenames, Move, Moves, RenamesBy, RenamesIn, creations_in}
-use Rattle.lsp_explain.specs.Renames.{each_move, most_moves, moves}
+use Rattle.lsp_explain.specs.Renames.{call_by, each_move, most_moves, moves}
 use Rattle.lsp_explain.specs.Renames.{moves_at, moves_by, moves_in, moves_view}
 use Rattle.lsp_explain.specs.Renames.{notifies_files, or_none, renamed_at, renamed_by, renamed_held}
 use Rattle.lsp_explain.specs.Renames.{renames, renames_in, tells_files, uris_at}
@@ -40,7 +40,8 @@ moves-push said m =
 
 -- **what is held stands for it too**
 pub renames_more : (p : EventPlace) (m : Sent) (before : List Numbered) (old new : Renames)
-    → AreRenames old before → RenamesBy p m.side m.message m.act old new
+    → AreRenames old before
+    → RenamesBy p m.side m.message (call_by before (numbered_as p m)) old new
     → AreRenames new (before ++ numbered_as p m ∷ [])
 renames_more p m before old new are by = record {
   moves_are =
@@ -48,7 +49,8 @@ renames_more p m before old new are by = record {
       ∙ ap (last_ones most_moves) (sym (moves-push before (numbered_as p m)));
   renamed_is =
       by.renamed
-      ∙ (λ i. option_or (are.renamed_is i) (renamed_by p (are.moves_are i) m.act))
+      ∙ (λ i. option_or (are.renamed_is i)
+      (option_and_then (renamed_by p (are.moves_are i)) (call_by before (numbered_as p m))))
       ∙ sym (first_of-snoc renamed_at before (numbered_as p m));
 }
 
@@ -105,12 +107,12 @@ untold Editor m said same is =
 
 -- ---- a message that was heard
 
-module _ (p : EventPlace) (side : Side) (bytes : List ℕ) (said : Message) (act : Act)
+module _ (p : EventPlace) (side : Side) (bytes : List ℕ) (said : Message) (call : Option Call)
     (old mid new : Renames) (same : mid.moves ≡ old.moves)
-    (noted : renamed_held mid
-    ≡ option_or (renamed_held old) (renamed_by p (moves_view old.moves.items) act))
+    (noted : renamed_held mid ≡ option_or (renamed_held old)
+    (option_and_then (renamed_by p (moves_view old.moves.items)) call))
   where
-    pub nothing_told : tells_files side said ≡ false → RenamesIn p side bytes said act old mid
+    pub nothing_told : tells_files side said ≡ false → RenamesIn p side bytes said call old mid
     nothing_told is m reads alike =
         let none : moves_by side m ≡ [] = untold side m said alike is in
         record {
@@ -130,7 +132,7 @@ module _ (p : EventPlace) (side : Side) (bytes : List ℕ) (said : Message) (act
 
     pub something_told : tells_files side said ≡ true → renamed_held new ≡ renamed_held mid
         → ((m : Message) → Reads bytes m → Moves (moves_in m) mid.moves.items new.moves.items)
-        → RenamesIn p side bytes said act old new
+        → RenamesIn p side bytes said call old new
     something_told is kept more m reads alike = record {
       moves = told_by side is more m reads;
       renamed = kept ∙ noted;

@@ -1,27 +1,46 @@
 -- What is said of an event that offends, by what was seen of it.
-use Rattle.std.specs.Prelude.{chars, ℤ}
-use Rattle.std.proofs.Common.{◌≡◌, ℕ, Bor, List, Some, None, append-nil, refl, sym, ap, ◌∙◌, subst}
-use Rattle.lsp_docs.specs.Calls.{shows}
+use Rattle.std.specs.Prelude.{◌⊎◌, ℤ, codes, if◌then◌else◌, nat_lt, option_and_then}
+use Rattle.std.specs.Option.{option_or}
+use Rattle.std.proofs.Common.{◌≡◌, ◌<◌, ◌≤◌, ◌∷◌, ◌++◌, [], ℕ, Bool, Bor, List, Option, Some, None}
+use Rattle.std.proofs.Common.{append-nil, arith, false, inl, inr, refl, sym, ap, ◌∙◌, subst, true}
+use Rattle.std.proofs.lemmas.Bool.Decides.{nat_tests}
+use Rattle.std.proofs.lemmas.Option.{same_Some}
+use Rattle.lsp_docs.specs.Calls.{Call}
 use Rattle.lsp_docs.specs.Documents.{Terms}
+use Rattle.lsp_docs.specs.Rules.{call_rule}
 use Rattle.lsp_frame.specs.Front.{header_front}
-use Rattle.lsp_replay.specs.Standing.{RefusesMessage}
 use Rattle.lsp_replay.specs.Telling.{IsSpoken, MaySpeak}
-use Rattle.lsp_rpc.specs.View.{act_view, message_view}
+use Rattle.lsp_rpc.specs.Act.{Act}
+use Rattle.lsp_rpc.specs.Message.{Message, request, notification, response}
+use Rattle.lsp_rpc.specs.Outline.{outline, without_params}
+use Rattle.lsp_rpc.specs.View.{message_view}
+use Rattle.lsp_rpc.specs.Words.{response_id_text}
 use Rattle.lsp_rpc.specs.declared.act.Spoken.{Spoken}
+use Rattle.lsp_session.proofs.LeastRuleLemmas.{rules_end}
+use Rattle.lsp_session.specs.Handshake.{Settled, open_initializes, phase, settled_among}
+use Rattle.lsp_session.specs.OpenInitialize.{Initialize}
+use Rattle.lsp_session.specs.Rules.{rule_after}
+use Rattle.lsp_session.specs.Sent.{Sent}
+use Rattle.lsp_types.specs.declared.rules.TheConstants as rules
 use Rattle.lsp_types.specs.declared.side.Side.{Side}
-use Rattle.lsp_verdict.specs.Event.{Event, message, fault, snapshot}
+use Rattle.lsp_verdict.specs.Event.{Event, call_at, calls, message, fault, sent_in, snapshot}
 use Rattle.lsp_verdict.specs.Heard.{Rests, rest_of}
 use Rattle.lsp_verdict.specs.Given.{raw_view}
-use Rattle.lsp_verdict.specs.Offences.{kept_of, rule_at}
-use Rattle.lsp_verdict.specs.Placed.{Raw, Reads, broken, content, show}
+use Rattle.lsp_verdict.specs.Offences.{is_within, kept_of, said_at}
+use Rattle.lsp_verdict.specs.Placed.{Raw, Reads, broken, content}
+use Rattle.lsp_verdict.specs.Report.{line}
+use Rattle.lsp_verdict.specs.Verdict.{document_rule, offence}
 use Rattle.lsp_verdict.specs.declared.raw.Raw as lent
 use Rattle.lsp_verdict.specs.declared.raw.Raw.TheVariants as lents
 use Rattle.lsp_verdict.specs.declared.verdict.Who.{Who}
-use Rattle.lsp_facts.specs.EventFacts.{content_facts, AreCallFacts, AreFacts, AreMessageFacts}
-use Rattle.lsp_facts.specs.EventFacts.{frame_facts, front_facts}
-use Rattle.lsp_facts.specs.Fact.{Fact, bare_event, content_event, event_line, message_event}
-use Rattle.lsp_facts.proofs.SomeFacts.{message_named, same_line}
-use Rattle.lsp_explain.specs.Traced.{AreTraced}
+use Rattle.lsp_facts.specs.EventFacts.{content_facts, AreCallFacts, AreFacts, AreFactsBy}
+use Rattle.lsp_facts.specs.EventFacts.{early_facts, frame_facts, front_facts, id_in, register_facts}
+use Rattle.lsp_facts.specs.EventFacts.{session_facts, settled_facts}
+use Rattle.lsp_facts.specs.Fact.{Fact, bare_event, content_event, event_line, in_phase}
+use Rattle.lsp_facts.specs.Fact.{message_event}
+use Rattle.lsp_facts.proofs.SomeFacts.{id_in-outline, message_named, same_line}
+use Rattle.lsp_explain.specs.Asking.{Numbered, numbered}
+use Rattle.lsp_explain.specs.Traced.{AreTraced, said_traced, session_trace, setter_at, traced}
 
 module _ (terms : Terms) (before : List Event) (rule : ℕ) where
   abbrev kept : List Event
@@ -30,7 +49,8 @@ module _ (terms : Terms) (before : List Event) (rule : ℕ) where
   -- the facts on this event, with the events that brought it
   abbrev pub AreAll : Rests → Raw → Event → List Fact → Type 0
   AreAll rests raw event facts =
-      AreTraced (AreFacts rests terms kept raw event rule) terms before event rule facts
+      AreTraced (AreFacts rests terms kept raw event rule) (setter_at terms before event)
+      (traced terms before event rule) facts
 
   -- a fault of the frames
   pub frames_said : (rests : Rests) (side : Side) (code : ℕ) (event : Event) (rest : List ℕ)
@@ -50,38 +70,143 @@ module _ (terms : Terms) (before : List Event) (rule : ℕ) where
   unread_said rests side bytes (message m) facts reads silent says = absurd (silent m refl)
   unread_said rests side bytes (snapshot uri number text) facts reads silent says = absurd reads
 
-  -- a message
-  pub message_said : (rests : Rests) (side : Side) (bytes : List ℕ) (event : Event) (by : Side)
-      (s : Spoken) (facts : List Fact) → Reads (content side bytes) event
-      → IsSpoken kept event by s → rule_at terms before event ≡ Some rule
-      → ((refused : RefusesMessage side bytes (message_view s.message) (act_view s.act) terms kept
-      rule) → AreTraced (AreMessageFacts terms kept refused.sent rule) terms before
-      (message refused.sent) rule facts)
-      → AreAll rests (content side bytes) event facts
-  message_said rests side bytes event by s facts reads spoken offends says =
-      let refused : RefusesMessage side bytes (message_view s.message) (act_view s.act) terms kept
-      rule = record {
-        sent = spoken.sent;
-        reads = subst (λ (e : Event). Reads (content side bytes) e) spoken.is reads;
-        says = spoken.says;
-        means = spoken.means;
-        offends = subst (λ (e : Event). rule_at terms before e ≡ Some rule) spoken.is offends;
-        whole = spoken.has_value;
-      } in
-      subst (λ (e : Event). AreAll rests (content side bytes) e facts) (sym spoken.is)
-      (says refused)
+  module _ (rests : Rests) (raw : Raw) (event : Event) (facts : List Fact) where
+    -- a message that breaks a rule on messages
+    pub message_said : (side : Side) (s : Spoken) → (own : IsSpoken kept event side s) → rule < 601
+        → facts ≡ session_facts rule (sent_in kept) own.sent
+        ++ session_trace rule (numbered terms before) own.sent.side (id_in own.sent.message)
+        → AreAll rests raw event facts
+    message_said side s own less says =
+        let below : nat_lt rule 601 ≡ true = grind (arith, nat_tests) in
+        let m = own.sent in
+        let plain = session_facts rule (sent_in kept) m in
+        subst (λ (e : Event). AreAll rests raw e facts) (sym own.is)
+        (subst (λ (b : Bool). AreTraced (AreFactsBy b terms kept m rule)
+        (setter_at terms before (message m))
+        (if b then session_trace rule (numbered terms before) m.side (id_in m.message)
+        else said_traced terms before (message m) rule) facts) (sym below) (plain, refl, says))
 
-  -- a snapshot
-  pub shown_said : (rests : Rests) (number : ℤ) (uri text : List ℕ) (event : Event)
-      (facts : List Fact) → Reads (show number uri text) event
-      → rule_at terms before event ≡ Some rule
-      → (rule_at terms before (snapshot uri number (chars text)) ≡ Some rule
-      → AreTraced (AreCallFacts terms kept rule (Some (shows uri number (chars text)))) terms before
-      (snapshot uri number (chars text)) rule facts)
-      → AreAll rests (show number uri text) event facts
-  shown_said rests number uri text event facts reads offends says =
-      subst (λ (e : Event). AreAll rests (show number uri text) e facts) (sym reads)
-      (says (subst (λ (e : Event). rule_at terms before e ≡ Some rule) reads offends))
+    -- what an event says about a document
+    abbrev AreSaid : Event → Type 0
+    AreSaid e = AreTraced (AreCallFacts terms kept rule (said_at terms before e))
+        (setter_at terms before e) (said_traced terms before e rule) facts
+
+    -- a message that breaks a rule on documents
+    pub call_said : (side : Side) (s : Spoken) → IsSpoken kept event side s → 601 ≤ rule
+        → AreSaid event → AreAll rests raw event facts
+    call_said side s own more says =
+        let above : nat_lt rule 601 ≡ false = grind (arith, nat_tests) in
+        let m = own.sent in
+        subst (λ (e : Event). AreAll rests raw e facts) (sym own.is)
+        (subst (λ (b : Bool). AreTraced (AreFactsBy b terms kept m rule)
+        (setter_at terms before (message m))
+        (if b then session_trace rule (numbered terms before) m.side (id_in m.message)
+        else said_traced terms before (message m) rule) facts) (sym above)
+        (subst AreSaid own.is says))
+
+    -- a snapshot
+    pub shown_said : (number : ℤ) (uri text : List ℕ) → event ≡ snapshot uri number text
+        → AreSaid event → AreAll rests raw event facts
+    shown_said number uri text own says =
+        subst (λ (e : Event). AreAll rests raw e facts) (sym own) (subst AreSaid own says)
+
+-- ---- the rule
+
+by_rule : (terms : Terms) (kept : List Event) (m : Sent) (rule : ℕ) → 601 ≤ rule → (o : Option ℕ)
+    → rule_after (sent_in kept) m ≡ o → option_or o (document_rule terms kept (message m)) ≡ Some rule
+    → document_rule terms kept (message m) ≡ Some rule
+by_rule terms kept m rule least None is e = e
+by_rule terms kept m rule least (Some r) is e =
+    let same : r ≡ rule = same_Some r rule e in
+    let below = rules_end (sent_in kept) m r is in
+    absurd (omega (arith, same, below, least))
+
+-- from 601 on it is broken by what a message says about a document
+pub message_breaks : (terms : Terms) (kept : List Event) (event : Event) (side : Side) (s : Spoken)
+    (rule : ℕ) → IsSpoken kept event side s → 601 ≤ rule → offence terms kept event ≡ Some rule
+    → document_rule terms kept event ≡ Some rule
+message_breaks terms kept event side s rule own least offends =
+    ap (document_rule terms kept) own.is
+    ∙ by_rule terms kept own.sent rule least (rule_after (sent_in kept) own.sent) refl
+    (ap (offence terms kept) (sym own.is) ∙ offends)
+
+pub shown_breaks : (terms : Terms) (kept : List Event) (event : Event) (number : ℤ)
+    (uri text : List ℕ) (rule : ℕ) → event ≡ snapshot uri number text
+    → offence terms kept event ≡ Some rule → document_rule terms kept event ≡ Some rule
+shown_breaks terms kept event number uri text rule own offends =
+    ap (document_rule terms kept) own ∙ ap (offence terms kept) (sym own) ∙ offends
+
+-- and by the call of any event that says something of one
+pub call_breaks : (terms : Terms) (kept : List Event) (event : Event) (call : Call) (rule : ℕ)
+    → 601 ≤ rule → offence terms kept event ≡ Some rule → call_at kept event ≡ Some call
+    → call_rule terms (calls kept) call ≡ Some rule
+call_breaks terms kept event call rule least offends says =
+    ap (option_and_then (call_rule terms (calls kept))) (sym says) ∙ by_event event offends says
+  where
+    by_event : (e : Event) → offence terms kept e ≡ Some rule → call_at kept e ≡ Some call
+        → document_rule terms kept e ≡ Some rule
+    by_event (message m) is at =
+        by_rule terms kept m rule least (rule_after (sent_in kept) m) refl is
+    by_event (fault side code) is at = absurd (cc at)
+    by_event (snapshot uri number text) is at = is
+
+-- ---- a message as it was heard
+
+-- it is of the side whose content it is
+pub heard_by : (kept : List Event) (event : Event) (side by : Side) (bytes : List ℕ) (s : Spoken)
+    → Reads (content side bytes) event → IsSpoken kept event by s → IsSpoken kept event side s
+heard_by _ event side by bytes s reads own = record {
+  sent = own.sent;
+  is = own.is;
+  by = (subst (λ (e : Event). Reads (content side bytes) e) own.is reads).by;
+  says = own.says;
+  means = own.means;
+  has_value = own.has_value;
+}
+
+bare_settles : (opens : List Initialize) (side : Side) (m : Message)
+    → settled_among opens side (without_params m) ≡ settled_among opens side m
+bare_settles opens side (request id method params) = refl
+bare_settles opens side (notification method params) = refl
+bare_settles opens side (response id reply) = refl
+
+module _ (rule : ℕ) (m : Sent) (side : Side) (said : Message) (by : m.side ≡ side)
+    (same : outline m.message ≡ outline said) where
+  same_id : id_in said ≡ id_in m.message
+  same_id = id_in-outline said ∙ sym (ap id_in same) ∙ sym (id_in-outline m.message)
+
+  -- what is traced of it
+  pub trace_heard : (before : List Numbered)
+      → session_trace rule before side (id_in said)
+      ≡ session_trace rule before m.side (id_in m.message)
+  trace_heard before = λ i. session_trace rule before (sym by i) (same_id i)
+
+  -- and the facts on it
+  pub session_heard : (before : List Sent) (act : Act) → m.act ≡ act
+      → (open_initializes before ≡ []) ⊎ (said ≡ without_params m.message)
+      → session_facts rule before (record { side = side; message = said; act = act })
+      ≡ session_facts rule before m
+  session_heard before act means has_value =
+      λ i. facts (line (codes "id" ∷ response_id_text (same_id i) ∷ [])) (sym means i)
+      (settles has_value i)
+    where
+      facts : Fact → Act → Option Settled → List Fact
+      facts id does settled =
+          if is_within rules.RESPONSE_TO_NO_OPEN_REQUEST rules.ID_ALREADY_OPEN rule then id ∷ []
+          else (if is_within rules.EDITOR_BEFORE_INITIALIZE rules.SERVER_WHILE_INITIALIZE_OPEN rule
+          then early_facts rule before does ++ in_phase (phase before) ∷ []
+          else (if is_within rules.BAD_INITIALIZE_RESULT rules.ENCODING_OUTSIDE_PROFILE rule
+          then settled_facts settled else register_facts does))
+
+      settles : (open_initializes before ≡ []) ⊎ (said ≡ without_params m.message)
+          → settled_among (open_initializes before) side said
+          ≡ settled_among (open_initializes before) m.side m.message
+      settles (inl none) =
+          ap (λ (l : List Initialize). settled_among l side said) none
+          ∙ sym (ap (λ (l : List Initialize). settled_among l m.side m.message) none)
+      settles (inr bare) =
+          (λ i. settled_among (open_initializes before) (sym by i) (bare i))
+          ∙ bare_settles (open_initializes before) m.side m.message
 
 -- what is no content is told without words
 pub bare_said : (event number : ℕ) (who : Who) (raw : lent.Raw)

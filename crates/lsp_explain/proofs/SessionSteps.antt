@@ -1,6 +1,6 @@
 -- What is noted of requests and phases, and what is remarkable, with one message more.
 use Rattle.std.specs.Prelude.{if◌then◌else◌, ◌⊎◌, ◌&&◌, ◌||◌, not, string_bytes, option_and_then}
-use Rattle.std.specs.Prelude.{unwrap_or, is_some, option_map, option_to_list}
+use Rattle.std.specs.Prelude.{unwrap_or, is_some, map, option_map, option_to_list}
 use Rattle.std.specs.Option.{option_or}
 use Rattle.std.proofs.Common.{◌≡◌, Bool, true, false, Option, Some, None, refl, ℕ, List, [], ◌∷◌}
 use Rattle.std.proofs.Common.{◌++◌, inl, inr, sym, ap, ◌∙◌, append-nil, subst}
@@ -10,24 +10,27 @@ use Rattle.std.proofs.lemmas.List.{map-append}
 use Rattle.std.proofs.lemmas.List.Elements.{filter_map-append}
 use Rattle.std.proofs.lemmas.Option.{same_Some}
 use Rattle.serde_json.specs.Data.{Data}
-use Rattle.lsp_rpc.specs.Act.{Offer, Act}
+use Rattle.lsp_rpc.specs.Act.{Offer}
 use Rattle.lsp_rpc.specs.Message.{Message, request, notification, response, result, error}
 use Rattle.lsp_rpc.specs.Outline.{outline, without_params}
 use Rattle.lsp_rpc.specs.Ident.{Ident, id_view}
 use Rattle.lsp_rpc.specs.Reading.{Reads}
 use Rattle.lsp_session.specs.Handshake.{Settled, first_settled, is_done, offer_to, open_initializes}
 use Rattle.lsp_session.specs.Handshake.{phase, result_of, settled_among, settled_at, settled_by}
+use Rattle.lsp_session.specs.Negotiation.{encoding, sync_kind}
 use Rattle.lsp_session.specs.OpenInitialize.{Initialize}
 use Rattle.lsp_session.specs.Sent.{Sent, answered_from}
 use Rattle.lsp_session.proofs.Steps.{first_settled_from-push}
 use Rattle.lsp_session.specs.declared.phase.Phase.{Phase}
+use Rattle.lsp_types.specs.declared.change.SyncKind.TheVariants.{Nothing}
+use Rattle.lsp_types.specs.declared.position.Encoding.TheVariants.{Utf16}
 use Rattle.lsp_types.specs.declared.side.Side.{Side}
 use Rattle.lsp_types.specs.declared.side.Side.TheVariants.{Editor, Server}
 use Rattle.lsp_verdict.specs.LookBack.{each_of, each_from}
 use Rattle.lsp_verdict.specs.Offences.{last_or, kept_of, rule_at}
 use Rattle.lsp_verdict.proofs.LookBackLemmas.{each_of-snoc}
 use Rattle.lsp_verdict.proofs.Offences.Steps.{last_behind}
-use Rattle.lsp_verdict.specs.Event.{Event, message, sent_in, sent_of}
+use Rattle.lsp_verdict.specs.Event.{Event, call_at, call_of, message, sent_in, sent_of}
 use Rattle.lsp_verdict.specs.Laws.{kept_at}
 use Rattle.lsp_verdict.proofs.Offences.Offending.{kept_are_others}
 use Rattle.lsp_replay.specs.declared.heard.EventPlace.{EventPlace}
@@ -44,7 +47,7 @@ use Rattle.lsp_explain.specs.SessionRemarks.{older_of}
 use Rattle.lsp_explain.specs.declared.notes.misuses.Misused as code
 use Rattle.lsp_explain.specs.declared.notes.remarks.Remarks.{Remarks}
 use Rattle.lsp_explain.specs.History.{kept_as, last_ones}
-use Rattle.lsp_explain.specs.Renames.{RenamesBy, RenamesIn}
+use Rattle.lsp_explain.specs.Renames.{RenamesBy, RenamesIn, call_by}
 use Rattle.lsp_explain.specs.SessionNoting.{AreNotes, Exchanges, IsExchange, Says, SessionStands}
 use Rattle.lsp_explain.specs.SessionNoting.{place_in}
 use Rattle.lsp_explain.specs.declared.notes.exchange.Exchange.{Exchange}
@@ -214,6 +217,19 @@ pub sents-numbered : (terms : Terms) (events : List Event)
 sents-numbered terms events =
     sym (ap sent_in (kept_are_others terms events) ∙ sents_from terms [] events)
 
+-- what a message says about a document, under what the kept messages agreed
+called : (terms : Terms) (events : List Event) (m : Sent) (p : EventPlace)
+    → call_by (numbered terms events) (numbered_as p m)
+    ≡ call_at (kept_of terms events) (message m)
+called terms events m p =
+    ap (λ (ms : List Sent). call_of (unwrap_or (encoding ms) Utf16)
+    (unwrap_or (sync_kind ms) Nothing) m.act)
+    (are_sent (sents (numbered terms events)) ∙ sents-numbered terms events)
+  where
+    are_sent : (ms : List Sent) → sent_in (map message ms) ≡ ms
+    are_sent [] = refl
+    are_sent (x ∷ xs) = ap (λ (ms : List Sent). x ∷ ms) (are_sent xs)
+
 -- ---- what a message says of requests, apart from its params and its result
 
 pub asks-outline : (side : Side) (id : Ident) (p : EventPlace) (sender : Side) (m : Message)
@@ -290,16 +306,17 @@ other_unsaid terms s before e are kept is =
 
 -- **a message that is kept**, which this content is
 pub message_noted : (terms : Terms) (old new : SessionNotes) (before : List Event) (m : Sent)
-    (bytes : List ℕ) (said : Message) (act : Act) (p : EventPlace) → AreNotes terms old before
+    (bytes : List ℕ) (said : Message) (p : EventPlace) → AreNotes terms old before
     → rule_at terms before (message m) ≡ None
     → p ≡ place_of before (message m) → Reads bytes m.message → outline m.message ≡ outline said
-    → m.act ≡ act → HasValue (kept_of terms before) said m.message
+    → HasValue (kept_of terms before) said m.message
     → Says p m.side said (phase (sent_in (kept_of terms (before ++ message m ∷ []))))
     (is_done (sent_in (kept_of terms (before ++ message m ∷ [])))) old new
-    → RenamesIn p m.side bytes said act old.renames new.renames
+    → RenamesIn p m.side bytes said (call_at (kept_of terms before) (message m)) old.renames
+    new.renames
     → AreNotes terms new (before ++ message m ∷ [])
-message_noted terms old new before m bytes said act p are kept number reads same means has_value
-    says renamed =
+message_noted terms old new before m bytes said p are kept number reads same has_value says
+    renamed =
     subst (SessionStands new) (sym whole) (record {
       editor = exchanged Editor p m said same old.editor new.editor ms are.editor says.editor;
       server = exchanged Server p m said same old.server new.server ms are.server says.server;
@@ -313,8 +330,8 @@ message_noted terms old new before m bytes said act p are kept number reads same
           (subst (λ (q : Phase). Remarked p m.side said q (phase sents_behind)
           (is_done sents_behind) old.remarks new.remarks) are.phase_is more);
       renames_are = renames_more p m ms old.renames new.renames are.renames_are
-          (subst (λ (a : Act). RenamesBy p m.side m.message a old.renames new.renames) (sym means)
-          (renamed m.message reads same));
+          (subst (λ o. RenamesBy p m.side m.message o old.renames new.renames)
+          (sym (called terms before m p)) (renamed m.message reads same));
     })
   where
     ms : List Numbered

@@ -10,18 +10,12 @@ use Rattle.lsp_docs.specs.Calls.{Call}
 use Rattle.lsp_rpc.specs.Act.{Act, cancel, early, exit, initialized, other, progress}
 use Rattle.lsp_rpc.specs.Ident.{Ident}
 use Rattle.lsp_rpc.specs.Message.{Message, notification}
-use Rattle.lsp_rpc.specs.Outline.{outline}
 use Rattle.lsp_rpc.specs.Params.{Row, act_at, act_by, cancel_at, notifications, progress_at}
-use Rattle.lsp_rpc.specs.View.{act_view, message_view}
-use Rattle.lsp_rpc.specs.declared.act.Spoken.{Spoken}
-use Rattle.lsp_session.specs.Sent.{Sent}
 use Rattle.lsp_types.specs.declared.change.SyncKind.{SyncKind}
 use Rattle.lsp_types.specs.declared.position.Encoding.{Encoding}
 use Rattle.lsp_types.specs.declared.side.Side.{Side}
 use Rattle.lsp_types.specs.declared.side.Side.TheVariants.{Editor, Server}
-use Rattle.lsp_replay.specs.Telling.{IsSpoken}
-use Rattle.lsp_verdict.specs.Event.{call_of, Event}
-use Rattle.lsp_verdict.specs.Placed.{Reads, content}
+use Rattle.lsp_verdict.specs.Event.{call_of}
 use Rattle.lsp_verdict.proofs.Offences.Quiet.{IsNotified, IsPlain, is_notified}
 use Rattle.lsp_explain.specs.SessionRemarks.{notification_misuse}
 use Rattle.lsp_explain.specs.StandardMethods.{standard, use_among, use_of}
@@ -124,37 +118,29 @@ right_rows Server = (
   ),
 )
 
--- **what is heard of such a message**
-pub record IsOnDocument (side : Side) (said : Message) : Type 0 where
+-- **what such a message is**
+pub record IsOnDocument (side : Side) (m : Message) : Type 0 where
   pub method : List ℕ
-  pub is : outline said ≡ notification method None
+  pub params : Option Data
+  pub is : m ≡ notification method params
   pub standard : notification_misuse side method ≡ None
   pub no_files : is_on_files method ≡ false
 
-pub on_document_heard : (kept : List Event) (event : Event) (side : Side) (bytes : List ℕ)
-    (s : Spoken) (enc : Encoding) (kind : SyncKind) (call : Call)
-    → Reads (content side bytes) event → IsSpoken kept event side s
-    → call_of enc kind (act_view s.act) ≡ Some call → IsOnDocument side (message_view s.message)
-on_document_heard kept event side bytes s enc kind call reads spoken says =
-    by_row (right_by side (notifications side) (right_rows side) told.method told.params
-    (act_view s.act) (ap (act_at side) (sym told.is) ∙ here))
+pub on_document : (side : Side) (m : Message) (act : Act) (enc : Encoding) (kind : SyncKind)
+    (call : Call) → act_at side m ≡ Some act → call_of enc kind act ≡ Some call
+    → IsOnDocument side m
+on_document side m act enc kind call means says =
+    let told = is_notified side m act enc kind call means says in
+    by_row told (right_by side (notifications side) (right_rows side) told.method told.params act
+    (ap (act_at side) (sym told.is) ∙ means))
   where
-    sent : Sent
-    sent = spoken.sent
-
-    here : act_at side sent.message ≡ Some (act_view s.act)
-    here = (subst (λ (e : Event). Reads (content side bytes) e) spoken.is reads).means
-        ∙ ap Some spoken.means
-
-    told : IsNotified sent.message
-    told = is_notified side sent.message (act_view s.act) enc kind call here says
-
-    by_row : IsRight side told.method (act_view s.act) → IsOnDocument side (message_view s.message)
-    by_row (inr right) = record {
+    by_row : (told : IsNotified m) → IsRight side told.method act → IsOnDocument side m
+    by_row told (inr right) = record {
       method = told.method;
-      is = sym spoken.says ∙ ap outline told.is;
+      params = told.params;
+      is = told.is;
       standard = right.0;
       no_files = right.1;
     }
-    by_row (inl is_plain) =
+    by_row told (inl is_plain) =
         let none : None ≡ Some call = sym (is_plain enc kind) ∙ says in absurd (cc none)

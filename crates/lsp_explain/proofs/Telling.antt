@@ -1,24 +1,17 @@
 -- What is told of an event that offends, and the facts on it with the events that brought it.
-use Rattle.std.specs.Prelude.{nat_lt, map, ◌==◌, codes, if◌then◌else◌, option_map, unwrap_or}
-use Rattle.std.proofs.Common.{◌≡◌, ◌<◌, ◌≤◌, ℕ, Bool, true, false, List, [], ◌++◌, Option, sym, ap}
+use Rattle.std.specs.Prelude.{map, ◌==◌, codes, if◌then◌else◌}
+use Rattle.std.proofs.Common.{◌≡◌, ◌<◌, ℕ, Bool, false, List, [], ◌++◌, Option, sym, ap}
 use Rattle.std.proofs.Common.{◌∙◌, arith, ◌+◌, ◌^◌, ◌∷◌, length, Some, refl, Bor, subst}
 use Rattle.std.proofs.Common.{append_assoc}
 use Rattle.std.proofs.lemmas.Bool.Decides.{nat_tests}
 use Rattle.std.proofs.lemmas.List.{length-map}
-use Rattle.lsp_docs.specs.Calls.{uri_of}
 use Rattle.lsp_docs.specs.Documents.{Terms}
 use Rattle.lsp_docs.specs.State as docs
 use Rattle.lsp_docs.specs.declared.tried.Tried.{Tried}
-use Rattle.lsp_session.specs.Negotiation.{encoding, sync_kind}
-use Rattle.lsp_session.specs.Sent.{Sent}
 use Rattle.lsp_session.specs.State as session
-use Rattle.lsp_types.specs.declared.change.SyncKind.{SyncKind}
-use Rattle.lsp_types.specs.declared.change.SyncKind.TheVariants.{Nothing}
-use Rattle.lsp_types.specs.declared.position.Encoding.{Encoding}
-use Rattle.lsp_types.specs.declared.position.Encoding.TheVariants.{Utf16}
 use Rattle.lsp_types.specs.declared.side.Side.{Side}
 use Rattle.lsp_types.specs.declared.side.Side.TheVariants.{Editor, Server}
-use Rattle.lsp_verdict.specs.Event.{call_of, Event, message, sent_in}
+use Rattle.lsp_verdict.specs.Event.{Event}
 use Rattle.lsp_verdict.specs.Offences.{kept_of, Noted}
 use Rattle.lsp_verdict.specs.Given.{offence_view}
 use Rattle.lsp_verdict.specs.Heard.{Heard, Rests, heard_events, notes_of, rest_of}
@@ -28,81 +21,31 @@ use Rattle.lsp_verdict.specs.Report.{report}
 use Rattle.lsp_verdict.specs.Verdict.{belongs_to, count_of, no, no_by, whose}
 use Rattle.lsp_verdict.specs.declared.counts.Counts.{Counts}
 use Rattle.lsp_verdict.specs.declared.offence.Offence.{Offence}
-use Rattle.lsp_verdict.specs.declared.raw.Raw as lent
 use Rattle.lsp_verdict.specs.declared.verdict.Who.{Who}
 use Rattle.lsp_verdict.proofs.EventCounts.{count_few}
 use Rattle.lsp_verdict.proofs.ExactCounts.{capped_is}
 use Rattle.lsp_verdict.proofs.Offences.Steps.{kept-refused}
-use Rattle.lsp_rpc.specs.Act.{Act}
-use Rattle.lsp_rpc.specs.Message.{Message}
-use Rattle.lsp_rpc.specs.Outline.{outline}
-use Rattle.lsp_rpc.specs.declared.act.Spoken.{Spoken}
 use Rattle.lsp_replay.specs.Lines.{place_of}
 use Rattle.lsp_replay.specs.declared.heard.EventPlace.{EventPlace}
 use Rattle.lsp_replay.specs.Standing.{Holds}
 use Rattle.lsp_replay.specs.Streams.{decoder_of}
-use Rattle.lsp_replay.specs.Telling.{FitsRests, IsSeen, ShowsFault, Stood, rule_of}
+use Rattle.lsp_replay.specs.Telling.{HasFate, IsSeen, ShowsFault, Stood, rule_of}
 use Rattle.lsp_replay.specs.declared.log_events.LogEvents.{LogEvents}
+use Rattle.lsp_replay.specs.declared.seen.Fate.{Fate}
+use Rattle.lsp_replay.specs.declared.seen.Fate.TheVariants as fates
 use Rattle.lsp_replay.specs.declared.seen.Seen.{Seen}
-use Rattle.lsp_replay.specs.declared.seen.Seen.TheVariants as variants
 use Rattle.lsp_replay.proofs.Seeing.{events-push}
 use Rattle.lsp_facts.specs.Fact.{Fact, cited, detail_lines, event_line}
-use Rattle.lsp_facts.specs.EventFacts.{id_in, AreFacts}
-use Rattle.lsp_facts.proofs.SomeFacts.{id_in-outline}
+use Rattle.lsp_facts.specs.EventFacts.{AreFacts}
 use Rattle.lsp_text.specs.Counted.{Counted}
-use Rattle.lsp_explain.specs.Asking.{numbered}
 use Rattle.lsp_explain.specs.History.{KeptCall}
 use Rattle.lsp_explain.specs.Marking.{agreed, recent}
-use Rattle.lsp_explain.specs.Traced.{act_call, apart_facts, document_traced, message_traced}
-use Rattle.lsp_explain.specs.Traced.{session_trace, setter_at, setter_of, traced, AreTraced}
+use Rattle.lsp_explain.specs.Traced.{apart_facts, document_traced, setter_at, traced, AreTraced}
 use Rattle.lsp_explain.specs.declared.suspects.Until.{Until}
 use Rattle.lsp_explain.specs.ExplainRuns.{TellsOf, rests_held}
 use Rattle.lsp_explain.specs.Explained.{place_in}
 use Rattle.lsp_explain.specs.Trails.{StandsAfter, IsTrail}
 use Rattle.lsp_explain.specs.declared.trail.Past.{Past}
-
--- ---- the facts on a message that was heard, with the events that brought it, are those on the
--- message
-
-module _ (terms : Terms) (before : List Event) (place : EventPlace) (rule : ℕ) (m : Sent)
-    (side : Side) (said : Message) (act : Act) (by : m.side ≡ side)
-    (same : outline m.message ≡ outline said) (means : m.act ≡ act)
-    (is : place ≡ place_of before (message m)) where
-  -- what is traced, where the rule is one on messages or not
-  abbrev of : Bool → List Fact
-  of b = if b then session_trace rule (numbered terms before) m.side (id_in m.message)
-      else message_traced terms before (place_of before (message m)) rule
-      (act_call terms before m.act)
-
-  -- below 601 the rule is one on messages
-  pub session_traced : rule < 601
-      → session_trace rule (numbered terms before) side (id_in said)
-      ≡ traced terms before (message m) rule
-  session_traced less =
-      let below : nat_lt rule 601 ≡ true = grind (arith, nat_tests) in
-      let ids : id_in said ≡ id_in m.message =
-      id_in-outline said ∙ sym (ap id_in same) ∙ sym (id_in-outline m.message) in
-      (λ i. session_trace rule (numbered terms before) (sym by i) (ids i)) ∙ sym (ap of below)
-
-  pub documents_traced : 601 ≤ rule
-      → message_traced terms before place rule (act_call terms before act)
-      ≡ traced terms before (message m) rule
-  documents_traced more =
-      let above : nat_lt rule 601 ≡ false = grind (arith, nat_tests) in
-      (λ i. message_traced terms before (is i) rule (act_call terms before (sym means i)))
-      ∙ sym (ap of above)
-
--- the URI in an act is that of the document of which the message speaks
-pub same_setter : (terms : Terms) (before : List Event) (m : Sent) (act : Act)
-    (uri : Option (List ℕ)) → m.act ≡ act
-    → ((enc : Encoding) (kind : SyncKind) → uri ≡ option_map uri_of (call_of enc kind act))
-    → setter_of terms before uri ≡ setter_at terms before (message m)
-same_setter terms before m act uri means is =
-    let sent = sent_in (kept_of terms before) in
-    let enc = unwrap_or (encoding sent) Utf16 in
-    let kind = unwrap_or (sync_kind sent) Nothing in
-    ap (setter_of terms before) (is enc kind
-    ∙ ap (λ a. option_map uri_of (call_of enc kind a)) (sym means))
 
 -- under another rule than 702 no snapshot that differs is named
 pub names_no_texts : (done : List KeptCall) (ps qs : List EventPlace) (until : Until) (rule : ℕ)
@@ -180,8 +123,9 @@ pub tells_of : (terms : Terms) (before : List Heard) (h : Heard) (o : Offence) (
     (Fits : Rests → Type 0) (facts : List Fact) (old mid next new : List ℕ) → h.raw ≡ raw
     → (offence_view o).no ≡ no_by (heard_events before) h.note.event o.rule
     → ((rests : Rests) → Fits rests → AreTraced (AreFacts rests terms
-    (kept_of terms (heard_events before)) raw h.note.event o.rule) terms (heard_events before)
-    h.note.event o.rule facts)
+    (kept_of terms (heard_events before)) raw h.note.event o.rule)
+    (setter_at terms (heard_events before) h.note.event)
+    (traced terms (heard_events before) h.note.event o.rule) facts)
     → mid ≡ old ++ report (offence_view o).no
     → next ≡ mid ++ event_line o.event o.who o.number raw
     → new ≡ next ++ detail_lines facts (offence_view o).no
@@ -197,34 +141,34 @@ tells_of terms before h o raw Fits facts old mid next new raw_is no_is are first
         no_is = no_is;
         event_is = ap (event_line o.event o.who o.number) (sym raw_is);
         facts_are = subst (λ (w : Raw). AreTraced (AreFacts rests terms
-            (kept_of terms (heard_events before)) w h.note.event o.rule) terms (heard_events before)
-            h.note.event o.rule facts) (sym raw_is) (are rests fits);
+            (kept_of terms (heard_events before)) w h.note.event o.rule)
+            (setter_at terms (heard_events before) h.note.event)
+            (traced terms (heard_events before) h.note.event o.rule) facts) (sym raw_is)
+            (are rests fits);
       };
       added = third ∙ ap (λ w. w ++ details) (second ∙ ap (λ w. w ++ line) first)
           ∙ append_assoc (old ++ report v) line details
           ∙ append_assoc old (report v) (line ++ details);
     }
 
--- what is told of what is lent of an offence is told of what is seen of it
-pub told_of : (terms : Terms) (before : List Heard) (h : Heard) (s : Seen) (raw : lent.Raw)
-    (rule : ℕ) (spoken : Option (Bor Spoken)) (tried : Option (Bor (Tried Counted)))
-    (o : Offence) (late : Bool) (m : session.State) (d : docs.State) (c : Counts)
-    (old new : List ℕ) → s ≡ variants.Offence raw rule spoken tried
+-- what is told of its fate is told of what is seen of it
+pub told_of : (terms : Terms) (before : List Heard) (h : Heard) (s : Seen) (rule : ℕ)
+    (tried : Option (Bor (Tried Counted))) (o : Offence) (late : Bool) (m : session.State)
+    (d : docs.State) (c : Counts) (old new : List ℕ) → s.fate ≡ fates.Offends rule tried
     → offence_view o ≡ record {
       no = no_by (heard_events before) h.note.event rule;
       follows = late;
     }
     → IsSeen m d c s terms before h
-    → (IsSeen m d c (variants.Offence raw o.rule spoken tried) terms before h
+    → (IsSeen m d c s terms before h → HasFate terms before h (fates.Offends o.rule tried)
     → (offence_view o).no ≡ no_by (heard_events before) h.note.event o.rule
-    → TellsOf terms before h o.rule (ShowsFault raw) old new)
-    → TellsOf terms before h rule (FitsRests s) old new
-told_of terms before h s raw rule spoken tried o late m d c old new is last seen tells =
+    → TellsOf terms before h o.rule (ShowsFault s.raw) old new)
+    → TellsOf terms before h rule (ShowsFault s.raw) old new
+told_of terms before h s rule tried o late m d c old new is last seen tells =
     let named = by_rule_of o (heard_events before) h.note.event rule late last in
-    subst (λ (x : Seen). TellsOf terms before h rule (FitsRests x) old new) (sym is)
-    (subst (λ r. TellsOf terms before h r (ShowsFault raw) old new) named.0
-    (tells (subst (λ r. IsSeen m d c (variants.Offence raw r spoken tried) terms before h)
-    (sym named.0) (subst (λ (x : Seen). IsSeen m d c x terms before h) is seen)) named.1))
+    subst (λ r. TellsOf terms before h r (ShowsFault s.raw) old new) named.0
+    (tells seen (subst (λ r. HasFate terms before h (fates.Offends r tried)) (sym named.0)
+    (subst (λ (f : Fate). HasFate terms before h f) is seen.fate)) named.1)
 
 -- what is known of the past stands for all events
 pub stands_at : (past : Past) (terms : Terms) (heard : List Heard)

@@ -1,43 +1,46 @@
 -- What is noted once one more event was told.
-use Rattle.std.specs.Prelude.{ℤ, option_and_then, unwrap_or, Result, Ok, Err, OnOk}
+use Rattle.std.specs.Borrow.{Bor}
+use Rattle.std.specs.Prelude.{option_and_then, Result, Ok, Err, OnOk}
 use Rattle.std.specs.List.{cons_option}
+use Rattle.std.specs.Option.{option_or}
 use Rattle.std.proofs.Common.{◌≡◌, ℕ, List, [], ◌∷◌, ◌++◌, Option, Some, None, refl, sym, ap, ◌∙◌}
 use Rattle.std.proofs.Common.{append-nil, subst}
-use Rattle.lsp_docs.specs.Stored.{answer_of}
-use Rattle.lsp_docs.specs.Documents.{held, Terms}
-use Rattle.lsp_docs.specs.Snapshots.{kept}
-use Rattle.lsp_docs.specs.declared.snapshot.Match.{Match}
+use Rattle.lsp_docs.specs.Calls.{Call}
+use Rattle.lsp_docs.specs.Documents.{Terms}
+use Rattle.lsp_docs.specs.Taken.{took_by}
+use Rattle.lsp_docs.specs.declared.call.Took.{Took}
 use Rattle.lsp_replay.specs.Lines.{place_of}
-use Rattle.lsp_replay.specs.Telling.{IsSpoken, kept_before, rule_of}
+use Rattle.lsp_replay.specs.Telling.{HasFate, IsSpoken, kept_before, rule_of, took_of}
 use Rattle.lsp_replay.specs.declared.heard.EventPlace.{EventPlace}
+use Rattle.lsp_replay.specs.declared.seen.Fate.{Fate}
+use Rattle.lsp_replay.specs.declared.seen.Fate.TheVariants as fates
 use Rattle.lsp_replay.proofs.Seeing.{events-push}
-use Rattle.lsp_rpc.specs.Act.{Act}
-use Rattle.lsp_rpc.specs.View.{act_view, message_view}
+use Rattle.lsp_rpc.specs.View.{message_view}
 use Rattle.lsp_rpc.specs.declared.act.Spoken.{Spoken}
 use Rattle.lsp_session.specs.Handshake.{is_done, phase}
-use Rattle.lsp_session.specs.Negotiation.{encoding, sync_kind}
-use Rattle.lsp_types.specs.declared.change.SyncKind.{SyncKind}
-use Rattle.lsp_types.specs.declared.change.SyncKind.TheVariants.{Nothing}
-use Rattle.lsp_types.specs.declared.position.Encoding.{Encoding}
-use Rattle.lsp_types.specs.declared.position.Encoding.TheVariants.{Utf16}
+use Rattle.lsp_session.specs.Sent.{Sent}
 use Rattle.lsp_types.specs.declared.side.Side.{Side}
-use Rattle.lsp_verdict.specs.Event.{call_of, calls, Event, message, sent_in, snapshot}
+use Rattle.lsp_verdict.specs.Event.{call_at, calls, Event, fault, message, sent_in, snapshot}
+use Rattle.lsp_verdict.specs.Given.{raw_view}
 use Rattle.lsp_verdict.specs.Heard.{Heard, heard_events}
-use Rattle.lsp_verdict.specs.Offences.{IsNoted, kept_of, rule_at}
+use Rattle.lsp_verdict.specs.Offences.{kept_of, rule_at}
 use Rattle.lsp_verdict.specs.Placed.{Reads, content}
-use Rattle.lsp_explain.specs.History.{KeptCall, call_kept, event_kept, kept_call, kept_calls}
+use Rattle.lsp_verdict.specs.declared.raw.Raw as lent
+use Rattle.lsp_verdict.specs.declared.raw.Raw.TheVariants as lents
+use Rattle.lsp_explain.specs.History.{KeptCall, call_kept, event_kept, kept_calls}
 use Rattle.lsp_explain.specs.Marking.{MarkedBy}
 use Rattle.lsp_explain.specs.Openings.{OpenedBy}
-use Rattle.lsp_explain.specs.Renames.{RenamesIn}
+use Rattle.lsp_explain.specs.Renames.{RenamesIn, moves_view, renamed_by, renamed_held}
 use Rattle.lsp_explain.specs.SessionNoting.{AreNotes, Says}
 use Rattle.lsp_explain.specs.Trails.{IsTrail, Keeps}
 use Rattle.lsp_explain.specs.declared.notes.marks.Marks.{Marks}
 use Rattle.lsp_explain.specs.declared.notes.openings.Openings.{Openings}
+use Rattle.lsp_explain.specs.declared.notes.renames.Renames.{Renames}
 use Rattle.lsp_explain.specs.declared.notes.session_notes.SessionNotes.{SessionNotes}
-use Rattle.lsp_explain.specs.declared.notes.step.Step.TheVariants.{Shows}
 use Rattle.lsp_explain.specs.declared.trail.Trail.{Trail}
 use Rattle.lsp_explain.proofs.History.{kept_more, refused_more}
-use Rattle.lsp_explain.proofs.SessionSteps.{message_noted, other_unsaid, refused_unsaid}
+use Rattle.lsp_explain.proofs.Quiet.{call_noted}
+use Rattle.lsp_explain.proofs.SessionSteps.{message_noted, refused_unsaid}
 
 -- nothing more
 pub none_kept : (m : Marks) (o : Openings) → Keeps None m o m o
@@ -50,6 +53,28 @@ pub on_ok_two : {U E P Q R : Type 0} (r : Result U E) → (P → Q → R) → On
     → OnOk r R
 on_ok_two (Ok u) f p q = f p q
 on_ok_two (Err e) f p q = tt
+
+-- one that is kept and says nothing of a document is a message
+pub is_message : (terms : Terms) (events : List Event) (e : Event) → rule_at terms events e ≡ None
+    → call_at (kept_of terms events) e ≡ None → (sent : Sent) × (e ≡ message sent)
+is_message terms events (message m) kept says = (m, refl)
+is_message terms events (fault side rule) kept says = absurd (cc kept)
+is_message terms events (snapshot uri number text) kept says = absurd (cc says)
+
+-- and lent as a content
+pub no_content : (raw : lent.Raw) (sent : Sent)
+    → ((side : Side) (bytes : Bor (List ℕ)) → raw ≡ lents.Content side bytes → ⊥)
+    → Reads (raw_view raw) (message sent) → ⊥
+no_content (lents.Content side bytes) sent not reads = not side bytes refl
+no_content (lents.Broken side rule rest) sent not reads = absurd (cc reads)
+no_content (lents.Snapshot version uri text) sent not reads = absurd (cc reads)
+
+-- of one that is not kept
+pub fate_offends : (terms : Terms) (before : List Heard) (h : Heard) (f : Fate)
+    → ((took : Took) → f ≡ fates.Kept took → ⊥) → HasFate terms before h f
+    → (rule : ℕ) × (rule_of terms before h ≡ Some rule)
+fate_offends terms before h (fates.Kept took) not has = absurd (not took refl)
+fate_offends terms before h (fates.Offends rule tried) not has = (rule, has.0)
 
 module _ (terms : Terms) (before : List Heard) (h : Heard) (old : Trail)
     (is : IsTrail terms old (heard_events before)) where
@@ -68,23 +93,19 @@ module _ (terms : Terms) (before : List Heard) (h : Heard) (old : Trail)
         noted = refused_unsaid terms old.said events h.note.event rule is.noted offends;
       })
 
-  module _ (new : Trail) (rule : rule_of terms before h ≡ None) (place : EventPlace)
-      (number : place ≡ place_of events h.note.event) where
+  module _ (new : Trail) (kept_here : rule_of terms before h ≡ None) (place : EventPlace)
+      (at : place ≡ place_of events h.note.event) where
     -- one that is kept and does this to a document
-    kept_so : (event : Event) → h.note.event ≡ event → (more : Option KeptCall)
-        → event_kept terms place (kept_of terms events) event ≡ more → Keeps more old.marks old.openings
-        new.marks new.openings → AreNotes terms new.said (events ++ event ∷ [])
+    kept_so : (more : Option KeptCall)
+        → event_kept terms place (kept_of terms events) h.note.event ≡ more
+        → Keeps more old.marks old.openings new.marks new.openings
+        → AreNotes terms new.said (events ++ h.note.event ∷ [])
         → IsTrail terms new (heard_events (before ++ h ∷ []))
-    kept_so event own more does keeps noted =
-        let kept_now : rule_at terms events event ≡ None =
-        ap (λ (e : Event). rule_at terms events e) (sym own) ∙ rule in
-        let at : place ≡ place_of events event =
-        number ∙ ap (λ (e : Event). place_of events e) own in
-        let whole : kept_calls terms (events ++ event ∷ [])
+    kept_so more does keeps noted =
+        let whole : kept_calls terms (events ++ h.note.event ∷ [])
         ≡ kept_calls terms events ++ cons_option more [] =
-        kept_more (event_kept terms) terms events event place more kept_now at does in
-        subst (IsTrail terms new)
-        (sym (events-push before h ∙ ap (λ (e : Event). events ++ e ∷ []) own)) (record {
+        kept_more (event_kept terms) terms events h.note.event place more kept_here at does in
+        subst (IsTrail terms new) (sym (events-push before h)) (record {
           marked = subst (MarkedBy new.marks.map.entries) (sym whole)
               (keeps.marked (kept_calls terms events) is.marked);
           opened = subst (OpenedBy new.openings) (sym whole)
@@ -92,63 +113,63 @@ module _ (terms : Terms) (before : List Heard) (h : Heard) (old : Trail)
           noted = noted;
         })
 
-    -- a message
-    pub trail_said : (side : Side) (bytes : List ℕ) (s : Spoken)
-        → IsNoted (content side bytes) h.note
-        → IsSpoken (kept_before terms before) h.note.event side s
-        → ((enc : Encoding) (kind : SyncKind) → Keeps (option_and_then
-        (call_kept terms place (calls (kept_of terms events)))
-        (call_of enc kind (act_view s.act))) old.marks old.openings new.marks new.openings)
+    -- one that says this about a document
+    pub trail_called : (call : Call) (took : Took) (r : Renames) → Reads h.raw h.note.event
+        → call_at (kept_before terms before) h.note.event ≡ Some call
+        → took ≡ took_of terms (calls (kept_before terms before)) (Some call)
+        → Keeps (call_kept place call took) old.marks old.openings new.marks new.openings
+        → new.said ≡ record old.said { renames = r } → r.moves ≡ old.said.renames.moves
+        → renamed_held r ≡ option_or (renamed_held old.said.renames)
+        (renamed_by place (moves_view old.said.renames.moves.items) call)
+        → IsTrail terms new (heard_events (before ++ h ∷ []))
+    trail_called call took r reads says told keeps same moves renamed =
+        kept_so (call_kept place call took)
+        (ap (option_and_then (λ one. call_kept place one
+        (took_by terms (calls (kept_of terms events)) one))) says
+        ∙ ap (call_kept place call) (sym told)) keeps
+        (subst (λ (n : SessionNotes). AreNotes terms n (events ++ h.note.event ∷ [])) (sym same)
+        (call_noted terms old.said r events h.note.event h.raw place call is.noted kept_here reads at
+        says moves renamed))
+
+    -- a message that says nothing of a document
+    pub trail_said : (side : Side) (bytes : List ℕ) (by : Side) (s : Spoken)
+        → Reads (content side bytes) h.note.event
+        → IsSpoken (kept_before terms before) h.note.event by s
+        → call_at (kept_before terms before) h.note.event ≡ None
+        → new.marks ≡ old.marks → new.openings ≡ old.openings
         → Says place side (message_view s.message)
         (phase (sent_in (kept_of terms (heard_events (before ++ h ∷ [])))))
         (is_done (sent_in (kept_of terms (heard_events (before ++ h ∷ []))))) old.said new.said
-        → RenamesIn place side bytes (message_view s.message) (act_view s.act) old.said.renames
-        new.said.renames
+        → RenamesIn place side bytes (message_view s.message) None old.said.renames new.said.renames
         → IsTrail terms new (heard_events (before ++ h ∷ []))
-    trail_said side bytes s noted spoken keeps says renamed =
+    trail_said side bytes by s reads spoken says marks openings told renamed =
         let sent = spoken.sent in
-        let here : heard_events (before ++ h ∷ []) ≡ events ++ message sent ∷ [] =
+        let own = subst (λ (e : Event). Reads (content side bytes) e) spoken.is reads in
+        let all : heard_events (before ++ h ∷ []) ≡ events ++ message sent ∷ [] =
         events-push before h ∙ ap (λ (e : Event). events ++ e ∷ []) spoken.is in
-        let kept_now : rule_at terms events (message sent) ≡ None =
-        ap (λ (e : Event). rule_at terms events e) (sym spoken.is) ∙ rule in
-        let at : place ≡ place_of events (message sent) =
-        number ∙ ap (λ (e : Event). place_of events e) spoken.is in
-        let reads = subst (λ (e : Event). Reads (content side bytes) e) spoken.is noted.0 in
-        let all = kept_of terms (events ++ message sent ∷ []) in
-        let enc = unwrap_or (encoding (sent_in (kept_of terms events))) Utf16 in
-        let kind = unwrap_or (sync_kind (sent_in (kept_of terms events))) Nothing in
-        let said : Says place side (message_view s.message) (phase (sent_in all))
-        (is_done (sent_in all)) old.said new.said =
-        subst (λ (es : List Event). Says place side (message_view s.message)
+        let here : Says place sent.side (message_view s.message)
+        (phase (sent_in (kept_of terms (events ++ message sent ∷ []))))
+        (is_done (sent_in (kept_of terms (events ++ message sent ∷ [])))) old.said new.said =
+        subst (λ (es : List Event). Says place sent.side (message_view s.message)
         (phase (sent_in (kept_of terms es))) (is_done (sent_in (kept_of terms es))) old.said
-        new.said) here says in
-        kept_so (message sent) spoken.is
-        (option_and_then (call_kept terms place (calls (kept_of terms events)))
-        (call_of enc kind (act_view s.act)))
-        (ap (λ (a : Act). option_and_then (call_kept terms place (calls (kept_of terms events)))
-        (call_of enc kind a)) spoken.means)
-        (keeps enc kind)
-        (message_noted terms old.said new.said events sent bytes (message_view s.message)
-        (act_view s.act) place is.noted kept_now at reads.reads spoken.says spoken.means
-        spoken.has_value
-        (subst (λ (x : Side). Says place x (message_view s.message) (phase (sent_in all))
-        (is_done (sent_in all)) old.said new.said) (sym spoken.by) said)
-        (subst (λ (x : Side). RenamesIn place x bytes (message_view s.message) (act_view s.act)
-        old.said.renames new.said.renames) (sym spoken.by) renamed))
-
-    -- a snapshot
-    pub trail_shown : (uri text : List ℕ) (version : ℤ) (answer : Match)
-        → h.note.event ≡ snapshot uri version text
-        → answer ≡ answer_of version (kept terms uri (calls (kept_before terms before)))
-        (held terms uri (calls (kept_before terms before)))
-        → Keeps (Some (kept_call uri place (Shows version answer))) old.marks old.openings new.marks
-        new.openings
-        → new.said ≡ old.said → IsTrail terms new (heard_events (before ++ h ∷ []))
-    trail_shown uri text version answer own answers keeps same =
-        let event : Event = snapshot uri version text in
-        let kept_now : rule_at terms events event ≡ None =
-        ap (λ (e : Event). rule_at terms events e) (sym own) ∙ rule in
-        kept_so event own (Some (kept_call uri place (Shows version answer)))
-        (ap (λ (a : Match). Some (kept_call uri place (Shows version a))) (sym answers))
-        keeps (subst (λ (n : SessionNotes). AreNotes terms n (events ++ event ∷ [])) (sym same)
-        (other_unsaid terms old.said events event is.noted kept_now refl))
+        new.said) all
+        (subst (λ (x : Side). Says place x (message_view s.message)
+        (phase (sent_in (kept_of terms (heard_events (before ++ h ∷ [])))))
+        (is_done (sent_in (kept_of terms (heard_events (before ++ h ∷ []))))) old.said new.said)
+        (sym own.by) told) in
+        kept_so None
+        (ap (option_and_then (λ one. call_kept place one
+        (took_by terms (calls (kept_of terms events)) one))) says)
+        (subst (λ (m : Marks). Keeps None old.marks old.openings m new.openings) (sym marks)
+        (subst (Keeps None old.marks old.openings old.marks) (sym openings)
+        (none_kept old.marks old.openings)))
+        (subst (λ (e : Event). AreNotes terms new.said (events ++ e ∷ [])) (sym spoken.is)
+        (message_noted terms old.said new.said events sent bytes (message_view s.message) place
+        is.noted (ap (λ (e : Event). rule_at terms events e) (sym spoken.is) ∙ kept_here)
+        (at ∙ ap (λ (e : Event). place_of events e) spoken.is) own.reads spoken.says
+        spoken.has_value here
+        (subst (λ o. RenamesIn place sent.side bytes (message_view s.message) o old.said.renames
+        new.said.renames)
+        (sym says ∙ ap (λ (e : Event). call_at (kept_of terms events) e) spoken.is)
+        (subst (λ (x : Side). RenamesIn place x bytes (message_view s.message) None
+        old.said.renames new.said.renames) (sym own.by) renamed))))

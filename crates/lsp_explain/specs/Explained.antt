@@ -31,7 +31,7 @@ use Rattle.lsp_facts.specs.EventFacts.{AreFacts, side_by, log_facts, front_facts
 use Rattle.lsp_facts.specs.Fact.{Fact, detail_lines, event_line, end_event}
 use Rattle.lsp_replay.specs.declared.heard.EventPlace.{EventPlace}
 use Rattle.lsp_explain.specs.Remarks.{Noticed, noticed, remark_lines, remarks_of}
-use Rattle.lsp_explain.specs.Traced.{AreTraced, lack_traced}
+use Rattle.lsp_explain.specs.Traced.{AreTraced, lack_traced, setter_at, traced}
 use Rattle.lsp_explain.specs.Asking.{Numbered, numbered}
 
 -- ---- an event that offends
@@ -76,8 +76,9 @@ pub record Explains (rests : Rests) (terms : Terms) (b : Breach) (e : Explained)
   pub event_is : e.event ≡ event_of e.no b.here.raw
   pub facts_are : AreTraced
       (AreFacts rests terms (kept_of terms (events_of (notes_of b.before))) b.here.raw
-      b.here.note.event b.rule) terms (events_of (notes_of b.before)) b.here.note.event b.rule
-      e.facts
+      b.here.note.event b.rule)
+      (setter_at terms (events_of (notes_of b.before)) b.here.note.event)
+      (traced terms (events_of (notes_of b.before)) b.here.note.event b.rule) e.facts
 
 -- ---- how a session ends
 

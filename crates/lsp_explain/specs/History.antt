@@ -3,10 +3,11 @@ use Rattle.std.specs.Prelude.{ℕ, ◌-◌, Bool, List, Option, drop, length, na
 use Rattle.std.specs.Prelude.{if◌then◌else◌, Some, None, true, false, is_some, option_and_then}
 use Rattle.std.specs.Prelude.{option_map}
 use Rattle.std.specs.List.{find, take_while, filter_map}
-use Rattle.lsp_docs.specs.Stored.{answer_of}
 use Rattle.lsp_docs.specs.Calls.{Call, opens, changes, closes, saves, shows, uri_of}
-use Rattle.lsp_docs.specs.Documents.{held, Terms}
-use Rattle.lsp_docs.specs.Snapshots.{kept}
+use Rattle.lsp_docs.specs.Documents.{Terms}
+use Rattle.lsp_docs.specs.Taken.{took_by}
+use Rattle.lsp_docs.specs.declared.call.Took.{Took}
+use Rattle.lsp_docs.specs.declared.call.Took.TheVariants as took
 use Rattle.lsp_verdict.specs.Event.{call_at, calls, Event}
 use Rattle.lsp_verdict.specs.LookBack.{each_of}
 use Rattle.lsp_verdict.specs.Offences.{kept_of, rule_at}
@@ -63,21 +64,21 @@ pub record KeptCall : Type 0 where
 abbrev pub kept_call : List ℕ → EventPlace → Step → KeptCall
 kept_call uri p step = record { on = on_document uri p; step = step }
 
--- what a call does after these calls; one that saves a document leaves it as it is
-abbrev pub step_of : Terms → List Call → Call → Option Step
-step_of terms before (opens uri number text) = Some (Reaches number true)
-step_of terms before (changes enc kind uri number edits) = Some (Reaches number false)
-step_of terms before (closes uri) = Some Closes
-step_of terms before (saves uri text) = None
-step_of terms before (shows uri number text) =
-    Some (Shows number (answer_of number (kept terms uri before) (held terms uri before)))
+-- what a call does that says this; one that saves a document leaves it as it is
+abbrev pub step_of : Call → Took → Option Step
+step_of (opens uri number text) said = Some (Reaches number true)
+step_of (changes enc kind uri number edits) said = Some (Reaches number false)
+step_of (closes uri) said = Some Closes
+step_of (shows uri number text) (took.Shown answer) = Some (Shows number answer)
+step_of _ _ = None
 
-abbrev pub call_kept : Terms → EventPlace → List Call → Call → Option KeptCall
-call_kept terms p before call = option_map (kept_call (uri_of call) p) (step_of terms before call)
+abbrev pub call_kept : EventPlace → Call → Took → Option KeptCall
+call_kept p call said = option_map (kept_call (uri_of call) p) (step_of call said)
 
 abbrev pub event_kept : Terms → EventPlace → List Event → Event → Option KeptCall
 event_kept terms p before event =
-    option_and_then (call_kept terms p (calls before)) (call_at before event)
+    option_and_then (λ call. call_kept p call (took_by terms (calls before) call))
+    (call_at before event)
 
 -- **what the kept events do to documents**, in order
 abbrev pub kept_calls : Terms → List Event → List KeptCall

@@ -1,5 +1,6 @@
 -- Which document was opened or changed under a URI that it lost when its file was renamed.
-use Rattle.std.specs.Prelude.{◌≡◌, ◌||◌, ℕ, List, [], ◌++◌, map, Bool, true, false, if◌then◌else◌}
+use Rattle.std.specs.Prelude.{◌≡◌, ◌&&◌, ◌||◌, ℕ, List, [], ◌++◌, map, Bool, true, false}
+use Rattle.std.specs.Prelude.{if◌then◌else◌}
 use Rattle.std.specs.Prelude.{Option, Some, None, option_map, option_and_then, codes, string_bytes}
 use Rattle.std.specs.Prelude.{unwrap_or}
 use Rattle.std.specs.List.{flat_map}
@@ -7,16 +8,17 @@ use Rattle.std.specs.Option.{option_or}
 use Rattle.std.specs.Str.{bytes_eq}
 use Rattle.serde_json.specs.Data.{Data, Items}
 use Rattle.serde_json.specs.Find.{as_array, as_str}
-use Rattle.lsp_rpc.specs.Act.{Act, did_open, did_change}
+use Rattle.lsp_docs.specs.Calls.{Call, opens, changes, uri_of}
 use Rattle.lsp_rpc.specs.Message.{Message, request, notification, response}
 use Rattle.lsp_rpc.specs.Outline.{outline}
 use Rattle.lsp_rpc.specs.Params.{all_of, both, required}
 use Rattle.lsp_rpc.specs.Reading.{Reads}
 use Rattle.lsp_types.specs.declared.side.Side.{Side}
 use Rattle.lsp_types.specs.declared.side.Side.TheVariants.{Editor, Server}
+use Rattle.lsp_verdict.specs.Event.{call_at, message}
 use Rattle.lsp_verdict.specs.LookBack.{first_of}
 use Rattle.lsp_replay.specs.declared.heard.EventPlace.{EventPlace}
-use Rattle.lsp_explain.specs.Asking.{Numbered}
+use Rattle.lsp_explain.specs.Asking.{Numbered, sents}
 use Rattle.lsp_explain.specs.History.{OnDocument, on_document, last_ones, last_that}
 use Rattle.lsp_explain.specs.Openings.{on_view}
 use Rattle.lsp_explain.specs.declared.notes.renames.Move as held
@@ -100,19 +102,23 @@ is_gone uri moved =
 
 -- ---- a message about a document of such a URI
 
--- the document that an act opens or changes
-abbrev pub edited_by : Act → Option (List ℕ)
-edited_by (did_open uri version text) = Some uri
-edited_by (did_change uri version changes) = Some uri
-edited_by _ = None
+-- a call that opens or changes its document
+abbrev pub is_edit : Call → Bool
+is_edit (opens uri version text) = true
+is_edit (changes enc kind uri version edits) = true
+is_edit _ = false
 
-abbrev pub renamed_by : EventPlace → List Move → Act → Option OnDocument
-renamed_by p moved act =
-    option_and_then (λ uri. if is_gone uri moved then Some (on_document uri p) else None)
-    (edited_by act)
+abbrev pub renamed_by : EventPlace → List Move → Call → Option OnDocument
+renamed_by p moved call =
+    if is_edit call && is_gone (uri_of call) moved then Some (on_document (uri_of call) p) else None
+
+-- what a message says about a document, under what was agreed before it
+abbrev pub call_by : List Numbered → Numbered → Option Call
+call_by before m = call_at (map message (sents before)) (message m.sent)
 
 abbrev pub renamed_at : List Numbered → Numbered → Option OnDocument
-renamed_at before m = renamed_by m.place (recent_moves before) m.sent.act
+renamed_at before m =
+    option_and_then (renamed_by m.place (recent_moves before)) (call_by before m)
 
 -- **the first message that opens or changes a document under a URI that is gone**
 abbrev pub renamed : List Numbered → Option OnDocument
@@ -135,18 +141,19 @@ Moves more old new =
     (before : List Move) → moves_view old ≡ last_ones most_moves before
     → moves_view new ≡ last_ones most_moves (before ++ more)
 
--- one more message of the sender, the event of this place, with this act
-pub record RenamesBy (p : EventPlace) (sender : Side) (m : Message) (act : Act)
+-- one more message of the sender, the event of this place, which says this about a document
+pub record RenamesBy (p : EventPlace) (sender : Side) (m : Message) (said : Option Call)
     (old new : Renames) : Type 0 where
   pub moves : Moves (moves_by sender m) old.moves.items new.moves.items
-  pub renamed : renamed_held new
-      ≡ option_or (renamed_held old) (renamed_by p (moves_view old.moves.items) act)
+  pub renamed : renamed_held new ≡ option_or (renamed_held old)
+      (option_and_then (renamed_by p (moves_view old.moves.items)) said)
 
 -- the same of a message that a content is, of which this was heard
-abbrev pub RenamesIn : EventPlace → Side → List ℕ → Message → Act → Renames → Renames → Type 0
-RenamesIn p sender bytes said act old new =
-    (m : Message) → Reads bytes m → outline m ≡ outline said
-    → RenamesBy p sender m act old new
+abbrev pub RenamesIn : EventPlace → Side → List ℕ → Message → Option Call → Renames → Renames
+    → Type 0
+RenamesIn p sender bytes heard said old new =
+    (m : Message) → Reads bytes m → outline m ≡ outline heard
+    → RenamesBy p sender m said old new
 
 -- **it is what these messages left of it**
 pub record AreRenames (r : Renames) (said : List Numbered) : Type 0 where

@@ -11,13 +11,11 @@ use Rattle.std.specs.List.{prefix_len, flat_map}
 use Rattle.lsp_rpc.specs.Ident as ident
 use Rattle.lsp_rpc.specs.Ident.{Ident}
 use Rattle.lsp_rpc.specs.Shape.{small}
-use Rattle.lsp_rpc.specs.Act.{Act}
 use Rattle.lsp_rpc.specs.Words.{id_text}
-use Rattle.lsp_docs.specs.Calls.{Call, opens, changes, closes, saves, shows, uri_of}
+use Rattle.lsp_docs.specs.Calls.{Call, opens, changes, shows, uri_of}
 use Rattle.lsp_docs.specs.Documents.{held, Terms}
 use Rattle.lsp_replay.specs.declared.heard.EventPlace.{EventPlace}
 use Rattle.lsp_replay.specs.Lines.{place_of}
-use Rattle.lsp_replay.specs.Tries.{said_after}
 use Rattle.lsp_facts.specs.Fact.{Fact, version_by, cited, place_words, in_phase, waits}
 use Rattle.lsp_facts.specs.EventFacts.{id_in}
 use Rattle.lsp_facts.specs.Refuting.{refuting}
@@ -67,9 +65,8 @@ twin (ident.text s) = option_map ident.number (written s)
 abbrev pub until_of : EventPlace → Call → Until
 until_of p (opens uri number text) = until.Message p number
 until_of p (changes enc kind uri number edits) = until.Message p number
-until_of p (closes uri) = until.Held
-until_of p (saves uri text) = until.Held
 until_of p (shows uri number text) = until.Version number
+until_of p _ = until.Held
 
 -- the rank of the version that was found equal; 0 where none was
 abbrev pub equal_rank : Option VersionEvent → ℕ
@@ -172,11 +169,10 @@ abbrev pub unopened_facts : Terms → List Event → List ℕ → List Fact
 unopened_facts terms before uri =
     closing_facts (closing_of uri (closings terms before)) ++ similar_facts terms before uri
 
--- **what is said about the document of a call that breaks this rule after these events**
-abbrev pub unopened_traced : Terms → List Event → ℕ → Option Call → List Fact
-unopened_traced terms before rule None = []
-unopened_traced terms before rule (Some call) =
-    if rule == rules.DOCUMENT_NOT_OPEN then unopened_facts terms before (uri_of call) else []
+-- **what is said about the document of this URI, where a call on it breaks this rule**
+abbrev pub unopened_traced : Terms → List Event → ℕ → List ℕ → List Fact
+unopened_traced terms before rule uri =
+    if rule == rules.DOCUMENT_NOT_OPEN then unopened_facts terms before uri else []
 
 -- ---- what is added to the facts on an offence, read off all events before it
 
@@ -191,14 +187,13 @@ abbrev pub last_place : List VersionEvent → Option EventPlace
 last_place done = option_map (λ (s : VersionEvent). s.place) (last_setter done)
 
 -- the event that set the version that is held of a URI, if there is one
-abbrev pub setter_of : Terms → List Event → Option (List ℕ) → Option EventPlace
-setter_of terms before uri =
-    option_and_then (λ own. last_place (recent (steps terms own before))) uri
+abbrev pub setter_of : Terms → List Event → List ℕ → Option EventPlace
+setter_of terms before uri = last_place (recent (steps terms uri before))
 
 -- the same of the document of which an event speaks
 abbrev pub setter_at : Terms → List Event → Event → Option EventPlace
 setter_at terms before event =
-    setter_of terms before (option_map uri_of (said_at terms before event))
+    option_and_then (λ call. setter_of terms before (uri_of call)) (said_at terms before event)
 
 -- the snapshots that differ from the text of a call after these, by their places: of those that
 -- wait for its version the ones with another text, or it is one itself, of this place
@@ -207,9 +202,8 @@ differing terms before done p (opens uri number text) =
     refuting terms before (opens uri number text) (waiting_for number done)
 differing terms before done p (changes enc kind uri number edits) =
     refuting terms before (changes enc kind uri number edits) (waiting_for number done)
-differing terms before done p (closes uri) = []
-differing terms before done p (saves uri text) = []
 differing terms before done p (shows uri number text) = p ∷ []
+differing terms before done p _ = []
 
 -- the snapshot that was found equal, and the messages that can have made the texts differ
 abbrev pub apart_facts : Option VersionEvent → Until → List VersionEvent → List Fact
@@ -227,22 +221,23 @@ abbrev pub document_traced : List KeptCall → List EventPlace → Until → ℕ
 document_traced done snapshots until rule =
     texts_traced snapshots (apart_facts (agreed done) until (recent done)) rule
 
--- what an act says about a document after these events, under what was agreed
-abbrev pub act_call : Terms → List Event → Act → Option Call
-act_call terms before act = said_after (kept_of terms before) act
-
--- the events that brought a call, the event of this place, that breaks this rule after these events
-abbrev pub call_traced : Terms → List Event → EventPlace → ℕ → Option Call → List Fact
-call_traced terms before p rule None = []
-call_traced terms before p rule (Some call) =
+-- what brought texts apart, where a call, the event of this place, breaks this rule after these
+abbrev pub apart_traced : Terms → List Event → EventPlace → ℕ → Call → List Fact
+apart_traced terms before p rule call =
     document_traced (steps terms (uri_of call) before)
     (differing terms (calls (kept_of terms before)) (steps terms (uri_of call) before) p call)
     (until_of p call) rule
 
--- the same of a message, with what is said about a document that is not open
-abbrev pub message_traced : Terms → List Event → EventPlace → ℕ → Option Call → List Fact
-message_traced terms before p rule said =
-    call_traced terms before p rule said ++ unopened_traced terms before rule said
+-- the events that brought such a call, with what is said about a document that is not open
+abbrev pub call_traced : Terms → List Event → EventPlace → ℕ → Call → List Fact
+call_traced terms before p rule call =
+    apart_traced terms before p rule call ++ unopened_traced terms before rule (uri_of call)
+
+-- those that brought what an event says about a document
+abbrev pub said_traced : Terms → List Event → Event → ℕ → List Fact
+said_traced terms before event rule =
+    unwrap_or (option_map (call_traced terms before (place_of before event) rule)
+    (said_at terms before event)) []
 
 -- ---- about messages
 
@@ -280,19 +275,16 @@ traced terms before (fault side number) rule = []
 traced terms before (message m) rule =
     if nat_lt rule rules.FIRST_ON_DOCUMENTS
     then session_trace rule (numbered terms before) m.side (id_in m.message)
-    else message_traced terms before (place_of before (message m)) rule
-    (said_at terms before (message m))
+    else said_traced terms before (message m) rule
 traced terms before (snapshot uri number text) rule =
-    call_traced terms before (place_of before (snapshot uri number text)) rule
-    (said_at terms before (snapshot uri number text))
+    said_traced terms before (snapshot uri number text) rule
 
--- **what is said about the event**, with the one that set the held version, **and after it the
--- events that brought it**
-abbrev pub AreTraced : (Option EventPlace → List Fact → Type 0) → Terms → List Event → Event → ℕ
+-- **what is said about an event**, where this one set the held version, **and after it the events
+-- that brought it**
+abbrev pub AreTraced : (Option EventPlace → List Fact → Type 0) → Option EventPlace → List Fact
     → List Fact → Type 0
-AreTraced AreSaid terms before event rule facts =
-    (plain : List Fact) × AreSaid (setter_at terms before event) plain
-    × (facts ≡ plain ++ traced terms before event rule)
+AreTraced AreSaid set_by brought facts =
+    (plain : List Fact) × AreSaid set_by plain × (facts ≡ plain ++ brought)
 
 -- ---- sessions that lack something
 

@@ -1,25 +1,26 @@
 //! The whole texts of a verdict that says that two texts differ.
-ghost use Rattle.std.specs.Prelude.{◌≡◌, List, None, IfOk, option_map};
-ghost use Rattle.lsp_docs.specs.Documents.{Terms};
+ghost use Rattle.std.specs.Prelude.{◌≡◌, List, None, Some, IfOk, option_map};
+ghost use Rattle.lsp_docs.specs.State.{Stands};
+ghost use Rattle.lsp_docs.specs.Taken.{call_view};
 ghost use Rattle.lsp_facts.specs.TwoTexts.{texts_at};
 ghost use Rattle.lsp_replay.specs.LogEvents.{flaw_of};
-ghost use Rattle.lsp_replay.specs.Telling.{IsSeen, kept_before};
 ghost use Rattle.lsp_replay.specs.TextAnswers.{WritesText, answer_view};
-ghost use Rattle.lsp_replay.specs.declared.seen.Seen.TheVariants as variants;
-ghost use Rattle.lsp_verdict.specs.Heard.{Heard, heard_events};
+ghost use Rattle.lsp_replay.specs.Tries.{TriesCall, made_in};
+ghost use Rattle.lsp_verdict.specs.Event.{Event, call_at, calls};
+ghost use Rattle.lsp_verdict.specs.Heard.{heard_events};
 ghost use Rattle.lsp_verdict.specs.Runs.{ports};
-ghost use Rattle.lsp_verdict.specs.Verdict.{bad_log_of, first_no};
+ghost use Rattle.lsp_verdict.specs.Verdict.{bad_log_of, first_no, offence};
 ghost use Rattle.lsp_explain.specs.Compared as spec;
 ghost use Rattle.lsp_explain.specs.Compared.{AnswersCompared, ComparedAsked, compared_run};
 ghost use Rattle.lsp_explain.specs.Compared.{seen_texts, sound_answer};
 
-use lsp_docs::Tried;
-use lsp_facts::{TwoTexts, message_texts, shown_texts};
+use lsp_docs::{Call, Tried};
+use lsp_facts::{TwoTexts, texts_of};
 use lsp_frame::{Limits, Sink, Source};
-use lsp_replay::{Account, End, Events, Flow, LogEvents, Seen, TextAnswer, pass};
-use lsp_rpc::{Result, Spoken};
+use lsp_replay::{Account, End, Events, Fate, Flow, LogEvents, Seen, TextAnswer, pass};
+use lsp_rpc::Result;
 use lsp_text::Lined;
-use lsp_verdict::{Outcome, Raw, RunFault, Verdict};
+use lsp_verdict::{Outcome, RunFault, Verdict};
 use std::alloc::Global;
 
 /// Which of two texts that differ.
@@ -66,17 +67,11 @@ impl Account for OneText {
 
     ghost stands = { λ account terms heard. first_no terms (heard_events heard) ≡ None };
 
-    fn event(&mut self, held: &Events<Lined>, seen: Seen<'_>, text: &mut String) -> Result<Flow> {
-        let Seen::Offence {
-            raw,
-            rule,
-            spoken,
-            tried,
-        } = seen
-        else {
+    fn event(&mut self, held: &Events<Lined>, seen: &Seen<'_>, text: &mut String) -> Result<Flow> {
+        let Fate::Offends { rule, tried } = seen.fate else {
             return Ok(Flow::GoOn);
         };
-        let texts = texts_of(held, raw, rule, spoken, tried);
+        let texts = texts_at(held, seen.call, rule, tried);
         one_of(*text.allocator(), texts, self.which)?.stop(text)
     }
 
@@ -92,29 +87,24 @@ impl Account for OneText {
     }
 }
 
-/// The two texts of an event that offends by this rule, and is a message or none, where it has any;
-/// this was tried of its changes.
-fn texts_of<'a>(
+/// The two texts of an event that offends by this rule and says this about a document, where it has
+/// any; this was tried of its changes.
+fn texts_at<'a>(
     held: &'a Events<Lined>,
-    raw: Raw<'a>,
+    call: Option<Call<'a>>,
     rule: u16,
-    spoken: Option<&'a Spoken>,
     tried: Option<&'a Tried<Lined>>,
 ) -> Option<TwoTexts<'a, Lined>>
-    ensures { (terms : Terms) (before : List Heard) (h : Heard)
-        → IsSeen held.now.session held.now.docs held.now.counts
-        (variants.Offence raw.entry rule spoken.entry tried.entry) terms before h
-        → option_map seen_texts result
-        ≡ texts_at terms (kept_before terms before) h.note.event rule }
+    ensures { (kept : List Event) (event : Event) → Stands held.now.docs (calls kept)
+        → option_map call_view call.entry ≡ call_at kept event
+        → offence held.now.docs.terms kept event ≡ Some rule
+        → TriesCall held.now.docs.terms kept (call_at kept event) rule
+        (made_in (option_map (λ t. t.now) tried.entry))
+        → option_map seen_texts result ≡ texts_at held.now.docs.terms kept event rule }
 {
-    match raw {
-        Raw::Snapshot { version, uri, text } => {
-            shown_texts(&held.docs, version, uri, text, rule)
-        }
-        _ => match spoken {
-            Some(spoken) => message_texts(&held.docs, &spoken.act, rule, tried),
-            None => None,
-        },
+    match call {
+        Some(call) => texts_of(&held.docs, call, rule, tried),
+        None => None,
     }
 }
 

@@ -23,4 +23,4 @@ pub(crate) use marks::Marks;
 pub(crate) use misuses::{Misuse, Misused};
 pub(crate) use openings::{Closing, DocumentEvent, Openings};
 pub(crate) use session_notes::SessionNotes;
-pub(crate) use step::{Step, step_in};
+pub(crate) use step::{Step, step_of};

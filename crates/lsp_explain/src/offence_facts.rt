@@ -2,16 +2,17 @@
 //! facts on it.
 ghost use Rattle.std.specs.Prelude.{◌≡◌, ◌++◌, ℕ, List, Some, IfOk, OnOk, option_map, string_bytes};
 ghost use Rattle.lsp_docs.specs.Documents.{Terms};
+ghost use Rattle.lsp_docs.specs.Taken.{call_view};
 ghost use Rattle.lsp_replay.specs.LogEvents.{flaw_of};
 ghost use Rattle.lsp_replay.specs.Lines.{place_of};
-ghost use Rattle.lsp_replay.specs.Telling.{IsSeen, MaySpeak, ShowsFault};
-ghost use Rattle.lsp_replay.specs.Tries.{MayTry};
-ghost use Rattle.lsp_replay.specs.declared.seen.Seen.TheVariants as variants;
+ghost use Rattle.lsp_replay.specs.Telling.{HasFate, IsSeen, MaySpeak, ShowsFault};
+ghost use Rattle.lsp_replay.specs.Tries.{TriesCall, made_in};
+ghost use Rattle.lsp_replay.specs.declared.seen.Fate.TheVariants.{Offends};
 ghost use Rattle.lsp_explain.specs.Asking.{numbered};
 ghost use Rattle.lsp_verdict.specs.Event.{Event};
 ghost use Rattle.lsp_verdict.specs.Given.{offence_view, raw_view};
 ghost use Rattle.lsp_verdict.specs.Heard.{Heard, Rests, heard_events, rest_of};
-ghost use Rattle.lsp_verdict.specs.Offences.{kept_of, rule_at};
+ghost use Rattle.lsp_verdict.specs.Offences.{kept_of, rule_at, said_at};
 ghost use Rattle.lsp_verdict.specs.Placed.{Reads};
 ghost use Rattle.lsp_verdict.specs.Report.{report};
 ghost use Rattle.lsp_verdict.specs.Verdict.{bad_log_of, no, no_by};
@@ -20,25 +21,25 @@ ghost use Rattle.lsp_explain.specs.Explained.{cause_lines, end_explained, end_fa
 ghost use Rattle.lsp_explain.specs.Explained.{place_in};
 ghost use Rattle.lsp_explain.specs.ExplainRuns.{TellsOf, flaw_held, rests_held};
 ghost use Rattle.lsp_explain.specs.Trails.{StandsAfter, terms_in, IsTrail};
-ghost use Rattle.lsp_explain.specs.Traced.{AreTraced};
+ghost use Rattle.lsp_explain.specs.Traced.{AreTraced, setter_at, traced};
 ghost use Rattle.lsp_facts.specs.EventFacts.{AreFacts, side_by};
 ghost use Rattle.lsp_facts.specs.Fact.{event_line};
 
-use crate::trace::{lack_traced, message_traced, shown_traced};
+use crate::trace::{lack_traced, message_traced, said_traced};
 use crate::trail::Past;
 use lsp_docs::Tried;
 use lsp_facts::{
     Facts, content_facts, flaw_facts, frame_facts, front_facts, push_bare_event,
     push_content_event, push_details, push_end_event, push_message_event, usual,
 };
-use lsp_replay::{End, EventPlace, LogEvents};
+use lsp_replay::{End, EventPlace, LogEvents, Seen};
 use lsp_rpc::{Result, Side, Spoken};
 use lsp_text::Lined;
 use lsp_types::rules;
 use lsp_verdict::{Offence, Raw, Who, verdict_report};
 
-/// Adds what is said about an event that offends, and is a message or none; this was tried of its
-/// changes. The past is of the events before it, apart from the counts, which are with it.
+/// Adds what is said about an event that offends, of which this was tried. The past is of the
+/// events before it, apart from the counts, which are with it.
 ///
 /// # Errors
 /// `Memory` where memory was refused.
@@ -46,22 +47,21 @@ pub(crate) fn push_offence(
     text: &mut String,
     past: Past<'_>,
     offence: &Offence,
-    raw: Raw<'_>,
-    spoken: Option<&Spoken>,
+    seen: &Seen<'_>,
     tried: Option<&Tried<Lined>>,
 ) -> Result<()>
     ensures { OnOk result ((terms : Terms) (before : List Heard) (h : Heard)
         → IsTrail terms past.entry.trail.now (heard_events before)
         → IsSeen past.entry.held.now.session past.entry.held.now.docs past.entry.held.now.counts
-        (variants.Offence raw.entry offence.now.rule spoken.entry tried.entry) terms before h
+        seen.now terms before h → HasFate terms before h (Offends offence.now.rule tried.entry)
         → (offence_view offence.now).no
         ≡ no_by (heard_events before) h.note.event offence.now.rule
-        → TellsOf terms before h offence.now.rule (ShowsFault raw.entry)
+        → TellsOf terms before h offence.now.rule (ShowsFault seen.now.raw)
         (string_bytes text.old) (string_bytes text.new)) }
 {
     push_report(text, offence)?;
-    push_event(text, offence, raw, spoken)?;
-    let facts = facts_of(past, offence, raw, spoken, tried)?;
+    push_event(text, offence, seen.raw, seen.spoken)?;
+    let facts = facts_of(past, offence, seen, tried)?;
     push_details(text, &facts, usual(offence.rule, offence.who))
 }
 
@@ -102,34 +102,38 @@ fn push_event(
 fn facts_of(
     past: Past<'_>,
     offence: &Offence,
-    raw: Raw<'_>,
-    spoken: Option<&Spoken>,
+    seen: &Seen<'_>,
     tried: Option<&Tried<Lined>>,
 ) -> Result<Facts>
     ensures { IfOk result (λ facts. (event : Event) (before : List Event)
         → StandsAfter past.entry before → place_in offence.now ≡ place_of before event
-        → Reads (raw_view raw.entry) event
+        → Reads (raw_view seen.now.raw) event
         → MaySpeak (kept_of (terms_in past.entry) before) event
-        (option_map (λ s. s.now) spoken.entry)
-        → MayTry (terms_in past.entry) (kept_of (terms_in past.entry) before) offence.now.rule
-        (option_map (λ s. s.now) spoken.entry) (option_map (λ t. t.now) tried.entry)
+        (option_map (λ s. s.now) seen.now.spoken)
+        → option_map call_view seen.now.call ≡ said_at (terms_in past.entry) before event
+        → TriesCall (terms_in past.entry) (kept_of (terms_in past.entry) before)
+        (said_at (terms_in past.entry) before event) offence.now.rule
+        (made_in (option_map (λ t. t.now) tried.entry))
         → rule_at (terms_in past.entry) before event ≡ Some offence.now.rule
-        → (rests : Rests) → ShowsFault raw.entry rests
+        → (rests : Rests) → ShowsFault seen.now.raw rests
         → AreTraced (AreFacts rests (terms_in past.entry)
-        (kept_of (terms_in past.entry) before) (raw_view raw.entry) event offence.now.rule)
-        (terms_in past.entry) before event offence.now.rule facts) }
+        (kept_of (terms_in past.entry) before) (raw_view seen.now.raw) event offence.now.rule)
+        (setter_at (terms_in past.entry) before event)
+        (traced (terms_in past.entry) before event offence.now.rule) facts) }
 {
     let rule = offence.rule;
-    let place = place_in(offence);
-    match raw {
+    match seen.raw {
         Raw::Broken { rest, .. } => frame_facts(past.held.docs.alloc(), rest),
-        Raw::Content { side, content } => match spoken {
-            Some(spoken) => message_traced(past, place, side, spoken, rule, tried),
+        Raw::Content { side, content } => match seen.spoken {
+            Some(spoken) => {
+                if rule < rules::FIRST_ON_DOCUMENTS {
+                    return message_traced(past, side, spoken, rule);
+                }
+                said_traced(past, place_in(offence), seen.call, rule, tried)
+            }
             None => content_facts(past.held.docs.alloc(), content, rule),
         },
-        Raw::Snapshot { version, uri, text } => {
-            shown_traced(past, place, version, uri, text, rule)
-        }
+        Raw::Snapshot { .. } => said_traced(past, place_in(offence), seen.call, rule, tried),
     }
 }
 

@@ -20,7 +20,7 @@ use crate::offence_facts::{push_end, push_flaw, push_offence};
 use crate::remarks::push_remarks;
 use crate::trail::{Past, Trail};
 use lsp_frame::{Limits, Sink, Source};
-use lsp_replay::{Account, End, Events, Flow, LogEvents, Seen, last_offence, pass};
+use lsp_replay::{Account, End, Events, Fate, Flow, LogEvents, Seen, last_offence, pass};
 use lsp_rpc::Result;
 use lsp_survey::{OffenceCount, SessionEnd, session_end};
 use lsp_text::Lined;
@@ -72,22 +72,16 @@ impl Account for FirstOffence {
     ghost stands = { FirstStands };
 
     #[inline(always)]
-    fn event(&mut self, held: &Events<Lined>, seen: Seen<'_>, text: &mut String) -> Result<Flow> {
-        let Seen::Offence {
-            raw,
-            rule,
-            spoken,
-            tried,
-        } = seen
-        else {
+    fn event(&mut self, held: &Events<Lined>, seen: &Seen<'_>, text: &mut String) -> Result<Flow> {
+        let Fate::Offends { rule, tried } = seen.fate else {
             self.trail.keep(held, seen)?;
             return Ok(Flow::GoOn);
         };
         let trail = &self.trail;
         let past = Past { held, trail };
-        let offence = last_offence(&held.counts, raw, rule, false);
+        let offence = last_offence(&held.counts, seen.raw, rule, false);
         let verdict = offence.verdict();
-        push_offence(text, past, &offence, raw, spoken, tried)?;
+        push_offence(text, past, &offence, seen, tried)?;
         push_remarks(text, past, &verdict)?;
         let boxed = Box::new(*text.allocator(), Outcome::Judged(verdict))?;
         Ok(Flow::Stop(boxed))

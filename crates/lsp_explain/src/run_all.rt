@@ -16,7 +16,7 @@ ghost use Rattle.lsp_explain.specs.Trails.{IsTrail};
 use crate::offence_facts::{push_end, push_flaw, push_offence};
 use crate::trail::{Past, Trail};
 use lsp_frame::{Limits, Sink, Source};
-use lsp_replay::{Account, End, Events, Flow, LogEvents, Seen, last_offence, pass};
+use lsp_replay::{Account, End, Events, Fate, Flow, LogEvents, Seen, last_offence, pass};
 use lsp_rpc::Result;
 use lsp_survey::{Losses, OffenceCount, SessionEnd, session_end};
 use lsp_text::Lined;
@@ -114,26 +114,20 @@ impl Account for AllCauses {
     ghost stands = { AllStands };
 
     #[inline(always)]
-    fn event(&mut self, held: &Events<Lined>, seen: Seen<'_>, text: &mut String) -> Result<Flow> {
+    fn event(&mut self, held: &Events<Lined>, seen: &Seen<'_>, text: &mut String) -> Result<Flow> {
         let follows = self.losses.tell(held, seen)?;
-        let Seen::Offence {
-            raw,
-            rule,
-            spoken,
-            tried,
-        } = seen
-        else {
+        let Fate::Offends { rule, tried } = seen.fate else {
             self.trail.keep(held, seen)?;
             return Ok(Flow::GoOn);
         };
-        let offence = last_offence(&held.counts, raw, rule, follows);
+        let offence = last_offence(&held.counts, seen.raw, rule, follows);
         self.tally.add(&offence);
         if follows {
             return Ok(Flow::GoOn);
         }
         let trail = &self.trail;
         let past = Past { held, trail };
-        push_offence(text, past, &offence, raw, spoken, tried)?;
+        push_offence(text, past, &offence, seen, tried)?;
         Ok(Flow::GoOn)
     }
 

@@ -1,25 +1,27 @@
 //! Which events led to an offence: lines that name earlier events.
-ghost use Rattle.std.specs.Prelude.{◌≡◌, ◌++◌, ℕ, Some, chars, ◌∷◌, []};
-ghost use Rattle.std.specs.Prelude.{List, IfOk, OnOk, codes, map, option_map};
-ghost use Rattle.lsp_docs.specs.Calls.{Call, shows};
+ghost use Rattle.std.specs.Prelude.{◌≡◌, ◌++◌, ◌∷◌, [], List, Some, IfOk, OnOk, codes, map};
+ghost use Rattle.std.specs.Prelude.{option_map};
+ghost use Rattle.lsp_docs.specs.Calls.{uri_of};
 ghost use Rattle.lsp_docs.specs.Documents.{Terms};
+ghost use Rattle.lsp_docs.specs.Rules.{call_rule};
+ghost use Rattle.lsp_docs.specs.Taken.{call_view};
+ghost use Rattle.lsp_docs.specs.Tried.{IsTried};
 ghost use Rattle.lsp_rpc.specs.Ident.{id_view};
-ghost use Rattle.lsp_rpc.specs.View.{act_view, message_view};
+ghost use Rattle.lsp_rpc.specs.View.{message_view};
 ghost use Rattle.lsp_session.specs.Entry.{request_view};
 ghost use Rattle.lsp_session.specs.Sent.{other_side};
-ghost use Rattle.lsp_verdict.specs.Event.{calls, Event, message, snapshot};
-ghost use Rattle.lsp_replay.specs.Standing.{RefusesMessage};
-ghost use Rattle.lsp_replay.specs.Tries.{Breaks, TriesCall, made_in, said_after};
-ghost use Rattle.lsp_verdict.specs.Offences.{kept_of, rule_at};
-ghost use Rattle.lsp_verdict.specs.Verdict.{who_of};
-ghost use Rattle.lsp_verdict.specs.declared.verdict.Who.{Who};
+ghost use Rattle.lsp_types.specs.declared.rules.TheConstants as rules;
+ghost use Rattle.lsp_verdict.specs.Event.{Event, calls, sent_in};
+ghost use Rattle.lsp_verdict.specs.Verdict.{document_rule};
+ghost use Rattle.lsp_replay.specs.Lines.{place_of};
+ghost use Rattle.lsp_replay.specs.Telling.{IsSpoken};
+ghost use Rattle.lsp_replay.specs.Tries.{IsTriedOf, made_in};
+ghost use Rattle.lsp_verdict.specs.Offences.{kept_of, said_at};
 ghost use Rattle.lsp_explain.specs.Asking.{numbered};
-ghost use Rattle.lsp_explain.specs.Marking.{steps, waiting_for, AreMarks};
-ghost use Rattle.lsp_replay.specs.Lines.{place_next};
+ghost use Rattle.lsp_explain.specs.Marking.{steps, AreMarks};
 ghost use Rattle.lsp_explain.specs.SessionNoting.{AreNotes};
-ghost use Rattle.lsp_facts.specs.EventFacts.{AreCallFacts, AreMessageFacts, id_in};
+ghost use Rattle.lsp_facts.specs.EventFacts.{AreCallFacts, id_in, session_facts};
 ghost use Rattle.lsp_facts.specs.Fact.{cited};
-ghost use Rattle.lsp_facts.specs.Refuting.{refuting};
 ghost use Rattle.lsp_explain.specs.Trails.{StandsAfter, terms_in};
 ghost use Rattle.lsp_explain.specs.Traced as spec;
 ghost use Rattle.lsp_explain.specs.Traced.{twin};
@@ -29,90 +31,104 @@ use crate::suspects::{Until, push_suspects};
 use crate::trail::Past;
 use crate::twins::twin_of;
 use crate::unopened::trace_unopened;
-use lsp_docs::Tried;
-use lsp_facts::{Facts, id_in, message_facts, refuting, shown_facts};
+use lsp_docs::{Call, Tried};
+use lsp_facts::{Facts, call_facts, id_in, refuting, session_facts};
 use lsp_replay::EventPlace;
-use lsp_rpc::{Act, Id, Message, Result, Side, Spoken};
+use lsp_rpc::{Encoding, Id, Message, Result, Side, Spoken};
 use lsp_session::{OpenRequest, Pending};
-use lsp_survey::uri_in;
 use lsp_text::Lined;
 use lsp_types::rules;
 use std::alloc::Global;
 
-/// What is said about a message of a side, the event of this place, that offends by this rule, 301
-/// to 702, with the events that brought it. The past is of the events before it, and this was tried
-/// of its changes.
+/// What is said about a message of a side that offends by this rule, 301 to 504, with the events
+/// that brought it. The past is of the events before it.
+///
+/// # Errors
+/// `Memory` where memory was refused.
 pub(crate) fn message_traced(
     past: Past<'_>,
-    place: EventPlace,
     side: Side,
     spoken: &Spoken,
     rule: u16,
-    tried: Option<&Tried<Lined>>,
 ) -> Result<Facts>
-    ensures { IfOk result (λ facts. (content : List ℕ) (before : List Event)
-        → StandsAfter past.entry before → place ≡ place_next before (who_of side)
-        → TriesCall (terms_in past.entry) (kept_of (terms_in past.entry) before)
-        (said_after (kept_of (terms_in past.entry) before) (act_view spoken.now.act)) rule
-        (made_in (option_map (λ t. t.now) tried.entry))
-        → (refused : RefusesMessage side content (message_view spoken.now.message)
-        (act_view spoken.now.act) (terms_in past.entry)
-        (kept_of (terms_in past.entry) before) rule)
-        → spec.AreTraced (AreMessageFacts (terms_in past.entry)
-        (kept_of (terms_in past.entry) before) refused.sent rule)
-        (terms_in past.entry) before (message refused.sent) rule facts) }
+    ensures { IfOk result (λ facts. (event : Event) (before : List Event)
+        → StandsAfter past.entry before
+        → (heard : IsSpoken (kept_of (terms_in past.entry) before) event side spoken.now)
+        → facts ≡ session_facts rule (sent_in (kept_of (terms_in past.entry) before)) heard.sent
+        ++ spec.session_trace rule (numbered (terms_in past.entry) before) heard.sent.side
+        (id_in heard.sent.message)) }
 {
     let Past { held, trail } = past;
-    let set_by = setter_of(&trail.marks, uri_in(&spoken.act))?;
-    let (session, docs) = (&held.session, &held.docs);
-    let mut facts = message_facts(session, docs, side, spoken, rule, tried, set_by)?;
-    if rule < rules::FIRST_ON_DOCUMENTS {
-        trace_message(&mut facts, &trail.said, side, &spoken.message, rule)?;
-        return Ok(facts);
-    }
-    trace_act(&mut facts, past, place, &spoken.act, rule, tried)?;
-    trace_unopened(&mut facts, past, &spoken.act, rule)?;
+    let (alloc, message) = (held.docs.alloc(), &spoken.message);
+    let mut facts = session_facts(alloc, &held.session, side, message, &spoken.act, rule)?;
+    trace_message(&mut facts, &trail.said, side, message, rule)?;
     Ok(facts)
 }
 
-/// What is said about a snapshot, the event of this place, that offends by this rule, with the
-/// events that brought it. The past is of the events before it.
-pub(crate) fn shown_traced(
+/// What is said about a call, if there is one, the event of this place, that offends by this rule,
+/// with the events that brought it. The past is of the events before it, and this was tried of its
+/// changes.
+///
+/// # Errors
+/// `Memory` where memory was refused.
+pub(crate) fn said_traced(
     past: Past<'_>,
     place: EventPlace,
-    version: i32,
-    uri: &str,
-    text: &str,
+    call: Option<Call<'_>>,
     rule: u16,
+    tried: Option<&Tried<Lined>>,
+) -> Result<Facts>
+    ensures { IfOk result (λ facts. (before : List Event) (event : Event)
+        → StandsAfter past.entry before → place ≡ place_of before event
+        → option_map call_view call.entry ≡ said_at (terms_in past.entry) before event
+        → document_rule (terms_in past.entry) (kept_of (terms_in past.entry) before) event
+        ≡ Some rule
+        → IsTriedOf (terms_in past.entry) (calls (kept_of (terms_in past.entry) before))
+        (said_at (terms_in past.entry) before event) (made_in (option_map (λ t. t.now) tried.entry))
+        → spec.AreTraced (AreCallFacts (terms_in past.entry)
+        (kept_of (terms_in past.entry) before) rule (said_at (terms_in past.entry) before event))
+        (spec.setter_at (terms_in past.entry) before event)
+        (spec.said_traced (terms_in past.entry) before event rule) facts) }
+{
+    match call {
+        Some(call) => call_traced(past, place, call, rule, tried),
+        None => Ok(Facts::new(past.held.docs.alloc())),
+    }
+}
+
+/// The same of a call.
+fn call_traced(
+    past: Past<'_>,
+    place: EventPlace,
+    call: Call<'_>,
+    rule: u16,
+    tried: Option<&Tried<Lined>>,
 ) -> Result<Facts>
     ensures { IfOk result (λ facts. (before : List Event) → StandsAfter past.entry before
-        → place ≡ place_next before Who.Snapshot
-        → rule_at (terms_in past.entry) before (snapshot uri.now version (chars text.now))
-        ≡ Some rule
+        → call_rule (terms_in past.entry) (calls (kept_of (terms_in past.entry) before))
+        (call_view call.entry) ≡ Some rule
+        → IsTried (terms_in past.entry) (calls (kept_of (terms_in past.entry) before))
+        (call_view call.entry) (made_in (option_map (λ t. t.now) tried.entry))
         → spec.AreTraced (AreCallFacts (terms_in past.entry)
-        (kept_of (terms_in past.entry) before) rule
-        (Some (shows uri.now version (chars text.now))))
-        (terms_in past.entry) before (snapshot uri.now version (chars text.now)) rule facts) }
+        (kept_of (terms_in past.entry) before) rule (Some (call_view call.entry)))
+        (spec.setter_of (terms_in past.entry) before (uri_of (call_view call.entry)))
+        (spec.call_traced (terms_in past.entry) before place rule (call_view call.entry)) facts) }
 {
     let Past { held, trail } = past;
-    let marks = &trail.marks;
-    let set_by = setter_of(marks, Some(uri))?;
-    let session = &held.session;
-    let mut facts = shown_facts(session, &held.docs, version, uri, text, rule, set_by)?;
-    let until = Until::Version(version);
-    trace_document(&mut facts, marks, uri, &[place], until, rule)?;
+    let encoding = held.session.encoding().unwrap_or(Encoding::Utf16);
+    let set_by = setter_of(&trail.marks, call.uri())?;
+    let mut facts = call_facts(&held.docs, encoding, call, rule, tried, set_by)?;
+    trace_call(&mut facts, past, place, call, rule, tried)?;
+    trace_unopened(&mut facts, past, call, rule)?;
     Ok(facts)
 }
 
 /// The event that set the version that is held of a URI.
-fn setter_of(marks: &Marks, uri: Option<&str>) -> Result<Option<EventPlace>>
+fn setter_of(marks: &Marks, uri: &str) -> Result<Option<EventPlace>>
     ensures { IfOk result (λ place. (terms : Terms) (before : List Event)
         → AreMarks terms marks.now.map.entries before
-        → place ≡ spec.setter_of terms before (option_map (λ u. u.now) uri.entry)) }
+        → place ≡ spec.setter_of terms before uri.now) }
 {
-    let Some(uri) = uri else {
-        return Ok(None);
-    };
     let setters = marks.setters(uri)?;
     Ok(last_place(setters.as_slice()))
 }
@@ -127,75 +143,80 @@ fn last_place(setters: &[VersionEvent]) -> Option<EventPlace>
     }
 }
 
-/// Adds to the facts on an act, the event of this place, that breaks this rule on documents, under
-/// 702 the snapshots that wait for the version in it and have another text; under 608 and 702 the
-/// snapshot that was found equal, and the messages that can have made the texts differ.
-fn trace_act(
+/// Adds to the facts on a call, the event of this place, that breaks this rule, under 702 the
+/// snapshots that differ from its text; under 608 and 702 the snapshot that was found equal, and
+/// the messages that can have made the texts differ.
+fn trace_call(
     facts: &mut Facts,
     past: Past<'_>,
     place: EventPlace,
-    act: &Act,
+    call: Call<'_>,
     rule: u16,
     tried: Option<&Tried<Lined>>,
 ) -> Result<()>
     ensures { OnOk result ((before : List Event) → StandsAfter past.entry before
-        → Breaks (terms_in past.entry) (calls (kept_of (terms_in past.entry) before))
-        (spec.act_call (terms_in past.entry) before (act_view act.now)) rule
-        (made_in (option_map (λ t. t.now) tried.entry))
-        → facts.new ≡ facts.old ++ spec.call_traced (terms_in past.entry) before place rule
-        (spec.act_call (terms_in past.entry) before (act_view act.now))) }
+        → call_rule (terms_in past.entry) (calls (kept_of (terms_in past.entry) before))
+        (call_view call.entry) ≡ Some rule
+        → IsTried (terms_in past.entry) (calls (kept_of (terms_in past.entry) before))
+        (call_view call.entry) (made_in (option_map (λ t. t.now) tried.entry))
+        → facts.new ≡ facts.old ++ spec.apart_traced (terms_in past.entry) before place rule
+        (call_view call.entry)) }
 {
     let marks = &past.trail.marks;
-    match act {
-        Act::DidOpen { uri, version, .. } => {
-            let uri = uri.as_str();
-            trace_text(facts, past, place, act, uri, *version, rule, tried)
-        }
-        Act::DidChange { uri, version, .. } => {
-            let uri = uri.as_str();
-            trace_text(facts, past, place, act, uri, *version, rule, tried)
-        }
-        Act::DidClose { uri } => trace_document(facts, marks, uri.as_str(), &[], Until::Held, rule),
-        Act::DidSave { uri, .. } => {
-            trace_document(facts, marks, uri.as_str(), &[], Until::Held, rule)
-        }
-        _ => Ok(()),
-    }
-}
-
-/// The same of an act that brings this document to a version.
-fn trace_text(
-    facts: &mut Facts,
-    past: Past<'_>,
-    place: EventPlace,
-    act: &Act,
-    uri: &str,
-    version: i32,
-    rule: u16,
-    tried: Option<&Tried<Lined>>,
-) -> Result<()>
-    ensures { OnOk result ((before : List Event) (call : Call) → StandsAfter past.entry before
-        → spec.act_call (terms_in past.entry) before (act_view act.now) ≡ Some call
-        → Breaks (terms_in past.entry) (calls (kept_of (terms_in past.entry) before)) (Some call)
-        rule (made_in (option_map (λ t. t.now) tried.entry))
-        → facts.new ≡ facts.old
-        ++ spec.document_traced (steps (terms_in past.entry) uri.now before)
-        (refuting (terms_in past.entry) (calls (kept_of (terms_in past.entry) before)) call
-        (waiting_for version (steps (terms_in past.entry) uri.now before)))
-        (Until.Message place version) rule) }
-{
-    let Past { held, trail } = past;
-    let marks = &trail.marks;
-    let until = Until::Message { place, version };
+    let uri = call.uri();
+    let until = until_of(place, call);
     if rule != rules::SNAPSHOT_DIFFERS {
         return trace_document(facts, marks, uri, &[], until, rule);
     }
-    let waiting = marks.waiting(uri, version);
-    let snapshots = refuting(&held.docs, act, tried, waiting)?;
+    let snapshots = differing(past, place, call, tried)?;
     trace_document(facts, marks, uri, snapshots.as_slice(), until, rule)
 }
 
-/// Adds to the facts on a call that speaks of this document.
+/// By which message the text came about that differs.
+fn until_of(place: EventPlace, call: Call<'_>) -> Until
+    ensures { result ≡ spec.until_of place (call_view call.entry) }
+{
+    match call {
+        Call::Opens { version, .. } => Until::Message { place, version },
+        Call::Changes { version, .. } => Until::Message { place, version },
+        Call::Shows { version, .. } => Until::Version(version),
+        _ => Until::Held,
+    }
+}
+
+/// The snapshots that differ from the text of a call that breaks 702: of those that wait for its
+/// version the ones with another text, or it is one itself.
+fn differing(
+    past: Past<'_>,
+    place: EventPlace,
+    call: Call<'_>,
+    tried: Option<&Tried<Lined>>,
+) -> Result<Vec<EventPlace>>
+    ensures { IfOk result (λ snapshots. (before : List Event) → StandsAfter past.entry before
+        → call_rule (terms_in past.entry) (calls (kept_of (terms_in past.entry) before))
+        (call_view call.entry) ≡ Some rules.SNAPSHOT_DIFFERS
+        → IsTried (terms_in past.entry) (calls (kept_of (terms_in past.entry) before))
+        (call_view call.entry) (made_in (option_map (λ t. t.now) tried.entry))
+        → snapshots.items ≡ spec.differing (terms_in past.entry)
+        (calls (kept_of (terms_in past.entry) before))
+        (steps (terms_in past.entry) (uri_of (call_view call.entry)) before) place
+        (call_view call.entry)) }
+{
+    let Past { held, trail } = past;
+    let (docs, marks) = (&held.docs, &trail.marks);
+    match call {
+        Call::Opens { uri, version, .. } => {
+            refuting(docs, call, tried, marks.waiting(uri, version))
+        }
+        Call::Changes { uri, version, .. } => {
+            refuting(docs, call, tried, marks.waiting(uri, version))
+        }
+        Call::Shows { .. } => Ok(Vec::from_slice(docs.alloc(), &[place])?),
+        _ => Ok(Vec::new(docs.alloc())),
+    }
+}
+
+/// Adds to the facts on a call on the document of this URI.
 fn trace_document(
     facts: &mut Facts,
     marks: &Marks,

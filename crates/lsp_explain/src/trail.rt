@@ -1,25 +1,21 @@
 //! What is noted of the events of a session on the way: which of them led to what.
-ghost use Rattle.std.specs.Prelude.{◌≡◌, ◌++◌, ◌∷◌, [], List, None, Some, OnOk};
-ghost use Rattle.std.specs.Prelude.{option_and_then};
-ghost use Rattle.lsp_docs.specs.Calls.{Call};
+ghost use Rattle.std.specs.Prelude.{◌≡◌, ◌++◌, ◌∷◌, [], List, None, OnOk, option_map};
 ghost use Rattle.lsp_docs.specs.Documents.{Terms};
-ghost use Rattle.lsp_replay.specs.Telling.{IsSeen, IsSpoken, Stood, kept_before, rule_of};
-ghost use Rattle.lsp_rpc.specs.View.{act_view};
-ghost use Rattle.lsp_types.specs.declared.change.SyncKind.{SyncKind};
-ghost use Rattle.lsp_types.specs.declared.position.Encoding.{Encoding};
-ghost use Rattle.lsp_verdict.specs.Event.{call_of};
+ghost use Rattle.lsp_docs.specs.Taken.{call_view};
+ghost use Rattle.lsp_replay.specs.Lines.{place_of};
+ghost use Rattle.lsp_replay.specs.Telling.{IsSeen, MaySpeak, Stood, kept_before, rule_of};
+ghost use Rattle.lsp_verdict.specs.Given.{raw_view};
 ghost use Rattle.lsp_verdict.specs.Heard.{Heard, heard_events};
-ghost use Rattle.lsp_verdict.specs.Offences.{IsNoted};
-ghost use Rattle.lsp_verdict.specs.Placed as placed;
-ghost use Rattle.lsp_explain.specs.History.{call_kept, kept_call};
+ghost use Rattle.lsp_verdict.specs.Offences.{IsNoted, said_at};
+ghost use Rattle.lsp_explain.specs.History.{call_kept};
 ghost use Rattle.lsp_explain.specs.Trails.{IsTrail, Keeps};
 
-use crate::notes::{Marks, Openings, SessionNotes, Step, step_in};
-use lsp_replay::{EventPlace, Events, Seen};
-use lsp_rpc::{Act, Result, Side, Spoken};
-use lsp_survey::uri_in;
+use crate::notes::{Marks, Openings, SessionNotes, step_of};
+use lsp_docs::{Call, Took};
+use lsp_replay::{EventPlace, Events, Fate, Seen};
+use lsp_rpc::{Result, Spoken};
 use lsp_text::Lined;
-use lsp_verdict::{Who, who_of};
+use lsp_verdict::Raw;
 use std::alloc::Global;
 
 /// Which kept events left the documents as they are, which opened and closed them last, and which
@@ -50,90 +46,76 @@ impl Trail {
         }
     }
 
-    /// Notes the next event. One that offends leaves nothing to note.
+    /// Notes the next event. One that offends leaves nothing to note, and one that says something
+    /// of a document leaves the session as it is.
     ///
     /// # Errors
     /// `Memory` where memory was refused; nothing is then known of what is noted.
     #[inline(always)]
-    pub(crate) fn keep(&mut self, held: &Events<Lined>, seen: Seen<'_>) -> Result<()>
+    pub(crate) fn keep(&mut self, held: &Events<Lined>, seen: &Seen<'_>) -> Result<()>
         ensures { OnOk result ((terms : Terms) (before : List Heard) (h : Heard)
             → IsTrail terms self.old (heard_events before)
-            → IsSeen held.now.session held.now.docs held.now.counts seen.entry terms before h
+            → IsSeen held.now.session held.now.docs held.now.counts seen.now terms before h
             → IsTrail terms self.new (heard_events (before ++ h ∷ []))) }
     {
-        match seen {
-            Seen::Message {
-                side,
-                content,
-                spoken,
-            } => self.keep_message(held, side, content, spoken),
-            Seen::Snapshot {
-                version,
-                uri,
-                answer,
-                ..
-            } => {
-                let place = EventPlace::last(&held.counts, Who::Snapshot);
-                let step = Step::Shows(version, answer);
-                keep_step(&mut self.marks, &mut self.openings, place, uri, step)
-            }
-            Seen::Offence { .. } => Ok(()),
-        }
+        let Fate::Kept(took) = seen.fate else {
+            return Ok(());
+        };
+        let place = EventPlace::last(&held.counts, seen.raw.who());
+        let Some(call) = seen.call else {
+            return self.keep_message(held, place, seen.raw, seen.spoken);
+        };
+        keep_step(&mut self.marks, &mut self.openings, place, call, took)?;
+        self.said.renames.keep_call(place, call)
     }
 
-    /// Notes a message that is kept, of this content. One that says something of a document leaves
-    /// the session as it is.
+    /// Notes a message that is kept, the event of this place, and says nothing of a document.
     #[inline(always)]
     fn keep_message(
         &mut self,
         held: &Events<Lined>,
-        side: Side,
-        content: &[u8],
-        spoken: &Spoken,
+        place: EventPlace,
+        raw: Raw<'_>,
+        spoken: Option<&Spoken>,
     ) -> Result<()>
         ensures { OnOk result ((terms : Terms) (before : List Heard) (h : Heard)
             → IsTrail terms self.old (heard_events before)
             → Stood terms held.now.session held.now.docs held.now.counts (before ++ h ∷ [])
-            → rule_of terms before h ≡ None → IsNoted (placed.content side content.now) h.note
-            → IsSpoken (kept_before terms before) h.note.event side spoken.now
+            → place ≡ place_of (heard_events before) h.note.event
+            → rule_of terms before h ≡ None → IsNoted (raw_view raw.entry) h.note
+            → MaySpeak (kept_before terms before) h.note.event (option_map (λ s. s.now) spoken.entry)
+            → said_at terms (heard_events before) h.note.event ≡ None
             → IsTrail terms self.new (heard_events (before ++ h ∷ []))) }
     {
-        let place = EventPlace::last(&held.counts, who_of(side));
-        if uri_in(&spoken.act).is_some() {
-            keep_act(&mut self.marks, &mut self.openings, place, &spoken.act)?;
-            return self.said.renames.keep_act(place, &spoken.act);
-        }
+        let Raw::Content { side, content } = raw else {
+            return Ok(());
+        };
+        let Some(spoken) = spoken else {
+            return Ok(());
+        };
         let phase = held.session.phase();
         let done = held.session.is_done();
-        self.said.keep(place, side, content, spoken, phase, done)
+        self.said
+            .keep(place, side, content, &spoken.message, phase, done)
     }
 }
 
-/// Notes what an act that is kept, of the event of this place, does to a document.
-#[inline(always)]
-fn keep_act(marks: &mut Marks, openings: &mut Openings, place: EventPlace, act: &Act) -> Result<()>
-    ensures { OnOk result ((enc : Encoding) (kind : SyncKind) (terms : Terms) (before : List Call)
-        → Keeps (option_and_then (call_kept terms place before)
-        (call_of enc kind (act_view act.now))) marks.old openings.old marks.new openings.new) }
-{
-    match step_in(act) {
-        Some((uri, step)) => keep_step(marks, openings, place, uri, step),
-        None => Ok(()),
-    }
-}
-
-/// Notes what a kept event, that of this place, does to the document of a URI.
+/// Notes what a kept call, the event of this place, which says this, does to its document.
 #[inline(always)]
 fn keep_step(
     marks: &mut Marks,
     openings: &mut Openings,
     place: EventPlace,
-    uri: &str,
-    step: Step,
+    call: Call<'_>,
+    said: Took,
 ) -> Result<()>
-    ensures { OnOk result (Keeps (Some (kept_call uri.now place step)) marks.old openings.old
+    ensures { OnOk result (Keeps (call_kept place (call_view call.entry) said) marks.old openings.old
         marks.new openings.new) }
 {
+    let Some(step) = step_of(call, said) else {
+        return Ok(());
+    };
+    let uri = call.uri();
     marks.keep(place, uri, step)?;
     openings.keep(place, uri, step)
 }

@@ -1,37 +1,40 @@
 //! What is said about a document that is not open.
 ghost use Rattle.std.specs.Prelude.{◌≡◌, ◌++◌, List, IfOk, OnOk};
 ghost use Rattle.std.specs.List.{flat_map};
-ghost use Rattle.lsp_rpc.specs.View.{act_view};
+ghost use Rattle.lsp_docs.specs.Calls.{uri_of};
+ghost use Rattle.lsp_docs.specs.Taken.{call_view};
 ghost use Rattle.lsp_explain.specs.Openings.{on_view, ons_view};
 ghost use Rattle.lsp_verdict.specs.Event.{Event};
 ghost use Rattle.lsp_explain.specs.Trails.{StandsAfter, terms_in};
-ghost use Rattle.lsp_explain.specs.Traced.{act_call};
 ghost use Rattle.lsp_explain.specs.Traced as spec;
 
 use crate::notes::{Closing, DocumentEvent};
 use crate::trail::Past;
+use lsp_docs::Call;
 use lsp_facts::Facts;
 use lsp_replay::EventPlace;
-use lsp_rpc::{Act, Result};
-use lsp_survey::{folded, uri_in};
+use lsp_rpc::Result;
+use lsp_survey::folded;
 use lsp_types::rules;
 use std::alloc::Global;
 
-/// Adds to the facts on an act that breaks this rule, under 602, how the document of which it
+/// Adds to the facts on a call that breaks this rule, under 602, how the document of which it
 /// speaks was closed, and which documents with a similar URI are open. The past is of the events
 /// before it.
-pub(crate) fn trace_unopened(facts: &mut Facts, past: Past<'_>, act: &Act, rule: u16) -> Result<()>
+pub(crate) fn trace_unopened(
+    facts: &mut Facts,
+    past: Past<'_>,
+    call: Call<'_>,
+    rule: u16,
+) -> Result<()>
     ensures { OnOk result ((before : List Event) → StandsAfter past.entry before
-        → facts.new ≡ facts.old
-        ++ spec.unopened_traced (terms_in past.entry) before rule
-        (act_call (terms_in past.entry) before (act_view act.now))) }
+        → facts.new ≡ facts.old ++ spec.unopened_traced (terms_in past.entry) before rule
+        (uri_of (call_view call.entry))) }
 {
-    let Some(uri) = uri_in(act) else {
-        return Ok(());
-    };
     if rule != rules::DOCUMENT_NOT_OPEN {
         return Ok(());
     }
+    let uri = call.uri();
     push_closing(facts, past.trail.openings.closing(uri))?;
     push_similar(facts, past, uri)
 }

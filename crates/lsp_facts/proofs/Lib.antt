@@ -2,6 +2,7 @@ pub mod Offers
 pub mod MadeChanges
 pub mod AtEdges
 pub mod OtherTexts
+pub mod FailingChanges
 pub mod DocumentRules
 pub mod ShapedMembers
 pub mod SomeFacts

@@ -1,6 +1,6 @@
 -- The facts on an event are the same, however they are found.
 use Rattle.std.proofs.Common.{◌≡◌, ◌⊎◌, ◌+◌, ◌<◌, ◌≤◌, ℕ, zero, suc, Bool, true, false, cond, List, [], ◌∷◌, ◌++◌, take, Option, Some, None, Result, Ok, Err, inl, inr, refl, sym, ap, subst, ◌∙◌, arith}
-use Rattle.std.specs.Prelude.{ℤ, codes, nat_lt, slice_get, unwrap_or}
+use Rattle.std.specs.Prelude.{nat_lt, slice_get, unwrap_or}
 use Rattle.std.proofs.lemmas.Bool.{cases_lt}
 use Rattle.std.proofs.lemmas.Bool.Decides.{nat_tests}
 use Rattle.std.proofs.lemmas.Option.{same_Some}
@@ -17,14 +17,15 @@ use Rattle.lsp_text.specs.Sizes.{IsSizeWith}
 use Rattle.lsp_text.proofs.Differing.Differences.{one_place}
 use Rattle.lsp_text.proofs.Differing.InsideCharacter.{positions_lie_inside}
 use Rattle.lsp_docs.specs.Calls.{Call, opens, changes, closes, saves, shows, uri_of, Text}
-use Rattle.lsp_docs.specs.Documents.{Version, versioned, held, Terms}
-use Rattle.lsp_docs.specs.Snapshots.{kept as versions_kept, waiting, versions_of}
+use Rattle.lsp_docs.specs.Documents.{Version, held, Terms}
+use Rattle.lsp_docs.specs.Snapshots.{kept as versions_kept}
 use Rattle.lsp_facts.specs.DocumentFacts.{falls_inside, fits_fact, head_facts, line_length}
 use Rattle.lsp_facts.specs.DocumentFacts.{first_length, stray, difference_facts, ends_facts}
 use Rattle.lsp_facts.specs.DocumentFacts.{IsStray, IsTooLong, IsLongWithLine, IsReason, IsRefused}
-use Rattle.lsp_facts.specs.DocumentFacts.{IsFailing, AreApart, AreOfDifference, IsRefuted}
-use Rattle.lsp_facts.specs.DocumentFacts.{IsRefuting, IsRefutedText, AreOfOpening, AreOfChange}
-use Rattle.lsp_facts.specs.DocumentFacts.{AreOfSave, AreOfSnapshot, AreDetails, AreFactsOf, edges}
+use Rattle.lsp_facts.specs.DocumentFacts.{IsFailing, AreApart, AreOfDifference, AreOfChange}
+use Rattle.lsp_facts.specs.DocumentFacts.{AreDetails, AreDocumentFacts, AreOfRule, edges, editor_key}
+use Rattle.lsp_facts.specs.DocumentFacts.{kind_facts}
+use Rattle.lsp_facts.specs.TwoTexts.{TwoTexts, texts_of}
 use Rattle.lsp_session.specs.Negotiation.{encoding}
 use Rattle.lsp_session.specs.Sent.{Sent}
 use Rattle.lsp_verdict.specs.Event.{call_at, calls, Event, message, fault, snapshot, sent_in}
@@ -33,6 +34,7 @@ use Rattle.lsp_facts.specs.EventFacts.{AreCallFacts, AreFactsBy, AreFacts}
 use Rattle.lsp_verdict.specs.Heard.{Rests}
 use Rattle.lsp_facts.specs.Fact.{Fact, would_have, may_have, counts_in, fails}
 use Rattle.lsp_replay.specs.declared.heard.EventPlace.{EventPlace}
+use Rattle.lsp_facts.proofs.FailingChanges.{failing_rule}
 use Rattle.lsp_facts.proofs.MadeChanges.{fails_there}
 
 same_text : (t u : Text) → (let r : Result Text ℕ = Ok t in r) ≡ Ok u → t ≡ u
@@ -99,11 +101,6 @@ module _ (limit : ℕ) (enc : Encoding) (t : Text) where
       not_605 h is (inl a) = absurd (omega (arith, is, a.0))
       not_605 h is (inr a) = absurd (omega (arith, is, a.0))
 
-  reason_rule : (edit : Edit) (rule : ℕ) (f : List Fact) → IsReason limit enc t edit rule f → (605 ≤ rule) × (rule ≤ 607)
-  reason_rule edit rule f (inl p) = (omega (arith, p.0), omega (arith, p.0))
-  reason_rule edit rule f (inr (inl p)) = (omega (arith, p.0), omega (arith, p.0))
-  reason_rule edit rule f (inr (inr p)) = (omega (arith, p.0), omega (arith, p.0))
-
   one_refused : (n : ℕ) (edit : Edit) (rule : ℕ) (f g : List Fact) → IsRefused limit enc t n edit rule f → IsRefused limit enc t n edit rule g → f ≡ g
   one_refused n edit rule f g p q = p.are ∙ ap (λ l. counts_in enc ∷ fails (n + 1) edit.span ∷ l) (one_reason edit rule p.reason q.reason p.says q.says) ∙ sym q.are
 
@@ -145,101 +142,54 @@ module _ (limit : ℕ) (enc : Encoding) (t : Text) (cs : List Edit) (rule : ℕ)
       one_refused limit enc q.text q.n q.edit rule f g
       (subst (λ n. IsRefused limit enc q.text n q.edit rule f) at (subst (λ e. IsRefused limit enc q.text p.n e rule f) edits (subst (λ u. IsRefused limit enc u p.n p.edit rule f) texts p.refused))) q.refused
 
--- ---- a text that a snapshot refutes
-
-one_refuted : (ends : LineEnds) (enc : Encoding) (ws : List Version) (v : Version)
-    (f g : List Fact) → IsRefuted ends enc ws v f → IsRefuted ends enc ws v g → f ≡ g
-one_refuted ends enc ws v f g p q =
-    let others : p.other ≡ q.other = same_Some p.other q.other (sym p.waiting ∙ q.waiting) in
-    one_apart ends enc v.text q.other (codes "in-editor") f g
-    (subst (λ u. AreApart ends enc v.text u (codes "in-editor") f) others p.apart) q.apart
-
 -- ---- by what was called
 
-module _ (terms : Terms) (enc : Encoding) (ws : List Version) (f g : List Fact) where
-  abbrev limit : ℕ
-  limit = terms.limit
-
-  one_of_opening : (v : Version) (rule : ℕ) → AreOfOpening terms enc ws v rule f
-      → AreOfOpening terms enc ws v rule g → f ≡ g
-  one_of_opening v rule p q =
-      either (λ a b. a.1 ∙ sym b.1) (λ a b. above g a.0 b) (λ a b. above f a.0 b)
-      (λ c d. either (λ a b. a.1 ∙ sym b.1) (λ a b. absurd (omega (arith, a.0, b.0)))
-      (λ a b. absurd (omega (arith, a.0, b.0)))
-      (λ a b. one_refuted terms.line_ends enc ws v f g a.1 b.1) c
-      d) p q
+module _ (limit : ℕ) (enc : Encoding) (kind : SyncKind) (t : Text) (cs : List Edit) (rule : ℕ) where
+  one_of_change : (f g : List Fact) → AreOfChange limit enc kind t cs rule f
+      → AreOfChange limit enc kind t cs rule g → f ≡ g
+  one_of_change f g p q =
+      either (λ a b. a.1 ∙ sym b.1) (λ a b. absurd (omega (arith, a.0, later g b)))
+      (λ a b. absurd (omega (arith, a.0, later f b)))
+      (λ c d. either (λ a b. a.1 ∙ sym b.1) (λ a b. absurd (omega (arith, a.0, (by g b).0)))
+      (λ a b. absurd (omega (arith, a.0, (by f b).0)))
+      (λ a b. one_failing limit enc t cs rule f g a b) c d) p q
     where
-      above : (h : List Fact) → rule ≡ 601
-          → ((rule ≡ 607) × (h ≡ would_have (units Utf8 v.text) ∷ may_have limit ∷ []))
-          ⊎ ((rule ≡ 702) × IsRefuted terms.line_ends enc ws v h) → ⊥
-      above h is (inl a) = absurd (omega (arith, is, a.0))
-      above h is (inr a) = absurd (omega (arith, is, a.0))
+      by : (h : List Fact) → IsFailing limit enc t cs rule h → (605 ≤ rule) × (rule ≤ 607)
+      by h a = failing_rule limit enc t cs rule h a
 
-  module _ (kind : SyncKind) (number : ℤ) (cs : List Edit) (rule : ℕ) where
-    one_refuted_text : (t : Text) → IsRefutedText terms enc ws number t cs f
-        → IsRefutedText terms enc ws number t cs g → f ≡ g
-    one_refuted_text t p q =
-        let texts : p.text ≡ q.text = same_text p.text q.text (sym p.made ∙ q.made) in
-        one_refuted terms.line_ends enc ws (versioned number q.text) f g
-        (subst (λ u. IsRefuted terms.line_ends enc ws (versioned number u) f) texts p.refuted)
-        q.refuted
+      later : (h : List Fact) → ((rule ≡ 604) × (h ≡ kind_facts limit enc kind t cs))
+          ⊎ IsFailing limit enc t cs rule h → 604 ≤ rule
+      later h (inl a) = omega (arith, a.0)
+      later h (inr a) = let own = by h a in omega (arith, own.0)
 
-    abbrev Refuted : Text → List Fact → Type 0
-    Refuted t h = (rule ≡ 702) × IsRefutedText terms enc ws number t cs h
+one_of_rule : (limit : ℕ) (h : Option Version) (ks : List Version) (call : Call) (rule : ℕ)
+    (f g : List Fact) → AreOfRule limit h ks call rule f → AreOfRule limit h ks call rule g → f ≡ g
+one_of_rule limit h ks (opens uri number text) rule f g p q = p ∙ sym q
+one_of_rule limit (Some v) ks (changes enc kind uri number cs) rule f g p q =
+    one_of_change limit enc kind v.text cs rule f g p q
+one_of_rule limit None ks (changes enc kind uri number cs) rule f g p q = p ∙ sym q
+one_of_rule limit h ks (closes uri) rule f g p q = p ∙ sym q
+one_of_rule limit h ks (saves uri text) rule f g p q = p ∙ sym q
+one_of_rule limit h ks (shows uri number text) rule f g p q = p ∙ sym q
 
-    failing_rule : (t : Text) (h : List Fact) → IsFailing limit enc t cs rule h → (605 ≤ rule) × (rule ≤ 607)
-    failing_rule t h p = reason_rule limit enc p.text p.edit rule p.refused.reason p.refused.says
+module _ (terms : Terms) (enc : Encoding) (before : List Call) (call : Call) (rule : ℕ) where
+  one_details : (texts : Option TwoTexts) (f g : List Fact)
+      → AreDetails terms enc before call rule texts f → AreDetails terms enc before call rule texts g
+      → f ≡ g
+  one_details (Some texts) f g p q =
+      one_apart terms.line_ends enc texts.by_messages texts.in_editor (editor_key call) f g p q
+  one_details None f g p q =
+      one_of_rule terms.limit (held terms (uri_of call) before)
+      (versions_kept terms (uri_of call) before) call rule f g p q
 
-    last_rule : (t : Text) (h : List Fact) → IsFailing limit enc t cs rule h ⊎ Refuted t h → 605 ≤ rule
-    last_rule t h (inl p) = (failing_rule t h p).0
-    last_rule t h (inr p) = omega (arith, p.0)
-
-    later_rule : (t : Text) (h k : List Fact) → ((rule ≡ 604) × (h ≡ k)) ⊎ (IsFailing limit enc t cs rule h ⊎ Refuted t h) → 604 ≤ rule
-    later_rule t h k (inl p) = omega (arith, p.0)
-    later_rule t h k (inr p) = omega (arith, last_rule t h p)
-
-    one_of_change : (o : Option Version) → AreOfChange terms enc kind ws number cs o rule f
-        → AreOfChange terms enc kind ws number cs o rule g → f ≡ g
-    one_of_change None p q = p.1 ∙ sym q.1
-    one_of_change (Some v) p q =
-        either (λ a b. a.1 ∙ sym b.1) (λ a b. absurd (omega (arith, a.0, later_rule v.text g _ b))) (λ a b. absurd (omega (arith, a.0, later_rule v.text f _ b)))
-        (λ c d. either (λ a b. a.1 ∙ sym b.1) (λ a b. absurd (omega (arith, a.0, last_rule v.text g b))) (λ a b. absurd (omega (arith, a.0, last_rule v.text f b)))
-        (λ c d. either (λ a b. one_failing limit enc v.text cs rule f g a b) (λ a b. absurd (omega (arith, (failing_rule v.text f a).1, b.0))) (λ a b. absurd (omega (arith, (failing_rule v.text g a).1, b.0)))
-        (λ a b. one_refuted_text v.text a.1 b.1) c d) c d) p q
-
-one_of_save : (ends : LineEnds) (enc : Encoding) (text : Option Text) (o : Option Version)
-    (f g : List Fact) → AreOfSave ends enc text o f → AreOfSave ends enc text o g → f ≡ g
-one_of_save ends enc (Some t) (Some v) f g p q = one_apart ends enc v.text t (codes "saved") f g p q
-one_of_save ends enc (Some t) None f g p q = p ∙ sym q
-one_of_save ends enc None o f g p q = p ∙ sym q
-
-one_of_snapshot : (ends : LineEnds) (enc : Encoding) (ks : List Version) (o : Option Version)
-    (s : Version) (rule : ℕ) (f g : List Fact) → AreOfSnapshot ends enc ks o s rule f
-    → AreOfSnapshot ends enc ks o s rule g → f ≡ g
-one_of_snapshot ends enc ks o s rule f g p q =
-    either (λ a b. a.1 ∙ sym b.1) (λ a b. absurd (omega (arith, a.0, b.0))) (λ a b. absurd (omega (arith, a.0, b.0))) (λ a b. refuting a.1 b.1) p q
-  where
-    refuting : IsRefuting ends enc ks o s f → IsRefuting ends enc ks o s g → f ≡ g
-    refuting a b =
-        let texts : a.text ≡ b.text = same_Some a.text b.text (sym a.other ∙ b.other) in
-        one_apart ends enc b.text s.text (codes "in-editor") f g
-        (subst (λ u. AreApart ends enc u s.text (codes "in-editor") f) texts a.apart) b.apart
-
-module _ (terms : Terms) (enc : Encoding) (h : Option Version) (ks ws : List Version) (rule : ℕ) where
-  one_details : (call : Call) (f g : List Fact) → AreDetails terms enc h ks ws call rule f → AreDetails terms enc h ks ws call rule g → f ≡ g
-  one_details (opens uri number text) f g p q =
-      one_of_opening terms enc ws f g (versioned number text) rule p q
-  one_details (changes agreed kind uri number edits) f g p q =
-      one_of_change terms agreed ws f g kind number edits rule h p q
-  one_details (closes uri) f g p q = p.1 ∙ sym q.1
-  one_details (saves uri text) f g p q = one_of_save terms.line_ends enc text h f g p.1 q.1
-  one_details (shows uri number text) f g p q =
-      one_of_snapshot terms.line_ends enc ks h (versioned number text) rule f g p q
-
-  pub one_facts_of : (call : Call) (set_by : Option EventPlace) (f g : List Fact)
-      → AreFactsOf terms enc h ks ws call rule set_by f
-      → AreFactsOf terms enc h ks ws call rule set_by g → f ≡ g
-  one_facts_of call set_by f g p q = p.are ∙ ap (λ l. head_facts set_by h call ++ l) (one_details call p.details q.details p.says q.says) ∙ sym q.are
+  pub one_facts_of : (set_by : Option EventPlace) (f g : List Fact)
+      → AreDocumentFacts terms enc before call rule set_by f
+      → AreDocumentFacts terms enc before call rule set_by g → f ≡ g
+  one_facts_of set_by f g p q =
+      p.are
+      ∙ ap (λ l. head_facts set_by (held terms (uri_of call) before) call ++ l)
+      (one_details (texts_of terms before call rule) p.details q.details p.says q.says)
+      ∙ sym q.are
 
 -- ---- any event
 
@@ -248,7 +198,8 @@ module _ (terms : Terms) (kept : List Event) (rule : ℕ) (set_by : Option Event
   one_call_facts : (said : Option Call) → AreCallFacts terms kept rule said set_by f → AreCallFacts terms kept rule said set_by g → f ≡ g
   one_call_facts None p q = p ∙ sym q
   one_call_facts (Some call) p q =
-      one_facts_of terms (unwrap_or (encoding (sent_in kept)) Utf16) (held terms (uri_of call) (calls kept)) (versions_kept terms (uri_of call) (calls kept)) (versions_of (uri_of call) (waiting terms (calls kept))) rule call set_by f g p q
+      one_facts_of terms (unwrap_or (encoding (sent_in kept)) Utf16) (calls kept) call rule set_by
+      f g p q
 
   one_message_facts : (m : Sent) (b : Bool) → AreFactsBy b terms kept m rule set_by f
       → AreFactsBy b terms kept m rule set_by g → f ≡ g

@@ -2,7 +2,7 @@
 use Rattle.std.proofs.Common.{◌≡◌, ◌<◌, ◌+◌, ℕ, Bool, true, false, List, [], ◌∷◌, ◌++◌, length}
 use Rattle.std.proofs.Common.{get_or, take, drop, Some, None, sym, ap, ◌∙◌, ◌≤◌, zero, suc}
 use Rattle.std.proofs.Common.{append-nil, Option, Result, Ok, Err, refl, arith, inl, inr}
-use Rattle.std.proofs.Common.{String, true≢false}
+use Rattle.std.proofs.Common.{Bor, String, true≢false}
 use Rattle.std.proofs.lemmas.Bool.{cases_Bool, cond-true, cond-false}
 use Rattle.std.proofs.lemmas.Slice.Eq.{bytes_eq-Decides}
 use Rattle.std.proofs.lemmas.List.{length-map, take_more, take-append-drop, at_drop_more}
@@ -10,25 +10,27 @@ use Rattle.std.proofs.lemmas.List.Folds.{find-append}
 use Rattle.std.specs.Global.{Global}
 use Rattle.std.specs.List.{find, list_any}
 use Rattle.std.specs.Option.{option_or, option_map}
-use Rattle.std.specs.Prelude.{ℤ, slice_get, if◌then◌else◌, unwrap_or, not, ◌||◌}
+use Rattle.std.specs.Prelude.{slice_get, if◌then◌else◌, unwrap_or, not, ◌||◌, option_and_then, ℤ}
 use Rattle.std.specs.Str.{bytes_eq}
 use Rattle.std.specs.Result.{result_ok}
-use Rattle.std.proofs.lemmas.Option.{same_Some, slice_get-get_or}
-use Rattle.lsp_types.specs.declared.change.SyncKind.{SyncKind}
+use Rattle.std.proofs.lemmas.Option.{slice_get-get_or}
 use Rattle.lsp_types.specs.declared.position.Encoding.{Encoding}
 use Rattle.lsp_types.specs.declared.line_ends.LineEnds.{LineEnds}
 use Rattle.lsp_text.specs.Edits.{Edit, applied}
-use Rattle.lsp_text.specs.SameText.{compared, same_text}
-use Rattle.lsp_docs.specs.Calls.{Text, Call, changes}
-use Rattle.lsp_docs.specs.Documents.{Terms, Version, held}
+use Rattle.lsp_text.specs.SameText.{compared as compared_text, same_text}
+use Rattle.lsp_docs.specs.Calls.{Text, Call, opens, changes, closes, saves, shows, uri_of}
+use Rattle.lsp_docs.specs.Documents.{Terms, Version}
+use Rattle.lsp_docs.specs.Taken.{call_view}
+use Rattle.lsp_docs.specs.declared.call.Call as code
+use Rattle.lsp_docs.specs.declared.call.Call.TheVariants.{Opens, Changes, Closes, Saves, Shows}
 use Rattle.lsp_docs.specs.Stored.{are_mixed, text_of, texts_of}
 use Rattle.lsp_docs.specs.Tried.{IsMade}
 use Rattle.lsp_docs.proofs.Mixed.{alike_any}
 use Rattle.lsp_replay.specs.declared.heard.EventPlace.{EventPlace}
 use Rattle.lsp_verdict.specs.declared.verdict.Who.TheVariants.{Editor}
-use Rattle.lsp_facts.specs.Refuting.{is_other, is_other_at, others_of, made_text, refuting}
-use Rattle.lsp_facts.specs.Refuting.{waiting_texts}
-use Rattle.lsp_facts.specs.TwoTexts.{TwoTexts, against}
+use Rattle.lsp_facts.specs.Refuting.{brings, first_other, is_other, is_other_at, others_of}
+use Rattle.lsp_facts.specs.Refuting.{made_text, refuting, waiting_texts}
+use Rattle.lsp_facts.specs.TwoTexts.{TwoTexts, against, compared, two_texts}
 use Rattle.lsp_facts.proofs.MadeChanges.{fails_some, makes_all}
 
 module _ {X : Type 0} (p : X → Bool) (xs : List X) (i : ℕ) (x : X) (lt : i < length xs)
@@ -122,9 +124,9 @@ all_others ends t first [] [] other alike = refl
 all_others ends t first [] (n ∷ ns) other alike = refl
 all_others ends t first (u ∷ us) [] other alike = refl
 all_others ends t first (u ∷ us) (n ∷ ns) other alike =
-    let same = bytes_eq-Decides (compared ends u) (compared ends first) in
+    let same = bytes_eq-Decides (compared_text ends u) (compared_text ends first) in
     elim (cases_Bool (same_text ends u first)) [
-      | inl p ↦ rw (ap (λ x. not (bytes_eq (compared ends t) x)) (same.0 p) ∙ other)
+      | inl p ↦ rw (ap (λ x. not (bytes_eq (compared_text ends t) x)) (same.0 p) ∙ other)
           (ap (λ (l : List EventPlace). n ∷ l) (all_others ends t first us ns other (rw p at alike)))
       | inr p ↦ absurd (true≢false (rw p at alike))
     ]
@@ -136,7 +138,7 @@ pub alike_others : (ends : LineEnds) (t : Text) (ss : List (String Global)) (ns 
 alike_others ends t [] ns alike any = absurd (true≢false (sym any))
 alike_others ends t (s ∷ ss) ns alike any =
     let first = text_of s in
-    let itself = (bytes_eq-Decides (compared ends first) (compared ends first)).1 refl in
+    let itself = (bytes_eq-Decides (compared_text ends first) (compared_text ends first)).1 refl in
     ap (λ n. take n ns) (sym (length-map (s ∷ ss) text_of))
     ∙ sym (all_others ends t first (texts_of (s ∷ ss)) ns
     (alike_any ends t first (texts_of ss) alike ∙ any)
@@ -144,7 +146,8 @@ alike_others ends t (s ∷ ss) ns alike any =
 
 -- one is where the first is found
 any_other : (ends : LineEnds) (us : List Text) (t : Text) (texts : TwoTexts)
-    → against ends us t ≡ Some texts → list_any (is_other ends t) us ≡ true
+    → option_map (two_texts t) (first_other ends t us) ≡ Some texts
+    → list_any (is_other ends t) us ≡ true
 any_other ends [] t texts h = absurd (cc)
 any_other ends (u ∷ us) t texts h = elim (cases_Bool (is_other ends t u))
     [ inl e ↦ rw e refl | inr e ↦ rw e (any_other ends us t texts (rw e at h)) ]
@@ -153,7 +156,7 @@ any_other ends (u ∷ us) t texts h = elim (cases_Bool (is_other ends t u))
 pub others_as : (a b : LineEnds) (us ws : List Text) (t : Text) (ns others : List EventPlace)
     (texts : TwoTexts) → a ≡ b → us ≡ ws
     → (list_any (is_other a t) us ≡ true → others ≡ others_of a t ns us)
-    → against b ws t ≡ Some texts → others ≡ others_of b t ns ws
+    → option_map (two_texts t) (first_other b t ws) ≡ Some texts → others ≡ others_of b t ns ws
 others_as a b us ws t ns others texts p q are differ =
     are (ap (λ x. list_any (is_other x t) us) p ∙ ap (list_any (is_other b t)) q
     ∙ any_other b ws t texts differ)
@@ -181,16 +184,36 @@ module _ (terms : Terms) (enc : Encoding) (cs : List Edit) (h : Option Version) 
   pub one_fails : n < length cs → None ≡ made_text terms enc cs h
   one_fails lt = let fails = fails_some terms.limit enc t cs n text made lt in sym (of_held terms enc cs h t (Err fails.0) holds fails.1)
 
--- ---- what refutes a change
+-- ---- the version that a call brings its document to
 
-pub refuting_change : (terms : Terms) (calls : List Call) (enc : Encoding) (kind : SyncKind)
-    (uri : List ℕ) (number : ℤ) (cs : List Edit) (ns : List EventPlace) (call : Call)
-    (made : Option Text) (others : List EventPlace)
-    → Some (changes enc kind uri number cs) ≡ Some call → made ≡ made_text terms enc cs (held terms uri calls)
-    → others ≡ unwrap_or (option_map (λ t. others_of terms.line_ends t ns
-    (waiting_texts terms calls uri number)) made) [] → others ≡ refuting terms calls call ns
-refuting_change terms calls enc kind uri number cs ns call made others is text are =
-    are
-    ∙ ap (λ o. unwrap_or (option_map (λ t. others_of terms.line_ends t ns
-    (waiting_texts terms calls uri number)) o) []) text
-    ∙ ap (λ x. refuting terms calls x ns) (same_Some (changes enc kind uri number cs) call is)
+-- it is compared with those that wait for it
+pub compared_brought : (terms : Terms) (calls : List Call) (call : Call) (v : Version)
+    → Some v ≡ brings terms calls call
+    → against terms calls (uri_of call) v ≡ compared terms calls call
+compared_brought terms calls (opens uri number text) v is =
+    ap (option_and_then (against terms calls uri)) is
+compared_brought terms calls (changes enc kind uri number edits) v is =
+    ap (option_and_then (against terms calls uri)) is
+compared_brought terms calls (closes uri) v is = absurd (cc)
+compared_brought terms calls (saves uri text) v is = absurd (cc)
+compared_brought terms calls (shows uri number text) v is = absurd (cc)
+
+-- so is one of a call that is neither a save nor a snapshot
+pub by_brought : (terms : Terms) (calls : List Call) (call : code.Call)
+    → ((uri : Bor (List ℕ)) (text : Option (Bor (List ℕ))) → call ≡ Saves uri text → ⊥)
+    → ((uri : Bor (List ℕ)) (number : ℤ) (text : Bor (List ℕ)) → call ≡ Shows uri number text → ⊥)
+    → option_and_then (against terms calls (uri_of (call_view call)))
+    (brings terms calls (call_view call)) ≡ compared terms calls (call_view call)
+by_brought terms calls (Opens uri number text) no_save no_show = refl
+by_brought terms calls (Changes enc kind uri number cs) no_save no_show = refl
+by_brought terms calls (Closes uri) no_save no_show = refl
+by_brought terms calls (Saves uri text) no_save no_show = absurd (no_save uri text refl)
+by_brought terms calls (Shows uri number text) no_save no_show = absurd (no_show uri number text refl)
+
+pub refuting_brought : (terms : Terms) (calls : List Call) (call : Call) (v : Option Version)
+    (ns others : List EventPlace) → v ≡ brings terms calls call
+    → others ≡ unwrap_or (option_map (λ (w : Version). others_of terms.line_ends w.text ns
+    (waiting_texts terms calls (uri_of call) w.number)) v) [] → others ≡ refuting terms calls call ns
+refuting_brought terms calls call v ns others is are =
+    are ∙ ap (λ o. unwrap_or (option_map (λ (w : Version). others_of terms.line_ends w.text ns
+    (waiting_texts terms calls (uri_of call) w.number)) o) []) is

@@ -1,30 +1,34 @@
 -- A call that breaks 608 or 702 compares two texts, and they differ.
 use Rattle.std.proofs.Common.{◌≡◌, ℕ, [], ◌∷◌, List, Option, length, ap, subst, ◌∙◌, ℤ, true, false}
-use Rattle.std.proofs.Common.{Some, None, inl, inr, refl, sym, true≢false}
-use Rattle.std.specs.Prelude.{codes, option_map, option_and_then, if◌then◌else◌, Bool}
+use Rattle.std.proofs.Common.{Some, None, inl, inr, refl, sym, true≢false, Result, Ok, Err, arith, ◌≤◌}
+use Rattle.std.proofs.lemmas.Option.{same_Some, none-some}
+use Rattle.std.specs.Prelude.{codes, option_map, option_and_then, if◌then◌else◌, Bool, is_some}
+use Rattle.std.specs.Prelude.{nat_lt}
+use Rattle.std.specs.List.{list_any}
 use Rattle.std.specs.Result.{result_ok}
 use Rattle.std.proofs.lemmas.Slice.Eq.{bytes_eq-Decides}
 use Rattle.lsp_types.specs.declared.position.Encoding.{Encoding}
 use Rattle.lsp_types.specs.declared.position.Position.{Position}
 use Rattle.lsp_types.specs.declared.change.SyncKind.{SyncKind}
 use Rattle.lsp_types.specs.declared.line_ends.LineEnds.{LineEnds}
-use Rattle.lsp_types.specs.declared.position.Encoding.TheVariants.{Utf16}
 use Rattle.lsp_text.specs.Difference.{DifferFirst, position_at, line_around, line_before_place}
 use Rattle.lsp_text.proofs.Differing.Differences.{one_place}
-use Rattle.lsp_text.specs.Edits.{Edit}
-use Rattle.lsp_text.specs.SameText.{SameText, compared as compared_text, same_text}
-use Rattle.lsp_docs.specs.Calls.{Text, Call, opens, changes, closes, saves, shows, uri_of}
+use Rattle.lsp_text.specs.Edits.{Edit, applied}
+use Rattle.lsp_text.specs.SameText.{compared as compared_text, same_text}
+use Rattle.lsp_docs.specs.Calls.{Text, byte_len, Call, opens, changes, closes, saves, shows}
 use Rattle.lsp_docs.specs.Documents.{Version, versioned, held, Terms}
 use Rattle.lsp_docs.specs.Snapshots.{kept, waiting, versions_of}
-use Rattle.lsp_docs.specs.Rules.{call_rule, save_rule}
-use Rattle.lsp_facts.specs.DocumentFacts.{FindsDifference, AreOfDifference, differs_at, AreDetails}
-use Rattle.lsp_facts.specs.DocumentFacts.{AreOfChange, AreOfOpening, AreOfSnapshot}
+use Rattle.lsp_docs.specs.Rules.{call_rule, change_rule, differs, other_than, save_rule, show_rule}
+use Rattle.lsp_docs.specs.Rules.{text_rule, version_rule}
+use Rattle.lsp_facts.specs.DocumentFacts.{FindsDifference, AreOfDifference, differs_at, AreApart}
 use Rattle.lsp_facts.specs.Fact.{Fact, counts_in, part_line, Part, part_around, part_at}
-use Rattle.lsp_facts.specs.Refuting.{first_other, made_text, waiting_texts}
+use Rattle.lsp_facts.specs.Refuting.{made_text}
 use Rattle.lsp_facts.specs.TwoTexts.{TextsDiffer, TwoTexts, against, compared, is_of_texts}
-use Rattle.lsp_facts.specs.TwoTexts.{saved_texts, two_texts}
-use Rattle.lsp_facts.proofs.DocumentRules.{other_apart, waiting_apart}
-use Rattle.lsp_facts.proofs.SomeFacts.{some_facts_of}
+use Rattle.lsp_facts.specs.TwoTexts.{recorded, texts_of, two_texts}
+use Rattle.lsp_facts.proofs.DocumentRules.{IsOther, not_this, other_apart, same_number, show_breaks}
+use Rattle.lsp_facts.proofs.DocumentRules.{text_breaks, texts_least, version_breaks, waiting_apart}
+use Rattle.lsp_facts.proofs.DocumentRules.{waiting_some}
+use Rattle.lsp_facts.proofs.FailingChanges.{fails_by}
 
 -- the line of a text at the place where two texts first differ, and its front, found by themselves
 pub part_there : (a b t x front : Text)
@@ -62,88 +66,87 @@ found_moved enc key found x y a b p q told =
     subst (λ (v : Text). FindsDifference enc a v key found) q
     (subst (λ (u : Text). FindsDifference enc u y key found) p told)
 
+-- the facts on texts that equal these
+pub apart_moved : (enc : Encoding) (a ends : LineEnds) (t u other : Text) (k key : List ℕ)
+    (facts : List Fact) → a ≡ ends → t ≡ u → k ≡ key → IsOther ends u other
+    → (IsOther a t other → AreApart a enc t other k facts) → AreApart ends enc u other key facts
+apart_moved enc a ends t u other k key facts p q r differ told =
+    subst (λ (x : LineEnds). IsOther x u other → AreApart x enc u other key facts) p
+    (subst (λ (x : Text). IsOther a x other → AreApart a enc x other key facts) q
+    (subst (λ (x : List ℕ). IsOther a t other → AreApart a enc t other x facts) r told)) differ
+
 -- ---- what a call compares
 
 -- there are two texts, which differ
 abbrev Differ : LineEnds → Option TwoTexts → Type 0
 Differ ends found =
-    (texts : TwoTexts) × (found ≡ Some texts)
-    × (SameText ends texts.by_messages texts.in_editor → ⊥)
+    (texts : TwoTexts) × (found ≡ Some texts) × IsOther ends texts.by_messages texts.in_editor
 
--- a rule that is neither 608 nor 702
-not_this : (rule n : ℕ) → is_of_texts n ≡ false → rule ≡ n → is_of_texts rule ≡ true → ⊥
-not_this rule n other is of = true≢false (sym of ∙ ap is_of_texts is ∙ other)
+close_breaks : (b : Bool) (rule : ℕ) → (if b then None else Some 602) ≡ Some rule → rule ≡ 602
+close_breaks true rule e = absurd (cc)
+close_breaks false rule e = sym (same_number 602 rule e)
 
 module _ (terms : Terms) (before : List Call) (rule : ℕ) (of : is_of_texts rule ≡ true) where
   abbrev ends : LineEnds
   ends = terms.line_ends
 
-  against_differs : (text other : Text) (texts : List Text)
-      → first_other ends text texts ≡ Some other → Differ ends (against ends texts text)
-  against_differs text other texts is = (
-    two_texts text other,
-    ap (option_map (two_texts text)) is,
-    waiting_apart ends text other texts is,
-  )
+  not_by : (n : ℕ) → is_of_texts n ≡ false → rule ≡ n → ⊥
+  not_by n other is = not_this rule n other is of
 
-  opening_differs : (uri : List ℕ) (number : ℤ) (text : Text) (facts : List Fact)
-      → AreOfOpening terms Utf16 (versions_of uri (waiting terms before)) (versioned number text)
-      rule facts → Differ ends (compared terms before (opens uri number text))
-  opening_differs uri number text facts says =
-      elim says [
-        | inl opened ↦ absurd (not_this rule 601 refl opened.0 of)
-        | inr later ↦ elim later [
-          | inl long ↦ absurd (not_this rule 607 refl long.0 of)
-          | inr refuted ↦ against_differs text refuted.1.other
-              (waiting_texts terms before uri number) refuted.1.waiting
-        ]
-      ]
+  module _ (uri : List ℕ) where
+    abbrev waits : List Version
+    waits = versions_of uri (waiting terms before)
 
-  change_differs : (enc : Encoding) (kind : SyncKind) (uri : List ℕ) (number : ℤ)
-      (edits : List Edit) (h : Option Version) (facts : List Fact) → held terms uri before ≡ h
-      → AreOfChange terms enc kind (versions_of uri (waiting terms before)) number edits h rule
-      facts → Differ ends (compared terms before (changes enc kind uri number edits))
-  change_differs enc kind uri number edits None facts is says =
-      absurd (not_this rule 602 refl says.0 of)
-  change_differs enc kind uri number edits (Some v) facts is says =
-      elim says [
-        | inl same ↦ absurd (not_this rule 603 refl same.0 of)
-        | inr later ↦ elim later [
-          | inl misfit ↦ absurd (not_this rule 604 refl misfit.0 of)
-          | inr made ↦ elim made [
-            | inl failing ↦ elim failing.refused.says [
-              | inl inside ↦ absurd (not_this rule 605 refl inside.0 of)
-              | inr other ↦ elim other [
-                | inl reversed ↦ absurd (not_this rule 606 refl reversed.0 of)
-                | inr long ↦ absurd (not_this rule 607 refl long.0 of)
-              ]
-            ]
-            | inr refuted ↦ (
-                let text = refuted.1.text in
-                let waits = waiting_texts terms before uri number in
-                let differ = against_differs text refuted.1.refuted.other waits
-                refuted.1.refuted.waiting in
-                let whole : made_text terms enc edits (held terms uri before) ≡ Some text =
-                ap (made_text terms enc edits) is ∙ ap result_ok refuted.1.made in (
-                  differ.0,
-                  ap (option_and_then (against ends waits)) whole ∙ differ.1,
-                  differ.2,
-                )
-                )
-          ]
-        ]
-      ]
+    against_differs : (v : Version) → version_rule ends waits v ≡ Some rule
+        → Differ ends (against terms before uri v)
+    against_differs v e =
+        let breaks = version_breaks (list_any (differs ends v) waits) rule e in
+        let other = waiting_some ends v waits breaks.1 in (
+          two_texts v.text other.0,
+          ap (option_map (two_texts v.text)) other.1,
+          waiting_apart ends v.text other.0 _ other.1,
+        )
 
-  saved_differs : (uri : List ℕ) (text : Option Text) (h : Option Version)
-      → save_rule ends text h ≡ Some rule
-      → Differ ends (option_and_then (saved_texts h) text)
-  saved_differs uri None h e = absurd cc
-  saved_differs uri (Some t) None e = absurd cc
-  saved_differs uri (Some t) (Some v) e = by_test (same_text ends v.text t) refl e
+    opening_differs : (v : Version) (b c : Bool)
+        → (if b then Some 601
+        else (if c then Some 607 else (if true then version_rule ends waits v else None)))
+        ≡ Some rule → Differ ends (against terms before uri v)
+    opening_differs v true c e = absurd (not_by 601 refl (sym (same_number 601 rule e)))
+    opening_differs v false true e = absurd (not_by 607 refl (sym (same_number 607 rule e)))
+    opening_differs v false false e = against_differs v e
+
+    change_differs : (enc : Encoding) (kind : SyncKind) (number : ℤ) (cs : List Edit)
+        (h : Option Version) → change_rule terms waits enc kind number cs h ≡ Some rule
+        → Differ ends (option_and_then (against terms before uri)
+        (option_map (versioned number) (made_text terms enc cs h)))
+    change_differs enc kind number cs None e =
+        absurd (not_by 602 refl (sym (same_number 602 rule e)))
+    change_differs enc kind number cs (Some v) e =
+        by_text (applied terms.limit enc v.text cs) refl
+        (text_breaks terms waits enc kind number cs rule (not_by 603 refl) (not_by 604 refl)
+        (Some v) v.text refl e)
+      where
+        by_text : (r : Result Text ℕ) → applied terms.limit enc v.text cs ≡ r
+            → text_rule ends waits number r ≡ Some rule
+            → Differ ends (option_and_then (against terms before uri)
+            (option_map (versioned number) (result_ok r)))
+        by_text (Err own) is broken =
+            let fails = fails_by terms.limit enc v.text cs own is in
+            let same : own ≡ rule = same_number own rule broken in
+            let least : 608 ≤ rule = texts_least rule of in
+            absurd (omega (arith, fails.1, same, least))
+        by_text (Ok t) is broken = against_differs (versioned number t) broken
+
+  saved_differs : (text : Option Text) (h : Option Version) → save_rule ends text h ≡ Some rule
+      → Differ ends (option_and_then
+      (λ t. recorded t (option_map (λ (v : Version). v.text) h)) text)
+  saved_differs None h e = absurd cc
+  saved_differs (Some t) None e = absurd cc
+  saved_differs (Some t) (Some v) e = by_test (same_text ends v.text t) refl e
     where
       by_test : (b : Bool) → same_text ends v.text t ≡ b
           → (if b then None else Some 608) ≡ Some rule
-          → Differ ends (option_and_then (saved_texts (Some v)) (Some t))
+          → Differ ends (Some (two_texts v.text t))
       by_test true is h = absurd cc
       by_test false is h = (
         two_texts v.text t,
@@ -152,36 +155,61 @@ module _ (terms : Terms) (before : List Call) (rule : ℕ) (of : is_of_texts rul
             (compared_text ends t)).1 same) ∙ is),
       )
 
-  shown_differs : (uri : List ℕ) (number : ℤ) (text : Text) (facts : List Fact)
-      → AreOfSnapshot ends Utf16 (kept terms uri before) (held terms uri before)
-      (versioned number text) rule facts
-      → Differ ends (compared terms before (shows uri number text))
-  shown_differs uri number text facts says =
-      elim says [
-        | inl late ↦ absurd (not_this rule 701 refl late.0 of)
-        | inr refuting ↦ (
-          two_texts refuting.1.text text,
-          ap (option_map (λ other. two_texts other text)) refuting.1.other,
-          other_apart ends (versioned number text) (kept terms uri before)
-              (held terms uri before) refuting.1.text refuting.1.other,
+  shown_differs : (number : ℤ) (text : Text) (ks : List Version) (h : Option Version)
+      → show_rule ends number text ks h ≡ Some rule
+      → Differ ends (recorded text (other_than ends (versioned number text) ks h))
+  shown_differs number text ks h e =
+      elim (show_breaks ends number text ks h rule e) [
+        | inl late ↦ absurd (not_by 701 refl late)
+        | inr found ↦ (
+          two_texts found.1 text,
+          ap (recorded text) found.2,
+          other_apart ends (versioned number text) ks h found.1 found.2,
         )
       ]
 
-  by_call : (call : Call) (facts : List Fact) → call_rule terms before call ≡ Some rule
-      → AreDetails terms Utf16 (held terms (uri_of call) before) (kept terms (uri_of call) before)
-      (versions_of (uri_of call) (waiting terms before)) call rule facts
+  by_call : (call : Call) → call_rule terms before call ≡ Some rule
       → Differ ends (compared terms before call)
-  by_call (opens uri number text) facts e says = opening_differs uri number text facts says
-  by_call (changes enc kind uri number edits) facts e says =
-      change_differs enc kind uri number edits (held terms uri before) facts refl says
-  by_call (closes uri) facts e says = absurd (not_this rule 602 refl says.0 of)
-  by_call (saves uri text) facts e says = saved_differs uri text (held terms uri before) e
-  by_call (shows uri number text) facts e says = shown_differs uri number text facts says
+  by_call (opens uri number text) e = opening_differs uri (versioned number text)
+      (is_some (held terms uri before)) (nat_lt terms.limit (byte_len text)) e
+  by_call (changes enc kind uri number edits) e =
+      change_differs uri enc kind number edits (held terms uri before) e
+  by_call (closes uri) e =
+      absurd (not_by 602 refl (close_breaks (is_some (held terms uri before)) rule e))
+  by_call (saves uri text) e = saved_differs text (held terms uri before) e
+  by_call (shows uri number text) e =
+      shown_differs number text (kept terms uri before) (held terms uri before) e
 
 -- **there are two, and they differ**
 pub texts_differ : TextsDiffer
-texts_differ terms before call rule of e =
-    let some = some_facts_of terms Utf16 (held terms (uri_of call) before)
-    (kept terms (uri_of call) before) (versions_of (uri_of call) (waiting terms before)) rule call
-    None e in
-    by_call terms before rule of call some.1.details e some.1.says
+texts_differ terms before call rule of e = by_call terms before rule of call e
+
+-- ---- the texts that are found
+
+module _ (terms : Terms) (before : List Call) (call : Call) (rule : ℕ)
+    (breaks : call_rule terms before call ≡ Some rule) where
+  abbrev found : Bool → Option TwoTexts
+  found b = if b then compared terms before call else None
+
+  -- two that are found differ
+  pub found_differ : (texts : TwoTexts) → texts_of terms before call rule ≡ Some texts
+      → IsOther terms.line_ends texts.by_messages texts.in_editor
+  found_differ texts is = by_test (is_of_texts rule) refl is
+    where
+      by_test : (b : Bool) → is_of_texts rule ≡ b → found b ≡ Some texts
+          → IsOther terms.line_ends texts.by_messages texts.in_editor
+      by_test true of e =
+          let own = texts_differ terms before call rule of breaks in
+          subst (λ (t : TwoTexts). IsOther terms.line_ends t.by_messages t.in_editor)
+          (same_Some own.0 texts (sym own.1 ∙ e)) own.2
+      by_test false of e = absurd cc
+
+  -- there are none only where the rule compares none
+  pub none_found : texts_of terms before call rule ≡ None → is_of_texts rule ≡ false
+  none_found is = by_test (is_of_texts rule) refl is
+    where
+      by_test : (b : Bool) → is_of_texts rule ≡ b → found b ≡ None → is_of_texts rule ≡ false
+      by_test true of e =
+          let own = texts_differ terms before call rule of breaks in
+          absurd (none-some own.0 (sym e ∙ own.1))
+      by_test false of e = of

@@ -1,5 +1,6 @@
 -- The facts on a call that breaks a rule on documents: 601 to 608, 701, 702.
 use Rattle.std.specs.Prelude.{List, [], ◌∷◌, ◌++◌, slice_get, nat_lt, Bool, true, false, is_some}
+use Rattle.std.specs.Prelude.{◌==◌}
 use Rattle.std.specs.Prelude.{if◌then◌else◌, option_map, unwrap_or, ◌≡◌, ◌⊎◌, ◌+◌, ℕ, ℤ, length}
 use Rattle.std.specs.Prelude.{take, map, is_none, Option, Some, None, option_to_list, Result, Ok}
 use Rattle.std.specs.Prelude.{Err, codes, decimal}
@@ -19,18 +20,17 @@ use Rattle.lsp_text.specs.Places.{units, place_of}
 use Rattle.lsp_text.specs.Edits.{Edit, changed, applied}
 use Rattle.lsp_text.specs.Difference.{DifferFirst, position_at}
 use Rattle.lsp_text.specs.InsideCharacter.{LiesInside}
-use Rattle.lsp_text.specs.SameText.{compared, same_text, SameText}
+use Rattle.lsp_text.specs.SameText.{compared, same_text}
 use Rattle.lsp_text.specs.Sizes.{IsSizeWith}
 use Rattle.lsp_docs.specs.Calls.{Text, byte_len, Call, opens, changes, closes, saves, shows, uri_of}
-use Rattle.lsp_docs.specs.Documents.{Terms, Version, versioned, held}
-use Rattle.lsp_docs.specs.Snapshots.{kept, texts_at, waiting, versions_of}
-use Rattle.lsp_docs.specs.Rules.{other_than}
+use Rattle.lsp_docs.specs.Documents.{Terms, Version, held}
+use Rattle.lsp_docs.specs.Snapshots.{kept}
 use Rattle.json.specs.Print.{quoted}
 use Rattle.lsp_replay.specs.declared.heard.EventPlace.{EventPlace}
 use Rattle.lsp_verdict.specs.Report.{line, encoding_name, kind_name}
 use Rattle.lsp_facts.specs.Fact.{Fact, holds, sends, counts_in, fails, would_have, may_have}
 use Rattle.lsp_facts.specs.Fact.{part_line, position_words, quoted_text, spaced, part_around}
-use Rattle.lsp_facts.specs.Refuting.{first_other}
+use Rattle.lsp_facts.specs.TwoTexts.{TwoTexts, texts_of}
 
 -- ---- the encodings in which a column lies at the edge of a character
 
@@ -215,49 +215,24 @@ pub record AreApart (ends : LineEnds) (enc : Encoding) (t other : Text) (key : L
   pub at : AreOfDifference enc (compared ends t) (compared ends other) key place
   pub are : facts ≡ place ++ ends_facts t other
 
--- a snapshot that waits for this version has another text; of several, the first that came
-pub record IsRefuted (ends : LineEnds) (enc : Encoding) (waits : List Version) (v : Version)
-    (facts : List Fact) : Type 0 where
-  pub other : Text
-  pub waiting : first_other ends v.text (texts_at v.number waits) ≡ Some other
-  pub apart : AreApart ends enc v.text other (codes "in-editor") facts
-
--- the text that is held or kept of the snapshot's version is another
-pub record IsRefuting (ends : LineEnds) (enc : Encoding) (kept : List Version)
-    (h : Option Version) (s : Version) (facts : List Fact) : Type 0 where
-  pub text : Text
-  pub other : other_than ends s kept h ≡ Some text
-  pub apart : AreApart ends enc text s.text (codes "in-editor") facts
-
 -- ---- by what was called
 
-abbrev pub AreOfOpening : Terms → Encoding → List Version → Version → ℕ → List Fact → Type 0
-AreOfOpening terms enc waits v rule facts =
-    ((rule ≡ rules.DOCUMENT_ALREADY_OPEN) × (facts ≡ []))
-    ⊎ (((rule ≡ rules.DOCUMENT_OVER_LIMIT)
-    × (facts ≡ would_have (byte_len v.text) ∷ may_have terms.limit ∷ []))
-    ⊎ ((rule ≡ rules.SNAPSHOT_DIFFERS) × IsRefuted terms.line_ends enc waits v facts))
+-- what was saved, or what the editor really had
+abbrev pub editor_key : Call → List ℕ
+editor_key (saves uri text) = codes "saved"
+editor_key _ = codes "in-editor"
 
--- 702: the changes make a text that a waiting snapshot refutes
-pub record IsRefutedText (terms : Terms) (enc : Encoding) (waits : List Version) (number : ℤ)
-    (t : Text) (cs : List Edit) (facts : List Fact) : Type 0 where
-  pub text : Text
-  pub made : applied terms.limit enc t cs ≡ Ok text
-  pub refuted : IsRefuted terms.line_ends enc waits (versioned number text) facts
-
-abbrev pub AreOfChange : Terms → Encoding → SyncKind → List Version → ℤ → List Edit → Option Version
-    → ℕ → List Fact → Type 0
-AreOfChange terms enc kind waits number cs None rule facts =
-    (rule ≡ rules.DOCUMENT_NOT_OPEN) × (facts ≡ [])
-AreOfChange terms enc kind waits number cs (Some v) rule facts =
+-- 603 to 607, of a text that is held
+abbrev pub AreOfChange : ℕ → Encoding → SyncKind → Text → List Edit → ℕ → List Fact → Type 0
+AreOfChange limit enc kind t cs rule facts =
     ((rule ≡ rules.VERSION_DOES_NOT_RISE) × (facts ≡ []))
-    ⊎ (((rule ≡ rules.CHANGE_NOT_OF_KIND) × (facts ≡ kind_facts terms.limit enc kind v.text cs))
-    ⊎ (IsFailing terms.limit enc v.text cs rule facts
-    ⊎ ((rule ≡ rules.SNAPSHOT_DIFFERS) × IsRefutedText terms enc waits number v.text cs facts)))
+    ⊎ (((rule ≡ rules.CHANGE_NOT_OF_KIND) × (facts ≡ kind_facts limit enc kind t cs))
+    ⊎ IsFailing limit enc t cs rule facts)
 
-abbrev pub AreOfSave : LineEnds → Encoding → Option Text → Option Version → List Fact → Type 0
-AreOfSave ends enc (Some t) (Some v) facts = AreApart ends enc v.text t (codes "saved") facts
-AreOfSave ends enc _ _ facts = facts ≡ []
+-- 607 of an opening
+abbrev pub opening_facts : ℕ → Text → ℕ → List Fact
+opening_facts limit t rule =
+    if rule == rules.DOCUMENT_OVER_LIMIT then would_have (byte_len t) ∷ may_have limit ∷ [] else []
 
 -- the versions that are kept, where there are any
 abbrev pub keeps : List ℤ → Fact
@@ -268,43 +243,30 @@ abbrev pub kept_fact : List Version → List Fact
 kept_fact [] = []
 kept_fact (v ∷ vs) = keeps (v.number ∷ map (λ (w : Version). w.number) vs) ∷ []
 
-abbrev pub AreOfSnapshot : LineEnds → Encoding → List Version → Option Version → Version → ℕ
-    → List Fact → Type 0
-AreOfSnapshot ends enc kept h s rule facts =
-    ((rule ≡ rules.LATE_SNAPSHOT) × (facts ≡ kept_fact kept))
-    ⊎ ((rule ≡ rules.SNAPSHOT_DIFFERS) × IsRefuting ends enc kept h s facts)
+-- a rule that compares no texts, where this is held of the URI and these versions are kept
+abbrev pub AreOfRule : ℕ → Option Version → List Version → Call → ℕ → List Fact → Type 0
+AreOfRule limit h kept (opens uri number text) rule facts = facts ≡ opening_facts limit text rule
+AreOfRule limit (Some v) kept (changes enc kind uri number cs) rule facts =
+    AreOfChange limit enc kind v.text cs rule facts
+AreOfRule limit h kept (shows uri number text) rule facts = facts ≡ kept_fact kept
+AreOfRule limit h kept call rule facts = facts ≡ []
 
-abbrev pub AreDetails : Terms → Encoding → Option Version → List Version → List Version → Call → ℕ
-    → List Fact → Type 0
-AreDetails terms enc h kept waits (opens uri number text) rule facts =
-    AreOfOpening terms enc waits (versioned number text) rule facts
-AreDetails terms enc h kept waits (changes agreed kind uri number edits) rule facts =
-    AreOfChange terms agreed kind waits number edits h rule facts
-AreDetails terms enc h kept waits (closes uri) rule facts =
-    (rule ≡ rules.DOCUMENT_NOT_OPEN) × (facts ≡ [])
-AreDetails terms enc h kept waits (saves uri text) rule facts =
-    (rule ≡ rules.SAVED_TEXT_DIFFERS) × AreOfSave terms.line_ends enc text h facts
-AreDetails terms enc h kept waits (shows uri number text) rule facts =
-    AreOfSnapshot terms.line_ends enc kept h (versioned number text) rule facts
-
--- ---- all facts
-
--- the facts on a call that breaks this rule, where this is held of its URI, these versions are kept
--- and these snapshots wait. Columns count units of the encoding
-pub record AreFactsOf (terms : Terms) (enc : Encoding) (h : Option Version)
-    (kept waits : List Version) (call : Call) (rule : ℕ) (set_by : Option EventPlace)
-    (facts : List Fact) : Type 0 where
-  pub details : List Fact
-  pub says : AreDetails terms enc h kept waits call rule details
-  pub are : facts ≡ head_facts set_by h call ++ details
+-- **under 608 and 702 the two texts that differ**, under another rule what it is about
+abbrev pub AreDetails : Terms → Encoding → List Call → Call → ℕ → Option TwoTexts → List Fact
+    → Type 0
+AreDetails terms enc before call rule (Some texts) facts =
+    AreApart terms.line_ends enc texts.by_messages texts.in_editor (editor_key call) facts
+AreDetails terms enc before call rule None facts =
+    AreOfRule terms.limit (held terms (uri_of call) before) (kept terms (uri_of call) before) call
+    rule facts
 
 -- **the facts on a call that breaks this rule after these calls**, where this event set the version
--- that is held
-abbrev pub AreDocumentFacts : Terms → Encoding → List Call → Call → ℕ → Option EventPlace
-    → List Fact → Type 0
-AreDocumentFacts terms enc before call rule set_by facts =
-    AreFactsOf terms enc (held terms (uri_of call) before) (kept terms (uri_of call) before)
-    (versions_of (uri_of call) (waiting terms before)) call rule set_by facts
+-- that is held. Columns count units of the encoding
+pub record AreDocumentFacts (terms : Terms) (enc : Encoding) (before : List Call) (call : Call)
+    (rule : ℕ) (set_by : Option EventPlace) (facts : List Fact) : Type 0 where
+  pub details : List Fact
+  pub says : AreDetails terms enc before call rule (texts_of terms before call rule) details
+  pub are : facts ≡ head_facts set_by (held terms (uri_of call) before) call ++ details
 
 -- ---- two texts that may differ
 
@@ -313,9 +275,3 @@ abbrev pub FindsDifference : Encoding → Text → Text → List ℕ → Option 
 FindsDifference enc t other key None = t ≡ other
 FindsDifference enc t other key (Some facts) =
     (t ≡ other → ⊥) × AreOfDifference enc t other key facts
-
--- the same of texts as they are compared
-abbrev pub FindsApart : LineEnds → Encoding → Text → Text → List ℕ → Option (List Fact) → Type 0
-FindsApart ends enc t other key None = SameText ends t other
-FindsApart ends enc t other key (Some facts) =
-    (SameText ends t other → ⊥) × AreApart ends enc t other key facts

@@ -1,5 +1,5 @@
 -- Which snapshots that wait refute the text of a version.
-use Rattle.std.specs.Prelude.{ℤ, List, [], ◌∷◌, Bool, false, not, if◌then◌else◌, Option}
+use Rattle.std.specs.Prelude.{ℤ, List, [], ◌∷◌, Bool, false, not, if◌then◌else◌, Option, Some, None}
 use Rattle.std.specs.Prelude.{option_and_then, option_map, unwrap_or}
 use Rattle.std.specs.List.{find}
 use Rattle.std.specs.Result.{result_ok}
@@ -7,8 +7,8 @@ use Rattle.lsp_types.specs.declared.line_ends.LineEnds.{LineEnds}
 use Rattle.lsp_types.specs.declared.position.Encoding.{Encoding}
 use Rattle.lsp_text.specs.Edits.{Edit, applied}
 use Rattle.lsp_text.specs.SameText.{same_text}
-use Rattle.lsp_docs.specs.Calls.{Text, Bytes, Call, opens, changes, closes, saves, shows}
-use Rattle.lsp_docs.specs.Documents.{Terms, Version, held}
+use Rattle.lsp_docs.specs.Calls.{Text, Bytes, Call, opens, changes, uri_of}
+use Rattle.lsp_docs.specs.Documents.{Terms, Version, versioned, held}
 use Rattle.lsp_docs.specs.Snapshots.{texts_at, waiting, versions_of}
 use Rattle.lsp_replay.specs.declared.heard.EventPlace.{EventPlace}
 
@@ -45,15 +45,16 @@ made_text terms enc edits h =
 abbrev pub waiting_texts : Terms → List Call → Bytes → ℤ → List Text
 waiting_texts terms before uri number = texts_at number (versions_of uri (waiting terms before))
 
--- **those of the snapshots that wait for the version of a call, given by their places, that have
--- another text than it brings its document to**
+-- the version that a call brings its document to, where each of its changes can be made
+abbrev pub brings : Terms → List Call → Call → Option Version
+brings terms before (opens uri number text) = Some (versioned number text)
+brings terms before (changes enc kind uri number edits) =
+    option_map (versioned number) (made_text terms enc edits (held terms uri before))
+brings terms before _ = None
+
+-- **those of the snapshots that wait for that version, given by their places, that have another
+-- text**
 abbrev pub refuting : Terms → List Call → Call → List EventPlace → List EventPlace
-refuting terms before (opens uri number text) ps =
-    others_of terms.line_ends text ps (waiting_texts terms before uri number)
-refuting terms before (changes enc kind uri number edits) ps =
-    unwrap_or
-    (option_map (λ t. others_of terms.line_ends t ps (waiting_texts terms before uri number))
-    (made_text terms enc edits (held terms uri before))) []
-refuting terms before (closes uri) ps = []
-refuting terms before (saves uri text) ps = []
-refuting terms before (shows uri number text) ps = []
+refuting terms before call ps = unwrap_or (option_map
+    (λ (v : Version). others_of terms.line_ends v.text ps
+    (waiting_texts terms before (uri_of call) v.number)) (brings terms before call)) []

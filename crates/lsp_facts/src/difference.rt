@@ -4,7 +4,7 @@ ghost use Rattle.std.specs.Prelude.{IfOk};
 ghost use Rattle.std.specs.Str.{chars};
 ghost use Rattle.lsp_types.specs.declared.line_ends.LineEnds.TheVariants.{Ignored};
 ghost use Rattle.lsp_text.specs.SameText.{SameText, compared};
-ghost use Rattle.lsp_facts.specs.DocumentFacts.{AreApart, FindsApart, FindsDifference};
+ghost use Rattle.lsp_facts.specs.DocumentFacts.{AreApart, FindsDifference};
 
 use crate::facts::Facts;
 use crate::part::part_at;
@@ -13,7 +13,8 @@ use lsp_text::{compared_lines, first_difference};
 use lsp_types::{Encoding, LineEnds};
 use std::alloc::Global;
 
-/// The facts on a held text and another one, which differ.
+/// The facts on a held text and another one, which differ: where they first do, as they are
+/// compared, the line of each there, and whether they differ in line ends alone.
 pub(crate) fn apart(
     alloc: Global,
     line_ends: LineEnds,
@@ -26,30 +27,11 @@ pub(crate) fn apart(
         → AreApart line_ends encoding (chars held.now) (chars other.now)
         key.now facts) }
 {
-    match difference(alloc, line_ends, encoding, held, other, key)? {
-        Some(facts) => Ok(facts),
-        None => Ok(Facts::new(alloc)),
-    }
-}
-
-/// Where a held text and another one first differ, as they are compared, the line of each there,
-/// and whether they differ in line ends alone; none where they are the same.
-pub(crate) fn difference(
-    alloc: Global,
-    line_ends: LineEnds,
-    encoding: Encoding,
-    held: &str,
-    other: &str,
-    key: &str,
-) -> Result<Option<Facts>>
-    ensures { IfOk result (FindsApart line_ends encoding (chars held.now) (chars other.now)
-        key.now) }
-{
     let Some(mut facts) = place(alloc, line_ends, encoding, held, other, key)? else {
-        return Ok(None);
+        return Ok(Facts::new(alloc));
     };
     facts.line_ends(held, other)?;
-    Ok(Some(facts))
+    Ok(facts)
 }
 
 /// Where two texts first differ, as they are compared, and the line of each there.

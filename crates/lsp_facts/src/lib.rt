@@ -1,14 +1,14 @@
 //! Facts on an event that offends, read off the events before it, and the line of each. No run
 //! reads a log here, and nothing is written to a sink.
 //!
-//! [`Facts`] are the lines that an explanation says about an event. [`message_facts`] are on a
-//! message, and [`shown_facts`] on a snapshot. [`content_facts`] are on a content that is not a
-//! message or has params of another shape, [`frame_facts`] on a stream whose frames have
-//! a fault, [`front_facts`] on one that ends inside a frame, [`flaw_facts`] on a log that has a
-//! fault.
-//! [`refuting`] finds the snapshots whose texts refute a call, and [`message_texts`] and
-//! [`shown_texts`] give two whole texts that differ. [`push_details`] adds facts to a text, and
-//! [`push_message_event`] and those next to it the line of an event.
+//! [`Facts`] are the lines that an explanation says about an event. [`session_facts`] are on a
+//! message that breaks a rule of the session, and [`call_facts`] on a call that breaks one on
+//! documents. [`content_facts`] are on a content that is not a message or has params of another
+//! shape, [`frame_facts`] on a stream whose frames have a fault, [`front_facts`] on one that ends
+//! inside a frame, [`flaw_facts`] on a log that has a fault.
+//! [`refuting`] finds the snapshots whose texts refute a call, and [`texts_of`] gives two whole
+//! texts that differ. [`push_details`] adds facts to a text, and [`push_message_event`] and those
+//! next to it the line of an event.
 #![tactic(auto)]
 
 mod blame;
@@ -26,7 +26,6 @@ mod lines;
 mod made;
 mod members;
 mod messages;
-mod offending;
 mod part;
 mod refused_change;
 mod shapes;
@@ -36,6 +35,7 @@ mod waiting;
 
 pub use blame::usual;
 pub use contents::content_facts;
+pub use documents::call_facts;
 pub use facts::{Facts, push_facts};
 pub use faults::{flaw_facts, frame_facts};
 pub use laws::{bad_params_have_a_member, bad_result_has_a_member, compared_texts_differ};
@@ -43,7 +43,6 @@ pub use lent_text::LentText;
 pub use lines::{
     push_bare_event, push_content_event, push_details, push_end_event, push_message_event,
 };
-pub use messages::{front_facts, id_in};
-pub use offending::{message_facts, shown_facts};
-pub use two_texts::{TwoTexts, message_texts, shown_texts};
+pub use messages::{front_facts, id_in, session_facts};
+pub use two_texts::{TwoTexts, texts_of};
 pub use waiting::refuting;

@@ -276,7 +276,7 @@ fn push_phase(facts: &mut Facts, session: &Session, act: &Act, rule: u16) -> Res
 ///
 /// # Errors
 /// `Memory` where memory was refused.
-pub(crate) fn session_facts(
+pub fn session_facts(
     alloc: Global,
     session: &Session,
     side: Side,

@@ -34,7 +34,8 @@ impl Record {
         match self {
             Record::Bytes { bytes, .. } => is_within(bytes.len(), 1, limits.chunk()),
             Record::Snapshot { version, uri, text } => {
-                // Read, so that its range is known.
+                // `Fits` wants an i32. A proof knows the range of a number behind a reference only
+                // once the number is read.
                 let _version = *version;
                 is_within(uri.len(), 1, MAX_URI) && is_within(text.len(), 0, limits.document())
             }

@@ -2,19 +2,29 @@
 use Rattle.std.proofs.Common.{◌≡◌, Option, Some, None, option_map, option_and_then, codes}
 use Rattle.std.proofs.Common.{refl, sym, ap, subst, ◌∙◌}
 use Rattle.serde_json.specs.Data.{Data, Members, object}
+use Rattle.serde_json.specs.Find.{as_str}
 use Rattle.lsp_rpc.specs.Act.{Text, Act, did_close, did_save}
 use Rattle.lsp_rpc.specs.Message.{Message, request, notification, response, result, error}
 use Rattle.lsp_rpc.specs.Methods.{meaning, IsMethod}
 use Rattle.lsp_rpc.specs.Outline.{outline}
-use Rattle.lsp_rpc.specs.Params.{both, uri_at, act_at, act_by, requests, notifications}
+use Rattle.lsp_rpc.specs.Params.{required, allowed, both, array_of, change_at, uri_at}
+use Rattle.lsp_rpc.specs.Params.{act_at, act_by, requests, notifications}
 use Rattle.lsp_rpc.specs.Shape.{member, unless_null}
 use Rattle.lsp_rpc.specs.declared.methods.Method.{Method}
 use Rattle.lsp_rpc.specs.declared.methods.Method.TheVariants as methods
 use Rattle.lsp_outline.specs.Outlined.{HasParams}
-use Rattle.lsp_outline.specs.Told.{document_of, notice_of, act_in}
+use Rattle.lsp_outline.specs.Told.{Notice, document_of, act_in}
 use Rattle.lsp_types.specs.declared.side.Side.{Side}
 
 -- ---- notifications on documents
+
+-- what is read of their params, as these are
+abbrev pub notice_of : Data → Notice
+notice_of d = record {
+  document = option_map document_of (member (codes "textDocument") d);
+  changes = required (codes "contentChanges") (array_of change_at) d;
+  text = allowed (codes "text") as_str d;
+}
 
 mapped : {A B C : Type 0} (f : B → Option C) (g : A → B) (o : Option A)
     → option_and_then f (option_map g o) ≡ option_and_then (λ a. f (g a)) o

@@ -17,7 +17,8 @@ use Rattle.json.specs.Print.{IsNumber}
 use Rattle.json.specs.Word.{is_operator, is_space, ends_word, word, after_whole, after_number}
 use Rattle.json.specs.Lex.{Lexeme, token, comma, colon, quote, backslash, operator, space, other}
 use Rattle.json.specs.Lex.{class, operator_lexeme, string_token, Mode, between, lex_byte, lex}
-use Rattle.json.specs.Lex.{Place, fresh, after_value, after_comma, begins_colon, punctuate}
+use Rattle.json.specs.Lex.{Place, fresh, after_value, after_comma, begins_colon, may_begin}
+use Rattle.json.specs.Lex.{punctuate}
 use Rattle.json.specs.Json as json
 use Rattle.json.specs.Json.{after_end_array, read_key, items, members, value, parse_map}
 use Rattle.json.proofs.Grammar.{left, value_is, skip_value-shorter, read_key-shorter}
@@ -29,14 +30,26 @@ use Rattle.serde_json.specs.Read.{read}
 use Rattle.lsp_outline.specs.declared.walk.Kind.TheVariants as kinds
 use Rattle.lsp_outline.specs.Walk.{kind_at, tokens_from, part, IsText, IsNumeral, IsNatural}
 use Rattle.lsp_outline.specs.Walk.{IsInteger}
-use Rattle.lsp_outline.specs.Walk.{IsLiteral, IsValue, AreItems, AreMembers, SomeItems, SomeMembers}
-use Rattle.lsp_outline.specs.Walk.{IsKey}
+use Rattle.lsp_outline.specs.Walk.{IsLiteral, IsValue, AreItems, AreMembers, SomeItems, IsKey}
 use Rattle.lsp_outline.proofs.Lexing.{lex_operator, lex_quote, key_first, string_first}
 use Rattle.lsp_outline.proofs.Lexing.{object_first, array_first, object_last, array_last}
 use Rattle.lsp_outline.proofs.Lexing.{comma_next, word_first}
 use Rattle.lsp_outline.proofs.Skipping.{converted_some, some_of, array_passed, object_passed}
 use Rattle.lsp_outline.proofs.Skipping.{item_passed, items_passed, member_passed, members_passed}
 use Rattle.lsp_outline.proofs.Skipping.{nothing_before, parse_map-twice, whole_passed}
+
+-- an object up to a place where a member may begin, and the members before it
+pub record SomeMembers (depth : ℕ) (d : List ℕ) (from at : ℕ) (found : Members) : Type 0 where
+  pub place : Place
+  pub begins : may_begin place ≡ true
+  pub turns : ℕ
+  pub enough : length (tokens_from place d at) ≤ turns
+  pub same : let ts = tokens_from fresh d from in
+      converted (λ ms. of_members ms no_members) (members (value depth) (length ts) ts)
+      ≡ converted (λ ms. of_members ms found)
+      (members (value depth) turns (tokens_from place d at))
+  pub forward : from ≤ at
+  pub within : at ≤ length d
 
 -- ---- a byte, and the lexeme that begins with it
 

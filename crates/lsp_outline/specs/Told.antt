@@ -1,13 +1,11 @@
 -- What the params of a call, read member by member, have told so far.
-use Rattle.std.specs.Prelude.{ℤ, List, Option, Some, None, codes, option_map}
+use Rattle.std.specs.Prelude.{ℤ, List, Option, Some, None, option_map}
 use Rattle.std.specs.Prelude.{option_and_then, string_bytes}
 use Rattle.serde_json.specs.Data.{Data}
-use Rattle.serde_json.specs.Find.{as_str}
 use Rattle.lsp_rpc.specs.Act.{Text, Act, Change, did_open, did_change, did_close, did_save}
 use Rattle.lsp_rpc.specs.Methods.{meaning}
-use Rattle.lsp_rpc.specs.Params.{required, allowed, both, all_three, array_of, change_at, uri_at}
-use Rattle.lsp_rpc.specs.Params.{version_at, text_at}
-use Rattle.lsp_rpc.specs.Shape.{member, unless_null}
+use Rattle.lsp_rpc.specs.Params.{both, all_three, uri_at, version_at, text_at}
+use Rattle.lsp_rpc.specs.Shape.{unless_null}
 use Rattle.lsp_rpc.specs.View.{act_view, changes_view}
 use Rattle.lsp_rpc.specs.declared.methods.Method.{Method}
 use Rattle.lsp_rpc.specs.declared.methods.Method.TheVariants as methods
@@ -37,13 +35,6 @@ pub record Notice : Type 0 where
   pub document : Option Document
   pub changes : Option (List Change)
   pub text : Option (Option Text)
-
-abbrev pub notice_of : Data → Notice
-notice_of d = record {
-  document = option_map document_of (member (codes "textDocument") d);
-  changes = required (codes "contentChanges") (array_of change_at) d;
-  text = allowed (codes "text") as_str d;
-}
 
 abbrev pub notice_view : ParamsParts → Notice
 notice_view parts = record {

@@ -151,19 +151,6 @@ pub record SomeItems (depth : ℕ) (d : List ℕ) (from at : ℕ) : Type 0 where
   pub forward : from ≤ at
   pub within : at ≤ length d
 
--- an object up to a place where a member may begin, and the members before it
-pub record SomeMembers (depth : ℕ) (d : List ℕ) (from at : ℕ) (found : Members) : Type 0 where
-  pub place : Place
-  pub begins : may_begin place ≡ true
-  pub turns : ℕ
-  pub enough : length (tokens_from place d at) ≤ turns
-  pub same : let ts = tokens_from fresh d from in
-      converted (λ ms. of_members ms no_members) (members (value depth) (length ts) ts)
-      ≡ converted (λ ms. of_members ms found)
-      (members (value depth) turns (tokens_from place d at))
-  pub forward : from ≤ at
-  pub within : at ≤ length d
-
 -- a key, its colon and the space after it
 pub record IsKey (d : List ℕ) (from end : ℕ) (k : List ℕ) : Type 0 where
   pub read : (p : Place) → may_begin p ≡ true

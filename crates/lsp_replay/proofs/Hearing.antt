@@ -1,132 +1,54 @@
--- How a content is heard: read, admitted, and taken over.
-use Rattle.std.proofs.Common.{◌≡◌, ℕ, List, [], ◌∷◌, ◌++◌, Option, Some, None, inl, inr, refl, sym, ap, subst, ◌∙◌}
-use Rattle.std.proofs.Common.{append-nil}
-use Rattle.std.specs.Prelude.{◌⊎◌, ℤ, chars, option_and_then, unwrap_or}
-use Rattle.std.specs.Option.{option_or}
+-- How an event that was read is kept: admitted, and taken over.
+use Rattle.std.proofs.Common.{◌≡◌, ℕ, List, [], ◌∷◌, ◌++◌, Option, Some, None, inl, inr, refl, sym, ap}
+use Rattle.std.proofs.Common.{append-nil, arith, subst, ◌∙◌}
+use Rattle.std.specs.Prelude.{option_and_then}
 use Rattle.std.specs.List.{cons_option}
-use Rattle.lsp_rpc.specs.Act.{Act}
-use Rattle.lsp_rpc.specs.Message.{Message}
-use Rattle.lsp_rpc.specs.Outline.{outline, without_params}
+use Rattle.std.specs.Option.{option_or}
+use Rattle.lsp_rpc.specs.Params.{act_at}
+use Rattle.lsp_rpc.specs.View.{act_view, message_view}
+use Rattle.lsp_rpc.specs.declared.act.Spoken.{Spoken}
 use Rattle.lsp_rpc.specs.declared.fault.RpcFault.{RpcFault}
 use Rattle.lsp_rpc.specs.declared.fault.RpcFault.TheVariants as contents
-use Rattle.lsp_types.specs.declared.position.Encoding.{Encoding}
-use Rattle.lsp_types.specs.declared.position.Encoding.TheVariants.{Utf16}
 use Rattle.lsp_outline.specs.Spoken.{IsUnspoken}
 use Rattle.lsp_types.specs.declared.side.Side.{Side}
-use Rattle.lsp_types.specs.declared.change.SyncKind.{SyncKind}
-use Rattle.lsp_types.specs.declared.change.SyncKind.TheVariants.{Nothing}
-use Rattle.lsp_session.specs.Handshake.{open_initializes}
-use Rattle.lsp_session.specs.Negotiation.{encoding, sync_kind}
+use Rattle.lsp_session.proofs.LeastRuleLemmas.{rules_end}
+use Rattle.lsp_session.specs.Laws.{sent_by}
 use Rattle.lsp_session.specs.Refusal as refusal
 use Rattle.lsp_session.specs.Rules.{rule_after}
 use Rattle.lsp_session.specs.Sent.{Sent}
 use Rattle.lsp_session.specs.State as session
 use Rattle.lsp_session.specs.declared.refusal.Refusal.{Refusal}
 use Rattle.lsp_session.specs.declared.refusal.Refusal.TheVariants as refusals
-use Rattle.lsp_docs.specs.Calls.{Call, shows}
+use Rattle.lsp_docs.specs.Calls.{Call}
+use Rattle.lsp_docs.specs.Documents.{Terms}
 use Rattle.lsp_docs.specs.Fault as docs_fault
 use Rattle.lsp_docs.specs.Rules.{call_rule}
 use Rattle.lsp_docs.specs.State as docs
+use Rattle.lsp_docs.specs.Tried.{Made}
+use Rattle.lsp_docs.specs.declared.call.Took.{Took}
 use Rattle.lsp_docs.specs.declared.fault.DocFault.{DocFault}
 use Rattle.lsp_docs.specs.declared.fault.DocFault.TheVariants as faults
-use Rattle.lsp_docs.specs.Documents.{Terms}
-use Rattle.lsp_verdict.specs.Event.{call_of, call_at, calls, Event, message, fault as broken}
+use Rattle.lsp_verdict.specs.Event.{call_at, calls, Event, message, fault as broken_rule}
 use Rattle.lsp_verdict.specs.Event.{snapshot, sent_in}
-use Rattle.lsp_verdict.specs.Placed.{IsSent}
-use Rattle.lsp_replay.specs.Standing.{of_call, of_message, of_reading, HasValue, Hears, IsUnread}
-use Rattle.lsp_replay.specs.Standing.{CanWantMemory, RefusesBy, RefusesCall, RefusesFor, TakesCall}
-use Rattle.lsp_replay.specs.declared.fault.Fault.{Fault}
-use Rattle.lsp_replay.specs.declared.fault.Fault.TheVariants as own
-use Rattle.lsp_verdict.specs.Placed as placed
+use Rattle.lsp_verdict.specs.Given.{raw_view}
+use Rattle.lsp_verdict.specs.Placed.{Raw, Reads, ReadsAs, content, broken, show}
 use Rattle.lsp_verdict.specs.Verdict.{offence, document_rule}
+use Rattle.lsp_verdict.specs.declared.raw.Raw as code
+use Rattle.lsp_verdict.specs.declared.raw.Raw.TheVariants as lent
 use Rattle.lsp_verdict.proofs.LookBackLemmas.{each_of-snoc}
 use Rattle.lsp_verdict.proofs.Messages.{sent_in-append}
+use Rattle.lsp_verdict.proofs.Offences.Quiet.{leaves_session}
+use Rattle.lsp_replay.proofs.Apart.{carried}
+use Rattle.lsp_replay.specs.Keeping.{IsAdmitted, IsSound, RefusesEvent, Tries, message_rule}
+use Rattle.lsp_replay.specs.Standing.{CanWantMemory, Holds, IsUnread, MayLackFor, RefusesCall}
+use Rattle.lsp_replay.specs.Standing.{RefusesFor, TakesCall, of_call, of_message, of_reading}
+use Rattle.lsp_replay.specs.Telling.{MaySpeak, took_of}
+use Rattle.lsp_replay.specs.Tries.{IsTriedOf}
+use Rattle.lsp_replay.specs.declared.fault.Fault.{Fault}
+use Rattle.lsp_replay.specs.declared.fault.Fault.TheVariants as own
 
--- the document rule of a message, under what was agreed
-rule_is : (terms : Terms) (events : List Event) (m : Sent) (enc : Encoding) (kind : SyncKind) → enc ≡ unwrap_or (encoding (sent_in events)) Utf16 → kind ≡ unwrap_or (sync_kind (sent_in events)) Nothing
-    → document_rule terms events (message m) ≡ option_and_then (call_rule terms (calls events)) (call_of enc kind m.act)
-rule_is terms events m enc kind e k =
-    ap (λ x. option_and_then (call_rule terms (calls events)) (call_of x (unwrap_or (sync_kind (sent_in events)) Nothing) m.act)) (sym e)
-    ∙ ap (λ x. option_and_then (call_rule terms (calls events)) (call_of enc x m.act)) (sym k)
+-- ---- a content that says nothing
 
-offence_is : (terms : Terms) (events : List Event) (m : Sent) (rule : Option ℕ) → rule_after (sent_in events) m ≡ None → document_rule terms events (message m) ≡ rule → offence terms events (message m) ≡ rule
-offence_is terms events m rule none is = ap (λ o. option_or o (document_rule terms events (message m))) none ∙ is
-
--- what a call that was taken, or refused, says of the calls before it
-module _ (old : docs.State) (made : List Call) (h : docs.Stands old made) where
-  pub call_taken : (new : docs.State) (said : Option Call) → TakesCall old new said
-      → (option_and_then (call_rule old.terms made) said ≡ None)
-      × docs.Stands new (made ++ cons_option said [])
-  call_taken new None same = (
-    refl,
-    subst (λ (d : docs.State). docs.Stands d (made ++ [])) (sym same)
-        (subst (docs.Stands old) (sym (append-nil made)) h),
-  )
-  call_taken new (Some call) accepts = (accepts.accepted made h, accepts.stands made h)
-
-  pub call_named : (said : Option Call) (f : DocFault) → RefusesCall old said f
-      → docs_fault.Names (option_and_then (call_rule old.terms made) said) f
-  call_named None f refuses = absurd refuses
-  call_named (Some call) f refuses = refuses made h
-
--- only an act that says something of a document is refused
-pub call_said : (old : docs.State) (said : Option Call) (f : DocFault) → RefusesCall old said f
-    → (call : Call) × (said ≡ Some call)
-call_said old None f refuses = absurd refuses
-call_said old (Some call) f refuses = (call, refl)
-
--- a message, and what is left of it
-module _ (side : Side) (bytes : List ℕ) (terms : Terms) (events : List Event) (m : Sent) (is : IsSent side bytes m) (said : Message) (says : outline m.message ≡ outline said) where
-  -- the session doesn't admit it
-  pub message_refused : (f : Refusal) → refusal.Names (rule_after (sent_in events) m) f → (open_initializes (sent_in events) ≡ []) ⊎ (said ≡ without_params m.message) → RefusesBy side bytes said m.act terms events (of_message f)
-  message_refused (refusals.Rule rule) named whole = record {
-    sent = m;
-    reads = is;
-    says = says;
-    means = refl;
-    offends = ap (λ o. option_or o (document_rule terms events (message m))) named;
-    whole = whole;
-  }
-  message_refused refusals.Memory named whole = tt
-
-  -- it is admitted, under what was agreed
-  module _ (enc : Encoding) (kind : SyncKind) (none : rule_after (sent_in events) m ≡ None) (e : enc ≡ unwrap_or (encoding (sent_in events)) Utf16) (k : kind ≡ unwrap_or (sync_kind (sent_in events)) Nothing) where
-    -- the documents don't accept its call
-    pub call_refused : (f : DocFault) → docs_fault.Names (option_and_then (call_rule terms (calls events)) (call_of enc kind m.act)) f → (open_initializes (sent_in events) ≡ []) ⊎ (said ≡ without_params m.message)
-        → RefusesBy side bytes said m.act terms events (of_call f)
-    call_refused (faults.Rule rule) named whole = record {
-      sent = m;
-      reads = is;
-      says = says;
-      means = refl;
-      offends = offence_is terms events m (Some rule) none (rule_is terms events m enc kind e k ∙ named);
-      whole = whole;
-    }
-    call_refused faults.Memory named whole = tt
-
-    -- its call is accepted
-    pub heard : (messages : session.State) (documents : docs.State) → option_and_then (call_rule terms (calls events)) (call_of enc kind m.act) ≡ None
-        → session.Stands messages (sent_in events ++ m ∷ []) → docs.Stands documents (calls events ++ cons_option (call_of enc kind m.act) [])
-        → HasValue events said m.message → Hears side bytes said m.act terms messages documents events
-    heard messages documents accepted sent called has_value = record {
-      sent = m;
-      reads = is;
-      says = says;
-      means = refl;
-      accepted = offence_is terms events m None none (rule_is terms events m enc kind e k ∙ accepted);
-      holds = record {
-        sent = subst (λ (w : List Sent). session.Stands messages w) (sym (sent_in-append events (message m ∷ []))) sent;
-        called = subst (λ (w : List Call). docs.Stands documents w)
-            (ap (λ x. calls events ++ cons_option (call_of x kind m.act) []) e
-            ∙ ap (λ x. calls events ++ cons_option (call_of (unwrap_or (encoding (sent_in events)) Utf16) x m.act) []) k
-            ∙ sym (each_of-snoc call_at events (message m))) called;
-      };
-      has_value = has_value;
-    }
-
--- ---- the rule of a fault
-
--- a content that says nothing
 pub unread : (side : Side) (bytes : List ℕ) (f : RpcFault) → IsUnspoken side bytes f
     → IsUnread side bytes (of_reading f)
 unread side bytes (contents.Rule rule) (inl breaks) = (refl, inl breaks)
@@ -135,24 +57,201 @@ unread side bytes (contents.Rule rule) (inr (is, params)) =
 unread side bytes contents.Memory e = tt
 
 pub unread_for : (side : Side) (bytes : List ℕ) (terms : Terms) (events : List Event) (f : Fault)
-    → IsUnread side bytes f → RefusesFor (placed.content side bytes) terms events f
-unread_for side bytes terms events (own.Rule rule) is = (broken side rule, is, refl)
+    → IsUnread side bytes f → RefusesFor (content side bytes) terms events f
+unread_for side bytes terms events (own.Rule rule) is = (broken_rule side rule, is, refl)
 unread_for side bytes terms events own.Memory is = tt
 
--- a message that offends
-pub refused_for : (side : Side) (bytes : List ℕ) (said : Message) (act : Act) (terms : Terms)
-    (events : List Event) (f : Fault) → RefusesBy side bytes said act terms events f
-    → RefusesFor (placed.content side bytes) terms events f
-refused_for side bytes said act terms events (own.Rule rule) refuses =
-    (message refuses.sent, refuses.reads, refuses.offends)
-refused_for side bytes said act terms events own.Memory refuses = tt
+-- ---- admitting
 
--- a snapshot that the documents don't accept
-pub shown_for : (uri text : List ℕ) (number : ℤ) (terms : Terms) (events : List Event)
-    (f : DocFault)
-    → docs_fault.Names (call_rule terms (calls events) (shows uri number (chars text))) f
-    → (f ≡ faults.Memory → CanWantMemory terms events (placed.show number uri text))
-    → RefusesFor (placed.show number uri text) terms events (of_call f)
-shown_for uri text number terms events (faults.Rule rule) named waits =
-    (snapshot uri number (chars text), refl, named)
-shown_for uri text number terms events faults.Memory named waits = waits refl
+-- an event that is no content is no message
+pub silent : (raw : code.Raw)
+    → ((side : Side) (bytes : _) → raw ≡ lent.Content side bytes → ⊥) → (event : Event)
+    → Reads (raw_view raw) event → (sent : Sent) → event ≡ message sent → ⊥
+silent (lent.Content side bytes) not event reads sent is = not side bytes refl
+silent (lent.Broken side rule rest) not event reads sent is =
+    let same = sym reads ∙ is in absurd (cc same)
+silent (lent.Snapshot number uri text) not event reads sent is =
+    let same = sym reads ∙ is in absurd (cc same)
+
+-- a snapshot leaves the messages
+module _ (messages : session.State) (events : List Event)
+    (stands : session.Stands messages (sent_in events)) where
+  pub unsaid : (event : Event) → ((sent : Sent) → event ≡ message sent → ⊥) → IsSound event
+      → IsAdmitted messages events event
+  unsaid (message m) not sound = absurd (not m refl)
+  unsaid (broken_rule side rule) not sound = absurd sound
+  unsaid (snapshot uri n t) not sound = (
+    refl,
+    subst (λ (w : List Sent). session.Stands messages w)
+        (sym (sent_in-append events (snapshot uri n t ∷ []) ∙ append-nil (sent_in events))) stands,
+  )
+
+-- what is left of a message is admitted, or refused, as the message is
+module _ (side : Side) (bytes : List ℕ) (s : Spoken) (events : List Event) where
+  abbrev left : Sent
+  left = sent_by side (act_view s.act) (message_view s.message)
+
+  rule_left : (event : Event) → ReadsAs side bytes event → MaySpeak events event (Some s)
+      → (m : Sent) × (event ≡ message m)
+      × ((rule_after (sent_in events) left ≡ rule_after (sent_in events) m)
+      × (session.state_of (sent_in events ++ left ∷ [])
+      ≡ session.state_of (sent_in events ++ m ∷ [])))
+  rule_left event reads (by, said) =
+      let own : said.sent.side ≡ side =
+      (subst (λ (e : Event). ReadsAs side bytes e) said.is reads).by in
+      let same = carried (sent_in events) (message_view s.message) said.sent said.says
+      said.has_value in
+      let is : sent_by said.sent.side said.sent.act (message_view s.message) ≡ left =
+      λ i. sent_by (own i) (said.means i) (message_view s.message) in (
+        said.sent,
+        said.is,
+        (
+          ap (rule_after (sent_in events)) (sym is) ∙ same.0,
+          ap (λ m. session.state_of (sent_in events ++ m ∷ [])) (sym is) ∙ same.1,
+        ),
+      )
+
+  pub said_admitted : (messages : session.State) (event : Event) → ReadsAs side bytes event
+      → MaySpeak events event (Some s) → rule_after (sent_in events) left ≡ None
+      → session.Stands messages (sent_in events ++ left ∷ []) → IsAdmitted messages events event
+  said_admitted messages event reads speaks none stands =
+      let whole = rule_left event reads speaks in
+      subst (IsAdmitted messages events) (sym whole.1) (
+        sym whole.2.0 ∙ none,
+        subst (λ (w : List Sent). session.Stands messages w)
+            (sym (sent_in-append events (message whole.0 ∷ []))) (stands ∙ whole.2.1),
+      )
+
+  pub said_refused : (event : Event) (f : Refusal) → ReadsAs side bytes event
+      → MaySpeak events event (Some s) → refusal.Names (rule_after (sent_in events) left) f
+      → refusal.Names (message_rule events event) f
+  said_refused event f reads speaks named =
+      let whole = rule_left event reads speaks in
+      subst (λ (e : Event). refusal.Names (message_rule events e) f) (sym whole.1)
+      (subst (λ rule. refusal.Names rule f) whole.2.0 named)
+
+-- ---- an event, by the rule on messages and the rule on documents
+
+module _ (terms : Terms) (events : List Event) where
+  pub rule_split : (event : Event) → IsSound event → offence terms events event
+      ≡ option_or (message_rule events event) (document_rule terms events event)
+  rule_split (message m) sound = refl
+  rule_split (broken_rule side rule) sound = absurd sound
+  rule_split (snapshot uri n t) sound = refl
+
+  module _ (event : Event) (sound : IsSound event) where
+    -- it is not admitted
+    pub refused_as_message : (raw : Raw) (f : Refusal) → refusal.Names (message_rule events event) f
+        → CanWantMemory terms events raw → RefusesEvent raw terms events event (of_message f)
+    refused_as_message raw (refusals.Rule rule) named wants =
+        rule_split event sound ∙ ap (λ o. option_or o (document_rule terms events event)) named
+    refused_as_message raw refusals.Memory named wants = wants
+
+    pub document_offence : message_rule events event ≡ None
+        → offence terms events event ≡ document_rule terms events event
+    document_offence none =
+        rule_split event sound ∙ ap (λ o. option_or o (document_rule terms events event)) none
+
+-- a rule on messages is none on documents
+pub not_tried : (terms : Terms) (events : List Event) (event : Event) (f : Refusal)
+    (tried : Option Made) → refusal.Names (message_rule events event) f
+    → Tries terms events event (of_message f) tried
+not_tried terms events (message m) (refusals.Rule rule) tried named = λ least.
+    absurd (omega (arith, rules_end (sent_in events) m rule named, least))
+not_tried terms events (broken_rule side code) (refusals.Rule rule) tried named = absurd (cc named)
+not_tried terms events (snapshot uri n t) (refusals.Rule rule) tried named = absurd (cc named)
+not_tried terms events event refusals.Memory tried named = tt
+
+-- ---- its call
+
+module _ (old : docs.State) (events : List Event) (h : docs.Stands old (calls events))
+    (event : Event) (sound : IsSound event) (none : message_rule events event ≡ None)
+    (said : Option Call) (says : said ≡ call_at events event) where
+  -- it is refused
+  pub refused_as_call : (raw : Raw) (f : DocFault) → Reads raw event → RefusesCall old said f
+      → (f ≡ faults.Memory → MayLackFor old said)
+      → RefusesEvent raw old.terms events event (of_call f)
+  refused_as_call raw (faults.Rule rule) reads refuses lacks =
+      document_offence old.terms events event sound none
+      ∙ ap (option_and_then (call_rule old.terms (calls events))) (sym says) ∙ named said refuses
+    where
+      named : (o : Option Call) → RefusesCall old o (faults.Rule rule)
+          → option_and_then (call_rule old.terms (calls events)) o ≡ Some rule
+      named None refused = absurd refused
+      named (Some call) refused = refused (calls events) h
+  refused_as_call (content side bytes) faults.Memory reads refuses lacks = tt
+  refused_as_call (broken side rule) faults.Memory reads refuses lacks =
+      absurd (subst IsSound reads sound)
+  refused_as_call (show n uri t) faults.Memory reads refuses lacks =
+      let lacking = subst (MayLackFor old) (says ∙ ap (call_at events) reads) (lacks refl) in
+      sym (lacking.1 (calls events) h)
+
+  -- and the messages stay
+  pub refused_leaves : (raw : Raw) (messages : session.State) (f : DocFault) → Reads raw event
+      → RefusesCall old said f → IsAdmitted messages events event
+      → session.Stands messages (sent_in events)
+  refused_leaves raw messages f reads refuses admitted =
+      let some = some_said said refuses in
+      leaves raw event reads (some.0, sym says ∙ some.1) admitted.1
+    where
+      some_said : (o : Option Call) → RefusesCall old o f → (call : Call) × (o ≡ Some call)
+      some_said None refused = absurd refused
+      some_said (Some call) refused = (call, refl)
+
+      leaves : (r : Raw) (e : Event) → Reads r e → (call : Call) × (call_at events e ≡ Some call)
+          → session.Stands messages (sent_in (events ++ e ∷ []))
+          → session.Stands messages (sent_in events)
+      leaves (content side bytes) (message m) read says stands =
+          subst (λ (w : List Sent). session.Stands messages w) (sent_in-append events (message m ∷ []))
+          stands
+          ∙ leaves_session (sent_in events) m.side m.message m.act _ _ says.0
+          (subst (λ (by : Side). act_at by m.message ≡ Some m.act) (sym read.by) read.means) says.1
+      leaves (broken side rule) (message m) read says stands = absurd (cc read)
+      leaves (show n uri t) (message m) read says stands = absurd (cc read)
+      leaves r (broken_rule side rule) read says stands = absurd (cc says.1)
+      leaves r (snapshot uri n t) read says stands =
+          subst (λ (w : List Sent). session.Stands messages w)
+          (sent_in-append events (snapshot uri n t ∷ []) ∙ append-nil (sent_in events)) stands
+
+  -- it is taken
+  module _ (new : docs.State) (took : Took) (takes : TakesCall old new said took) where
+    accepted_call : (o : Option Call) → TakesCall old new o took
+        → (option_and_then (call_rule old.terms (calls events)) o ≡ None)
+        × (docs.Stands new (calls events ++ cons_option o [])
+        × (took ≡ took_of old.terms (calls events) o))
+    accepted_call None (same, done) = (
+      refl,
+      (
+        subst (λ (d : docs.State). docs.Stands d (calls events ++ [])) (sym same)
+            (subst (docs.Stands old) (sym (append-nil (calls events))) h),
+        done,
+      ),
+    )
+    accepted_call (Some call) (accepts, tells) =
+        (accepts.accepted (calls events) h, (accepts.stands (calls events) h, tells (calls events) h))
+
+    pub taken_rule : offence old.terms events event ≡ None
+    taken_rule = document_offence old.terms events event sound none
+        ∙ ap (option_and_then (call_rule old.terms (calls events))) (sym says)
+        ∙ (accepted_call said takes).0
+
+    pub taken_says : took ≡ took_of old.terms (calls events) (call_at events event)
+    taken_says = (accepted_call said takes).1.1 ∙ ap (took_of old.terms (calls events)) says
+
+    pub taken_holds : (messages : session.State) → IsAdmitted messages events event
+        → Holds messages new (events ++ event ∷ [])
+    taken_holds messages admitted = record {
+      sent = admitted.1;
+      called = subst (λ (w : List Call). docs.Stands new w)
+          (ap (λ (o : Option Call). calls events ++ cons_option o []) says
+          ∙ sym (each_of-snoc call_at events event)) (accepted_call said takes).1.0;
+    }
+
+-- what was tried of it
+pub tried_as_call : (terms : Terms) (events : List Event) (event : Event) (said : Option Call)
+    → said ≡ call_at events event → (f : DocFault) (tried : Option Made)
+    → (docs_fault.IsRule f → IsTriedOf terms (calls events) said tried)
+    → Tries terms events event (of_call f) tried
+tried_as_call terms events event said says (faults.Rule rule) tried told = λ least.
+    subst (λ (o : Option Call). IsTriedOf terms (calls events) o tried) says (told tt)
+tried_as_call terms events event said says faults.Memory tried told = tt

@@ -1,6 +1,7 @@
 pub mod Edits
 pub mod Apart
 pub mod Hearing
+pub mod Reading
 pub mod Following
 pub mod Listing
 pub mod Giving
@@ -21,4 +22,3 @@ pub mod JudgedRuns
 pub mod SeenLines
 pub mod AllHeard
 pub mod TextRuns
-pub mod Trying

@@ -1,35 +1,36 @@
 -- What is held once one more event was heard, and how the event was seen.
-use Rattle.std.specs.Prelude.{ℤ, chars}
-use Rattle.std.proofs.Common.{◌≡◌, ℕ, List, [], ◌∷◌, ◌++◌, Option, Some, None, refl, sym, ap, subst}
-use Rattle.std.proofs.Common.{◌∙◌}
+use Rattle.std.proofs.Common.{◌≡◌, Bor, ℕ, List, [], ◌∷◌, ◌++◌, Option, Some, None, sym, ap, subst, ◌∙◌}
 use Rattle.std.proofs.lemmas.List.{map-append}
-use Rattle.lsp_session.specs.Sent.{Sent}
 use Rattle.lsp_session.specs.State as session
-use Rattle.lsp_rpc.specs.View.{act_view, message_view}
-use Rattle.lsp_rpc.specs.declared.act.Spoken.{Spoken}
-use Rattle.lsp_types.specs.declared.side.Side.{Side}
-use Rattle.lsp_docs.specs.Stored.{IsAnswer, answer_of}
-use Rattle.lsp_docs.specs.Calls.{Call, shows}
-use Rattle.lsp_docs.specs.Documents.{held, Terms}
-use Rattle.lsp_docs.specs.Fault as docs_fault
-use Rattle.lsp_docs.specs.Snapshots.{kept as kept_texts}
-use Rattle.lsp_docs.specs.Rules.{call_rule}
+use Rattle.lsp_docs.specs.Documents.{Terms}
 use Rattle.lsp_docs.specs.State as docs
-use Rattle.lsp_docs.specs.declared.fault.DocFault.{DocFault}
-use Rattle.lsp_docs.specs.declared.fault.DocFault.TheVariants as calls_fault
-use Rattle.lsp_docs.specs.declared.snapshot.Match.{Match}
-use Rattle.lsp_replay.specs.Standing.{of_call, Hears, Holds, RefusesMessage}
+use Rattle.lsp_docs.specs.Tried.{Made}
+use Rattle.lsp_docs.specs.declared.call.Took.{Took}
+use Rattle.lsp_rpc.specs.declared.act.Spoken.{Spoken}
+use Rattle.lsp_session.specs.Sent.{Sent}
+use Rattle.lsp_docs.specs.Taken.{call_view}
+use Rattle.lsp_docs.specs.declared.call.Call as code_call
+use Rattle.std.specs.Prelude.{option_map}
+use Rattle.lsp_types.specs.declared.side.Side.{Side}
+use Rattle.lsp_replay.specs.Keeping.{IsKept, IsSound, RefusesEvent, Tries}
+use Rattle.lsp_replay.specs.Standing.{CanWantMemory, Holds}
+use Rattle.lsp_replay.specs.Telling.{Comes, HasFate, IsSeen, MaySpeak, Saw, ShowsFault, Stood, kept_before, rule_of, took_of}
+use Rattle.lsp_replay.specs.Tries.{TriesCall}
+use Rattle.lsp_replay.specs.declared.fault.Fault.{Fault}
 use Rattle.lsp_replay.specs.declared.fault.Fault.TheVariants as own
-use Rattle.lsp_replay.specs.Telling.{Comes, IsSeen, IsSpoken, SeenAs, Stood, kept_before, rule_of}
-use Rattle.lsp_replay.specs.declared.seen.Seen.{Seen}
-use Rattle.lsp_replay.proofs.Following.{shown_holds, whose_read}
-use Rattle.lsp_verdict.specs.Event.{calls, Event, message, fault as broken_rule, snapshot}
-use Rattle.lsp_verdict.specs.Placed.{ReadsAs, Raw, content, broken, show, Reads}
-use Rattle.lsp_verdict.specs.Given.{AreCounts, whose_raw}
+use Rattle.lsp_replay.specs.declared.seen.Fate.{Fate}
+use Rattle.lsp_replay.specs.declared.seen.Fate.TheVariants as fates
+use Rattle.lsp_replay.specs.declared.seen.Flow.{Flow}
+use Rattle.lsp_replay.specs.Run.{Run}
+use Rattle.lsp_replay.proofs.Following.{whose_read}
+use Rattle.lsp_verdict.specs.Event.{calls, call_at, Event, fault as broken_rule, message}
+use Rattle.lsp_verdict.specs.Placed.{Raw, Reads}
+use Rattle.lsp_verdict.specs.Given.{AreCounts, raw_view, whose_raw}
 use Rattle.lsp_verdict.specs.Heard.{Heard, heard_events, notes_of}
 use Rattle.lsp_verdict.specs.Offences.{IsNoted, Noted, events_of, kept_of, rule_at}
 use Rattle.lsp_verdict.specs.Verdict.{offence, whose}
 use Rattle.lsp_verdict.specs.declared.counts.Counts.{Counts}
+use Rattle.lsp_verdict.specs.declared.raw.Raw as code
 use Rattle.lsp_verdict.proofs.Offences.Steps.{events_of-push, kept-push, kept-refused}
 use Rattle.lsp_verdict.proofs.OneEvent.{one_read}
 
@@ -52,13 +53,6 @@ module _ {raw : Raw} {terms : Terms} {m : session.State} {d : docs.State} {c : C
   pub noted_here : IsNoted h.raw h.note
   noted_here = subst (λ (w : Raw). IsNoted w h.note) (sym comes.raw_is) comes.noted
 
-  -- it was seen so
-  pub seen_as : {new_m : session.State} {new_d : docs.State} {after : Counts} (s : Seen)
-      → Stood terms new_m new_d after (before ++ h ∷ []) → SeenAs s terms before h
-      → IsSeen new_m new_d after s terms before h
-  seen_as s stood as_is =
-      record { stood = stood; few = comes.few; noted = noted_here; as_is = as_is }
-
   -- the event is the one that is read so
   pub event_is : (event : Event) → Reads raw event → event ≡ h.note.event
   event_is event reads = one_read raw event h.note.event reads comes.noted.0
@@ -72,24 +66,10 @@ module _ {raw : Raw} {terms : Terms} {m : session.State} {d : docs.State} {c : C
       (whose_read raw h.note.event comes.noted.0))
 
   -- it breaks this rule, or none
-  pub rule_here : (event : Event) (rule : Option ℕ) → Reads raw event
-      → offence d.terms kept event ≡ rule → rule_of terms before h ≡ rule
-  rule_here event rule reads is =
-      ap (λ (e : Event). rule_at terms (heard_events before) e) (sym (event_is event reads))
-      ∙ ap (λ (t : Terms). offence t kept event) (sym comes.stood.by) ∙ is
-
-  -- it is kept
-  pub stood_on : (event : Event) (new_m : session.State) (new_d : docs.State) (after : Counts)
-      → Reads raw event → rule_of terms before h ≡ None → new_d.terms ≡ d.terms
-      → Holds new_m new_d (kept ++ event ∷ []) → AreCounts after (heard_events (before ++ h ∷ []))
-      → Stood terms new_m new_d after (before ++ h ∷ [])
-  stood_on event new_m new_d after reads none same holds counted = record {
-    by = same ∙ comes.stood.by;
-    holds = subst (Holds new_m new_d) (ap (λ (e : Event). kept ++ e ∷ []) (event_is event reads)
-        ∙ sym (kept-push terms (heard_events before) h.note.event none)
-        ∙ ap (kept_of terms) (sym (events-push before h))) holds;
-    counted = counted;
-  }
+  pub rule_here : (rule : Option ℕ) → offence d.terms kept h.note.event ≡ rule
+      → rule_of terms before h ≡ rule
+  rule_here rule is =
+      ap (λ (t : Terms). offence t kept h.note.event) (sym comes.stood.by) ∙ is
 
   -- it is skipped
   pub stood_past : (rule : ℕ) (after : Counts) → rule_of terms before h ≡ Some rule
@@ -120,134 +100,112 @@ module _ {raw : Raw} {terms : Terms} {m : session.State} {d : docs.State} {c : C
     noted = comes.noted;
   }
 
--- ---- a content
+  -- it is kept
+  module _ {new_m : session.State} {new_d : docs.State} {after : Counts} {took : Took}
+      (is : IsKept d.terms c new_m new_d after kept h.note.event took) where
+    pub kept_rule : rule_of terms before h ≡ None
+    kept_rule = rule_here None is.accepted
 
-module _ {side : Side} {bytes : List ℕ} {terms : Terms} {m : session.State} {d : docs.State}
-    {c : Counts} {before : List Heard} {h : Heard} {Stands : Type 0}
-    (comes : Comes (content side bytes) terms m d c before h Stands) where
-  -- it is no message
-  pub unread_rule : (rule : ℕ) → ReadsAs side bytes (broken_rule side rule)
-      → rule_of terms before h ≡ Some rule
-  unread_rule rule reads = rule_here comes (broken_rule side rule) (Some rule) reads refl
+    pub kept_stood : new_d.terms ≡ d.terms → Stood terms new_m new_d after (before ++ h ∷ [])
+    kept_stood same = record {
+      by = same ∙ comes.stood.by;
+      holds = subst (Holds new_m new_d)
+          (sym (kept-push terms (heard_events before) h.note.event kept_rule)
+          ∙ ap (kept_of terms) (sym (events-push before h))) is.holds;
+      counted = subst (AreCounts after) (sym (events-push before h))
+          (is.counted (heard_events before) comes.stood.counted);
+    }
 
-  pub unread_silent : (rule : ℕ) → ReadsAs side bytes (broken_rule side rule) → (sent : Sent)
-      → h.note.event ≡ message sent → ⊥
-  unread_silent rule reads sent is =
-      let same = event_is comes (broken_rule side rule) reads ∙ is in
-      absurd (cc same)
+    pub kept_fate : HasFate terms before h (fates.Kept took)
+    kept_fate = (
+      kept_rule,
+      is.says
+          ∙ ap (λ (t : Terms). took_of t (calls kept) (call_at kept h.note.event)) comes.stood.by,
+    )
 
-  module _ (s : Spoken) where
-    -- it is this message, which is kept
-    module _ {new_m : session.State} {new_d : docs.State}
-        (hears : Hears side bytes (message_view s.message) (act_view s.act) d.terms new_m new_d
-        (kept_before terms before)) where
-      pub heard_rule : rule_of terms before h ≡ None
-      heard_rule = rule_here comes (message hears.sent) None hears.reads hears.accepted
+  -- it is refused by this rule, or memory ran out
+  module _ (fault : Fault) where
+    pub refused_here : (rule : ℕ) → fault ≡ own.Rule rule
+        → RefusesEvent raw d.terms kept h.note.event fault → rule_of terms before h ≡ Some rule
+    refused_here rule is refuses = rule_here (Some rule)
+        (subst (λ (f : Fault). RefusesEvent raw d.terms kept h.note.event f) is refuses)
 
-      pub heard_spoken : IsSpoken (kept_before terms before) h.note.event side s
-      heard_spoken = record {
-        sent = hears.sent;
-        is = sym (event_is comes (message hears.sent) hears.reads);
-        by = hears.reads.by;
-        says = hears.says;
-        means = hears.means;
-        has_value = hears.has_value;
-      }
+    pub wants_here : fault ≡ own.Memory → RefusesEvent raw d.terms kept h.note.event fault
+        → CanWantMemory terms kept h.raw
+    wants_here is refuses = subst (CanWantMemory terms kept) (sym comes.raw_is)
+        (subst (λ (t : Terms). CanWantMemory t kept raw) comes.stood.by
+        (subst (λ (f : Fault). RefusesEvent raw d.terms kept h.note.event f) is refuses))
 
-      pub heard_stood : (after : Counts) → new_d.terms ≡ d.terms
-          → AreCounts after (heard_events (before ++ h ∷ []))
-          → Stood terms new_m new_d after (before ++ h ∷ [])
-      heard_stood after same counted = stood_on comes (message hears.sent) new_m new_d after
-          hears.reads heard_rule same hears.holds counted
+    pub tried_here : (rule : ℕ) (tried : Option Made) → fault ≡ own.Rule rule
+        → Tries d.terms kept h.note.event fault tried
+        → TriesCall terms kept (call_at kept h.note.event) rule tried
+    tried_here rule tried is tries =
+        subst (λ (t : Terms). TriesCall t kept (call_at kept h.note.event) rule tried) comes.stood.by
+        (subst (λ (f : Fault). Tries d.terms kept h.note.event f tried) is tries)
 
-    -- it is this message, which offends
-    module _ (rule : ℕ) (refuses : RefusesMessage side bytes (message_view s.message)
-        (act_view s.act) d.terms (kept_before terms before) rule) where
-      pub refused_rule : rule_of terms before h ≡ Some rule
-      refused_rule = rule_here comes (message refuses.sent) (Some rule) refuses.reads
-          refuses.offends
+-- so an event was seen
+pub seen_so : {raw : code.Raw} {spoken : Option (Bor Spoken)} {call : Option code_call.Call}
+    {terms : Terms} {m : session.State} {d : docs.State} {c : Counts} {before : List Heard}
+    {h : Heard} {Stands : Type 0} (comes : Comes (raw_view raw) terms m d c before h Stands)
+    {new_m : session.State} {new_d : docs.State} {after : Counts} (fate : Fate)
+    → MaySpeak (kept_before terms before) h.note.event (option_map (λ s. s.now) spoken)
+    → option_map call_view call ≡ call_at (kept_before terms before) h.note.event
+    → Stood terms new_m new_d after (before ++ h ∷ []) → HasFate terms before h fate
+    → IsSeen new_m new_d after
+    (record { raw = raw; spoken = spoken; call = call; fate = fate }) terms before h
+seen_so comes fate speaks says stood fated = record {
+  stood = stood;
+  few = comes.few;
+  noted = noted_here comes;
+  is = comes.raw_is;
+  spoken = speaks;
+  says = says;
+  fate = fated;
+}
 
-      pub refused_spoken : IsSpoken (kept_before terms before) h.note.event side s
-      refused_spoken = record {
-        sent = refuses.sent;
-        is = sym (event_is comes (message refuses.sent) refuses.reads);
-        by = refuses.reads.by;
-        says = refuses.says;
-        means = refuses.means;
-        has_value = refuses.whole;
-      }
+-- raws that are the same
+module _ {from to : code.Raw} (same : from ≡ to) {terms : Terms} {before : List Heard} {h : Heard}
+    {Stands : Type 0} where
+  pub comes_of : {m : session.State} {d : docs.State} {c : Counts}
+      → Comes (raw_view from) terms m d c before h Stands
+      → Comes (raw_view to) terms m d c before h Stands
+  comes_of {m} {d} {c} =
+      subst (λ (r : code.Raw). Comes (raw_view r) terms m d c before h Stands) same
 
--- ---- another event
+  pub saw_of : {run : Run} {old new : List ℕ} {m : session.State} {d : docs.State} {c : Counts}
+      {flow : Flow} → Saw run terms before h (ShowsFault from) old new Stands m d c flow
+      → Saw run terms before h (ShowsFault to) old new Stands m d c flow
+  saw_of {run} {old} {new} {m} {d} {c} {flow} =
+      subst (λ (r : code.Raw). Saw run terms before h (ShowsFault r) old new Stands m d c flow) same
 
--- a fault of the frames breaks its rule
-pub broken_here : (side : Side) (rule : ℕ) (terms : Terms) (before : List Heard) (h : Heard)
-    → IsNoted (broken side rule) h.note → rule_of terms before h ≡ Some rule
-broken_here side rule terms before h noted =
-    ap (λ (e : Event). rule_at terms (heard_events before) e) noted.0
+-- ---- a fault: a content that is no message, or of the frames
 
-pub broken_silent : (side : Side) (rule : ℕ) (h : Heard) → IsNoted (broken side rule) h.note
-    → (sent : Sent) → h.note.event ≡ message sent → ⊥
-broken_silent side rule h noted sent is = let same = sym noted.0 ∙ is in absurd (cc same)
+module _ {raw : Raw} {terms : Terms} {m : session.State} {d : docs.State} {c : Counts}
+    {before : List Heard} {h : Heard} {Stands : Type 0} (side : Side) (rule : ℕ)
+    (comes : Comes raw terms m d c before h Stands) (reads : Reads raw (broken_rule side rule)) where
+  is_fault : broken_rule side rule ≡ h.note.event
+  is_fault = event_is comes (broken_rule side rule) reads
 
-module _ {number : ℤ} {uri text : List ℕ} {terms : Terms} {m : session.State} {d : docs.State}
-    {c : Counts} {before : List Heard} {h : Heard} {Stands : Type 0}
-    (comes : Comes (show number uri text) terms m d c before h Stands) where
-  abbrev event : Event
-  event = snapshot uri number (chars text)
+  pub fault_rule : rule_of terms before h ≡ Some rule
+  fault_rule = ap (λ (e : Event). rule_at terms (heard_events before) e) (sym is_fault)
 
-  abbrev made : List Call
-  made = calls (kept_before terms before)
+  pub fault_silent : (sent : Sent) → h.note.event ≡ message sent → ⊥
+  fault_silent sent is = let same = is_fault ∙ is in absurd (cc same)
 
-  -- documents that are the same have still to hear it, of a number that is the same
-  pub shown_comes : (own : ℤ) → own ≡ number → (new_d : docs.State) → new_d ≡ d
-      → Comes (show own uri text) terms m new_d c before h Stands
-  shown_comes own same new_d is =
-      subst (λ (n : ℤ). Comes (show n uri text) terms m new_d c before h Stands) (sym same)
-      (subst (λ (x : docs.State). Comes (show number uri text) terms m x c before h Stands) (sym is)
-      comes)
+  pub fault_tries : (tried : Option Made) → TriesCall terms (kept_before terms before)
+      (call_at (kept_before terms before) h.note.event) rule tried
+  fault_tries tried = subst (λ (e : Event). TriesCall terms (kept_before terms before)
+      (call_at (kept_before terms before) e) rule tried) is_fault (λ least. tt)
 
-  pub shown_silent : (sent : Sent) → h.note.event ≡ message sent → ⊥
-  shown_silent sent is = let same = sym comes.noted.0 ∙ is in absurd (cc same)
+-- ---- an event that was read
 
-  -- it is refused by this rule
-  pub shown_refused : (rule : ℕ) (f : DocFault)
-      → docs.Refuses d (shows uri number (chars text)) f → of_call f ≡ own.Rule rule
-      → rule_of terms before h ≡ Some rule
-  shown_refused rule f refuses is =
-      rule_here comes event (Some rule) refl
-      (by_fault f (refuses made comes.stood.holds.called) is)
-    where
-      by_fault : (g : DocFault)
-          → docs_fault.Names (call_rule d.terms made (shows uri number (chars text))) g
-          → of_call g ≡ own.Rule rule → offence d.terms (kept_before terms before) event ≡ Some rule
-      by_fault (calls_fault.Rule broken_by) named same = let one : broken_by ≡ rule = cc same in
-          named ∙ ap (λ r. Some r) one
-      by_fault calls_fault.Memory named same = absurd (cc same)
+module _ {raw : Raw} {terms : Terms} {m : session.State} {d : docs.State} {c : Counts}
+    {before : List Heard} {h : Heard} {Stands : Type 0} (event : Event) (reads : Reads raw event)
+    (comes : Comes raw terms m d c before h Stands) where
+  pub sound_here : IsSound event → IsSound h.note.event
+  sound_here = subst IsSound (event_is comes event reads)
 
-  -- it is accepted
-  module _ {new_d : docs.State} (accepts : docs.Accepts d new_d (shows uri number (chars text)))
-    where
-      pub shown_rule : rule_of terms before h ≡ None
-      shown_rule = rule_here comes event None refl
-          (accepts.accepted made comes.stood.holds.called)
-
-      pub shown_stood : (after : Counts) → AreCounts after (heard_events (before ++ h ∷ []))
-          → Stood terms m new_d after (before ++ h ∷ [])
-      shown_stood after counted =
-          stood_on comes event m new_d after refl shown_rule accepts.terms
-          (shown_holds m new_d (kept_before terms before) uri number (chars text)
-          comes.stood.holds.sent (accepts.stands made comes.stood.holds.called)) counted
-
-      -- and it was seen so, with a number that is the same
-      pub shown_as : (own : ℤ) → own ≡ number → (answer : Match) → IsAnswer d uri number answer
-          → (h.raw ≡ show own uri text) × (rule_of terms before h ≡ None)
-          × (answer ≡ answer_of own (kept_texts terms uri made) (held terms uri made))
-      shown_as own same answer is =
-          subst (λ (n : ℤ). (h.raw ≡ show n uri text) × (rule_of terms before h ≡ None)
-          × (answer ≡ answer_of n (kept_texts terms uri made) (held terms uri made))) (sym same) (
-            comes.raw_is,
-            shown_rule,
-            subst (λ (t : Terms).
-                answer ≡ answer_of number (kept_texts t uri made) (held t uri made))
-                comes.stood.by (is made comes.stood.holds.called),
-          )
+  pub speaks_here : (s : Option Spoken) → MaySpeak (kept_before terms before) event s
+      → MaySpeak (kept_before terms before) h.note.event s
+  speaks_here s =
+      subst (λ (e : Event). MaySpeak (kept_before terms before) e s) (event_is comes event reads)

@@ -1,10 +1,11 @@
 -- The place and the line of an event that was seen.
-use Rattle.std.proofs.Common.{◌≡◌, ◌+◌, ◌<◌, ◌^◌, ℕ, true, List, [], ◌∷◌, ◌++◌, length, refl, sym}
+use Rattle.std.proofs.Common.{◌≡◌, ◌+◌, ◌<◌, ◌^◌, ℕ, true, None, List, [], ◌∷◌, ◌++◌, length, refl, sym}
 use Rattle.std.proofs.Common.{ap, ◌∙◌, length-append, arith, subst}
 use Rattle.std.specs.Prelude.{unwrap_or, if◌then◌else◌, ℤ, decimal}
 use Rattle.std.proofs.lemmas.List.{length-map}
 use Rattle.lsp_types.specs.declared.side.Side.{Side}
 use Rattle.lsp_types.specs.declared.side.Side.TheVariants.{Editor, Server}
+use Rattle.lsp_docs.specs.Documents.{Terms}
 use Rattle.lsp_docs.specs.State.{capped}
 use Rattle.lsp_verdict.specs.declared.lines.Lines.{Lines}
 use Rattle.lsp_verdict.specs.Event.{Event, message, fault as broken, snapshot}
@@ -15,7 +16,8 @@ use Rattle.lsp_verdict.specs.declared.verdict.Who.{Who}
 use Rattle.lsp_verdict.proofs.EventCounts.{count_few}
 use Rattle.lsp_verdict.specs.Given.{AreCounts}
 use Rattle.lsp_verdict.specs.Heard.{Heard, heard_events, notes_of}
-use Rattle.lsp_verdict.specs.Offences.{Noted}
+use Rattle.lsp_verdict.specs.Offences.{Noted, rule_at}
+use Rattle.lsp_verdict.specs.Placed.{ReadsAs}
 use Rattle.lsp_verdict.specs.Report.{line, side_name}
 use Rattle.lsp_verdict.specs.declared.counts.Counts.{Counts}
 use Rattle.lsp_rpc.specs.Outline.{outline}
@@ -28,7 +30,7 @@ use Rattle.lsp_session.specs.View as lent
 use Rattle.lsp_replay.proofs.TextRuns.{count-append}
 use Rattle.lsp_replay.specs.Lines.{line_of, heard_line, place_of}
 use Rattle.lsp_replay.specs.declared.heard.EventPlace.{EventPlace}
-use Rattle.lsp_replay.specs.Telling.{IsSpoken}
+use Rattle.lsp_replay.specs.Telling.{IsSpoken, MaySpeak, kept_before, rule_of}
 use Rattle.lsp_replay.proofs.Seeing.{events-push}
 
 -- ---- the place of an event: as it is counted, and once its numbers are known not to be capped
@@ -120,6 +122,22 @@ message_line lines event number side s sent by says means =
     ++ words_behind lines number (document_words (means i))) in
     sym (own ∙ ap (λ w. line ((decimal event ∷ side_name side ∷ w ∷ [])
     ++ words_behind lines number (document_words (act_view s.act)))) words)
+
+-- what is no message and no snapshot offends
+module _ (terms : Terms) (before : List Heard) (h : Heard) where
+  pub broken_offends : (side : Side) (rule : ℕ) → h.note.event ≡ broken side rule
+      → rule_of terms before h ≡ None → ⊥
+  broken_offends side rule is none =
+      let same = sym (ap (λ (e : Event). rule_at terms (heard_events before) e) is) ∙ none in cc same
+
+  pub silent_offends : (side : Side) (bytes : List ℕ) → ReadsAs side bytes h.note.event
+      → MaySpeak (kept_before terms before) h.note.event None → rule_of terms before h ≡ None → ⊥
+  silent_offends side bytes reads silent none = by_event h.note.event refl reads
+    where
+      by_event : (e : Event) → h.note.event ≡ e → ReadsAs side bytes e → ⊥
+      by_event (message m) is read = silent m is
+      by_event (broken by rule) is read = broken_offends by rule is none
+      by_event (snapshot uri n t) is read = read
 
 -- a message is its side's
 pub spoken_whose : (kept : List Event) (event : Event) (side : Side) (s : Spoken)

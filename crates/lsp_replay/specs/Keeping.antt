@@ -1,13 +1,15 @@
 -- What is read of an event, and how it is kept or refused.
-use Rattle.std.specs.Prelude.{◌≡◌, ℕ, List, [], ◌∷◌, ◌++◌, Option, Some, None, option_map}
+use Rattle.std.specs.Prelude.{◌≡◌, ℕ, List, [], ◌∷◌, ◌++◌, Option, Some, None, option_map, unwrap_or}
 use Rattle.lsp_docs.specs.Documents.{Terms}
 use Rattle.lsp_docs.specs.State as docs
-use Rattle.lsp_docs.specs.Taken.{call_view}
 use Rattle.lsp_docs.specs.Tried.{Made}
 use Rattle.lsp_docs.specs.declared.call.Took.{Took}
 use Rattle.lsp_rpc.specs.declared.act.Spoken.{Spoken}
+use Rattle.lsp_session.specs.Negotiation.{encoding, sync_kind}
 use Rattle.lsp_session.specs.Rules.{rule_after}
 use Rattle.lsp_session.specs.State as session
+use Rattle.lsp_types.specs.declared.change.SyncKind.TheVariants.{Nothing}
+use Rattle.lsp_types.specs.declared.position.Encoding.TheVariants.{Utf16}
 use Rattle.lsp_types.specs.declared.side.Side.{Side}
 use Rattle.lsp_verdict.specs.declared.counts.Counts.{Counts}
 use Rattle.lsp_verdict.specs.Event.{Event, call_at, calls, fault, message, sent_in, snapshot}
@@ -28,12 +30,12 @@ abbrev pub IsMessageOf : List Event → Side → List ℕ → Spoken → Type 0
 IsMessageOf events side bytes s =
     (event : Event) × ReadsAs side bytes event × IsSpoken events event side s
 
--- after these events the event was read so: of a message this is left, and the event says this
--- about a document
+-- after these events the event was read so, under what they agreed: of a message this is left
 pub record IsRead (events : List Event) (event : Event) (read : ReadEvent) : Type 0 where
   pub reads : Reads (raw_view read.raw) event
   pub spoken : MaySpeak events event (option_map (λ s. s.now) read.spoken)
-  pub says : option_map call_view read.call ≡ call_at events event
+  pub encoding : read.encoding ≡ unwrap_or (encoding (sent_in events)) Utf16
+  pub kind : read.kind ≡ unwrap_or (sync_kind (sent_in events)) Nothing
 
 -- the event doesn't offend by itself
 abbrev pub IsSound : Event → Type 0

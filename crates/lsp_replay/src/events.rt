@@ -1,9 +1,8 @@
 //! The events of a session, heard one after another.
-ghost use Rattle.std.specs.Prelude.{◌≡◌, [], List, IfErr, IfOk, None, OnErr, OnOk, Some, chars};
+ghost use Rattle.std.specs.Prelude.{◌≡◌, [], List, IfErr, IfOk, None, OnErr, OnOk};
 ghost use Rattle.std.specs.Prelude.{Err, option_map};
 ghost use Rattle.lsp_rpc.specs.View.{act_view};
 ghost use Rattle.lsp_docs.specs.Calls as spec;
-ghost use Rattle.lsp_docs.specs.Calls.{shows};
 ghost use Rattle.lsp_docs.specs.Documents.{Terms, terms_of};
 ghost use Rattle.lsp_docs.specs.Fault.{IsRule};
 ghost use Rattle.lsp_docs.specs.State as documents;
@@ -15,13 +14,14 @@ ghost use Rattle.lsp_session.specs.Refusal.{Names};
 ghost use Rattle.lsp_session.specs.Sent.{Sent};
 ghost use Rattle.lsp_session.specs.State.{Stands};
 ghost use Rattle.lsp_verdict.specs.Event as event;
-ghost use Rattle.lsp_verdict.specs.Event.{Event, call_at, message, sent_in};
+ghost use Rattle.lsp_verdict.specs.Event.{Event, call_at, sent_in};
 ghost use Rattle.lsp_verdict.specs.Given.{raw_view};
-ghost use Rattle.lsp_verdict.specs.Placed.{show};
+ghost use Rattle.lsp_verdict.specs.Placed.{Reads};
 ghost use Rattle.lsp_replay.specs.Keeping.{IsAdmitted, IsKept, IsMessageOf, IsRead, IsSound};
 ghost use Rattle.lsp_replay.specs.Keeping.{RefusesEvent, Tries, message_rule};
 ghost use Rattle.lsp_replay.specs.Standing.{CanWantMemory, Follows, Holds, IsUnread, MayLackFor};
 ghost use Rattle.lsp_replay.specs.Standing.{RefusesCall, RefusesFor, Takes, TakesCall};
+ghost use Rattle.lsp_replay.specs.Telling.{MaySpeak};
 ghost use Rattle.lsp_replay.specs.Tries.{IsTriedOf};
 
 use crate::fault::Fault;
@@ -48,39 +48,30 @@ pub struct Events<S: TextStore> {
     pub(crate) tried: Option<Tried<S>>,
 }
 
-/// An event as it was read.
+/// An event as it was read, and what was agreed before it.
 #[derive(Clone, Copy)]
 pub(crate) struct ReadEvent<'a> {
     pub(crate) raw: Raw<'a>,
     /// The message that it is, without its params and the value of a result that nothing reads.
     pub(crate) spoken: Option<&'a Spoken>,
-    /// What it says about a document, under what was agreed before it.
-    pub(crate) call: Option<Call<'a>>,
+    encoding: Encoding,
+    kind: SyncKind,
 }
 
 impl<'a> ReadEvent<'a> {
-    /// An event that is no message and says nothing.
-    pub(crate) fn unread(raw: Raw<'a>) -> ReadEvent<'a>
-        ensures { result ≡ record { raw = raw.entry; spoken = None; call = None } }
+    /// What it says about a document.
+    #[inline(always)]
+    pub(crate) fn call(&self) -> Option<Call<'a>>
+        ensures { (events : List Event) (event : Event) → IsRead events event self.now
+            → option_map call_view result ≡ call_at events event }
     {
-        ReadEvent {
-            raw,
-            spoken: None,
-            call: None,
-        }
-    }
-
-    /// A text that the editor showed.
-    pub(crate) fn shown(version: i32, uri: &'a str, text: &'a str) -> ReadEvent<'a>
-        ensures raw { raw_view result.raw ≡ show version uri.now text.now }
-        ensures silent { result.spoken ≡ None }
-        ensures call { option_map call_view result.call
-            ≡ Some (shows uri.now version (chars text.now)) }
-    {
-        ReadEvent {
-            raw: Raw::Snapshot { version, uri, text },
-            spoken: None,
-            call: Some(Call::Shows { version, uri, text }),
+        match self.raw {
+            Raw::Content { .. } => match self.spoken {
+                Some(spoken) => call_of(self.encoding, self.kind, &spoken.act),
+                None => None,
+            },
+            Raw::Broken { .. } => None,
+            Raw::Snapshot { version, uri, text } => Some(Call::Shows { version, uri, text }),
         }
     }
 }
@@ -128,33 +119,34 @@ impl<S: TextStore> Events<S> {
                     content,
                     &mut spoken,
                 )?;
-                let call = self.call_in(&spoken);
-                let read = ReadEvent {
-                    raw,
-                    spoken: Some(&spoken),
-                    call,
-                };
+                let read = self.as_read(raw, Some(&spoken));
                 self.keep(&read)?;
                 Ok(())
             }
             Raw::Broken { rule, .. } => Err(Fault::Rule(rule)),
-            Raw::Snapshot { version, uri, text } => {
-                let read = ReadEvent::shown(version, uri, text);
+            Raw::Snapshot { .. } => {
+                let read = self.as_read(raw, None);
                 self.keep(&read)?;
                 Ok(())
             }
         }
     }
 
-    /// What a message says about a document, under what was agreed before it.
-    pub(crate) fn call_in<'a>(&self, spoken: &'a Spoken) -> Option<Call<'a>>
-        ensures { (events : List Event) (m : Sent) → Stands self.now.session (sent_in events)
-            → m.act ≡ act_view spoken.now.act
-            → option_map call_view result ≡ call_at events (message m) }
+    /// An event that was read, under what is agreed now; and the message that it is.
+    #[inline(always)]
+    pub(crate) fn as_read<'a>(&self, raw: Raw<'a>, spoken: Option<&'a Spoken>) -> ReadEvent<'a>
+        ensures raw { result.raw ≡ raw.entry }
+        ensures read { (events : List Event) (event : Event)
+            → Stands self.now.session (sent_in events) → Reads (raw_view raw.entry) event
+            → MaySpeak events event (option_map (λ s. s.now) spoken.entry)
+            → IsRead events event result }
     {
-        let encoding = self.session.encoding().unwrap_or(Encoding::Utf16);
-        let kind = self.session.sync_kind().unwrap_or(SyncKind::Nothing);
-        call_of(encoding, kind, &spoken.act)
+        ReadEvent {
+            raw,
+            spoken,
+            encoding: self.session.encoding().unwrap_or(Encoding::Utf16),
+            kind: self.session.sync_kind().unwrap_or(SyncKind::Nothing),
+        }
     }
 
     /// Keeps an event that was read: admits the message that it is, takes over what it says about a
@@ -164,6 +156,7 @@ impl<S: TextStore> Events<S> {
     /// `Rule` by the least of the rules 301 to 702 that the event offends, and `Memory` where
     /// memory was refused. What is held and the counts stay, so that the event after it can be
     /// heard, and what was tried of refused changes is kept.
+    #[inline(always)]
     pub(crate) fn keep(&mut self, read: &ReadEvent<'_>) -> Result<Took, Fault>
         ensures terms { self.new.docs.terms ≡ self.old.docs.terms }
         ensures ok { IfOk result (λ took. (events : List Event) (event : Event)
@@ -185,13 +178,14 @@ impl<S: TextStore> Events<S> {
         ensures uncounted { OnErr result (self.new.counts ≡ self.old.counts) }
     {
         admit(&mut self.session, read)?;
-        let took = take_call(&mut self.docs, read.call, &mut self.tried)?;
+        let took = take_call(&mut self.docs, read.call(), &mut self.tried)?;
         self.counts.add(read.raw.who());
         Ok(took)
     }
 }
 
 /// Admits the message that an event is, if it is one.
+#[inline(always)]
 fn admit(session: &mut Session, read: &ReadEvent<'_>) -> Result<(), Refusal>
     ensures ok { OnOk result ((events : List Event) (event : Event)
         → Stands session.old (sent_in events) → IsSound event → IsRead events event read.now
@@ -212,6 +206,7 @@ fn admit(session: &mut Session, read: &ReadEvent<'_>) -> Result<(), Refusal>
 }
 
 /// Takes over what is said about a document, if anything is.
+#[inline(always)]
 fn take_call<S: TextStore>(
     docs: &mut Docs<S>,
     call: Option<Call<'_>>,
@@ -268,6 +263,7 @@ pub(crate) fn read_into(
 }
 
 /// What an act says about a document, under this encoding and kind.
+#[inline(always)]
 fn call_of(encoding: Encoding, kind: SyncKind, act: &Act) -> Option<Call<'_>>
     ensures { option_map call_view result ≡ event.call_of encoding kind (act_view act.now) }
 {

@@ -1,6 +1,6 @@
 //! One pass over a log.
 ghost use Rattle.std.specs.Prelude.{◌≡◌, ◌++◌, ◌∷◌, ◌+◌, ◌<◌, ◌^◌, [], List, IfOk, IfErr, length};
-ghost use Rattle.std.specs.Prelude.{None, OnErr, OnOk, Some, string_bytes, true};
+ghost use Rattle.std.specs.Prelude.{None, OnErr, OnOk, Some, option_map, string_bytes, true};
 ghost use Rattle.lsp_docs.specs.Documents.{Terms};
 ghost use Rattle.lsp_frame.specs.Bounds.{IsInRange};
 ghost use Rattle.lsp_frame.specs.Sink.{Writes};
@@ -8,7 +8,8 @@ ghost use Rattle.lsp_frame.specs.Told.{Told};
 ghost use Rattle.lsp_replay.specs.Keeping.{IsRead, IsSound};
 ghost use Rattle.lsp_replay.specs.LogEvents.{Opens};
 ghost use Rattle.lsp_replay.specs.Run.{Passes, Steps, WantsAt};
-ghost use Rattle.lsp_replay.specs.Telling.{Comes, DueAtEnd, DueOf, Saw, ShowsFault, Stood};
+ghost use Rattle.lsp_replay.specs.Telling.{Comes, DueAtEnd, DueOf, MaySpeak, Saw, ShowsFault};
+ghost use Rattle.lsp_replay.specs.Telling.{Stood};
 ghost use Rattle.lsp_replay.specs.Telling.{kept_before, rule_of};
 ghost use Rattle.lsp_replay.specs.Tries.{TriesCall, made_in};
 ghost use Rattle.lsp_verdict.specs.Event.{call_at};
@@ -183,12 +184,11 @@ fn see<A: Account>(
             let mut spoken = held.messages.blank();
             see_content(held, account, side, content, &mut spoken, text)
         }
-        Raw::Broken { rule, .. } => skip(held, account, &ReadEvent::unread(raw), rule, text),
-        Raw::Snapshot {
-            version,
-            uri,
-            text: shown,
-        } => see_read(held, account, &ReadEvent::shown(version, uri, shown), text),
+        Raw::Broken { rule, .. } => skip(held, account, raw, rule, None, text),
+        Raw::Snapshot { .. } => {
+            let read = held.as_read(raw, None);
+            see_read(held, account, read, text)
+        }
     }
 }
 
@@ -213,56 +213,52 @@ fn see_content<A: Account>(
     let raw = Raw::Content { side, content };
     match read_into(&held.session, &mut held.messages, side, content, spoken) {
         Ok(()) => {
-            let read = ReadEvent {
-                raw,
-                spoken: Some(spoken),
-                call: held.call_in(spoken),
-            };
-            see_read(held, account, &read, text)
+            let read = held.as_read(raw, Some(spoken));
+            see_read(held, account, read, text)
         }
         Err(fault) => {
             let rule = fault.rule()?;
-            skip(held, account, &ReadEvent::unread(raw), rule, text)
+            skip(held, account, raw, rule, None, text)
         }
     }
 }
 
 /// Hears an event that was read, and adds what an account says of it.
+#[inline(always)]
 fn see_read<A: Account>(
     held: &mut Events<Lined>,
     account: &mut A,
-    read: &ReadEvent<'_>,
+    read: ReadEvent<'_>,
     text: &mut String,
 ) -> Result<Flow>
     ensures asked { A.asked account.new ≡ A.asked account.old }
     ensures memory { OnErr result ((terms : Terms) (before : List Heard) (h : Heard)
-        → Comes (raw_view read.now.raw) terms held.old.session held.old.docs held.old.counts
+        → Comes (raw_view read.entry.raw) terms held.old.session held.old.docs held.old.counts
         before h (A.stands account.old terms before)
-        → IsSound h.note.event → IsRead (kept_before terms before) h.note.event read.now
+        → IsSound h.note.event → IsRead (kept_before terms before) h.note.event read.entry
         → WantsAt (A.run (A.asked account.old)) terms before h) }
     ensures saw { IfOk result (λ flow. (terms : Terms) (before : List Heard) (h : Heard)
-        → Comes (raw_view read.now.raw) terms held.old.session held.old.docs held.old.counts
+        → Comes (raw_view read.entry.raw) terms held.old.session held.old.docs held.old.counts
         before h (A.stands account.old terms before)
-        → IsSound h.note.event → IsRead (kept_before terms before) h.note.event read.now
-        → Saw (A.run (A.asked account.old)) terms before h (ShowsFault read.now.raw)
+        → IsSound h.note.event → IsRead (kept_before terms before) h.note.event read.entry
+        → Saw (A.run (A.asked account.old)) terms before h (ShowsFault read.entry.raw)
         (string_bytes text.old) (string_bytes text.new)
         (A.stands account.new terms (before ++ h ∷ [])) held.new.session held.new.docs
         held.new.counts flow) }
 {
-    match held.keep(read) {
+    match held.keep(&read) {
         Ok(took) => {
             let seen = Seen {
                 raw: read.raw,
                 spoken: read.spoken,
-                call: read.call,
+                call: read.call(),
                 fate: Fate::Kept(took),
             };
-            let flow = account.event(held, &seen, text)?;
-            Ok(flow)
+            account.event(held, &seen, text)
         }
         Err(fault) => {
             let rule = fault.rule()?;
-            skip(held, account, read, rule, text)
+            skip(held, account, read.raw, rule, read.spoken, text)
         }
     }
 }
@@ -274,37 +270,40 @@ fn see_read<A: Account>(
 fn skip<A: Account>(
     held: &mut Events<Lined>,
     account: &mut A,
-    read: &ReadEvent<'_>,
+    raw: Raw<'_>,
     rule: u16,
+    spoken: Option<&Spoken>,
     text: &mut String,
 ) -> Result<Flow>
     ensures asked { A.asked account.new ≡ A.asked account.old }
     ensures let_go { OnOk result (held.new.tried ≡ None) }
     ensures memory { OnErr result ((terms : Terms) (before : List Heard) (h : Heard)
-        → Comes (raw_view read.now.raw) terms held.old.session held.old.docs held.old.counts
+        → Comes (raw_view raw.entry) terms held.old.session held.old.docs held.old.counts
         before h (A.stands account.old terms before)
         → rule_of terms before h ≡ Some rule
-        → IsRead (kept_before terms before) h.note.event read.now
+        → MaySpeak (kept_before terms before) h.note.event
+        (option_map (λ s. s.now) spoken.entry)
         → TriesCall terms (kept_before terms before)
         (call_at (kept_before terms before) h.note.event) rule (made_in held.old.tried)
         → (A.run (A.asked account.old)).wants terms before h ≡ true) }
     ensures saw { IfOk result (λ flow. (terms : Terms) (before : List Heard) (h : Heard)
-        → Comes (raw_view read.now.raw) terms held.old.session held.old.docs held.old.counts
+        → Comes (raw_view raw.entry) terms held.old.session held.old.docs held.old.counts
         before h (A.stands account.old terms before)
         → rule_of terms before h ≡ Some rule
-        → IsRead (kept_before terms before) h.note.event read.now
+        → MaySpeak (kept_before terms before) h.note.event
+        (option_map (λ s. s.now) spoken.entry)
         → TriesCall terms (kept_before terms before)
         (call_at (kept_before terms before) h.note.event) rule (made_in held.old.tried)
-        → Saw (A.run (A.asked account.old)) terms before h (ShowsFault read.now.raw)
+        → Saw (A.run (A.asked account.old)) terms before h (ShowsFault raw.entry)
         (string_bytes text.old) (string_bytes text.new)
         (A.stands account.new terms (before ++ h ∷ [])) held.new.session held.new.docs
         held.new.counts flow) }
 {
-    held.counts.add(read.raw.who());
+    held.counts.add(raw.who());
     let seen = Seen {
-        raw: read.raw,
-        spoken: read.spoken,
-        call: read.call,
+        raw,
+        spoken,
+        call: held.as_read(raw, spoken).call(),
         fate: Fate::Offends {
             rule,
             tried: held.tried.as_ref(),

@@ -22,8 +22,8 @@ use lsp_verdict::{Counts, Lines, Offence, Outcome, Raw};
 pub struct Seen<'a> {
     /// The event, as it was read.
     pub raw: Raw<'a>,
-    /// The message that it is, without its params and the value of a result that nothing reads, with
-    /// what it means.
+    /// The message that it is, without its params and the value of a result that nothing reads,
+    /// with what it means.
     pub spoken: Option<&'a Spoken>,
     /// What it says about a document, under what was agreed before it.
     pub call: Option<Call<'a>>,
@@ -56,6 +56,7 @@ pub enum Flow {
 ///
 /// # Errors
 /// `Memory` where memory was refused.
+#[inline(always)]
 pub fn push_kept_line(
     text: &mut String,
     lines: Lines,

@@ -134,7 +134,7 @@ end_at-inside a p c at len b h =
       apart = ap (λ (x : List ℕ). joins x (drop (length a + at) (a ++ (p ++ c)))) front ∙ ap (joins (a ++ take at p)) rest ∙ joins-farther a (take at p) (d ++ c) far near;
     }
 
-pub near-append : (bs c near : List ℕ) (plain : Bool) → IsNear bs near plain → IsNear (bs ++ c) near plain
+near-append : (bs c near : List ℕ) (plain : Bool) → IsNear bs near plain → IsNear (bs ++ c) near plain
 near-append bs c near plain h =
     record { utf8 = h.utf8; more = h.more ++ c; begins = ap (λ (x : List ℕ). x ++ c) h.begins ∙ append_assoc near h.more c; plain = h.plain }
 

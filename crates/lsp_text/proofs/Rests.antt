@@ -2,7 +2,7 @@
 use Rattle.std.proofs.Common.{◌≡◌, ◌<◌, ◌≤◌, ◌+◌, ◌-◌, ℕ, false, List, [], ◌++◌, length, take}
 use Rattle.std.proofs.Common.{drop, get_or, refl, sym, ap, subst, ⊎_elim, ◌∙◌, arith}
 use Rattle.std.proofs.Common.{length-append, length-drop, append_assoc, take-add}
-use Rattle.std.proofs.lemmas.Bool.{false≢true, cases_lt}
+use Rattle.std.proofs.lemmas.Bool.{cases_lt}
 use Rattle.std.proofs.lemmas.List.{append-nil, take-append-drop}
 use Rattle.std.proofs.lemmas.List.{drop-drop, length-take-le}
 use Rattle.std.proofs.lemmas.List.{get_or_append_left, get_or-append_right}
@@ -10,7 +10,7 @@ use Rattle.std.specs.Str.{IsUtf8, IsCharBoundary}
 use Rattle.std.proofs.lemmas.Str.{IsUtf8-take}
 use Rattle.lsp_types.specs.declared.position.Encoding.TheVariants.{Utf8}
 use Rattle.lsp_text.specs.Ends.{ends_in, joins, places_behind}
-use Rattle.lsp_text.specs.Ends.{IsCountUpTo, IsNear, IsRest}
+use Rattle.lsp_text.specs.Ends.{IsCountUpTo, IsRest}
 use Rattle.lsp_text.specs.Parts.{joined, part_at, AreParts, IsFound, IsSeam}
 use Rattle.lsp_text.specs.Parts.{bytes_between}
 use Rattle.lsp_text.specs.declared.part.Found.{Found}
@@ -33,16 +33,6 @@ whole_rest bs u =
       begins = sym (append-nil bs);
       some = λ some. some;
       apart = joins-nothing bs [] refl;
-    }
-
--- the rest of a block stands near
-pub rest_near : (bs rest : List ℕ) → IsRest bs rest → IsNear bs rest false
-rest_near bs rest h =
-    record {
-      utf8 = h.utf8;
-      more = h.more;
-      begins = h.begins;
-      plain = λ e. absurd (false≢true e);
     }
 
 -- ---- in the part that is found

@@ -213,7 +213,7 @@ ends_behind a c j apart =
 -- ---- what follows near by
 
 -- bytes that others follow begin with as much of the near text as they have
-pub near_front : (x c near : List ℕ) (plain : Bool) (m : ℕ) → IsUtf8 x → length x ≡ m
+near_front : (x c near : List ℕ) (plain : Bool) (m : ℕ) → IsUtf8 x → length x ≡ m
     → IsNear (x ++ c) near plain → IsNear x (take m near) plain
 near_front x c near plain m ux size h =
     ⊎_elim
@@ -250,7 +250,7 @@ near_front x c near plain m ux size h =
     (cases_lt m (length near))
 
 -- where it is cut, a character begins
-pub boundary_near : (x c near : List ℕ) (plain : Bool) (m : ℕ) → IsUtf8 x → length x ≡ m
+boundary_near : (x c near : List ℕ) (plain : Bool) (m : ℕ) → IsUtf8 x → length x ≡ m
     → IsNear (x ++ c) near plain → m < length near → IsCharBoundary near m
 boundary_near x c near plain m ux size h lt =
     let same : take m near ≡ x =

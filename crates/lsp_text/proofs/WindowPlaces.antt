@@ -4,16 +4,14 @@ use Rattle.std.proofs.Common.{take, drop, Option, Some, None, MatchOption, refl,
 use Rattle.std.proofs.Common.{inl, inr, ◌∙◌, arith, length-append, length-drop, append_assoc, take-add}
 use Rattle.std.proofs.lemmas.Bool.{and_right}
 use Rattle.std.proofs.lemmas.List.{append-nil, take_all, drop_all}
-use Rattle.std.proofs.lemmas.List.{drop-drop, drop-append-le}
-use Rattle.std.proofs.Math.Seq.{drop-append-add}
 use Rattle.std.specs.Str.{chars, IsUtf8, IsCharBoundary}
-use Rattle.std.proofs.lemmas.Str.{chars-append, chars-nil, IsUtf8-drop}
+use Rattle.std.proofs.lemmas.Str.{chars-append, chars-nil}
 use Rattle.std.proofs.lemmas.Str.{IsCharBoundary-start, IsCharBoundary-end}
 use Rattle.std.proofs.lemmas.Str.{IsCharBoundary-from_rest}
 use Rattle.lsp_types.specs.declared.position.Encoding.{Encoding}
 use Rattle.lsp_text.specs.Places.{units, place_in_line}
 use Rattle.lsp_text.specs.Offsets.{IsOffset}
-use Rattle.lsp_text.specs.Ends.{ends_with_return, joins, IsNear, IsRest}
+use Rattle.lsp_text.specs.Ends.{ends_with_return, joins}
 use Rattle.lsp_text.specs.Sums.{sums_of, amount_in}
 use Rattle.lsp_text.specs.Parts.{bytes_between, IsSeam, IsSpan}
 use Rattle.lsp_text.specs.Windows.{text_with, pieces_of, IsWindowed}
@@ -24,13 +22,11 @@ use Rattle.lsp_text.proofs.Counting.{units-append, units-utf8_text}
 use Rattle.lsp_text.proofs.LentPlaces.{far_offset, far_none}
 use Rattle.lsp_text.proofs.PartEdits.{units_fit}
 use Rattle.lsp_text.proofs.Parts.{IsUtf8-joined}
-use Rattle.lsp_text.proofs.PartPlaces.{amount-units, near-append, place-front, offset-inside}
-use Rattle.lsp_text.proofs.PartPlaces.{no_offset-inside, units-inside, drop-inside}
+use Rattle.lsp_text.proofs.PartPlaces.{amount-units, place-front, offset-inside}
+use Rattle.lsp_text.proofs.PartPlaces.{no_offset-inside, units-inside}
 use Rattle.lsp_text.proofs.PartPlaces.{FallsIn}
 use Rattle.lsp_text.proofs.PlainTexts.{units_le_bytes}
-use Rattle.lsp_text.proofs.Rests.{rest_near}
-use Rattle.lsp_text.proofs.WindowEnds.{front_of, back_of, shown, boundary_front, boundary_behind}
-use Rattle.lsp_text.proofs.WindowEnds.{near_front, boundary_near}
+use Rattle.lsp_text.proofs.WindowEnds.{front_of, back_of, shown, boundary_behind}
 
 -- ---- units
 
@@ -320,8 +316,6 @@ units_in_window w enc place h le within =
 -- after it: the place in the chunks
 pub record IsPlaceAfter (w : Windowed) (s : Sums) (place at : ℕ) : Type 0 where
   pub boundary : IsCharBoundary w.tree at
-  pub near : (rest : List ℕ) → IsRest (drop at w.tree) rest
-      → IsNear (drop place (text_with w)) rest false
   pub counted : (enc : Encoding) → units enc (chars (take place (text_with w)))
       + amount_in (Units enc) w.skipped
       ≡ amount_in (Units enc) w.before + amount_in (Units enc) s
@@ -354,10 +348,6 @@ place_after w s place at h is first second at_is =
     (subst (λ (x : List ℕ). IsCharBoundary x place) v.behind h.boundary) in
     let here : IsCharBoundary c j =
     subst (λ (x : List ℕ). IsCharBoundary x j) nil (boundary_behind whole (c ++ []) j there) in
-    let behind : drop place (text_with w) ≡ drop at t =
-    ap (drop place) v.behind ∙ ap (λ (i : ℕ). drop i (whole ++ (c ++ []))) sum
-    ∙ drop-append-add whole (c ++ []) j ∙ ap (drop j) nil ∙ drop-drop j w.skipped.bytes t
-    ∙ ap (λ (i : ℕ). drop i t) back in
     let taken : take at t ≡ b ++ take j c =
     ap (λ (i : ℕ). take i t) (sym back) ∙ take-add w.skipped.bytes j t in
     let units_there : (enc : Encoding) → units enc (chars (take at t))
@@ -376,84 +366,11 @@ place_after w s place at h is first second at_is =
       boundary =
           subst (λ (i : ℕ). IsCharBoundary t i) back
           (IsCharBoundary-from_rest t w.skipped.bytes j h.held.second.boundary.0 here);
-      near = λ rest r.
-          subst (λ (x : List ℕ). IsNear x rest false) (sym behind) (rest_near (drop at t) rest r);
       counted = λ enc.
           let k = measured w enc s h.held is in
           omega (arith, units_here enc, units_there enc, k.front, k.before, k.window);
       skipped = λ enc. omega (arith, units_there enc);
     }
-
--- ---- what comes near after a place
-
--- what follows a place before the window, up to there and on in the chunks
-record IsBefore (w : Windowed) (place : ℕ) (rest : List ℕ) : Type 0 where
-  utf8 : IsUtf8 (drop place (front_of w))
-  len : length (drop place (front_of w)) ≡ w.before.bytes - place
-  text : drop place (text_with w) ≡ drop place (front_of w) ++ (w.window ++ back_of w)
-  near : IsNear (drop place (front_of w) ++ drop w.before.bytes w.tree) rest false
-
-before_window : (w : Windowed) (place : ℕ) (rest : List ℕ) → IsPlaced w place
-    → place < w.before.bytes → IsRest (drop place w.tree) rest → IsBefore w place rest
-before_window w place rest h lt r =
-    let v = shown w h.held in
-    let a = front_of w in
-    let d = drop w.before.bytes w.tree in
-    let c = w.window ++ back_of w in
-    let le : place ≤ length a = omega (arith, v.first.len) in
-    let there : drop place w.tree ≡ drop place a ++ d =
-    ap (drop place) (sym v.first.text) ∙ drop-append-le place a d le in
-    let boundary : IsCharBoundary a place =
-    boundary_front a c place le
-    (subst (λ (y : List ℕ). IsCharBoundary y place) v.text h.boundary) in
-    record {
-      utf8 = IsUtf8-drop a place v.front.utf8 boundary;
-      len = omega (arith, length-drop place a, v.first.len);
-      text = ap (drop place) v.text ∙ drop-append-le place a c le;
-      near =
-          subst (λ (y : List ℕ). IsNear y rest false) there
-          (rest_near (drop place w.tree) rest r);
-    }
-
--- a character begins where the window does
-pub boundary_before : (w : Windowed) (place : ℕ) (rest : List ℕ) → IsPlaced w place
-    → place < w.before.bytes → IsRest (drop place w.tree) rest
-    → w.before.bytes - place < length rest → IsCharBoundary rest (w.before.bytes - place)
-boundary_before w place rest h lt r within =
-    let b = before_window w place rest h lt r in
-    boundary_near (drop place (front_of w)) (drop w.before.bytes w.tree) rest false
-    (w.before.bytes - place) b.utf8 b.len b.near within
-
-pub near_before : (w : Windowed) (place : ℕ) (rest near : List ℕ) → IsPlaced w place
-    → place < w.before.bytes → IsRest (drop place w.tree) rest
-    → near ≡ take (w.before.bytes - place) rest → IsNear (drop place (text_with w)) near false
-near_before w place rest near h lt r is =
-    let b = before_window w place rest h lt r in
-    let c = w.window ++ back_of w in
-    let m = w.before.bytes - place in
-    let x = drop place (front_of w) in
-    let front : IsNear x (take m rest) false =
-    near_front x (drop w.before.bytes w.tree) rest false m b.utf8 b.len b.near in
-    subst (λ (y : List ℕ). IsNear y near false) (sym b.text)
-    (near-append x c near false
-    (subst (λ (y : List ℕ). IsNear x y false) (sym is) front))
-
-pub near_in_window : (w : Windowed) (place : ℕ) (rest : List ℕ) → IsPlaced w place
-    → w.before.bytes ≤ place → place - w.before.bytes ≤ length w.window
-    → IsRest (drop (place - w.before.bytes) w.window) rest
-    → IsNear (drop place (text_with w)) rest false
-near_in_window w place rest h le within r =
-    let v = shown w h.held in
-    let a = front_of w in
-    let p = w.window in
-    let c = back_of w in
-    let i = place - w.before.bytes in
-    let sum : place ≡ length a + i = omega (arith, v.first.len) in
-    let here : drop place (text_with w) ≡ drop i p ++ c =
-    ap (drop place) v.text ∙ ap (λ (n : ℕ). drop n (a ++ (p ++ c))) sum
-    ∙ drop-inside a p c i within in
-    subst (λ (x : List ℕ). IsNear x rest false) (sym here)
-    (near-append (drop i p) c rest false (rest_near (drop i p) rest r))
 
 -- ---- the text as it is read on
 

@@ -49,5 +49,5 @@ pub use laws::{
 pub use lined::Lined;
 pub use plain::Plain;
 pub use reading::{char_inside, line_at, size_with, width_of};
-pub use same::{LinesLeft, compared_lines, is_taken, same_lines, take_lines, without_last_end};
+pub use same::{compared_lines, same_lines};
 pub use store::{Place, TextStore};

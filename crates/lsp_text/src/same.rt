@@ -15,7 +15,7 @@ use std::alloc::Global;
 
 /// What is left of a text while lines are taken off its front, whatever ends they have there.
 #[derive(Clone, Copy)]
-pub enum LinesLeft<'a> {
+pub(crate) enum LinesLeft<'a> {
     /// This text, and the end of its last line.
     Rest(&'a str),
     /// Nothing: the end of the last line was taken too.
@@ -58,7 +58,7 @@ fn with_feeds(alloc: Global, text: &str) -> Result<String, Memory>
 }
 
 /// A text without the line end at its end, if it has one there.
-pub fn without_last_end(text: &str) -> &str
+pub(crate) fn without_last_end(text: &str) -> &str
     ensures { compared Ignored text.now ≡ with_feeds result.now }
 {
     before_last_end(text).unwrap_or(text)
@@ -66,7 +66,7 @@ pub fn without_last_end(text: &str) -> &str
 
 /// What is left after these lines, or `None` where something else comes first. They do not end
 /// inside a CR LF.
-pub fn take_lines<'a>(left: LinesLeft<'a>, lines: &str) -> Option<LinesLeft<'a>>
+pub(crate) fn take_lines<'a>(left: LinesLeft<'a>, lines: &str) -> Option<LinesLeft<'a>>
     ensures { MatchOption result (BeginsOtherwise (with_feeds lines.now) (due left.entry))
         (λ next. due left.entry ≡ with_feeds lines.now ++ due next) }
 {
@@ -81,7 +81,7 @@ pub fn take_lines<'a>(left: LinesLeft<'a>, lines: &str) -> Option<LinesLeft<'a>>
 
 /// Whether all of a text was taken, where this is left of it. Its last line end was cut off
 /// ([`without_last_end`]), and what was taken may have that end or not.
-pub fn is_taken(left: Option<LinesLeft<'_>>, whole: &str) -> bool
+pub(crate) fn is_taken(left: Option<LinesLeft<'_>>, whole: &str) -> bool
     ensures { (taken : List ℕ) → IsTaken taken whole.now left.entry
         → (IsTrue result ↔ (compared Ignored taken ≡ with_feeds whole.now)) }
 {

@@ -1,13 +1,15 @@
 //! Documents that are opened or changed under a URI that they lost when their file was renamed.
-ghost use Rattle.std.specs.Prelude.{◌≡◌, [], ◌∷◌, IfOk, OnOk, option_map, string_bytes};
+ghost use Rattle.std.specs.Prelude.{◌≡◌, [], ◌∷◌, None, IfOk, OnOk, option_map, string_bytes};
 ghost use Rattle.std.specs.Option.{option_or};
 ghost use Rattle.std.specs.Str.{bytes_eq};
 ghost use Rattle.serde_json.specs.Find.{as_str};
 ghost use Rattle.serde_json.specs.View.{items_view, view};
+ghost use Rattle.lsp_docs.specs.Taken.{call_view};
+ghost use Rattle.lsp_replay.specs.declared.heard.EventPlace.{EventPlace as Place};
 ghost use Rattle.lsp_rpc.specs.Message.{Message as AMessage};
 ghost use Rattle.lsp_rpc.specs.Params.{all_of, required};
 ghost use Rattle.lsp_rpc.specs.Reading.{Reads};
-ghost use Rattle.lsp_rpc.specs.View.{act_view, message_view};
+ghost use Rattle.lsp_rpc.specs.View.{message_view};
 ghost use Rattle.lsp_explain.specs.Renames as spec;
 ghost use Rattle.lsp_explain.specs.Renames.{AreRenames, Moves, RenamesIn, creations_in, each_move};
 ghost use Rattle.lsp_explain.specs.Renames.{moves_in, moves_of, moves_view, or_none};
@@ -17,8 +19,9 @@ ghost use Rattle.lsp_explain.specs.Openings.{names_view, on_view};
 
 use crate::notes::last_ones::push_within;
 use crate::notes::openings::DocumentEvent;
+use lsp_docs::Call;
 use lsp_replay::EventPlace;
-use lsp_rpc::{Act, Memory, Message, Result, RpcFault, Side, Spoken, read};
+use lsp_rpc::{Memory, Message, Result, RpcFault, Side, read};
 use serde_json::Value;
 use std::alloc::Global;
 use std::collections::VecDeque;
@@ -61,69 +64,63 @@ impl Renames {
         self.renamed.as_ref()
     }
 
-    /// Takes over a message that is kept, the event of this place, read from this content.
+    /// Takes over a message that is kept and says nothing of a document, read from this content.
     ///
     /// # Errors
     /// `Memory` where memory was refused.
-    pub(crate) fn keep(
-        &mut self,
-        place: EventPlace,
-        side: Side,
-        content: &[u8],
-        spoken: &Spoken,
-    ) -> Result<()>
-        ensures { OnOk result (RenamesIn place side content.now
-            (message_view spoken.now.message) (act_view spoken.now.act) self.old self.new) }
+    pub(crate) fn keep(&mut self, side: Side, message: &Message, content: &[u8]) -> Result<()>
+        ensures { OnOk result ((p : Place) → RenamesIn p side content.now
+            (message_view message.now) None self.old self.new) }
     {
-        self.keep_act(place, &spoken.act)?;
-        if tells_files(side, &spoken.message) {
+        if tells_files(side, message) {
             return add_content(&mut self.moves, content);
         }
         Ok(())
     }
 
-    /// Notes an act, of the event of this place, if it is the first under a URI that is gone.
+    /// Notes a call, of the event of this place, if it is the first under a URI that is gone.
     /// Usually nothing is held about files.
+    ///
+    /// # Errors
+    /// `Memory` where memory was refused.
     #[inline(always)]
-    pub(crate) fn keep_act(&mut self, place: EventPlace, act: &Act) -> Result<()>
+    pub(crate) fn keep_call(&mut self, place: EventPlace, call: Call<'_>) -> Result<()>
         ensures moves { self.new.moves ≡ self.old.moves }
         ensures renamed { OnOk result (renamed_held self.new ≡ option_or (renamed_held self.old)
-            (spec.renamed_by place (moves_view self.old.moves.items) (act_view act.now))) }
+            (spec.renamed_by place (moves_view self.old.moves.items) (call_view call.entry))) }
     {
         if self.moves.is_empty() || self.renamed.is_some() {
             return Ok(());
         }
-        self.renamed = renamed_by(&self.moves, place, act)?;
+        self.renamed = renamed_by(&self.moves, place, call)?;
         Ok(())
     }
 }
 
-/// The act, of the event of this place, if it opens or changes a document under a URI that is gone
+/// The call, of the event of this place, if it opens or changes a document under a URI that is gone
 /// after these moves.
 #[inline(never)]
-fn renamed_by(moves: &VecDeque<Move>, place: EventPlace, act: &Act) -> Result<Option<DocumentEvent>>
+fn renamed_by(
+    moves: &VecDeque<Move>,
+    place: EventPlace,
+    call: Call<'_>,
+) -> Result<Option<DocumentEvent>>
     ensures { IfOk result (λ found. option_map on_view found
-        ≡ spec.renamed_by place (moves_view moves.now.items) (act_view act.now)) }
+        ≡ spec.renamed_by place (moves_view moves.now.items) (call_view call.entry)) }
 {
-    let Some(uri) = edited_by(act) else {
-        return Ok(None);
-    };
-    if !is_gone(moves, uri) {
+    let uri = call.uri();
+    if !is_edit(call) || !is_gone(moves, uri) {
         return Ok(None);
     }
     let uri = String::from_str(*moves.allocator(), uri)?;
     Ok(Some(DocumentEvent { uri, place }))
 }
 
-/// The URI of the document that an act opens or changes.
-fn edited_by(act: &Act) -> Option<&str>
-    ensures { option_map (λ uri. uri.now) result ≡ spec.edited_by (act_view act.now) }
+/// Whether a call opens or changes its document.
+fn is_edit(call: Call<'_>) -> bool
+    ensures { result ≡ spec.is_edit (call_view call.entry) }
 {
-    match act {
-        Act::DidOpen { uri, .. } => Some(uri.as_str()),
-        Act::DidChange { uri, .. } => Some(uri.as_str()),
-        _ => None,
-    }
+    matches!(call, Call::Opens { .. } | Call::Changes { .. })
 }
 
 /// Whether the file of this URI was renamed, and none has the URI since.

@@ -1,8 +1,8 @@
 //! Which events sent and answered requests, and which event led to the phase.
-ghost use Rattle.std.specs.Prelude.{◌≡◌, [], List, OnOk, unwrap_or};
+ghost use Rattle.std.specs.Prelude.{◌≡◌, [], List, None, OnOk, unwrap_or};
 ghost use Rattle.lsp_docs.specs.Documents.{Terms};
 ghost use Rattle.lsp_rpc.specs.Ident.{id_view};
-ghost use Rattle.lsp_rpc.specs.View.{act_view, message_view};
+ghost use Rattle.lsp_rpc.specs.View.{message_view};
 ghost use Rattle.lsp_verdict.specs.Event.{Event};
 ghost use Rattle.lsp_explain.specs.Asking.{answered, asked, leads, numbered, same_phase, since};
 ghost use Rattle.lsp_explain.specs.Renames.{RenamesIn};
@@ -12,7 +12,7 @@ use crate::notes::exchange::Exchange;
 use crate::notes::remarks::Remarks;
 use crate::notes::renames::Renames;
 use lsp_replay::EventPlace;
-use lsp_rpc::{Id, Message, Result, Side, Spoken};
+use lsp_rpc::{Id, Message, Result, Side};
 use lsp_session::Phase;
 use std::alloc::Global;
 
@@ -79,8 +79,9 @@ impl SessionNotes {
         self.since
     }
 
-    /// Notes a message that is kept, the event of this place, which was read from this content, and
-    /// after which the session is in this phase, and the handshake is settled or is not.
+    /// Notes a message that is kept and says nothing of a document, the event of this place, which
+    /// was read from this content, and after which the session is in this phase, and the handshake
+    /// is settled or is not.
     ///
     /// # Errors
     /// `Memory` where memory was refused; nothing is then known of the requests, but the phase and
@@ -90,20 +91,18 @@ impl SessionNotes {
         place: EventPlace,
         side: Side,
         content: &[u8],
-        spoken: &Spoken,
+        message: &Message,
         phase: Phase,
         done: bool,
     ) -> Result<()>
         ensures phase { self.new.phase ≡ phase }
         ensures since { self.new.since
             ≡ unwrap_or (leads place self.old.phase phase) self.old.since }
-        ensures said { OnOk result (Says place side (message_view spoken.now.message) phase done
+        ensures said { OnOk result (Says place side (message_view message.now) phase done
             self.old self.new) }
         ensures renames { OnOk result (RenamesIn place side content.now
-            (message_view spoken.now.message) (act_view spoken.now.act) self.old.renames
-            self.new.renames) }
+            (message_view message.now) None self.old.renames self.new.renames) }
     {
-        let message = &spoken.message;
         let before = self.phase;
         if !is_same(before, phase) {
             self.since = Some(place);
@@ -112,7 +111,7 @@ impl SessionNotes {
         self.remarks
             .keep(place, side, message, before, phase, done)?;
         exchange(&mut self.editor, &mut self.server, place, side, message)?;
-        self.renames.keep(place, side, content, spoken)?;
+        self.renames.keep(side, message, content)?;
         Ok(())
     }
 }

@@ -1,16 +1,9 @@
 //! What a kept event does to a document.
-ghost use Rattle.std.specs.Prelude.{◌≡◌, List, option_and_then, option_map};
-ghost use Rattle.lsp_docs.specs.Calls.{Call};
-ghost use Rattle.lsp_docs.specs.Documents.{Terms};
-ghost use Rattle.lsp_replay.specs.declared.heard.EventPlace.{EventPlace as Place};
-ghost use Rattle.lsp_rpc.specs.View.{act_view};
-ghost use Rattle.lsp_types.specs.declared.change.SyncKind.{SyncKind};
-ghost use Rattle.lsp_types.specs.declared.position.Encoding.{Encoding};
-ghost use Rattle.lsp_verdict.specs.Event.{call_of};
-ghost use Rattle.lsp_explain.specs.History.{call_kept, kept_call};
+ghost use Rattle.std.specs.Prelude.{◌≡◌};
+ghost use Rattle.lsp_docs.specs.Taken.{call_view};
+ghost use Rattle.lsp_explain.specs.History as spec;
 
-use lsp_docs::Match;
-use lsp_rpc::Act;
+use lsp_docs::{Call, Match, Took};
 
 /// What a kept event does to a document.
 #[derive(Clone, Copy, Debug, PartialEq, Eq)]
@@ -23,23 +16,25 @@ pub(crate) enum Step {
     Shows(i32, Match),
 }
 
-/// What an act does to the document of which URI. One that saves a document leaves it as it is.
+/// What a call does that says this. One that saves a document leaves it as it is.
 #[inline(always)]
-pub(crate) fn step_in(act: &Act) -> Option<(&str, Step)>
-    ensures { (enc : Encoding) (kind : SyncKind) (terms : Terms) (p : Place) (before : List Call)
-        → option_map (λ s. kept_call s.0.now p s.1) result
-        ≡ option_and_then (call_kept terms p before) (call_of enc kind (act_view act.now)) }
+pub(crate) fn step_of(call: Call<'_>, said: Took) -> Option<Step>
+    ensures { result ≡ spec.step_of (call_view call.entry) said }
 {
-    match act {
-        Act::DidOpen { uri, version, .. } => {
-            let (version, opens) = (*version, true);
-            Some((uri.as_str(), Step::Reaches { version, opens }))
+    match call {
+        Call::Opens { version, .. } => {
+            let opens = true;
+            Some(Step::Reaches { version, opens })
         }
-        Act::DidChange { uri, version, .. } => {
-            let (version, opens) = (*version, false);
-            Some((uri.as_str(), Step::Reaches { version, opens }))
+        Call::Changes { version, .. } => {
+            let opens = false;
+            Some(Step::Reaches { version, opens })
         }
-        Act::DidClose { uri } => Some((uri.as_str(), Step::Closes)),
-        _ => None,
+        Call::Closes { .. } => Some(Step::Closes),
+        Call::Saves { .. } => None,
+        Call::Shows { version, .. } => match said {
+            Took::Shown(answer) => Some(Step::Shows(version, answer)),
+            _ => None,
+        },
     }
 }

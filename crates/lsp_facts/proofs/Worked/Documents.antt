@@ -60,18 +60,18 @@ said (b ∷ bs) = if b == 10 then (10 ∷ []) ∷ said bs else put b (said bs)
 opened_again : AreDocumentFacts terms Utf16 opened (opens A (pos 4) []) 601 None
     (said (codes "uri \"a\"\nheld 1\nsent 4\n"))
 unfolding digits escape_byte encode
-opened_again = record { details = []; says = inl (refl, refl); are = refl }
+opened_again = record { details = []; says = refl; are = refl }
 
 -- 602: it is not
 not_open : AreDocumentFacts terms Utf16 [] (changes Utf16 Full A (pos 2) (edit None [] ∷ [])) 602 None
     (said (codes "uri \"a\"\nsent 2\nchanges 1\n"))
 unfolding digits escape_byte encode
-not_open = record { details = []; says = (refl, refl); are = refl }
+not_open = record { details = []; says = refl; are = refl }
 
 closed_twice : AreDocumentFacts terms Utf16 [] (closes A) 602 None
     (said (codes "uri \"a\"\n"))
 unfolding digits escape_byte encode
-closed_twice = record { details = []; says = (refl, refl); are = refl }
+closed_twice = record { details = []; says = refl; are = refl }
 
 -- 603: the version stays
 same_version : AreDocumentFacts terms Utf16 opened (changes Utf16 Full A (pos 1) (edit None [] ∷ [])) 603 None
@@ -104,7 +104,7 @@ unfolding digits escape_byte encode
 inside_a_smile =
     record {
       details = _;
-      says = inr (inr (inl (record {
+      says = inr (inr (record {
         n = 1;
         text = _;
         made = refl;
@@ -125,7 +125,7 @@ inside_a_smile =
           );
           are = refl;
         };
-      })));
+      }));
       are = refl;
     }
 
@@ -138,7 +138,7 @@ unfolding digits escape_byte encode
 reversed =
     record {
       details = _;
-      says = inr (inr (inl (record {
+      says = inr (inr (record {
         n = 0;
         text = _;
         made = refl;
@@ -146,7 +146,7 @@ reversed =
         here = refl;
         failed = refl;
         refused = record { reason = _; says = inr (inl (refl, refl)); are = refl };
-      })));
+      }));
       are = refl;
     }
 
@@ -155,7 +155,7 @@ reversed =
 too_long_to_open : AreDocumentFacts terms Utf16 [] (opens A (pos 1) (codes "0123456789abcdefghijk")) 607 None
     (said (codes "uri \"a\"\nsent 1\nbytes 21\nlimit 20\n"))
 unfolding digits escape_byte encode
-too_long_to_open = record { details = _; says = inr (inl (refl, refl)); are = refl }
+too_long_to_open = record { details = _; says = refl; are = refl }
 
 too_long_to_change :
     AreDocumentFacts terms Utf16 opened (changes Utf16 Incremental A (pos 2) (edit (between (at 1 0) (at 9 0)) (codes "0123456789abcdefgh") ∷ [])) 607 None
@@ -165,7 +165,7 @@ unfolding digits escape_byte encode
 too_long_to_change =
     record {
       details = _;
-      says = inr (inr (inl (record {
+      says = inr (inr (record {
         n = 0;
         text = _;
         made = refl;
@@ -184,7 +184,7 @@ too_long_to_change =
           ));
           are = refl;
         };
-      })));
+      }));
       are = refl;
     }
 
@@ -197,14 +197,11 @@ unfolding digits escape_byte encode
 saved_other =
     record {
       details = _;
-      says = (
-        refl,
-        record {
-          place = _;
-          at = (4, record { before = refl; here = λ e. true≢false (ap (is_char 128512) e) }, refl);
-          are = refl;
-        },
-      );
+      says = record {
+        place = _;
+        at = (4, record { before = refl; here = λ e. true≢false (ap (is_char 128512) e) }, refl);
+        are = refl;
+      };
       are = refl;
     }
 
@@ -217,14 +214,11 @@ unfolding digits escape_byte encode
 saved_ends =
     record {
       details = _;
-      says = (
-        refl,
-        record {
-          place = _;
-          at = (2, record { before = refl; here = λ e. true≢false (ap (is_char 10) e) }, refl);
-          are = refl;
-        },
-      );
+      says = record {
+        place = _;
+        at = (2, record { before = refl; here = λ e. true≢false (ap (is_char 10) e) }, refl);
+        are = refl;
+      };
       are = refl;
     }
 
@@ -237,14 +231,11 @@ unfolding digits escape_byte encode
 saved_line_differs =
     record {
       details = _;
-      says = (
-        refl,
-        record {
-          place = _;
-          at = (4, record { before = refl; here = λ e. true≢false (ap (is_char 128512) e) }, refl);
-          are = refl;
-        },
-      );
+      says = record {
+        place = _;
+        at = (4, record { before = refl; here = λ e. true≢false (ap (is_char 128512) e) }, refl);
+        are = refl;
+      };
       are = refl;
     }
 
@@ -257,7 +248,7 @@ edited =
 late : AreDocumentFacts terms Utf16 edited (shows A (pos 2) []) 701 None
     (said (codes "uri \"a\"\nheld 6\nversion 2\nkept 3 5\n"))
 unfolding digits escape_byte encode
-late = record { details = _; says = inl (refl, refl); are = refl }
+late = record { details = _; says = refl; are = refl }
 
 -- 702: the text of a kept version is another
 kept_differs :
@@ -268,18 +259,11 @@ unfolding digits escape_byte encode
 kept_differs =
     record {
       details = _;
-      says = inr (
-        refl,
-        record {
-          text = codes "q";
-          other = refl;
-          apart = record {
-            place = _;
-            at = (0, record { before = refl; here = λ e. true≢false (ap (is_char 113) e) }, refl);
-            are = refl;
-          };
-        },
-      );
+      says = record {
+        place = _;
+        at = (0, record { before = refl; here = λ e. true≢false (ap (is_char 113) e) }, refl);
+        are = refl;
+      };
       are = refl;
     }
 
@@ -292,17 +276,27 @@ unfolding digits escape_byte encode
 refuted =
     record {
       details = _;
-      says = inr (inr (
-        refl,
-        record {
-          other = codes "new";
-          waiting = refl;
-          apart = record {
-            place = _;
-            at = (1, record { before = refl; here = λ e. true≢false (ap (is_char 111) e) }, refl);
-            are = refl;
-          };
-        },
-      ));
+      says = record {
+        place = _;
+        at = (1, record { before = refl; here = λ e. true≢false (ap (is_char 111) e) }, refl);
+        are = refl;
+      };
+      are = refl;
+    }
+
+-- or the text that changes make
+refuted_change :
+    AreDocumentFacts terms Utf16 (opened ++ shows A (pos 2) (codes "p") ∷ []) (changes Utf16 Full A (pos 2) (edit None (codes "pq") ∷ [])) 702 None
+    (said (codes "uri \"a\"\nheld 1\nsent 2\nchanges 1\nencoding utf-16\nat 0 1\nby-messages \"pq\"\n"
+    ++ codes "in-editor \"p\"\n"))
+unfolding digits escape_byte encode
+refuted_change =
+    record {
+      details = _;
+      says = record {
+        place = _;
+        at = (1, record { before = refl; here = λ e. true≢false (ap (is_char 113) e) }, refl);
+        are = refl;
+      };
       are = refl;
     }

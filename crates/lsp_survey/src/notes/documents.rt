@@ -24,6 +24,7 @@ fn any_whole(changes: &[Change]) -> bool
 }
 
 /// Whether a call gives the whole text of its document again.
+#[inline(always)]
 fn renews(call: Call<'_>) -> bool
     ensures { result ≡ renews (call_view call.entry) }
 {
@@ -116,6 +117,7 @@ pub(crate) fn note_malformed(notes: &mut Notes, rule: u16, brings: Option<String
 ///
 /// # Errors
 /// `Memory` where memory was refused; nothing is then known of the notes.
+#[inline(always)]
 pub(crate) fn note_kept(notes: &mut Notes, said: Option<Call<'_>>) -> Result<()>
     ensures { OnOk result (AreAfter (option_map call_view said.entry) notes.old.map.entries
         notes.new.map.entries) }

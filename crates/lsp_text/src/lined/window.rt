@@ -9,13 +9,13 @@
 //! no byte for it that its steps do not count.
 
 ghost use Rattle.std.specs.Prelude.{◌≡◌, ◌+◌, ◌-◌, ◌<◌, ◌≤◌, ◌^◌, ◌++◌, None, length, take};
-ghost use Rattle.std.specs.Prelude.{drop, false, IfOk, IfSome, OnOk, OnErr, IsTrue, MatchOption};
+ghost use Rattle.std.specs.Prelude.{false, IfOk, IfSome, OnOk, OnErr, IsTrue, MatchOption};
 ghost use Rattle.std.specs.List.{replace_range};
 ghost use Rattle.std.specs.Str.{chars, IsCharBoundary};
 ghost use Rattle.std.specs.String.{string_bytes};
 ghost use Rattle.lsp_text.specs.Places.{units, place_in_line};
 ghost use Rattle.lsp_text.specs.Offsets.{IsOffset};
-ghost use Rattle.lsp_text.specs.Ends.{ends_in, IsLineEnd, IsNear};
+ghost use Rattle.lsp_text.specs.Ends.{ends_in, IsLineEnd};
 ghost use Rattle.lsp_text.specs.Sums.{sums_of};
 ghost use Rattle.lsp_text.specs.Walks.{IsInOrder};
 ghost use Rattle.lsp_text.specs.Parts.{IsSeam, IsSpan, CanReplace, bytes_between};
@@ -333,25 +333,6 @@ impl Windowed {
             .tree
             .units_before(encoding, place - len + self.skipped.bytes as usize);
         whole - self.skipped.by(by) + (self.before.by(by) + sums.by(by))
-    }
-
-    /// What comes after a place near by.
-    pub(super) fn rest_at(&self, place: usize) -> &str
-        requires held { IsWindowed self.now }
-        requires boundary { IsCharBoundary (text_with self.now) place }
-        ensures { IsNear (drop place (text_with self.now)) result.now false }
-    {
-        let start = self.before.bytes as usize;
-        if place < start {
-            return first_bytes(self.tree.rest_of_block(place), start - place);
-        }
-        let place = place - start;
-        let len = self.window.sums().bytes as usize;
-        if place < len {
-            return self.window.rest_of_block(place);
-        }
-        self.tree
-            .rest_of_block(place - len + self.skipped.bytes as usize)
     }
 
     /// Has a visitor see the text.

@@ -1,8 +1,8 @@
 use Rattle.std.proofs.Common.{◌≡◌, ap, ◌∙◌}
 use Rattle.serde_json.specs.Data.{object}
 use Rattle.lsp_rpc.specs.View.{act_view}
-use Rattle.lsp_outline.specs.Told.{notice_of, notice_view, act_in}
-use Rattle.lsp_outline.proofs.Meaning.{notice_meant}
+use Rattle.lsp_outline.specs.Told.{notice_view, act_in}
+use Rattle.lsp_outline.proofs.Meaning.{notice_of, notice_meant}
 use Rattle.lsp_outline.proofs.params.document_act_at.Goals as goal
 
 pub returns : goal.returns

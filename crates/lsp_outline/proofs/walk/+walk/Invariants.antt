@@ -1,6 +1,7 @@
 use Rattle.std.proofs.Common.{◌+◌, ◌-◌, ◌*◌, length}
 use Rattle.serde_json.specs.Data.{Members}
-use Rattle.lsp_outline.specs.Walk.{SomeItems, SomeMembers}
+use Rattle.lsp_outline.specs.Walk.{SomeItems}
+use Rattle.lsp_outline.proofs.Walking.{SomeMembers}
 use Rattle.lsp_outline.proofs.walk.+walk.Given as goal
 
 abbrev pub decreases-value_end : goal.decreases-value_end

@@ -1,9 +1,12 @@
-use Rattle.std.proofs.Common.{inl, inr, rules, w32}
-use Rattle.std.proofs.lemmas.Int.{to_z-of_z}
+use Rattle.std.proofs.Common.{None, chars, inl, inr, refl, sym}
 use Rattle.std.proofs.lemmas.Result.{IfOk-weaker, on_err_weaker}
-use mir.Val.{SFits}
-use Rattle.lsp_replay.proofs.Seeing.{broken_here, broken_silent}
+use Rattle.lsp_replay.proofs.Reading.{shown_silent}
+use Rattle.lsp_replay.proofs.Seeing.{comes_of, fault_rule, fault_silent, fault_tries, saw_of}
+use Rattle.lsp_replay.proofs.Seeing.{sound_here, speaks_here}
 use Rattle.lsp_replay.proofs.Wanting.{on_err, read_wants}
+use Rattle.lsp_verdict.specs.Event.{fault, snapshot}
+use Rattle.lsp_verdict.specs.Given.{raw_view}
+use Rattle.lsp_verdict.specs.Placed.{Reads}
 use Rattle.lsp_replay.proofs.one_pass.see.Goals as goal
 
 pub returns-in-Content-clause-saw : goal.returns-in-Content-clause-saw
@@ -17,29 +20,40 @@ returns-in-Content-clause-memory g c =
 pub returns-in-Broken-clause-memory : goal.returns-in-Broken-clause-memory
 returns-in-Broken-clause-memory g c =
     let at = c.in-Broken in
-    let wants = rw at.is at c.skip.ensures.memory in
-    rw at.is (on_err_weaker c.skip.result (λ said terms before h comes.
-    inr (said terms before h comes (broken_here at.side at.rule terms before h comes.noted)
-    (broken_silent at.side at.rule h comes.noted) tt)) wants)
-
-pub returns-in-Snapshot-clause-memory : goal.returns-in-Snapshot-clause-memory
-returns-in-Snapshot-clause-memory g c =
-    let at = c.in-Snapshot in
-    let fits : SFits w32 at.version = search rules in
-    let wants = rw (to_z-of_z w32 at.version fits) at c.see_shown.ensures.memory in
-    rw at.is wants
+    on_err_weaker c.skip.result (λ wants terms before h comes.
+    let reads : Reads (raw_view c.args.raw) (fault at.side at.rule) = rw at.is refl in
+    inr (wants terms before h comes (fault_rule at.side at.rule comes reads)
+    (fault_silent at.side at.rule comes reads) (fault_tries at.side at.rule comes reads _)))
+    c.skip.ensures.memory
 
 pub returns-in-Broken-clause-saw : goal.returns-in-Broken-clause-saw
 returns-in-Broken-clause-saw g c =
     let at = c.in-Broken in
-    let saw = rw at.is at c.skip.ensures.saw in
-    rw at.is (IfOk-weaker c.skip.result _ _ (λ flow said terms before h comes.
-    said terms before h comes (broken_here at.side at.rule terms before h comes.noted)
-    (broken_silent at.side at.rule h comes.noted) tt) saw)
+    IfOk-weaker c.skip.result _ _ (λ flow saw terms before h comes.
+    let reads : Reads (raw_view c.args.raw) (fault at.side at.rule) = rw at.is refl in
+    saw terms before h comes (fault_rule at.side at.rule comes reads)
+    (fault_silent at.side at.rule comes reads) (fault_tries at.side at.rule comes reads _))
+    c.skip.ensures.saw
+
+pub returns-in-Snapshot-clause-memory : goal.returns-in-Snapshot-clause-memory
+returns-in-Snapshot-clause-memory g c =
+    let at = c.in-Snapshot in
+    let event = snapshot at.uri.now at.version (chars at.text.now) in
+    let read = c.as_read-read.ensures in
+    on_err_weaker c.see_read.result (λ wants terms before h comes.
+    let reads : Reads (raw_view c.args.raw) event = rw at.is refl in
+    wants terms before h (comes_of (sym read.raw) comes) (sound_here event reads comes tt)
+    (read.read _ h.note.event comes.stood.holds.sent comes.noted.0 (speaks_here event reads comes
+    None (shown_silent at.uri.now at.version (chars at.text.now))))) c.see_read.ensures.memory
 
 pub returns-in-Snapshot-clause-saw : goal.returns-in-Snapshot-clause-saw
 returns-in-Snapshot-clause-saw g c =
     let at = c.in-Snapshot in
-    let fits : SFits w32 at.version = search rules in
-    let saw = rw (to_z-of_z w32 at.version fits) at c.see_shown.ensures.saw in
-    rw at.is saw
+    let event = snapshot at.uri.now at.version (chars at.text.now) in
+    let read = c.as_read-read.ensures in
+    IfOk-weaker c.see_read.result _ _ (λ flow saw terms before h comes.
+    let reads : Reads (raw_view c.args.raw) event = rw at.is refl in
+    saw_of read.raw (saw terms before h (comes_of (sym read.raw) comes)
+    (sound_here event reads comes tt)
+    (read.read _ h.note.event comes.stood.holds.sent comes.noted.0 (speaks_here event reads comes
+    None (shown_silent at.uri.now at.version (chars at.text.now)))))) c.see_read.ensures.saw

@@ -1,20 +1,32 @@
-use Rattle.std.proofs.Common.{subst}
+use Rattle.std.proofs.Common.{Some, subst, sym}
 use Rattle.std.proofs.lemmas.Result.{IfOk-weaker}
 use Rattle.lsp_replay.specs.Standing.{IsUnread}
+use Rattle.lsp_replay.specs.Telling.{kept_before}
 use Rattle.lsp_replay.specs.declared.fault.Fault.{Fault}
-use Rattle.lsp_replay.proofs.Seeing.{unread_rule, unread_silent}
+use Rattle.lsp_replay.proofs.Reading.{content_sound}
+use Rattle.lsp_replay.proofs.Seeing.{comes_of, fault_rule, fault_silent, fault_tries, saw_of}
+use Rattle.lsp_replay.proofs.Seeing.{sound_here, speaks_here}
 use Rattle.lsp_replay.proofs.one_pass.see_content.Goals as goal
 
 pub returns-in-Ok-clause-saw : goal.returns-in-Ok-clause-saw
 returns-in-Ok-clause-saw g c =
-    IfOk-weaker c.see_message.result _ _ (λ flow saw terms before h comes.
-    saw terms before h comes c.in-Ok.ensures.ok) c.see_message.ensures.saw
+    let side = c.args.side in
+    let bytes = c.args.content.now in
+    let read = c.as_read-read.ensures in
+    IfOk-weaker c.see_read.result _ _ (λ flow saw terms before h comes.
+    let kept = kept_before terms before in
+    let is = c.in-Ok.ensures.ok kept comes.stood.holds.sent in
+    saw_of read.raw (saw terms before h (comes_of (sym read.raw) comes)
+    (sound_here is.0 is.1 comes (content_sound kept side bytes _ is))
+    (read.read kept h.note.event comes.stood.holds.sent comes.noted.0
+    (speaks_here is.0 is.1 comes (Some c.read_into.new.spoken) (side, is.2))))) c.see_read.ensures.saw
 
 pub returns-in_ok-rule-in-Err-clause-saw : goal.returns-in_ok-rule-in-Err-clause-saw
 returns-in_ok-rule-in-Err-clause-saw g c =
+    let side = c.args.side in
     let rule = c.in_ok-rule-in-Err.rule in
-    let reads = subst (λ (f : Fault). IsUnread c.args.side c.args.content.now f)
+    let reads = subst (λ (f : Fault). IsUnread side c.args.content.now f)
     c.in_ok-rule-in-Err.ensures.rule c.in-Err.ensures.rule in
     IfOk-weaker c.skip.result _ _ (λ flow saw terms before h comes.
-    saw terms before h comes (unread_rule comes rule reads) (unread_silent comes rule reads) tt)
-    c.skip.ensures.saw
+    saw terms before h comes (fault_rule side rule comes reads) (fault_silent side rule comes reads)
+    (fault_tries side rule comes reads _)) c.skip.ensures.saw

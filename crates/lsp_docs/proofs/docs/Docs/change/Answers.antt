@@ -1,4 +1,4 @@
-use Rattle.std.proofs.Common.{◌≡◌, ℕ, List, None, ap, ◌∙◌, sym, subst, w32, rules}
+use Rattle.std.proofs.Common.{ℕ, List, ap, ◌∙◌, sym, subst, w32, rules}
 use Rattle.std.proofs.lemmas.Int.{to_z-of_z}
 use Rattle.std.proofs.lemmas.Result.{err_from_is_err_and}
 use mir.Val.{SFits}

@@ -1,8 +1,9 @@
 use Rattle.std.proofs.Common.{◌≡◌, ◌∙◌, ◌++◌, ap, refl, string_bytes, subst}
 use Rattle.lsp_docs.specs.Documents.{Terms}
-use Rattle.lsp_replay.proofs.AllHeard.{kept_seen, offence_seen}
+use Rattle.lsp_replay.proofs.AllHeard.{kept_seen}
 use Rattle.lsp_replay.proofs.Wanting.{on_err}
-use Rattle.lsp_replay.specs.Telling.{FitsRests}
+use Rattle.lsp_replay.specs.Telling.{HasFate, ShowsFault}
+use Rattle.lsp_replay.specs.declared.seen.Fate.{Fate}
 use Rattle.lsp_verdict.specs.Given.{verdict_view}
 use Rattle.lsp_verdict.specs.Heard.{heard_events}
 use Rattle.lsp_verdict.specs.Offences.{Offence}
@@ -17,8 +18,8 @@ returns-in_default c = record {
   asked = refl;
   memory = tt;
   says = λ terms before h stands seen.
-      let rule = kept_seen terms before h c.args.seen c.in_default.not-Offence seen.as_is in
-      first_kept terms before h c.args.self.now _ stands (FitsRests c.args.seen)
+      let rule = kept_seen terms before h c.args.seen.now.fate c.in_default.not-Offends seen.fate in
+      first_kept terms before h c.args.self.now _ stands (ShowsFault c.args.seen.now.raw)
       (string_bytes c.args.text.now) rule (c.in_ok-keep.ensures terms before h stands.noted seen);
 }
 
@@ -45,22 +46,22 @@ returns c = record {
   asked = refl;
   memory = tt;
   says = λ terms before h stands seen.
-      let rule = c.in-Offence.rule in
+      let rule = c.in-Offends.rule in
       let offence = c.last_offence-offence.result in
       let verdict = c.verdict-verdict.result in
-      let own = offence_seen terms before h c.args.seen _ _ _ _ c.in-Offence.is seen.as_is in
-      let last = c.last_offence-offence.ensures before h seen.stood.counted seen.few own.0
+      let has = subst (λ (f : Fate). HasFate terms before h f) c.in-Offends.is seen.fate in
+      let last = c.last_offence-offence.ensures before h seen.stood.counted seen.few seen.is
       seen.noted in
-      first_told terms before h c.args.self.now c.args.self.now stands (FitsRests c.args.seen)
+      first_told terms before h c.args.self.now c.args.self.now stands (ShowsFault c.args.seen.now.raw)
       (string_bytes c.args.text.now) _ rule verdict c.in_ok-boxed.boxed _ _
-      c.in_ok-boxed.ensures.ok own.1
+      c.in_ok-boxed.ensures.ok has.0
       (c.verdict-verdict.ensures ∙ ap (λ (x : Offence). x.no) last)
-      (told_of terms before h c.args.seen c.in-Offence.raw rule c.in-Offence.spoken
-      c.in-Offence.tried offence _ _ _ _ _ _ c.in-Offence.is last seen
+      (told_of terms before h c.args.seen.now rule c.in-Offends.tried offence _ _ _ _ _ _
+      c.in-Offends.is last seen
       (c.in_ok-push_offence.ensures terms before h stands.noted))
       (subst (λ (t : Terms). string_bytes c.push_remarks.new.lines
       ≡ string_bytes c.push_offence.new.text ++ remark_lines (remarks_of
       (verdict_view verdict) (noticed t (heard_events before)))) seen.stood.by
       (c.in_ok-push_remarks.ensures (heard_events before)
-      (stands_before _ terms before h rule stands.noted seen.stood own.1)));
+      (stands_before _ terms before h rule stands.noted seen.stood has.0)));
 }

@@ -1,7 +1,8 @@
-use Rattle.std.proofs.Common.{◌∙◌, ap, refl, string_bytes}
-use Rattle.lsp_replay.specs.Telling.{FitsRests, rule_of}
-use Rattle.lsp_replay.proofs.AllHeard.{kept_seen, offence_seen}
+use Rattle.std.proofs.Common.{◌∙◌, ap, refl, string_bytes, subst}
+use Rattle.lsp_replay.specs.Telling.{HasFate, ShowsFault, rule_of}
+use Rattle.lsp_replay.specs.declared.seen.Fate.{Fate}
 use Rattle.lsp_survey.proofs.SurveySteps.{offence_is}
+use Rattle.lsp_replay.proofs.AllHeard.{kept_seen}
 use Rattle.lsp_replay.proofs.Wanting.{on_err}
 use Rattle.lsp_verdict.specs.Offences.{Offence}
 use Rattle.lsp_explain.proofs.AccountSteps.{all_kept, all_late, all_told, cause_wants, kept_wants}
@@ -17,8 +18,8 @@ returns-in_default c = record {
   memory = tt;
   says = λ terms before h stands seen.
       let told = c.in_ok-follows.ensures.told terms before h stands.lost seen in
-      let rule = kept_seen terms before h c.args.seen c.in_default.not-Offence seen.as_is in
-      all_kept terms before h c.args.self.now _ stands (FitsRests c.args.seen)
+      let rule = kept_seen terms before h c.args.seen.now.fate c.in_default.not-Offends seen.fate in
+      all_kept terms before h c.args.self.now _ stands (ShowsFault c.args.seen.now.raw)
       (string_bytes c.args.text.now) _ told rule refl
       (c.in_ok-keep.ensures terms before h stands.noted seen);
 }
@@ -33,18 +34,18 @@ returns-in_err-follows-clause-memory c =
 pub returns-in_err-keep-clause-memory : goal.returns-in_err-keep-clause-memory
 returns-in_err-keep-clause-memory c =
     on_err c.from_residual-in_err-keep.result (λ terms before h stands seen.
-    kept_wants terms before h c.args.self.now.completeness c.args.seen c.in_default.not-Offence
-    seen.as_is)
+    kept_wants terms before h c.args.self.now.completeness
+    (kept_seen terms before h c.args.seen.now.fate c.in_default.not-Offends seen.fate) seen.noted)
 
 pub returns-in_err-push_offence-clause-memory : goal.returns-in_err-push_offence-clause-memory
 returns-in_err-push_offence-clause-memory c =
     on_err c.from_residual-in_err-push_offence.result (λ terms before h stands seen.
     let told = c.in_ok-follows.ensures.told terms before h stands.lost seen in
-    let own = offence_seen terms before h c.args.seen _ _ _ _ c.in-Offence.is seen.as_is in
-    let last = c.last_offence-offence.ensures before h seen.stood.counted seen.few own.0
+    let has = subst (λ (f : Fate). HasFate terms before h f) c.in-Offends.is seen.fate in
+    let last = c.last_offence-offence.ensures before h seen.stood.counted seen.few seen.is
     seen.noted in
-    let is = offence_is terms before h c.in-Offence.rule _ _ own.1 told.late_is last in
-    cause_wants terms before h c.args.self.now.completeness c.in-Offence.rule _ own.1 is
+    let is = offence_is terms before h c.in-Offends.rule _ _ has.0 told.late_is last in
+    cause_wants terms before h c.args.self.now.completeness c.in-Offends.rule _ has.0 is
     (ap (λ (o : Offence). o.follows) last ∙ c.if-follows.false))
 
 -- it offends, and follows from an earlier one
@@ -54,12 +55,12 @@ returns-then-follows c = record {
   memory = tt;
   says = λ terms before h stands seen.
       let told = c.in_ok-follows.ensures.told terms before h stands.lost seen in
-      let own = offence_seen terms before h c.args.seen _ _ _ _ c.in-Offence.is seen.as_is in
-      let is = offence_is terms before h c.in-Offence.rule _ _ own.1 told.late_is
-      (c.last_offence-offence.ensures before h seen.stood.counted seen.few own.0 seen.noted) in
-      all_late terms before h c.args.self.now _ stands (FitsRests c.args.seen)
-      (string_bytes c.args.text.now) _ told c.in-Offence.rule _ c.if-follows.true own.1 is
-      c.add.ensures (trail_past terms before h _ stands.noted c.in-Offence.rule own.1);
+      let has = subst (λ (f : Fate). HasFate terms before h f) c.in-Offends.is seen.fate in
+      let is = offence_is terms before h c.in-Offends.rule _ _ has.0 told.late_is
+      (c.last_offence-offence.ensures before h seen.stood.counted seen.few seen.is seen.noted) in
+      all_late terms before h c.args.self.now _ stands (ShowsFault c.args.seen.now.raw)
+      (string_bytes c.args.text.now) _ told c.in-Offends.rule _ c.if-follows.true has.0 is
+      c.add.ensures (trail_past terms before h _ stands.noted c.in-Offends.rule has.0);
 }
 
 -- it offends, and is explained
@@ -68,17 +69,17 @@ returns c = record {
   asked = refl;
   memory = tt;
   says = λ terms before h stands seen.
-      let rule = c.in-Offence.rule in
+      let rule = c.in-Offends.rule in
       let offence = c.last_offence-offence.result in
       let told = c.in_ok-follows.ensures.told terms before h stands.lost seen in
-      let own = offence_seen terms before h c.args.seen _ _ _ _ c.in-Offence.is seen.as_is in
-      let last = c.last_offence-offence.ensures before h seen.stood.counted seen.few own.0
+      let has = subst (λ (f : Fate). HasFate terms before h f) c.in-Offends.is seen.fate in
+      let last = c.last_offence-offence.ensures before h seen.stood.counted seen.few seen.is
       seen.noted in
-      let is = offence_is terms before h rule _ _ own.1 told.late_is last in
-      all_told terms before h c.args.self.now _ stands (FitsRests c.args.seen)
-      (string_bytes c.args.text.now) _ told rule _ _ c.if-follows.false own.1 is c.add.ensures
-      (trail_past terms before h _ stands.noted rule own.1)
-      (told_of terms before h c.args.seen c.in-Offence.raw rule c.in-Offence.spoken
-      c.in-Offence.tried offence _ _ _ _ _ _ c.in-Offence.is last seen
+      let is = offence_is terms before h rule _ _ has.0 told.late_is last in
+      all_told terms before h c.args.self.now _ stands (ShowsFault c.args.seen.now.raw)
+      (string_bytes c.args.text.now) _ told rule _ _ c.if-follows.false has.0 is c.add.ensures
+      (trail_past terms before h _ stands.noted rule has.0)
+      (told_of terms before h c.args.seen.now rule c.in-Offends.tried offence _ _ _ _ _ _
+      c.in-Offends.is last seen
       (c.in_ok-push_offence.ensures terms before h stands.noted));
 }

@@ -7,24 +7,24 @@ use Rattle.lsp_replay.proofs.AllHeard.{kept_seen}
 use Rattle.lsp_verdict.specs.Offences.{Offence}
 use Rattle.lsp_judge.proofs.judging.JudgingAccount.event.Goals as goal
 
-pub returns-in-Offence-clause-says : goal.returns-in-Offence-clause-says
-returns-in-Offence-clause-says c = λ terms before h clean seen.
-    let own = rw c.in-Offence.is at seen.as_is in
-    offence_says _ c.in-Offence.rule _ c.in_ok-boxed.boxed c.in_ok-boxed.ensures.ok own.1
+pub returns-in-Offends-clause-says : goal.returns-in-Offends-clause-says
+returns-in-Offends-clause-says c = λ terms before h clean seen.
+    let own = rw c.in-Offends.is at seen.fate in
+    offence_says _ c.in-Offends.rule _ c.in_ok-boxed.boxed c.in_ok-boxed.ensures.ok own.0
     (c.verdict-verdict.ensures ∙ ap (λ (o : Offence). o.no)
-    (c.last_offence.ensures before h seen.stood.counted seen.few own.0 seen.noted))
+    (c.last_offence.ensures before h seen.stood.counted seen.few seen.is seen.noted))
     c.in_ok-say.ensures
 
 pub returns-in_err-say-clause-memory : goal.returns-in_err-say-clause-memory
 returns-in_err-say-clause-memory c = on_err c.from_residual.result (λ terms before h clean seen.
-    let own = rw c.in-Offence.is at seen.as_is in
-    offence_wants c.args.self.now.lines terms before h c.in-Offence.rule own.1)
+    let own = rw c.in-Offends.is at seen.fate in
+    offence_wants c.args.self.now.lines terms before h c.in-Offends.rule own.0)
 
 pub returns-in_err-boxed-clause-memory : goal.returns-in_err-boxed-clause-memory
 returns-in_err-boxed-clause-memory c =
     on_err c.from_residual-in_err-boxed.result (λ terms before h clean seen.
-    let own = rw c.in-Offence.is at seen.as_is in
-    offence_wants c.args.self.now.lines terms before h c.in-Offence.rule own.1)
+    let own = rw c.in-Offends.is at seen.fate in
+    offence_wants c.args.self.now.lines terms before h c.in-Offends.rule own.0)
 
 pub returns-in_err-show-clause-memory : goal.returns-in_err-show-clause-memory
 returns-in_err-show-clause-memory c =
@@ -33,5 +33,5 @@ returns-in_err-show-clause-memory c =
 
 pub returns-clause-says : goal.returns-clause-says
 returns-clause-says c = λ terms before h clean seen.
-    let rule = kept_seen terms before h c.args.seen c.in_default.not-Offence seen.as_is in
+    let rule = kept_seen terms before h c.args.seen.now.fate c.in_default.not-Offends seen.fate in
     kept_says _ clean rule (c.in_ok-show.ensures.shown terms before h seen rule)
