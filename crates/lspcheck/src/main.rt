@@ -173,7 +173,7 @@ fn show_advice<R: Eprint>(
     file: Option<&ShownName<'_>>,
     advice: Option<Advice>,
 ) {
-    let is_one = request.is_several();
+    let is_several = request.is_several();
     let _ = match advice {
         None => Ok(()),
         Some(Advice::Input(cause)) => match file {
@@ -182,7 +182,7 @@ fn show_advice<R: Eprint>(
         },
         Some(Advice::Output(cause)) => eprintln!(rt; "lspcheck: standard output: {cause}"),
         Some(Advice::Hint(hint)) => match file {
-            Some(name) if is_one => eprintln!(rt; "lspcheck: hint: {name}: {hint}"),
+            Some(name) if is_several => eprintln!(rt; "lspcheck: hint: {name}: {hint}"),
             _ => eprintln!(rt; "lspcheck: hint: {hint}"),
         },
     };
