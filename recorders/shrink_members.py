@@ -1,0 +1,154 @@
+"""Leaves out members of messages that no rule reads, long texts, and pieces of what is no JSON."""
+
+import copy
+from dataclasses import replace
+
+from shrink_case import CHANGE, CLOSE, OPEN, SAVE
+from shrink_events import handshake_of
+from summaries import at
+
+# The members that rules read, in messages of each method; `*` stands for any name. The language is
+# not read, but servers want it.
+ALL = ["jsonrpc", "id", "method", "error/code", "error/message"]
+READ = {
+    "initialize": [
+        "params/capabilities/general/positionEncodings/*",
+        "params/workDoneToken",
+        "result/capabilities/positionEncoding",
+        "result/capabilities/textDocumentSync/change",
+    ],
+    "initialized": ["params"],
+    OPEN: [f"params/textDocument/{it}" for it in ("uri", "languageId", "version", "text")],
+    CHANGE: [
+        "params/textDocument/uri",
+        "params/textDocument/version",
+        "params/contentChanges/*/text",
+        "params/contentChanges/*/range/*/*",
+    ],
+    CLOSE: ["params/textDocument/uri"],
+    SAVE: ["params/textDocument/uri", "params/text"],
+    "$/cancelRequest": ["params/id"],
+    "$/progress": ["params/token"],
+    "client/registerCapability": ["params/registrations/*/method"],
+}
+# The rules of messages whose changes may be left out, as long as the one that fails stays.
+FAILING = (603, 604, 605, 606, 607)
+# Texts up to this length stay, and so do contents that are no JSON up to a length, of which pieces
+# are left out.
+SHORT, SHORT_CONTENT, PIECE = 64, 600, 16
+
+
+def is_part(path, form):
+    """Whether a path is the beginning of one of this form."""
+    names = form.split("/")
+    return len(path) <= len(names) and all(it in (name, "*") for name, it in zip(path, names))
+
+
+def is_read(item, path, method):
+    """Whether a rule reads a member of a message, or something in it."""
+    if path[:2] == ("params", "contentChanges") and len(path) == 3 and item.event.rule in FAILING:
+        return False
+    words = tuple(str(it) for it in path)
+    return any(is_part(words, form) for form in (*ALL, *READ.get(method, ())))
+
+
+def paths_of(value, depth, path=()):
+    """The paths of this length in a JSON value."""
+    if depth == 0:
+        yield path
+    else:
+        for name, it in entries(value):
+            yield from paths_of(it, depth - 1, (*path, name))
+
+
+def entries(value):
+    """The members or elements of a JSON value, each with its name or number."""
+    if isinstance(value, dict):
+        return value.items()
+    return enumerate(value) if isinstance(value, list) else ()
+
+
+def without(value, paths):
+    """A JSON value without the members and elements at these paths."""
+    value = copy.deepcopy(value)
+    # The last element goes first, so that the others keep their places.
+    for *path, name in sorted(paths, key=lambda it: [str(name).zfill(9) for name in it], reverse=True):
+        del at(value, *path)[name]
+    return value
+
+
+def emptied(value, paths):
+    """A JSON value in which the texts at these paths are empty."""
+    value = copy.deepcopy(value)
+    for *path, name in paths:
+        at(value, *path)[name] = ""
+    return value
+
+
+def edited(case, found, change):
+    """The case with a change at each of these places and paths."""
+    places = {}
+    for place, path in found:
+        places.setdefault(place, []).append(path)
+    items = case.items
+    return case.edited({it: items[it].with_value(change(items[it].value, paths)) for it, paths in places.items()})
+
+
+def compact(case):
+    """The case with each message in the shortest form."""
+    return case.edited({it: item.with_value(item.value) for it, item in enumerate(case.items) if item.value})
+
+
+def leave_out_members(judge, case):
+    """The case with as few members and elements as possible, level by level."""
+    shorter = compact(case)
+    case = shorter if judge.keeps(shorter) else case
+    answers = {it.event.event for it in handshake_of(case)[1:2] if it.method is None}
+
+    def is_loose(item, path):
+        return not is_read(item, path, "initialize" if item.event.event in answers else item.method)
+
+    depth = 1
+    while True:
+        items = list(enumerate(case.items))
+        paths = [(place, path) for place, item in items for path in paths_of(item.value, depth)]
+        if not paths:
+            return case
+        loose = [(place, path) for place, path in paths if is_loose(case.items[place], path)]
+        case = leave_out_some(judge, case, loose, without)
+        depth += 1
+
+
+def leave_out_some(judge, case, loose, change):
+    """The case with as many of these places and paths changed as possible."""
+
+    def of(kept):
+        stay = set(kept)
+        return edited(case, (it for it in loose if it not in stay), change)
+
+    return judge.smallest(loose, of)
+
+
+def long_texts(value, path=()):
+    """The paths of the long texts in a JSON value."""
+    if isinstance(value, str) and len(value) > SHORT:
+        yield path
+    for name, it in entries(value):
+        yield from long_texts(it, (*path, name))
+
+
+def empty_texts(judge, case):
+    """The case with as many long texts as possible empty."""
+    found = [(place, path) for place, item in enumerate(case.items) for path in long_texts(item.value)]
+    loose = [(place, path) for place, path in found if path[-1] not in ("uri", "method", "id")]
+    return leave_out_some(judge, case, loose, emptied)
+
+
+def shorten_content(judge, case):
+    """The case with a shorter content of its last message, if that is no JSON."""
+    place = len(case.items) - 1
+    last = case.items[place] if case.items else None
+    if last is None or last.value is not None or last.is_snapshot or len(last.content) <= SHORT_CONTENT:
+        return case
+    pieces = [last.content[it : it + PIECE] for it in range(0, len(last.content), PIECE)]
+    return judge.smallest(pieces, lambda kept: case.edited({place: replace(last, content=b"".join(kept))}))
