@@ -80,8 +80,9 @@ class Case:
         return Case(self.format, tuple(items))
 
     def edited(self, others):
-        """The same case with other events in some places."""
-        return self.of(others.get(place, item) for place, item in enumerate(self.items))
+        """The same case with other events in some places, or none."""
+        items = (others.get(place, item) for place, item in enumerate(self.items))
+        return self.of(it for it in items if it is not None)
 
 
 def item_of(event, content):
@@ -93,7 +94,8 @@ def item_of(event, content):
         uri = at(message, "params", "textDocument", "uri")
     # Python reads some JSON that lspcheck does not.
     is_object = isinstance(message, dict) and event.rule != 201
-    return Item(event, content, message if is_object else None, uri if isinstance(uri, str) else None)
+    uri = uri if isinstance(uri, str) else None
+    return Item(event, content, message if is_object else None, uri)
 
 
 def read_case(program):

@@ -23,6 +23,11 @@ def word_of(lines, pattern):
     return first and first[1]
 
 
+def rule_of(lines):
+    """The rule that an explanation is about, or 0."""
+    return int(word_of(lines, r"no (\d+) ") or 0)
+
+
 def named_in(lines):
     """The numbers of the events that lines of an explanation name."""
     return {int(it) for line in lines for it in NUMBER.findall(line)}
@@ -97,12 +102,12 @@ def equal_of(lines, setting):
 
 def base_of(case, lines):
     """The base of the document that a violation or a note is about, or None."""
-    rule = int(word_of(lines, r"no (\d+) ") or 0)
+    rule = rule_of(lines)
     last = case.items[-1] if case.items else None
     if rule == 0:
         named = named_in(lines)
-        changes = (it for it in case.items if it.event.event in named and it.is_about(it.uri, CHANGE))
-        last = next(changes, None)
+        events = (it for it in case.items if it.event.event in named)
+        last = next((it for it in events if it.is_about(it.uri, CHANGE)), None)
     if last is None or last.uri is None:
         return None
     earlier = case.items[: case.items.index(last)]
@@ -113,7 +118,8 @@ def base_of(case, lines):
     elif rule in TEXTS:
         item = equal_of(lines, setting)
     elif rule == 701:
-        item = last_of(setting, word_of(lines, r"kept (?:.* )?(\S+)$") or word_of(lines, r"held (\S+)"))
+        kept = word_of(lines, r"kept (?:.* )?(\S+)$") or word_of(lines, r"held (\S+)")
+        item = last_of(setting, kept)
     return item and Base(item)
 
 

@@ -97,9 +97,9 @@ class Progress:
             self.length = 0
 
 
-# What a try costs, in bytes: as much as starting lspcheck, beside the bytes of the log. And what all
-# may cost: some thousand tries, or some hundred of a long log.
-START, MOST, MOST_OF_LOG = 400_000, 500_000_000, 400
+# What a try costs beside the bytes of its log, and what all tries may cost: some hundred of them,
+# which takes seconds. Without a limit, a log of which nothing can be left out would take hours.
+START, MOST, MOST_OF_LOG = 400_000, 300_000_000, 300
 
 
 class Judge:

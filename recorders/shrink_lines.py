@@ -1,7 +1,9 @@
 """Leaves out lines of a document's texts: of all of them at once, so that they still fit together.
 
-Each line has a number of its own, which it keeps from text to text. A line that a change begins or
-ends in stays, and so do the first lines that differ.
+Each line has a number of its own, which it keeps from text to text. The first lines that differ
+stay, and so do those that a change begins or ends in. If the texts never were equal, a change may
+go, too, but only together with all lines that it touches, and only if none of them differs: what is
+left is then the same session without these lines.
 """
 
 import difflib
@@ -50,6 +52,12 @@ class Whole:
 
     numbers: list
     lines: list
+    # The lines that it changes, if it is that of a change.
+    touched: frozenset = frozenset()
+
+    def is_in(self, gone):
+        """Whether all lines are gone that it changes."""
+        return bool(self.touched) and self.touched <= gone
 
     def shown(self, gone):
         return "".join(line for number, line in zip(self.numbers, self.lines) if number not in gone)
@@ -63,13 +71,18 @@ class Edit:
     before: list
     range: dict
     inserted: Whole
+    touched: frozenset
+
+    def is_in(self, gone):
+        """Whether all lines are gone that it begins and ends in."""
+        return self.touched <= gone
 
     def shown(self, gone):
         """The change, once these lines are gone."""
         ends = {}
         for name in ("start", "end"):
             place = self.range[name]
-            above = sum(1 for it in self.before[: place["line"]] if it in gone)
+            above = sum(map(gone.__contains__, self.before[: place["line"]]))
             ends[name] = {**place, "line": place["line"] - above}
         return {"range": {**self.range, **ends}, "text": self.inserted.shown(gone)}
 
@@ -83,15 +96,22 @@ class Document:
         self.parts = {}
         # For each version, the place of the message that set it, and the numbers of the lines.
         self.versions = {}
-        # The lines that stay, how many there are, and how many are kept here for all edits.
-        self.stay, self.count, self.size = set(), 0, 0
+        # For each change, the lines that it begins and ends in, and all that it has to do with.
+        self.touched = []
+        # The first lines that differ, and all that do.
+        self.first, self.differ = set(), set()
+        # For each place of a text that is compared, the lines from the first that differs to the
+        # last.
+        self.unequal = {}
+        # How many lines there are, and how many are kept here for all edits.
+        self.count, self.size = 0, 0
 
     def fresh(self, lines):
         """Numbers for lines that are new."""
         first, self.count = self.count, self.count + len(lines)
         return list(range(first, self.count))
 
-    def aligned(self, held, lines):
+    def aligned(self, place, held, lines):
         """Another text, whose lines get the numbers of those that are held, as far as they are the
         same or are in the same place."""
         one, other = ([it.rstrip("\r\n") for it in of] for of in (held.lines, lines))
@@ -99,6 +119,7 @@ class Document:
         ends = len(one) - below, len(other) - below
         numbers = held.numbers[above : ends[0]]
         inner = self.between(one[above : ends[0]], other[above : ends[1]], numbers)
+        self.unequal[place] = {*numbers, *inner}
         return Whole([*held.numbers[:above], *inner, *held.numbers[ends[0] :]], lines)
 
     def between(self, one, other, numbers):
@@ -111,17 +132,19 @@ class Document:
                 found[block.b : block.b + block.size] = numbers[block.a : block.a + block.size]
         return found
 
-    def changed(self, held, text):
+    def changed(self, place, held, text):
         """The whole text that a change sets, after the one that is held, if its lines are known.
         Something of what differs stays."""
         lines = lines_of(text)
         above, below = common(held.lines, lines) if held.lines else (0, 0)
         ends = len(held.numbers) - below, len(lines) - below
         inner = self.fresh(lines[above : ends[1]])
-        self.stay.update(inner[:1], held.numbers[above : ends[0]][:1])
-        return Whole([*held.numbers[:above], *inner, *held.numbers[ends[0] :]], lines)
+        old = held.numbers[above : ends[0]]
+        touched = frozenset((*inner[:1], *old[:1]))
+        self.touched.append((place, touched, {*inner, *old}))
+        return Whole([*held.numbers[:above], *inner, *held.numbers[ends[0] :]], lines, touched)
 
-    def edit(self, numbers, change):
+    def edit(self, place, numbers, change):
         """A change with a range, and the numbers of the lines after it."""
         self.size += len(numbers)
         if self.size > MOST_LINES:
@@ -137,11 +160,35 @@ class Document:
             inner[0] = numbers[first]
         if len(lines) > 1 and (first < final or not is_inside):
             inner[-1] = numbers[final]
-        self.stay.update((numbers[first], numbers[final], inner[0], inner[-1]))
-        edit = Edit(numbers, change["range"], Whole(inner, lines))
+        touched = frozenset((numbers[first], numbers[final], inner[0], inner[-1]))
+        self.touched.append((place, touched, {*touched, *inner, *numbers[first : final + 1]}))
+        edit = Edit(numbers, change["range"], Whole(inner, lines), touched)
         if final < first:
             return edit, numbers
         return edit, [*numbers[:first], *inner, *numbers[final + 1 :]]
+
+    def loose_parts(self, is_sliced, last):
+        """What may go, each part a set of lines. If `is_sliced`, the changes that touch these go,
+        too, but not those of the message at the place `last`."""
+        groups = joined(lines for _, _, lines in self.touched)
+        if is_sliced:
+            fixed = self.differ.union(*(lines for place, _, lines in self.touched if place == last))
+            loose = [it for it in groups if not it & fixed]
+        else:
+            loose = []
+        grouped = set().union(*loose)
+        stay = self.first.union(*(touched for _, touched, _ in self.touched)) | grouped
+        return [*loose, *({it} for it in range(self.count) if it not in stay)]
+
+
+def joined(sets):
+    """The sets, with those as one that share something."""
+    group_of = {}
+    for one in sets:
+        shared = {id(group_of[it]): group_of[it] for it in one if it in group_of}
+        group = set(one).union(*shared.values())
+        group_of.update(dict.fromkeys(group, group))
+    return list({id(it): it for it in group_of.values()}.values())
 
 
 class Reader:
@@ -174,16 +221,18 @@ class Reader:
         return text
 
     def read(self):
-        uri, items = self.document.uri, self.case.items
-        for place, item in enumerate(items):
+        uri = self.document.uri
+        # What breaks 209 can't be read, and changes no text.
+        items = [it for it in enumerate(self.case.items) if it[1].event.rule != 209]
+        for place, item in items:
             if item.is_about(uri, OPEN):
                 self.open(place, at(item.value, "params", "textDocument", "text"))
             elif item.is_about(uri, CHANGE):
                 self.change(place, at(item.value, "params", "contentChanges"))
             elif item.is_about(uri, SAVE) and "text" in item.value["params"]:
                 saved = lines_of(item.value["params"]["text"])
-                self.document.parts[place] = [self.document.aligned(self.held(), saved)]
-        for place, item in enumerate(items):
+                self.document.parts[place] = [self.document.aligned(place, self.held(), saved)]
+        for place, item in items:
             if item.is_snapshot and item.uri == uri:
                 self.snapshot(place, item)
         return self.document
@@ -205,11 +254,12 @@ class Reader:
         numbers, parts = self.numbers, []
         for which, change in enumerate(changes):
             if change.get("range") is not None:
-                part, numbers = self.document.edit(numbers, change)
+                part, numbers = self.document.edit(place, numbers, change)
             else:
                 # After another change of this message, the lines before it are not known.
-                held = self.held() if which == 0 and self.place is not None else Whole(numbers, None)
-                part = self.document.changed(held, change["text"])
+                is_known = which == 0 and self.place is not None
+                held = self.held() if is_known else Whole(numbers, None)
+                part = self.document.changed(place, held, change["text"])
                 numbers = part.numbers
             parts.append(part)
         self.document.parts[place] = parts
@@ -221,47 +271,46 @@ class Reader:
             self.document.parts[place] = [Whole(self.document.fresh(lines), lines)]
             return
         self.place, self.numbers = self.document.versions[item.version]
-        self.document.parts[place] = [self.document.aligned(self.held(), lines)]
+        self.document.parts[place] = [self.document.aligned(place, self.held(), lines)]
 
 
-def first_difference(case, lines):
-    """The event whose text differs, by its place, and the first line that does; or None."""
-    line = word_of(lines, r"at (\d+) ")
-    if line is None:
-        return None
-    event = word_of(lines, r"snapshot event (\d+) ")
-    return (int(event) - 1 if event else len(case.items) - 1), int(line)
-
-
-def keep_difference(document, case, lines):
-    """Marks the first lines that differ as lines that stay."""
-    found = first_difference(case, lines)
-    if found is None or found[0] not in document.parts:
+def mark_difference(document, case, lines):
+    """Marks the first lines that differ, and all that do."""
+    line, event = word_of(lines, r"at (\d+) "), word_of(lines, r"snapshot event (\d+) ")
+    place = int(event) - 1 if event else len(case.items) - 1
+    if line is None or place not in document.parts:
         return
-    place, line = found
-    item = case.items[place]
+    item, line = case.items[place], int(line)
     held = document.versions.get(item.version) if item.is_snapshot else None
-    held = held or max(document.versions.values())
-    for numbers in (held[1], document.parts[place][-1].numbers):
-        document.stay.update(numbers[line : line + 1])
+    held = (held or max(document.versions.values()))[1]
+    other = document.parts[place][-1].numbers
+    document.first.update(held[line : line + 1], other[line : line + 1])
+    document.differ.update(document.first, document.unequal.get(place, ()))
+
+
+def changes_without(changes, parts, gone):
+    """The changes without these lines. A change goes if all lines do that it begins and ends in."""
+    for change, part in zip(changes, parts):
+        if not part.is_in(gone):
+            shown = part.shown(gone)
+            yield {**change, **(shown if isinstance(shown, dict) else {"text": shown})}
 
 
 def item_without(item, parts, gone):
-    """An event without these lines."""
-    shown = [it.shown(gone) for it in parts]
+    """An event without these lines; None if nothing is left of it."""
     if item.is_snapshot:
-        return replace(item, content=shown[0].encode())
+        return replace(item, content=parts[0].shown(gone).encode())
     params = item.value["params"]
     if item.method == CHANGE:
-        changes = [
-            {**change, **(it if isinstance(it, dict) else {"text": it})}
-            for change, it in zip(params["contentChanges"], shown)
-        ]
+        changes = list(changes_without(params["contentChanges"], parts, gone))
+        if parts and not changes:
+            return None
         params = {**params, "contentChanges": changes}
     elif item.method == OPEN:
-        params = {**params, "textDocument": {**params["textDocument"], "text": shown[0]}}
+        document = {**params["textDocument"], "text": parts[0].shown(gone)}
+        params = {**params, "textDocument": document}
     else:
-        params = {**params, "text": shown[0]}
+        params = {**params, "text": parts[0].shown(gone)}
     return item.with_value({**item.value, "params": params})
 
 
@@ -272,11 +321,13 @@ def leave_out_lines(judge, case, uri):
     except (Unclear, LookupError, TypeError, AttributeError):
         # A text that can't be followed stays as it is.
         return case
-    keep_difference(document, case, judge.lines)
-    loose = [it for it in range(document.count) if it not in document.stay]
+    mark_difference(document, case, judge.lines)
+    is_sliced = bool(document.first) and not judge.wanted.has_equal
+    last = max((it for it in document.parts if case.items[it].method == CHANGE), default=None)
+    loose = document.loose_parts(is_sliced, last)
 
     def of(kept):
-        gone = set(loose) - set(kept)
+        gone = set().union(*loose).difference(*kept)
         return case.edited({
             place: item_without(case.items[place], parts, gone)
             for place, parts in document.parts.items()

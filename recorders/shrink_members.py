@@ -31,8 +31,9 @@ READ = {
     "$/progress": ["params/token"],
     "client/registerCapability": ["params/registrations/*/method"],
 }
-# The rules of messages whose changes may be left out, as long as the one that fails stays.
-FAILING = (603, 604, 605, 606, 607)
+# The rules of messages in which elements may be left out, as long as the one that fails stays.
+CHANGES = ("params", "contentChanges")
+ELEMENTS = {**dict.fromkeys((603, 604, 605, 606, 607), CHANGES), 504: ("params", "registrations")}
 # Texts up to this length stay, and so do contents that are no JSON up to a length, of which pieces
 # are left out.
 SHORT, SHORT_CONTENT, PIECE = 64, 600, 16
@@ -46,7 +47,7 @@ def is_part(path, form):
 
 def is_read(item, path, method):
     """Whether a rule reads a member of a message, or something in it."""
-    if path[:2] == ("params", "contentChanges") and len(path) == 3 and item.event.rule in FAILING:
+    if path[:-1] == ELEMENTS.get(item.event.rule):
         return False
     words = tuple(str(it) for it in path)
     return any(is_part(words, form) for form in (*ALL, *READ.get(method, ())))
@@ -72,7 +73,7 @@ def without(value, paths):
     """A JSON value without the members and elements at these paths."""
     value = copy.deepcopy(value)
     # The last element goes first, so that the others keep their places.
-    for *path, name in sorted(paths, key=lambda it: [str(name).zfill(9) for name in it], reverse=True):
+    for *path, name in reversed(paths):
         del at(value, *path)[name]
     return value
 
@@ -90,13 +91,15 @@ def edited(case, found, change):
     places = {}
     for place, path in found:
         places.setdefault(place, []).append(path)
-    items = case.items
-    return case.edited({it: items[it].with_value(change(items[it].value, paths)) for it, paths in places.items()})
+    items = {place: case.items[place] for place in places}
+    return case.edited({
+        place: item.with_value(change(item.value, places[place])) for place, item in items.items()
+    })
 
 
 def compact(case):
     """The case with each message in the shortest form."""
-    return case.edited({it: item.with_value(item.value) for it, item in enumerate(case.items) if item.value})
+    return case.of(it.with_value(it.value) if it.value else it for it in case.items)
 
 
 def leave_out_members(judge, case):
@@ -105,18 +108,18 @@ def leave_out_members(judge, case):
     case = shorter if judge.keeps(shorter) else case
     answers = {it.event.event for it in handshake_of(case)[1:2] if it.method is None}
 
-    def is_loose(item, path):
+    def is_loose(place, path):
+        item = case.items[place]
         return not is_read(item, path, "initialize" if item.event.event in answers else item.method)
 
-    depth = 1
-    while True:
-        items = list(enumerate(case.items))
+    depth, is_deeper = 1, True
+    while is_deeper:
+        items = enumerate(case.items)
         paths = [(place, path) for place, item in items for path in paths_of(item.value, depth)]
-        if not paths:
-            return case
-        loose = [(place, path) for place, path in paths if is_loose(case.items[place], path)]
+        loose = [it for it in paths if is_loose(*it)]
         case = leave_out_some(judge, case, loose, without)
-        depth += 1
+        depth, is_deeper = depth + 1, bool(paths)
+    return case
 
 
 def leave_out_some(judge, case, loose, change):
@@ -139,7 +142,8 @@ def long_texts(value, path=()):
 
 def empty_texts(judge, case):
     """The case with as many long texts as possible empty."""
-    found = [(place, path) for place, item in enumerate(case.items) for path in long_texts(item.value)]
+    items = enumerate(case.items)
+    found = [(place, path) for place, item in items for path in long_texts(item.value)]
     loose = [(place, path) for place, path in found if path[-1] not in ("uri", "method", "id")]
     return leave_out_some(judge, case, loose, emptied)
 
@@ -151,4 +155,8 @@ def shorten_content(judge, case):
     if last is None or last.value is not None or last.is_snapshot or len(last.content) <= SHORT_CONTENT:
         return case
     pieces = [last.content[it : it + PIECE] for it in range(0, len(last.content), PIECE)]
-    return judge.smallest(pieces, lambda kept: case.edited({place: replace(last, content=b"".join(kept))}))
+
+    def of(kept):
+        return case.edited({place: replace(last, content=b"".join(kept))})
+
+    return judge.smallest(pieces, of)

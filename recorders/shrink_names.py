@@ -11,8 +11,9 @@ def names_in(value):
     """The texts in a JSON value that name a file."""
     if isinstance(value, str) and value.startswith("file:"):
         yield value
-    for it in value.values() if isinstance(value, dict) else value if isinstance(value, list) else ():
-        yield from names_in(it)
+    elif isinstance(value, (dict, list)):
+        for it in value.values() if isinstance(value, dict) else value:
+            yield from names_in(it)
 
 
 def renamed(value, names):
@@ -27,7 +28,7 @@ def renamed(value, names):
 def short_names(case, is_spelling):
     """New names for all documents, the one of the violation first. If it matters how they are
     spelled, only the folder that all are in is left out."""
-    about = [case.items[-1].uri, *(it.uri for it in case.items)] if case.items else []
+    about = [it.uri for it in (*case.items[-1:], *case.items)]
     others = (name for it in case.items for name in names_in(it.value))
     uris = list(dict.fromkeys(it for it in (*about, *others) if it))
     if is_spelling:
