@@ -87,17 +87,22 @@ def last_of(items, version):
     return next((it for it in reversed(items) if str(it.version) == version), None)
 
 
-def last_opening(items):
-    return next((it for it in reversed(items) if it.method == OPEN), None)
+def since_opening(items):
+    """Those of the messages that set a version since the document was opened."""
+    opens = [it for it, item in enumerate(items) if item.method == OPEN]
+    return items[opens[-1] :] if opens else []
 
 
-def equal_of(lines, setting):
-    """The message that set the text which was equal to a snapshot; without one, the `didOpen`."""
+def equal_of(lines, setting, snapshots):
+    """The message that set the last text before the difference that was equal to a snapshot; without
+    one, the `didOpen`."""
     equal = word_of(lines, r"equal (\S+)")
     differs = word_of(lines, r"(?:version|sent) (\S+)")
-    if equal and (differs is None or int(equal) <= int(differs)):
-        return last_of(setting, equal)
-    return last_opening(setting)
+    if equal and differs and int(equal) > int(differs):
+        # A late snapshot differs. All those before it were equal.
+        versions = {it.version for it in setting if it.version <= int(differs)}
+        equal = max(versions & {it.version for it in snapshots}, default=None)
+    return last_of(setting, str(equal)) or setting[0]
 
 
 def base_of(case, lines):
@@ -111,22 +116,24 @@ def base_of(case, lines):
     if last is None or last.uri is None:
         return None
     earlier = case.items[: case.items.index(last)]
-    setting = [it for it in earlier if it.is_about(last.uri, OPEN, CHANGE)]
-    item = None
+    setting = since_opening([it for it in earlier if it.is_about(last.uri, OPEN, CHANGE)])
+    if not setting:
+        return None
     if rule in (0, *MESSAGES):
-        item = setting[-1] if setting else None
-    elif rule in TEXTS:
-        item = equal_of(lines, setting)
-    elif rule == 701:
+        return Base(setting[-1])
+    if rule in TEXTS:
+        snapshots = [it for it in earlier if it.is_snapshot and it.uri == last.uri]
+        return Base(equal_of(lines, setting, snapshots))
+    if rule == 701:
         kept = word_of(lines, r"kept (?:.* )?(\S+)$") or word_of(lines, r"held (\S+)")
-        item = last_of(setting, kept)
-    return item and Base(item)
+        return Base(last_of(setting, kept) or setting[0])
+    return None
 
 
 def opening_of(case, base):
     """The `didOpen` before a base, as one."""
     earlier = case.items[: case.items.index(base.item) + 1]
-    return Base(last_opening([it for it in earlier if it.is_about(base.uri, OPEN, CHANGE)]))
+    return Base(since_opening([it for it in earlier if it.is_about(base.uri, OPEN, CHANGE)])[0])
 
 
 def fixed_of(case, base, note):
