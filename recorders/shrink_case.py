@@ -6,6 +6,7 @@ from functools import cached_property
 from contents import Contents
 from listing import EDITOR, SERVER, SNAPSHOT, Event, Listing
 from messages import encoded
+from program import Failed
 from session import describe, message_of
 from session_log import Record, as_records, framed
 from session_log import EDITOR as WRITTEN
@@ -102,9 +103,12 @@ def read_case(program):
     """The events of a log up to the first that breaks a rule, or all of them."""
     items = []
     lines = program.output("show", "--long").decode("utf-8", "replace").split("\n")
-    with open(program.log, "rb") as file:
-        contents = Contents(file)
-        for event, _ in Listing(lines):
-            if event is not None:
-                items.append(item_of(event, contents.of(event)))
+    try:
+        with open(program.log, "rb") as file:
+            contents = Contents(file)
+            for event, _ in Listing(lines):
+                if event is not None:
+                    items.append(item_of(event, contents.of(event)))
+    except OSError as error:
+        raise Failed(f"{program.log}: {error.strerror}", 3) from error
     return Case(contents.format, tuple(items))

@@ -62,6 +62,7 @@ class Base:
         if text is None:
             return None
         language = at(first[-1].value, "params", "textDocument", "languageId")
+        language = language if isinstance(language, str) else "plaintext"
         content = opened(self.uri, language, self.item.version, text)
         event = replace(self.item.event, method=OPEN)
         return replace(self.item, event=event, content=content, value=message_of(event, content))
@@ -94,8 +95,8 @@ def since_opening(items):
 
 
 def equal_of(lines, setting, snapshots):
-    """The message that set the last text before the difference that was equal to a snapshot; without
-    one, the `didOpen`."""
+    """The message that set the last text before the difference that was equal to a snapshot, or the
+    `didOpen`."""
     equal = word_of(lines, r"equal (\S+)")
     differs = word_of(lines, r"(?:version|sent) (\S+)")
     if equal and differs and int(equal) > int(differs):
@@ -177,6 +178,12 @@ def is_from_editor(item, method):
     return item.event.side == EDITOR and item.method == method
 
 
+def cut(judge, case, named):
+    """The case without what comes after the last of these events."""
+    shorter = case.of(it for it in case.items if it.event.event <= max(named, default=0))
+    return shorter if named and judge.keeps(shorter) else case
+
+
 def leave_out(judge, case, fixed, named, uri):
     """The case with as few events as possible. These are fixed; those that are named and those of
     the document are probably needed: all others are tried first."""
@@ -190,8 +197,10 @@ def leave_out(judge, case, fixed, named, uri):
     def is_likely(unit):
         return any(it.event.event in named or it.uri == uri or it in first for it in unit)
 
-    stay = [it for it in units if any(item.event.event in fixed for item in it)]
-    rest = [it for it in units if it not in stay]
+    stay, rest = [], []
+    for unit in units:
+        is_fixed = any(it.event.event in fixed for it in unit)
+        (stay if is_fixed else rest).append(unit)
     likely = [it for it in rest if is_likely(it)]
     if judge.keeps(of(stay + likely)):
         rest = likely

@@ -39,7 +39,7 @@ def kept_of(line):
     return line
 
 
-class Wanted:
+class Essence:
     """What a smaller log must have of the explanation of the whole one: the violation with its
     details, or the first note of a name."""
 
@@ -97,8 +97,8 @@ class Progress:
             self.length = 0
 
 
-# What a try costs beside the bytes of its log, and what all tries may cost: some hundred of them,
-# which takes seconds. Without a limit, a log of which nothing can be left out would take hours.
+# What a try costs in addition to the bytes of its log, and what all tries may cost: some hundred of
+# them, which takes seconds. Without a limit, a log of which nothing can go would take hours.
 START, MOST, MOST_OF_LOG = 400_000, 300_000_000, 300
 
 
@@ -114,14 +114,21 @@ class Judge:
         # The smallest case that was right, its log and its explanation.
         self.best, self.log, self.lines = None, None, []
 
+    def put(self, log):
+        """Puts a log where lspcheck reads it."""
+        try:
+            for file, data in ((self.file, log), (self.errors, b"")):
+                file.seek(0)
+                file.truncate()
+                file.write(data)
+                file.flush()
+                file.seek(0)
+        except OSError as error:
+            raise Failed(f"{tempfile.gettempdir()}: {error.strerror}", 3) from error
+
     def run(self, words, log):
         """What a command writes about a log, and its status."""
-        for file, data in ((self.file, log), (self.errors, b"")):
-            file.seek(0)
-            file.truncate()
-            file.write(data)
-            file.flush()
-            file.seek(0)
+        self.put(log)
         how = {"stdin": self.file, "stdout": subprocess.PIPE, "stderr": self.errors}
         running = None
         try:

@@ -16,8 +16,9 @@ from shrink_case import CHANGE, OPEN, SAVE
 from shrink_events import TEXTS, word_of
 from summaries import at
 
-# Texts with more lines that differ are compared line by line only if they have as many.
-MOST_COMPARED = 500
+# If two texts have more lines from the first that differs to the last, these stay, unless they are
+# as many in both.
+MOST_COMPARED = 2000
 # What the lines of all texts may be together.
 MOST_LINES = 20_000_000
 
@@ -98,8 +99,8 @@ class Document:
         self.versions = {}
         # For each change, the lines that it begins and ends in, and all that it has to do with.
         self.touched = []
-        # The first lines that differ, and all that do.
-        self.first, self.differ = set(), set()
+        # The lines that stay because they differ, and all that differ.
+        self.stay, self.differ = set(), set()
         # For each place of a text that is compared, the lines from the first that differs to the
         # last.
         self.unequal = {}
@@ -127,9 +128,11 @@ class Document:
         if len(one) == len(other):
             return numbers
         found = self.fresh(other)
-        if max(len(one), len(other)) <= MOST_COMPARED:
-            for block in difflib.SequenceMatcher(None, one, other, False).get_matching_blocks():
-                found[block.b : block.b + block.size] = numbers[block.a : block.a + block.size]
+        if max(len(one), len(other)) > MOST_COMPARED:
+            self.stay.update(numbers, found)
+            return found
+        for block in difflib.SequenceMatcher(None, one, other, False).get_matching_blocks():
+            found[block.b : block.b + block.size] = numbers[block.a : block.a + block.size]
         return found
 
     def changed(self, place, held, text):
@@ -177,7 +180,7 @@ class Document:
         else:
             loose = []
         grouped = set().union(*loose)
-        stay = self.first.union(*(touched for _, touched, _ in self.touched)) | grouped
+        stay = self.stay.union(*(touched for _, touched, _ in self.touched)) | grouped
         return [*loose, *({it} for it in range(self.count) if it not in stay)]
 
 
@@ -275,17 +278,18 @@ class Reader:
 
 
 def mark_difference(document, case, lines):
-    """Marks the first lines that differ, and all that do."""
+    """Marks the first lines that differ, and all that do. Returns whether the text is one that does."""
     line, event = word_of(lines, r"at (\d+) "), word_of(lines, r"snapshot event (\d+) ")
     place = int(event) - 1 if event else len(case.items) - 1
     if line is None or place not in document.parts:
-        return
+        return False
     item, line = case.items[place], int(line)
     held = document.versions.get(item.version) if item.is_snapshot else None
     held = (held or max(document.versions.values()))[1]
     other = document.parts[place][-1].numbers
-    document.first.update(held[line : line + 1], other[line : line + 1])
-    document.differ.update(document.first, document.unequal.get(place, ()))
+    document.stay.update(held[line : line + 1], other[line : line + 1])
+    document.differ.update(document.stay, document.unequal.get(place, ()))
+    return True
 
 
 def changes_without(changes, parts, gone):
@@ -321,8 +325,8 @@ def leave_out_lines(judge, case, uri):
     except (Unclear, LookupError, TypeError, AttributeError):
         # A text that can't be followed stays as it is.
         return case
-    mark_difference(document, case, judge.lines)
-    is_sliced = bool(document.first) and not judge.wanted.has_equal
+    differs = mark_difference(document, case, judge.lines)
+    is_sliced = differs and not judge.wanted.has_equal
     last = max((it for it in document.parts if case.items[it].method == CHANGE), default=None)
     loose = document.loose_parts(is_sliced, last)
 

@@ -1,4 +1,4 @@
-"""Leaves out members of messages that no rule reads, long texts, and pieces of what is no JSON."""
+"""Leaves out members of messages that no rule reads, long texts, and pieces of what is not JSON."""
 
 import copy
 from dataclasses import replace
@@ -34,8 +34,7 @@ READ = {
 # The rules of messages in which elements may be left out, as long as the one that fails stays.
 CHANGES = ("params", "contentChanges")
 ELEMENTS = {**dict.fromkeys((603, 604, 605, 606, 607), CHANGES), 504: ("params", "registrations")}
-# Texts up to this length stay, and so do contents that are no JSON up to a length, of which pieces
-# are left out.
+# Texts up to this length stay. Of longer contents that are not JSON, pieces are left out.
 SHORT, SHORT_CONTENT, PIECE = 64, 600, 16
 
 
@@ -141,18 +140,24 @@ def long_texts(value, path=()):
 
 
 def empty_texts(judge, case):
-    """The case with as many long texts as possible empty."""
-    items = enumerate(case.items)
-    found = [(place, path) for place, item in items for path in long_texts(item.value)]
+    """The case with as many long texts as possible empty. If texts are compared, those of documents
+    stay: otherwise more would differ than before."""
+    is_compared = any(it.startswith("at ") for it in judge.lines)
+    found = [
+        (place, path)
+        for place, item in enumerate(case.items)
+        if not (is_compared and item.method in (OPEN, CHANGE, SAVE))
+        for path in long_texts(item.value)
+    ]
     loose = [(place, path) for place, path in found if path[-1] not in ("uri", "method", "id")]
     return leave_out_some(judge, case, loose, emptied)
 
 
 def shorten_content(judge, case):
-    """The case with a shorter content of its last message, if that is no JSON."""
-    place = len(case.items) - 1
-    last = case.items[place] if case.items else None
-    if last is None or last.value is not None or last.is_snapshot or len(last.content) <= SHORT_CONTENT:
+    """The case with a shorter content of its last message, if that is not JSON."""
+    last, place = (case.items or [None])[-1], len(case.items) - 1
+    is_json = last is None or last.is_snapshot or last.value is not None
+    if is_json or len(last.content) <= SHORT_CONTENT:
         return case
     pieces = [last.content[it : it + PIECE] for it in range(0, len(last.content), PIECE)]
 

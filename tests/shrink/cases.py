@@ -9,7 +9,7 @@ from scripts import small_of
 
 URI = "file:///home/someone/secret%20project/main.c"
 OTHER = "file:///home/someone/other.c"
-# What editors and servers say of themselves, of which no rule reads anything but the last two.
+# What editors and servers say about themselves: rules read nothing of it but the last two.
 OFFERS = {
     "processId": 4215,
     "clientInfo": {"name": "Editor", "version": "1.2\nof today"},
