@@ -278,7 +278,7 @@ class Reader:
 
 
 def mark_difference(document, case, lines):
-    """Marks the first lines that differ, and all that do. Returns whether the text is one that does."""
+    """Marks the first lines that differ, and all that do. Returns whether this document has any."""
     line, event = word_of(lines, r"at (\d+) "), word_of(lines, r"snapshot event (\d+) ")
     place = int(event) - 1 if event else len(case.items) - 1
     if line is None or place not in document.parts:

@@ -162,11 +162,26 @@ def keeps_all_suspects(program, place):
     ])
 
 
+def keeps_texts_that_are_compared(program, place):
+    """A long text that was sent, as it is in the editor, stays: without it, more would differ."""
+    long = "a long comment " * 9
+    text = ["one\n", "two\n", "three\n"]
+    log = head() + sent(opened(URI, 1, "".join(text))) + snapshot(URI, 1, "".join(text))
+    log += sent(changed(URI, 2, edit((2, 0), (2, 5), long)))
+    leaves(program, place, log + snapshot(URI, 2, f"1\ntwo\n{long}\n"), [
+        *HEAD,
+        opened_with(1, "one\nthree\n"),
+        "T 1 file:///a 'one\\nthree\\n'",
+        change_of(2, (1, 0, 1, 5, long)),
+        f"T 2 file:///a '1\\n{long}\\n'",
+    ])
+
+
 def leaves_out_changes_of_other_lines(program, place):
     """If the texts never were equal, a change goes with all lines that it touches, unless one of them
-    differs: what is typed and deleted again on such a line stays, and so does the last change."""
-    text = [*LINES]
-    log = head() + sent(opened(URI, 1, "".join(text)))
+    differs: what is typed and deleted again on such a line stays, and so do a change of nothing and
+    the last change."""
+    log = head() + sent(opened(URI, 1, "".join(LINES)))
     for version, change in enumerate([
         edit((3, 0), (3, 0), "x"),
         edit((40, 0), (41, 3), "pasted\nlines\nof\n"),
@@ -174,30 +189,28 @@ def leaves_out_changes_of_other_lines(program, place):
         edit((50, 0), (50, 0), "q"),
         edit((50, 0), (50, 1), ""),
         edit((3, 0), (3, 1), ""),
+        edit((60, 0), (60, 0), ""),
         edit((0, 3), (0, 3), "eger"),
     ], 2):
         log += sent(changed(URI, version, change)) + chatter(version * 100, 3)
-    text[0] = "integer value_0;\n"
+    # In the editor, lines 50 and 60 are others. At first, they were lines 48 and 58.
+    text = [*LINES]
+    text[0], text[68], text[48], text[58] = "integer value_0;\n", f"y{LINES[68]}", "other\n", "also\n"
     text[40:42] = ["pasted\n", "lines\n", "of\n", " value_41;\n"]
-    text[50:53] = ["other\n", "y%s" % text[52]]
-    # Line 50 is the 48th of the text at first.
-    wrong = [*LINES]
-    wrong[0], wrong[70 - 2] = "integer value_0;\n", f"y{LINES[68]}"
-    wrong[40:42] = ["pasted\n", "lines\n", "of\n", " value_41;\n"]
-    wrong[50] = "other\n"
-    leaves(program, place, log + snapshot(URI, 8, "".join(wrong)), [
+    leaves(program, place, log + snapshot(URI, 9, "".join(text)), [
         *HEAD,
-        opened_with(1, "int value_0;\nint value_48;\n"),
+        opened_with(1, "int value_0;\nint value_48;\nint value_58;\n"),
         change_of(5, (1, 0, 1, 0, "q")),
         change_of(6, (1, 0, 1, 1, "")),
-        change_of(8, (0, 3, 0, 3, "eger")),
-        "T 8 file:///a 'integer value_0;\\nother\\n'",
+        change_of(8, (2, 0, 2, 0, "")),
+        change_of(9, (0, 3, 0, 3, "eger")),
+        "T 9 file:///a 'integer value_0;\\nother\\nalso\\n'",
     ])
 
 
 def shortens_a_late_702(program, place):
     """Format 2: a late snapshot of version 4 differs, after an equal one of version 5. The text at
-    version 3 was equal, too, so what precedes it is left out."""
+    version 3 was equal, too, so what precedes it is left out, and a late snapshot of it."""
     text = [*LINES]
     log = head() + sent(opened(URI, 1, "".join(text)))
     taken = {}
@@ -205,7 +218,7 @@ def shortens_a_late_702(program, place):
         text[version] = f"v{version}\n"
         log += sent(changed(URI, version, edit((version, 0), (version, 99), f"v{version}")))
         taken[version] = "".join(text)
-    log += snapshot(URI, 3, taken[3]) + snapshot(URI, 5, taken[5])
+    log += snapshot(URI, 3, taken[3]) + snapshot(URI, 5, taken[5]) + snapshot(URI, 2, taken[2])
     log += snapshot(URI, 4, taken[4].replace("v4", "4"))
     leaves(program, place, log, [
         *HEAD,
@@ -389,6 +402,7 @@ TESTS = [
     shortens_a_702,
     keeps_line_ends_and_characters,
     keeps_all_suspects,
+    keeps_texts_that_are_compared,
     leaves_out_changes_of_other_lines,
     shortens_a_late_702,
     shortens_a_608,
