@@ -108,5 +108,5 @@ def compared_script(page, text):
     taken = set(re.findall(r"--[a-z-]+", " ".join(map(plain, section(page, "SYNOPSIS").splitlines()))))
     yield "synopsis", taken, listed - {"--help"}
     if "Exit status:" in text:
-        statuses = re.findall(r"\b(\d) [a-z]", text.partition("Exit status:")[2].partition("\n\n")[0])
+        statuses = re.findall(r"\b(\d+) (?=[A-Za-z])", text.partition("Exit status:")[2].partition("\n\n")[0])
         yield "statuses", [it[0] for it in heads(page, "EXIT STATUS")], statuses
