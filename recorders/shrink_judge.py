@@ -1,10 +1,10 @@
 """Asks lspcheck whether a smaller log still has what the whole one has."""
 
 import copy
+import os
 import re
 import subprocess
 import sys
-import tempfile
 import time
 
 from program import Failed, end, printable
@@ -97,9 +97,10 @@ class Progress:
             self.length = 0
 
 
-# What a try costs in addition to the bytes of its log, and what all tries may cost: some hundred of
-# them, which takes seconds. Without a limit, a log of which nothing can go would take hours.
-START, MOST, MOST_OF_LOG = 400_000, 300_000_000, 300
+# What a try costs: as much as this many bytes to start lspcheck, and each byte of its log some times
+# over, to make it. And what all tries may cost: several hundred of short logs, which takes seconds,
+# and dozens of long ones. Without a limit, a log of which nothing can go would take hours.
+START, TIMES, MOST, MOST_OF_LOG = 400_000, 4, 300_000_000, 120
 
 
 class Judge:
@@ -110,7 +111,8 @@ class Judge:
         self.whole, self.tried = size, 0
         # What may still be spent on tries, and whether some were not made for that reason.
         self.left, self.is_spent = max(MOST, MOST_OF_LOG * size), False
-        self.file, self.errors = tempfile.TemporaryFile(), tempfile.TemporaryFile()
+        # Files in memory: a disk may be slow, and others may read it.
+        self.file, self.errors = (open(os.memfd_create(it), "w+b") for it in ("log", "errors"))
         # The smallest case that was right, its log and its explanation.
         self.best, self.log, self.lines = None, None, []
 
@@ -124,7 +126,7 @@ class Judge:
                 file.flush()
                 file.seek(0)
         except OSError as error:
-            raise Failed(f"{tempfile.gettempdir()}: {error.strerror}", 3) from error
+            raise Failed(f"a smaller log: {error.strerror}", 3) from error
 
     def run(self, words, log):
         """What a command writes about a log, and its status."""
@@ -160,7 +162,7 @@ class Judge:
         """Whether a case is right. If it is the smallest one so far, it is remembered."""
         log = case.log()
         self.tried += 1
-        self.left -= START + len(log)
+        self.left -= START + TIMES * len(log)
         self.progress.show(self.tried, len(self.log or b"") or self.whole, self.whole)
         lines = self.explain(log)
         if not (wanted or self.wanted).is_in(lines):
