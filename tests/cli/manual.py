@@ -17,6 +17,7 @@ SOURCES = {
     "lspcheck-replay": ["replay/lspcheck-replay", "replay/*.py"],
     "lspcheck-proxy": ["recorders/proxy", "recorders/proxy_*.py", "recorders/vscode/*.js"],
     "lspcheck-from-trace": ["recorders/from-trace", "recorders/session_log.py"],
+    "lspcheck-shrink": ["recorders/shrink", "recorders/shrink_*.py"],
     "lspcheck-without": ["recorders/without", "recorders/outputs.py"],
 }
 VARIABLE = re.compile(r"(?:environ(?:\.get\(|\[)\"|getenv(?: |\()\"|env::var(?:_os)?\(\"|process\.env\.|empty\(\$)(\w+)")
