@@ -97,9 +97,9 @@ class Progress:
             self.length = 0
 
 
-# What a try costs: as much as this many bytes to start lspcheck, and each byte of its log some times
-# over, to make it. And what all tries may cost: several hundred of short logs, which takes seconds,
-# and dozens of long ones. Without a limit, a log of which nothing can go would take hours.
+# What a try costs, in bytes: a start of lspcheck, and each byte of its log, which is made and read.
+# And what all tries may cost: those of several hundred short logs, which takes seconds, or of
+# dozens of long ones. Without a limit, a log of which nothing can go would take hours.
 START, TIMES, MOST, MOST_OF_LOG = 400_000, 4, 300_000_000, 120
 
 

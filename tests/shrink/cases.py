@@ -283,6 +283,26 @@ def shortens_what_breaks_rules_of_changes(program, place):
     ])
 
 
+def shortens_what_comes_too_late(program, place):
+    """602 after a `didClose`, and 701 in both formats: in format 2, a version before the current one
+    that is kept stays."""
+    log = head() + sent(opened(URI, 1, "".join(LINES))) + chatter(40)
+    log += sent(notification("textDocument/didClose", {"textDocument": {"uri": URI}})) + chatter(80)
+    leaves(program, place, log + sent(changed(URI, 2, edit((9, 0), (9, 0), "x"))), [
+        *HEAD,
+        opened_with(1, "int value_9;\n"),
+        'E {"jsonrpc":"2.0","method":"textDocument/didClose","params":{"textDocument":{"uri":"file:///a"}}}',
+        change_of(2, (0, 0, 0, 0, "x")),
+    ])
+    kept = [open_of(22, "int value_23;\n"), change_of(23, (0, 0, 0, 0, ""))]
+    for form, wanted in ((1, [open_of(23, "")]), (2, kept)):
+        log = head(form=form) + sent(opened(URI, 1, "".join(LINES)))
+        for version in range(2, 24):
+            log += sent(changed(URI, version, edit((version, 0), (version, 0), "")))
+        log += snapshot(URI, 2, "".join(LINES))
+        leaves(program, place, log, [*HEAD, *wanted, "T 2 file:///a ''"], form=form)
+
+
 def keeps_how_names_are_spelled(program, place):
     """602: the document that is open under a similar name stays."""
     log = head() + sent(opened(URI, 1, "".join(LINES))) + chatter(40)
@@ -407,6 +427,7 @@ TESTS = [
     shortens_a_late_702,
     shortens_a_608,
     shortens_what_breaks_rules_of_changes,
+    shortens_what_comes_too_late,
     keeps_how_names_are_spelled,
     shortens_what_breaks_rules_of_requests,
     shortens_contents,

@@ -140,7 +140,8 @@ def slow(program, place, tries):
     """A program that gets slow after some tries, and the file in which it counts them."""
     count = place / "count"
     count.write_text("")
-    lines = f'echo >> {count}\n[ "$(wc -l < {count})" -le {tries} ] || sleep 60'
+    count.with_name("count.slow").unlink(missing_ok=True)
+    lines = f'echo >> {count}\n[ "$(wc -l < {count})" -le {tries} ] || {{ echo $$ > {count}.slow; exec sleep 60; }}'
     return script(place, f'case "$1" in explain) {lines};; esac\nexec {program} "$@"'), count
 
 
@@ -149,11 +150,10 @@ def start(program, *words):
     return subprocess.Popen(command(program, *words), start_new_session=True, **pipes)
 
 
-def wait_for(count, tries):
-    end = time.monotonic() + SECONDS
-    while len(count.read_text()) < tries and time.monotonic() < end:
+def wait_until_slow(count):
+    end, slow = time.monotonic() + SECONDS, count.with_name("count.slow")
+    while not (slow.exists() and slow.read_text()) and time.monotonic() < end:
         time.sleep(0.01)
-    time.sleep(0.2)
 
 
 def writes_the_smallest_so_far(program, place):
@@ -162,7 +162,7 @@ def writes_the_smallest_so_far(program, place):
     for number in (signal.SIGINT, signal.SIGTERM):
         stand_in, count = slow(program, place, 12)
         running = start(stand_in, EXAMPLE)
-        wait_for(count, 13)
+        wait_until_slow(count)
         os.killpg(running.pid, number)
         small, said = running.communicate(timeout=SECONDS)
         assert (running.returncode, said) == (-number, b""), (running.returncode, said)
@@ -171,14 +171,14 @@ def writes_the_smallest_so_far(program, place):
         found = list(listed(small))
         assert found[1] == INITIALIZE_OF_EXAMPLE, found[1]
         assert "file:///tmp/lspwork-e/cpp/small.c" in found[-1], found[-1]
-        left = subprocess.run(["pgrep", "-f", str(stand_in)], capture_output=True)
-        assert left.stdout == b"", left
+        left = int(count.with_name("count.slow").read_text())
+        assert not Path(f"/proc/{left}").exists(), left
 
 
 def writes_nothing_before_it_has_something(program, place):
     stand_in, count = slow(program, place, 0)
     running = start(stand_in, EXAMPLE)
-    wait_for(count, 1)
+    wait_until_slow(count)
     running.send_signal(signal.SIGINT)
     small, said = running.communicate(timeout=SECONDS)
     assert (running.returncode, small) == (-signal.SIGINT, b""), running.returncode
