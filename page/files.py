@@ -1,6 +1,5 @@
 """The log that is read, the page that is written, and the names of both in messages."""
 
-import json
 import os
 import shutil
 import stat
@@ -9,16 +8,11 @@ import tempfile
 from contextlib import contextmanager
 
 from program import Failed
-from script import put
+from script import put, quoted
 
 # The first bytes of a page, and of a log.
 MARK = b"<!doctype html><!-- lspcheck-page -->"
 LOG_MARK = b"lsp-session "
-
-
-def quoted(name):
-    """A name for a message: JSON text if it has characters that a terminal would obey or hide."""
-    return name if name.isprintable() else json.dumps(name)
 
 
 def failed(name, error):

@@ -1,12 +1,16 @@
 """What lspcheck-page and lspcheck-replay do alike: arguments, the log, and what they write."""
 
 import argparse
+import json
 import os
 import sys
 import tempfile
 
 from outputs import say
 from program import Failed, printable
+
+# The version of lspcheck that these scripts belong to.
+VERSION = "1.0.0"
 
 
 class Parser(argparse.ArgumentParser):
@@ -31,15 +35,9 @@ def number(word):
     return int(word)
 
 
-def check_log(path):
-    """Fails if the log is not a file that can be read more than once."""
-    try:
-        with open(path, "rb"):
-            pass
-    except OSError as error:
-        raise Failed(f"{path}: {error.strerror}", 3) from error
-    if not os.path.isfile(path):
-        raise Failed(f"{path}: not a plain file: it is read several times", 3)
+def quoted(name):
+    """A name for a message: JSON text if it has characters that a terminal would obey or hide."""
+    return name if name.isprintable() else json.dumps(name)
 
 
 def write(path, data):
@@ -55,7 +53,7 @@ def write(path, data):
                 os.unlink(file.name)
                 raise
     except OSError as error:
-        raise Failed(f"{path}: {error.strerror}", 3) from error
+        raise Failed(f"{quoted(path)}: {error.strerror}", 3) from error
 
 
 def put(data):

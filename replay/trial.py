@@ -9,7 +9,7 @@ from drive import Run, Setting
 from program import Failed
 from questions import NOTHING, PAUSES, compared
 from recording import read
-from script import write
+from script import quoted, write
 from search import Search, SmallCase, asked_after, differing, verdict_of
 from servers import Tape
 
@@ -24,13 +24,14 @@ def forget():
             os.unlink(name)
 
 
-def run(program, command, given, folders):
+def run(program, log, command, given, folders):
     """Does the trial, and writes its lines. The status of the script."""
     recording = read(program)
+    log.check_unchanged()
     for line in recording.report:
         report.line(line)
     if not any(it.method == "initialize" for it in recording.messages):
-        raise Failed(f"{given.log}: there is nothing to replay", 2)
+        raise Failed(f"{log.shown}: there is nothing to replay", 2)
     setting = Setting(program, recording, command, given.wait, folders)
     asked = Asked(setting, given.every)
     with written(given.write) as tape:
@@ -60,7 +61,7 @@ def written(path):
             if tape.error:
                 raise tape.error
     except OSError as error:
-        raise Failed(f"{path}: {error.strerror}", 3) from error
+        raise Failed(f"{quoted(path)}: {error.strerror}", 3) from error
 
 
 class Asked:
@@ -154,4 +155,4 @@ def write_small(setting, found, path):
         report.line(f"small none: lspcheck says {verdict}")
         return
     write(path, log)
-    report.line("small", path, messages, "messages")
+    report.line("small", quoted(path), messages, "messages")

@@ -1,4 +1,4 @@
-"""The example of README, and real servers, as far as they are installed."""
+"""The example of GOT_A_LOG, and real servers, as far as they are installed."""
 
 import os
 import re
@@ -19,8 +19,8 @@ SERVERS = {"clangd": "c.cpp", "pylsp": "p.py", "gopls": "g.go"}
 
 
 def example():
-    """The command of README's example, and a pattern of what it writes."""
-    text = (TOP / "README.md").read_text()
+    """The command of the example in docs/GOT_A_LOG.md, and a pattern of what it writes."""
+    text = (TOP / "docs/GOT_A_LOG.md").read_text()
     command, lines = re.search(r"^\$ (lspcheck-replay .*)\n((?:.*\n)*?)```$", text, re.M).groups()
     return command, re.escape(lines).replace(re.escape("..\n"), r"(?:.*\n)*?")
 
@@ -34,7 +34,7 @@ def scripts(place, commands):
     return {**os.environ, "PATH": f"{place}:{os.environ['PATH']}"}
 
 
-def readme_shows_what_is_written(program, place):
+def page_shows_what_is_written(program, place):
     """The server of the tests stands for pylsp, and counts characters, too."""
     command, pattern = example()
     hasty = [sys.executable, HASTY, "--program", program]
@@ -47,7 +47,7 @@ def readme_shows_what_is_written(program, place):
 def readme_shows_what_pylsp_does(program, place):
     version = shutil.which("pylsp") and subprocess.run(["pylsp", "--version"], capture_output=True, text=True)
     if not version or "1.7.1" not in version.stdout + version.stderr:
-        print("left out, since there is no pylsp 1.7.1: the example of README with it")
+        print("left out, since there is no pylsp 1.7.1: the example of docs/GOT_A_LOG.md with it")
         return
     command, pattern = example()
     setting = scripts(place, {"lspcheck-replay": [sys.executable, COMMAND, "--program", program]})
@@ -99,5 +99,5 @@ def finds_where_clangd_drops_a_document(program, place):
     assert check(program, small) == "yes" and f"\nsmall {small} 6 messages\n" in done.stdout, done
 
 
-TESTS = [readme_shows_what_is_written]
+TESTS = [page_shows_what_is_written]
 LONG_TESTS = [readme_shows_what_pylsp_does, accuses_no_real_server, finds_where_clangd_drops_a_document]

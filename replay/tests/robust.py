@@ -92,7 +92,7 @@ def leaves_no_process(program, place):
             time.sleep(0.3)
             process.send_signal(number)
             assert process.wait(20) == -number, process.stderr.read()
-            assert process.stderr.read() == b""
+            assert process.stderr.read().decode() == f"lspcheck-replay: stopped by {number.name}\n"
             assert not (place / "new.log").exists()
         started = [int(it) for it in children.read_text().split()]
         assert len(started) >= 2, started

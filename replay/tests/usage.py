@@ -1,14 +1,17 @@
 """The command: its statuses and messages, each value that it writes, and its options."""
 
 import json
+import os
 import re
 import shutil
 import subprocess
+import sys
+import threading
 
 import sessions
 from expected import messages_of
 from logs import frame, notification, request, result, snapshot
-from trials import COMMAND, TOP, check, run, run_waiting
+from trials import COMMAND, HASTY, SERVER, TOP, check, run, run_waiting
 
 URI = "file:///old/folder/a%20b.py"
 AT_THE_END = ('"shutdown"', '"exit"')
@@ -55,7 +58,11 @@ def answers_bad_arguments(program, place):
         (["--write", log], "is the log that is replayed"),
         (["--small", log], "is the log that is replayed"),
         (["--write", place / "x", "--small", place / "x"], "name the same file"),
+        (["--write", "-"], "- is not a file to write: standard output has the report"),
+        (["--small", "-"], "- is not a file to write: standard output has the report"),
         (["--bogus"], "--bogus"),
+        # No option may be cut short, so that a later one can't change what a script means.
+        (["--smal", place / "x"], "--smal"),
     ]:
         refuses(run(program, log, options=options), 64, words)
     refuses(run(program, log, server=[]), 64, "SERVER")
@@ -68,9 +75,55 @@ def answers_faults_of_files(program, place):
     for option in ("--write", "--small"):
         refuses(run(program, log, options=[option, place / "no/file"]), 3, "No such file or directory")
         refuses(run(program, log, options=[option, place]), 3, "Is a directory")
+    refuses(run(program, place / "a\x1b[31m\nb.log"), 3, 'a\\u001b[31m\\nb.log": No such file or directory')
     with open("/dev/full", "w") as full:
-        done = run(program, log, capture_output=False, stdout=full, stderr=-1)
-    refuses(done, 3, "standard output: No space left on device")
+        for options, given in [([], log), (["--version"], log), (["--help"], log)]:
+            done = run(program, given, options=options, capture_output=False, stdout=full, stderr=-1)
+            refuses(done, 3, "standard output: No space left on device")
+
+
+def ends_quietly_where_its_reader_is_gone(program, place):
+    log = put(place, small_session().end())
+    for options in (["--help"], ["--version"], []):
+        words = [sys.executable, HASTY, "--program", program, *options, log, *SERVER]
+        piped = f"{{ sleep 0.5; {' '.join(map(str, words))}; echo $? >&2; }} | true"
+        done = subprocess.run(["bash", "-c", piped], capture_output=True, text=True, timeout=60)
+        assert done.stderr == "141\n", (options, done)
+
+
+def reads_standard_input(program, place):
+    """From a pipe, a file or a named pipe: what is found is the same, and no copy is left."""
+    log, folder = put(place, small_session().end()), place / "temporary"
+    folder.mkdir()
+    how = {"env": {**os.environ, "TMPDIR": str(folder)}}
+    wanted = run(program, log, "lose=2", **how)
+    assert wanted.returncode == 1 and "differs after editor " in wanted.stdout, wanted
+    piped = run(program, "-", "lose=2", input=log.read_bytes().decode(), **how)
+    assert (piped.returncode, piped.stdout, piped.stderr) == (1, wanted.stdout, ""), piped
+    with log.open() as file:
+        assert run(program, "-", "lose=2", stdin=file, **how).stdout == wanted.stdout
+    os.mkfifo(place / "pipe.log")
+    threading.Thread(target=(place / "pipe.log").write_bytes, args=[log.read_bytes()], daemon=True).start()
+    assert run(program, place / "pipe.log", "lose=2", **how).stdout == wanted.stdout
+    refuses(run(program, "-", input="", **how), 2, "standard input: there is nothing to replay")
+    assert list(folder.iterdir()) == [], list(folder.iterdir())
+
+
+def says_that_the_log_changed(program, place):
+    """A log that is still being written: what was judged and what is read would differ."""
+    log = put(place, small_session().end())
+    writes = place / "writes"
+    writes.write_text(f'#!/bin/sh\n[ "$1" != check ] || printf x >> {log}\nexec {program} "$@"\n')
+    writes.chmod(0o755)
+    refuses(run(writes, log), 2, "session.log: it changed while it was read: try again")
+
+
+def says_its_version(program, place):
+    """That of lspcheck."""
+    version = subprocess.run([program, "--version"], capture_output=True, text=True).stdout.split()[1]
+    done = run(program, "--version", server=[], command=COMMAND)
+    assert (done.returncode, done.stdout) == (0, f"lspcheck-replay {version}\n"), done
+    assert f'"lspcheck {version}"' in (TOP / "docs/lspcheck-replay.1").read_text().split("\n")[0]
 
 
 def says_why_nothing_can_be_said(program, place):
@@ -295,10 +348,10 @@ def asks_what_is_offered(program, place):
     helped = run(program, "--help", server=[], command=COMMAND).stdout
     manual = (TOP / "docs/lspcheck-replay.1").read_text().replace("\\-", "-")
     options = re.findall(r"^  (--\w+)", helped, re.M)
-    assert len(options) == 6, helped
-    assert re.findall(r"^\.BI (--\w+)", manual, re.M) == sorted(options), options
+    assert len(options) == 7, helped
+    assert sorted(re.findall(r"^\.TP\n\.BI? (--\w+)", manual, re.M)) == sorted(options), options
     synopsis = manual.partition(".SH DESCRIPTION")[0]
-    assert sorted(re.findall(r"--\w+", synopsis)) == sorted(options), synopsis
+    assert sorted([*re.findall(r"--\w+", synopsis), "--version"]) == sorted(options), synopsis
     statuses = re.findall(r"^\.TP\n\.B (\d+)$", manual, re.M)
     assert statuses == ["0", "1", "2", "3", "64"], statuses
     assert re.findall(r"\b(\d+) (?:no|a|nothing|bad) ", helped.replace("\n", " ")) == statuses, helped
@@ -307,6 +360,10 @@ def asks_what_is_offered(program, place):
 TESTS = [
     answers_bad_arguments,
     answers_faults_of_files,
+    ends_quietly_where_its_reader_is_gone,
+    reads_standard_input,
+    says_that_the_log_changed,
+    says_its_version,
     says_why_nothing_can_be_said,
     writes_each_value,
     writes_the_difference,

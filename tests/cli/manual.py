@@ -1,7 +1,35 @@
-"""Compares the manual page with the texts of help: the commands, what each takes, options and
-statuses."""
+"""Compares the manual pages with the texts of help: the commands, what each takes, options and
+statuses; and with the variables of the environment that the sources read."""
 
 import re
+
+# For each manual page, the files that read the variables in it.
+SOURCES = {
+    "lspcheck": [
+        "crates/*/src/**/*.rt",
+        "recorders/ale/job.vim",
+        "recorders/emacs.el",
+        "recorders/neovim.lua",
+        "recorders/node/*.cjs",
+        "recorders/python/*.py",
+    ],
+    "lspcheck-page": ["page/lspcheck-page", "page/*.py"],
+    "lspcheck-replay": ["replay/lspcheck-replay", "replay/*.py"],
+    "lspcheck-proxy": ["recorders/proxy", "recorders/proxy_*.py", "recorders/vscode/*.js"],
+    "lspcheck-from-trace": ["recorders/from-trace", "recorders/session_log.py"],
+    "lspcheck-shrink": ["recorders/shrink", "recorders/shrink_*.py"],
+    "lspcheck-without": ["recorders/without", "recorders/outputs.py"],
+}
+VARIABLE = re.compile(r"(?:environ(?:\.get\(|\[)\"|getenv(?: |\()\"|env::var(?:_os)?\(\"|process\.env\.|empty\(\$)(\w+)")
+
+# Those that Python and the system read for a script.
+OF_THE_SYSTEM = {"PATH", "TMPDIR"}
+
+# Options of other programs that a text of help has.
+OF_OTHERS = {"--version", "--log"}
+
+# Requests that only say how lines are broken.
+LINES = re.compile(r"^\.(?:nh|hy|ad l|ad)\n", re.M)
 
 
 def plain(line):
@@ -22,7 +50,7 @@ def heads(page, name):
 
 def synopsis(page):
     """What each command takes, as the synopsis has it: options, and the names of the arguments."""
-    for entry in section(page, "SYNOPSIS").split("\n.br\n"):
+    for entry in LINES.sub("", section(page, "SYNOPSIS")).split("\n.br\n"):
         words = " ".join(map(plain, entry.splitlines())).replace("[", " ").replace("]", " ").split()
         yield words[1], sorted({it for it in words[2:] if it.startswith("--")}), [it for it in words if it.isupper()]
 
@@ -63,3 +91,22 @@ def compared(page, helps):
             taken[name] = (long, re.findall(r"[<\[]([A-Z]+)[>\]]", usage.replace("[OPTIONS]", "")))
     yield "synopsis", {name: (long, arguments) for name, long, arguments in synopsis(page)}, taken
     yield "statuses", [int(it[0]) for it in heads(page, "EXIT STATUS")], statuses(helps[""])
+
+
+def environment(name, page, top):
+    """The variables that the sources of a page read, and those that it has."""
+    files = [file for pattern in SOURCES[name] for file in sorted(top.glob(pattern))]
+    read = {it for file in files for it in VARIABLE.findall(file.read_text())}
+    return read, {it[0] for it in heads(page, "ENVIRONMENT")} - OF_THE_SYSTEM
+
+
+def compared_script(page, text):
+    """The same pairs for a script, whose help is this text."""
+    listed = {it for words in heads(page, "OPTIONS") for it in words if it.startswith("--")}
+    told = set(re.findall(r"(?<![\w-])--[a-z-]+", text.partition("Exit status:")[0]))
+    yield "options", listed - {"--help"}, told - {"--help", *OF_OTHERS}
+    taken = set(re.findall(r"--[a-z-]+", " ".join(map(plain, section(page, "SYNOPSIS").splitlines()))))
+    yield "synopsis", taken, listed - {"--help"}
+    if "Exit status:" in text:
+        statuses = re.findall(r"\b(\d+) (?=[A-Za-z])", text.partition("Exit status:")[2].partition("\n\n")[0])
+        yield "statuses", [it[0] for it in heads(page, "EXIT STATUS")], statuses

@@ -1,4 +1,4 @@
-// Runs the extension that LOG_FORMAT.md shows against a stand-in of VS Code's API, with a client
+// Runs the extension of recorders/vscode against a stand-in of VS Code's API, with a client
 // that sends the same changes to a server through the proxy.
 //
 // usage: node vscode.js EXTENSION URI COMMAND ..

@@ -1,6 +1,6 @@
 -- What commands ask for, by what was found of their arguments.
-use Rattle.std.proofs.Common.{◌≡◌, ◌∙◌, ◌<◌, ◌≤◌, ◌==◌, ◌^◌, ℕ, Bool, true, false, List, [], ◌∷◌}
-use Rattle.std.proofs.Common.{length, map, option_map, Option, Some, None, Result, refl, sym, ap}
+use Rattle.std.proofs.Common.{◌≡◌, ◌∙◌, ◌<◌, ◌==◌, ◌^◌, ℕ, Bool, true, false, List}
+use Rattle.std.proofs.Common.{option_map, Option, Some, None, Result, refl, sym, ap}
 use Rattle.std.proofs.Common.{subst, codes, arith, slice_index}
 use Rattle.std.specs.Prelude.{MatchOption, unwrap_or}
 use Rattle.std.specs.Borrow.{Bor}
@@ -16,7 +16,7 @@ use Rattle.clap.proofs.WalkLemmas.{one_text-rows, raw_values-rows}
 use Rattle.lsp_verdict.specs.declared.lines.Lines.{Lines}
 use Rattle.lsp_command.specs.Words.{AsksCheck, AsksExplain, AsksShow, AsksText, GivesNumber}
 use Rattle.lsp_command.specs.Words.{HasTask, IsFlag, NumberIn, check_of, compared_of}
-use Rattle.lsp_command.specs.Words.{completeness_of, explain_of, listing_of, several_of, show_of}
+use Rattle.lsp_command.specs.Words.{completeness_of, explain_of, inputs_of, listing_of, show_of}
 use Rattle.lsp_command.specs.Words.{text_of}
 use Rattle.lsp_command.specs.declared.command_line.task.Task.{Task}
 use Rattle.lsp_command.specs.declared.command_line.task.Task.TheVariants as tasks
@@ -178,27 +178,9 @@ no_event rows none tasks.Normal h = apart _ _ refl h.command
 no_event rows none tasks.Upgrade h = apart _ _ refl h.command
 no_event rows none (tasks.Frames mode) h = apart _ _ refl h.command
 
--- ---- several files
+-- ---- what is to be read
 
--- what is named is one file at most: there are no several
-pub few_files : (f : Found) (files : List (Bor Text)) → length files ≤ 1
-    → Some (map (λ file. file.now) files) ≡ option_map raw_values (matched_of f (codes "file"))
-    → [] ≡ several_of (all_of (codes "file") (rows_of f))
-few_files f [] few named = ap several_of (named ∙ raw_values-rows f (codes "file"))
-few_files f (file ∷ []) few named = ap several_of (named ∙ raw_values-rows f (codes "file"))
-few_files f (file ∷ next ∷ more) few named = absurd (omega (arith, few))
-
--- more are named: all of them
-pub several_files : (f : Found) (files : List (Bor Text)) → 1 < length files
-    → Some (map (λ file. file.now) files) ≡ option_map raw_values (matched_of f (codes "file"))
-    → map (λ file. file.now) files ≡ several_of (all_of (codes "file") (rows_of f))
-several_files f [] many named = absurd (omega (arith, many))
-several_files f (file ∷ []) many named = absurd (omega (arith, many))
-several_files f (file ∷ next ∷ more) many named =
-    ap several_of (named ∙ raw_values-rows f (codes "file"))
-
--- nothing is named
-pub no_files : (f : Found)
-    → ◌≡◌ {A = Option (List Text)} None (option_map raw_values (matched_of f (codes "file")))
-    → [] ≡ several_of (all_of (codes "file") (rows_of f))
-no_files f named = ap several_of (named ∙ raw_values-rows f (codes "file"))
+pub inputs_are : (f : Found) (named : Option (List Text))
+    → named ≡ option_map raw_values (matched_of f (codes "file"))
+    → inputs_of named ≡ inputs_of (all_of (codes "file") (rows_of f))
+inputs_are f named is = ap inputs_of (is ∙ raw_values-rows f (codes "file"))

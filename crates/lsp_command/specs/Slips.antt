@@ -1,6 +1,7 @@
 -- What words may have left out.
-use Rattle.std.specs.Prelude.{List, [], ◌∷◌, Option, Some, None, is_some, codes, if◌then◌else◌}
+use Rattle.std.specs.Prelude.{List, [], ◌∷◌, Option, Some, None, ◌==◌, codes, if◌then◌else◌}
 use Rattle.clap.specs.Words.{Text}
+use Rattle.lsp_command.specs.Several.{standard_inputs}
 use Rattle.lsp_command.specs.declared.command_line.slip.Slip.{Slip}
 use Rattle.lsp_command.specs.declared.command_line.slip.Slip.TheVariants.{Command, Uri}
 use Rattle.lsp_command.specs.declared.command_line.task.Request.{Request}
@@ -31,9 +32,9 @@ uri_of tasks.Normal = None
 uri_of tasks.Upgrade = None
 uri_of (tasks.Frames mode) = None
 
--- the URI whose document a request asks for, if it names no file
+-- the URI whose document a request asks for, if it reads standard input
 abbrev pub uri_alone : Request → Option Text
-uri_alone request = if is_some request.file then None else uri_of request.task
+uri_alone request = if standard_inputs request == 0 then None else uri_of request.task
 
 -- the words that say what may have been left out
 abbrev pub slip_text : Slip → Text

@@ -1,5 +1,5 @@
 -- What the words of a command line ask for, read off what `clap` finds in them.
-use Rattle.std.specs.Prelude.{◌≡◌, ◌⊎◌, ◌<◌, ◌^◌, ◌&&◌, ℕ, Bool, true, false, List, [], ◌∷◌, map, Option, Some, None, MatchOption, codes, option_and_then, option_map, if◌then◌else◌}
+use Rattle.std.specs.Prelude.{◌≡◌, ◌⊎◌, ◌<◌, ◌^◌, ◌&&◌, ℕ, Bool, true, false, List, [], ◌∷◌, map, Option, Some, None, MatchOption, codes, if◌then◌else◌}
 use Rattle.std.specs.Borrow.{Bor}
 use Rattle.std.specs.Str.{bytes_eq}
 use Rattle.std.specs.Str.Parse.{IsNumeral, digits_value, without_leading_plus}
@@ -32,16 +32,14 @@ use Rattle.lsp_command.specs.declared.command_line.task.Task.TheVariants as task
 abbrev pub rows_in : ArgMatches → List Row
 rows_in arguments = rows_of (found_of arguments)
 
--- the file of a name: standard input for `-`, and where there is no name
-abbrev pub file_of : Option (List ℕ) → Option (List ℕ)
-file_of name = option_and_then (λ n. if bytes_eq n (codes "-") then None else Some n) name
+-- the file of this name; `-` names none, but standard input
+abbrev pub file_of : Text → Option Text
+file_of name = if bytes_eq name (codes "-") then None else Some name
 
--- the files that are named, where there are several
-abbrev pub several_of : Option (List Text) → List Text
-several_of None = []
-several_of (Some []) = []
-several_of (Some (file ∷ [])) = []
-several_of (Some (file ∷ next ∷ more)) = file ∷ next ∷ more
+-- what is to be read: what is named, or standard input
+abbrev pub inputs_of : Option (List Text) → List Text
+inputs_of None = codes "-" ∷ []
+inputs_of (Some named) = named
 
 -- the mode of a name
 abbrev pub mode_named : List ℕ → Mode
@@ -218,13 +216,13 @@ abbrev pub TaskIn : Text → List Row → Option Task → Type 0
 TaskIn name rows result =
     MatchOption result ((task : Task) → HasTask name rows task → ⊥) (HasTask name rows)
 
--- a command of this name asks for the request: its task, the file that it names, all files where
--- it names several, whether no progress is to be shown, whether a Yes must rest on a snapshot that
--- was compared, whether both texts that differ are to be written, and whether line ends count
+-- a command of this name asks for the request: its task, what is to be read, whether no progress is
+-- to be shown, whether a Yes must rest on a snapshot that was compared, whether both texts that
+-- differ are to be written, and whether line ends count
 pub record AsksOf (name : Text) (rows : List Row) (request : Request) : Type 0 where
   pub task : HasTask name rows request.task
-  pub file : option_map (λ path. path.now) request.file ≡ file_of (first_of (codes "file") rows)
-  pub files : map (λ path. path.now) request.files.items ≡ several_of (all_of (codes "file") rows)
+  pub inputs : map (λ input. input.now) request.inputs.items
+      ≡ inputs_of (all_of (codes "file") rows)
   pub quiet : IsFlag (one_of (codes "quiet") rows) request.quiet
   pub compared : IsFlag (one_of (codes "compared") rows) request.compared
   pub both_texts : AsksBoth rows request.both_texts

@@ -1,6 +1,6 @@
 //! The words of the command line, and what they ask for.
 //!
-//! `request_of` reads the words: a [`Request`] is a [`Task`] and the file to do it on. A [`Slip`]
+//! `request_of` reads the words: a [`Request`] is a [`Task`] and the inputs to do it on. A [`Slip`]
 //! says what the words may have left out, and a [`Misuse`] what is asked and cannot be done.
 
 mod commands;
@@ -12,4 +12,4 @@ mod words;
 pub use several::{Misuse, misuse_of, quoted_name};
 pub use slip::{Slip, only_word, uri_alone};
 pub use task::{Request, Task};
-pub use words::request_of;
+pub use words::{file_of, request_of};

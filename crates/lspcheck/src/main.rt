@@ -12,22 +12,22 @@
 #![tactic(auto)]
 
 mod explaining;
+mod inputs;
 mod progress;
-mod several;
 mod shown_name;
 mod wrong_words;
 
 use clap::error::ErrorKind;
 use explaining::show_explaining;
+use inputs::status_of_inputs;
 pub use lsp_command::status_of;
 use lsp_command::{
-    BufferedInput, BufferedOutput, Hint, Pace, Request, Slip, Supply, TaskOutcome, hint_of,
-    lacks_comparison, misuse_of, remark_of, report_apart, request_of, run_through,
-    status_of_request, status_of_task, status_of_words, uri_alone,
+    BufferedInput, BufferedOutput, Hint, Pace, Request, Supply, Task, TaskOutcome, file_of,
+    hint_of, misuse_of, remark_of, report_apart, request_of, run_through, status_of_task,
+    status_of_words,
 };
 use lsp_judge::RunFault;
 use progress::Progress;
-use several::status_of_each;
 use shown_name::ShownName;
 use std::alloc::Global;
 use std::fs::OpenFile;
@@ -35,7 +35,7 @@ use std::io::{IsTerminal, Read};
 use std::process::ExitCode;
 use std::rt::{Clock, Env, Files};
 use std::{env, fs, io};
-use wrong_words::{show_slip, status_of_misuse, status_of_wrong_words};
+use wrong_words::{status_of_misuse, status_of_wrong_words};
 
 /// The status where the verdict is a No.
 const NO: u8 = 1;
@@ -84,19 +84,20 @@ fn run_on<R: Clock + Print + Eprint + AllocGlobal, I: Read + Drop>(
     rt: &R,
     input: I,
     request: &Request<'_>,
+    task: Task<'_>,
     progress: &Progress<'_, R>,
 ) -> Ended {
     let alloc = rt.alloc();
     let supply = Supply::watched_by(progress);
-    let Ok(mut input) = BufferedInput::new(alloc, input, &request.task, &supply) else {
+    let Ok(mut input) = BufferedInput::new(alloc, input, &task, &supply) else {
         return Ended::by(RunFault::Memory);
     };
-    let pace = Pace::of(&request.task, &supply);
+    let pace = Pace::of(&task, &supply);
     let Ok(mut output) = BufferedOutput::new(alloc, io::writer(rt), pace) else {
         return Ended::by(RunFault::Memory);
     };
     let limits = request.limits();
-    let answer = run_through(alloc, request.task, &mut input, &mut output, limits);
+    let answer = run_through(alloc, task, &mut input, &mut output, limits);
     let advice = match answer {
         Err(RunFault::Read) => input.cause().map(Advice::Input),
         Err(RunFault::Write) => output.cause().map(Advice::Output),
@@ -111,11 +112,12 @@ fn run_watched<R: Clock + Print + Eprint + AllocGlobal, I: Read + Drop>(
     input: I,
     size: Option<u64>,
     request: &Request<'_>,
+    task: Task<'_>,
     terminals: Terminals,
 ) -> Ended {
     let is_on = terminals.error && !request.quiet;
     let progress = Progress::new(rt, size, is_on, terminals.output);
-    let ended = run_on(rt, input, request, &progress);
+    let ended = run_on(rt, input, request, task, &progress);
     progress.clear();
     ended
 }
@@ -128,19 +130,21 @@ fn size_of<F: OpenFile>(file: &F) -> Option<u64> {
     }
 }
 
-/// Runs over the file, or over standard input.
+/// Does the task of a request on one of its inputs.
 fn run<R: Clock + Files + io::Input + Print + Eprint + AllocGlobal>(
     rt: &R,
     request: &Request<'_>,
+    task: Task<'_>,
+    input: &str,
     terminals: Terminals,
 ) -> Ended {
-    let Some(path) = request.file else {
-        return run_watched(rt, rt.reader(), None, request, terminals);
+    let Some(path) = file_of(input) else {
+        return run_watched(rt, rt.reader(), None, request, task, terminals);
     };
     match fs::open(rt, path) {
         Ok(file) => {
             let size = size_of(&file);
-            run_watched(rt, file, size, request, terminals)
+            run_watched(rt, file, size, request, task, terminals)
         }
         Err(cause) => Ended {
             answer: Err(RunFault::Read),
@@ -162,8 +166,14 @@ fn show_report<R: Eprint + AllocGlobal>(
     Ok(outcome)
 }
 
-/// Says on standard error what may help.
-fn show_advice<R: Eprint>(rt: &R, file: Option<&ShownName<'_>>, advice: Option<Advice>) {
+/// Says on standard error what may help with an input. Of several, a hint names the one.
+fn show_advice<R: Eprint>(
+    rt: &R,
+    request: &Request<'_>,
+    file: Option<&ShownName<'_>>,
+    advice: Option<Advice>,
+) {
+    let is_several = request.is_several();
     let _ = match advice {
         None => Ok(()),
         Some(Advice::Input(cause)) => match file {
@@ -171,7 +181,10 @@ fn show_advice<R: Eprint>(rt: &R, file: Option<&ShownName<'_>>, advice: Option<A
             None => eprintln!(rt; "lspcheck: standard input: {cause}"),
         },
         Some(Advice::Output(cause)) => eprintln!(rt; "lspcheck: standard output: {cause}"),
-        Some(Advice::Hint(hint)) => eprintln!(rt; "lspcheck: hint: {hint}"),
+        Some(Advice::Hint(hint)) => match file {
+            Some(name) if is_several => eprintln!(rt; "lspcheck: hint: {name}: {hint}"),
+            _ => eprintln!(rt; "lspcheck: hint: {hint}"),
+        },
     };
 }
 
@@ -193,38 +206,6 @@ fn status_shown<R: Eprint>(rt: &R, fault: RunFault) -> u8 {
     let answer = Err(fault);
     show_remark(rt, &answer);
     status_of_task(&answer)
-}
-
-/// Runs, and writes to standard error what there is to report. Where the words left something out,
-/// and that was said, there is no hint on the input.
-fn status_of_run<R: Clock + Files + io::Input + Print + Eprint + AllocGlobal>(
-    rt: &R,
-    request: &Request<'_>,
-    has_slip: bool,
-    terminals: Terminals,
-) -> u8 {
-    let ended = run(rt, request, terminals);
-    let is_no = ended.is_no();
-    let advice = match ended.advice {
-        Some(Advice::Hint(_)) if has_slip => None,
-        advice => advice,
-    };
-    let answer = show_report(rt, request, ended.answer);
-    show_remark(rt, &answer);
-    if lacks_comparison(request, &answer) {
-        show_lack(rt);
-    }
-    let file = shown_file(rt.alloc(), request);
-    show_advice(rt, file.as_ref(), advice);
-    if is_no && terminals.error {
-        show_explaining(rt, request, file.as_ref());
-    }
-    status_of_request(request, &answer)
-}
-
-/// The file as messages show it, unless it is standard input.
-fn shown_file<'a>(alloc: Global, request: &Request<'a>) -> Option<ShownName<'a>> {
-    Some(ShownName::new(alloc, request.file?))
 }
 
 /// The words of the command line.
@@ -261,11 +242,7 @@ fn status_of_what_is_asked<R: Clock + Files + io::Input + Print + Eprint + Alloc
     if let Some(misuse) = misuse_of(request) {
         return status_of_misuse(rt, misuse);
     }
-    if request.files.is_empty() {
-        let has_slip = show_slip(rt, Slip::Uri, uri_alone(request));
-        return status_of_run(rt, request, has_slip, terminals);
-    }
-    status_of_each(rt, request, terminals)
+    status_of_inputs(rt, request, terminals)
 }
 
 fn main(rt: HostRuntime) -> ExitCode {

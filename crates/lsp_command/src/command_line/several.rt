@@ -1,8 +1,8 @@
-//! What is asked and cannot be done, and how each of several files is named.
-ghost use Rattle.std.specs.Prelude.{◌≡◌, IfOk, map, option_map, string_bytes};
+//! What is asked and cannot be done, and how each of several inputs is named.
+ghost use Rattle.std.specs.Prelude.{◌≡◌, IfOk, option_map, string_bytes};
 ghost use Rattle.std.specs.List.{list_any};
 ghost use Rattle.std.specs.Str.{chars};
-ghost use Rattle.lsp_command.specs.Several.{inputs, is_listing, misuse_of, quoted_name};
+ghost use Rattle.lsp_command.specs.Several.{is_listing, misuse_of, quoted_name};
 ghost use Rattle.lsp_command.specs.ShownText as shown;
 
 use crate::command_line::task::{Request, Task};
@@ -14,7 +14,7 @@ use std::fmt;
 /// What is asked and cannot be done.
 #[derive(Clone, Copy, Debug, PartialEq, Eq)]
 pub enum Misuse {
-    /// A list of the violations of several files, each of which has one line.
+    /// A list of the violations of several logs, each of which has one line.
     Listing,
     /// Standard input twice, since it can be read only once.
     InputTwice,
@@ -44,21 +44,14 @@ fn is_listing(task: Task<'_>) -> bool
     matches!(task, Task::Survey(..))
 }
 
-/// How many of the files are standard input.
-fn inputs(files: &[&str]) -> usize
-    ensures { result ≡ inputs (map (λ file. file.now) files.now) }
-{
-    files.iter().filter(|file| **file == "-").count()
-}
-
 /// What the request asks that cannot be done.
 pub fn misuse_of(request: &Request<'_>) -> Option<Misuse>
     ensures { result ≡ misuse_of request.now }
 {
-    if !request.files.is_empty() && is_listing(request.task) {
+    if request.is_several() && is_listing(request.task) {
         return Some(Misuse::Listing);
     }
-    if inputs(request.files.as_slice()) > 1 {
+    if request.standard_inputs() > 1 {
         return Some(Misuse::InputTwice);
     }
     if request.both_texts {

@@ -38,11 +38,11 @@ pub fn only_word(words: &[String]) -> Option<&str>
     }
 }
 
-/// The URI whose document is asked for, if no file is named.
+/// The URI whose document is asked for, if standard input is read.
 pub fn uri_alone<'a>(request: &Request<'a>) -> Option<&'a str>
     ensures { option_map (λ uri. uri.now) result ≡ uri_alone request.now }
 {
-    if request.file.is_some() {
+    if request.standard_inputs() == 0 {
         return None;
     }
     match request.task {

@@ -1,14 +1,12 @@
 //! What a command line can ask for.
 ghost use Rattle.std.specs.Prelude.{◌≡◌};
-ghost use Rattle.lsp_command.specs.Several.{IsForOne, line_task};
+ghost use Rattle.lsp_command.specs.Several.{is_several, line_task, standard_inputs};
 ghost use Rattle.lsp_command.specs.Words.{limits_by};
 
-use crate::command_line::words::file_of;
 use lsp_explain::ComparedText;
 use lsp_frame::Limits;
 use lsp_types::LineEnds;
 use lsp_verdict::{Completeness, Lines, Listing, Mode};
-use std::alloc::Global;
 use std::num::NonZeroU64;
 
 /// What to do with what is read.
@@ -61,10 +59,8 @@ pub enum Task<'a> {
 #[derive(Drop)]
 pub struct Request<'a> {
     pub task: Task<'a>,
-    /// The file to read, or standard input.
-    pub file: Option<&'a str>,
-    /// The files in order, with `-` for standard input, where there are several; none otherwise.
-    pub files: Vec<&'a str>,
+    /// What is to be read, in order: names of files, and `-` for standard input.
+    pub inputs: Vec<&'a str>,
     /// Whether no progress is shown.
     pub quiet: bool,
     /// Whether the status tells a Yes for which no snapshot was compared from any other.
@@ -86,28 +82,29 @@ impl<'a> Request<'a> {
         }
     }
 
-    /// The request to judge this file, one of several, and to write its line with this name.
-    pub fn for_one(&self, alloc: Global, file: &'a str, name: &'a str) -> Request<'a>
-        ensures { IsForOne self.now file.entry name.entry result }
+    /// Whether there are several inputs, each of which has one line.
+    pub fn is_several(&self) -> bool
+        ensures { result ≡ is_several self.now }
     {
-        Request {
-            task: line_task(self.task, name),
-            file: file_of(Some(file)),
-            files: Vec::new(alloc),
-            quiet: self.quiet,
-            compared: self.compared,
-            both_texts: self.both_texts,
-            line_ends: self.line_ends,
-        }
+        self.inputs.len() > 1
+    }
+
+    /// How often standard input is to be read.
+    pub(crate) fn standard_inputs(&self) -> usize
+        ensures { result ≡ standard_inputs self.now }
+    {
+        self.inputs.iter().filter(|input| **input == "-").count()
     }
 }
 
-/// The task for one of several files, where a task is for all of them.
-fn line_task<'a>(task: Task<'a>, name: &'a str) -> Task<'a>
-    ensures { result ≡ line_task task.entry name.entry }
-{
-    match task {
-        Task::Check(completeness) => Task::CheckLine { completeness, name },
-        task => task,
+impl<'a> Task<'a> {
+    /// The task for one of several inputs, of which the line has this name.
+    pub fn for_line(self, name: &'a str) -> Task<'a>
+        ensures { result ≡ line_task self.entry name.entry }
+    {
+        match self {
+            Task::Check(completeness) => Task::CheckLine { completeness, name },
+            task => task,
+        }
     }
 }

@@ -4,9 +4,8 @@ ghost use Rattle.clap.specs.Words.{App, all_of, one_of, subcommand_rows_of};
 ghost use Rattle.lsp_command.specs.CommandLine.{IsCommandLine};
 ghost use Rattle.lsp_command.specs.Words.{Asks, AsksBoth, HasTask, IsFlag, NumberIn, Refuses, RequestIn};
 ghost use Rattle.lsp_command.specs.Words.{TaskIn, check_of, compared_of, completeness_of};
-ghost use Rattle.lsp_command.specs.Words.{explain_of, file_of};
-ghost use Rattle.lsp_command.specs.Words.{line_ends_of, lines_of, listing_of, mode_of, rows_in};
-ghost use Rattle.lsp_command.specs.Words.{several_of, show_of, text_of};
+ghost use Rattle.lsp_command.specs.Words.{explain_of, file_of, inputs_of, line_ends_of, lines_of};
+ghost use Rattle.lsp_command.specs.Words.{listing_of, mode_of, rows_in, show_of, text_of};
 
 use crate::command_line::commands::command_line;
 use crate::command_line::task::{Request, Task};
@@ -224,30 +223,28 @@ fn task_of<'a>(name: &str, arguments: &ArgMatches<'a>) -> Option<Task<'a>>
     }
 }
 
-/// The file of this name, where it names one: `-` is standard input.
-pub(crate) fn file_of<'a>(name: Option<&'a str>) -> Option<&'a str>
-    ensures { option_map (λ s. s.now) result ≡ file_of (option_map (λ s. s.now) name.entry) }
+/// The file of this name, unless it names standard input.
+pub fn file_of(name: &str) -> Option<&str>
+    ensures { option_map (λ file. file.now) result ≡ file_of name.now }
 {
     match name {
-        Some("-") => None,
-        _ => name,
+        "-" => None,
+        _ => Some(name),
     }
 }
 
-/// The files that are named, where there are several.
-fn several_of<'a>(alloc: Global, arguments: &ArgMatches<'a>) -> Result<Vec<&'a str>, AllocError>
-    ensures { IfOk result (λ files. map (λ file. file.now) files.items
-        ≡ several_of (all_of (codes "file") (rows_in arguments.now))) }
+/// What is to be read: what is named, or standard input.
+fn inputs_in<'a>(alloc: Global, arguments: &ArgMatches<'a>) -> Result<Vec<&'a str>, AllocError>
+    ensures { IfOk result (λ inputs. map (λ input. input.now) inputs.items
+        ≡ inputs_of (all_of (codes "file") (rows_in arguments.now))) }
 {
+    let mut inputs = Vec::new(alloc);
     let Some(named) = arguments.get_strs("file") else {
-        return Ok(Vec::new(alloc));
+        inputs.push("-")?;
+        return Ok(inputs);
     };
-    if named.len() <= 1 {
-        return Ok(Vec::new(alloc));
-    }
-    let mut files = Vec::new(alloc);
-    files.extend_from_slice(named)?;
-    Ok(files)
+    inputs.extend_from_slice(named)?;
+    Ok(inputs)
 }
 
 /// The request of the command that was found, with its arguments.
@@ -263,16 +260,14 @@ fn request_in<'a>(
     let Some(task) = task_of(name, arguments) else {
         return Ok(None);
     };
-    let file = file_of(arguments.get_str("file"));
-    let files = several_of(alloc, arguments)?;
+    let inputs = inputs_in(alloc, arguments)?;
     let quiet = is_set(arguments, "quiet");
     let compared = is_set(arguments, "compared");
     let both_texts = asks_both(arguments);
     let ignored = is_set(arguments, "ignore-line-ends");
     Ok(Some(Request {
         task,
-        file,
-        files,
+        inputs,
         quiet,
         compared,
         both_texts,

@@ -1,8 +1,6 @@
-use Rattle.std.proofs.Common.{◌∙◌, ap, codes, subst, sym, List, Option, Some}
+use Rattle.std.proofs.Common.{subst, sym, List, Option, Some}
 use Rattle.clap.specs.Words.{Row, Text}
-use Rattle.clap.specs.Matches.{found_of}
-use Rattle.clap.proofs.WalkLemmas.{first_value-rows}
-use Rattle.lsp_command.specs.Words.{AsksFor, file_of, rows_in}
+use Rattle.lsp_command.specs.Words.{AsksFor, rows_in}
 use Rattle.lsp_command.specs.declared.command_line.task.Request.{Request}
 use Rattle.lsp_command.proofs.Found.{subcommand_is}
 use Rattle.lsp_command.proofs.command_line.words.request_in.Goals as goal
@@ -13,11 +11,9 @@ returns c =
     let arguments = c.in-Some.arguments.now in
     let named = c.in-Some.ensures in
     let found = subcommand_is c.args.matches.now name (rows_in arguments) named.name named.rows in
-    let file = c.get_str.ensures ∙ first_value-rows (found_of arguments) (codes "file") in
     let request : Request = record {
       task = c.in-Some-task_of.task;
-      file = c.file_of-file.result;
-      files = c.in_ok-files.files;
+      inputs = c.in_ok-inputs.inputs;
       quiet = c.is_set-quiet.result;
       compared = c.is_set-compared.result;
       both_texts = c.asks_both-both_texts.result;
@@ -25,8 +21,7 @@ returns c =
     } in
     let asked : AsksFor (Some (name, rows_in arguments)) request = record {
       task = c.in-Some-task_of.ensures;
-      file = c.file_of-file.ensures ∙ ap file_of file;
-      files = c.in_ok-files.ensures;
+      inputs = c.in_ok-inputs.ensures;
       quiet = c.is_set-quiet.ensures;
       compared = c.is_set-compared.ensures;
       both_texts = c.asks_both-both_texts.ensures;

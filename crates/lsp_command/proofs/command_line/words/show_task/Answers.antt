@@ -1,5 +1,5 @@
 use Rattle.std.proofs.Common.{codes, subst, sym}
-use Rattle.lsp_command.specs.Words.{HasTask, rows_in, show_of}
+use Rattle.lsp_command.specs.Words.{HasTask, rows_in}
 use Rattle.lsp_command.specs.declared.command_line.task.Task.{Task}
 use Rattle.lsp_command.proofs.Asked.{asks_show}
 use Rattle.lsp_command.proofs.command_line.words.show_task.Goals as goal
