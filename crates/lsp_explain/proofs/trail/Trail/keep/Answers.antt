@@ -38,8 +38,8 @@ returns-in_default-call c = on_ok_weaker c.keep_message.result (λ told terms be
     (sym seen.says ∙ ap (option_map call_view) c.in_default-call.is)) c.keep_message.ensures
 
 -- it leaves its document as it is
-pub returns-in_default-step : goal.returns-in_default-step
-returns-in_default-step c = λ terms before h is seen.
+pub returns-in_default-step_of : goal.returns-in_default-step_of
+returns-in_default-step_of c = λ terms before h is seen.
     let old = c.args.self.now in
     let call = call_view c.in-Some.call in
     let took = c.in-Kept.took in
@@ -50,10 +50,10 @@ returns-in_default-step c = λ terms before h is seen.
     trail_called terms before h old is old has.0 place refl call took old.said.renames seen.noted.0
     says (has.1 ∙ ap (took_of terms (calls (kept_before terms before))) says)
     (subst (λ (o : Option Step). Keeps (option_map (kept_call (uri_of call) place) o) old.marks
-    old.openings old.marks old.openings) c.in_default-step.ensures
+    old.openings old.marks old.openings) c.in_default-step_of.ensures
     (none_kept old.marks old.openings)) refl refl
     (sym (ap (option_or (renamed_held old.said.renames))
-    (no_edit call took place moved (sym c.in_default-step.ensures))
+    (no_edit call took place moved (sym c.in_default-step_of.ensures))
     ∙ option_or-none (renamed_held old.said.renames)))
 
 -- it does something to one
@@ -63,7 +63,7 @@ returns c = on_ok_weaker c.keep_step.result (λ keeps terms before h is seen.
     let new = c.keep_step.new in
     let raw = raw_view c.args.seen.now.raw in
     let call = call_view c.in-Some.call in
-    let step = c.in-Some-2.step in
+    let step = c.in-Some-step_of.step in
     let place = c.last-place.result in
     let noted = subst (λ (w : Raw). IsNoted w h.note) seen.is seen.noted in
     let at = c.last-place.ensures (heard_events before) h.note.event
@@ -75,5 +75,5 @@ returns c = on_ok_weaker c.keep_step.result (λ keeps terms before h is seen.
     seen.noted.0 says (has.1 ∙ ap (took_of terms (calls (kept_before terms before))) says)
     (subst (λ more. Keeps more old.marks old.openings new.marks new.openings)
     (ap (λ u. Some (kept_call u place step)) c.uri.ensures
-    ∙ ap (option_map (kept_call (uri_of call) place)) c.in-Some-2.ensures) keeps)
+    ∙ ap (option_map (kept_call (uri_of call) place)) c.in-Some-step_of.ensures) keeps)
     refl c.keep_call.ensures.moves c.in_ok-keep_call.ensures.renamed) c.keep_step.ensures
