@@ -145,9 +145,15 @@ def slow(program, place, tries):
     return script(place, f'case "$1" in explain) {lines};; esac\nexec {program} "$@"'), count
 
 
+def with_signals():
+    """Signals end this process, even if the caller of the tests ignores them."""
+    for number in (signal.SIGINT, signal.SIGTERM, signal.SIGHUP):
+        signal.signal(number, signal.SIG_DFL)
+
+
 def start(program, *words):
-    pipes = {"stdout": subprocess.PIPE, "stderr": subprocess.PIPE, "env": SETTING}
-    return subprocess.Popen(command(program, *words), start_new_session=True, **pipes)
+    how = {"stdout": subprocess.PIPE, "stderr": subprocess.PIPE, "env": SETTING, "preexec_fn": with_signals}
+    return subprocess.Popen(command(program, *words), start_new_session=True, **how)
 
 
 def wait_until_slow(count):
