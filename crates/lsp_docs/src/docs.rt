@@ -14,7 +14,8 @@ ghost use Rattle.lsp_docs.specs.Rules.{text_at, differs};
 ghost use Rattle.lsp_docs.specs.Stored.{texts_of, answer_of, IsAnswer};
 ghost use Rattle.lsp_docs.specs.State.{capped, held_in, queue_of, early_rule, rule_at};
 ghost use Rattle.lsp_docs.specs.State.{Stands, Allows, Accepts, Refuses};
-ghost use Rattle.lsp_docs.specs.Fault.{Names, IsRule};
+ghost use Rattle.lsp_types.specs.Fault.{Names, IsRule};
+ghost use Rattle.lsp_types.specs.declared.fault.Fault.TheVariants as faults;
 ghost use Rattle.lsp_docs.specs.Taken.{call_view, IsTook, MayLackMemory};
 ghost use Rattle.lsp_docs.specs.Tried.{IsTried, tried_in};
 ghost use Rattle.lsp_text.specs.Changes.{edits_of};
@@ -227,7 +228,7 @@ impl<S: TextStore> Docs<S> {
         ensures accepts { OnOk result (Accepts self.old self.new (call_view call.entry)) }
         ensures took { IfOk result (IsTook self.old (call_view call.entry)) }
         ensures refuses { IfErr result (Refuses self.old (call_view call.entry)) }
-        ensures memory { result ≡ Err DocFault.Memory
+        ensures memory { result ≡ Err faults.Memory
             → MayLackMemory self.old (call_view call.entry) }
         ensures tried { IfErr result (λ fault. (calls : List SpecCall)
             → Stands self.old calls → IsRule fault → IsTried self.old.terms calls
@@ -270,7 +271,7 @@ impl<S: TextStore> Docs<S> {
         ensures accepts { OnOk result (Accepts self.old self.new
             (opens uri.now version (chars text.now))) }
         ensures refuses { IfErr result (Refuses self.old (opens uri.now version (chars text.now))) }
-        ensures memory { result ≡ Err DocFault.Memory
+        ensures memory { result ≡ Err faults.Memory
             → Allows self.old (opens uri.now version (chars text.now)) }
         ensures err { OnErr result (self.new ≡ self.old) }
     {
@@ -304,7 +305,7 @@ impl<S: TextStore> Docs<S> {
             (changes_by encoding kind uri.now version (edits_of changes.now))) }
         ensures refuses { IfErr result (Refuses self.old
             (changes_by encoding kind uri.now version (edits_of changes.now))) }
-        ensures memory { result ≡ Err DocFault.Memory → ((calls : List SpecCall) → Stands self.old calls
+        ensures memory { result ≡ Err faults.Memory → ((calls : List SpecCall) → Stands self.old calls
             → early_rule kind version (edits_of changes.now) (held self.old.terms uri.now calls)
             ≡ None) }
         ensures err { OnErr result (self.new ≡ self.old) }
@@ -330,7 +331,7 @@ impl<S: TextStore> Docs<S> {
             (changes_by encoding kind uri.now version (edits_of changes.now))) }
         ensures refuses { IfErr result (Refuses self.old
             (changes_by encoding kind uri.now version (edits_of changes.now))) }
-        ensures memory { result ≡ Err DocFault.Memory → ((calls : List SpecCall) → Stands self.old calls
+        ensures memory { result ≡ Err faults.Memory → ((calls : List SpecCall) → Stands self.old calls
             → early_rule kind version (edits_of changes.now) (held self.old.terms uri.now calls)
             ≡ None) }
         ensures tried { IfErr result (λ fault. (calls : List SpecCall)
@@ -399,9 +400,9 @@ impl<S: TextStore> Docs<S> {
             (shows uri.now version (chars text.now))) }
         ensures answer { IfOk result (IsAnswer self.old uri.now version) }
         ensures refuses { IfErr result (Refuses self.old (shows uri.now version (chars text.now))) }
-        ensures memory { result ≡ Err DocFault.Memory
+        ensures memory { result ≡ Err faults.Memory
             → Allows self.old (shows uri.now version (chars text.now)) }
-        ensures memory_waits { result ≡ Err DocFault.Memory
+        ensures memory_waits { result ≡ Err faults.Memory
             → IsAnswer self.old uri.now version Match.Waits }
         ensures err { OnErr result (self.new ≡ self.old) }
     {

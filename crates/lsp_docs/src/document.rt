@@ -11,7 +11,8 @@ ghost use Rattle.lsp_docs.specs.Documents.{versioned};
 ghost use Rattle.lsp_docs.specs.Snapshots.{last_of};
 ghost use Rattle.lsp_docs.specs.Rules.{show_rule, text_at};
 ghost use Rattle.lsp_docs.specs.Stored.{answer_of};
-ghost use Rattle.lsp_docs.specs.Fault.{IsRule, Names};
+ghost use Rattle.lsp_types.specs.Fault.{IsRule, Names};
+ghost use Rattle.lsp_types.specs.declared.fault.Fault.TheVariants as faults;
 ghost use Rattle.lsp_docs.specs.State.{early_rule, rule_with};
 ghost use Rattle.lsp_docs.specs.Tried.{AreTried, tried_in};
 
@@ -100,7 +101,7 @@ impl<S: TextStore> Document<S> {
             (Names (rule_with terms.limit terms.line_ends (unwrap_or (option_copied due.entry) [])
             encoding kind version (edits_of changes.now)
             (Some (versioned self.old.held.version (S.content self.old.held.store))))) }
-        ensures memory { result ≡ Err DocFault.Memory
+        ensures memory { result ≡ Err faults.Memory
             → early_rule kind version (edits_of changes.now)
             (Some (versioned self.old.held.version (S.content self.old.held.store))) ≡ None }
         ensures tried { IfErr result (λ fault. IsRule fault

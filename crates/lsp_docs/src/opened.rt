@@ -7,7 +7,8 @@ ghost use Rattle.lsp_text.specs.Changes.{edits_of};
 ghost use Rattle.lsp_text.specs.Edits.{applied};
 ghost use Rattle.lsp_text.specs.Findings.{nothing};
 ghost use Rattle.lsp_docs.specs.Documents.{versioned};
-ghost use Rattle.lsp_docs.specs.Fault.{IsRule, Names};
+ghost use Rattle.lsp_types.specs.Fault.{IsRule, Names};
+ghost use Rattle.lsp_types.specs.declared.fault.Fault.TheVariants as faults;
 ghost use Rattle.lsp_docs.specs.Stored.{IsChanged};
 ghost use Rattle.lsp_docs.specs.State.{KeepsNone, KeepsSame, held_in, queue_of};
 ghost use Rattle.lsp_docs.specs.State.{early_rule, rule_with, text_in, without};
@@ -147,7 +148,7 @@ impl<S: TextStore> OpenDocuments<S> {
         ensures rule { IfErr result
             (Names (rule_with terms.limit terms.line_ends (unwrap_or (option_copied due.entry) [])
             encoding kind version (edits_of changes.now) (held_in uri.now self.old.held))) }
-        ensures memory { result ≡ Err DocFault.Memory
+        ensures memory { result ≡ Err faults.Memory
             → early_rule kind version (edits_of changes.now) (held_in uri.now self.old.held)
             ≡ None }
         ensures tried { IfErr result (λ fault. IsRule fault

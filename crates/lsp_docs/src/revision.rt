@@ -2,13 +2,13 @@
 
 ghost use Rattle.std.specs.Prelude.{◌≡◌, Ok, [], ◌∷◌, option_map, IfErr, IfOk, OnOk, OnErr};
 ghost use Rattle.std.specs.Str.{chars};
-ghost use Rattle.lsp_text.specs.Edits.{applied};
+ghost use Rattle.lsp_text.specs.Edits.{IsFaultOf, applied};
 ghost use Rattle.lsp_text.specs.SameText.{same_text};
 ghost use Rattle.lsp_text.specs.Changes.{edit_of, edits_of};
 ghost use Rattle.lsp_text.specs.Findings.{nothing, findings};
 ghost use Rattle.lsp_docs.specs.Documents.{versioned};
 ghost use Rattle.lsp_docs.specs.Rules.{differs, text_in};
-ghost use Rattle.lsp_docs.specs.Fault.{Breaks, IsRule};
+ghost use Rattle.lsp_types.specs.Fault.{IsRule};
 ghost use Rattle.lsp_docs.specs.Tried.{AreTried, tried_in};
 
 use crate::fault::DocFault;
@@ -42,7 +42,7 @@ impl<S: TextStore> Revision<S> {
             ≡ Ok (S.content self.new.store)) }
         ensures version { OnOk result (self.new.version ≡ version) }
         ensures fault { IfErr result
-            (Breaks (applied limit encoding (S.content self.old.store)
+            (IsFaultOf (applied limit encoding (S.content self.old.store)
             (edit_of edit.now ∷ []))) }
         ensures err { OnErr result ((self.new.version ≡ self.old.version)
             × (S.content self.new.store ≡ S.content self.old.store)) }
@@ -77,7 +77,7 @@ impl<S: TextStore> Revision<S> {
             (λ store. applied limit encoding (S.content self.now.store) (edits_of changes.now)
             ≡ Ok (S.content store)) }
         ensures fault { IfErr result
-            (Breaks (applied limit encoding (S.content self.now.store) (edits_of changes.now))) }
+            (IsFaultOf (applied limit encoding (S.content self.now.store) (edits_of changes.now))) }
         ensures tried { IfErr result (λ fault. IsRule fault
             → AreTried limit encoding (S.content self.now.store) (edits_of changes.now)
             (tried_in S.content tried.new)) }
@@ -91,7 +91,7 @@ impl<S: TextStore> Revision<S> {
             Err(failed) => {
                 let count = failed.made;
                 *tried = Some(Tried { store, count });
-                Err(DocFault::from(failed.fault))
+                Err(failed.fault)
             }
         }
     }

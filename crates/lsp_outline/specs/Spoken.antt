@@ -5,8 +5,8 @@ use Rattle.lsp_rpc.specs.Message.{Message}
 use Rattle.lsp_rpc.specs.Outline.{outline, without_params}
 use Rattle.lsp_rpc.specs.Params.{act_at}
 use Rattle.lsp_rpc.specs.Reading.{Reads, BreaksRule}
-use Rattle.lsp_rpc.specs.declared.fault.RpcFault.{RpcFault}
-use Rattle.lsp_rpc.specs.declared.fault.RpcFault.TheVariants.{Rule, Memory}
+use Rattle.lsp_types.specs.declared.fault.Fault.{Fault}
+use Rattle.lsp_types.specs.declared.fault.Fault.TheVariants.{Rule, Memory}
 use Rattle.lsp_outline.specs.declared.outline.Results.{Results}
 use Rattle.lsp_outline.specs.declared.outline.Results.TheVariants.{LeftOut}
 use Rattle.lsp_types.specs.declared.side.Side.{Side}
@@ -27,7 +27,7 @@ HasBadParams side content =
     (whole : Message) × Reads content whole × (act_at side whole ≡ None)
 
 -- why the content says nothing on its side, unless memory ran out
-abbrev pub IsUnspoken : Side → List ℕ → RpcFault → Type 0
+abbrev pub IsUnspoken : Side → List ℕ → Fault → Type 0
 IsUnspoken side content (Rule rule) =
     BreaksRule content rule ⊎ ((rule ≡ rules.BAD_METHOD_PARAMS) × HasBadParams side content)
 IsUnspoken side content Memory = Unit {0}

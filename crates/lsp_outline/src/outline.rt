@@ -13,7 +13,7 @@ ghost use Rattle.lsp_rpc.specs.Params as params;
 ghost use Rattle.lsp_rpc.specs.Reading as reading;
 ghost use Rattle.lsp_rpc.specs.View.{act_view, message_view};
 ghost use Rattle.lsp_rpc.specs.Words.{words_of as spec_words_of};
-ghost use Rattle.lsp_rpc.specs.declared.fault.RpcFault.TheVariants.{Memory};
+ghost use Rattle.lsp_types.specs.declared.fault.Fault.TheVariants.{Memory};
 ghost use Rattle.lsp_types.specs.declared.rules.TheConstants as rules;
 
 use crate::message::{MessageParts, Reads, parts_of_text, put_message};
@@ -298,9 +298,6 @@ impl MessageReader {
         ensures memory { result ≡ Err Memory → 0 < length content.now }
     {
         let message = self.read(content)?;
-        match words_of(self.alloc, &message) {
-            Ok(words) => Ok(words),
-            Err(_) => Err(RpcFault::Memory),
-        }
+        Ok(words_of(self.alloc, &message)?)
     }
 }

@@ -12,7 +12,7 @@ ghost use Rattle.lsp_rpc.specs.Shape.{as_id, is_id, unless_null, holds_unless_ab
 ghost use Rattle.lsp_rpc.specs.Reading as reading;
 ghost use Rattle.lsp_rpc.specs.Reading.{least_broken};
 ghost use Rattle.lsp_rpc.specs.Fault.{IsLeast, rule_unless_read};
-ghost use Rattle.lsp_rpc.specs.declared.fault.RpcFault.TheVariants.{Rule, Memory};
+ghost use Rattle.lsp_types.specs.declared.fault.Fault.TheVariants.{Rule, Memory};
 ghost use Rattle.lsp_types.specs.declared.rules.TheConstants as rules;
 
 use crate::fault::{BrokenRule, RpcFault};

@@ -4,7 +4,7 @@ ghost use Rattle.serde_json.specs.View.{view};
 ghost use Rattle.lsp_rpc.specs.View.{picked_view};
 ghost use Rattle.lsp_rpc.specs.Results as spec;
 ghost use Rattle.lsp_rpc.specs.Fault.{Gives};
-ghost use Rattle.lsp_rpc.specs.declared.fault.RpcFault.TheVariants.{Memory};
+ghost use Rattle.lsp_types.specs.declared.fault.Fault.TheVariants.{Memory};
 ghost use Rattle.lsp_types.specs.declared.rules.TheConstants as rules;
 
 use crate::act::Picked;

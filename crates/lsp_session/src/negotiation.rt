@@ -6,10 +6,11 @@ ghost use Rattle.serde_json.specs.View.{view};
 ghost use Rattle.lsp_rpc.specs.View.{offer_view, picked_view, texts_view, act_view};
 ghost use Rattle.lsp_rpc.specs.Results.{picked_at};
 ghost use Rattle.lsp_session.specs.Negotiation as spec;
-ghost use Rattle.lsp_session.specs.Refusal.{Names};
+ghost use Rattle.lsp_types.specs.Fault.{Names};
+ghost use Rattle.lsp_types.specs.declared.fault.Fault.TheVariants as faults;
 
 use crate::refusal::Refusal;
-use lsp_rpc::{Act, Encoding, Offer, Picked, RpcFault, SyncKind, picked_of};
+use lsp_rpc::{Act, Encoding, Offer, Picked, SyncKind, picked_of};
 use lsp_types::rules;
 use serde_json::Value;
 use std::alloc::Global;
@@ -81,13 +82,10 @@ pub(crate) fn agree(alloc: Global, offer: &Offer, value: &Value) -> Result<Agree
         (spec.pick_rule (offer_view offer.now) (picked_at (view value.now)) ≡ None) }
     ensures rule { IfErr result
         (Names (spec.pick_rule (offer_view offer.now) (picked_at (view value.now)))) }
-    ensures memory { result ≡ Err Refusal.Memory → is_some (picked_at (view value.now)) ≡ true }
+    ensures memory { result ≡ Err faults.Memory → is_some (picked_at (view value.now)) ≡ true }
 {
-    match picked_of(alloc, value) {
-        Ok(picked) => check_picked(offer, &picked),
-        Err(RpcFault::Rule(rule)) => Err(Refusal::Rule(rule)),
-        Err(RpcFault::Memory) => Err(Refusal::Memory),
-    }
+    let picked = picked_of(alloc, value)?;
+    check_picked(offer, &picked)
 }
 
 /// Whether a method is one of text synchronisation: opens, changes or closes of documents.

@@ -4,7 +4,8 @@ ghost use Rattle.std.specs.Prelude.{option_map, slice_get};
 ghost use Rattle.lsp_rpc.specs.Ident.{id_view};
 ghost use Rattle.lsp_session.specs.Entry.{request_view, has_id, IdsDiffer, entry_of, without};
 ghost use Rattle.lsp_session.specs.Entry.{cancel, ask_rule, new_entry};
-ghost use Rattle.lsp_session.specs.Refusal.{Names};
+ghost use Rattle.lsp_types.specs.Fault.{Names};
+ghost use Rattle.lsp_types.specs.declared.fault.Fault.TheVariants as faults;
 
 use crate::open_requests::OpenRequests;
 use crate::refusal::Refusal;
@@ -103,7 +104,7 @@ impl Pending {
             (self.new ≡ self.old ++ new_entry (id_view id.now) method.now ∷ []) }
         ensures accepted { OnOk result (ask_rule (id_view id.now) self.old ≡ None) }
         ensures rule { IfErr result (Names (ask_rule (id_view id.now) self.old)) }
-        ensures memory { result ≡ Err Refusal.Memory → ask_rule (id_view id.now) self.old ≡ None }
+        ensures memory { result ≡ Err faults.Memory → ask_rule (id_view id.now) self.old ≡ None }
         ensures unchanged { OnErr result (self.new ≡ self.old) }
     {
         if self.contains(id) {

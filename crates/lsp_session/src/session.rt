@@ -10,7 +10,8 @@ ghost use Rattle.lsp_session.specs.Handshake as handshake;
 ghost use Rattle.lsp_session.specs.Incomplete as complete;
 ghost use Rattle.lsp_session.specs.Negotiation as negotiation;
 ghost use Rattle.lsp_session.specs.Negotiation.{shape_rule};
-ghost use Rattle.lsp_session.specs.Refusal.{Names};
+ghost use Rattle.lsp_types.specs.Fault.{Names};
+ghost use Rattle.lsp_types.specs.declared.fault.Fault.TheVariants as faults;
 ghost use Rattle.lsp_session.specs.Requests.{open_requests};
 ghost use Rattle.lsp_session.specs.Rules.{early_rule, rule_after};
 ghost use Rattle.lsp_session.specs.Sent.{Sent, other_side};
@@ -90,7 +91,7 @@ impl Session {
             → rule_after before (sent side message.now act.now) ≡ None) }
         ensures rule { IfErr result (λ refusal. (before : List Sent) → Stands self.old before
             → Names (rule_after before (sent side message.now act.now)) refusal) }
-        ensures memory { result ≡ Err Refusal.Memory
+        ensures memory { result ≡ Err faults.Memory
             → ((before : List Sent) → Stands self.old before
             → early_rule before (sent side message.now act.now) ≡ None) }
         ensures unchanged { OnErr result (self.new ≡ self.old) }
@@ -342,7 +343,7 @@ impl Session {
             (by_state.result_rule self.now side (message_view message.now) ≡ None) }
         ensures rule { IfErr result
             (Names (by_state.result_rule self.now side (message_view message.now))) }
-        ensures memory { result ≡ Err Refusal.Memory → ((other : Option ℕ) → shape_rule
+        ensures memory { result ≡ Err faults.Memory → ((other : Option ℕ) → shape_rule
             (handshake.settled_among self.now.initializes side (message_view message.now)) other
             ≡ None) }
     {

@@ -2,7 +2,7 @@ use Rattle.std.proofs.Common.{Some, subst, sym}
 use Rattle.std.proofs.lemmas.Result.{IfOk-weaker}
 use Rattle.lsp_replay.specs.Standing.{IsUnread}
 use Rattle.lsp_replay.specs.Telling.{kept_before}
-use Rattle.lsp_replay.specs.declared.fault.Fault.{Fault}
+use Rattle.lsp_types.specs.declared.fault.Fault.{Fault}
 use Rattle.lsp_replay.proofs.Reading.{content_sound}
 use Rattle.lsp_replay.proofs.Seeing.{comes_of, fault_rule, fault_silent, fault_tries, saw_of}
 use Rattle.lsp_replay.proofs.Seeing.{sound_here, speaks_here}
