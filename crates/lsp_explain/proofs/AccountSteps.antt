@@ -25,7 +25,7 @@ use Rattle.lsp_explain.specs.ExplainRuns.{AllStands, FirstStands, TellsOf, SaysC
 use Rattle.lsp_explain.specs.ExplainRuns.{all_run, cause_at, explain_run, first_lines, has_cause}
 use Rattle.lsp_explain.specs.ExplainRuns.{may_note}
 use Rattle.lsp_explain.specs.Explained.{cause_lines, is_cause, Breach, breach}
-use Rattle.lsp_explain.specs.Remarks.{noticed, remark_lines, remarks_of}
+use Rattle.lsp_explain.specs.Notes.{noticed, note_lines, notes_by}
 use Rattle.lsp_explain.specs.Trails.{IsTrail}
 use Rattle.lsp_explain.specs.declared.run.FirstOffence.{FirstOffence}
 use Rattle.lsp_explain.specs.declared.run_all.AllCauses.{AllCauses}
@@ -99,12 +99,12 @@ module _ (terms : Terms) (before : List Heard) (h : Heard) where
         (mid new : List ℕ) → boxed.value ≡ Judged given → rule_of terms before h ≡ Some rule
         → verdict_view given ≡ no_by events h.note.event rule
         → TellsOf terms before h rule Fits old mid
-        → new ≡ mid ++ remark_lines (remarks_of (verdict_view given) (noticed terms events))
+        → new ≡ mid ++ note_lines (notes_by (verdict_view given) (noticed terms events))
         → Says (explain_run account.completeness) terms before h Fits old new Stands
         (Stop boxed)
     first_told Stands rule given boxed mid new is_boxed offends verdict told noted =
         let e = told.e in
-        let notes : Verdict → List ℕ = λ v. remark_lines (remarks_of v (noticed terms events)) in
+        let notes : Verdict → List ℕ = λ v. note_lines (notes_by v (noticed terms events)) in
         record {
           said = first_lines terms before e;
           added = noted ∙ ap (λ w. w ++ notes (verdict_view given)) told.added

@@ -31,12 +31,12 @@ use Rattle.lsp_explain.specs.History.{KeptCall, call_kept, event_kept, kept_call
 use Rattle.lsp_explain.specs.Marking.{MarkedBy}
 use Rattle.lsp_explain.specs.Openings.{OpenedBy}
 use Rattle.lsp_explain.specs.Renames.{RenamesIn, moves_view, renamed_by, renamed_held}
-use Rattle.lsp_explain.specs.SessionNoting.{AreNotes, Says}
+use Rattle.lsp_explain.specs.Conversations.{IsConversation, Says}
 use Rattle.lsp_explain.specs.Trails.{IsTrail, Keeps}
-use Rattle.lsp_explain.specs.declared.notes.marks.Marks.{Marks}
-use Rattle.lsp_explain.specs.declared.notes.openings.Openings.{Openings}
-use Rattle.lsp_explain.specs.declared.notes.renames.Renames.{Renames}
-use Rattle.lsp_explain.specs.declared.notes.session_notes.SessionNotes.{SessionNotes}
+use Rattle.lsp_explain.specs.declared.trail.marks.Marks.{Marks}
+use Rattle.lsp_explain.specs.declared.trail.openings.Openings.{Openings}
+use Rattle.lsp_explain.specs.declared.trail.renames.Renames.{Renames}
+use Rattle.lsp_explain.specs.declared.trail.conversation.Conversation.{Conversation}
 use Rattle.lsp_explain.specs.declared.trail.Trail.{Trail}
 use Rattle.lsp_explain.proofs.History.{kept_more, refused_more}
 use Rattle.lsp_explain.proofs.Quiet.{call_noted}
@@ -99,7 +99,7 @@ module _ (terms : Terms) (before : List Heard) (h : Heard) (old : Trail)
     kept_so : (more : Option KeptCall)
         → event_kept terms place (kept_of terms events) h.note.event ≡ more
         → Keeps more old.marks old.openings new.marks new.openings
-        → AreNotes terms new.said (events ++ h.note.event ∷ [])
+        → IsConversation terms new.said (events ++ h.note.event ∷ [])
         → IsTrail terms new (heard_events (before ++ h ∷ []))
     kept_so more does keeps noted =
         let whole : kept_calls terms (events ++ h.note.event ∷ [])
@@ -127,7 +127,7 @@ module _ (terms : Terms) (before : List Heard) (h : Heard) (old : Trail)
         (ap (option_and_then (λ one. call_kept place one
         (took_by terms (calls (kept_of terms events)) one))) says
         ∙ ap (call_kept place call) (sym told)) keeps
-        (subst (λ (n : SessionNotes). AreNotes terms n (events ++ h.note.event ∷ [])) (sym same)
+        (subst (λ (n : Conversation). IsConversation terms n (events ++ h.note.event ∷ [])) (sym same)
         (call_noted terms old.said r events h.note.event h.raw place call is.noted kept_here reads at
         says moves renamed))
 
@@ -163,7 +163,7 @@ module _ (terms : Terms) (before : List Heard) (h : Heard) (old : Trail)
         (subst (λ (m : Marks). Keeps None old.marks old.openings m new.openings) (sym marks)
         (subst (Keeps None old.marks old.openings old.marks) (sym openings)
         (none_kept old.marks old.openings)))
-        (subst (λ (e : Event). AreNotes terms new.said (events ++ e ∷ [])) (sym spoken.is)
+        (subst (λ (e : Event). IsConversation terms new.said (events ++ e ∷ [])) (sym spoken.is)
         (message_noted terms old.said new.said events sent bytes (message_view s.message) place
         is.noted (ap (λ (e : Event). rule_at terms events e) (sym spoken.is) ∙ kept_here)
         (at ∙ ap (λ (e : Event). place_of events e) spoken.is) own.reads spoken.says

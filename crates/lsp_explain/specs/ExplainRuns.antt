@@ -24,7 +24,7 @@ use Rattle.lsp_facts.specs.EventFacts.{flaw_facts}
 use Rattle.lsp_explain.specs.Asking.{numbered}
 use Rattle.lsp_explain.specs.Explained.{all_closing, cause_lines, is_cause, Breach, Explained}
 use Rattle.lsp_explain.specs.Explained.{Explains, breach_at, end_explained, explanation, breach}
-use Rattle.lsp_explain.specs.Remarks.{noticed, remark_lines, remarks_of}
+use Rattle.lsp_explain.specs.Notes.{noticed, note_lines, notes_by}
 use Rattle.lsp_explain.specs.Trails.{IsTrail}
 use Rattle.lsp_explain.specs.declared.run.FirstOffence.{FirstOffence}
 use Rattle.lsp_explain.specs.declared.run_all.AllCauses.{AllCauses}
@@ -34,7 +34,7 @@ use Rattle.lsp_explain.specs.declared.run_all.AllCauses.{AllCauses}
 -- what is said about it, and the notes on the messages before it
 abbrev pub first_lines : Terms → List Heard → Explained → List ℕ
 first_lines terms before e =
-    cause_lines e ++ remark_lines (remarks_of e.no (noticed terms (heard_events before)))
+    cause_lines e ++ note_lines (notes_by e.no (noticed terms (heard_events before)))
 
 -- where an event offends, this is said
 abbrev pub SaysFirst : Rests → Terms → Option Breach → List ℕ → Type 0
@@ -75,7 +75,7 @@ abbrev pub end_explanation : Terms → List Heard → Rests → Option (ℕ × L
 end_explanation terms heard rests fault flaw ends =
     explanation (map by_itself ends) (take 1 (ends_said terms heard rests ends))
     (bad_log_of fault) flaw (summary terms (heard_events heard))
-    ++ remark_lines (remarks_of (end_verdict terms heard fault ends)
+    ++ note_lines (notes_by (end_verdict terms heard fault ends)
     (noticed terms (heard_events heard)))
 
 -- what is said of the ends, and what closes the explanation

@@ -8,9 +8,9 @@ use Rattle.lsp_replay.specs.Standing.{Holds}
 use Rattle.lsp_explain.specs.History.{KeptCall}
 use Rattle.lsp_explain.specs.Marking.{AreMarks, MarkedBy}
 use Rattle.lsp_explain.specs.Openings.{AreOpenings, OpenedBy}
-use Rattle.lsp_explain.specs.SessionNoting.{AreNotes}
-use Rattle.lsp_explain.specs.declared.notes.marks.Marks.{Marks}
-use Rattle.lsp_explain.specs.declared.notes.openings.Openings.{Openings}
+use Rattle.lsp_explain.specs.Conversations.{IsConversation}
+use Rattle.lsp_explain.specs.declared.trail.marks.Marks.{Marks}
+use Rattle.lsp_explain.specs.declared.trail.openings.Openings.{Openings}
 use Rattle.lsp_explain.specs.declared.trail.Trail.{Trail}
 use Rattle.lsp_explain.specs.declared.trail.Past.{Past}
 
@@ -20,7 +20,7 @@ use Rattle.lsp_explain.specs.declared.trail.Past.{Past}
 pub record IsTrail (terms : Terms) (t : Trail) (events : List Event) : Type 0 where
   pub marked : AreMarks terms t.marks.map.entries events
   pub opened : AreOpenings terms t.openings events
-  pub noted : AreNotes terms t.said events
+  pub noted : IsConversation terms t.said events
 
 -- one more kept call is noted, or none
 pub record Keeps (more : Option KeptCall) (marks : Marks) (openings : Openings) (next : Marks)

@@ -12,7 +12,6 @@ mod compared;
 mod laws;
 mod notes;
 mod offence_facts;
-mod remarks;
 mod run;
 mod run_all;
 mod suspects;
