@@ -1,4 +1,4 @@
--- Marks and notes, worked on short lists.
+-- Marks, openings and answers, worked on short lists.
 use Rattle.std.proofs.Common.{◌≡◌, ℕ, ℤ, pos, true, false, List, [], ◌∷◌, ◌++◌, Some, None, refl}
 use Rattle.lsp_docs.specs.declared.snapshot.Match.TheVariants.{Equal, Waits}
 use Rattle.lsp_rpc.specs.Ident.{number}

@@ -1,4 +1,4 @@
--- A message that says something of a document leaves what is noted of the session.
+-- A message that says something of a document leaves what is kept of the session.
 use Rattle.std.specs.Prelude.{◌&&◌, not, if◌then◌else◌, is_some, option_and_then, option_map}
 use Rattle.std.specs.Prelude.{option_to_list, unwrap_or}
 use Rattle.std.specs.Option.{option_or}
@@ -44,7 +44,7 @@ use Rattle.lsp_explain.specs.Conversations.{IsConversation, Exchanges, Says, pla
 use Rattle.lsp_explain.specs.declared.trail.exchange.Exchange.{Exchange}
 use Rattle.lsp_explain.specs.declared.trail.renames.Renames.{Renames}
 use Rattle.lsp_explain.specs.declared.trail.conversation.Conversation.{Conversation}
-use Rattle.lsp_explain.proofs.SessionSteps.{message_noted, other_unsaid, sents-numbered}
+use Rattle.lsp_explain.proofs.SessionSteps.{message_taken, other_unsaid, sents-numbered}
 use Rattle.lsp_explain.proofs.RenameSteps.{nothing_told}
 use Rattle.lsp_explain.proofs.Standard.{IsOnDocument, on_document}
 
@@ -104,7 +104,7 @@ quiet_state terms events m enc kind call kept_now means says =
     ∙ ap state_of (filter_map-append sent_of (kept_of terms events) (message m ∷ []))
     ∙ leaves_session sents m.side m.message m.act enc kind call means says
 
--- ---- what is noted
+-- ---- what is kept
 
 module _ (p : EventPlace) (side : Side) (said : Message) (heard : IsOnDocument side said) where
   asks_none : (own : Side) (id : Ident) → asks own id p side said ≡ None
@@ -182,18 +182,18 @@ module _ (p : EventPlace) (side : Side) (said : Message) (heard : IsOnDocument s
       by_same true = refl
       by_same false = refl
 
--- **a call leaves all that is noted of the session**, but which document was edited under an old
+-- **a call leaves all that is kept of the session**, but which document was edited under an old
 -- URI
-pub call_noted : (terms : Terms) (old : Conversation) (r : Renames) (events : List Event)
+pub call_taken : (terms : Terms) (old : Conversation) (r : Renames) (events : List Event)
     (e : Event) (raw : Raw) (p : EventPlace) (call : Call) → IsConversation terms old events
     → rule_at terms events e ≡ None → Reads raw e → p ≡ place_of events e
     → call_at (kept_of terms events) e ≡ Some call → r.moves ≡ old.renames.moves
     → renamed_held r ≡ option_or (renamed_held old.renames)
     (renamed_by p (moves_view old.renames.moves.items) call)
     → IsConversation terms (record old { renames = r }) (events ++ e ∷ [])
-call_noted terms old r events (fault side rule) raw p call are kept reads at says moves renamed =
+call_taken terms old r events (fault side rule) raw p call are kept reads at says moves renamed =
     absurd (cc kept)
-call_noted terms old r events (snapshot uri number text) raw p call are kept reads at says moves
+call_taken terms old r events (snapshot uri number text) raw p call are kept reads at says moves
     renamed =
     let moved = moves_view old.renames.moves.items in
     let none : renamed_by p moved call ≡ None =
@@ -210,11 +210,11 @@ call_noted terms old r events (snapshot uri number text) raw p call are kept rea
             ∙ option_or-none (renamed_held old.renames) ∙ are.renames_are.renamed_is;
       };
     }) kept refl
-call_noted terms old r events (message m) (broken side code) p call are kept reads at says moves
+call_taken terms old r events (message m) (broken side code) p call are kept reads at says moves
     renamed = absurd (cc reads)
-call_noted terms old r events (message m) (show uri number text) p call are kept reads at says moves
+call_taken terms old r events (message m) (show uri number text) p call are kept reads at says moves
     renamed = absurd (cc reads)
-call_noted terms old r events (message m) (content side bytes) p call are kept reads at says moves
+call_taken terms old r events (message m) (content side bytes) p call are kept reads at says moves
     renamed =
     let sents = sent_in (kept_of terms events) in
     let enc = unwrap_or (encoding sents) Utf16 in
@@ -230,7 +230,7 @@ call_noted terms old r events (message m) (content side bytes) p call are kept r
       standard = heard.standard;
       no_files = heard.no_files;
     } in
-    message_noted terms old (record old { renames = r }) events m bytes bare p are kept at
+    message_taken terms old (record old { renames = r }) events m bytes bare p are kept at
     reads.reads (ap outline heard.is ∙ sym (ap outline own.is)) (inr refl)
     (quiet_says p m.side bare own old r sents (sent_in (kept_of terms (events ++ message m ∷ [])))
     (are.phase_is ∙ ap phase (sents-numbered terms events))

@@ -1,4 +1,4 @@
--- What is noted of renamed files, with one message more.
+-- What is kept of renamed files, with one message more.
 use Rattle.std.specs.Prelude.{◌||◌, if◌then◌else◌, option_and_then, string_bytes, String}
 use Rattle.std.specs.Global.{Global}
 use Rattle.std.specs.Option.{option_or}

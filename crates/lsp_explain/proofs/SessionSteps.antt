@@ -1,4 +1,4 @@
--- What is noted of requests and phases, and what is remarkable, with one message more.
+-- What is kept of requests and phases, and for the notes, with one message more.
 use Rattle.std.specs.Prelude.{if◌then◌else◌, ◌⊎◌, ◌&&◌, ◌||◌, not, string_bytes, option_and_then}
 use Rattle.std.specs.Prelude.{unwrap_or, is_some, map, option_map, option_to_list}
 use Rattle.std.specs.Option.{option_or}
@@ -63,7 +63,7 @@ pub or_if : {X : Type 0} (b : Bool) (x : X) (o : Option X)
 or_if true x o = refl
 or_if false x o = refl
 
--- ---- what is remarkable about messages, with one message more
+-- ---- what is kept for the notes, with one message more
 
 pub filter_map-snoc : {A X : Type 0} (f : A → Option X) (xs : List A) (x : A)
     → filter_map f (xs ++ x ∷ []) ≡ filter_map f xs ++ cons_option (f x) []
@@ -305,7 +305,7 @@ other_unsaid terms s before e are kept is =
     ∙ append-nil (numbered terms before))) are
 
 -- **a message that is kept**, which this content is
-pub message_noted : (terms : Terms) (old new : Conversation) (before : List Event) (m : Sent)
+pub message_taken : (terms : Terms) (old new : Conversation) (before : List Event) (m : Sent)
     (bytes : List ℕ) (said : Message) (p : EventPlace) → IsConversation terms old before
     → rule_at terms before (message m) ≡ None
     → p ≡ place_of before (message m) → Reads bytes m.message → outline m.message ≡ outline said
@@ -315,7 +315,7 @@ pub message_noted : (terms : Terms) (old new : Conversation) (before : List Even
     → RenamesIn p m.side bytes said (call_at (kept_of terms before) (message m)) old.renames
     new.renames
     → IsConversation terms new (before ++ message m ∷ [])
-message_noted terms old new before m bytes said p are kept number reads same has_value says
+message_taken terms old new before m bytes said p are kept number reads same has_value says
     renamed =
     subst (SessionStands new) (sym whole) (record {
       editor = exchanged Editor p m said same old.editor new.editor ms are.editor says.editor;

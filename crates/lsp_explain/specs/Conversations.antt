@@ -1,4 +1,4 @@
--- What is noted of requests and phases, and for which messages it stands.
+-- What is kept of requests and phases, and for which messages it stands.
 use Rattle.std.specs.Prelude.{◌≡◌, Bool, List, ◌++◌, map, Option, Some, None, if◌then◌else◌}
 use Rattle.std.specs.Prelude.{unwrap_or, option_to_list}
 use Rattle.std.specs.Option.{option_or}
@@ -51,14 +51,14 @@ pub record Exchanges (side : Side) (p : EventPlace) (sender : Side) (m : Message
       → replies_in new ≡ last_ones most_replies
       (given ++ option_to_list (reply_of p (answered_from side sender m)))
 
--- what is noted of the side's requests is what these messages left of it
+-- what is kept of the side's requests is what these messages left of it
 pub record IsExchange (side : Side) (e : Exchange) (said : List Numbered) : Type 0 where
   pub asked_is : (k : Id) → place_in e.asked (id_view k) ≡ asked side (id_view k) said
   pub replies_are : replies_in e ≡ last_ones most_replies (replies side said)
 
 -- ---- a session
 
--- **the notes stand for these messages**
+-- **it stands for these messages**
 pub record SessionStands (s : Conversation) (said : List Numbered) : Type 0 where
   pub editor : IsExchange Editor s.editor said
   pub server : IsExchange Server s.server said

@@ -88,11 +88,11 @@ all_end terms heard rests fault flaw ends =
 
 -- ---- where memory may be wanted
 
--- something may have to be noted of it: nothing of a fault of the frames
-abbrev pub may_note : Raw → Bool
-may_note (content side bytes) = true
-may_note (broken side rule) = false
-may_note (show number uri text) = true
+-- something may have to be kept of it: nothing of a fault of the frames
+abbrev pub may_keep : Raw → Bool
+may_keep (content side bytes) = true
+may_keep (broken side rule) = false
+may_keep (show number uri text) = true
 
 -- there is an offence, which follows from no earlier one
 abbrev pub has_cause : Option Offence → Bool
@@ -121,7 +121,7 @@ abbrev pub all_run : Completeness → Run
 all_run completeness = record {
   says = λ terms rests before h out. SaysCauses rests terms (cause_at terms before h) out;
   wants = λ terms before h.
-      may_note h.raw || has_cause (offence_at terms (notes_of before) h.note);
+      may_keep h.raw || has_cause (offence_at terms (notes_of before) h.note);
   stops = λ terms before h. false;
   ends = λ terms before h outcome. ⊥;
   closes = λ terms heard tail out outcome.
@@ -135,14 +135,14 @@ all_run completeness = record {
 
 -- **the account of `explain` stands for these events**, none of which offends
 pub record FirstStands (a : FirstOffence) (terms : Terms) (heard : List Heard) : Type 0 where
-  pub noted : IsTrail terms a.trail (heard_events heard)
+  pub trail : IsTrail terms a.trail (heard_events heard)
   pub clean : first_no terms (heard_events heard) ≡ None
 
 -- **that of `explain --all`**, which may offend
 pub record AllStands (a : AllCauses) (terms : Terms) (heard : List Heard) : Type 0 where
   pub lost : AreLosses terms a.losses (notes_of heard)
   pub tallied : IsTally a.tally (offences terms (notes_of heard))
-  pub noted : IsTrail terms a.trail (heard_events heard)
+  pub trail : IsTrail terms a.trail (heard_events heard)
 
 -- it is said what the event is that offends by this rule, whatever rests the log has that fit
 pub record TellsOf (terms : Terms) (before : List Heard) (h : Heard) (rule : ℕ)

@@ -1,4 +1,4 @@
--- What is remarkable about the messages of a session, though it breaks no rule.
+-- What the notes say of the messages of a session.
 use Rattle.std.specs.Prelude.{ℕ, List, [], ◌∷◌, map, if◌then◌else◌, Option, Some, None, ◌++◌, Bool}
 use Rattle.std.specs.Prelude.{option_and_then, option_map, string_bytes, ◌≡◌, ◌&&◌, ◌||◌, not}
 use Rattle.std.specs.Prelude.{codes, unwrap_or}

@@ -3,7 +3,7 @@
 //!
 //! [`Marks`] says which events left a document as it is, [`Openings`] which opened and closed
 //! documents last, and [`Conversation`] by which requests were asked and answered, which led to the
-//! phase, and what is remarkable about the messages, though it breaks no rule.
+//! phase, and what the notes say of the messages.
 ghost use Rattle.std.specs.Prelude.{◌≡◌, ◌++◌, ◌∷◌, [], List, None, OnOk, Some, option_map};
 ghost use Rattle.lsp_docs.specs.Documents.{Terms};
 ghost use Rattle.lsp_replay.specs.Telling.{IsSeen, MaySpeak, Stood, kept_before, rule_of};
@@ -55,7 +55,7 @@ pub(crate) struct Past<'a> {
 }
 
 impl Trail {
-    /// Nothing is noted.
+    /// Nothing was heard.
     pub(crate) fn new(alloc: Global) -> Trail
         ensures { (terms : Terms) → IsTrail terms result [] }
     {
@@ -66,11 +66,11 @@ impl Trail {
         }
     }
 
-    /// Notes the next event. One that offends leaves nothing to note, and one that says something
-    /// of a document leaves the session as it is.
+    /// Takes over the next event. One that offends leaves nothing to keep, and one that says
+    /// something of a document leaves the session as it is.
     ///
     /// # Errors
-    /// `Memory` where memory was refused; nothing is then known of what is noted.
+    /// `Memory` where memory was refused; nothing is then known of what is kept.
     #[inline(always)]
     pub(crate) fn keep(&mut self, held: &Events<Lined>, seen: &Seen<'_>) -> Result<()>
         ensures { OnOk result ((terms : Terms) (before : List Heard) (h : Heard)
@@ -92,7 +92,7 @@ impl Trail {
         keep_step(&mut self.marks, &mut self.openings, place, call.uri(), step)
     }
 
-    /// Notes a message that is kept and says nothing of a document.
+    /// Takes over a message that is kept and says nothing of a document.
     #[inline(always)]
     fn keep_message(
         &mut self,
@@ -122,7 +122,7 @@ impl Trail {
     }
 }
 
-/// Notes what a kept event, that of this place, does to the document of a URI.
+/// Takes over what a kept event, that of this place, does to the document of a URI.
 #[inline(always)]
 fn keep_step(
     marks: &mut Marks,

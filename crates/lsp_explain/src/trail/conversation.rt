@@ -18,7 +18,7 @@ use std::alloc::Global;
 
 /// Which events sent and answered the requests of both sides, and which one led to the phase of the
 /// session. Of the answers to a side's requests, the last 1,024 whose id has at most 128 bytes are
-/// held. Also what is remarkable about the messages, though it breaks no rule.
+/// held. Also what the notes say of the messages.
 ///
 /// It stands for the events of a session of which those that offend are skipped.
 #[derive(Drop)]
@@ -27,7 +27,7 @@ pub struct Conversation {
     server: Exchange,
     phase: Phase,
     since: Option<EventPlace>,
-    /// What is remarkable about the messages.
+    /// What the notes say of the messages.
     pub(crate) notes: Notes,
     /// What they say about files.
     pub(crate) renames: Renames,
@@ -79,7 +79,7 @@ impl Conversation {
         self.since
     }
 
-    /// Notes a message that is kept and says nothing of a document, the event of this place, which
+    /// Takes over a message that is kept and says nothing of a document, the event of this place, which
     /// was read from this content, and after which the session is in this phase, and the handshake
     /// is settled or is not.
     ///
@@ -115,7 +115,7 @@ impl Conversation {
     }
 }
 
-/// Notes which request a message sends or answers, of the editor's and of the server's.
+/// Takes over which request a message sends or answers, of the editor's and of the server's.
 fn exchange(
     editor: &mut Exchange,
     server: &mut Exchange,

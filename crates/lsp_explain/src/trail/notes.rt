@@ -1,4 +1,4 @@
-//! What is remarkable about the messages of a session, though it breaks no rule.
+//! What the notes say of the messages of a session.
 ghost use Rattle.std.specs.Prelude.{◌≡◌, ◌&&◌, [], IfOk, OnOk, if◌then◌else◌, not};
 ghost use Rattle.std.specs.Prelude.{option_map, string_bytes};
 ghost use Rattle.serde_json.specs.View.{view};
@@ -13,9 +13,9 @@ use lsp_session::Phase;
 use serde_json::Value;
 use std::alloc::Global;
 
-/// What is remarkable about the messages of a session, though it breaks no rule: which calls were
-/// not sent as LSP 3.17 defines them, of each method the first; whether the editor sent `exit`
-/// without `shutdown`; and which encoding the answer to `initialize` names in the older way.
+/// What the notes say of the messages of a session: which calls were not sent as LSP 3.17 defines
+/// them, of each method the first; whether the editor sent `exit` without `shutdown`; and which
+/// encoding the answer to `initialize` names in the older way.
 #[derive(Drop)]
 pub(crate) struct Notes {
     pub(crate) misuses: Vec<Misused>,

@@ -78,7 +78,7 @@ impl Renames {
         Ok(())
     }
 
-    /// Notes a call, of the event of this place, if it is the first under a URI that is gone.
+    /// Keeps a call, of the event of this place, if it is the first under a URI that is gone.
     /// Usually nothing is held about files.
     ///
     /// # Errors

@@ -19,7 +19,7 @@ returns c =
     let terms = terms_in c.args.past in
     on_ok_weaker c.push_counted.result
     (λ written before stands.
-    let noted = stands.trail.noted in
+    let noted = stands.trail.said in
     let older = c.older_encoding.ensures ∙ noted.notes_are.older_is in
     let agreed = c.encoding.ensures (sent_in (kept_of terms before)) stands.holds.sent
     ∙ ap (λ (l : List Sent). encoding l) (sym (sents-numbered terms before)) in

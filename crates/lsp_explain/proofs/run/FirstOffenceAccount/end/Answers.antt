@@ -12,10 +12,10 @@ returns c = record {
   closes = λ terms heard stands stood few.
       let verdict = c.in_ok-verdict.verdict in
       first_closes c.args.self.now.completeness terms heard c.args.log.now c.args.end verdict _ _ _
-      (c.in_ok-verdict.ensures terms heard stands.noted stands.clean stood few)
+      (c.in_ok-verdict.ensures terms heard stands.trail stands.clean stood few)
       (subst (λ (t : Terms). string_bytes c.push_notes.new.lines
       ≡ string_bytes c.push_ending.new.text ++ note_lines (notes_by (verdict_view verdict)
       (noticed t (heard_events heard)))) stood.by
       (c.in_ok-push_notes.ensures (heard_events heard)
-      (stands_at _ terms heard stands.noted stood)));
+      (stands_at _ terms heard stands.trail stood)));
 }

@@ -20,7 +20,7 @@ returns-in_default c = record {
   says = λ terms before h stands seen.
       let rule = kept_seen terms before h c.args.seen.now.fate c.in_default.not-Offends seen.fate in
       first_kept terms before h c.args.self.now _ stands (ShowsFault c.args.seen.now.raw)
-      (string_bytes c.args.text.now) rule (c.in_ok-keep.ensures terms before h stands.noted seen);
+      (string_bytes c.args.text.now) rule (c.in_ok-keep.ensures terms before h stands.trail seen);
 }
 
 -- memory is refused
@@ -58,10 +58,10 @@ returns c = record {
       (c.verdict-verdict.ensures ∙ ap (λ (x : Offence). x.no) last)
       (told_of terms before h c.args.seen.now rule c.in-Offends.tried offence _ _ _ _ _ _
       c.in-Offends.is last seen
-      (c.in_ok-push_offence.ensures terms before h stands.noted))
+      (c.in_ok-push_offence.ensures terms before h stands.trail))
       (subst (λ (t : Terms). string_bytes c.push_notes.new.lines
       ≡ string_bytes c.push_offence.new.text ++ note_lines (notes_by
       (verdict_view verdict) (noticed t (heard_events before)))) seen.stood.by
       (c.in_ok-push_notes.ensures (heard_events before)
-      (stands_before _ terms before h rule stands.noted seen.stood has.0)));
+      (stands_before _ terms before h rule stands.trail seen.stood has.0)));
 }
