@@ -79,9 +79,9 @@ impl Conversation {
         self.since
     }
 
-    /// Takes over a message that is kept and says nothing of a document, the event of this place, which
-    /// was read from this content, and after which the session is in this phase, and the handshake
-    /// is settled or is not.
+    /// Takes over a message that is kept and says nothing of a document, the event of this place,
+    /// which was read from this content, and after which the session is in this phase, and the
+    /// handshake is settled or is not.
     ///
     /// # Errors
     /// `Memory` where memory was refused; nothing is then known of the requests, but the phase and
