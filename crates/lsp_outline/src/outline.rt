@@ -7,12 +7,13 @@ ghost use Rattle.lsp_outline.specs.Outlined.{Means, Tells, SaysSo, lacks_result}
 ghost use Rattle.lsp_outline.specs.Spoken as spec;
 ghost use Rattle.lsp_outline.specs.declared.outline.Results.TheVariants.{LeftOut};
 ghost use Rattle.lsp_rpc.specs.Message.{Message as SpecMessage, notification};
-ghost use Rattle.lsp_rpc.specs.Fault.{Names, rule_unless_read};
+ghost use Rattle.lsp_rpc.specs.Fault.{IsUnspoken, rule_unless_read};
 ghost use Rattle.lsp_rpc.specs.Outline.{outline, without_params, IsOrIsOutline};
 ghost use Rattle.lsp_rpc.specs.Params as params;
 ghost use Rattle.lsp_rpc.specs.Reading as reading;
 ghost use Rattle.lsp_rpc.specs.View.{act_view, message_view};
 ghost use Rattle.lsp_rpc.specs.Words.{words_of as spec_words_of};
+ghost use Rattle.lsp_types.specs.Fault.{Names};
 ghost use Rattle.lsp_types.specs.declared.fault.Fault.TheVariants.{Memory};
 ghost use Rattle.lsp_types.specs.declared.rules.TheConstants as rules;
 
@@ -185,7 +186,7 @@ fn meant(alloc: Global, side: Side, message: Message) -> Result<Spoken, RpcFault
 fn spoken_whole(alloc: Global, side: Side, content: &[u8]) -> Result<Spoken, RpcFault>
     ensures ok { (results : Results) → IfOk result (λ spoken. spec.Says results side content.now
         (message_view spoken.message) (act_view spoken.act)) }
-    ensures rule { IfErr result (spec.IsUnspoken side content.now) }
+    ensures rule { IfErr result (IsUnspoken side content.now) }
     ensures memory { result ≡ Err Memory → 0 < length content.now }
 {
     match read(alloc, content) {
@@ -199,7 +200,7 @@ fn spoken_whole(alloc: Global, side: Side, content: &[u8]) -> Result<Spoken, Rpc
 fn put_whole(alloc: Global, side: Side, content: &[u8], spoken: &mut Spoken) -> Result<(), RpcFault>
     ensures ok { (results : Results) → OnOk result (spec.Says results side content.now
         (message_view spoken.new.message) (act_view spoken.new.act)) }
-    ensures rule { IfErr result (spec.IsUnspoken side content.now) }
+    ensures rule { IfErr result (IsUnspoken side content.now) }
     ensures memory { result ≡ Err Memory → 0 < length content.now }
 {
     // What the walk put there before it declined the content is dropped first.
@@ -230,7 +231,7 @@ impl MessageReader {
     pub fn hear(&mut self, side: Side, content: &[u8], results: Results) -> Result<Spoken, RpcFault>
         ensures ok { IfOk result (λ spoken. spec.Says results side content.now
             (message_view spoken.message) (act_view spoken.act)) }
-        ensures rule { IfErr result (spec.IsUnspoken side content.now) }
+        ensures rule { IfErr result (IsUnspoken side content.now) }
         ensures memory { result ≡ Err Memory → 0 < length content.now }
     {
         let mut spoken = self.blank();
@@ -263,7 +264,7 @@ impl MessageReader {
     ) -> Result<(), RpcFault>
         ensures ok { OnOk result (spec.Says results side content.now
             (message_view spoken.new.message) (act_view spoken.new.act)) }
-        ensures rule { IfErr result (spec.IsUnspoken side content.now) }
+        ensures rule { IfErr result (IsUnspoken side content.now) }
         ensures memory { result ≡ Err Memory → 0 < length content.now }
     {
         match put_spoken(self.alloc, side, content, results, spoken) {

@@ -1,13 +1,13 @@
 -- How an event that was read is kept: admitted, and taken over.
-use Rattle.std.proofs.Common.{◌≡◌, ℕ, List, [], ◌∷◌, ◌++◌, Option, Some, None, inl, inr, refl, sym, ap}
+use Rattle.std.proofs.Common.{◌≡◌, ℕ, List, [], ◌∷◌, ◌++◌, Option, Some, None, refl, sym, ap}
 use Rattle.std.proofs.Common.{append-nil, arith, subst, ◌∙◌}
 use Rattle.std.specs.Prelude.{option_and_then}
 use Rattle.std.specs.List.{cons_option}
 use Rattle.std.specs.Option.{option_or}
+use Rattle.lsp_rpc.specs.Fault.{IsUnspoken}
 use Rattle.lsp_rpc.specs.Params.{act_at}
 use Rattle.lsp_rpc.specs.View.{act_view, message_view}
 use Rattle.lsp_rpc.specs.declared.act.Spoken.{Spoken}
-use Rattle.lsp_outline.specs.Spoken.{IsUnspoken}
 use Rattle.lsp_types.specs.Fault.{IsRule, Names}
 use Rattle.lsp_types.specs.declared.fault.Fault.{Fault}
 use Rattle.lsp_types.specs.declared.fault.Fault.TheVariants.{Rule, Memory}
@@ -35,23 +35,16 @@ use Rattle.lsp_verdict.proofs.Messages.{sent_in-append}
 use Rattle.lsp_verdict.proofs.Offences.Quiet.{leaves_session}
 use Rattle.lsp_replay.proofs.Apart.{carried}
 use Rattle.lsp_replay.specs.Keeping.{IsAdmitted, IsSound, RefusesEvent, Tries, message_rule}
-use Rattle.lsp_replay.specs.Standing.{CanWantMemory, Holds, IsUnread, MayLackFor, RefusesCall}
+use Rattle.lsp_replay.specs.Standing.{CanWantMemory, Holds, MayLackFor, RefusesCall}
 use Rattle.lsp_replay.specs.Standing.{RefusesFor, TakesCall}
 use Rattle.lsp_replay.specs.Telling.{MaySpeak, took_of}
 use Rattle.lsp_replay.specs.Tries.{IsTriedOf}
 
 -- ---- a content that says nothing
 
-pub unread : (side : Side) (bytes : List ℕ) (f : Fault) → IsUnspoken side bytes f
-    → IsUnread side bytes f
-unread side bytes (Rule rule) (inl breaks) = (refl, inl breaks)
-unread side bytes (Rule rule) (inr (is, params)) =
-    (refl, inr (is, record { of = params.0; reads = params.1; unread = params.2 }))
-unread side bytes Memory e = tt
-
 pub unread_for : (side : Side) (bytes : List ℕ) (terms : Terms) (events : List Event) (f : Fault)
-    → IsUnread side bytes f → RefusesFor (content side bytes) terms events f
-unread_for side bytes terms events (Rule rule) is = (broken_rule side rule, is, refl)
+    → IsUnspoken side bytes f → RefusesFor (content side bytes) terms events f
+unread_for side bytes terms events (Rule rule) is = (broken_rule side rule, (refl, is), refl)
 unread_for side bytes terms events Memory is = tt
 
 -- ---- admitting

@@ -1,5 +1,5 @@
 -- For which events the parts that hear them stand, and what the next one makes of them.
-use Rattle.std.specs.Prelude.{◌≡◌, ◌⊎◌, ℕ, List, [], ◌∷◌, ◌++◌, Option, Some, None}
+use Rattle.std.specs.Prelude.{◌≡◌, ◌⊎◌, List, [], ◌∷◌, ◌++◌, Option, Some, None}
 use Rattle.lsp_rpc.specs.Message as rpc
 use Rattle.lsp_rpc.specs.Outline.{without_params}
 use Rattle.lsp_session.specs.Handshake.{open_initializes}
@@ -13,10 +13,9 @@ use Rattle.lsp_docs.specs.Stored.{answer_of}
 use Rattle.lsp_docs.specs.Documents.{held, Terms}
 use Rattle.lsp_docs.specs.Snapshots.{kept}
 use Rattle.lsp_docs.specs.Taken.{IsTook, MayLackMemory}
-use Rattle.lsp_types.specs.declared.side.Side.{Side}
 use Rattle.lsp_verdict.specs.declared.counts.Counts.{Counts}
-use Rattle.lsp_verdict.specs.Event.{calls, Event, fault, sent_in}
-use Rattle.lsp_verdict.specs.Placed.{ReadsAs, Raw, content, broken, show, Reads}
+use Rattle.lsp_verdict.specs.Event.{calls, Event, sent_in}
+use Rattle.lsp_verdict.specs.Placed.{Raw, content, broken, show, Reads}
 use Rattle.lsp_verdict.specs.Given.{AreCounts}
 use Rattle.lsp_verdict.specs.Verdict.{offence, first_no}
 use Rattle.lsp_types.specs.declared.fault.Fault.{Fault}
@@ -61,12 +60,6 @@ MayLackFor old (Some call) = MayLackMemory old call
 abbrev pub HasValue : List Event → rpc.Message → rpc.Message → Type 0
 HasValue events said whole =
     (open_initializes (sent_in events) ≡ []) ⊎ (said ≡ without_params whole)
-
--- the content is no message that means something: it breaks the rule of this fault, unless memory
--- ran out
-abbrev pub IsUnread : Side → List ℕ → Fault → Type 0
-IsUnread side bytes (faults.Rule rule) = ReadsAs side bytes (fault side rule)
-IsUnread side bytes faults.Memory = Unit {0}
 
 -- ---- an event
 

@@ -1,6 +1,7 @@
 //! The events of a session, heard one after another.
 ghost use Rattle.std.specs.Prelude.{◌≡◌, [], List, IfErr, IfOk, None, OnErr, OnOk};
 ghost use Rattle.std.specs.Prelude.{Err, option_map};
+ghost use Rattle.lsp_rpc.specs.Fault.{IsUnspoken};
 ghost use Rattle.lsp_rpc.specs.View.{act_view};
 ghost use Rattle.lsp_docs.specs.Calls as spec;
 ghost use Rattle.lsp_docs.specs.Documents.{Terms, terms_of};
@@ -18,7 +19,7 @@ ghost use Rattle.lsp_verdict.specs.Given.{raw_view};
 ghost use Rattle.lsp_verdict.specs.Placed.{Reads};
 ghost use Rattle.lsp_replay.specs.Keeping.{IsAdmitted, IsKept, IsMessageOf, IsRead, IsSound};
 ghost use Rattle.lsp_replay.specs.Keeping.{RefusesEvent, Tries, message_rule};
-ghost use Rattle.lsp_replay.specs.Standing.{CanWantMemory, Follows, Holds, IsUnread, MayLackFor};
+ghost use Rattle.lsp_replay.specs.Standing.{CanWantMemory, Follows, Holds, MayLackFor};
 ghost use Rattle.lsp_replay.specs.Standing.{RefusesCall, RefusesFor, Takes, TakesCall};
 ghost use Rattle.lsp_replay.specs.Telling.{MaySpeak};
 ghost use Rattle.lsp_replay.specs.Tries.{IsTriedOf};
@@ -255,7 +256,7 @@ pub(crate) fn read_into(
 ) -> Result<(), Fault>
     ensures ok { OnOk result ((events : List Event) → Stands session.now (sent_in events)
         → IsMessageOf events side content.now spoken.new) }
-    ensures rule { IfErr result (IsUnread side content.now) }
+    ensures rule { IfErr result (IsUnspoken side content.now) }
 {
     messages.hear_into(side, content, wanted_results(session), spoken)?;
     Ok(())

@@ -2,6 +2,7 @@
 use Rattle.std.proofs.Common.{◌≡◌, ◌⊎◌, ℕ, List, [], ◌∷◌, ◌++◌, Option, Some, None, inl, inr, refl, sym, ap, ◌∙◌}
 use Rattle.std.specs.List.{AllZip}
 use Rattle.std.proofs.lemmas.Option.{same_Some}
+use Rattle.lsp_rpc.specs.Fault.{IsRefused}
 use Rattle.lsp_rpc.specs.Message.{Message}
 use Rattle.lsp_rpc.specs.Reading as reading
 use Rattle.lsp_rpc.specs.Reading.{BreaksRule}
@@ -10,7 +11,7 @@ use Rattle.lsp_rpc.specs.Params.{act_at}
 use Rattle.lsp_types.specs.declared.side.Side.{Side}
 use Rattle.lsp_session.specs.Sent.{Sent}
 use Rattle.lsp_verdict.specs.Event.{Event, message, fault, snapshot}
-use Rattle.lsp_verdict.specs.Placed.{IsSent, IsRefused, ReadsAs, Raw, content, broken, show, Reads}
+use Rattle.lsp_verdict.specs.Placed.{IsSent, ReadsAs, Raw, content, broken, show, Reads}
 use Rattle.lsp_verdict.proofs.Below.{one_message, one_rule, not_both, message_or_rule}
 
 same_sent : (m n : Sent) → m.side ≡ n.side → m.message ≡ n.message → m.act ≡ n.act → m ≡ n
