@@ -11,10 +11,9 @@ ghost use Rattle.lsp_docs.specs.Rules.{differs, text_in};
 ghost use Rattle.lsp_types.specs.Fault.{IsRule};
 ghost use Rattle.lsp_docs.specs.Tried.{AreTried, tried_in};
 
-use crate::fault::DocFault;
 use crate::tried::Tried;
 use lsp_text::{Findings, TextStore, change_all, change_noting};
-use lsp_types::{Change, Encoding, LineEnds};
+use lsp_types::{Change, Encoding, Fault, LineEnds};
 use std::alloc::Global;
 
 /// A text at its version.
@@ -33,7 +32,7 @@ impl<S: TextStore> Revision<S> {
         version: i32,
         edit: &Change,
         found: &mut Findings,
-    ) -> Result<(), DocFault>
+    ) -> Result<(), Fault>
         requires { found.old ≡ nothing }
         ensures found { OnOk result (found.new
             ≡ findings limit encoding (S.content self.old.store) (edit_of edit.now ∷ [])) }
@@ -70,7 +69,7 @@ impl<S: TextStore> Revision<S> {
         changes: &[Change],
         tried: &mut Option<Tried<S>>,
         found: &mut Findings,
-    ) -> Result<S, DocFault>
+    ) -> Result<S, Fault>
         ensures found { OnOk result (found.new
             ≡ findings limit encoding (S.content self.now.store) (edits_of changes.now)) }
         ensures ok { IfOk result

@@ -1,12 +1,8 @@
-//! Why a call failed.
+//! Why a content is refused.
 ghost use Rattle.lsp_types.specs.declared.fault.Fault.TheVariants.{Rule};
 ghost use Rattle.std.specs.Prelude.{◌≡◌};
 
 use lsp_types::Fault;
-
-/// Why a content is no message, or has no meaning: the lowest of the rules 201 to 209 that it
-/// breaks; or why a result of `initialize` picks nothing: 501.
-pub type RpcFault = Fault;
 
 /// The lowest rule that a content breaks, by its number.
 #[derive(Clone, Copy, Drop)]
