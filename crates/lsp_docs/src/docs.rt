@@ -303,7 +303,8 @@ impl<S: TextStore> Docs<S> {
             (changes_by encoding kind uri.now version (edits_of changes.now))) }
         ensures refuses { IfErr result (Refuses self.old
             (changes_by encoding kind uri.now version (edits_of changes.now))) }
-        ensures memory { result ≡ Err Fault.Memory → ((calls : List SpecCall) → Stands self.old calls
+        ensures memory { result ≡ Err Fault.Memory
+            → ((calls : List SpecCall) → Stands self.old calls
             → early_rule kind version (edits_of changes.now) (held self.old.terms uri.now calls)
             ≡ None) }
         ensures err { OnErr result (self.new ≡ self.old) }
@@ -329,7 +330,8 @@ impl<S: TextStore> Docs<S> {
             (changes_by encoding kind uri.now version (edits_of changes.now))) }
         ensures refuses { IfErr result (Refuses self.old
             (changes_by encoding kind uri.now version (edits_of changes.now))) }
-        ensures memory { result ≡ Err Fault.Memory → ((calls : List SpecCall) → Stands self.old calls
+        ensures memory { result ≡ Err Fault.Memory
+            → ((calls : List SpecCall) → Stands self.old calls
             → early_rule kind version (edits_of changes.now) (held self.old.terms uri.now calls)
             ≡ None) }
         ensures tried { IfErr result (λ fault. (calls : List SpecCall)
