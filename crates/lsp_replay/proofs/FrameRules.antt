@@ -8,7 +8,7 @@ use Rattle.lsp_frame.specs.Bounds.{Bounds}
 use Rattle.lsp_frame.specs.Frame.{Breaks}
 use Rattle.lsp_frame.proofs.FrameRules.{breaks_rule}
 use Rattle.lsp_log.specs.Log.{Record}
-use Rattle.lsp_rpc.specs.Fault.{IsRefused}
+use Rattle.lsp_rpc.specs.Params.{IsRefused}
 use Rattle.lsp_rpc.specs.Reading.{least_broken, rules_on, parts_of}
 use Rattle.lsp_rpc.specs.Shape.{is_object}
 use Rattle.lsp_types.specs.declared.side.Side.{Side}

@@ -2,9 +2,8 @@
 use Rattle.std.specs.Prelude.{◌≡◌, List, ℕ, Some, None, ℤ, [], ◌∷◌, ◌++◌, map, Option}
 use Rattle.std.specs.Prelude.{if◌then◌else◌, chars}
 use Rattle.std.specs.List.{AllZip}
-use Rattle.lsp_rpc.specs.Fault.{IsRefused}
 use Rattle.lsp_rpc.specs.Reading as reading
-use Rattle.lsp_rpc.specs.Params.{act_at}
+use Rattle.lsp_rpc.specs.Params.{IsRefused, act_at}
 use Rattle.lsp_types.specs.declared.side.Side.{Side}
 use Rattle.lsp_types.specs.declared.side.Side.TheVariants.{Editor, Server}
 use Rattle.lsp_session.specs.Sent.{Sent, same_side}
