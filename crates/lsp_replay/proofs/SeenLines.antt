@@ -139,11 +139,6 @@ module _ (terms : Terms) (before : List Heard) (h : Heard) where
       by_event (broken by rule) is read = broken_offends by rule is none
       by_event (snapshot uri n t) is read = read
 
--- a message is its side's
-pub spoken_whose : (kept : List Event) (event : Event) (side : Side) (s : Spoken)
-    → IsSpoken kept event side s → who_of side ≡ whose event
-spoken_whose kept event side s spoken = ap who_of (sym spoken.by) ∙ ap whose (sym spoken.is)
-
 module _ (before : List Heard) (h : Heard) (counts : Counts) (few : length before + 1 < 2 ^ 64)
     (counted : AreCounts counts (heard_events (before ++ h ∷ []))) where
   pub counted_on : AreCounts counts (heard_events before ++ h.note.event ∷ [])
