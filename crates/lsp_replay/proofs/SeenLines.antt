@@ -28,7 +28,7 @@ use Rattle.lsp_rpc.proofs.OutlineWords.{words_by_outline}
 use Rattle.lsp_session.specs.Sent.{Sent}
 use Rattle.lsp_session.specs.View as lent
 use Rattle.lsp_replay.proofs.TextRuns.{count-append}
-use Rattle.lsp_replay.specs.Lines.{line_of, heard_line, place_of}
+use Rattle.lsp_replay.specs.Lines.{heard_line, place_of}
 use Rattle.lsp_replay.specs.declared.heard.EventPlace.{EventPlace}
 use Rattle.lsp_replay.specs.Telling.{IsSpoken, MaySpeak, kept_before, rule_of}
 use Rattle.lsp_replay.proofs.Seeing.{events-push}
@@ -92,8 +92,12 @@ placed before event place few is =
       ),
     )
 
+-- the line of the event at this place, empty for a fault
+abbrev line_of : Lines → EventPlace → Event → List ℕ
+line_of lines place event = unwrap_or (event_line lines place.event place.number event) []
+
 -- the line at this place is that of the event
-pub line_placed : (lines : Lines) (before : List Event) (event : Event) (place : EventPlace)
+line_placed : (lines : Lines) (before : List Event) (event : Event) (place : EventPlace)
     → IsPlaceAfter before event place
     → unwrap_or (line_at lines before event) [] ≡ line_of lines place event
 line_placed lines before event place is =
