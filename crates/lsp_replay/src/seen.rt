@@ -75,12 +75,7 @@ pub fn push_kept_line(
 }
 
 #[inline(always)]
-fn push_line(
-    text: &mut String,
-    lines: Lines,
-    held: &Events<Lined>,
-    seen: &Seen<'_>,
-) -> Result<()>
+fn push_line(text: &mut String, lines: Lines, held: &Events<Lined>, seen: &Seen<'_>) -> Result<()>
     ensures { OnOk result ((terms : Terms) (before : List Heard) (h : Heard)
         → IsSeen held.now.session held.now.docs held.now.counts seen.now terms before h
         → rule_of terms before h ≡ None
