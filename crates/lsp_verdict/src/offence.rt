@@ -1,10 +1,10 @@
 //! An offence of a session, as it is listed and reported.
 ghost use Rattle.std.specs.Prelude.{◌≡◌, ◌∷◌, [], List, IfOk, string_bytes, codes, decimal};
-ghost use Rattle.std.specs.Prelude.{if◌then◌else◌};
+ghost use Rattle.std.specs.Prelude.{◌++◌, ℕ};
 ghost use Rattle.lsp_verdict.specs.Given.{AreCounts, given_offence, offence_view, verdict_view};
 ghost use Rattle.lsp_verdict.specs.Event.{Event};
 ghost use Rattle.lsp_verdict.specs.Report.{line};
-ghost use Rattle.lsp_verdict.specs.Survey.{offence_lines};
+ghost use Rattle.lsp_verdict.specs.Survey.{follow_words, offence_lines};
 ghost use Rattle.lsp_verdict.specs.Verdict.{no_next};
 
 use crate::counts::Counts;
@@ -57,10 +57,10 @@ impl Offence {
     }
 }
 
-/// What the first line of an offence ends with: the word `follows` where it follows from an earlier
-/// one.
+/// What is put behind the last word of a line: the word `follows`, where an offence does.
 fn follow_end(follows: bool) -> &'static str
-    ensures { result.now ≡ (if follows then codes " follows" else []) }
+    ensures { (word : List ℕ) →
+        line ((word ++ result.now) ∷ []) ≡ line (word ∷ follow_words follows) }
 {
     if follows { " follows" } else { "" }
 }
