@@ -25,6 +25,7 @@ mod waiting;
 
 pub use call::{Call, Took};
 pub use docs::Docs;
+pub use kind::is_of_kind;
 pub use laws::{
     documents_are_held, held_is_shown, kept_versions_rise, nothing_kept, setters_compare,
     snapshots_agree, versions_rise,

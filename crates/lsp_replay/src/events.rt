@@ -242,7 +242,7 @@ fn wanted_results(session: &Session) -> Results
 }
 
 /// Reads a content of a side with what it means, in the place of another message. It is heard once
-/// it is followed.
+/// it is kept.
 ///
 /// # Errors
 /// `Rule` by the least of 201 to 209 that the content breaks, and `Memory` where memory was
