@@ -23,4 +23,4 @@ pub use fault::{LogCode, LogFault};
 pub use laws::{one_log, one_place, records_come_first, some_log, written_is_read};
 pub use reader::LogReader;
 pub use record::Record;
-pub use write::{write_chunk, write_head_of, write_record, write_snapshot};
+pub use write::{write_chunk, write_head, write_head_of, write_record, write_snapshot};

@@ -2,6 +2,7 @@
 ghost use Rattle.std.specs.Prelude.{◌≡◌, ◌++◌, ◌∷◌, []};
 ghost use Rattle.lsp_frame.specs.Bounds.{profile};
 ghost use Rattle.lsp_frame.specs.Sink.{Writes};
+ghost use Rattle.lsp_frame.specs.declared.format.Format.TheVariants.{One};
 ghost use Rattle.lsp_log.specs.Log.{first_line, spelling, letter, chunk, chunk_head, shown};
 ghost use Rattle.lsp_log.specs.Log.{head_line, shown_head, Fits, with_feed};
 ghost use Rattle.lsp_log.specs.Records.{record_view};
@@ -11,6 +12,13 @@ use crate::record::Record;
 use itoa::Buffer;
 use lsp_frame::{Format, Sink, WriteFault, put_all};
 use lsp_types::Side;
+
+/// Writes the first line of a log of format 1. After a fault a prefix of it is written.
+pub fn write_head<W: Sink>(writer: &mut W) -> Result<(), WriteFault>
+    ensures { Writes (W.told writer.old) (W.told writer.new) result (first_line One) }
+{
+    write_head_of(writer, Format::One)
+}
 
 /// Writes the first line of a log of this format. After a fault a prefix of it is written.
 pub fn write_head_of<W: Sink>(writer: &mut W, format: Format) -> Result<(), WriteFault>
