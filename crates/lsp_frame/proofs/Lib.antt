@@ -15,3 +15,4 @@ pub mod Telling
 pub mod Writing
 pub mod Fronts
 pub mod FrameRules
+pub mod Theorems
