@@ -1,3 +1,4 @@
 pub mod IdLemmas
 pub mod Readings
 pub mod OutlineWords
+pub mod Theorems
