@@ -8,3 +8,4 @@ pub mod LeastRuleLemmas
 pub mod SessionMessages
 pub mod Sessions
 pub mod Unread
+pub mod Theorems
