@@ -51,3 +51,4 @@ pub mod WindowPlaces
 pub mod WindowPatches
 pub mod Walks
 pub mod Backs
+pub mod Theorems
