@@ -20,4 +20,3 @@ pub mod AccountSteps
 pub mod AllExplanations
 pub mod OneExplanation
 pub mod Written
-pub mod Theorems

@@ -1,6 +1,4 @@
 //! Laws of what is explained.
-#![tactic(auto, using(crate::proofs::Theorems::laws))]
-
 ghost use Rattle.lsp_explain.specs.Compared.{OneComparedText};
 ghost use Rattle.lsp_explain.specs.Explained.{BeginsWithReport, CausesAreExplained, FirstIsVerdict};
 ghost use Rattle.lsp_explain.specs.Explained.{OneExplanation, OneExplanationOfAll, SomeExplanation};

@@ -15,4 +15,3 @@ pub mod Telling
 pub mod Writing
 pub mod Fronts
 pub mod FrameRules
-pub mod Theorems

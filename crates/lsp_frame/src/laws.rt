@@ -1,7 +1,5 @@
 //! Laws of frames and streams (LSP 3.17, "Base Protocol"), each the contract of a function that
 //! does nothing.
-#![tactic(auto, using(crate::proofs::Theorems::laws))]
-
 ghost use Rattle.lsp_frame.specs.Laws.{NoFrameBeginsAnother, SomeReading, OneReading};
 ghost use Rattle.lsp_frame.specs.Laws.{FramesComeFirst, ContentsStay, FaultStays, FrontStays};
 ghost use Rattle.lsp_frame.specs.Laws.{CanonicalIsFrame, CanonicalIsRead};

@@ -1,4 +1,3 @@
 pub mod IdLemmas
 pub mod Readings
 pub mod OutlineWords
-pub mod Theorems

@@ -1,6 +1,4 @@
 //! Laws of messages. Each is the contract of a function that does nothing.
-#![tactic(auto, using(crate::proofs::Theorems::laws))]
-
 ghost use Rattle.lsp_rpc.specs.Laws.{SameIdIsEquality, OneMessage, OneRule, NotBoth, MessageOrRule};
 
 /// `same_id` is equality of ids as values (JSON-RPC 2.0, section 4).

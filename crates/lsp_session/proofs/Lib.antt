@@ -8,4 +8,3 @@ pub mod LeastRuleLemmas
 pub mod SessionMessages
 pub mod Sessions
 pub mod Unread
-pub mod Theorems

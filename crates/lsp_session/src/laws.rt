@@ -1,6 +1,4 @@
 //! Laws of sessions, each the contract of a function that does nothing.
-#![tactic(auto, using(crate::proofs::Theorems::laws))]
-
 ghost use Rattle.lsp_session.specs.Laws.{
   AnsweredOnce,
   AnswersARequest,

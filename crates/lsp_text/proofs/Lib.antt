@@ -51,4 +51,3 @@ pub mod WindowPlaces
 pub mod WindowPatches
 pub mod Walks
 pub mod Backs
-pub mod Theorems

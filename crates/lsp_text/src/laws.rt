@@ -1,5 +1,4 @@
 //! Laws of the definitions. Each function has no code: its contract is the law.
-#![tactic(auto, using(crate::proofs::Theorems::laws))]
 
 ghost use Rattle.lsp_text.specs.Difference.{OneDifference, PlacesHavePositions};
 ghost use Rattle.lsp_text.specs.InsideCharacter.{PositionsLieInside};

@@ -1,0 +1,5 @@
+use Rattle.lsp_explain.proofs.Methods.{methods_have_rows}
+use Rattle.lsp_explain.proofs.laws.standard_methods_have_rows.Goals as goal
+
+pub returns : goal.returns
+returns c = methods_have_rows

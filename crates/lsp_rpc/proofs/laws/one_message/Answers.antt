@@ -1,0 +1,5 @@
+use Rattle.lsp_rpc.proofs.Readings as lemmas
+use Rattle.lsp_rpc.proofs.laws.one_message.Goals as goal
+
+pub returns : goal.returns
+returns c = lemmas.one_message
