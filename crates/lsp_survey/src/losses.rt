@@ -248,13 +248,9 @@ impl Losses {
             → HoldsSent session.now terms before
             → result ≡ follows_of terms before rule on_lost late }
     {
-        if wants_handshake(rule) && self.is_handshake_lost(session) {
-            return true;
-        }
-        if wants_text(rule) && on_lost {
-            return true;
-        }
-        late
+        (wants_handshake(rule) && self.is_handshake_lost(session))
+            || (wants_text(rule) && on_lost)
+            || late
     }
 
     /// Whether an event of the handshake was refused, and no answer has settled it.
