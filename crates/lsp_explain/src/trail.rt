@@ -66,7 +66,7 @@ impl Trail {
         }
     }
 
-    /// Takes over the next event. One that offends leaves nothing to keep, and one that says
+    /// Keeps the next event. One that offends leaves nothing to keep, and one that says
     /// something of a document leaves the session as it is.
     ///
     /// # Errors
@@ -92,7 +92,7 @@ impl Trail {
         keep_step(&mut self.marks, &mut self.openings, place, call.uri(), step)
     }
 
-    /// Takes over a message that is kept and says nothing of a document.
+    /// Adds a message that is kept and says nothing of a document.
     #[inline(always)]
     fn keep_message(
         &mut self,
@@ -122,7 +122,7 @@ impl Trail {
     }
 }
 
-/// Takes over what a kept event, that of this place, does to the document of a URI.
+/// Adds what a kept event, that of this place, does to the document of a URI.
 #[inline(always)]
 fn keep_step(
     marks: &mut Marks,

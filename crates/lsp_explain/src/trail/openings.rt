@@ -119,7 +119,7 @@ impl Openings {
         others(alloc, self.changed.as_slice(), self.shown.as_slice())
     }
 
-    /// Takes over what a kept event, that of this place, does to the document of a URI.
+    /// Adds what a kept event, that of this place, does to the document of a URI.
     ///
     /// # Errors
     /// `Memory` where memory was refused; nothing is then known of what is held.

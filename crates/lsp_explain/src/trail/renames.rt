@@ -64,7 +64,7 @@ impl Renames {
         self.renamed.as_ref()
     }
 
-    /// Takes over a message that is kept and says nothing of a document, read from this content.
+    /// Adds a message that is kept and says nothing of a document, read from this content.
     ///
     /// # Errors
     /// `Memory` where memory was refused.
