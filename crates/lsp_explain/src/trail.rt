@@ -88,8 +88,14 @@ impl Trail {
             return Ok(());
         };
         let place = EventPlace::last(&held.counts, seen.raw.who());
-        self.said.renames.keep_call(place, call)?;
-        keep_step(&mut self.marks, &mut self.openings, place, call.uri(), step)
+        self.said.renames.keep_call(&place, call)?;
+        keep_step(
+            &mut self.marks,
+            &mut self.openings,
+            &place,
+            call.uri(),
+            &step,
+        )
     }
 
     /// Adds a message that is kept and says nothing of a document.
@@ -127,11 +133,11 @@ impl Trail {
 fn keep_step(
     marks: &mut Marks,
     openings: &mut Openings,
-    place: EventPlace,
+    place: &EventPlace,
     uri: &str,
-    step: Step,
+    step: &Step,
 ) -> Result<()>
-    ensures { OnOk result (Keeps (Some (kept_call uri.now place step)) marks.old openings.old
+    ensures { OnOk result (Keeps (Some (kept_call uri.now place.now step.now)) marks.old openings.old
         marks.new openings.new) }
 {
     marks.keep(place, uri, step)?;
