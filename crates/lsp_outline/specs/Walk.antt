@@ -66,13 +66,6 @@ pub record IsNatural (d : List ℕ) (from end n : ℕ) : Type 0 where
   pub numeral : IsNumeral d from end
   pub value : number_of (part d from end) ≡ Some (unsigned n)
 
--- an integer of 32 bits, of this value
-pub record IsInteger (d : List ℕ) (from end : ℕ) (z : ℤ) : Type 0 where
-  pub numeral : IsNumeral d from end
-  pub read : Num
-  pub value : number_of (part d from end) ≡ Some read
-  pub small : as_integer (number read) ≡ Some z
-
 -- at most nine digits, none or more, that write this
 pub record AreFewDigits (d : List ℕ) (from end n : ℕ) : Type 0 where
   pub digits : list_all is_ascii_digit (part d from end) ≡ true
