@@ -7,8 +7,7 @@ ghost use Rattle.json.specs.Run.{is_no_digit};
 ghost use Rattle.serde_json.specs.Data.{Data, Num, number, unsigned};
 ghost use Rattle.serde_json.specs.Read.{number_of, number_from};
 ghost use Rattle.lsp_rpc.specs.Shape.{as_integer};
-ghost use Rattle.lsp_outline.specs.Walk.{IsNumeral, IsNatural, IsValue, AreFewDigits};
-ghost use Rattle.lsp_outline.specs.Walk.{MayEndNumber};
+ghost use Rattle.lsp_outline.specs.Walk.{IsNumeral, IsNatural, IsValue, AreFewDigits, MayEndNumber};
 
 use crate::bytes::{byte_at, is_delimiter};
 use crate::runs::{Run, near_run_end, run_end};
