@@ -16,12 +16,11 @@ ghost use Rattle.lsp_rpc.specs.declared.methods.Method.{Method};
 
 use crate::act::Act;
 use crate::documents::{did_change_of, did_close_of, did_open_of, did_save_of};
-use crate::fault::RpcFault;
 use crate::initialize::initialize_of;
 use crate::message::{Id, Message};
 use crate::params::{PARAMS_FAULT, into_member, into_text, items_of, required_params};
 use crate::shape::id_in;
-use lsp_types::Side;
+use lsp_types::{Fault, Side};
 use serde_json::Value;
 use std::alloc::Global;
 use std::borrow::Cow;
@@ -117,21 +116,21 @@ fn id_at(value: Value, name: &str) -> Option<Id>
     id_in(into_member(value, name)?)
 }
 
-fn cancel_of(params: Value) -> Result<Act, RpcFault>
+fn cancel_of(params: Value) -> Result<Act, Fault>
     ensures { Gives act_view rules.BAD_METHOD_PARAMS result (spec.cancel_at (view params)) }
 {
     let id = id_at(params, "id").ok_or(PARAMS_FAULT)?;
     Ok(Act::Cancel { id })
 }
 
-fn progress_of(params: Value) -> Result<Act, RpcFault>
+fn progress_of(params: Value) -> Result<Act, Fault>
     ensures { Gives act_view rules.BAD_METHOD_PARAMS result (spec.progress_at (view params)) }
 {
     let token = id_at(params, "token").ok_or(PARAMS_FAULT)?;
     Ok(Act::Progress { token })
 }
 
-fn methods_of(alloc: Global, value: Value) -> Result<Vec<String>, RpcFault>
+fn methods_of(alloc: Global, value: Value) -> Result<Vec<String>, Fault>
     ensures { Gives (λ v. texts_view v.items) rules.BAD_METHOD_PARAMS result
         (spec.array_of (spec.required (codes "method") as_str) (view value)) }
 {
@@ -142,7 +141,7 @@ fn methods_of(alloc: Global, value: Value) -> Result<Vec<String>, RpcFault>
     Ok(found)
 }
 
-fn register_of(alloc: Global, params: Value) -> Result<Act, RpcFault>
+fn register_of(alloc: Global, params: Value) -> Result<Act, Fault>
     ensures { Gives act_view rules.BAD_METHOD_PARAMS result (spec.register_at (view params)) }
 {
     let registrations = into_member(params, "registrations").ok_or(PARAMS_FAULT)?;
@@ -151,7 +150,7 @@ fn register_of(alloc: Global, params: Value) -> Result<Act, RpcFault>
 }
 
 /// What a call of this method means by its params.
-fn act_by(alloc: Global, method: Method, params: Option<Cow<'_, Value>>) -> Result<Act, RpcFault>
+fn act_by(alloc: Global, method: Method, params: Option<Cow<'_, Value>>) -> Result<Act, Fault>
     ensures { Gives act_view
         rules.BAD_METHOD_PARAMS result (meaning method (option_map lent_view params.entry)) }
 {
@@ -211,7 +210,7 @@ fn take_params(message: &mut Message) -> Option<Cow<'static, Value>>
 /// # Errors
 /// Rule 209 if the method is read on that side and in that kind, and the params do not have its
 /// shape; or `Memory`.
-pub fn act_of(alloc: Global, message: &Message, side: Side) -> Result<Act, RpcFault>
+pub fn act_of(alloc: Global, message: &Message, side: Side) -> Result<Act, Fault>
     ensures { Gives act_view
         rules.BAD_METHOD_PARAMS result (spec.act_at side (message_view message.now)) }
 {
@@ -220,7 +219,7 @@ pub fn act_of(alloc: Global, message: &Message, side: Side) -> Result<Act, RpcFa
 
 /// What [`act_of`] gives, with the texts moved out of the message. The message loses its params,
 /// even if there is an error.
-pub fn take_act(alloc: Global, message: &mut Message, side: Side) -> Result<Act, RpcFault>
+pub fn take_act(alloc: Global, message: &mut Message, side: Side) -> Result<Act, Fault>
     ensures gives { Gives act_view
         rules.BAD_METHOD_PARAMS result (spec.act_at side (message_view message.old)) }
     ensures rest { message_view message.new ≡ without_params (message_view message.old) }
