@@ -56,7 +56,7 @@ pub enum Flow {
 ///
 /// # Errors
 /// `Memory` where memory was refused.
-#[inline]
+#[inline(always)]
 pub fn push_kept_line(
     text: &mut String,
     lines: Option<Lines>,
@@ -75,8 +75,7 @@ pub fn push_kept_line(
     }
 }
 
-/// Adds the line. It stays out of the loop that reads events, which seldom shows them.
-#[inline(never)]
+#[inline(always)]
 fn push_line(text: &mut String, lines: Lines, held: &Events<Lined>, seen: &Seen<'_>) -> Result<()>
     ensures { OnOk result ((terms : Terms) (before : List Heard) (h : Heard)
         → IsSeen held.now.session held.now.docs held.now.counts seen.now terms before h
