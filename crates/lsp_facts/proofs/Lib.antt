@@ -9,3 +9,4 @@ pub mod SomeFacts
 pub mod TextsDiffer
 pub mod OneFacts
 pub mod Worked
+pub mod Theorems

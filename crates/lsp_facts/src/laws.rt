@@ -1,4 +1,6 @@
 //! Laws of the facts.
+#![tactic(auto, using(crate::proofs::Theorems::laws))]
+
 ghost use Rattle.lsp_facts.specs.Members.{BadParamsHaveMember, BadResultHasMember};
 ghost use Rattle.lsp_facts.specs.TwoTexts.{TextsDiffer};
 

@@ -8,3 +8,4 @@ pub mod TextRuns
 pub mod Finals
 pub mod JudgingSteps
 pub mod UpgradedLogs
+pub mod Theorems
