@@ -1,6 +1,5 @@
 """A page in Chromium, driven by Selenium."""
 
-import time
 from functools import cached_property
 
 from selenium import webdriver
@@ -9,8 +8,8 @@ from selenium.webdriver.chrome.service import Service
 from selenium.webdriver.common.by import By
 
 from command import run
+from processes import SECONDS, until
 
-SECONDS = 60
 # In every width a window may have: a telephone, half a screen, a screen.
 WIDTHS, THEMES = [380, 800, 1600], ["light", "dark"]
 
@@ -22,7 +21,7 @@ def start():
         options.add_argument(word)
     options.set_capability("goog:loggingPrefs", {"browser": "ALL"})
     driver = webdriver.Chrome(service=Service("/usr/bin/chromedriver"), options=options)
-    driver.set_page_load_timeout(2 * SECONDS)
+    driver.set_page_load_timeout(SECONDS)
     driver.set_script_timeout(SECONDS)
     return driver
 
@@ -73,12 +72,9 @@ class Page:
         return self.text(".selected .number")
 
     def wait(self, script, *values):
-        until = time.monotonic() + SECONDS
-        while time.monotonic() < until:
-            if found := self.run(script, *values):
-                return found
-            time.sleep(0.05)
-        raise AssertionError(f"never true: {script}")
+        found = []
+        assert until(lambda: found.append(self.run(script, *values)) or found[-1]), f"never true: {script}"
+        return found[-1]
 
     def wait_for_frame(self):
         """Waits until the page has been drawn again."""
@@ -89,6 +85,6 @@ class Page:
 def make(program, place, log, *words):
     """The page of a log."""
     target = place / f"{log.name}{''.join(words)}.html"
-    done = run(log, "--program", program, "-o", target, *words, timeout=600)
+    done = run(log, "--program", program, "-o", target, *words)
     assert done.returncode == 0, done.stderr
     return target

@@ -3,4 +3,3 @@ pub mod SameLimits
 pub mod Framing
 pub mod Forming
 pub mod Seeking
-pub mod Theorems

@@ -1,6 +1,4 @@
 //! Laws of what is due for one event of a log, each the contract of a function that does nothing.
-#![tactic(auto, using(crate::proofs::Theorems::event_laws))]
-
 ghost use Rattle.lsp_extract.specs.Event.{EventIsNumbered, OneEvent, SomeEvent};
 
 /// Every log has an answer for the event of each number.

@@ -1,6 +1,4 @@
 //! Laws of normal forms, each the contract of a function that does nothing.
-#![tactic(auto, using(crate::proofs::Theorems::normal_laws))]
-
 ghost use Rattle.lsp_extract.specs.Normal.{OneNormalForm, NormalFormKeepsEvents};
 ghost use Rattle.lsp_extract.specs.Normal.{NormalFormKeepsVerdict, NormalFormStays, SomeNormalForm};
 

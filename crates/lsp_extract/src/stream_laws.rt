@@ -1,6 +1,4 @@
 //! Laws of what is due for a stream, each the contract of a function that does nothing.
-#![tactic(auto, using(crate::proofs::Theorems::stream_laws))]
-
 ghost use Rattle.lsp_extract.specs.Stream.{SomeRun, OneRun};
 
 /// For each stream, in each mode, some output and outcome are due.

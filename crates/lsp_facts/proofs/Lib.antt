@@ -9,4 +9,3 @@ pub mod SomeFacts
 pub mod TextsDiffer
 pub mod OneFacts
 pub mod Worked
-pub mod Theorems

@@ -1,6 +1,4 @@
 //! Laws of the facts.
-#![tactic(auto, using(crate::proofs::Theorems::laws))]
-
 ghost use Rattle.lsp_facts.specs.Members.{BadParamsHaveMember, BadResultHasMember};
 ghost use Rattle.lsp_facts.specs.TwoTexts.{TextsDiffer};
 

@@ -8,4 +8,3 @@ pub mod TextRuns
 pub mod Finals
 pub mod JudgingSteps
 pub mod UpgradedLogs
-pub mod Theorems

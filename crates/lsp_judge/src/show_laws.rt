@@ -1,6 +1,4 @@
 //! Laws of what is due where a log is shown, each the contract of a function that does nothing.
-#![tactic(auto, using(crate::proofs::Theorems::show_laws))]
-
 ghost use Rattle.lsp_judge.specs.ShownLog.{OneShown, SomeShown};
 
 /// Every log has an output for each kind of line.

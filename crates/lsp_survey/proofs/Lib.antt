@@ -8,4 +8,3 @@ pub mod KeptTexts
 pub mod SurveySteps
 pub mod SurveyRuns
 pub mod Showing
-pub mod Theorems

@@ -1,6 +1,4 @@
 //! Laws of what is due for a log, each the contract of a function that does nothing.
-#![tactic(auto, using(crate::proofs::Theorems::laws))]
-
 ghost use Rattle.lsp_survey.specs.AllShown.{OneAllShown, ShowsReport};
 ghost use Rattle.lsp_survey.specs.KeptText.{OneKeptText};
 

@@ -1,0 +1,5 @@
+use Rattle.lsp_extract.proofs.Forming.OneForm as proved
+use Rattle.lsp_extract.proofs.normal_laws.one_normal_form.Goals as goal
+
+pub returns : goal.returns
+returns c = proved.one_normal_form
