@@ -343,41 +343,34 @@ module _ (completeness : Completeness) (terms : Terms) (heard : List Heard) (e :
       )
 
 -- one more of what is listed is said
-pub ends_more : (terms own : Terms) (heard : List Heard) (rests : Rests)
-    (xs : List code_offence.Offence) (i : ℕ) (x : code_offence.Offence) (old mid new : List ℕ)
-    → own ≡ terms → slice_get xs i ≡ Some x
+pub ends_more : (explained : Verdict → Explained) (xs : List code_offence.Offence) (i : ℕ)
+    (x : code_offence.Offence) (old mid new : List ℕ) → slice_get xs i ≡ Some x
     → mid ≡ old ++ flat_map cause_lines
-    (ends_said terms heard rests (map (λ o. (offence_view o).no) (take i xs)))
-    → new ≡ mid ++ cause_lines (end_explained rests (numbered own (heard_events heard))
-    (offence_view x).no)
+    (map explained (map (λ o. (offence_view o).no) (take i xs)))
+    → new ≡ mid ++ cause_lines (explained (offence_view x).no)
     → new ≡ old ++ flat_map cause_lines
-    (ends_said terms heard rests (map (λ o. (offence_view o).no) (take (i + 1) xs)))
-ends_more terms own heard rests xs i x old mid new same at said more =
+    (map explained (map (λ o. (offence_view o).no) (take (i + 1) xs)))
+ends_more explained xs i x old mid new at said more =
     let no : code_offence.Offence → Verdict = λ o. (offence_view o).no in
-    let explained : Verdict → Explained =
-    end_explained rests (numbered terms (heard_events heard)) in
-    let here = ends_said terms heard rests (map no (take i xs)) in
+    let here = map explained (map no (take i xs)) in
     let one = cause_lines (explained (no x)) in
-    more ∙ ap (λ (t : Terms). mid ++ cause_lines (end_explained rests
-    (numbered t (heard_events heard)) (no x))) same
-    ∙ ap (λ w. w ++ one) said
+    more ∙ ap (λ w. w ++ one) said
     ∙ append_assoc old (flat_map cause_lines here) one
     ∙ ap (λ w. old ++ (flat_map cause_lines here ++ w)) (sym (append-nil one))
     ∙ ap (λ w. old ++ w) (sym (flat_map-append cause_lines here (explained (no x) ∷ [])))
     ∙ ap (λ w. old ++ flat_map cause_lines w)
     (sym (map-append explained (map no (take i xs)) (no x ∷ [])))
-    ∙ ap (λ vs. old ++ flat_map cause_lines (ends_said terms heard rests vs))
-    (sym (map_one no xs i x at))
+    ∙ ap (λ vs. old ++ flat_map cause_lines (map explained vs)) (sym (map_one no xs i x at))
 
 -- what is said of all that is listed
-pub nos_listed : (terms : Terms) (heard : List Heard) (rests : Rests)
-    (xs : List code_offence.Offence) (ends : List Verdict) (old new : List ℕ)
+pub nos_listed : (own terms : Terms) (heard : List Heard) (rests : Rests)
+    (xs : List code_offence.Offence) (ends : List Verdict) (old new : List ℕ) → own ≡ terms
     → map offence_view xs ≡ map by_itself ends
     → new ≡ old ++ flat_map cause_lines
-    (ends_said terms heard rests (map (λ o. (offence_view o).no) xs))
+    (ends_said own heard rests (map (λ o. (offence_view o).no) xs))
     → new ≡ old ++ flat_map cause_lines (ends_said terms heard rests ends)
-nos_listed terms heard rests xs ends old new are said =
-    said ∙ ap (λ vs. old ++ flat_map cause_lines (ends_said terms heard rests vs)) (nos xs ends are)
+nos_listed own terms heard rests xs ends old new same are said =
+    said ∙ (λ i. old ++ flat_map cause_lines (ends_said (same i) heard rests (nos xs ends are i)))
   where
     nos : (os : List code_offence.Offence) (vs : List Verdict)
         → map offence_view os ≡ map by_itself vs → map (λ o. (offence_view o).no) os ≡ vs

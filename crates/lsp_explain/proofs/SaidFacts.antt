@@ -174,24 +174,12 @@ module _ (rule : ℕ) (m : Sent) (side : Side) (said : Message) (by : m.side ≡
       → (open_initializes before ≡ []) ⊎ (said ≡ without_params m.message)
       → session_facts rule before (record { side = side; message = said; act = act })
       ≡ session_facts rule before m
-  session_heard before act means has_value =
-      λ i. facts (line (codes "id" ∷ response_id_text (same_id i) ∷ [])) (sym means i)
-      (settles has_value i)
+  session_heard before act means has_value = rw (same_id, ← means, settles has_value) refl
     where
-      facts : Fact → Act → Option Settled → List Fact
-      facts id does settled =
-          if is_within rules.RESPONSE_TO_NO_OPEN_REQUEST rules.ID_ALREADY_OPEN rule then id ∷ []
-          else (if is_within rules.EDITOR_BEFORE_INITIALIZE rules.SERVER_WHILE_INITIALIZE_OPEN rule
-          then early_facts rule before does ++ in_phase (phase before) ∷ []
-          else (if is_within rules.BAD_INITIALIZE_RESULT rules.ENCODING_OUTSIDE_PROFILE rule
-          then settled_facts settled else register_facts does))
-
       settles : (open_initializes before ≡ []) ⊎ (said ≡ without_params m.message)
           → settled_among (open_initializes before) side said
           ≡ settled_among (open_initializes before) m.side m.message
-      settles (inl none) =
-          ap (λ (l : List Initialize). settled_among l side said) none
-          ∙ sym (ap (λ (l : List Initialize). settled_among l m.side m.message) none)
+      settles (inl none) = rw none refl
       settles (inr bare) =
           (λ i. settled_among (open_initializes before) (sym by i) (bare i))
           ∙ bare_settles (open_initializes before) m.side m.message
