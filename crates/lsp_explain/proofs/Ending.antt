@@ -244,18 +244,16 @@ module _ (completeness : Completeness) (terms : Terms) (heard : List Heard) (e :
 
 -- ---- what is listed
 
--- the first of it is the first end
-pub first_listed : (o : code_offence.Offence) (os : List code_offence.Offence) (ends : List Verdict)
-    → map offence_view (o ∷ os) ≡ map by_itself ends
-    → (vs : List Verdict) × (ends ≡ (offence_view o).no ∷ vs)
-first_listed o os [] is = absurd (cc is)
-first_listed o os (v ∷ vs) is =
-    let same : offence_view o ≡ by_itself v = cc is in
-    (vs, ap (λ (x : Verdict). x ∷ vs) (sym (ap (λ (x : Offence). x.no) same)))
-
-pub none_listed : (ends : List Verdict) → [] ≡ map by_itself ends → ends ≡ []
-none_listed [] is = refl
-none_listed (v ∷ vs) is = absurd (cc is)
+-- it is the ends
+pub nos_are : (os : List code_offence.Offence) (vs : List Verdict)
+    → map offence_view os ≡ map by_itself vs → map (λ o. (offence_view o).no) os ≡ vs
+nos_are [] [] is = refl
+nos_are [] (v ∷ vs) is = absurd (cc is)
+nos_are (o ∷ os) [] is = absurd (cc is)
+nos_are (o ∷ os) (v ∷ vs) is =
+    let first : offence_view o ≡ by_itself v = cc is in
+    let later : map offence_view os ≡ map by_itself vs = cc is in
+    λ i. ap (λ (x : Offence). x.no) first i ∷ nos_are os vs later i
 
 pub first_some : {A : Type 0} (xs : List A) (o : A) → Some o ≡ slice_get xs 0
     → (os : List A) × (xs ≡ o ∷ os)
@@ -308,15 +306,15 @@ module _ (completeness : Completeness) (terms : Terms) (heard : List Heard) (e :
       → (new ≡ old ++ explains) × (v ≡ end_verdict terms heard (flaw_of end) ends)
   ending_none v bad old mid new none bad_is (said, verdict) faulty =
       let flaw = flaw_lines (bad_log_of (flaw_of end)) (flaw_held e end) in
-      let empty = none_listed ends none in (
+      let empty = nos_are [] ends none in (
         faulty ∙ ap (λ w. w ++ flaw) said
             ∙ append_assoc old (report (first_verdict [] bad s)) flaw
             ∙ ap (λ (b : Option Verdict). old ++ (report (first_verdict [] b s) ++ flaw)) bad_is
             ∙ ap (λ (vs : List Verdict). old ++ explanation (map by_itself vs)
             (take 1 (ends_said terms heard (rests_held e) vs)) (bad_log_of (flaw_of end))
-            (flaw_held e end) s) (sym empty),
+            (flaw_held e end) s) empty,
         verdict ∙ ap (λ (b : Option Verdict). first_verdict [] b s) bad_is
-            ∙ ap (λ (vs : List Verdict). end_verdict terms heard (flaw_of end) vs) (sym empty),
+            ∙ ap (λ (vs : List Verdict). end_verdict terms heard (flaw_of end) vs) empty,
       )
 
   -- something is
@@ -328,7 +326,7 @@ module _ (completeness : Completeness) (terms : Terms) (heard : List Heard) (e :
       → v ≡ (offence_view o).no
       → (new ≡ old ++ explains) × (v ≡ end_verdict terms heard (flaw_of end) ends)
   ending_some o os own v old new listed same said verdict =
-      let first = first_listed o os ends listed in
+      let first = nos_are (o ∷ os) ends listed in
       let no = (offence_view o).no in
       let e_said : Explained = end_explained (rests_held e) (numbered terms (heard_events heard)) no
       in (
@@ -337,9 +335,8 @@ module _ (completeness : Completeness) (terms : Terms) (heard : List Heard) (e :
             ∙ ap (λ w. old ++ (report no ++ w)) (sym (append-nil (said_of e_said)))
             ∙ ap (λ (vs : List Verdict). old ++ explanation (map by_itself vs)
             (take 1 (ends_said terms heard (rests_held e) vs)) (bad_log_of (flaw_of end))
-            (flaw_held e end) s) (sym first.1),
-        verdict ∙ ap (λ (vs : List Verdict). end_verdict terms heard (flaw_of end) vs)
-            (sym first.1),
+            (flaw_held e end) s) first,
+        verdict ∙ ap (λ (vs : List Verdict). end_verdict terms heard (flaw_of end) vs) first,
       )
 
 -- one more of what is listed is said
@@ -370,14 +367,5 @@ pub nos_listed : (own terms : Terms) (heard : List Heard) (rests : Rests)
     (ends_said own heard rests (map (λ o. (offence_view o).no) xs))
     → new ≡ old ++ flat_map cause_lines (ends_said terms heard rests ends)
 nos_listed own terms heard rests xs ends old new same are said =
-    said ∙ (λ i. old ++ flat_map cause_lines (ends_said (same i) heard rests (nos xs ends are i)))
-  where
-    nos : (os : List code_offence.Offence) (vs : List Verdict)
-        → map offence_view os ≡ map by_itself vs → map (λ o. (offence_view o).no) os ≡ vs
-    nos [] [] is = refl
-    nos [] (v ∷ vs) is = absurd (cc is)
-    nos (o ∷ os) [] is = absurd (cc is)
-    nos (o ∷ os) (v ∷ vs) is =
-        let first : offence_view o ≡ by_itself v = cc is in
-        let later : map offence_view os ≡ map by_itself vs = cc is in
-        λ i. ap (λ (x : Offence). x.no) first i ∷ nos os vs later i
+    said
+    ∙ (λ i. old ++ flat_map cause_lines (ends_said (same i) heard rests (nos_are xs ends are i)))
