@@ -62,10 +62,6 @@ or_if false x o = refl
 
 -- ---- what is kept for the notes, with one message more
 
-pub filter_map-snoc : {A X : Type 0} (f : A → Option X) (xs : List A) (x : A)
-    → filter_map f (xs ++ x ∷ []) ≡ filter_map f xs ++ cons_option (f x) []
-filter_map-snoc f xs x = filter_map-append f xs (x ∷ [])
-
 -- what is asked of a message apart from its params and its result is the same of both
 pub alike : {X : Type 0} (f : Message → X) (m said : Message) → ((w : Message) → f w ≡ f (outline w))
     → outline m ≡ outline said → f said ≡ f m
@@ -88,7 +84,7 @@ misuses_after-push found (y ∷ ys) x = misuses_after-push (with_misuse found (S
 misuses-push : (said : List Numbered) (m : Numbered)
     → misuses (said ++ m ∷ []) ≡ with_misuse (misuses said) (misuse_at m)
 misuses-push said m =
-    ap (misuses_after []) (filter_map-snoc misuse_at said m) ∙ by_one (misuse_at m)
+    ap (misuses_after []) (filter_map-append misuse_at said (m ∷ [])) ∙ by_one (misuse_at m)
   where
     by_one : (o : Option Misused)
         → misuses_after [] (filter_map misuse_at said ++ cons_option o [])
@@ -260,8 +256,8 @@ module _ (side : Side) (p : EventPlace) (m : Sent) (said : Message)
           (alike (asks side (id_view k) p m.side) m.message said
           (asks-outline side (id_view k) p m.side) same)
           ∙ ap (unwrap_or (asks side (id_view k) p m.side m.message)) (is.asked_is k)
-          ∙ sym (ap (last_or None) (filter_map-snoc (asks_by side (id_view k)) before
-          (numbered_as p m)) ∙ last_behind None (filter_map (asks_by side (id_view k)) before)
+          ∙ sym (ap (last_or None) (filter_map-append (asks_by side (id_view k)) before
+          (numbered_as p m ∷ [])) ∙ last_behind None (filter_map (asks_by side (id_view k)) before)
           (asks side (id_view k) p m.side m.message));
       replies_are =
           more.replies (replies side before) is.replies_are
@@ -271,7 +267,7 @@ module _ (side : Side) (p : EventPlace) (m : Sent) (said : Message)
           ∙ ap (λ (l : List Reply). last_ones most_replies (replies side before ++ l))
           (as_list (reply_of p (answered_from side m.side m.message)))
           ∙ ap (last_ones most_replies)
-          (sym (filter_map-snoc (reply_by side) before (numbered_as p m)));
+          (sym (filter_map-append (reply_by side) before (numbered_as p m ∷ [])));
     }
 
 -- ---- one event more
