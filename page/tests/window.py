@@ -3,6 +3,7 @@
 from functools import cached_property
 
 from selenium import webdriver
+from selenium.common.exceptions import WebDriverException
 from selenium.webdriver.chrome.options import Options
 from selenium.webdriver.chrome.service import Service
 from selenium.webdriver.common.by import By
@@ -14,13 +15,25 @@ from processes import SECONDS, until
 WIDTHS, THEMES = [380, 800, 1600], ["light", "dark"]
 
 
+def started(options, tries=5):
+    """A browser. On a busy machine it may not be ready in the time that its driver gives it, and its
+    port may be taken by then."""
+    while True:
+        tries -= 1
+        try:
+            return webdriver.Chrome(service=Service("/usr/bin/chromedriver"), options=options)
+        except WebDriverException:
+            if tries == 0:
+                raise
+
+
 def start():
     options = Options()
     options.binary_location = "/usr/bin/chromium"
     for word in ("--headless=new", "--no-sandbox", "--disable-gpu", "--disable-dev-shm-usage"):
         options.add_argument(word)
     options.set_capability("goog:loggingPrefs", {"browser": "ALL"})
-    driver = webdriver.Chrome(service=Service("/usr/bin/chromedriver"), options=options)
+    driver = started(options)
     driver.set_page_load_timeout(SECONDS)
     driver.set_script_timeout(SECONDS)
     return driver
