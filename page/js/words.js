@@ -61,6 +61,10 @@ function shownPart(values) {
   return said;
 }
 
+function shownCode(code) {
+  return code === "end" ? "the end of the text" : code;
+}
+
 const SUSPECTS = {
   0: "none: the editor changed its text without a message, or the texts were equal again later",
   1: "one message made the texts differ, unless a change was never sent",
@@ -94,6 +98,9 @@ const LINES = {
   "by-messages": ["By the messages", shownPart],
   "in-editor": ["In the editor", shownPart],
   saved: ["Saved", shownPart],
+  codes: ["Characters", ([sent, other]) => [
+    `by the messages ${shownCode(sent)}, in the editor ${shownCode(other)}`,
+  ]],
   "line-ends": ["Line ends", () => ["nothing else differs: see --ignore-line-ends"]],
   kept: ["Kept versions", (versions) => [versions.join(", ")]],
   snapshot: ["Differs from", (by) => shownEvent(by)],

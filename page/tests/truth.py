@@ -254,6 +254,11 @@ def one_suspect(values):
     return "one message made the texts differ, unless a change was never sent" if values[0] == "1" else None
 
 
+def code_words(values):
+    sent, other = ("the end of the text" if it == "end" else it for it in values)
+    return f"by the messages {sent}, in the editor {other}"
+
+
 SENTENCES = {
     "held": ("Held", lambda it: f"version {it[0]}, set by {event_words(it[1:])}"),
     "sent": ("This message", lambda it: f"sets version {it[0]}"),
@@ -265,6 +270,7 @@ SENTENCES = {
     "inside": ("Inside", lambda it: f"the column falls into the character {it[0]}"),
     "fits": ("It would fit", lambda it: f"if columns were counted in {' or '.join(it).upper()}"),
     "at": ("First difference", place),
+    "codes": ("Characters", code_words),
     "uri": ("Document", lambda it: f"{it[0].rpartition('/')[2]} {it[0]}"),
     "equal": ("Last equal", lambda it: f"at version {it[0]}: {event_words(it[1:])}"),
     "since": ("Since", event_words),

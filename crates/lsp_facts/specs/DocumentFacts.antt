@@ -30,6 +30,7 @@ use Rattle.lsp_replay.specs.declared.heard.EventPlace.{EventPlace}
 use Rattle.lsp_verdict.specs.Report.{line, encoding_name, kind_name}
 use Rattle.lsp_facts.specs.Fact.{Fact, holds, sends, counts_in, fails, would_have, may_have}
 use Rattle.lsp_facts.specs.Fact.{part_line, position_words, quoted_text, spaced, part_around}
+use Rattle.lsp_facts.specs.Fact.{differing_codes}
 use Rattle.lsp_facts.specs.TwoTexts.{TwoTexts, texts_of}
 
 -- ---- the encodings in which a column lies at the edge of a character
@@ -184,12 +185,13 @@ pub record IsFailing (limit : ℕ) (enc : Encoding) (t : Text) (cs : List Edit) 
 abbrev pub differs_at : Position → Fact
 differs_at place = codes "at" ++ position_words place ++ 10 ∷ []
 
--- where they first differ, and the line of each there, of a long one the part around the place; the
--- key is that of the other text
+-- where they first differ, the line of each there, of a long one the part around the place, and the
+-- character of each; the key is that of the other text
 abbrev pub difference_facts : Encoding → Text → Text → List ℕ → ℕ → List Fact
 difference_facts enc t other key n =
     counts_in enc ∷ differs_at (position_at enc t n)
-    ∷ part_line (codes "by-messages") (part_around t n) ∷ part_line key (part_around other n) ∷ []
+    ∷ part_line (codes "by-messages") (part_around t n) ∷ part_line key (part_around other n)
+    ∷ differing_codes (slice_get t n) (slice_get other n) ∷ []
 
 abbrev pub AreOfDifference : Encoding → Text → Text → List ℕ → List Fact → Type 0
 AreOfDifference enc t other key facts =

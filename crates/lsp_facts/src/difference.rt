@@ -7,7 +7,7 @@ ghost use Rattle.lsp_text.specs.SameText.{SameText, compared};
 ghost use Rattle.lsp_facts.specs.DocumentFacts.{AreApart, FindsDifference};
 
 use crate::facts::Facts;
-use crate::part::part_at;
+use crate::part::{char_behind, part_at};
 use lsp_rpc::Result;
 use lsp_text::{compared_lines, first_difference};
 use lsp_types::{Encoding, LineEnds};
@@ -69,7 +69,8 @@ fn by_lines(
     Ok(found)
 }
 
-/// Where two texts first differ, and the line of each there; of a long one the part around it.
+/// Where two texts first differ, the line of each there, of a long one the part around it, and the
+/// character of each.
 fn at_difference(
     alloc: Global,
     encoding: Encoding,
@@ -89,5 +90,8 @@ fn at_difference(
     facts.part("by-messages", &held)?;
     let other = part_at(alloc, found.other, found.other_front)?;
     facts.part(key, &other)?;
+    let sent = char_behind(found.held, found.held_front);
+    let shown = char_behind(found.other, found.other_front);
+    facts.codes(sent, shown)?;
     Ok(Some(facts))
 }

@@ -8,7 +8,8 @@ ghost use Rattle.std.specs.Fmt.{signed_decimal};
 ghost use Rattle.lsp_types.specs.declared.line_ends.LineEnds.TheVariants.{Ignored};
 ghost use Rattle.lsp_text.specs.SameText.{same_text};
 ghost use Rattle.lsp_verdict.specs.Report.{encoding_name};
-ghost use Rattle.lsp_facts.specs.Fact.{counts_in, fails, position_words, spaced};
+ghost use Rattle.lsp_facts.specs.Fact.{code_word, counts_in, differing_codes, fails};
+ghost use Rattle.lsp_facts.specs.Fact.{position_words, spaced};
 ghost use Rattle.lsp_facts.specs.DocumentFacts as spec;
 ghost use Rattle.lsp_facts.specs.DocumentFacts.{edges};
 
@@ -51,6 +52,16 @@ impl Facts {
     {
         let mut words = String::from_str(self.alloc(), "at")?;
         push_position(&mut words, place)?;
+        self.push_end(words)
+    }
+
+    /// The characters at which two texts differ; where a text ends, there is none.
+    pub(crate) fn codes(&mut self, held: Option<char>, other: Option<char>) -> Result<()>
+        ensures { OnOk result (self.new ≡ self.old ++ differing_codes held other ∷ []) }
+    {
+        let mut words = String::from_str(self.alloc(), "codes")?;
+        push_code(&mut words, held)?;
+        push_code(&mut words, other)?;
         self.push_end(words)
     }
 
@@ -142,6 +153,20 @@ fn fits_words(alloc: Global, names: &[Encoding]) -> Result<String>
         push_encoding(&mut words, *encoding)?;
     }
     Ok(words)
+}
+
+/// Adds the number of a character, or that there is none.
+fn push_code(words: &mut String, c: Option<char>) -> Result<()>
+    ensures { OnOk result (string_bytes words.new
+        ≡ string_bytes words.old ++ spaced (code_word c)) }
+{
+    let Some(c) = c else {
+        words.push_str(" end")?;
+        return Ok(());
+    };
+    let code = c as u32;
+    write!(words, " U+{code:04X}")?;
+    Ok(())
 }
 
 fn push_encoding(words: &mut String, encoding: Encoding) -> Result<()>

@@ -1,7 +1,7 @@
 -- What is said of calls that break a rule on documents, one of each.
 use Rattle.std.proofs.Common.{◌<◌, ℕ, Bool, false, List, [], ◌∷◌, ◌++◌, Option, Some, None, refl, ap, inl, inr, arith, true≢false}
 use Rattle.std.specs.Prelude.{◌==◌, if◌then◌else◌, codes, pos}
-use Rattle.std.specs.Fmt.{digits}
+use Rattle.std.specs.Fmt.{char_count, digits, padded_integral}
 use lib.Utf8.{encode}
 use Rattle.json.specs.Print.{escape_byte}
 use Rattle.lsp_types.specs.declared.position.Encoding.TheVariants.{Utf8, Utf16}
@@ -192,8 +192,8 @@ too_long_to_change =
 saved_other :
     AreDocumentFacts terms Utf16 opened (saves A (Some (codes "ab\nxy\n"))) 608 None
     (said (codes "uri \"a\"\nheld 1\nencoding utf-16\nat 1 1\nby-messages \"x"
-    ++ 240 ∷ 159 ∷ 152 ∷ 128 ∷ codes "y\\n\"\nsaved \"xy\\n\"\n"))
-unfolding digits escape_byte encode
+    ++ 240 ∷ 159 ∷ 152 ∷ 128 ∷ codes "y\\n\"\nsaved \"xy\\n\"\ncodes U+1F600 U+0079\n"))
+unfolding digits escape_byte encode padded_integral char_count
 saved_other =
     record {
       details = _;
@@ -209,8 +209,8 @@ saved_other =
 saved_ends : AreDocumentFacts terms Utf16 opened
     (saves A (Some (codes "ab\r\nx" ++ 128512 ∷ codes "y"))) 608 None
     (said (codes "uri \"a\"\nheld 1\nencoding utf-16\nat 0 2\nby-messages \"ab\\n\"\n"
-    ++ codes "saved \"ab\\r\\n\"\nline-ends option --ignore-line-ends\n"))
-unfolding digits escape_byte encode
+    ++ codes "saved \"ab\\r\\n\"\ncodes U+000A U+000D\nline-ends option --ignore-line-ends\n"))
+unfolding digits escape_byte encode padded_integral char_count
 saved_ends =
     record {
       details = _;
@@ -226,8 +226,8 @@ saved_ends =
 saved_line_differs : AreDocumentFacts by_lines Utf16 opened
     (saves A (Some (codes "ab\r\nxy\r\n"))) 608 None
     (said (codes "uri \"a\"\nheld 1\nencoding utf-16\nat 1 1\nby-messages \"x"
-    ++ 240 ∷ 159 ∷ 152 ∷ 128 ∷ codes "y\"\nsaved \"xy\"\n"))
-unfolding digits escape_byte encode
+    ++ 240 ∷ 159 ∷ 152 ∷ 128 ∷ codes "y\"\nsaved \"xy\"\ncodes U+1F600 U+0079\n"))
+unfolding digits escape_byte encode padded_integral char_count
 saved_line_differs =
     record {
       details = _;
@@ -254,8 +254,8 @@ late = record { details = _; says = refl; are = refl }
 kept_differs :
     AreDocumentFacts terms Utf16 edited (shows A (pos 5) (codes "p")) 702 None
     (said (codes "uri \"a\"\nheld 6\nversion 5\nencoding utf-16\nat 0 0\nby-messages \"q\"\n"
-    ++ codes "in-editor \"p\"\n"))
-unfolding digits escape_byte encode
+    ++ codes "in-editor \"p\"\ncodes U+0071 U+0070\n"))
+unfolding digits escape_byte encode padded_integral char_count
 kept_differs =
     record {
       details = _;
@@ -271,8 +271,8 @@ kept_differs =
 refuted :
     AreDocumentFacts terms Utf16 (shows A (pos 4) (codes "new") ∷ []) (opens A (pos 4) (codes "now")) 702 None
     (said (codes "uri \"a\"\nsent 4\nencoding utf-16\nat 0 1\nby-messages \"now\"\n"
-    ++ codes "in-editor \"new\"\n"))
-unfolding digits escape_byte encode
+    ++ codes "in-editor \"new\"\ncodes U+006F U+0065\n"))
+unfolding digits escape_byte encode padded_integral char_count
 refuted =
     record {
       details = _;
@@ -288,8 +288,8 @@ refuted =
 refuted_change :
     AreDocumentFacts terms Utf16 (opened ++ shows A (pos 2) (codes "p") ∷ []) (changes Utf16 Full A (pos 2) (edit None (codes "pq") ∷ [])) 702 None
     (said (codes "uri \"a\"\nheld 1\nsent 2\nchanges 1\nencoding utf-16\nat 0 1\nby-messages \"pq\"\n"
-    ++ codes "in-editor \"p\"\n"))
-unfolding digits escape_byte encode
+    ++ codes "in-editor \"p\"\ncodes U+0071 end\n"))
+unfolding digits escape_byte encode padded_integral char_count
 refuted_change =
     record {
       details = _;
