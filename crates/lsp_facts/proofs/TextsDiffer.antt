@@ -93,13 +93,15 @@ found_moved enc key found x y a b p q told =
     (subst (λ (u : Text). FindsDifference enc u y key found) p told)
 
 -- the facts on texts that equal these
-pub apart_moved : (enc : Encoding) (a ends : LineEnds) (t u other : Text) (k key : List ℕ)
-    (facts : List Fact) → a ≡ ends → t ≡ u → k ≡ key → IsOther ends u other
-    → (IsOther a t other → AreApart a enc t other k facts) → AreApart ends enc u other key facts
-apart_moved enc a ends t u other k key facts p q r differ told =
-    subst (λ (x : LineEnds). IsOther x u other → AreApart x enc u other key facts) p
-    (subst (λ (x : Text). IsOther a x other → AreApart a enc x other key facts) q
-    (subst (λ (x : List ℕ). IsOther a t other → AreApart a enc t other x facts) r told)) differ
+pub apart_moved : (enc : Encoding) (was_equal : Bool) (a ends : LineEnds) (t u other : Text)
+    (k key : List ℕ) (facts : List Fact) → a ≡ ends → t ≡ u → k ≡ key → IsOther ends u other
+    → (IsOther a t other → AreApart a enc was_equal t other k facts)
+    → AreApart ends enc was_equal u other key facts
+apart_moved enc was_equal a ends t u other k key facts p q r differ told =
+    subst (λ (x : LineEnds). IsOther x u other → AreApart x enc was_equal u other key facts) p
+    (subst (λ (x : Text). IsOther a x other → AreApart a enc was_equal x other key facts) q
+    (subst (λ (x : List ℕ). IsOther a t other → AreApart a enc was_equal t other x facts) r told))
+    differ
 
 -- ---- what a call compares
 

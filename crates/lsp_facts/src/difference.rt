@@ -14,23 +14,25 @@ use lsp_types::{Encoding, LineEnds};
 use std::alloc::Global;
 
 /// The facts on a held text and another one, which differ: where they first do, as they are
-/// compared, the line of each there, and whether they differ in line ends alone.
+/// compared, the line of each there, and whether they differ in line ends alone. Texts of the
+/// document may have been equal before.
 pub(crate) fn apart(
     alloc: Global,
     line_ends: LineEnds,
     encoding: Encoding,
+    was_equal: bool,
     held: &str,
     other: &str,
     key: &str,
 ) -> Result<Facts>
     ensures { IfOk result (λ facts. (SameText line_ends (chars held.now) (chars other.now) → ⊥)
-        → AreApart line_ends encoding (chars held.now) (chars other.now)
+        → AreApart line_ends encoding was_equal (chars held.now) (chars other.now)
         key.now facts) }
 {
     let Some(mut facts) = place(alloc, line_ends, encoding, held, other, key)? else {
         return Ok(Facts::new(alloc));
     };
-    facts.line_ends(held, other)?;
+    facts.line_ends(was_equal, held, other)?;
     Ok(facts)
 }
 

@@ -98,15 +98,25 @@ impl Facts {
         self.push_end(words)
     }
 
-    /// That two texts differ in line ends alone, and the option that ignores these, where they do.
-    pub(crate) fn line_ends(&mut self, held: &str, other: &str) -> Result<()>
+    /// What is said of two texts that differ in line ends alone, where they do.
+    pub(crate) fn line_ends(&mut self, was_equal: bool, held: &str, other: &str) -> Result<()>
         ensures { OnOk result (self.new ≡ self.old
-            ++ spec.ends_facts (chars held.now) (chars other.now)) }
+            ++ spec.ends_facts was_equal (chars held.now) (chars other.now)) }
     {
         if are_same_lines(held, other) {
-            self.word("line-ends", "option --ignore-line-ends")?;
+            self.offer(was_equal)?;
         }
         Ok(())
+    }
+
+    /// The option that ignores line ends, unless texts of the document were equal before.
+    fn offer(&mut self, was_equal: bool) -> Result<()>
+        ensures { OnOk result (self.new ≡ self.old ++ spec.offer_facts was_equal) }
+    {
+        if was_equal {
+            return Ok(());
+        }
+        self.word("line-ends", "option --ignore-line-ends")
     }
 
     /// The length of the line of a position, where the text has that line.
