@@ -65,6 +65,17 @@ function shownCode(code) {
   return code === "end" ? "the end of the text" : code;
 }
 
+const LINE_ENDS = { "\n": "LF", "\r\n": "CR LF", "\r": "CR" };
+
+function shownEnds([kind, from, to]) {
+  if (kind === "converted") {
+    return [`nothing else differs: each is ${LINE_ENDS[from]} by the messages, and `
+      + `${LINE_ENDS[to]} in the editor`];
+  }
+  return [kind === "last" ? "only the one at the very end of the text differs" :
+    "some differ, and nothing else does"];
+}
+
 const SUSPECTS = {
   0: "none: the editor changed its text without a message, or the texts were equal again later",
   1: "one message made the texts differ, unless a change was never sent",
@@ -101,7 +112,8 @@ const LINES = {
   codes: ["Characters", ([sent, other]) => [
     `by the messages ${shownCode(sent)}, in the editor ${shownCode(other)}`,
   ]],
-  "line-ends": ["Line ends", () => ["nothing else differs: see --ignore-line-ends"]],
+  ends: ["Line ends", shownEnds],
+  "line-ends": ["Option", () => ["--ignore-line-ends: then these texts are the same"]],
   kept: ["Kept versions", (versions) => [versions.join(", ")]],
   snapshot: ["Differs from", (by) => shownEvent(by)],
   equal: ["Last equal", ([version, ...by]) => [`at version ${version}: `, ...shownEvent(by)]],

@@ -1,4 +1,5 @@
 pub mod Offers
+pub mod EndLists
 pub mod LinePlaces
 pub mod MadeChanges
 pub mod AtEdges

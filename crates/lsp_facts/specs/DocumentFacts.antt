@@ -33,6 +33,7 @@ use Rattle.lsp_facts.specs.Fact.{Fact, holds, sends, counts_in, fails, would_hav
 use Rattle.lsp_facts.specs.Fact.{part_line, position_words, quoted_text, spaced, part_around}
 use Rattle.lsp_facts.specs.Fact.{differing_codes}
 use Rattle.lsp_facts.specs.TwoTexts.{TwoTexts, texts_of}
+use Rattle.lsp_facts.specs.EndsApart.{ends_apart}
 
 -- ---- the encodings in which a column lies at the edge of a character
 
@@ -186,8 +187,8 @@ pub record IsFailing (limit : ℕ) (enc : Encoding) (t : Text) (cs : List Edit) 
 abbrev pub differs_at : Position → Fact
 differs_at place = codes "at" ++ position_words place ++ 10 ∷ []
 
--- where they first differ, the line of each there, of a long one the part around the place, and the
--- character of each; the key is that of the other text
+-- where they first differ, the line of each there, of a long one the part around the place, and
+-- the character of each; the key is that of the other text
 abbrev pub difference_facts : Encoding → Text → Text → List ℕ → ℕ → List Fact
 difference_facts enc t other key n =
     counts_in enc ∷ differs_at (position_at enc t n)
@@ -205,10 +206,10 @@ offer_facts was_equal =
     if was_equal then []
     else line (codes "line-ends" ∷ codes "option" ∷ codes "--ignore-line-ends" ∷ []) ∷ []
 
--- the option, where they differ in line ends alone and no texts of the document were equal before
+-- **where they differ in line ends alone, in which**, and the option
 abbrev pub ends_facts : Bool → Text → Text → List Fact
 ends_facts was_equal t other =
-    if same_text Ignored t other then offer_facts was_equal else []
+    if same_text Ignored t other then ends_apart t other ∷ offer_facts was_equal else []
 
 -- **two texts that are not the same**: where they first differ, as they are compared, and whether
 -- they differ in line ends alone
@@ -264,8 +265,8 @@ AreDetails terms enc before call rule was_equal None facts =
     AreOfRule terms.limit (held terms (uri_of call) before) (kept terms (uri_of call) before) call
     rule facts
 
--- **the facts on a call that breaks this rule after these calls**, where this is known of the events
--- before it. Columns count units of the encoding
+-- **the facts on a call that breaks this rule after these calls**, where this is known of the
+-- events before it. Columns count units of the encoding
 pub record AreDocumentFacts (terms : Terms) (enc : Encoding) (before : List Call) (call : Call)
     (rule : ℕ) (earlier : Earlier) (facts : List Fact) : Type 0 where
   pub details : List Fact

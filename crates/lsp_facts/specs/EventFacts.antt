@@ -256,8 +256,8 @@ abbrev pub AreMessageFacts : Terms → List Event → Sent → ℕ → Earlier �
 AreMessageFacts terms kept m rule earlier facts =
     AreFactsBy (nat_lt rule rules.FIRST_ON_DOCUMENTS) terms kept m rule earlier facts
 
--- **the facts on an event that offends by this rule after the kept ones before it**, of which this is
--- known
+-- **the facts on an event that offends by this rule after the kept ones before it**, of which this
+-- is known
 abbrev pub AreFacts : Rests → Terms → List Event → Raw → Event → ℕ → Earlier → List Fact → Type 0
 AreFacts rests terms kept raw (fault side number) rule earlier facts =
     facts ≡ fault_facts rests rule raw

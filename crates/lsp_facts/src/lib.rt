@@ -17,6 +17,7 @@ mod difference;
 mod documents;
 mod earlier;
 mod edges;
+mod ends;
 mod facts;
 mod faults;
 mod grammar;

@@ -103,10 +103,11 @@ impl Facts {
         ensures { OnOk result (self.new ≡ self.old
             ++ spec.ends_facts was_equal (chars held.now) (chars other.now)) }
     {
-        if are_same_lines(held, other) {
-            self.offer(was_equal)?;
+        if !are_same_lines(held, other) {
+            return Ok(());
         }
-        Ok(())
+        self.ends(held, other)?;
+        self.offer(was_equal)
     }
 
     /// The option that ignores line ends, unless texts of the document were equal before.
