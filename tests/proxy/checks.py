@@ -85,8 +85,8 @@ def tells_each(place, program):
 
 
 def tells_lost_end(place, program):
-    """The editor adds a line end to its last line, and does not send it. The texts were equal before,
-    so `explain` does not offer to ignore line ends: it is reported all the same."""
+    """The editor adds a line end to its last line, and does not send it. The texts were equal
+    before, so the option is not offered: it is reported all the same."""
     editor = checked(place, program, "--check")
     editor.open(TITLE.decode(), "one\n")
     editor.has_logged(b"didOpen")
