@@ -15,7 +15,6 @@ use Rattle.lsp_rpc.specs.Reading as rpc
 use Rattle.lsp_rpc.specs.View.{message_view}
 use Rattle.lsp_rpc.specs.declared.act.Spoken.{Spoken}
 use Rattle.lsp_session.specs.Negotiation.{encoding, sync_kind}
-use Rattle.lsp_session.specs.Sent.{Sent}
 use Rattle.lsp_types.specs.declared.change.SyncKind.TheVariants.{Nothing}
 use Rattle.lsp_types.specs.declared.position.Encoding.TheVariants.{Utf16}
 use Rattle.lsp_types.specs.declared.side.Side.{Side}
@@ -33,16 +32,16 @@ use Rattle.lsp_replay.specs.declared.heard.EventPlace.{EventPlace}
 use Rattle.lsp_replay.proofs.Seeing.{events-push}
 use Rattle.lsp_explain.specs.DocumentNotes.{DocumentNote, first_notes, notes_view, with_note}
 use Rattle.lsp_explain.specs.History.{OnDocument, last_ones, on_document, with_room}
-use Rattle.lsp_explain.specs.Openings.{Holds, on_view, ons_view}
+use Rattle.lsp_explain.specs.Openings.{Holds, on_view}
 use Rattle.lsp_explain.specs.Refusals.{AreRefusals, document_named, document_of, event_request}
 use Rattle.lsp_explain.specs.Refusals.{if_open, is_request, most_requests, refusal_at, refusal_by}
-use Rattle.lsp_explain.specs.Refusals.{refusal_note, refusals, refused_id, refused_request, refuses}
-use Rattle.lsp_explain.specs.Refusals.{request_in, request_of, requests}
+use Rattle.lsp_explain.specs.Refusals.{refusal_note, refused_id, refused_request, refuses}
+use Rattle.lsp_explain.specs.Refusals.{request_of, requests}
 use Rattle.lsp_explain.specs.declared.notes.refusals.Refusals.{Refusals}
 use Rattle.lsp_explain.specs.declared.trail.openings.DocumentEvent.{DocumentEvent}
 use Rattle.lsp_explain.proofs.DocumentNoting.{first_notes_with}
 use Rattle.lsp_explain.proofs.History.{held-push, kept_more}
-use Rattle.lsp_explain.proofs.Standard.{IsOnDocument, on_document as said_on}
+use Rattle.lsp_explain.proofs.Standard.{on_document as said_on}
 
 -- ---- one event more
 
