@@ -8,8 +8,10 @@ invariant-loop-line l =
     record {
       rest_utf8 : IsUtf8 l.rest;
       ahead_utf8 : IsUtf8 l.ahead;
-      same : are_converted (chars l.from) (chars l.to) (ends_in (chars l.held)) (ends_in (chars l.other))
-          ≡ are_converted (chars l.from) (chars l.to) (ends_in (chars l.rest)) (ends_in (chars l.ahead));
+      same : are_converted (chars l.from) (chars l.to) (ends_in (chars l.held))
+          (ends_in (chars l.other))
+          ≡ are_converted (chars l.from) (chars l.to) (ends_in (chars l.rest))
+          (ends_in (chars l.ahead));
     }
 
 abbrev pub decreases-loop-line : goal.decreases-loop-line
