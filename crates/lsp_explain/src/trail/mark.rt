@@ -43,6 +43,8 @@ type WaitMap = BTreeMap<i32, Vec<EventPlace>>;
 pub(crate) struct Mark {
     setters: VecDeque<VersionEvent>,
     rank: u64,
+    /// The event that opened the document.
+    pub(crate) opened: Option<EventPlace>,
     /// The equal snapshot of the greatest version.
     pub(crate) agreed: Option<VersionEvent>,
     waiting: WaitMap,
@@ -56,6 +58,7 @@ impl Mark {
         Mark {
             setters: VecDeque::new(alloc),
             rank: 0,
+            opened: None,
             agreed: None,
             waiting: BTreeMap::new(alloc),
         }
@@ -113,6 +116,7 @@ impl Mark {
         };
         push_within(&mut self.setters, MOST_SETTERS, setter)?;
         self.rank = rank;
+        self.opened = self.opened.or(Some(place));
         self.meet(version, rank);
         Ok(())
     }
@@ -122,6 +126,7 @@ impl Mark {
     fn meet(&mut self, version: i32, rank: u64)
         ensures setters { self.new.setters ≡ self.old.setters }
         ensures rank { self.new.rank ≡ self.old.rank }
+        ensures opened { self.new.opened ≡ self.old.opened }
         ensures agreed { self.new.agreed ≡ newer_of self.old.agreed (last_shown version rank
             (waiting_in self.old.waiting.entries version)) }
         ensures waiting { (number : ℤ) → waiting_in self.new.waiting.entries number
