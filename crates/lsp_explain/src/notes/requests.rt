@@ -24,7 +24,7 @@ use std::collections::VecDeque;
 const MOST_REQUESTS: usize = 1024;
 
 /// How many bytes a content has at most that is held.
-const MOST_BYTES: usize = 4096;
+const MOST_BYTES: usize = 16_384;
 
 /// What is held of a request, to tell which document it names.
 #[derive(Drop)]
