@@ -16,7 +16,6 @@ use Rattle.lsp_rpc.specs.Message.{Message, request, notification, response, Repl
 use Rattle.lsp_rpc.specs.Outline.{outline}
 use Rattle.lsp_rpc.specs.Params.{act_at, required}
 use Rattle.lsp_rpc.specs.Reading as rpc
-use Rattle.lsp_rpc.specs.Reading.{call}
 use Rattle.lsp_rpc.specs.Shape.{as_id, unless_null}
 use Rattle.lsp_rpc.specs.View.{message_view}
 use Rattle.lsp_rpc.specs.declared.act.Spoken.{Spoken}
@@ -38,8 +37,9 @@ use Rattle.lsp_replay.proofs.Seeing.{events-push}
 use Rattle.lsp_explain.specs.DocumentNotes.{DocumentNote, first_notes, notes_view, with_note}
 use Rattle.lsp_explain.specs.History.{last_ones, with_room}
 use Rattle.lsp_explain.specs.Refusals.{AreRefusals, Holds, Request, document_in, event_request}
-use Rattle.lsp_explain.specs.Refusals.{is_request, most_requests, named_in, refusal_at, refusal_by}
-use Rattle.lsp_explain.specs.Refusals.{refusal_note, refused_id, refuses, request_at, request_by}
+use Rattle.lsp_explain.specs.Refusals.{is_request, most_requests, named_in, open_document}
+use Rattle.lsp_explain.specs.Refusals.{refusal_at, refusal_by, refusal_note, refused_document}
+use Rattle.lsp_explain.specs.Refusals.{refused_id, refused_request, refuses, request_at, request_by}
 use Rattle.lsp_explain.specs.Refusals.{request_of, request_view, requests}
 use Rattle.lsp_explain.specs.declared.notes.refusals.Refusals.{Refusals}
 use Rattle.lsp_explain.specs.declared.notes.requests.Request as code
@@ -121,14 +121,14 @@ null_names (Some (string s)) = refl
 null_names (Some (array ds)) = refl
 null_names (Some (object ms)) = refl
 
-asks : Option Message → Bool
+abbrev asks : Option Message → Bool
 asks None = false
 asks (Some m) = is_request m
 
 -- of the message that these parts make
 made_as : (p : EventPlace) (b : Bool) (name : Option (List ℕ)) (id : Option Ident)
     (own : Option Data) (answer : Option Reply) (m : Message)
-    → (if b then option_map (λ method. call method id own) name else option_map (response id) answer)
+    → (if b then option_map (λ method. rpc.call method id own) name else option_map (response id) answer)
     ≡ Some m
     → is_request m ≡ true → request_by p m ≡ Some (request_at p (option_and_then document_in own))
 made_as p true (Some name) (Some id) own answer m made is =
@@ -146,13 +146,13 @@ request_names p bytes m reads is =
     let parts = rpc.parts_of d in
     made_as p (is_some parts.method) (option_and_then as_str parts.method)
     (option_and_then as_id parts.id) (option_and_then unless_null parts.params)
-    (rpc.reply_in parts.result parts.error) m reads.1.1.made is
+    (rpc.reply_in parts.result parts.error) m reads.2.made is
     ∙ ap (λ (o : Option (List ℕ)). Some (request_at p o))
     (null_names parts.params
     ∙ sym (ap (λ (b : Bool). if b
     then option_and_then (required (codes "params") document_in) (read bytes) else None)
-    (is_utf8-from_IsUtf8 bytes reads.1.0.0)
-    ∙ ap (option_and_then (required (codes "params") document_in)) reads.1.0.1))
+    (is_utf8-from_IsUtf8 bytes reads.1.0)
+    ∙ ap (option_and_then (required (codes "params") document_in)) reads.1.1))
 
 -- a message that is none asks nothing
 asks_none : (p : EventPlace) (m : Message) → is_request m ≡ false → request_of p Editor m ≡ None
@@ -188,6 +188,14 @@ refused_id-outline (response None (result value)) = refl
 refused_id-outline (response None (error code)) = refl
 refused_id-outline (response (Some id) (result value)) = refl
 refused_id-outline (response (Some id) (error code)) = refl
+
+-- the request first, then the document that it names
+pub refused_in_turn : (terms : Terms) (before : List Event) (id : Option Ident)
+    → option_and_then (refused_document terms before) id
+    ≡ option_and_then (open_document terms before)
+    (option_and_then (refused_request terms before) id)
+refused_in_turn terms before None = refl
+refused_in_turn terms before (Some id) = refl
 
 -- what a message refuses is known without its params and its result
 pub refuses_alike : (m said : Message) → outline m ≡ outline said → refused_id m ≡ refused_id said
@@ -280,12 +288,12 @@ quiet_call : (terms : Terms) (events : List Event) (e : Event) (raw : Raw) (call
     → rule_at terms events e ≡ None → Reads raw e → call_at (kept_of terms events) e ≡ Some call
     → IsQuiet terms events e
 quiet_call terms events (fault side rule) raw call kept reads says = absurd (cc kept)
-quiet_call terms events (snapshot uri number text) raw call kept reads says = record {
+quiet_call terms events (snapshot uri version text) raw call kept reads says = record {
   asks_none = refl;
   refuses_it = refl;
 }
 quiet_call terms events (message m) (broken side code) call kept reads says = absurd (cc reads)
-quiet_call terms events (message m) (show uri number text) call kept reads says = absurd (cc reads)
+quiet_call terms events (message m) (show uri version text) call kept reads says = absurd (cc reads)
 quiet_call terms events (message m) (content side bytes) call kept reads says =
     let place = place_of events (message m) in
     let sents = sent_in (kept_of terms events) in

@@ -1,7 +1,8 @@
 //! The last requests of the editor, and which documents they name.
 ghost use Rattle.std.specs.Prelude.{◌≡◌, ◌==◌, [], IfOk, OnOk, codes, option_map};
-ghost use Rattle.std.specs.Prelude.{string_bytes};
+ghost use Rattle.std.specs.Prelude.{None, string_bytes};
 ghost use Rattle.std.specs.List.{cons_option};
+ghost use Rattle.serde_json.specs.Errors.{IsMemory};
 ghost use Rattle.serde_json.specs.View.{view};
 ghost use Rattle.lsp_explain.specs.History.{last_that};
 ghost use Rattle.lsp_explain.specs.Refusals as spec;
@@ -16,7 +17,7 @@ ghost use Rattle.lsp_types.specs.declared.side.Side.TheVariants.{Editor};
 use crate::trail::{push_within, text_at};
 use lsp_replay::EventPlace;
 use lsp_rpc::{Memory, Message, Result};
-use serde_json::Value;
+use serde_json::{Error, Value};
 use std::alloc::Global;
 use std::collections::VecDeque;
 
@@ -77,7 +78,7 @@ pub(crate) fn note_request(
     if !is_request(message) {
         return Ok(());
     }
-    let named = named(*asked.allocator(), content)?;
+    let named = held(*asked.allocator(), content)?;
     push_within(asked, MOST_REQUESTS, Request { named, place })
 }
 
@@ -108,7 +109,7 @@ fn is_request(message: &Message) -> bool
 }
 
 /// What is held of the request of a content.
-fn named(alloc: Global, content: &[u8]) -> Result<Named>
+fn held(alloc: Global, content: &[u8]) -> Result<Named>
     ensures { IfOk result (λ named. named_view named ≡ named_in content.now) }
 {
     if content.len() > MOST_BYTES {
@@ -123,8 +124,18 @@ fn document_of(alloc: Global, content: &[u8]) -> Result<Option<String>>
 {
     match Value::from_slice(alloc, content) {
         Ok(value) => copy_document(alloc, &value),
-        Err(error) if error.is_memory() => Err(Memory),
-        Err(_) => Ok(None),
+        Err(error) => unread(&error),
+    }
+}
+
+/// No document, where a content is not a JSON text, or that memory was refused.
+fn unread(error: &Error) -> Result<Option<String>>
+    ensures { IfOk result (λ uri. (¬ IsMemory error.now) × (uri ≡ None)) }
+{
+    if error.is_memory() {
+        Err(Memory)
+    } else {
+        Ok(None)
     }
 }
 
