@@ -6,8 +6,8 @@ use Rattle.lsp_command.proofs.Fronts.{front_more}
 use Rattle.lsp_command.proofs.beginning.Beginning.keep.Goals as goal
 
 -- there is no room
-pub returns-then : goal.returns-then
-returns-then c =
+pub returns-then-self-eq32 : goal.returns-then-self-eq32
+returns-then-self-eq32 c =
     let old = c.args.self.now in
     let kept = take old.count old.bytes in
     let size : length old.bytes ≡ 32 = search rules in
