@@ -1,0 +1,162 @@
+//! A text from which a document may have drifted, and the changes since.
+ghost use Rattle.std.specs.Prelude.{◌≡◌, ◌++◌, ◌∷◌, [], IfOk, OnOk, ℤ};
+ghost use Rattle.lsp_text.specs.Changes.{edit_of, edits_of};
+ghost use Rattle.lsp_explain.specs.Bases.{AddsTo, BeginsAt, IsNewBase, LeavesRoom, are_few};
+ghost use Rattle.lsp_explain.specs.Bases.{sent_edits, sent_in};
+
+use lsp_rpc::Result;
+use lsp_text::Lined;
+use lsp_types::Change;
+use std::alloc::{AllocError, Global};
+
+/// How many messages are held of a document at most: the 17 that may be named as suspects, and
+/// those that set the 16 versions that may be kept after the one that differs.
+const MOST_SENT: usize = 33;
+
+/// How large their changes may be together.
+const MOST_SIZE: u64 = 1 << 20;
+
+/// What a change takes beside its text.
+const PER_CHANGE: u64 = 64;
+
+/// The changes of a message that is kept, and the version that it set.
+#[derive(Drop)]
+pub(crate) struct SentChanges {
+    pub(crate) version: i32,
+    pub(crate) changes: Vec<Change>,
+}
+
+/// A text that a document had at a version, and the changes that were made in it since.
+#[derive(Drop)]
+pub(crate) struct Base {
+    /// The version of the text; where the text is no longer held, the one after which the changes
+    /// are.
+    since: i32,
+    pub(crate) text: Option<Lined>,
+    pub(crate) sent: Vec<SentChanges>,
+}
+
+impl Base {
+    /// A text of this version, in which nothing was changed.
+    pub(crate) fn new(alloc: Global, version: i32, text: Lined) -> Base
+        ensures { IsNewBase version text.content result }
+    {
+        Base {
+            since: version,
+            text: Some(text),
+            sent: Vec::new(alloc),
+        }
+    }
+
+    /// Begins again with the text of a later version, or of the same. Where some of the changes
+    /// after that version are no longer held, all stays.
+    pub(crate) fn begin(&mut self, version: i32, text: Lined)
+        ensures { BeginsAt version text.content self.old self.new }
+    {
+        if version < self.since {
+            return;
+        }
+        self.since = version;
+        self.text = Some(text);
+        drop_until(&mut self.sent, version);
+    }
+
+    /// Adds the changes of a message that set this version. Where there is no room for them, the
+    /// first ones are let go of, and with them the text.
+    ///
+    /// # Errors
+    /// `Memory` where memory was refused.
+    pub(crate) fn add(&mut self, version: i32, changes: &[Change]) -> Result<()>
+        ensures { OnOk result (AddsTo (sent_edits version (edits_of changes.now)) self.old self.new) }
+    {
+        self.make_room(changes);
+        if !self.has_room(changes) {
+            self.since = version;
+            self.text = None;
+            return Ok(());
+        }
+        let changes = copies_of(*self.sent.allocator(), changes)?;
+        self.sent.push(SentChanges { version, changes })?;
+        Ok(())
+    }
+
+    /// Lets go of the first changes until there is room for these, or none is left.
+    fn make_room(&mut self, changes: &[Change])
+        ensures { LeavesRoom (edits_of changes.now) self.old self.new }
+    {
+        while self.is_in_the_way_of(changes) {
+            self.drop_first();
+        }
+    }
+
+    /// Whether changes are held, and so many that there is no room for these.
+    fn is_in_the_way_of(&self, changes: &[Change]) -> bool {
+        !self.sent.is_empty() && !self.has_room(changes)
+    }
+
+    /// Lets go of the text and of the changes of the first message.
+    fn drop_first(&mut self) {
+        let first = self.sent.remove(0);
+        self.since = first.version;
+        self.text = None;
+    }
+
+    /// Whether the changes that are held are few enough with these of one more message.
+    pub(crate) fn has_room(&self, changes: &[Change]) -> bool
+        ensures { (number : ℤ) → result ≡ are_few (sent_in self.now
+            ++ sent_edits number (edits_of changes.now) ∷ []) }
+    {
+        if self.sent.len() >= MOST_SENT {
+            return false;
+        }
+        match room_beside(self.sent.as_slice()) {
+            Some(room) => room_after(room, changes).is_some(),
+            None => false,
+        }
+    }
+}
+
+/// How large changes may be beside those of these messages.
+fn room_beside(sent: &[SentChanges]) -> Option<u64> {
+    let mut room = MOST_SIZE;
+    for one in sent {
+        room = room_after(room, one.changes.as_slice())?;
+    }
+    Some(room)
+}
+
+/// How much of this room these changes leave, if there is enough for them.
+fn room_after(room: u64, changes: &[Change]) -> Option<u64> {
+    let mut left = room;
+    for change in changes {
+        left = left.checked_sub(PER_CHANGE + change.text.as_str().len() as u64)?;
+    }
+    Some(left)
+}
+
+/// Lets go of the changes of the messages that set versions up to this one.
+fn drop_until(sent: &mut Vec<SentChanges>, version: i32) {
+    sent.retain(|one| version < one.version);
+}
+
+/// Copies of changes.
+fn copies_of(alloc: Global, changes: &[Change]) -> Result<Vec<Change>, AllocError>
+    ensures { IfOk result (λ copies. edits_of copies.items ≡ edits_of changes.now) }
+{
+    let mut copies = Vec::with_capacity(alloc, changes.len())?;
+    for change in changes {
+        let copy = copy_of(alloc, change)?;
+        copies.push(copy)?;
+    }
+    Ok(copies)
+}
+
+fn copy_of(alloc: Global, change: &Change) -> Result<Change, AllocError>
+    ensures { IfOk result (λ copy. edit_of copy ≡ edit_of change.now) }
+{
+    Ok(Change {
+        span: change.span,
+        range_length: change.range_length,
+        text: String::from_str(alloc, change.text.as_str())?,
+    })
+}
