@@ -70,7 +70,7 @@ const LINE_ENDS = { "\n": "LF", "\r\n": "CR LF", "\r": "CR" };
 function shownEnds([kind, from, to]) {
   if (kind === "converted") {
     return [`nothing else differs: each is ${LINE_ENDS[from]} by the messages, and `
-      + `${LINE_ENDS[to]} in the editor`];
+      + `${LINE_ENDS[to]} in the other text`];
   }
   return [kind === "last" ? "only the one at the very end of the text differs" :
     "some differ, and nothing else does"];
@@ -110,7 +110,7 @@ const LINES = {
   "in-editor": ["In the editor", shownPart],
   saved: ["Saved", shownPart],
   codes: ["Characters", ([sent, other]) => [
-    `by the messages ${shownCode(sent)}, in the editor ${shownCode(other)}`,
+    `by the messages ${shownCode(sent)}, in the other text ${shownCode(other)}`,
   ]],
   ends: ["Line ends", shownEnds],
   "line-ends": ["Option", () => ["--ignore-line-ends: then these texts are the same"]],

@@ -256,13 +256,13 @@ def one_suspect(values):
 
 def code_words(values):
     sent, other = ("the end of the text" if it == "end" else it for it in values)
-    return f"by the messages {sent}, in the editor {other}"
+    return f"by the messages {sent}, in the other text {other}"
 
 
 def ends_words(values):
     if values[0] == "converted":
         sent, other = ({"\n": "LF", "\r\n": "CR LF", "\r": "CR"}[it] for it in values[1:])
-        return f"nothing else differs: each is {sent} by the messages, and {other} in the editor"
+        return f"nothing else differs: each is {sent} by the messages, and {other} in the other text"
     return "only the one at the very end of the text differs" if values[0] == "last" else "some differ, and nothing else does"
 
 
