@@ -124,22 +124,23 @@ abbrev pub text_in : Base → Option Text
 text_in b = option_map (λ (s : Counted). s.content) b.text
 
 -- a snapshot may be found equal at this version later, where these are kept and held
-abbrev pub MayBeEqual : Version → List Version → Option Version → ℤ → Type 0
-MayBeEqual base kept h number =
-    (int_lt number base.number ≡ false) × (has_number number kept h ≡ true)
+abbrev pub MayBeEqual : Version → List Version → Version → ℤ → Type 0
+MayBeEqual base kept v number =
+    (int_lt number base.number ≡ false) × (has_number number kept (Some v) ≡ true)
 
 -- **this is held of a document**, of which this is the base, where it was changed so since it was
 -- opened: its changes after a version, and the text of the base, if these are all that come after
 -- it. They are not all only where those are not few; likewise of each version at which a snapshot
 -- may be found equal
-pub record HoldsBase (base : Version) (kept : List Version) (h : Option Version)
-    (all : List SentEdits) (b : Base) : Type 0 where
+pub record HoldsBase (base : Version) (kept : List Version) (v : Version) (all : List SentEdits)
+    (b : Base) : Type 0 where
   pub few : are_few (sent_in b) ≡ true
   pub sent : sent_in b ≡ later b.since all
+  pub within : int_lt v.number b.since ≡ false
   pub text : MatchOption (text_in b) (int_lt base.number b.since ≡ true)
       (λ t. (b.since ≡ base.number) × (t ≡ base.text))
   pub since_base : int_lt base.number b.since ≡ true → are_few (later base.number all) ≡ false
-  pub since_others : (number : ℤ) → MayBeEqual base kept h number → int_lt number b.since ≡ true
+  pub since_others : (number : ℤ) → MayBeEqual base kept v number → int_lt number b.since ≡ true
       → are_few (later number all) ≡ false
 
 -- nothing is held of it: its changes since the base are not few, and no earlier version is kept
@@ -147,21 +148,29 @@ pub record HoldsNothing (terms : Terms) (base : Version) (all : List SentEdits) 
   pub none_kept : terms.kept ≡ 0
   pub many : are_few (later base.number all) ≡ false
 
-abbrev pub HoldsOf : Terms → Version → List Version → Option Version → List SentEdits
-    → Option Base → Type 0
-HoldsOf terms base kept h all None = HoldsNothing terms base all
-HoldsOf terms base kept h all (Some b) = HoldsBase base kept h all b
+abbrev pub HoldsFrom : Terms → Version → List Version → Version → List SentEdits → Option Base
+    → Type 0
+HoldsFrom terms base kept v all None = HoldsNothing terms base all
+HoldsFrom terms base kept v all (Some b) = HoldsBase base kept v all b
 
--- the same of a document that may be closed: then there is no base, and nothing is held
-abbrev pub HoldsAny : Terms → Option Version → List Version → Option Version → List SentEdits
-    → Option Base → Type 0
-HoldsAny terms None kept h all b = b ≡ None
-HoldsAny terms (Some base) kept h all b = HoldsOf terms base kept h all b
+-- the same of an open document, where a snapshot was found equal so, and these are its versions
+pub record HoldsOpen (terms : Terms) (equal : Option VersionEvent) (versions kept : List Version)
+    (v : Version) (all : List SentEdits) (b : Option Base) : Type 0 where
+  pub base : Version
+  pub is : base_in equal versions ≡ Some base
+  pub within : int_lt v.number base.number ≡ false
+  pub holds : HoldsFrom terms base kept v all b
 
--- of the document of a URI after these calls, where a snapshot was found equal so
+-- and of one that may be closed
+abbrev pub HoldsAny : Terms → Option VersionEvent → List Version → List Version → Option Version
+    → List SentEdits → Option Base → Type 0
+HoldsAny terms equal versions kept None all b = (equal ≡ None) × (b ≡ None)
+HoldsAny terms equal versions kept (Some v) all b = HoldsOpen terms equal versions kept v all b
+
+-- of the document of a URI after these calls
 abbrev pub HoldsAfter : Terms → Bytes → List Call → Option VersionEvent → Option Base → Type 0
 HoldsAfter terms uri before equal b =
-    HoldsAny terms (base_in equal (revisions terms uri before)) (kept terms uri before)
+    HoldsAny terms equal (revisions terms uri before) (kept terms uri before)
     (held terms uri before) (sent_since uri before) b
 
 abbrev pub held_of : List (String Global × Base) → Bytes → Option Base
