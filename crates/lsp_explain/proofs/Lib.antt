@@ -14,6 +14,10 @@ pub mod Quiet
 pub mod DocumentNoting
 pub mod Misfitting
 pub mod Refusing
+pub mod LaterChanges
+pub mod SentChanges
+pub mod BaseSteps
+pub mod Basing
 pub mod Trails
 pub mod Ending
 pub mod Comparing
