@@ -52,7 +52,7 @@ use Rattle.lsp_explain.proofs.Marking.{agreed-push, newer_none}
 use Rattle.lsp_explain.proofs.SentChanges.{IsChanged, Leaves, changed_so, leaves_other, leaves_saved}
 use Rattle.lsp_explain.proofs.SentChanges.{leaves_shown, sent_opened, sent_rise, sent_same}
 
-abbrev Entries : Type 0
+abbrev pub Entries : Type 0
 Entries = List (String Global × Base)
 
 -- ---- the snapshot that was found equal
@@ -77,13 +77,13 @@ standing_other uri done k other =
     ∙ ap (since_last closes_it) (append-nil (filter (is_about uri) done))
 
 -- one of a version that is not below it
-newest : (equal : Option VersionEvent) (s : VersionEvent)
+pub newest : (equal : Option VersionEvent) (s : VersionEvent)
     → IfSome equal (λ x. int_lt s.version x.version ≡ false) → newer_of equal (Some s) ≡ Some s
 newest None s least = refl
 newest (Some x) s least = ap (λ (b : Bool). Some (if b then x else s)) least
 
 -- it is of the version of the base
-equal_base : (equal : Option VersionEvent) (versions : List Version) (base : Version)
+pub equal_base : (equal : Option VersionEvent) (versions : List Version) (base : Version)
     → base_in equal versions ≡ Some base → IfSome equal (λ x. base.number ≡ x.version)
 equal_base None versions base is = tt
 equal_base (Some x) versions base is =
@@ -167,7 +167,7 @@ module _ (terms : Terms) (equal : Option VersionEvent) (versions kept_now : List
   reached_within = ap (int_lt v.number) number ∙ within
 
   -- for the first time
-  begun_first : (b : Option Base) → later n all ≡ [] → BegunBy n t None b
+  pub begun_first : (b : Option Base) → later n all ≡ [] → BegunBy n t None b
       → HoldsOpen terms equal versions kept_now v all b
   begun_first b none (own, same, new) = record {
     base = w;
@@ -178,7 +178,7 @@ module _ (terms : Terms) (equal : Option VersionEvent) (versions kept_now : List
   }
 
   -- or again, where changes since an earlier one were held
-  begun_again : (old : Base) (b : Option Base) → int_lt n old.since ≡ false
+  pub begun_again : (old : Base) (b : Option Base) → int_lt n old.since ≡ false
       → spec.are_few (spec.sent_in old) ≡ true → later n (spec.sent_in old) ≡ later n all
       → BegunBy n t (Some old) b → HoldsOpen terms equal versions kept_now v all b
   begun_again old b held few same (own, alike, begins) = record {
@@ -198,7 +198,7 @@ HoldAll terms before done es =
     (u : Bytes) → HoldsAfter terms u before (agreed (standing u done)) (held_of es u)
 
 -- a document that a call leaves is as it was
-leaves_held : (terms : Terms) (u : Bytes) (before : List Call) (c : Call)
+pub leaves_held : (terms : Terms) (u : Bytes) (before : List Call) (c : Call)
     (e f : Option VersionEvent) (a b : Option Base) → Leaves terms u before c → f ≡ e → b ≡ a
     → HoldsAfter terms u before e a → HoldsAfter terms u (before ++ c ∷ []) f b
 leaves_held terms u before c e f a b leaves same alike holds =
@@ -217,7 +217,7 @@ leaves_held terms u before c e f a b leaves same alike holds =
 module _ (terms : Terms) (before : List Call) (c : Call) (done : List KeptCall) (k : KeptCall)
     (about : k.on.uri ≡ uri_of c) (old new : Entries) where
   -- the document of the call, and all others, which it leaves
-  by_uri : (How : Option Base → Option Base → Type 0) → ChangesOne (uri_of c) How old new
+  pub by_uri : (How : Option Base → Option Base → Type 0) → ChangesOne (uri_of c) How old new
       → HoldAll terms before done old
       → (How (held_of old (uri_of c)) (held_of new (uri_of c))
       → HoldsAfter terms (uri_of c) (before ++ c ∷ [])
@@ -243,20 +243,20 @@ kept_rule : (terms : Terms) (before : List Call) (c : Call) → AreAccepted term
     → call_rule terms before c ≡ None
 kept_rule terms before c accepted = (accepted-split terms [] before (c ∷ []) accepted).1.0
 
-accepted_before : (terms : Terms) (before : List Call) (c : Call)
+pub accepted_before : (terms : Terms) (before : List Call) (c : Call)
     → AreAccepted terms (before ++ c ∷ []) → AreAccepted terms before
 accepted_before terms before c accepted = (accepted-split terms [] before (c ∷ []) accepted).0
 
 module _ (terms : Terms) (u : Bytes) (calls : List Call) (e : Option VersionEvent)
     (b : Option Base) (h : Option Version) (same : held terms u calls ≡ h) where
-  abbrev HoldsAt : Option Version → Type 0
+  abbrev pub HoldsAt : Option Version → Type 0
   HoldsAt o = spec.HoldsAny terms e (past terms u calls ++ option_to_list o) (kept terms u calls) o
       (sent_since u calls) b
 
-  at_held : HoldsAt h → HoldsAfter terms u calls e b
+  pub at_held : HoldsAt h → HoldsAfter terms u calls e b
   at_held holds = subst HoldsAt (sym same) holds
 
-  from_held : HoldsAfter terms u calls e b → HoldsAt h
+  pub from_held : HoldsAfter terms u calls e b → HoldsAt h
   from_held holds = subst HoldsAt same holds
 
 int_same : (n : ℤ) → int_eq n n ≡ true
@@ -270,7 +270,7 @@ pub record VersionAt (terms : Terms) (u : Bytes) (calls : List Call) (v : Versio
     pub text : text_at n (kept terms u calls) (held terms u calls) ≡ Some version.text
     pub is : numbered (past terms u calls ++ v ∷ []) n ≡ Some version
 
-version_at : (terms : Terms) (u : Bytes) (calls : List Call) (v : Version) (n : ℤ)
+pub version_at : (terms : Terms) (u : Bytes) (calls : List Call) (v : Version) (n : ℤ)
     → AreAccepted terms calls → held terms u calls ≡ Some v
     → has_number n (kept terms u calls) (Some v) ≡ true → VersionAt terms u calls v n
 version_at terms u calls v n accepted now has =
@@ -293,7 +293,7 @@ version_at terms u calls v n accepted now has =
 
 -- ---- a `didClose`
 
-closed_all : (terms : Terms) (before : List Call) (uri : Bytes) (done : List KeptCall)
+pub closed_all : (terms : Terms) (before : List Call) (uri : Bytes) (done : List KeptCall)
     (p : EventPlace) (old new : Entries) → ChangesOne uri (λ was now. now ≡ None) old new
     → HoldAll terms before done old
     → HoldAll terms (before ++ closes uri ∷ []) (done ++ kept_call uri p Closes ∷ []) new
@@ -312,7 +312,7 @@ opened_base v n rank None number = rw (int_same v.number) refl
 opened_base v n rank (Some p) number =
     rw (ap (λ m. int_eq m n) number ∙ int_same n) refl
 
-opened_all : (terms : Terms) (before : List Call) (uri : Bytes) (n : ℤ) (t : Text)
+pub opened_all : (terms : Terms) (before : List Call) (uri : Bytes) (n : ℤ) (t : Text)
     (done : List KeptCall) (p : EventPlace) (old new : Entries)
     → AreAccepted terms (before ++ opens uri n t ∷ [])
     → spec.Begun terms (before ++ opens uri n t ∷ []) uri n old new
@@ -514,7 +514,7 @@ module _ (terms : Terms) (before : List Call) (enc : Encoding) (kind : SyncKind)
           ∙ sym (later-append n (sent_since uri before) (more ∷ []))
           ∙ ap (later n) (sym change.sent_more)) by
 
-  changed_all : (found : Bool) → found ≡ finds_equal (Reaches n false) (marked (standing uri done))
+  pub changed_all : (found : Bool) → found ≡ finds_equal (Reaches n false) (marked (standing uri done))
       → spec.KeepsBy terms after call (Reaches n false) found old new
       → HoldAll terms after (done ++ k ∷ []) new
   changed_all true found keeps =
@@ -525,265 +525,3 @@ module _ (terms : Terms) (before : List Call) (enc : Encoding) (kind : SyncKind)
       by_uri terms before call done k refl old new (AddedBy more (kept terms uri after))
       (keeps more (rw (uri_same uri) refl)) hold (added (shown_none n _ _ _ (sym found)))
 
--- ---- a snapshot
-
--- the first of the versions is the least
-first_least : (v : Version) (vs : List Version) (n : ℤ) (w : Version)
-    → rises (v ∷ vs) ≡ true → numbered (v ∷ vs) n ≡ Some w → w.number ≡ n
-    → int_lt n v.number ≡ false
-first_least v vs n w rise found own = by_test (is_at n v) refl
-  where
-    parts : (list_all (is_after v.number) vs ≡ true) × (rises vs ≡ true)
-    parts = and_parts (list_all (is_after v.number) vs) (rises vs) rise
-
-    by_test : (b : Bool) → is_at n v ≡ b → int_lt n v.number ≡ false
-    by_test true here = ap (λ m. int_lt m v.number) (sym (int_is v.number n here)) ∙ itself v.number
-    by_test false other =
-        let behind : int_lt v.number w.number ≡ true =
-        found_passes (is_after v.number) (is_at n) vs w parts.0
-        (sym (ap (λ (b : Bool). if b then Some v else find (is_at n) vs) other) ∙ found) in
-        ap (λ m. int_lt m v.number) (sym own) ∙ less_behind w.number v.number behind
-
-module _ (terms : Terms) (before : List Call) (uri : Bytes) (n : ℤ) (shown : Text)
-    (done : List KeptCall) (p : EventPlace) (old new : Entries)
-    (accepted : AreAccepted terms (before ++ shows uri n shown ∷ []))
-    (hold : HoldAll terms before done old) where
-  abbrev snapshot : Call
-  snapshot = shows uri n shown
-
-  -- one that is not compared
-  passed_all : (answer : Match) → found_at (standing uri done)
-      (kept_call uri p (Shows n answer)) ≡ None → closes_it (kept_call uri p (Shows n answer))
-      ≡ false → new ≡ old
-      → HoldAll terms (before ++ snapshot ∷ []) (done ++ kept_call uri p (Shows n answer) ∷ []) new
-  passed_all answer none open_still same u = by_test (bytes_eq uri u) refl
-    where
-      k : KeptCall
-      k = kept_call uri p (Shows n answer)
-
-      equal_same : (b : Bool) → bytes_eq uri u ≡ b
-          → agreed (standing u (done ++ k ∷ [])) ≡ agreed (standing u done)
-      equal_same true own =
-          ap agreed (standing_own u done k own)
-          ∙ agreed-push (standing u done) k
-          ∙ ap (λ x. newer_of (agreed (standing u done)) (found_at (standing x done) k))
-          (sym (uri_is uri u own))
-          ∙ ap (newer_of (agreed (standing u done))) none
-          ∙ newer_none (agreed (standing u done))
-      equal_same false other = ap agreed (standing_other u done k other)
-
-      by_test : (b : Bool) → bytes_eq uri u ≡ b
-          → HoldsAfter terms u (before ++ snapshot ∷ []) (agreed (standing u (done ++ k ∷ [])))
-          (held_of new u)
-      by_test b own =
-          leaves_held terms u before snapshot (agreed (standing u done)) _ (held_of old u)
-          (held_of new u) (leaves_shown terms u before uri n shown) (equal_same b own)
-          (ap (λ es. held_of es u) same) (hold u)
-
-  -- one that is equal
-  module _ (has : has_number n (kept terms uri before) (held terms uri before) ≡ true) where
-    abbrev after_shown : List Call
-    after_shown = before ++ snapshot ∷ []
-
-    abbrev k_equal : KeptCall
-    k_equal = kept_call uri p (Shows n Equal)
-
-    abbrev equal_before : Option VersionEvent
-    equal_before = agreed (standing uri done)
-
-    abbrev equal_then : Option VersionEvent
-    equal_then = agreed (standing uri (done ++ k_equal ∷ []))
-
-    is_open : (v : Version) × (held terms uri before ≡ Some v)
-    is_open = by_held (held terms uri before) refl
-      where
-        by_held : (h : Option Version) → held terms uri before ≡ h
-            → (v : Version) × (held terms uri before ≡ Some v)
-        by_held (Some v) now = (v, now)
-        by_held None now =
-            absurd (true≢false (sym has ∙ ap (has_number n (kept terms uri before)) now
-            ∙ ap (λ ps. has_number n (last_of terms.kept ps) None)
-            (nothing-past terms uri before now)
-            ∙ ap (λ ks. has_number n ks None) (last-empty terms.kept)))
-
-    abbrev v : Version
-    v = is_open.0
-
-    has_v : has_number n (kept terms uri before) (Some v) ≡ true
-    has_v = ap (has_number n (kept terms uri before)) (sym is_open.1) ∙ has
-
-    stood : HoldsOpen terms equal_before (past terms uri before ++ v ∷ []) (kept terms uri before) v
-        (sent_since uri before) (held_of old uri)
-    stood = from_held terms uri before equal_before (held_of old uri) (Some v) is_open.1 (hold uri)
-
-    before_accepted : AreAccepted terms before
-    before_accepted = accepted_before terms before snapshot accepted
-
-    seen_at : VersionAt terms uri before v n
-    seen_at = version_at terms uri before v n before_accepted is_open.1 has_v
-
-    left : Leaves terms uri before snapshot
-    left = leaves_shown terms uri before uri n shown
-
-    text_after : text_at n (kept terms uri after_shown) (held terms uri after_shown)
-        ≡ Some seen_at.version.text
-    text_after = ap (λ ps. text_at n (last_of terms.kept ps) (held terms uri after_shown))
-        left.past_same
-        ∙ ap (text_at n (kept terms uri before)) left.held_same ∙ seen_at.text
-
-    abbrev x : VersionEvent
-    x = at_version (rank_of n (recent (standing uri done))) p n
-
-    equal_then_is : equal_then ≡ newer_of equal_before (Some x)
-    equal_then_is = ap agreed (standing_own uri done k_equal (uri_same uri))
-        ∙ agreed-push (standing uri done) k_equal
-
-    within_held : int_lt v.number n ≡ false
-    within_held = reached_number n (kept terms uri before) v
-      where
-        reached_number : (m : ℤ) (ks : List Version) (w : Version) → int_lt v.number n ≡ false
-        reached_number m ks w =
-            ap (λ h. is_ahead n h) (sym is_open.1)
-            ∙ reached-number terms uri before n before_accepted has
-
-    -- what holds of it, where the calls before are the same as those after
-    abbrev HoldsThen : Option VersionEvent → Option Base → Type 0
-    HoldsThen e b = HoldsOpen terms e (past terms uri before ++ v ∷ []) (kept terms uri before) v
-        (sent_since uri before) b
-
-    then_held : HoldsThen equal_then (held_of new uri)
-        → HoldsAfter terms uri after_shown equal_then (held_of new uri)
-    then_held holds =
-        leaves_held terms uri before snapshot equal_then equal_then (held_of new uri)
-        (held_of new uri) left refl refl
-        (at_held terms uri before equal_then (held_of new uri) (Some v) is_open.1 holds)
-
-    -- of a version before the base: all stays
-    older : int_lt n stood.base.number ≡ true
-        → BegunBy n seen_at.version.text (held_of old uri) (held_of new uri)
-        → HoldsThen equal_then (held_of new uri)
-    older less by = by_equal equal_before refl
-      where
-        stays : (b : Option Base) → held_of old uri ≡ b
-            → HoldsFrom terms stood.base (kept terms uri before) v (sent_since uri before) b
-            → BegunBy n seen_at.version.text b (held_of new uri)
-            → HoldsFrom terms stood.base (kept terms uri before) v (sent_since uri before)
-            (held_of new uri)
-        stays None was holds by =
-            let nothing : kept terms uri before ≡ [] =
-            ap (λ m. last_of m (past terms uri before)) holds.none_kept
-            ∙ last-none (past terms uri before) in
-            let own : v.number ≡ n =
-            int_is v.number n (sym (ap (λ ks. has_number n ks (Some v)) nothing) ∙ has_v) in
-            absurd (true≢false (sym less ∙ ap (λ m. int_lt m stood.base.number) (sym own)
-            ∙ stood.within))
-        stays (Some o) was holds (own, same, begins) =
-            let early : int_lt n o.since ≡ true =
-            earlier n stood.base.number o.since less
-            (base_first stood.base.number o.since (spec.text_in o) stood.base.text holds.text) in
-            subst (HoldsFrom terms stood.base (kept terms uri before) v (sent_since uri before))
-            (ap (λ b. Some b) (sym (begins.stays early)) ∙ sym same) holds
-
-        same_base : HoldsThen equal_before (held_of new uri)
-        same_base = record {
-          base = stood.base;
-          is = stood.is;
-          within = stood.within;
-          holds = stays (held_of old uri) refl stood.holds by;
-        }
-
-        by_equal : (e : Option VersionEvent) → equal_before ≡ e
-            → HoldsThen equal_then (held_of new uri)
-        by_equal (Some y) is =
-            let number : stood.base.number ≡ y.version =
-            equal_base (Some y) (past terms uri before ++ v ∷ []) stood.base
-            (ap (λ e. base_in e (past terms uri before ++ v ∷ [])) (sym is) ∙ stood.is) in
-            let kept_it : equal_then ≡ equal_before =
-            equal_then_is ∙ ap (λ e. newer_of e (Some x)) is
-            ∙ ap (λ (b : Bool). Some (if b then y else x))
-            (ap (int_lt n) (sym number) ∙ less) ∙ sym is in
-            subst (λ e. HoldsThen e (held_of new uri)) (sym kept_it) same_base
-        by_equal None is =
-            absurd (true≢false (sym less
-            ∙ least_base (past terms uri before ++ v ∷ []) stood.base
-            (ap (λ e. base_in e (past terms uri before ++ v ∷ [])) (sym is) ∙ stood.is)
-            (past-rises-to terms uri before v before_accepted is_open.1) seen_at.is))
-          where
-            least_base : (vs : List Version) (base : Version) → base_in None vs ≡ Some base
-                → rises vs ≡ true → numbered vs n ≡ Some seen_at.version
-                → int_lt n base.number ≡ false
-            least_base [] base b rise found = absurd (none-some base b)
-            least_base (w ∷ vs) base b rise found =
-                let own : base.number ≡ w.number =
-                int_is base.number w.number (found_is (is_at w.number) (w ∷ vs) base b) in
-                ap (int_lt n) own
-                ∙ first_least w vs n seen_at.version rise found seen_at.number
-
-    -- of the base's version, or a later one
-    newer_one : int_lt n stood.base.number ≡ false
-        → BegunBy n seen_at.version.text (held_of old uri) (held_of new uri)
-        → HoldsThen equal_then (held_of new uri)
-    newer_one less by = by_old (held_of old uri) stood.holds by
-      where
-        least : (e : Option VersionEvent) → IfSome e (λ y. stood.base.number ≡ y.version)
-            → IfSome e (λ y. int_lt x.version y.version ≡ false)
-        least None h = tt
-        least (Some y) h = ap (int_lt n) (sym h) ∙ less
-
-        is : base_in equal_then (past terms uri before ++ v ∷ []) ≡ Some seen_at.version
-        is = ap (λ e. base_in e (past terms uri before ++ v ∷ []))
-            (equal_then_is
-            ∙ newest equal_before x (least equal_before
-            (equal_base equal_before _ stood.base stood.is)))
-            ∙ seen_at.is
-
-        by_old : (b : Option Base)
-            → HoldsFrom terms stood.base (kept terms uri before) v (sent_since uri before) b
-            → BegunBy n seen_at.version.text b (held_of new uri)
-            → HoldsThen equal_then (held_of new uri)
-        by_old None holds by =
-            let nothing : kept terms uri before ≡ [] =
-            ap (λ m. last_of m (past terms uri before)) holds.none_kept
-            ∙ last-none (past terms uri before) in
-            let own : v.number ≡ n =
-            int_is v.number n (sym (ap (λ ks. has_number n ks (Some v)) nothing) ∙ has_v) in
-            begun_first terms equal_then _ _ v seen_at.version (sent_since uri before) n
-            seen_at.version.text seen_at.number refl is within_held (held_of new uri)
-            (later_none n (sent_since uri before)
-            (subst (λ m. Within m (sent_since uri before)) own
-            (sent_rise terms uri before before_accepted v is_open.1).1)) by
-        by_old (Some o) holds (own, same, begins) = by_since (int_lt n o.since) refl
-          where
-            by_since : (b : Bool) → int_lt n o.since ≡ b → HoldsThen equal_then (held_of new uri)
-            by_since false behind =
-                begun_again terms equal_then _ _ v seen_at.version (sent_since uri before) n
-                seen_at.version.text seen_at.number refl is within_held o (held_of new uri) behind
-                holds.few
-                (ap (later n) holds.sent ∙ later_later o.since n (sent_since uri before) behind)
-                (own, same, begins)
-            by_since true early = record {
-              base = seen_at.version;
-              is = is;
-              within = ap (int_lt v.number) seen_at.number ∙ within_held;
-              holds = subst (HoldsFrom terms seen_at.version (kept terms uri before) v
-                  (sent_since uri before))
-                  (ap (λ b. Some b) (sym (begins.stays early)) ∙ sym same)
-                  (held_moved stood.base seen_at.version v (kept terms uri before)
-                  (sent_since uri before) o
-                  (ap (λ m. int_lt m stood.base.number) seen_at.number ∙ less)
-                  (ap (λ m. has_number m (kept terms uri before) (Some v)) seen_at.number ∙ has_v)
-                  (ap (λ m. int_lt m o.since) seen_at.number ∙ early) holds);
-            }
-
-    shown_all : spec.Begun terms after_shown uri n old new
-        → HoldAll terms after_shown (done ++ k_equal ∷ []) new
-    shown_all begun =
-        by_uri terms before snapshot done k_equal refl old new (BegunBy n seen_at.version.text)
-        (begun seen_at.version.text text_after) hold
-        (λ by. then_held (by_order (int_lt n stood.base.number) refl by))
-      where
-        by_order : (b : Bool) → int_lt n stood.base.number ≡ b
-            → BegunBy n seen_at.version.text (held_of old uri) (held_of new uri)
-            → HoldsThen equal_then (held_of new uri)
-        by_order true less by = older less by
-        by_order false less by = newer_one less by

@@ -17,7 +17,9 @@ pub mod Refusing
 pub mod LaterChanges
 pub mod SentChanges
 pub mod BaseSteps
+pub mod RoomSteps
 pub mod Basing
+pub mod BasingShown
 pub mod Trails
 pub mod Ending
 pub mod Comparing

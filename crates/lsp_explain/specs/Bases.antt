@@ -217,6 +217,18 @@ pub record LetsGo (more : List SentEdits) (old new : Base) : Type 0 where
   pub since : new.since ≡ last.number
   pub text : text_in new ≡ None
 
+-- without the text and the first changes
+pub record DropsFirst (old new : Base) : Type 0 where
+  pub first : SentEdits
+  pub all : sent_in old ≡ first ∷ sent_in new
+  pub since : new.since ≡ first.number
+  pub text : text_in new ≡ None
+
+-- some are held, and are not few with these
+abbrev pub is_in_the_way : List SentEdits → SentEdits → Bool
+is_in_the_way [] more = false
+is_in_the_way (s ∷ sent) more = not (are_few (s ∷ sent ++ more ∷ []))
+
 -- after changes were let go of, so that there is room for these, or none is left
 pub record LeavesRoom (edits : List Edit) (old new : Base) : Type 0 where
   pub how : (number : ℤ) → (new ≡ old) ⊎ ((gone : LetsGo (sent_edits number edits ∷ []) old new)

@@ -98,8 +98,13 @@ impl Trail {
         };
         let place = EventPlace::last(&held.counts, seen.raw.who());
         self.said.renames.keep_call(&place, call)?;
-        let (marks, openings) = (&mut self.marks, &mut self.openings);
-        let is_equal = keep_step(marks, openings, &place, call.uri(), &step)?;
+        let is_equal = keep_step(
+            &mut self.marks,
+            &mut self.openings,
+            &place,
+            call.uri(),
+            &step,
+        )?;
         self.bases.keep(&held.docs, call, &step, is_equal)
     }
 

@@ -1,8 +1,10 @@
 //! A text from which a document may have drifted, and the changes since.
-ghost use Rattle.std.specs.Prelude.{◌≡◌, ◌++◌, ◌∷◌, [], IfOk, OnOk, ℤ};
+ghost use Rattle.std.specs.Prelude.{◌≡◌, ◌+◌, ◌<◌, ◌++◌, ◌∷◌, [], IfOk, MatchOption, OnOk, ℤ};
+ghost use Rattle.std.specs.Prelude.{filter, int_lt, length};
 ghost use Rattle.lsp_text.specs.Changes.{edit_of, edits_of};
-ghost use Rattle.lsp_explain.specs.Bases.{AddsTo, BeginsAt, IsNewBase, LeavesRoom, are_few};
-ghost use Rattle.lsp_explain.specs.Bases.{sent_edits, sent_in};
+ghost use Rattle.lsp_explain.specs.Bases.{AddsTo, BeginsAt, DropsFirst, IsNewBase, LeavesRoom};
+ghost use Rattle.lsp_explain.specs.Bases.{are_few, edits_size, is_in_the_way, most_size};
+ghost use Rattle.lsp_explain.specs.Bases.{sent_edits, sent_in, sents_view, total_size};
 
 use lsp_rpc::Result;
 use lsp_text::Lined;
@@ -84,18 +86,24 @@ impl Base {
     fn make_room(&mut self, changes: &[Change])
         ensures { LeavesRoom (edits_of changes.now) self.old self.new }
     {
-        while self.is_in_the_way_of(changes) {
+        'messages: while self.is_in_the_way_of(changes) {
             self.drop_first();
         }
     }
 
     /// Whether changes are held, and so many that there is no room for these.
-    fn is_in_the_way_of(&self, changes: &[Change]) -> bool {
+    fn is_in_the_way_of(&self, changes: &[Change]) -> bool
+        ensures { (number : ℤ) → result ≡ is_in_the_way (sent_in self.now)
+            (sent_edits number (edits_of changes.now)) }
+    {
         !self.sent.is_empty() && !self.has_room(changes)
     }
 
     /// Lets go of the text and of the changes of the first message.
-    fn drop_first(&mut self) {
+    fn drop_first(&mut self)
+        requires { 0 < length self.old.sent.items }
+        ensures { DropsFirst self.old self.new }
+    {
         let first = self.sent.remove(0);
         self.since = first.version;
         self.text = None;
@@ -116,8 +124,11 @@ impl Base {
     }
 }
 
-/// How large changes may be beside those of these messages.
-fn room_beside(sent: &[SentChanges]) -> Option<u64> {
+/// How large changes may be beside those of these messages, if any may.
+fn room_beside(sent: &[SentChanges]) -> Option<u64>
+    ensures { MatchOption result (most_size < total_size (sents_view sent.now))
+        (λ room. room + total_size (sents_view sent.now) ≡ most_size) }
+{
     let mut room = MOST_SIZE;
     for one in sent {
         room = room_after(room, one.changes.as_slice())?;
@@ -126,7 +137,10 @@ fn room_beside(sent: &[SentChanges]) -> Option<u64> {
 }
 
 /// How much of this room these changes leave, if there is enough for them.
-fn room_after(room: u64, changes: &[Change]) -> Option<u64> {
+fn room_after(room: u64, changes: &[Change]) -> Option<u64>
+    ensures { MatchOption result (room < edits_size (edits_of changes.now))
+        (λ left. left + edits_size (edits_of changes.now) ≡ room) }
+{
     let mut left = room;
     for change in changes {
         left = left.checked_sub(PER_CHANGE + change.text.as_str().len() as u64)?;
@@ -135,7 +149,9 @@ fn room_after(room: u64, changes: &[Change]) -> Option<u64> {
 }
 
 /// Lets go of the changes of the messages that set versions up to this one.
-fn drop_until(sent: &mut Vec<SentChanges>, version: i32) {
+fn drop_until(sent: &mut Vec<SentChanges>, version: i32)
+    ensures { sent.new.items ≡ filter (λ one. int_lt version one.version) sent.old.items }
+{
     sent.retain(|one| version < one.version);
 }
 
