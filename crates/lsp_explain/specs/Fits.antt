@@ -1,10 +1,10 @@
 -- In which other encodings the suspects make the text that the editor had.
+use Rattle.std.specs.Borrow.{Bor}
 use Rattle.std.specs.Prelude.{ℕ, int_lt, nat_lt, not, Bool, true, false, List, [], ◌∷◌, ◌++◌, filter}
-use Rattle.std.specs.Prelude.{if◌then◌else◌, is_some, length, Option, Some, None, option_and_then}
-use Rattle.std.specs.Prelude.{option_map, pos, take, unwrap_or}
+use Rattle.std.specs.Prelude.{if◌then◌else◌, is_some, length, map, Option, Some, None}
+use Rattle.std.specs.Prelude.{◌≡◌, MatchOption, option_and_then, option_map, take, unwrap_or}
 use Rattle.std.specs.List.{prefix_len}
 use Rattle.std.specs.Result.{result_ok}
-use Rattle.std.specs.Borrow.{Bor}
 use Rattle.lsp_types.specs.declared.change.Change.{Change}
 use Rattle.lsp_types.specs.declared.line_ends.LineEnds.{LineEnds}
 use Rattle.lsp_types.specs.declared.position.Encoding.{Encoding}
@@ -27,7 +27,7 @@ use Rattle.lsp_explain.specs.declared.fits.Suspected.{Suspected}
 use Rattle.lsp_explain.specs.declared.suspects.Until.{Until}
 use Rattle.lsp_explain.specs.declared.suspects.Until.TheVariants as until
 
--- ---- the changes that are suspected
+-- ---- the changes that are suspected, message by message
 
 -- it comes no later than the one by which the text came about
 abbrev pub is_reached : Until → SentEdits → Bool
@@ -47,16 +47,21 @@ own_edits _ = []
 abbrev pub most_suspects : ℕ
 most_suspects = 17
 
-abbrev pub if_named : List SentEdits → List SentEdits
-if_named sent = if nat_lt most_suspects (length sent) then [] else sent
+abbrev pub if_named : List (List Edit) → List (List Edit)
+if_named edits = if nat_lt most_suspects (length edits) then [] else edits
 
--- **the changes that may have made the texts differ**: those after the base up to the version that
--- differs, and those of the call, where all that come after the base are few
-abbrev pub suspected : Version → Until → List SentEdits → Call → List SentEdits
-suspected base limit sent call =
-    let since = later base.number sent in
-    if are_few (since ++ own_edits call) then if_named (reached limit since ++ own_edits call)
-    else []
+abbrev pub edits_in : List SentEdits → List (List Edit)
+edits_in sent = map (λ (s : SentEdits). s.edits) sent
+
+-- those up to the version that differs, and those of the call, where all together are few
+abbrev pub suspects_in : Until → List SentEdits → Call → List (List Edit)
+suspects_in limit sent call =
+    if are_few (sent ++ own_edits call)
+    then if_named (edits_in (reached limit sent) ++ edits_in (own_edits call)) else []
+
+-- **the changes that may have made the texts differ**: of all, those after the base
+abbrev pub suspected : Version → Until → List SentEdits → Call → List (List Edit)
+suspected base limit sent call = suspects_in limit (later base.number sent) call
 
 -- ---- what they make of a text
 
@@ -68,10 +73,10 @@ made limit enc t edits =
     else result_ok (applied limit enc t edits)
 
 -- the same of the changes of several messages, one after another
-abbrev pub made_by : ℕ → Encoding → Text → List SentEdits → Option Text
+abbrev pub made_by : ℕ → Encoding → Text → List (List Edit) → Option Text
 made_by limit enc t [] = Some t
-made_by limit enc t (s ∷ sent) =
-    option_and_then (λ u. made_by limit enc u sent) (made limit enc t s.edits)
+made_by limit enc t (edits ∷ more) =
+    option_and_then (λ u. made_by limit enc u more) (made limit enc t edits)
 
 abbrev pub is_made : LineEnds → Text → Option Text → Bool
 is_made ends other t = unwrap_or (option_map (λ u. same_text ends u other) t) false
@@ -84,28 +89,23 @@ other_encodings Utf16 = Utf8 ∷ Utf32 ∷ []
 other_encodings Utf32 = Utf8 ∷ Utf16 ∷ []
 
 -- the changes make the other text in this one
-abbrev pub is_given : Terms → Text → List SentEdits → Text → Encoding → Bool
-is_given terms t sent other enc = is_made terms.line_ends other (made_by terms.limit enc t sent)
+abbrev pub is_given : Terms → Text → List (List Edit) → Text → Encoding → Bool
+is_given terms t edits other enc = is_made terms.line_ends other (made_by terms.limit enc t edits)
 
 -- those in which they do
-abbrev pub fitting : Terms → Encoding → Text → List SentEdits → Text → List Encoding
-fitting terms enc t sent other = filter (is_given terms t sent other) (other_encodings enc)
+abbrev pub fitting : Terms → Encoding → Text → List (List Edit) → Text → List Encoding
+fitting terms enc t edits other = filter (is_given terms t edits other) (other_encodings enc)
 
 -- none without a suspect
-abbrev pub fitting_any : Terms → Encoding → Text → List SentEdits → Text → List Encoding
+abbrev pub fitting_any : Terms → Encoding → Text → List (List Edit) → Text → List Encoding
 fitting_any terms enc t [] other = []
-fitting_any terms enc t (s ∷ sent) other = fitting terms enc t (s ∷ sent) other
-
-abbrev pub fitting_by : Terms → Encoding → Until → List SentEdits → Call → Version → TwoTexts
-    → List Encoding
-fitting_by terms enc limit sent call base texts =
-    fitting_any terms enc base.text (suspected base limit sent call) texts.in_editor
+fitting_any terms enc t (edits ∷ more) other = fitting terms enc t (edits ∷ more) other
 
 -- where there is a base, and two texts differ
 abbrev pub fitting_of : Terms → Encoding → Until → List SentEdits → Call → Option Version
     → Option TwoTexts → List Encoding
 fitting_of terms enc limit sent call (Some base) (Some texts) =
-    fitting_by terms enc limit sent call base texts
+    fitting_any terms enc base.text (suspected base limit sent call) texts.in_editor
 fitting_of terms enc limit sent call _ _ = []
 
 -- the encoding that was agreed
@@ -128,17 +128,26 @@ fits_facts terms before rule limit call = fits_fact (fits terms before rule limi
 abbrev pub listed : Encoding × Encoding → List Encoding
 listed p = p.0 ∷ p.1 ∷ []
 
-abbrev pub if_given : Terms → Text → List SentEdits → Text → Encoding → List Encoding
-if_given terms t sent other enc = if is_given terms t sent other enc then enc ∷ [] else []
+abbrev pub if_given : Terms → Text → List (List Edit) → Text → Encoding → List Encoding
+if_given terms t edits other enc = if is_given terms t edits other enc then enc ∷ [] else []
 
 -- the text, where it is one
 abbrev pub text_if : Bool → Text → Option Text
 text_if b t = if b then Some t else None
 
--- the changes of the call, whatever version it sets
-abbrev pub own_view : Option (Bor (List Change)) → List SentEdits
+abbrev pub own_view : Option (Bor (List Change)) → List (List Edit)
 own_view None = []
-own_view (Some cs) = sent_edits (pos 0) (edits_of cs.now) ∷ []
+own_view (Some cs) = edits_of cs.now ∷ []
 
-abbrev pub suspected_view : Suspected → List SentEdits
-suspected_view s = sents_view s.sent.now ++ own_view s.own
+abbrev pub suspected_view : Suspected → List (List Edit)
+suspected_view s = edits_in (sents_view s.sent.now) ++ own_view s.own
+
+-- those that are looked at, of which there is one at least
+pub record AreSuspects (edits : List (List Edit)) (s : Suspected) : Type 0 where
+  pub are : suspected_view s ≡ edits
+  pub some : edits ≡ [] → ⊥
+
+-- these, where they are few, and there are some, not more than are named
+pub record AreNamed (few : Bool) (edits : List (List Edit)) (o : Option Suspected) : Type 0 where
+  pub is : MatchOption o ((if few then if_named edits else []) ≡ [])
+      (AreSuspects (if few then if_named edits else []))

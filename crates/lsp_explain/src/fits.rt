@@ -1,5 +1,6 @@
 //! In which other encodings the suspects make the text that the editor had.
-ghost use Rattle.std.specs.Prelude.{◌≡◌, ◌≤◌, ◌++◌, List, Some, IfOk, OnOk, length, option_map};
+ghost use Rattle.std.specs.Prelude.{◌≡◌, ◌≤◌, ◌++◌, ◌∷◌, [], ℤ, List, Some, true, IfOk, OnOk};
+ghost use Rattle.std.specs.Prelude.{MatchOption, length, option_map};
 ghost use Rattle.std.specs.List.{prefix_len};
 ghost use Rattle.std.specs.Str.{chars};
 ghost use Rattle.lsp_docs.specs.Rules.{call_rule};
@@ -10,7 +11,7 @@ ghost use Rattle.lsp_replay.specs.Tries.{made_in};
 ghost use Rattle.lsp_text.specs.Changes.{edits_of};
 ghost use Rattle.lsp_verdict.specs.Event.{calls, Event};
 ghost use Rattle.lsp_verdict.specs.Offences.{kept_of};
-ghost use Rattle.lsp_explain.specs.Bases.{sents_view};
+ghost use Rattle.lsp_explain.specs.Bases.{are_few, sent_edits, sent_in, sents_view};
 ghost use Rattle.lsp_explain.specs.Fits as spec;
 ghost use Rattle.lsp_explain.specs.Fits.{suspected_view, text_if};
 ghost use Rattle.lsp_explain.specs.Trails.{StandsAfter, terms_in};
@@ -70,8 +71,13 @@ pub(crate) fn push_fits(
     push_fitting(facts, &held.docs, agreed, text, suspected, texts.in_editor)
 }
 
-/// The suspects, where they are not more than are named, and all of their changes are held.
-fn suspected<'a>(base: &'a Base, until: Until, call: Call<'a>) -> Option<Suspected<'a>> {
+/// The suspects, where there are some, not more than are named, and with those of the call, the
+/// changes are few.
+fn suspected<'a>(base: &'a Base, until: Until, call: Call<'a>) -> Option<Suspected<'a>>
+    ensures { are_few (sent_in base.now) ≡ true
+        → MatchOption result (spec.suspects_in until (sent_in base.now) (call_view call.entry) ≡ [])
+        (spec.AreSuspects (spec.suspects_in until (sent_in base.now) (call_view call.entry))) }
+{
     let sent = up_to(until, base.sent.as_slice());
     match call {
         Call::Changes { changes, .. } => with_own(base, sent, changes),
@@ -84,7 +90,11 @@ fn with_own<'a>(
     base: &'a Base,
     sent: &'a [SentChanges],
     changes: &'a [Change],
-) -> Option<Suspected<'a>> {
+) -> Option<Suspected<'a>>
+    ensures { (number : ℤ) → spec.AreNamed (are_few (sent_in base.now
+        ++ sent_edits number (edits_of changes.now) ∷ [])) (spec.edits_in (sents_view sent.now)
+        ++ edits_of changes.now ∷ []) result }
+{
     if sent.len() >= MOST_NAMED || !base.has_room(changes) {
         return None;
     }
@@ -93,7 +103,9 @@ fn with_own<'a>(
 }
 
 /// Those of earlier messages alone, of which there is one at least.
-fn few<'a>(sent: &'a [SentChanges]) -> Option<Suspected<'a>> {
+fn few<'a>(sent: &'a [SentChanges]) -> Option<Suspected<'a>>
+    ensures { spec.AreNamed true (spec.edits_in (sents_view sent.now)) result }
+{
     if sent.is_empty() || sent.len() > MOST_NAMED {
         return None;
     }
@@ -220,7 +232,8 @@ fn make_sent(
     limit: u64,
 ) -> Result<bool>
     ensures { IfOk result (λ all. text_if all made.new.content
-        ≡ spec.made_by limit encoding made.old.content (sents_view sent.now)) }
+        ≡ spec.made_by limit encoding made.old.content
+        (spec.edits_in (sents_view sent.now))) }
 {
     for one in sent {
         if !make(made, encoding, one.changes.as_slice(), limit)? {
