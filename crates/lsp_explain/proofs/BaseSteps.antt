@@ -23,7 +23,7 @@ use Rattle.lsp_explain.specs.Bases.{MayBeEqual, SentEdits, are_few, base_in, lat
 use Rattle.lsp_explain.specs.Bases as spec
 use Rattle.lsp_explain.specs.declared.trail.base.Base.{Base}
 use Rattle.lsp_explain.specs.declared.trail.mark.VersionEvent.{VersionEvent}
-use Rattle.lsp_explain.proofs.LaterChanges.{Rises, Within, few-later, itself, later-append, later_all}
+use Rattle.lsp_explain.proofs.LaterChanges.{AreRising, AreWithin, few-later, itself, later-append, later_all}
 use Rattle.lsp_explain.proofs.LaterChanges.{later_behind, later_last, later_later, later_none}
 use Rattle.lsp_explain.proofs.LaterChanges.{later_with, many-back, many-front, not_before, reaches}
 
@@ -115,7 +115,7 @@ above-later n (s ∷ sent) front last behind is = by_test (int_lt n s.number) re
     by_test false p front e = above-later n sent front last behind e
 
 within_mid : (n : ℤ) (before : List SentEdits) (s : SentEdits) (behind : List SentEdits)
-    → Within n (before ++ s ∷ behind) → int_lt n s.number ≡ false
+    → AreWithin n (before ++ s ∷ behind) → int_lt n s.number ≡ false
 within_mid n [] s behind within = within.0
 within_mid n (x ∷ before) s behind within = within_mid n before s behind within.1
 
@@ -135,8 +135,8 @@ base_before number since own first less = grind (arith, ints)
 
 -- this was held of a document, which is changed so
 module _ (terms : Terms) (base v w : Version) (kept now : List Version) (all : List SentEdits)
-    (more : SentEdits) (rise : Rises (all ++ more ∷ [])) (number : w.number ≡ more.number)
-    (within : Within w.number (all ++ more ∷ [])) (less : int_lt v.number more.number ≡ true)
+    (more : SentEdits) (rise : AreRising (all ++ more ∷ [])) (number : w.number ≡ more.number)
+    (within : AreWithin w.number (all ++ more ∷ [])) (less : int_lt v.number more.number ≡ true)
     (kept_less : (n : ℤ) → has_number n now (Some w) ≡ true
     → (n ≡ more.number) ⊎ (has_number n kept (Some v) ≡ true)) where
   -- those of a version before it were not few, nor are they with it
@@ -190,7 +190,7 @@ module _ (terms : Terms) (base v w : Version) (kept now : List Version) (all : L
         let whole : all ++ more ∷ [] ≡ (cut.0 ++ gone.front) ++ gone.last ∷ gone.behind =
         cut.1 ∙ ap (λ (l : List SentEdits). cut.0 ++ l) part
         ∙ sym (append_assoc cut.0 gone.front (gone.last ∷ gone.behind)) in
-        let rises_so = subst Rises whole rise in
+        let rises_so = subst AreRising whole rise in
         let own : int_lt b.since gone.last.number ≡ true =
         above-later b.since (all ++ more ∷ []) gone.front gone.last gone.behind part in
         let later_many : (n : ℤ) → int_lt n gone.last.number ≡ true
@@ -206,7 +206,7 @@ module _ (terms : Terms) (base v w : Version) (kept now : List Version) (all : L
               ∙ ap (λ n. later n (all ++ more ∷ [])) (sym gone.since);
           within = ap (int_lt w.number) gone.since
               ∙ within_mid w.number (cut.0 ++ gone.front) gone.last gone.behind
-              (subst (Within w.number) whole within);
+              (subst (AreWithin w.number) whole within);
           text = subst (λ o. MatchOption o (int_lt base.number new.since ≡ true)
               (λ t. (new.since ≡ base.number) × (t ≡ base.text))) (sym gone.text)
               (ap (int_lt base.number) gone.since

@@ -46,7 +46,7 @@ use Rattle.lsp_explain.specs.declared.trail.step.Step.TheVariants.{Closes, Reach
 use Rattle.lsp_explain.proofs.BaseSteps.{base_first, base_stays, found_is, found_passes, held_again}
 use Rattle.lsp_explain.proofs.BaseSteps.{held_changed, held_first, held_moved, numbered-last}
 use Rattle.lsp_explain.proofs.History.{since_last-push}
-use Rattle.lsp_explain.proofs.LaterChanges.{Rises, Within, earlier, itself, later-append}
+use Rattle.lsp_explain.proofs.LaterChanges.{AreRising, AreWithin, earlier, itself, later-append}
 use Rattle.lsp_explain.proofs.LaterChanges.{later_later, later_none, not_before}
 use Rattle.lsp_explain.proofs.Marking.{agreed-push, newer_none}
 use Rattle.lsp_explain.proofs.SentChanges.{IsChanged, Leaves, changed_so, leaves_other, leaves_saved}
@@ -414,7 +414,7 @@ module _ (terms : Terms) (before : List Call) (enc : Encoding) (kind : SyncKind)
       change.old (sent_since uri before) (held_of old uri)
   was = from_held terms uri before equal (held_of old uri) (Some change.old) change.was (hold uri)
 
-  rise : Rises (sent_since uri after) × Within change.new.number (sent_since uri after)
+  rise : AreRising (sent_since uri after) × AreWithin change.new.number (sent_since uri after)
   rise = sent_rise terms uri after accepted change.new change.is
 
   equal_is : equal_now ≡ newer_of equal (found_at (standing uri done) k)
@@ -443,8 +443,8 @@ module _ (terms : Terms) (before : List Call) (enc : Encoding) (kind : SyncKind)
             (held_of new uri)) (sym change.sent_more)
             (held_changed terms was.base change.old change.new (kept terms uri before)
             (kept terms uri after) (sent_since uri before) more
-            (subst Rises change.sent_more rise.0) change.number
-            (subst (Within change.new.number) change.sent_more rise.1) change.rises
+            (subst AreRising change.sent_more rise.0) change.number
+            (subst (AreWithin change.new.number) change.sent_more rise.1) change.rises
             (λ m has. by_kept m (kept_less terms.kept (past terms uri before) change.old change.new m
             (subst (λ ks. has_number m ks (Some change.new) ≡ true) kept_is has)))
             (held_of old uri) (held_of new uri)
@@ -469,7 +469,7 @@ module _ (terms : Terms) (before : List Call) (enc : Encoding) (kind : SyncKind)
 
   none_later : later n (sent_since uri after) ≡ []
   none_later = later_none n (sent_since uri after)
-      (subst (λ m. Within m (sent_since uri after)) change.number rise.1)
+      (subst (λ m. AreWithin m (sent_since uri after)) change.number rise.1)
 
   met : (x : VersionEvent) → found_at (standing uri done) k ≡ Some x → x.version ≡ n
       → BegunBy n known.version.text (held_of old uri) (held_of new uri)
@@ -524,4 +524,3 @@ module _ (terms : Terms) (before : List Call) (enc : Encoding) (kind : SyncKind)
   changed_all false found keeps =
       by_uri terms before call done k refl old new (AddedBy more (kept terms uri after))
       (keeps more (rw (uri_same uri) refl)) hold (added (shown_none n _ _ _ (sym found)))
-

@@ -49,12 +49,11 @@ use Rattle.lsp_explain.specs.declared.trail.step.Step.TheVariants.{Closes, Reach
 use Rattle.lsp_explain.proofs.BaseSteps.{base_first, base_stays, found_is, found_passes, held_again}
 use Rattle.lsp_explain.proofs.BaseSteps.{held_changed, held_first, held_moved, numbered-last}
 use Rattle.lsp_explain.proofs.History.{since_last-push}
-use Rattle.lsp_explain.proofs.LaterChanges.{Rises, Within, earlier, itself, later-append}
+use Rattle.lsp_explain.proofs.LaterChanges.{AreRising, AreWithin, earlier, itself, later-append}
 use Rattle.lsp_explain.proofs.LaterChanges.{later_later, later_none, not_before}
 use Rattle.lsp_explain.proofs.Marking.{agreed-push, newer_none}
 use Rattle.lsp_explain.proofs.SentChanges.{IsChanged, Leaves, changed_so, leaves_other, leaves_saved}
 use Rattle.lsp_explain.proofs.SentChanges.{leaves_shown, sent_opened, sent_rise, sent_same}
-
 use Rattle.lsp_explain.proofs.Basing.{Entries, HoldAll, VersionAt, at_held, begun_again, begun_first}
 use Rattle.lsp_explain.proofs.Basing.{accepted_before, by_uri, changed_all, closed_all, equal_base}
 use Rattle.lsp_explain.proofs.Basing.{from_held, leaves_held, newest, opened_all, standing_other}
@@ -281,7 +280,7 @@ module _ (terms : Terms) (before : List Call) (uri : Bytes) (n : ℤ) (shown : T
             begun_first terms equal_then _ _ v seen_at.version (sent_since uri before) n
             seen_at.version.text seen_at.number refl is within_held (held_of new uri)
             (later_none n (sent_since uri before)
-            (subst (λ m. Within m (sent_since uri before)) own
+            (subst (λ m. AreWithin m (sent_since uri before)) own
             (sent_rise terms uri before before_accepted v is_open.1).1)) by
         by_old (Some o) holds (own, same, begins) = by_since (int_lt n o.since) refl
           where

@@ -33,42 +33,42 @@ itself a = grind (arith, ints)
 -- ---- rising lists
 
 -- each of a version after this one
-abbrev pub Above : ℤ → List SentEdits → Type 0
-Above n [] = Unit {0}
-Above n (s ∷ sent) = (int_lt n s.number ≡ true) × Above n sent
+abbrev pub AreAbove : ℤ → List SentEdits → Type 0
+AreAbove n [] = Unit {0}
+AreAbove n (s ∷ sent) = (int_lt n s.number ≡ true) × AreAbove n sent
 
 -- none of a version after this one
-abbrev pub Within : ℤ → List SentEdits → Type 0
-Within n [] = Unit {0}
-Within n (s ∷ sent) = (int_lt n s.number ≡ false) × Within n sent
+abbrev pub AreWithin : ℤ → List SentEdits → Type 0
+AreWithin n [] = Unit {0}
+AreWithin n (s ∷ sent) = (int_lt n s.number ≡ false) × AreWithin n sent
 
-abbrev pub Rises : List SentEdits → Type 0
-Rises [] = Unit {0}
-Rises (s ∷ sent) = Above s.number sent × Rises sent
+abbrev pub AreRising : List SentEdits → Type 0
+AreRising [] = Unit {0}
+AreRising (s ∷ sent) = AreAbove s.number sent × AreRising sent
 
-above-less : (m n : ℤ) (sent : List SentEdits) → int_lt m n ≡ true → Above n sent → Above m sent
+above-less : (m n : ℤ) (sent : List SentEdits) → int_lt m n ≡ true → AreAbove n sent → AreAbove m sent
 above-less m n [] less above = tt
 above-less m n (s ∷ sent) less above =
     (lt_trans m n s.number less above.0, above-less m n sent less above.1)
 
-pub within-more : (m n : ℤ) (sent : List SentEdits) → int_lt n m ≡ true → Within n sent
-    → Within m sent
+pub within-more : (m n : ℤ) (sent : List SentEdits) → int_lt n m ≡ true → AreWithin n sent
+    → AreWithin m sent
 within-more m n [] less within = tt
 within-more m n (s ∷ sent) less within =
     (not_after n m s.number less within.0, within-more m n sent less within.1)
 
-pub within-snoc : (n : ℤ) (sent : List SentEdits) (s : SentEdits) → Within n sent
-    → int_lt n s.number ≡ false → Within n (sent ++ s ∷ [])
+pub within-snoc : (n : ℤ) (sent : List SentEdits) (s : SentEdits) → AreWithin n sent
+    → int_lt n s.number ≡ false → AreWithin n (sent ++ s ∷ [])
 within-snoc n [] s within last = (last, tt)
 within-snoc n (x ∷ sent) s within last = (within.0, within-snoc n sent s within.1 last)
 
-above-snoc : (n m : ℤ) (sent : List SentEdits) (s : SentEdits) → Above n sent
-    → int_lt n s.number ≡ true → Above n (sent ++ s ∷ [])
+above-snoc : (n m : ℤ) (sent : List SentEdits) (s : SentEdits) → AreAbove n sent
+    → int_lt n s.number ≡ true → AreAbove n (sent ++ s ∷ [])
 above-snoc n m [] s above last = (last, tt)
 above-snoc n m (x ∷ sent) s above last = (above.0, above-snoc n m sent s above.1 last)
 
-pub rises-snoc : (n : ℤ) (sent : List SentEdits) (s : SentEdits) → Rises sent → Within n sent
-    → int_lt n s.number ≡ true → Rises (sent ++ s ∷ [])
+pub rises-snoc : (n : ℤ) (sent : List SentEdits) (s : SentEdits) → AreRising sent → AreWithin n sent
+    → int_lt n s.number ≡ true → AreRising (sent ++ s ∷ [])
 rises-snoc n [] s rises within last = (tt, tt)
 rises-snoc n (x ∷ sent) s rises within last = (
   above-snoc x.number n sent s rises.0 (not_before x.number n s.number within.0 last),
@@ -80,13 +80,13 @@ rises-snoc n (x ∷ sent) s rises within last = (
 pub later-append : (n : ℤ) (xs ys : List SentEdits) → later n (xs ++ ys) ≡ later n xs ++ later n ys
 later-append n xs ys = filter-append (is_later n) xs ys
 
-pub later_all : (n : ℤ) (sent : List SentEdits) → Above n sent → later n sent ≡ sent
+pub later_all : (n : ℤ) (sent : List SentEdits) → AreAbove n sent → later n sent ≡ sent
 later_all n [] above = refl
 later_all n (s ∷ sent) above =
     ap (λ (b : Bool). if b then s ∷ later n sent else later n sent) above.0
     ∙ ap (λ (l : List SentEdits). s ∷ l) (later_all n sent above.1)
 
-pub later_none : (n : ℤ) (sent : List SentEdits) → Within n sent → later n sent ≡ []
+pub later_none : (n : ℤ) (sent : List SentEdits) → AreWithin n sent → later n sent ≡ []
 later_none n [] within = refl
 later_none n (s ∷ sent) within =
     ap (λ (b : Bool). if b then s ∷ later n sent else later n sent) within.0
@@ -109,29 +109,31 @@ later_later m n (s ∷ sent) less = by_test (int_lt m s.number) refl
         (reaches s.number m n p less))
 
 above_mid : (n : ℤ) (before : List SentEdits) (s : SentEdits) (behind : List SentEdits)
-    → Above n (before ++ s ∷ behind) → int_lt n s.number ≡ true
+    → AreAbove n (before ++ s ∷ behind) → int_lt n s.number ≡ true
 above_mid n [] s behind above = above.0
 above_mid n (x ∷ before) s behind above = above_mid n before s behind above.1
 
 -- the parts of a rising list
 pub record IsSplit (before : List SentEdits) (s : SentEdits) (behind : List SentEdits) : Type 0
   where
-    pub within : Within s.number before
-    pub above : Above s.number behind
+    pub within : AreWithin s.number before
+    pub above : AreAbove s.number behind
 
 pub rises-split : (before : List SentEdits) (s : SentEdits) (behind : List SentEdits)
-    → Rises (before ++ s ∷ behind) → IsSplit before s behind
+    → AreRising (before ++ s ∷ behind) → IsSplit before s behind
 rises-split [] s behind rises = record { within = tt; above = rises.0 }
 rises-split (x ∷ before) s behind rises =
     let rest = rises-split before s behind rises.1 in
     record {
-      within = (less_behind s.number x.number (above_mid x.number before s behind rises.0),
-          rest.within);
+      within = (
+        less_behind s.number x.number (above_mid x.number before s behind rises.0),
+        rest.within,
+      );
       above = rest.above;
     }
 
 -- those of later versions are its last ones
-pub later_last : (n : ℤ) (sent : List SentEdits) → Rises sent
+pub later_last : (n : ℤ) (sent : List SentEdits) → AreRising sent
     → (before : List SentEdits) × (sent ≡ before ++ later n sent)
 later_last n [] rises = ([], refl)
 later_last n (s ∷ sent) rises =
@@ -147,7 +149,7 @@ later_last n (s ∷ sent) rises =
     ]
 
 module _ (before : List SentEdits) (s : SentEdits) (behind : List SentEdits)
-    (rises : Rises (before ++ s ∷ behind)) where
+    (rises : AreRising (before ++ s ∷ behind)) where
   -- those behind one of them are of later versions
   pub later_behind : later s.number (before ++ s ∷ behind) ≡ behind
   later_behind =

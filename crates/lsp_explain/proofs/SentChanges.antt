@@ -18,7 +18,7 @@ use Rattle.lsp_docs.specs.Documents.{Terms, Version, held, text_or, versioned}
 use Rattle.lsp_docs.specs.Snapshots.{past}
 use Rattle.lsp_docs.specs.Rules.{AreAccepted, AreAcceptedFrom, call_rule}
 use Rattle.lsp_explain.proofs.History.{since_last-push}
-use Rattle.lsp_explain.proofs.LaterChanges.{Rises, Within, itself, rises-snoc, within-more}
+use Rattle.lsp_explain.proofs.LaterChanges.{AreRising, AreWithin, itself, rises-snoc, within-more}
 use Rattle.lsp_explain.proofs.LaterChanges.{within-snoc}
 use Rattle.lsp_explain.specs.Bases.{SentEdits, is_opening, sent_by, sent_edits, sent_since}
 use Rattle.lsp_explain.specs.History.{since_last}
@@ -182,13 +182,13 @@ changed_so terms uri before enc k u n cs p kept =
 abbrev pub SentRise : Terms → Bytes → List Call → Type 0
 SentRise terms uri before =
     (v : Version) → held terms uri before ≡ Some v
-    → Rises (sent_since uri before) × Within v.number (sent_since uri before)
+    → AreRising (sent_since uri before) × AreWithin v.number (sent_since uri before)
 
 -- a call that leaves it
 rise_stay : (terms : Terms) (uri : Bytes) (before : List Call) (c : Call)
     → Leaves terms uri before c → SentRise terms uri before → SentRise terms uri (before ++ c ∷ [])
 rise_stay terms uri before c leaves so v now =
-    subst (λ (l : List SentEdits). Rises l × Within v.number l) (sym leaves.sent_alike)
+    subst (λ (l : List SentEdits). AreRising l × AreWithin v.number l) (sym leaves.sent_alike)
     (so v (sym leaves.held_same ∙ now))
 
 -- a change of it
@@ -202,8 +202,8 @@ rise_changed terms uri before c n more own is so v now =
     let less : int_lt is.old.number more.number ≡ true =
     ap (int_lt is.old.number) own ∙ is.rises in
     let all = sent_since uri before ++ more ∷ [] in
-    subst (λ (l : List SentEdits). Rises l × Within v.number l) (sym is.sent_more)
-    (subst (λ (m : ℤ). Rises all × Within m all) (own ∙ sym number) (
+    subst (λ (l : List SentEdits). AreRising l × AreWithin v.number l) (sym is.sent_more)
+    (subst (λ (m : ℤ). AreRising all × AreWithin m all) (own ∙ sym number) (
       rises-snoc is.old.number (sent_since uri before) more was.0 was.1 less,
       within-snoc more.number (sent_since uri before) more
           (within-more more.number is.old.number (sent_since uri before) less was.1)
@@ -216,7 +216,7 @@ module _ (terms : Terms) (uri : Bytes) (before : List Call) (so : SentRise terms
     where
       by_test : (b : Bool) → bytes_eq uri u ≡ b → SentRise terms uri (before ++ opens u n t ∷ [])
       by_test true p = λ v now.
-          subst (λ (l : List SentEdits). Rises l × Within v.number l)
+          subst (λ (l : List SentEdits). AreRising l × AreWithin v.number l)
           (sym (sent_opened uri before (opens u n t) (rw p refl))) (tt, tt)
       by_test false p =
           rise_stay terms uri before (opens u n t)

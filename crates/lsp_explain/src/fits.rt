@@ -225,12 +225,7 @@ fn make_all(
 }
 
 /// Makes the changes of messages, one after another. Answers whether all could be made.
-fn make_sent(
-    made: &mut Lined,
-    encoding: Encoding,
-    sent: &[SentChanges],
-    limit: u64,
-) -> Result<bool>
+fn make_sent(made: &mut Lined, encoding: Encoding, sent: &[SentChanges], limit: u64) -> Result<bool>
     ensures { IfOk result (λ all. text_if all made.new.content
         ≡ spec.made_by limit encoding made.old.content
         (spec.edits_in (sents_view sent.now))) }

@@ -123,13 +123,7 @@ fn begin_at(map: &mut BaseMap, uri: &str, at: usize, version: i32, text: Lined)
 }
 
 /// Begins with a text of a document of which nothing is held.
-fn begin_first(
-    map: &mut BaseMap,
-    alloc: Global,
-    uri: &str,
-    version: i32,
-    text: Lined,
-) -> Result<()>
+fn begin_first(map: &mut BaseMap, alloc: Global, uri: &str, version: i32, text: Lined) -> Result<()>
     requires { held_of map.old.entries uri.now ≡ None }
     ensures { OnOk result (ChangesOne uri.now (BegunBy version text.content) map.old.entries
         map.new.entries) }
@@ -172,13 +166,7 @@ fn add_call(map: &mut BaseMap, docs: &Docs<Lined>, call: Call<'_>) -> Result<()>
 
 /// Adds changes to those of the document there, which has this URI. Answers whether its text is
 /// held no longer.
-fn add_at(
-    map: &mut BaseMap,
-    uri: &str,
-    at: usize,
-    version: i32,
-    changes: &[Change],
-) -> Result<bool>
+fn add_at(map: &mut BaseMap, uri: &str, at: usize, version: i32, changes: &[Change]) -> Result<bool>
     requires { IsAt map.old.entries uri.now at }
     ensures { IfOk result (λ lost. ChangesOne uri.now
         (AddedAt (sent_edits version (edits_of changes.now)) lost)

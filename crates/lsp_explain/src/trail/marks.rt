@@ -166,12 +166,7 @@ fn touch_at(
 }
 
 /// Marks the same of a document of which nothing is marked.
-fn touch_first(
-    map: &mut MarkMap,
-    uri: &str,
-    place: &EventPlace,
-    step: &Step,
-) -> Result<bool>
+fn touch_first(map: &mut MarkMap, uri: &str, place: &EventPlace, step: &Step) -> Result<bool>
     requires none { marked_in map.old.entries uri.now ≡ unmarked }
     requires open { is_closing step.now ≡ false }
     ensures marked { OnOk result
