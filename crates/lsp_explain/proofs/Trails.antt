@@ -1,16 +1,18 @@
 -- The trail once one more event was told.
 use Rattle.std.specs.Borrow.{Bor}
-use Rattle.std.specs.Prelude.{option_and_then, Result, Ok, Err, OnOk}
+use Rattle.std.specs.Prelude.{Bool, option_and_then, option_map, Result, Ok, Err, OnOk}
 use Rattle.std.specs.List.{cons_option}
 use Rattle.std.specs.Option.{option_or}
 use Rattle.std.proofs.Common.{◌≡◌, ℕ, List, [], ◌∷◌, ◌++◌, Option, Some, None, refl, sym, ap, ◌∙◌}
 use Rattle.std.proofs.Common.{append-nil, subst}
-use Rattle.lsp_docs.specs.Calls.{Call}
+use Rattle.lsp_docs.specs.Calls.{Call, uri_of}
 use Rattle.lsp_docs.specs.Documents.{Terms}
+use Rattle.lsp_docs.specs.Rules.{AreAccepted}
+use Rattle.lsp_docs.specs.State as docs
 use Rattle.lsp_docs.specs.Taken.{took_by}
 use Rattle.lsp_docs.specs.declared.call.Took.{Took}
 use Rattle.lsp_replay.specs.Lines.{place_of}
-use Rattle.lsp_replay.specs.Telling.{HasFate, IsSpoken, kept_before, rule_of, took_of}
+use Rattle.lsp_replay.specs.Telling.{HasFate, IsSpoken, Stood, kept_before, rule_of, took_of}
 use Rattle.lsp_replay.specs.declared.heard.EventPlace.{EventPlace}
 use Rattle.lsp_replay.specs.declared.seen.Fate.{Fate}
 use Rattle.lsp_replay.specs.declared.seen.Fate.TheVariants as fates
@@ -19,6 +21,7 @@ use Rattle.lsp_rpc.specs.View.{message_view}
 use Rattle.lsp_rpc.specs.declared.act.Spoken.{Spoken}
 use Rattle.lsp_session.specs.Handshake.{is_done, phase}
 use Rattle.lsp_session.specs.Sent.{Sent}
+use Rattle.lsp_session.specs.State as session
 use Rattle.lsp_types.specs.declared.side.Side.{Side}
 use Rattle.lsp_verdict.specs.Event.{call_at, calls, Event, fault, message, sent_in, snapshot}
 use Rattle.lsp_verdict.specs.Given.{raw_view}
@@ -27,10 +30,12 @@ use Rattle.lsp_verdict.specs.Offences.{kept_of, rule_at}
 use Rattle.lsp_verdict.specs.Placed.{Reads, content}
 use Rattle.lsp_verdict.proofs.LookBackLemmas.{each_of-snoc}
 use Rattle.lsp_verdict.proofs.Offences.Steps.{kept-push, kept-refused}
+use Rattle.lsp_verdict.specs.declared.counts.Counts.{Counts}
 use Rattle.lsp_verdict.specs.declared.raw.Raw as lent
 use Rattle.lsp_verdict.specs.declared.raw.Raw.TheVariants as lents
-use Rattle.lsp_explain.specs.History.{KeptCall, call_kept, event_kept, kept_calls}
-use Rattle.lsp_explain.specs.Marking.{MarkedBy}
+use Rattle.lsp_explain.specs.Bases.{KeepsBy}
+use Rattle.lsp_explain.specs.History.{KeptCall, call_kept, event_kept, kept_call, kept_calls, step_of}
+use Rattle.lsp_explain.specs.Marking.{MarkedBy, finds_equal, marked_in}
 use Rattle.lsp_explain.specs.Openings.{OpenedBy}
 use Rattle.lsp_explain.specs.Renames.{RenamesIn, moves_view, renamed_by, renamed_held}
 use Rattle.lsp_explain.specs.Conversations.{IsConversation, Says}
@@ -40,8 +45,10 @@ use Rattle.lsp_explain.specs.declared.trail.openings.Openings.{Openings}
 use Rattle.lsp_explain.specs.declared.trail.renames.Renames.{Renames}
 use Rattle.lsp_explain.specs.declared.trail.conversation.Conversation.{Conversation}
 use Rattle.lsp_explain.specs.declared.trail.Trail.{Trail}
+use Rattle.lsp_explain.specs.declared.trail.step.Step.{Step}
 use Rattle.lsp_explain.specs.declared.trail.bases.Bases.{Bases}
 use Rattle.lsp_explain.proofs.Basing.{HoldAll}
+use Rattle.lsp_explain.proofs.BasingShown.{hold_more, hold_same}
 use Rattle.lsp_explain.proofs.History.{kept_more, refused_more}
 use Rattle.lsp_explain.proofs.Quiet.{call_taken}
 use Rattle.lsp_explain.proofs.SessionSteps.{message_taken, refused_unsaid}
@@ -142,6 +149,54 @@ module _ (terms : Terms) (before : List Heard) (h : Heard) (old : Trail)
         ∙ each_of-snoc call_at (kept_of terms events) h.note.event
         ∙ ap (λ o. calls (kept_of terms events) ++ cons_option o []) says
         ∙ append-nil (calls (kept_of terms events))
+
+    -- what is held of the texts after one that does something to a document
+    pub based_called : (messages : session.State) (d : docs.State) (counts : Counts) (call : Call)
+        (took : Took) (step : Step) (found : Bool)
+        → Stood terms messages d counts (before ++ h ∷ [])
+        → call_at (kept_before terms before) h.note.event ≡ Some call
+        → took ≡ took_of terms (calls (kept_before terms before)) (Some call)
+        → Some step ≡ step_of call took
+        → found ≡ finds_equal step (marked_in old.marks.map.entries (uri_of call))
+        → ((after : List Call) → docs.Stands d after
+        → KeepsBy d.terms after call step found old.bases.map.entries new.bases.map.entries)
+        → HoldAll terms (calls (kept_of terms events) ++ call ∷ [])
+        (kept_calls terms events ++ cons_option (call_kept place call took) [])
+        new.bases.map.entries
+    based_called messages d counts call took step found stood says told does equal keeps =
+        let before-it : List Call = calls (kept_of terms events) in
+        let stands : docs.Stands d (before-it ++ call ∷ []) =
+        subst (docs.Stands d)
+        (ap (λ es. calls (kept_of terms es)) (events-push before h) ∙ calls_with call says)
+        stood.holds.called in
+        subst (λ (o : Option Step). HoldAll terms (before-it ++ call ∷ []) (kept_calls terms events
+        ++ cons_option (option_map (kept_call (uri_of call) place) o) []) new.bases.map.entries)
+        does
+        (hold_more terms before-it call (kept_calls terms events) place step found
+        old.bases.map.entries new.bases.map.entries
+        (subst (λ (t : Terms). AreAccepted t (before-it ++ call ∷ [])) stood.by stands.accepted)
+        (ap (step_of call) (sym told) ∙ sym does)
+        (equal ∙ ap (finds_equal step) (is.marked (uri_of call)))
+        (subst (λ (t : Terms). KeepsBy t (before-it ++ call ∷ []) call step found
+        old.bases.map.entries new.bases.map.entries) stood.by (keeps (before-it ++ call ∷ []) stands))
+        is.based)
+
+    -- and after one that does nothing
+    pub based_same : (call : Call) (took : Took)
+        → took ≡ took_of terms (calls (kept_before terms before)) (Some call)
+        → None ≡ step_of call took
+        → HoldAll terms (calls (kept_of terms events) ++ call ∷ [])
+        (kept_calls terms events ++ cons_option (call_kept place call took) [])
+        old.bases.map.entries
+    based_same call took told nothing =
+        let before-it : List Call = calls (kept_of terms events) in
+        subst (λ (o : Option Step). HoldAll terms (before-it ++ call ∷ []) (kept_calls terms events
+        ++ cons_option (option_map (kept_call (uri_of call) place) o) []) old.bases.map.entries)
+        nothing
+        (subst (λ ks. HoldAll terms (before-it ++ call ∷ []) ks old.bases.map.entries)
+        (sym (append-nil (kept_calls terms events)))
+        (hold_same terms before-it call (kept_calls terms events) old.bases.map.entries
+        (ap (step_of call) (sym told) ∙ sym nothing) is.based))
 
     -- one that says this about a document
     pub trail_called : (call : Call) (took : Took) (r : Renames) → Reads h.raw h.note.event

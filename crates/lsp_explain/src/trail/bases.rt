@@ -1,13 +1,13 @@
 //! The texts from which documents may have drifted, and the changes since, by URI.
-ghost use Rattle.std.specs.Prelude.{◌≡◌, ◌++◌, ◌∷◌, [], List, None, OnOk, IfNone, IfOk, IfSome};
+ghost use Rattle.std.specs.Prelude.{◌≡◌, [], List, None, Some, OnOk, IfNone, IfOk, IfSome};
 ghost use Rattle.std.specs.Prelude.{option_map};
 ghost use Rattle.lsp_docs.specs.Calls.{Call as SpecCall, uri_of};
 ghost use Rattle.lsp_docs.specs.Snapshots.{kept};
 ghost use Rattle.lsp_docs.specs.State.{Stands};
 ghost use Rattle.lsp_docs.specs.Taken.{call_view};
 ghost use Rattle.lsp_text.specs.Changes.{edits_of};
-ghost use Rattle.lsp_explain.specs.Bases.{AddedAt, AddedBy, BegunBy, ChangesOne, KeepsBy, SentEdits};
-ghost use Rattle.lsp_explain.specs.Bases.{held_of, sent_by, sent_edits};
+ghost use Rattle.lsp_explain.specs.Bases.{AddedAt, AddedBy, Begun, BegunBy, ChangesOne, KeepsBy};
+ghost use Rattle.lsp_explain.specs.Bases.{SentEdits, held_of, sent_by, sent_edits};
 ghost use Rattle.lsp_explain.specs.Marking.{IsAt};
 
 use crate::trail::base::Base;
@@ -85,7 +85,10 @@ impl Bases {
 
 /// Begins with the text that the document of a URI has at this version.
 #[inline(never)]
-fn begin(map: &mut BaseMap, docs: &Docs<Lined>, uri: &str, version: i32) -> Result<()> {
+fn begin(map: &mut BaseMap, docs: &Docs<Lined>, uri: &str, version: i32) -> Result<()>
+    ensures { OnOk result ((after : List SpecCall) → Stands docs.now after
+        → Begun docs.now.terms after uri.now version map.old.entries map.new.entries) }
+{
     match docs.store_at(uri, version) {
         Some(store) => begin_with(map, docs.alloc(), uri, version, store),
         None => Ok(()),
@@ -135,7 +138,13 @@ fn begin_first(map: &mut BaseMap, alloc: Global, uri: &str, version: i32, text: 
 
 /// Adds the changes of a call, if anything is held of its document.
 #[inline(always)]
-fn add(map: &mut BaseMap, docs: &Docs<Lined>, call: Call<'_>) -> Result<()> {
+fn add(map: &mut BaseMap, docs: &Docs<Lined>, call: Call<'_>) -> Result<()>
+    ensures { OnOk result ((after : List SpecCall) (more : SentEdits) → Stands docs.now after
+        → sent_by (uri_of (call_view call.entry)) (call_view call.entry) ≡ Some more
+        → ChangesOne (uri_of (call_view call.entry))
+        (AddedBy more (kept docs.now.terms (uri_of (call_view call.entry)) after))
+        map.old.entries map.new.entries) }
+{
     if map.is_empty() {
         return Ok(());
     }
@@ -144,7 +153,13 @@ fn add(map: &mut BaseMap, docs: &Docs<Lined>, call: Call<'_>) -> Result<()> {
 
 /// The same where something is held of a document.
 #[inline(never)]
-fn add_call(map: &mut BaseMap, docs: &Docs<Lined>, call: Call<'_>) -> Result<()> {
+fn add_call(map: &mut BaseMap, docs: &Docs<Lined>, call: Call<'_>) -> Result<()>
+    ensures { OnOk result ((after : List SpecCall) (more : SentEdits) → Stands docs.now after
+        → sent_by (uri_of (call_view call.entry)) (call_view call.entry) ≡ Some more
+        → ChangesOne (uri_of (call_view call.entry))
+        (AddedBy more (kept docs.now.terms (uri_of (call_view call.entry)) after))
+        map.old.entries map.new.entries) }
+{
     let Call::Changes {
         uri,
         version,
