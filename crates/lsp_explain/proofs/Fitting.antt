@@ -7,11 +7,15 @@ use Rattle.lsp_types.specs.declared.position.Encoding.{Encoding}
 use Rattle.lsp_text.specs.Edits.{Edit}
 use Rattle.lsp_docs.specs.Calls.{Call, Text}
 use Rattle.lsp_docs.specs.Documents.{Terms, Version}
+use Rattle.lsp_facts.specs.DocumentFacts.{fits_fact}
+use Rattle.lsp_facts.specs.Fact.{Fact}
 use Rattle.lsp_facts.specs.TwoTexts.{TwoTexts}
+use Rattle.lsp_verdict.specs.Event.{Event}
 use Rattle.lsp_explain.specs.Bases.{HoldsAny, HoldsFrom, HoldsOpen, SentEdits, are_few, base_in}
 use Rattle.lsp_explain.specs.Bases.{later, sent_in, text_in}
 use Rattle.lsp_explain.specs.Bases as spec
-use Rattle.lsp_explain.specs.Fits.{edits_in, fitting, fitting_any, fitting_of, if_given, is_given}
+use Rattle.lsp_explain.specs.Fits.{edits_in, fits, fits_facts, fitting, fitting_any, fitting_of}
+use Rattle.lsp_explain.specs.Fits.{if_given, is_given}
 use Rattle.lsp_explain.specs.Fits.{listed, made_by, own_edits, suspected, suspects_in}
 use Rattle.lsp_explain.specs.declared.suspects.Until.{Until}
 use Rattle.lsp_explain.specs.declared.trail.base.Base.{Base}
@@ -126,3 +130,11 @@ pub some_fit : (terms : Terms) (enc : Encoding) (t other : Text) (edits : List (
     → (edits ≡ [] → ⊥) → fitting_any terms enc t edits other ≡ fitting terms enc t edits other
 some_fit terms enc t other [] some = absurd (some refl)
 some_fit terms enc t other (one ∷ more) some = refl
+
+-- ---- nothing is said
+
+pub unfit : (old : List Fact) (terms : Terms) (before : List Event) (rule : ℕ) (limit : Until)
+    (call : Call) → fits terms before rule limit call ≡ []
+    → old ≡ old ++ fits_facts terms before rule limit call
+unfit old terms before rule limit call none =
+    sym (append-nil old) ∙ ap (λ es. old ++ fits_fact es) (sym none)
