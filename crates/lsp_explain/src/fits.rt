@@ -61,7 +61,7 @@ pub(crate) fn push_fits(
     let Some(text) = &base.text else {
         return Ok(());
     };
-    let Some(suspected) = suspected(base, until, call) else {
+    let Some(suspected) = suspects_of(base, until, call) else {
         return Ok(());
     };
     let Some(texts) = texts_of(&held.docs, call, rule, tried) else {
@@ -73,7 +73,7 @@ pub(crate) fn push_fits(
 
 /// The suspects, where there are some, not more than are named, and with those of the call, the
 /// changes are few.
-fn suspected<'a>(base: &'a Base, until: Until, call: Call<'a>) -> Option<Suspected<'a>>
+fn suspects_of<'a>(base: &'a Base, until: Until, call: Call<'a>) -> Option<Suspected<'a>>
     ensures { are_few (sent_in base.now) ≡ true
         → MatchOption result (spec.suspects_in until (sent_in base.now) (call_view call.entry) ≡ [])
         (spec.AreSuspects (spec.suspects_in until (sent_in base.now) (call_view call.entry))) }

@@ -55,8 +55,8 @@ returns-in_default-text c = λ before stands breaks tried.
     (subst (HoldsAfter terms uri made equal) (sym is) (stands.trail.based uri)))
 
 -- there are no suspects, or too many
-pub returns-in_default-suspected : goal.returns-in_default-suspected
-returns-in_default-suspected c = λ before stands breaks tried.
+pub returns-in_default-suspects_of : goal.returns-in_default-suspects_of
+returns-in_default-suspects_of c = λ before stands breaks tried.
     let terms = terms_in c.args.past in
     let call = call_view c.args.call in
     let uri = uri_of call in
@@ -75,7 +75,7 @@ returns-in_default-suspected c = λ before stands breaks tried.
     unfit c.args.facts.now terms before c.args.rule limit call
     (ap (λ o. fitting_of terms enc limit sent call o texts) k.is
     ∙ none_fits terms enc limit sent call k.base texts
-    (ap (λ l. suspects_in limit l call) (sym k.all) ∙ c.in_default-suspected.ensures k.few))
+    (ap (λ l. suspects_in limit l call) (sym k.all) ∙ c.in_default-suspects_of.ensures k.few))
 
 -- there are no two texts
 pub returns-in_default-texts_of : goal.returns-in_default-texts_of
@@ -111,7 +111,7 @@ returns c = on_ok_weaker c.push_fitting.result (λ said before stands breaks tri
     (subst (HoldsAfter terms uri made equal) (sym is) (stands.trail.based uri)) in
     let enc = agreed_encoding kept_events in
     let other = chars c.in-Some-texts_of.texts.in_editor.now in
-    let suspects = c.in-Some-suspected.ensures k.few in
+    let suspects = c.in-Some-suspects_of.ensures k.few in
     let all = ap (λ l. suspects_in limit l call) k.all in
     let edits = suspected k.base limit sent call in
     let same_enc = c.unwrap_or-agreed.ensures
