@@ -272,7 +272,7 @@ def explained_texts(size=TEXT):
 
 
 def fitting_changes(beyond):
-    """A column that counts characters, in changes of 1 MiB and so many bytes more: each counts 64
+    """A column that counts characters, in changes of 1 MiB and this many bytes more: each counts 64
     bytes and those of its text. No other encoding is named where they are larger."""
     uri, long = "file:///a", "a" * (CHUNK - 2 * 64 - 1 + beyond)
     log = START + did_open(uri, 1, "x😀yz\n") + snapshot(1, uri, "x😀yz\n")

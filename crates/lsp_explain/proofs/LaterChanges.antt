@@ -1,4 +1,4 @@
--- The changes of messages whose versions rise: those after a version, and how many may be looked at.
+-- The changes of messages whose versions rise: those after one, and how many may be looked at.
 use Rattle.std.specs.Prelude.{ℤ, int_lt, nat_lt, not, ◌&&◌, filter, length, if◌then◌else◌}
 use Rattle.std.specs.List.{sum_by}
 use Rattle.std.proofs.Common.{◌≡◌, ◌≤◌, ◌+◌, ◌⊎◌, ℕ, Bool, true, false, List, [], ◌∷◌, ◌++◌, refl}
