@@ -18,8 +18,9 @@ use Rattle.lsp_docs.specs.Laws.{rises}
 use Rattle.lsp_docs.specs.Rules.{text_in}
 use Rattle.lsp_docs.specs.Snapshots.{has_number}
 use Rattle.lsp_explain.specs.Bases.{AddedBy, AddsTo, Begins, BeginsAt, BegunBy, HoldsBase}
-use Rattle.lsp_explain.specs.Bases.{HoldsFrom, HoldsMore, HoldsNothing, HoldsOpen, IsNewBase, LetsGo}
-use Rattle.lsp_explain.specs.Bases.{MayBeEqual, SentEdits, are_few, base_in, later, numbered}
+use Rattle.lsp_explain.specs.Bases.{HoldsFrom, HoldsMore, HoldsNothing, HoldsOpen, IsNewBase}
+use Rattle.lsp_explain.specs.Bases.{MayBeEqual, Outgrows, base_in, later, numbered}
+use Rattle.lsp_explain.specs.SentEdits.{SentEdits, are_few}
 use Rattle.lsp_explain.specs.Bases as spec
 use Rattle.lsp_explain.specs.declared.trail.base.Base.{Base}
 use Rattle.lsp_explain.specs.declared.trail.mark.VersionEvent.{VersionEvent}
@@ -32,55 +33,51 @@ use Rattle.lsp_explain.proofs.LaterChanges.{later_with, many-back, many-front, n
 pub found_passes : (p q : Version → Bool) (vs : List Version) (w : Version) → list_all p vs ≡ true
     → find q vs ≡ Some w → p w ≡ true
 found_passes p q [] w all found = absurd (none-some w found)
-found_passes p q (v ∷ vs) w all found = by_test (q v) refl
+found_passes p q (v ∷ vs) w all found =
+    by_test (q v) refl (found_passes p q vs w (and_parts (p v) (list_all p vs) all).1)
   where
-    parts : (p v ≡ true) × (list_all p vs ≡ true)
-    parts = and_parts (p v) (list_all p vs) all
-
-    by_test : (b : Bool) → q v ≡ b → p w ≡ true
-    by_test true passes =
+    by_test : (b : Bool) → q v ≡ b → (find q vs ≡ Some w → p w ≡ true) → p w ≡ true
+    by_test true passes rest =
         let own : Some v ≡ Some w =
         sym (ap (λ (b : Bool). if b then Some v else find q vs) passes) ∙ found in
-        ap p (sym (same_Some v w own)) ∙ parts.0
-    by_test false fails =
-        found_passes p q vs w parts.1
-        (sym (ap (λ (b : Bool). if b then Some v else find q vs) fails) ∙ found)
+        ap p (sym (same_Some v w own)) ∙ (and_parts (p v) (list_all p vs) all).0
+    by_test false fails rest =
+        rest (sym (ap (λ (b : Bool). if b then Some v else find q vs) fails) ∙ found)
 
 pub found_is : (q : Version → Bool) (vs : List Version) (w : Version) → find q vs ≡ Some w
     → q w ≡ true
 found_is q [] w found = absurd (none-some w found)
-found_is q (v ∷ vs) w found = by_test (q v) refl
+found_is q (v ∷ vs) w found = by_test (q v) refl (found_is q vs w)
   where
-    by_test : (b : Bool) → q v ≡ b → q w ≡ true
-    by_test true passes =
+    by_test : (b : Bool) → q v ≡ b → (find q vs ≡ Some w → q w ≡ true) → q w ≡ true
+    by_test true passes rest =
         let own : Some v ≡ Some w =
         sym (ap (λ (b : Bool). if b then Some v else find q vs) passes) ∙ found in
         ap q (sym (same_Some v w own)) ∙ passes
-    by_test false fails =
-        found_is q vs w (sym (ap (λ (b : Bool). if b then Some v else find q vs) fails) ∙ found)
+    by_test false fails rest =
+        rest (sym (ap (λ (b : Bool). if b then Some v else find q vs) fails) ∙ found)
 
 -- one of the last of those that rise is the first of its number
 pub numbered-last : (xs ys : List Version) (n : ℤ) (w : Version) → rises (xs ++ ys) ≡ true
     → numbered ys n ≡ Some w → numbered (xs ++ ys) n ≡ Some w
 numbered-last [] ys n w rise found = found
-numbered-last (x ∷ xs) ys n w rise found = by_test (is_at n x) refl
+numbered-last (x ∷ xs) ys n w rise found =
+    by_test (is_at n x) refl (numbered-last xs ys n w (parts rise).1 found)
   where
-    parts : (list_all (is_after x.number) (xs ++ ys) ≡ true) × (rises (xs ++ ys) ≡ true)
-    parts = and_parts (list_all (is_after x.number) (xs ++ ys)) (rises (xs ++ ys)) rise
+    parts : rises (x ∷ xs ++ ys) ≡ true
+        → (list_all (is_after x.number) (xs ++ ys) ≡ true) × (rises (xs ++ ys) ≡ true)
+    parts all = and_parts (list_all (is_after x.number) (xs ++ ys)) (rises (xs ++ ys)) all
 
-    rest : numbered (xs ++ ys) n ≡ Some w
-    rest = numbered-last xs ys n w parts.1 found
-
-    by_test : (b : Bool) → is_at n x ≡ b
+    by_test : (b : Bool) → is_at n x ≡ b → numbered (xs ++ ys) n ≡ Some w
         → (if b then Some x else find (is_at n) (xs ++ ys)) ≡ Some w
-    by_test true here =
+    by_test true here rest =
         let behind : int_lt x.number w.number ≡ true =
-        found_passes (is_after x.number) (is_at n) (xs ++ ys) w parts.0 rest in
+        found_passes (is_after x.number) (is_at n) (xs ++ ys) w (parts rise).0 rest in
         let same : x.number ≡ w.number =
         int_is x.number n here
         ∙ sym (int_is w.number n (found_is (is_at n) (xs ++ ys) w rest)) in
         absurd (true≢false (sym behind ∙ ap (int_lt x.number) (sym same) ∙ itself x.number))
-    by_test false other = rest
+    by_test false other rest = rest
 
 pub numbered-front : (xs ys : List Version) (n : ℤ) (w : Version) → numbered xs n ≡ Some w
     → numbered (xs ++ ys) n ≡ Some w
@@ -101,18 +98,21 @@ above-later : (n : ℤ) (sent : List SentEdits) (front : List SentEdits) (last :
     → int_lt n last.number ≡ true
 above-later n [] [] last behind is = absurd (cc is)
 above-later n [] (x ∷ front) last behind is = absurd (cc is)
-above-later n (s ∷ sent) front last behind is = by_test (int_lt n s.number) refl front is
+above-later n (s ∷ sent) front last behind is =
+    by_test (int_lt n s.number) refl front is
+    (λ (f : List SentEdits). above-later n sent f last behind)
   where
-    by_test : (b : Bool) → int_lt n s.number ≡ b → (front : List SentEdits)
-        → (if b then s ∷ later n sent else later n sent) ≡ front ++ last ∷ behind
+    by_test : (b : Bool) → int_lt n s.number ≡ b → (f : List SentEdits)
+        → (if b then s ∷ later n sent else later n sent) ≡ f ++ last ∷ behind
+        → ((g : List SentEdits) → later n sent ≡ g ++ last ∷ behind → int_lt n last.number ≡ true)
         → int_lt n last.number ≡ true
-    by_test true p [] e =
+    by_test true p [] e rest =
         let same : s ≡ last = cc e in
         ap (λ (x : SentEdits). int_lt n x.number) (sym same) ∙ p
-    by_test true p (x ∷ front) e =
-        let rest : later n sent ≡ front ++ last ∷ behind = cc e in
-        above-later n sent front last behind rest
-    by_test false p front e = above-later n sent front last behind e
+    by_test true p (x ∷ f) e rest =
+        let same : later n sent ≡ f ++ last ∷ behind = cc e in
+        rest f same
+    by_test false p f e rest = rest f e
 
 within_mid : (n : ℤ) (before : List SentEdits) (s : SentEdits) (behind : List SentEdits)
     → AreWithin n (before ++ s ∷ behind) → int_lt n s.number ≡ false
@@ -181,31 +181,31 @@ module _ (terms : Terms) (base v w : Version) (kept now : List Version) (all : L
             ∙ less_behind more.number b.since behind_since))
         by_number n may h (inr old) = many_more n (holds.since_others n (may.0, old) h)
 
-    held_less : are_few (spec.sent_in new) ≡ true → (gone : LetsGo (more ∷ []) b new)
-        → gone.behind ≡ spec.sent_in new → HoldsBase base now w (all ++ more ∷ []) new
-    held_less few gone left =
+    held_less : are_few (spec.sent_in new) ≡ true → Outgrows more b new
+        → HoldsBase base now w (all ++ more ∷ []) new
+    held_less few gone =
+        let behind = spec.sent_in new in
         let cut = later_last b.since (all ++ more ∷ []) rise in
-        let part : later b.since (all ++ more ∷ []) ≡ gone.front ++ gone.last ∷ gone.behind =
+        let part : later b.since (all ++ more ∷ []) ≡ gone.front ++ gone.last ∷ behind =
         sym with_all ∙ gone.all in
-        let whole : all ++ more ∷ [] ≡ (cut.0 ++ gone.front) ++ gone.last ∷ gone.behind =
+        let whole : all ++ more ∷ [] ≡ (cut.0 ++ gone.front) ++ gone.last ∷ behind =
         cut.1 ∙ ap (λ (l : List SentEdits). cut.0 ++ l) part
-        ∙ sym (append_assoc cut.0 gone.front (gone.last ∷ gone.behind)) in
+        ∙ sym (append_assoc cut.0 gone.front (gone.last ∷ behind)) in
         let rises_so = subst AreRising whole rise in
         let own : int_lt b.since gone.last.number ≡ true =
-        above-later b.since (all ++ more ∷ []) gone.front gone.last gone.behind part in
+        above-later b.since (all ++ more ∷ []) gone.front gone.last behind part in
         let later_many : (n : ℤ) → int_lt n gone.last.number ≡ true
         → are_few (later n (all ++ more ∷ [])) ≡ false =
         λ n h. ap (λ l. are_few (later n l)) whole
-        ∙ ap are_few (later_with (cut.0 ++ gone.front) gone.last gone.behind rises_so n h)
-        ∙ many-back (later n (cut.0 ++ gone.front)) (gone.last ∷ gone.behind) gone.many in
+        ∙ ap are_few (later_with (cut.0 ++ gone.front) gone.last behind rises_so n h)
+        ∙ many-back (later n (cut.0 ++ gone.front)) (gone.last ∷ behind) gone.many in
         record {
           few = few;
-          sent = sym left
-              ∙ sym (later_behind (cut.0 ++ gone.front) gone.last gone.behind rises_so)
+          sent = sym (later_behind (cut.0 ++ gone.front) gone.last behind rises_so)
               ∙ ap (later gone.last.number) (sym whole)
               ∙ ap (λ n. later n (all ++ more ∷ [])) (sym gone.since);
           within = ap (int_lt w.number) gone.since
-              ∙ within_mid w.number (cut.0 ++ gone.front) gone.last gone.behind
+              ∙ within_mid w.number (cut.0 ++ gone.front) gone.last behind
               (subst (AreWithin w.number) whole within);
           text = subst (λ o. MatchOption o (int_lt base.number new.since ≡ true)
               (λ t. (new.since ≡ base.number) × (t ≡ base.text))) (sym gone.text)
@@ -220,7 +220,7 @@ module _ (terms : Terms) (base v w : Version) (kept now : List Version) (all : L
     held_added adds =
         elim adds.how [
           | inl stays ↦ held_more adds.few stays
-          | inr gone ↦ held_less adds.few gone.0 gone.1
+          | inr gone ↦ held_less adds.few gone
         ]
 
   -- **what is held with one change more**

@@ -15,7 +15,8 @@ use Rattle.lsp_docs.specs.declared.call.Call as code
 use Rattle.lsp_docs.specs.declared.call.Call.TheVariants.{Opens, Changes, Closes, Saves, Shows}
 use Rattle.lsp_docs.proofs.Words.{uri_same}
 use Rattle.lsp_survey.proofs.Noting.{PutsUnder}
-use Rattle.lsp_explain.specs.Bases.{AddedBy, ChangesOne, SentEdits, held_of, sent_by}
+use Rattle.lsp_explain.specs.Bases.{AddedBy, ChangesOne, held_of, sent_by}
+use Rattle.lsp_explain.specs.SentEdits.{SentEdits}
 use Rattle.lsp_explain.specs.declared.trail.base.Base.{Base}
 
 abbrev pub Entries : Type 0

@@ -34,8 +34,8 @@ use Rattle.lsp_docs.specs.declared.snapshot.Match.{Match}
 use Rattle.lsp_docs.specs.declared.snapshot.Match.TheVariants.{Equal, Waits, Missed}
 use Rattle.lsp_replay.specs.declared.heard.EventPlace.{EventPlace}
 use Rattle.lsp_explain.specs.Bases.{AddedBy, BegunBy, ChangesOne, HoldsAfter, HoldsFrom, HoldsOpen}
-use Rattle.lsp_explain.specs.Bases.{base_in, held_of, later, numbered, revisions, sent_edits}
-use Rattle.lsp_explain.specs.Bases.{SentEdits, sent_since}
+use Rattle.lsp_explain.specs.Bases.{base_in, held_of, later, numbered, revisions, sent_since}
+use Rattle.lsp_explain.specs.SentEdits.{sent_edits, SentEdits}
 use Rattle.lsp_explain.specs.Bases as spec
 use Rattle.lsp_explain.specs.History.{KeptCall, kept_call, since_last}
 use Rattle.lsp_explain.specs.Marking.{agreed, at_version, closes as closes_it, finds_equal, found_at}
@@ -94,13 +94,14 @@ equal_base (Some x) versions base is =
 found_any : (p : Version → Bool) (vs : List Version) → list_any p vs ≡ true
     → (w : Version) × (find p vs ≡ Some w)
 found_any p [] any = absurd (true≢false (sym any))
-found_any p (v ∷ vs) any = by_test (p v) refl
+found_any p (v ∷ vs) any = by_test (p v) refl (found_any p vs)
   where
     by_test : (b : Bool) → p v ≡ b
+        → (list_any p vs ≡ true → (w : Version) × (find p vs ≡ Some w))
         → (w : Version) × ((if b then Some v else find p vs) ≡ Some w)
-    by_test true passes = (v, refl)
-    by_test false fails =
-        found_any p vs (sym (ap (λ (b : Bool). b || list_any p vs) fails) ∙ any)
+    by_test true passes rest = (v, refl)
+    by_test false fails rest =
+        rest (sym (ap (λ (b : Bool). b || list_any p vs) fails) ∙ any)
 
 -- the one that is held or kept
 number_found : (n : ℤ) (kept : List Version) (v : Version) → has_number n kept (Some v) ≡ true
@@ -179,7 +180,7 @@ module _ (terms : Terms) (equal : Option VersionEvent) (versions kept_now : List
 
   -- or again, where changes since an earlier one were held
   pub begun_again : (old : Base) (b : Option Base) → int_lt n old.since ≡ false
-      → spec.are_few (spec.sent_in old) ≡ true → later n (spec.sent_in old) ≡ later n all
+      → are_few (spec.sent_in old) ≡ true → later n (spec.sent_in old) ≡ later n all
       → BegunBy n t (Some old) b → HoldsOpen terms equal versions kept_now v all b
   begun_again old b held few same (own, alike, begins) = record {
     base = w;

@@ -35,8 +35,8 @@ use Rattle.lsp_docs.specs.declared.snapshot.Match.{Match}
 use Rattle.lsp_docs.specs.declared.snapshot.Match.TheVariants.{Equal, Waits, Missed}
 use Rattle.lsp_replay.specs.declared.heard.EventPlace.{EventPlace}
 use Rattle.lsp_explain.specs.Bases.{AddedBy, BegunBy, ChangesOne, HoldsAfter, HoldsFrom, HoldsOpen}
-use Rattle.lsp_explain.specs.Bases.{base_in, held_of, later, numbered, revisions, sent_edits}
-use Rattle.lsp_explain.specs.Bases.{SentEdits, sent_since}
+use Rattle.lsp_explain.specs.Bases.{base_in, held_of, later, numbered, revisions, sent_since}
+use Rattle.lsp_explain.specs.SentEdits.{sent_edits, SentEdits}
 use Rattle.lsp_explain.specs.Bases as spec
 use Rattle.lsp_docs.specs.Taken.{took_by}
 use Rattle.lsp_explain.specs.History.{KeptCall, kept_call, step_of}

@@ -11,8 +11,9 @@ use Rattle.lsp_facts.specs.DocumentFacts.{fits_fact}
 use Rattle.lsp_facts.specs.Fact.{Fact}
 use Rattle.lsp_facts.specs.TwoTexts.{TwoTexts}
 use Rattle.lsp_verdict.specs.Event.{Event}
-use Rattle.lsp_explain.specs.Bases.{HoldsAny, HoldsFrom, HoldsOpen, SentEdits, are_few, base_in}
-use Rattle.lsp_explain.specs.Bases.{later, sent_in, text_in}
+use Rattle.lsp_explain.specs.Bases.{HoldsAny, HoldsFrom, HoldsOpen, base_in, later, sent_in}
+use Rattle.lsp_explain.specs.Bases.{text_in}
+use Rattle.lsp_explain.specs.SentEdits.{SentEdits, are_few}
 use Rattle.lsp_explain.specs.Bases as spec
 use Rattle.lsp_explain.specs.Fits.{edits_in, fits, fits_facts, fitting, fitting_any, fitting_of}
 use Rattle.lsp_explain.specs.Fits.{if_given, is_given}

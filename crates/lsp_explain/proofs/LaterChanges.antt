@@ -8,10 +8,11 @@ use Rattle.std.proofs.lemmas.Bool.Decides.{nat_tests}
 use Rattle.std.proofs.lemmas.Int.{ints}
 use Rattle.std.proofs.lemmas.List.{length-append}
 use Rattle.std.proofs.lemmas.List.Elements.{filter-append}
-use Rattle.std.proofs.lemmas.List.Sums.{sum_by-append}
+use Rattle.std.proofs.lemmas.List.Sums.{sum_by-append, sum_by-cons}
 use Rattle.lsp_docs.proofs.Words.{less_behind, lt_trans}
-use Rattle.lsp_explain.specs.Bases.{SentEdits, are_few, is_later, later, most_sent, most_size}
-use Rattle.lsp_explain.specs.Bases.{sent_size, total_size}
+use Rattle.lsp_explain.specs.Bases.{is_later, later}
+use Rattle.lsp_explain.specs.SentEdits.{SentEdits, are_few, most_sent, most_size, sent_size}
+use Rattle.lsp_explain.specs.SentEdits.{total_size}
 
 -- ---- versions
 
@@ -96,15 +97,15 @@ later_none n (s ∷ sent) within =
 pub later_later : (m n : ℤ) (sent : List SentEdits) → int_lt n m ≡ false
     → later n (later m sent) ≡ later n sent
 later_later m n [] less = refl
-later_later m n (s ∷ sent) less = by_test (int_lt m s.number) refl
+later_later m n (s ∷ sent) less =
+    by_test (int_lt m s.number) refl (later_later m n sent less)
   where
-    by_test : (b : Bool) → int_lt m s.number ≡ b
+    by_test : (b : Bool) → int_lt m s.number ≡ b → later n (later m sent) ≡ later n sent
         → later n (if b then s ∷ later m sent else later m sent) ≡ later n (s ∷ sent)
-    by_test true p =
-        ap (λ (l : List SentEdits). if int_lt n s.number then s ∷ l else l)
-        (later_later m n sent less)
-    by_test false p =
-        later_later m n sent less
+    by_test true p same =
+        ap (λ (l : List SentEdits). if int_lt n s.number then s ∷ l else l) same
+    by_test false p same =
+        same
         ∙ sym (ap (λ (b : Bool). if b then s ∷ later n sent else later n sent)
         (reaches s.number m n p less))
 
@@ -216,21 +217,20 @@ many-back xs ys = not_few (are_few (xs ++ ys)) (are_few ys) (few-back xs ys)
 later-less : (n : ℤ) (sent : List SentEdits)
     → (length (later n sent) ≤ length sent) × (total_size (later n sent) ≤ total_size sent)
 later-less n [] = (omega arith, omega arith)
-later-less n (s ∷ sent) = by_test (int_lt n s.number)
+later-less n (s ∷ sent) = by_test (int_lt n s.number) (later-less n sent)
   where
     by_test : (b : Bool)
+        → (length (later n sent) ≤ length sent) × (total_size (later n sent) ≤ total_size sent)
         → (length (if b then s ∷ later n sent else later n sent) ≤ length (s ∷ sent))
         × (total_size (if b then s ∷ later n sent else later n sent) ≤ total_size (s ∷ sent))
-    by_test true =
-        let rest = later-less n sent in (
-          omega (arith, rest.0),
-          omega (arith, rest.1),
-        )
-    by_test false =
-        let rest = later-less n sent in (
-          omega (arith, rest.0),
-          omega (arith, rest.1),
-        )
+    by_test true rest = (
+      omega (arith, rest.0),
+      omega (arith, rest.1, sum_by-cons sent_size s (later n sent), sum_by-cons sent_size s sent),
+    )
+    by_test false rest = (
+      omega (arith, rest.0),
+      omega (arith, rest.1, sum_by-cons sent_size s sent),
+    )
 
 pub few-later : (n : ℤ) (sent : List SentEdits) → are_few sent ≡ true
     → are_few (later n sent) ≡ true

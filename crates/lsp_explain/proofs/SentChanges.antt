@@ -20,7 +20,8 @@ use Rattle.lsp_docs.specs.Rules.{AreAccepted, AreAcceptedFrom, call_rule}
 use Rattle.lsp_explain.proofs.History.{since_last-push}
 use Rattle.lsp_explain.proofs.LaterChanges.{AreRising, AreWithin, itself, rises-snoc, within-more}
 use Rattle.lsp_explain.proofs.LaterChanges.{within-snoc}
-use Rattle.lsp_explain.specs.Bases.{SentEdits, is_opening, sent_by, sent_edits, sent_since}
+use Rattle.lsp_explain.specs.Bases.{is_opening, sent_by, sent_since}
+use Rattle.lsp_explain.specs.SentEdits.{SentEdits, sent_edits}
 use Rattle.lsp_explain.specs.History.{since_last}
 
 -- ---- one call more

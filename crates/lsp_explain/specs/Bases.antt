@@ -2,7 +2,7 @@
 use Rattle.std.specs.Prelude.{◌≡◌, ℕ, ℤ, int_lt, ◌+◌, ◌&&◌, nat_lt, not, Bool, true, false, List, []}
 use Rattle.std.specs.Prelude.{◌∷◌, ◌++◌, filter, length, map, slice_get, if◌then◌else◌, Option}
 use Rattle.std.specs.Prelude.{Some, None, is_some, option_and_then, option_map, option_to_list}
-use Rattle.std.specs.Prelude.{◌||◌, ◌⊎◌, MatchOption, String}
+use Rattle.std.specs.Prelude.{◌||◌, ◌⊎◌, IfNone, MatchOption, String}
 use Rattle.std.specs.Global.{Global}
 use Rattle.std.specs.List.{filter_map, find, sum_by}
 use Rattle.std.specs.Str.{bytes_eq}
@@ -19,9 +19,10 @@ use Rattle.lsp_verdict.specs.Event.{calls, Event}
 use Rattle.lsp_verdict.specs.Offences.{kept_of}
 use Rattle.lsp_explain.specs.History.{since_last}
 use Rattle.lsp_explain.specs.Marking.{agreed, steps}
+use Rattle.lsp_explain.specs.SentEdits.{SentEdits, are_few, edits_size, most_size, sent_edits}
+use Rattle.lsp_explain.specs.SentEdits.{sents_view, total_size}
 use Rattle.lsp_explain.specs.declared.trail.mark.VersionEvent.{VersionEvent}
 use Rattle.lsp_explain.specs.declared.trail.base.Base.{Base}
-use Rattle.lsp_explain.specs.declared.trail.base.SentChanges.{SentChanges}
 use Rattle.lsp_explain.specs.declared.trail.step.Step.{Step}
 use Rattle.lsp_explain.specs.declared.trail.step.Step.TheVariants.{Closes, Reaches, Shows}
 
@@ -53,14 +54,6 @@ base_at terms before uri =
 
 -- ---- the changes
 
--- those of a message, and the version that it set
-pub record SentEdits : Type 0 where
-  pub number : ℤ
-  pub edits : List Edit
-
-abbrev pub sent_edits : ℤ → List Edit → SentEdits
-sent_edits number edits = record { number = number; edits = edits }
-
 -- those of a call that changes the document of this URI
 abbrev pub sent_by : Bytes → Call → Option SentEdits
 sent_by uri (changes enc kind u number cs) =
@@ -81,41 +74,7 @@ is_later number s = int_lt number s.number
 abbrev pub later : ℤ → List SentEdits → List SentEdits
 later number sent = filter (is_later number) sent
 
--- ---- how many of them are looked at, and how large they may be
-
-abbrev pub most_sent : ℕ
-most_sent = 33
-
-abbrev pub most_size : ℕ
-most_size = 1048576
-
--- what a change counts beside its text
-abbrev pub per_change : ℕ
-per_change = 64
-
-abbrev pub weight : Edit → ℕ
-weight edit = per_change + byte_len edit.text
-
-abbrev pub edits_size : List Edit → ℕ
-edits_size edits = sum_by weight edits
-
-abbrev pub sent_size : SentEdits → ℕ
-sent_size s = edits_size s.edits
-
-abbrev pub total_size : List SentEdits → ℕ
-total_size sent = sum_by sent_size sent
-
--- they are few enough, and small enough
-abbrev pub are_few : List SentEdits → Bool
-are_few sent = not (nat_lt most_sent (length sent)) && not (nat_lt most_size (total_size sent))
-
 -- ---- as they are held
-
-abbrev pub sent_view : SentChanges → SentEdits
-sent_view s = sent_edits s.version (edits_of s.changes.items)
-
-abbrev pub sents_view : List SentChanges → List SentEdits
-sents_view held = map sent_view held
 
 abbrev pub sent_in : Base → List SentEdits
 sent_in b = sents_view b.sent.items
@@ -207,40 +166,51 @@ pub record HoldsMore (more : SentEdits) (old new : Base) : Type 0 where
   pub text : text_in new ≡ text_in old
   pub sent : sent_in new ≡ sent_in old ++ more ∷ []
 
--- the same without the first ones: up to one without which they are few
-pub record LetsGo (more : List SentEdits) (old new : Base) : Type 0 where
-  pub front : List SentEdits
-  pub last : SentEdits
-  pub behind : List SentEdits
-  pub all : sent_in old ++ more ≡ front ++ last ∷ behind
-  pub many : are_few (last ∷ behind) ≡ false
-  pub since : new.since ≡ last.number
-  pub text : text_in new ≡ None
-
--- without the text and the first changes
+-- without the text and the first message
 pub record DropsFirst (old new : Base) : Type 0 where
   pub first : SentEdits
   pub all : sent_in old ≡ first ∷ sent_in new
   pub since : new.since ≡ first.number
   pub text : text_in new ≡ None
 
--- some are held, and are not few with these
-abbrev pub is_in_the_way : List SentEdits → SentEdits → Bool
-is_in_the_way [] more = false
-is_in_the_way (s ∷ sent) more = not (are_few (s ∷ sent ++ more ∷ []))
+-- without the text and the first messages, up to one with which they are not few, where these
+-- changes are added
+pub record LetsGo (edits : List Edit) (old new : Base) : Type 0 where
+  pub front : List SentEdits
+  pub last : SentEdits
+  pub all : sent_in old ≡ front ++ last ∷ sent_in new
+  pub many : (number : ℤ) → are_few (last ∷ sent_in new ++ sent_edits number edits ∷ []) ≡ false
+  pub since : new.since ≡ last.number
+  pub text : text_in new ≡ None
 
--- after changes were let go of, so that there is room for these, or none is left
-pub record LeavesRoom (edits : List Edit) (old new : Base) : Type 0 where
-  pub how : (number : ℤ) → (new ≡ old) ⊎ ((gone : LetsGo (sent_edits number edits ∷ []) old new)
-      × (gone.behind ≡ sent_in new ++ sent_edits number edits ∷ []))
-  pub room : (number : ℤ) → (sent_in new ≡ [])
-      ⊎ (are_few (sent_in new ++ sent_edits number edits ∷ []) ≡ true)
+-- how much room is left behind these messages by those changes of one more, if they are few with it
+abbrev pub IsRoom : List SentEdits → SentEdits → Option ℕ → Type 0
+IsRoom sent more room =
+    MatchOption room (are_few (sent ++ more ∷ []) ≡ false)
+    (λ left. (are_few (sent ++ more ∷ []) ≡ true)
+    × (left + (edits_size more.edits + total_size sent) ≡ most_size))
+
+-- so much room is left for these changes: messages were let go of, until they were few with them,
+-- or none was held any longer
+pub record LeavesRoom (edits : List Edit) (room : Option ℕ) (old new : Base) : Type 0 where
+  pub how : (new ≡ old) ⊎ LetsGo edits old new
+  pub is : (number : ℤ) → IsRoom (sent_in new) (sent_edits number edits) room
+  pub none : IfNone room (sent_in new ≡ [])
+
+-- the same with those of a message behind the others, without the text and the first ones: up to
+-- one with which they are not few
+pub record Outgrows (more : SentEdits) (old new : Base) : Type 0 where
+  pub front : List SentEdits
+  pub last : SentEdits
+  pub all : sent_in old ++ more ∷ [] ≡ front ++ last ∷ sent_in new
+  pub many : are_few (last ∷ sent_in new) ≡ false
+  pub since : new.since ≡ last.number
+  pub text : text_in new ≡ None
 
 -- with the changes of a message, without others if there is no room for all
 pub record AddsTo (more : SentEdits) (old new : Base) : Type 0 where
   pub few : are_few (sent_in new) ≡ true
-  pub how : HoldsMore more old new
-      ⊎ ((gone : LetsGo (more ∷ []) old new) × (gone.behind ≡ sent_in new))
+  pub how : HoldsMore more old new ⊎ Outgrows more old new
 
 -- ---- with one call more: by URI
 

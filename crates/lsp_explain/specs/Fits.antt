@@ -21,8 +21,8 @@ use Rattle.lsp_verdict.specs.Offences.{kept_of}
 use Rattle.lsp_facts.specs.DocumentFacts.{fits_fact}
 use Rattle.lsp_facts.specs.Fact.{Fact}
 use Rattle.lsp_facts.specs.TwoTexts.{TwoTexts, texts_of}
-use Rattle.lsp_explain.specs.Bases.{SentEdits, are_few, base_at, later, sent_edits, sent_since}
-use Rattle.lsp_explain.specs.Bases.{sents_view}
+use Rattle.lsp_explain.specs.Bases.{base_at, later, sent_since}
+use Rattle.lsp_explain.specs.SentEdits.{SentEdits, are_few, sent_edits, sents_view}
 use Rattle.lsp_explain.specs.declared.fits.Suspected.{Suspected}
 use Rattle.lsp_explain.specs.declared.suspects.Until.{Until}
 use Rattle.lsp_explain.specs.declared.suspects.Until.TheVariants as until

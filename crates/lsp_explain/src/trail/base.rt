@@ -1,10 +1,10 @@
 //! A text from which a document may have drifted, and the changes since.
-ghost use Rattle.std.specs.Prelude.{◌≡◌, ◌+◌, ◌<◌, ◌++◌, ◌∷◌, [], IfOk, MatchOption, OnOk, ℤ};
-ghost use Rattle.std.specs.Prelude.{filter, int_lt, length};
+ghost use Rattle.std.specs.Prelude.{◌≡◌, ◌+◌, ◌<◌, ◌≤◌, IfOk, MatchOption, filter, int_lt};
+ghost use Rattle.std.specs.Str.{chars};
+ghost use Rattle.lsp_docs.specs.Calls.{byte_len};
 ghost use Rattle.lsp_text.specs.Changes.{edit_of, edits_of};
-ghost use Rattle.lsp_explain.specs.Bases.{AddsTo, BeginsAt, DropsFirst, IsNewBase, LeavesRoom};
-ghost use Rattle.lsp_explain.specs.Bases.{are_few, edits_size, is_in_the_way, most_size};
-ghost use Rattle.lsp_explain.specs.Bases.{sent_edits, sent_in, sents_view, total_size};
+ghost use Rattle.lsp_explain.specs.SentEdits.{edits_size, most_size, per_change, sents_view};
+ghost use Rattle.lsp_explain.specs.SentEdits.{total_size, weight};
 
 use lsp_rpc::Result;
 use lsp_text::Lined;
@@ -36,9 +36,18 @@ pub(crate) struct Base {
     since: i32,
     pub(crate) text: Option<Lined>,
     pub(crate) sent: Vec<SentChanges>,
+    /// How large changes may be beside these.
+    room: u64,
+    ghost counted: { room + total_size (sents_view sent.items) ≡ most_size },
 }
 
 impl Base {
+    ghost use Rattle.std.specs.Prelude.{◌≡◌, ◌++◌, ◌<◌, ◌∷◌, [], OnOk, ℤ, length};
+    ghost use Rattle.lsp_text.specs.Changes.{edits_of};
+    ghost use Rattle.lsp_explain.specs.Bases.{AddsTo, BeginsAt, DropsFirst, IsNewBase, IsRoom};
+    ghost use Rattle.lsp_explain.specs.Bases.{LeavesRoom, sent_in};
+    ghost use Rattle.lsp_explain.specs.SentEdits.{are_few, sent_edits};
+
     /// A text of this version, in which nothing was changed.
     pub(crate) fn new(alloc: Global, version: i32, text: Lined) -> Base
         ensures { IsNewBase version text.content result }
@@ -47,6 +56,7 @@ impl Base {
             since: version,
             text: Some(text),
             sent: Vec::new(alloc),
+            room: MOST_SIZE,
         }
     }
 
@@ -61,6 +71,7 @@ impl Base {
         self.since = version;
         self.text = Some(text);
         drop_until(&mut self.sent, version);
+        self.room = room_beside(self.sent.as_slice());
     }
 
     /// Adds the changes of a message that set this version. Where there is no room for them, the
@@ -71,32 +82,29 @@ impl Base {
     pub(crate) fn add(&mut self, version: i32, changes: &[Change]) -> Result<()>
         ensures { OnOk result (AddsTo (sent_edits version (edits_of changes.now)) self.old self.new) }
     {
-        self.make_room(changes);
-        if !self.has_room(changes) {
+        let Some(room) = self.make_room(changes) else {
             self.since = version;
             self.text = None;
             return Ok(());
-        }
+        };
         let changes = copies_of(*self.sent.allocator(), changes)?;
         self.sent.push(SentChanges { version, changes })?;
+        self.room = room;
         Ok(())
     }
 
-    /// Lets go of the first changes until there is room for these, or none is left.
-    fn make_room(&mut self, changes: &[Change])
-        ensures { LeavesRoom (edits_of changes.now) self.old self.new }
+    /// Lets go of the first changes until there is room for these, or none is left. Answers how
+    /// much room these then leave, if there is enough for them.
+    fn make_room(&mut self, changes: &[Change]) -> Option<u64>
+        ensures { LeavesRoom (edits_of changes.now) result self.old self.new }
     {
-        'messages: while self.is_in_the_way_of(changes) {
+        'messages: while !self.sent.is_empty() {
+            if let Some(room) = self.room_for(changes) {
+                return Some(room);
+            }
             self.drop_first();
         }
-    }
-
-    /// Whether changes are held, and so many that there is no room for these.
-    fn is_in_the_way_of(&self, changes: &[Change]) -> bool
-        ensures { (number : ℤ) → result ≡ is_in_the_way (sent_in self.now)
-            (sent_edits number (edits_of changes.now)) }
-    {
-        !self.sent.is_empty() && !self.has_room(changes)
+        self.room_for(changes)
     }
 
     /// Lets go of the text and of the changes of the first message.
@@ -107,6 +115,7 @@ impl Base {
         let first = self.sent.remove(0);
         self.since = first.version;
         self.text = None;
+        self.room += size_of_changes(first.changes.as_slice());
     }
 
     /// Whether the changes that are held are few enough with these of one more message.
@@ -114,26 +123,43 @@ impl Base {
         ensures { (number : ℤ) → result ≡ are_few (sent_in self.now
             ++ sent_edits number (edits_of changes.now) ∷ []) }
     {
+        self.room_for(changes).is_some()
+    }
+
+    /// How much room these changes of one more message would leave, if there is enough for them.
+    fn room_for(&self, changes: &[Change]) -> Option<u64>
+        ensures { (number : ℤ) → IsRoom (sent_in self.now)
+            (sent_edits number (edits_of changes.now)) result }
+    {
         if self.sent.len() >= MOST_SENT {
-            return false;
+            return None;
         }
-        match room_beside(self.sent.as_slice()) {
-            Some(room) => room_after(room, changes).is_some(),
-            None => false,
-        }
+        room_after(self.room, changes)
     }
 }
 
-/// How large changes may be beside those of these messages, if any may.
-fn room_beside(sent: &[SentChanges]) -> Option<u64>
-    ensures { MatchOption result (most_size < total_size (sents_view sent.now))
-        (λ room. room + total_size (sents_view sent.now) ≡ most_size) }
+/// How large changes may be beside those of these messages.
+fn room_beside(sent: &[SentChanges]) -> u64
+    requires { total_size (sents_view sent.now) ≤ most_size }
+    ensures { result + total_size (sents_view sent.now) ≡ most_size }
 {
     let mut room = MOST_SIZE;
     for one in sent {
-        room = room_after(room, one.changes.as_slice())?;
+        room -= size_of_changes(one.changes.as_slice());
     }
-    Some(room)
+    room
+}
+
+/// How large these changes are, which are held.
+fn size_of_changes(changes: &[Change]) -> u64
+    requires { edits_size (edits_of changes.now) ≤ most_size }
+    ensures { result ≡ edits_size (edits_of changes.now) }
+{
+    let mut size = 0;
+    for change in changes {
+        size += size_of_change(change);
+    }
+    size
 }
 
 /// How much of this room these changes leave, if there is enough for them.
@@ -143,9 +169,23 @@ fn room_after(room: u64, changes: &[Change]) -> Option<u64>
 {
     let mut left = room;
     for change in changes {
-        left = left.checked_sub(PER_CHANGE + change.text.as_str().len() as u64)?;
+        left = left.checked_sub(size_of_change(change))?;
     }
     Some(left)
+}
+
+/// How much of the room a change takes.
+fn size_of_change(change: &Change) -> u64
+    ensures { result ≡ weight (edit_of change.now) }
+{
+    size_of_text(change.text.as_str())
+}
+
+/// How much of it a change with this text takes.
+fn size_of_text(text: &str) -> u64
+    ensures { result ≡ per_change + byte_len (chars text.now) }
+{
+    PER_CHANGE + text.len() as u64
 }
 
 /// Lets go of the changes of the messages that set versions up to this one.

@@ -7,7 +7,8 @@ ghost use Rattle.lsp_docs.specs.State.{Stands};
 ghost use Rattle.lsp_docs.specs.Taken.{call_view};
 ghost use Rattle.lsp_text.specs.Changes.{edits_of};
 ghost use Rattle.lsp_explain.specs.Bases.{AddedAt, AddedBy, Begun, BegunBy, ChangesOne, KeepsBy};
-ghost use Rattle.lsp_explain.specs.Bases.{SentEdits, held_of, sent_by, sent_edits};
+ghost use Rattle.lsp_explain.specs.Bases.{held_of, sent_by};
+ghost use Rattle.lsp_explain.specs.SentEdits.{SentEdits, sent_edits};
 ghost use Rattle.lsp_explain.specs.Marking.{IsAt};
 
 use crate::trail::base::Base;

@@ -1,5 +1,5 @@
 use Rattle.std.proofs.Common.{◌≡◌, drop}
-use Rattle.lsp_explain.specs.Bases.{sents_view}
+use Rattle.lsp_explain.specs.SentEdits.{sents_view}
 use Rattle.lsp_explain.specs.Fits.{edits_in, made_by}
 use Rattle.lsp_explain.proofs.fits.make_sent.Given as goal
 
