@@ -263,7 +263,7 @@ module _ (base w v : Version) (kept : List Version) (all : List SentEdits) (n : 
       absurd (true≢false (sym h ∙ ap (int_lt m) (since ∙ sym number) ∙ first))
 
   -- nothing was held before
-  held_first : (b : Base) → IsNewBase n t b → later n all ≡ [] → HoldsBase w kept v all b
+  pub held_first : (b : Base) → IsNewBase n t b → later n all ≡ [] → HoldsBase w kept v all b
   held_first b new none = record {
     few = ap are_few new.sent ∙ refl;
     sent = new.sent ∙ sym none ∙ ap (λ m. later m all) (sym new.since);
@@ -274,7 +274,7 @@ module _ (base w v : Version) (kept : List Version) (all : List SentEdits) (n : 
   }
 
   -- these changes of it were held
-  held_again : (old b : Base) → are_few (spec.sent_in old) ≡ true
+  pub held_again : (old b : Base) → are_few (spec.sent_in old) ≡ true
       → later n (spec.sent_in old) ≡ later n all → Begins n t old b → HoldsBase w kept v all b
   held_again old b few same begins = record {
     few = ap are_few begins.sent ∙ few-later n (spec.sent_in old) few;

@@ -1,22 +1,24 @@
 -- What is held under a URI, with something put there.
 use Rattle.std.specs.Borrow.{Bor}
-use Rattle.std.specs.Prelude.{ℕ, ℤ, if◌then◌else◌, option_map, String}
+use Rattle.std.specs.Prelude.{ℕ, ℤ, if◌then◌else◌, length, map, option_map, String}
 use Rattle.std.specs.Global.{Global}
 use Rattle.std.specs.Str.{bytes_eq}
-use Rattle.std.proofs.Common.{◌≡◌, Bool, List, [], Option, Some, None, refl, sym, ap, ◌∙◌, subst}
-use Rattle.std.proofs.lemmas.Option.{none-some}
+use Rattle.std.proofs.Common.{◌≡◌, Bool, true, List, [], ◌∷◌, Option, Some, None, refl, sym, ap, ◌∙◌}
+use Rattle.std.proofs.Common.{arith, inl, inr, subst}
+use Rattle.std.proofs.lemmas.Option.{none-some, same_Some}
 use Rattle.lsp_types.specs.declared.change.Change.{Change}
 use Rattle.lsp_types.specs.declared.change.SyncKind.{SyncKind}
 use Rattle.lsp_types.specs.declared.position.Encoding.{Encoding}
-use Rattle.lsp_docs.specs.Calls.{Bytes}
+use Rattle.lsp_text.specs.Edits.{Edit}
+use Rattle.lsp_docs.specs.Calls.{Bytes, changes}
 use Rattle.lsp_docs.specs.Documents.{Version}
 use Rattle.lsp_docs.specs.Taken.{call_view}
 use Rattle.lsp_docs.specs.declared.call.Call as code
 use Rattle.lsp_docs.specs.declared.call.Call.TheVariants.{Opens, Changes, Closes, Saves, Shows}
 use Rattle.lsp_docs.proofs.Words.{uri_same}
 use Rattle.lsp_survey.proofs.Noting.{PutsUnder}
-use Rattle.lsp_explain.specs.Bases.{AddedBy, ChangesOne, held_of, sent_by}
-use Rattle.lsp_explain.specs.SentEdits.{SentEdits}
+use Rattle.lsp_explain.specs.Bases.{AddedAt, AddedBy, ChangesOne, ClosedBy, held_of, sent_by}
+use Rattle.lsp_explain.specs.SentEdits.{SentEdits, sent_edits}
 use Rattle.lsp_explain.specs.declared.trail.base.Base.{Base}
 
 abbrev pub Entries : Type 0
@@ -43,6 +45,60 @@ none_added uri more kept es none = record {
   own = subst (λ o. AddedBy more kept o o) (sym none) refl;
   others = λ u p. refl;
 }
+
+-- changes are added to those that are held of one
+pub added_there : (uri : Bytes) (more : SentEdits) (kept : List Version) (lost : Bool)
+    (old new : Entries) → ChangesOne uri (AddedAt more lost) old new
+    → ChangesOne uri (AddedBy more kept) old new
+added_there uri more kept lost old new added = record {
+  own = by_old (held_of old uri) (held_of new uri) added.own;
+  others = added.others;
+}
+  where
+    by_old : (o n : Option Base) → AddedAt more lost o n → AddedBy more kept o n
+    by_old None n own = absurd own
+    by_old (Some b) n (one, adds, is, gone) = (one, adds, inl is)
+
+-- of which nothing is held any longer
+pub added_closed : (uri : Bytes) (more : SentEdits) (kept : List Version) (old mid new : Entries)
+    → ChangesOne uri (AddedAt more true) old mid → ChangesOne uri (ClosedBy kept) mid new
+    → ChangesOne uri (AddedBy more kept) old new
+added_closed uri more kept old mid new added closed = record {
+  own = by_old (held_of old uri) (held_of mid uri) (held_of new uri) added.own closed.own;
+  others = λ u p. closed.others u p ∙ added.others u p;
+}
+  where
+    by_old : (o m n : Option Base) → AddedAt more true o m → ClosedBy kept m n
+        → AddedBy more kept o n
+    by_old None m n own after = absurd own
+    by_old (Some b) m n (one, adds, is, gone) (inl same) = (one, adds, inl (same ∙ is))
+    by_old (Some b) m n (one, adds, is, gone) (inr (none, empty)) =
+        (one, adds, inr (none, gone refl, empty))
+
+-- nothing is changed
+pub none_closed : (uri : Bytes) (kept : List Version) (es : Entries)
+    → ChangesOne uri (ClosedBy kept) es es
+none_closed uri kept es = record { own = inl refl; others = λ u p. refl }
+
+-- nothing is held any longer of one of which no version is kept
+pub closed_now : (uri : Bytes) (kept : List Version) (old new : Entries) → kept ≡ []
+    → ChangesOne uri (λ was now. now ≡ None) old new → ChangesOne uri (ClosedBy kept) old new
+closed_now uri kept old new empty closed = record {
+  own = inr (closed.own, empty);
+  others = closed.others;
+}
+
+pub none_numbered : (vs : List Version) → length (map (λ (v : Version). v.number) vs) ≡ 0 → vs ≡ []
+none_numbered [] none = refl
+none_numbered (v ∷ vs) none = absurd (omega arith)
+
+-- the changes that a call sends of its document
+pub sends_own : (uri : Bytes) (enc : Encoding) (kind : SyncKind) (n : ℤ) (cs : List Edit)
+    (more : SentEdits) → sent_by uri (changes enc kind uri n cs) ≡ Some more
+    → sent_edits n cs ≡ more
+sends_own uri enc kind n cs more is =
+    same_Some (sent_edits n cs) more
+    (sym (ap (λ (b : Bool). if b then Some (sent_edits n cs) else None) (uri_same uri)) ∙ is)
 
 -- a call that changes nothing sends no changes
 pub sends_none : (uri : Bytes) (c : code.Call) (more : SentEdits)

@@ -35,7 +35,7 @@ use Rattle.lsp_docs.specs.declared.snapshot.Match.TheVariants.{Equal, Waits, Mis
 use Rattle.lsp_replay.specs.declared.heard.EventPlace.{EventPlace}
 use Rattle.lsp_explain.specs.Bases.{AddedBy, BegunBy, ChangesOne, HoldsAfter, HoldsFrom, HoldsOpen}
 use Rattle.lsp_explain.specs.Bases.{base_in, held_of, later, numbered, revisions, sent_since}
-use Rattle.lsp_explain.specs.SentEdits.{sent_edits, SentEdits}
+use Rattle.lsp_explain.specs.SentEdits.{SentEdits, are_few, sent_edits}
 use Rattle.lsp_explain.specs.Bases as spec
 use Rattle.lsp_explain.specs.History.{KeptCall, kept_call, since_last}
 use Rattle.lsp_explain.specs.Marking.{agreed, at_version, closes as closes_it, finds_equal, found_at}
@@ -134,6 +134,11 @@ kept_less : (m : ℕ) (vs : List Version) (v w : Version) (n : ℤ)
     → (n ≡ w.number) ⊎ (has_number n (last_of m vs) (Some v) ≡ true)
 kept_less m vs v w n has = by_test (list_any (is_at n) (last_of m (vs ++ v ∷ []))) refl
   where
+    old_one : (a b : Bool) → (a || (b || false)) ≡ true → (a || b) ≡ true
+    old_one true b p = refl
+    old_one false true p = refl
+    old_one false false p = p
+
     by_test : (b : Bool) → list_any (is_at n) (last_of m (vs ++ v ∷ [])) ≡ b
         → (n ≡ w.number) ⊎ (has_number n (last_of m vs) (Some v) ≡ true)
     by_test false p =
@@ -144,11 +149,6 @@ kept_less m vs v w n has = by_test (list_any (is_at n) (last_of m (vs ++ v ∷ [
         (ap (list_any (is_at n)) (last-snoc m vs v) ∙ p) in
         inr (old_one (list_any (is_at n) (last_of m vs)) (is_at n v)
         (sym (list_any-append (is_at n) (last_of m vs) (v ∷ [])) ∙ any))
-
-    old_one : (a b : Bool) → (a || (b || false)) ≡ true → (a || b) ≡ true
-    old_one true b p = refl
-    old_one false true p = refl
-    old_one false false p = p
 
 -- nothing is kept with one version more only where nothing ever is
 none_kept : (m : ℕ) (vs : List Version) (v : Version) → last_of m (vs ++ v ∷ []) ≡ [] → m ≡ 0

@@ -1,25 +1,44 @@
 -- The encodings in which the suspects make a text, as the code finds them.
+use Rattle.std.specs.Borrow.{Bor}
 use Rattle.std.specs.Prelude.{int_lt, nat_lt, ◌&&◌, not, filter, if◌then◌else◌, length, map, option_map}
-use Rattle.std.specs.Prelude.{MatchOption, option_and_then, option_to_list, is_some, unwrap_or}
-use Rattle.std.proofs.Common.{◌≡◌, ◌⊎◌, ℕ, Bool, true, false, List, [], ◌∷◌, ◌++◌, Option, Some, None}
-use Rattle.std.proofs.Common.{refl, sym, ap, ◌∙◌, append-nil, subst, true≢false}
+use Rattle.std.specs.Prelude.{MatchOption, option_and_then, option_to_list, is_none, is_some, unwrap_or}
+use Rattle.std.specs.Prelude.{ℤ, Result, Ok, Err}
+use Rattle.std.specs.List.{prefix_len}
+use Rattle.std.specs.Result.{result_ok}
+use Rattle.std.proofs.Common.{◌≡◌, ◌⊎◌, ◌≤◌, ◌<◌, ◌+◌, ℕ, Bool, true, false, List, [], ◌∷◌, ◌++◌, Option}
+use Rattle.std.proofs.Common.{Some, None, refl, sym, ap, ◌∙◌, append-nil, arith, drop, get_or, subst}
+use Rattle.std.proofs.Common.{take, true≢false}
+use Rattle.std.proofs.lemmas.Bool.Decides.{nat_tests}
+use Rattle.std.proofs.lemmas.List.{at_drop_more, take-map}
+use Rattle.lsp_types.specs.declared.change.Change.{Change}
+use Rattle.lsp_types.specs.declared.change.SyncKind.{SyncKind}
 use Rattle.lsp_types.specs.declared.position.Encoding.{Encoding}
+use Rattle.lsp_text.specs.Changes.{edits_of}
 use Rattle.lsp_text.specs.Edits.{Edit}
+use Rattle.lsp_text.specs.SameText.{same_text}
+use Rattle.lsp_text.specs.declared.findings.Findings.{Findings}
+use Rattle.lsp_text.specs.declared.findings.PastEnd.{PastEnd}
 use Rattle.lsp_docs.specs.Calls.{Call, Text}
 use Rattle.lsp_docs.specs.Documents.{Terms, Version}
+use Rattle.lsp_docs.specs.Taken.{call_view}
+use Rattle.lsp_docs.specs.declared.call.Call as code
+use Rattle.lsp_docs.specs.declared.call.Call.TheVariants.{Opens, Changes, Closes, Saves, Shows}
 use Rattle.lsp_facts.specs.DocumentFacts.{fits_fact}
 use Rattle.lsp_facts.specs.Fact.{Fact}
 use Rattle.lsp_facts.specs.TwoTexts.{TwoTexts}
 use Rattle.lsp_verdict.specs.Event.{Event}
-use Rattle.lsp_explain.specs.Bases.{HoldsAny, HoldsFrom, HoldsOpen, base_in, later, sent_in}
-use Rattle.lsp_explain.specs.Bases.{text_in}
-use Rattle.lsp_explain.specs.SentEdits.{SentEdits, are_few}
-use Rattle.lsp_explain.specs.Bases as spec
-use Rattle.lsp_explain.specs.Fits.{edits_in, fits, fits_facts, fitting, fitting_any, fitting_of}
-use Rattle.lsp_explain.specs.Fits.{if_given, is_given}
-use Rattle.lsp_explain.specs.Fits.{listed, made_by, own_edits, suspected, suspects_in}
+use Rattle.lsp_explain.specs.Bases.{HoldsAny, HoldsFrom, HoldsOpen, base_in}
+use Rattle.lsp_explain.specs.Bases.{later, sent_in, text_in}
+use Rattle.lsp_explain.specs.SentEdits.{SentEdits, are_few, sent_view, sents_view}
+use Rattle.lsp_explain.specs.Fits.{AreNamed, AreSuspects, edits_in, fits, fits_facts, fitting}
+use Rattle.lsp_explain.specs.Fits.{fitting_any, fitting_of, if_given, if_named, is_given, is_made}
+use Rattle.lsp_explain.specs.Fits.{is_reached, listed, made, made_by, most_suspects, own_edits}
+use Rattle.lsp_explain.specs.Fits.{reached}
+use Rattle.lsp_explain.specs.Fits.{suspected, suspected_view, suspects_in, text_if}
+use Rattle.lsp_explain.specs.declared.fits.Suspected.{Suspected}
 use Rattle.lsp_explain.specs.declared.suspects.Until.{Until}
 use Rattle.lsp_explain.specs.declared.trail.base.Base.{Base}
+use Rattle.lsp_explain.specs.declared.trail.base.SentChanges.{SentChanges}
 use Rattle.lsp_explain.specs.declared.trail.mark.VersionEvent.{VersionEvent}
 use Rattle.lsp_explain.proofs.LaterChanges.{many-front}
 
@@ -48,7 +67,8 @@ fitting_two terms t other edits p = given_two (is_given terms t edits other) p.0
 pub unsuspected : (base : Version) (limit : Until) (sent : List SentEdits) (call : Call)
     → are_few (later base.number sent) ≡ false → suspected base limit sent call ≡ []
 unsuspected base limit sent call many =
-    ap (λ (b : Bool). if b then _ else [])
+    ap (λ (b : Bool). if b then if_named (edits_in (reached limit (later base.number sent))
+    ++ edits_in (own_edits call)) else [])
     (many-front (later base.number sent) (own_edits call) many)
 
 -- then no encoding is named
@@ -139,3 +159,196 @@ pub unfit : (old : List Fact) (terms : Terms) (before : List Event) (rule : ℕ)
     → old ≡ old ++ fits_facts terms before rule limit call
 unfit old terms before rule limit call none =
     sym (append-nil old) ∙ ap (λ es. old ++ fits_fact es) (sym none)
+
+-- ---- what changes make
+
+pub made_ok : (f : Findings) (r : Result Text ℕ) (b : Bool) (u : Text) → b ≡ is_none f.past_end
+    → r ≡ Ok u → text_if b u ≡ (if is_some f.past_end then None else result_ok r)
+made_ok f r b u is ok =
+    ap (λ (x : Bool). text_if x u) is ∙ by_end f.past_end
+    ∙ ap (λ (x : Result Text ℕ). if is_some f.past_end then None else result_ok x) (sym ok)
+  where
+    by_end : (o : Option PastEnd)
+        → text_if (is_none o) u ≡ (if is_some o then None else result_ok {T = Text} {E = ℕ} (Ok u))
+    by_end None = refl
+    by_end (Some p) = refl
+
+pub made_not : (f : Findings) (r : Result Text ℕ) (u : Text) (rule : ℕ) → r ≡ Err rule
+    → text_if false u ≡ (if is_some f.past_end then None else result_ok r)
+made_not f r u rule fails =
+    by_end (is_some f.past_end)
+    ∙ ap (λ (x : Result Text ℕ). if is_some f.past_end then None else result_ok x) (sym fails)
+  where
+    by_end : (b : Bool) → text_if false u ≡ (if b then None else result_ok {T = Text} {E = ℕ} (Err rule))
+    by_end true = refl
+    by_end false = refl
+
+-- of several messages, one after another
+pub made_by-append : (limit : ℕ) (enc : Encoding) (t : Text) (xs ys : List (List Edit))
+    → made_by limit enc t (xs ++ ys)
+    ≡ option_and_then (λ (u : Text). made_by limit enc u ys) (made_by limit enc t xs)
+made_by-append limit enc t [] ys = refl
+made_by-append limit enc t (edits ∷ xs) ys = by_made (made limit enc t edits)
+    (λ u. made_by-append limit enc u xs ys)
+  where
+    by_made : (o : Option Text)
+        → ((u : Text) → made_by limit enc u (xs ++ ys)
+        ≡ option_and_then (λ (w : Text). made_by limit enc w ys) (made_by limit enc u xs))
+        → option_and_then (λ (u : Text). made_by limit enc u (xs ++ ys)) o
+        ≡ option_and_then (λ (w : Text). made_by limit enc w ys)
+        (option_and_then (λ (u : Text). made_by limit enc u xs) o)
+    by_made None more = refl
+    by_made (Some u) more = more u
+
+-- the changes of the first one could not all be made, or not be made at all
+pub made_none : (limit : ℕ) (enc : Encoding) (t u : Text) (edits : List Edit)
+    (more : List (List Edit)) → text_if false u ≡ made limit enc t edits
+    → text_if false u ≡ made_by limit enc t (edits ∷ more)
+made_none limit enc t u edits more none =
+    ap (option_and_then (λ (w : Text). made_by limit enc w more)) none
+
+-- they could be made
+pub made_some : (limit : ℕ) (enc : Encoding) (t u : Text) (edits : List Edit)
+    (more : List (List Edit)) → text_if true u ≡ made limit enc t edits
+    → made_by limit enc t (edits ∷ more) ≡ made_by limit enc u more
+made_some limit enc t u edits more some =
+    sym (ap (option_and_then (λ (w : Text). made_by limit enc w more)) some)
+
+-- those of a message alone
+pub made_one : (limit : ℕ) (enc : Encoding) (t : Text) (edits : List Edit)
+    → made_by limit enc t (edits ∷ []) ≡ made limit enc t edits
+made_one limit enc t edits = by_made (made limit enc t edits)
+  where
+    by_made : (o : Option Text)
+        → option_and_then (λ (u : Text). made_by limit enc u []) o ≡ o
+    by_made None = refl
+    by_made (Some u) = refl
+
+-- those of earlier messages, and of the call itself
+pub all_made : (limit : ℕ) (enc : Encoding) (t u w : Text) (sent : List (List Edit))
+    (edits : List Edit) (b : Bool) → text_if true u ≡ made_by limit enc t sent
+    → text_if b w ≡ made limit enc u edits
+    → text_if b w ≡ made_by limit enc t (sent ++ edits ∷ [])
+all_made limit enc t u w sent edits b some is =
+    is ∙ sym (made_one limit enc u edits)
+    ∙ ap (option_and_then (λ (x : Text). made_by limit enc x (edits ∷ []))) some
+    ∙ sym (made_by-append limit enc t sent (edits ∷ []))
+
+pub none_made : (limit : ℕ) (enc : Encoding) (t u : Text) (sent more : List (List Edit))
+    → text_if false u ≡ made_by limit enc t sent
+    → text_if false u ≡ made_by limit enc t (sent ++ more)
+none_made limit enc t u sent more none =
+    ap (option_and_then (λ (x : Text). made_by limit enc x more)) none
+    ∙ sym (made_by-append limit enc t sent more)
+
+-- the text that they make is the other one, or they make none
+pub given_so : (terms : Terms) (t u other : Text) (edits : List (List Edit)) (enc : Encoding)
+    → text_if true u ≡ made_by terms.limit enc t edits
+    → same_text terms.line_ends u other ≡ is_given terms t edits other enc
+given_so terms t u other edits enc some = ap (is_made terms.line_ends other) some
+
+pub given_not : (terms : Terms) (t u other : Text) (edits : List (List Edit)) (enc : Encoding)
+    → text_if false u ≡ made_by terms.limit enc t edits
+    → false ≡ is_given terms t edits other enc
+given_not terms t u other edits enc none = ap (is_made terms.line_ends other) none
+
+-- ---- which suspects there are
+
+-- more than are named
+too_many : (edits : List (List Edit)) → 17 < length edits → if_named edits ≡ []
+too_many edits many =
+    ap (λ (b : Bool). if b then [] else edits) (more_so (length edits) many)
+  where
+    more_so : (n : ℕ) → 17 < n → nat_lt most_suspects n ≡ true
+    more_so n many = grind (arith, nat_tests)
+
+not_too_many : (edits : List (List Edit)) → length edits ≤ 17 → if_named edits ≡ edits
+not_too_many edits some =
+    ap (λ (b : Bool). if b then [] else edits) (less_so (length edits) some)
+  where
+    less_so : (n : ℕ) → n ≤ 17 → nat_lt most_suspects n ≡ false
+    less_so n some = grind (arith, nat_tests)
+
+none_either : (b : Bool) (edits : List (List Edit)) → edits ≡ []
+    → (if b then edits else []) ≡ []
+none_either true edits none = none
+none_either false edits none = refl
+
+-- there are more than are named
+pub many_named : (few : Bool) (edits : List (List Edit)) → 17 < length edits → AreNamed few edits None
+many_named few edits many = record { is = none_either few (if_named edits) (too_many edits many) }
+
+-- there are none, or they are not few
+pub none_named : (edits : List (List Edit)) → edits ≡ [] → AreNamed true edits None
+none_named edits none = record { is = ap if_named none }
+
+pub large_named : (few : Bool) (edits : List (List Edit)) → few ≡ false → AreNamed few edits None
+large_named few edits large = record {
+  is = ap (λ (b : Bool). if b then if_named edits else []) large;
+}
+
+-- these
+pub are_named : (few : Bool) (edits : List (List Edit)) (s : Suspected) → few ≡ true
+    → length edits ≤ 17 → (edits ≡ [] → ⊥) → suspected_view s ≡ edits → AreNamed few edits (Some s)
+are_named few edits s all short some are =
+    let same : (if few then if_named edits else []) ≡ edits =
+    ap (λ (b : Bool). if b then if_named edits else []) all ∙ not_too_many edits short in
+    record {
+      is = record { are = are ∙ sym same; some = λ none. some (sym same ∙ none) };
+    }
+
+pub edits-length : (sent : List SentChanges) → length (edits_in (sents_view sent)) ≡ length sent
+edits-length [] = refl
+edits-length (s ∷ sent) = ap (λ n. n + 1) (edits-length sent)
+
+pub not_empty : (xs : List (List Edit)) (x : List Edit) → xs ++ x ∷ [] ≡ [] → ⊥
+not_empty [] x is = cc is
+not_empty (y ∷ xs) x is = cc is
+
+-- a call that changes nothing has no changes
+pub own_none : (c : code.Call)
+    → ((encoding : Encoding) (kind : SyncKind) (u : Bor (List ℕ)) (number : ℤ)
+    (cs : Bor (List Change)) → c ≡ Changes encoding kind u number cs → ⊥)
+    → own_edits (call_view c) ≡ []
+own_none (Opens u number text) not = refl
+own_none (Changes encoding kind u number cs) not = absurd (not encoding kind u number cs refl)
+own_none (Closes u) not = refl
+own_none (Saves u text) not = refl
+own_none (Shows u number text) not = refl
+
+-- those of earlier messages alone
+pub suspects_alone : (limit : Until) (sent : List SentEdits) (call : Call) (o : Option Suspected)
+    → own_edits call ≡ [] → are_few sent ≡ true → AreNamed true (edits_in (reached limit sent)) o
+    → MatchOption o (suspects_in limit sent call ≡ []) (AreSuspects (suspects_in limit sent call))
+suspects_alone limit sent call o none few named =
+    let same : if_named (edits_in (reached limit sent)) ≡ suspects_in limit sent call =
+    sym (ap (λ (es : List SentEdits). if are_few (sent ++ es)
+    then if_named (edits_in (reached limit sent) ++ edits_in es) else []) none
+    ∙ ap (λ (es : List SentEdits). if are_few es
+    then if_named (edits_in (reached limit sent) ++ []) else []) (append-nil sent)
+    ∙ ap (λ (b : Bool). if b then if_named (edits_in (reached limit sent) ++ []) else []) few
+    ∙ ap if_named (append-nil (edits_in (reached limit sent)))) in
+    subst (λ (es : List (List Edit)). MatchOption o (es ≡ []) (AreSuspects es)) same named.is
+
+-- those of the messages from this one on
+pub sents_from : (sent : List SentChanges) (i : ℕ) (s : SentChanges) → i < length sent
+    → s ≡ get_or sent i s
+    → edits_in (sents_view (drop i sent))
+    ≡ edits_of s.changes.items ∷ edits_in (sents_view (drop (i + 1) sent))
+sents_from sent i s lt is =
+    at_drop_more (λ (l : List SentChanges). edits_in (sents_view l)) sent i s lt
+    ∙ ap (λ (x : SentChanges). edits_of x.changes.items
+    ∷ edits_in (sents_view (drop (i + 1) sent))) (sym is)
+
+pub prefix_len-map : {X Y : Type 0} (f : X → Y) (p : Y → Bool) (xs : List X)
+    → prefix_len p (map f xs) ≡ prefix_len (λ x. p (f x)) xs
+prefix_len-map f p [] = refl
+prefix_len-map f p (x ∷ xs) = ap (λ n. if p (f x) then 1 + n else 0) (prefix_len-map f p xs)
+
+-- those up to a version
+pub reached_view : (limit : Until) (sent : List SentChanges)
+    → sents_view (take (prefix_len (λ (s : SentChanges). is_reached limit (sent_view s)) sent) sent)
+    ≡ reached limit (sents_view sent)
+reached_view limit sent =
+    sym (take-map sent_view (prefix_len (λ (s : SentChanges). is_reached limit (sent_view s)) sent) sent)
+    ∙ ap (λ n. take n (sents_view sent)) (sym (prefix_len-map sent_view (is_reached limit) sent))

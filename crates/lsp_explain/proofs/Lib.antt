@@ -20,6 +20,7 @@ pub mod BaseSteps
 pub mod RoomSteps
 pub mod Basing
 pub mod BasingShown
+pub mod BasesHeld
 pub mod Fitting
 pub mod Trails
 pub mod Ending

@@ -2,7 +2,7 @@
 use Rattle.std.specs.Prelude.{◌≡◌, ℕ, ℤ, int_lt, ◌+◌, ◌&&◌, nat_lt, not, Bool, true, false, List, []}
 use Rattle.std.specs.Prelude.{◌∷◌, ◌++◌, filter, length, map, slice_get, if◌then◌else◌, Option}
 use Rattle.std.specs.Prelude.{Some, None, is_some, option_and_then, option_map, option_to_list}
-use Rattle.std.specs.Prelude.{◌||◌, ◌⊎◌, IfNone, MatchOption, String}
+use Rattle.std.specs.Prelude.{◌||◌, ◌⊎◌, IfNone, MatchBool, MatchOption, String}
 use Rattle.std.specs.Global.{Global}
 use Rattle.std.specs.List.{filter_map, find, sum_by}
 use Rattle.std.specs.Str.{bytes_eq}
@@ -231,6 +231,10 @@ AddedAt more lost (Some old) new =
     (b : Base) × AddsTo more old b × (new ≡ Some b) × (lost ≡ true → text_in b ≡ None)
 
 -- nothing is held any longer, where no version is kept
+abbrev pub ClosedBy : List Version → Option Base → Option Base → Type 0
+ClosedBy kept old new = (new ≡ old) ⊎ ((new ≡ None) × (kept ≡ []))
+
+-- this becomes of what is held, or nothing is held any longer, where no version is kept
 abbrev pub AddedBy : SentEdits → List Version → Option Base → Option Base → Type 0
 AddedBy more kept None new = new ≡ None
 AddedBy more kept (Some old) new =
@@ -248,8 +252,8 @@ Begun terms after uri number old new =
 abbrev pub KeepsBy : Terms → List Call → Call → Step → Bool → List (String Global × Base)
     → List (String Global × Base) → Type 0
 KeepsBy terms after call (Reaches number first) equal old new =
-    if first || equal then Begun terms after (uri_of call) number old new
-    else ((more : SentEdits) → sent_by (uri_of call) call ≡ Some more
+    MatchBool (first || equal) (Begun terms after (uri_of call) number old new)
+    ((more : SentEdits) → sent_by (uri_of call) call ≡ Some more
     → ChangesOne (uri_of call) (AddedBy more (kept terms (uri_of call) after)) old new)
 KeepsBy terms after call Closes equal old new = ChangesOne (uri_of call) (λ o n. n ≡ None) old new
 KeepsBy terms after call (Shows number Equal) equal old new =

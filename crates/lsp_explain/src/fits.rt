@@ -12,7 +12,7 @@ ghost use Rattle.lsp_text.specs.Changes.{edits_of};
 ghost use Rattle.lsp_verdict.specs.Event.{calls, Event};
 ghost use Rattle.lsp_verdict.specs.Offences.{kept_of};
 ghost use Rattle.lsp_explain.specs.Bases.{sent_in};
-ghost use Rattle.lsp_explain.specs.SentEdits.{are_few, sent_edits, sents_view};
+ghost use Rattle.lsp_explain.specs.SentEdits.{are_few, sent_edits, sent_view, sents_view};
 ghost use Rattle.lsp_explain.specs.Fits as spec;
 ghost use Rattle.lsp_explain.specs.Fits.{suspected_view, text_if};
 ghost use Rattle.lsp_explain.specs.Trails.{StandsAfter, terms_in};
@@ -23,7 +23,7 @@ use lsp_docs::{Call, Docs, Tried, has_text};
 use lsp_facts::{Facts, texts_of};
 use lsp_rpc::{Encoding, Result};
 use lsp_text::{Lined, TextStore, change_all};
-use lsp_types::Change;
+use lsp_types::{Change, Fault, Memory};
 
 /// The changes that may have made texts differ: those of earlier messages, and of the call that
 /// offends.
@@ -96,7 +96,10 @@ fn with_own<'a>(
         ++ sent_edits number (edits_of changes.now) ∷ [])) (spec.edits_in (sents_view sent.now)
         ++ edits_of changes.now ∷ []) result }
 {
-    if sent.len() >= MOST_NAMED || !base.has_room(changes) {
+    if sent.len() >= MOST_NAMED {
+        return None;
+    }
+    if !base.has_room(changes) {
         return None;
     }
     let own = Some(changes);
@@ -107,7 +110,10 @@ fn with_own<'a>(
 fn few<'a>(sent: &'a [SentChanges]) -> Option<Suspected<'a>>
     ensures { spec.AreNamed true (spec.edits_in (sents_view sent.now)) result }
 {
-    if sent.is_empty() || sent.len() > MOST_NAMED {
+    if sent.is_empty() {
+        return None;
+    }
+    if sent.len() > MOST_NAMED {
         return None;
     }
     let own = None;
@@ -122,17 +128,17 @@ fn up_to(until: Until, sent: &[SentChanges]) -> &[SentChanges]
 }
 
 fn count_up_to(until: Until, sent: &[SentChanges]) -> usize
-    ensures value { result ≡ prefix_len (spec.is_reached until) (sents_view sent.now) }
+    ensures value { result ≡ prefix_len (λ one. spec.is_reached until (sent_view one)) sent.now }
     ensures bound { result ≤ length sent.now }
 {
-    sent.iter()
-        .take_while(|one| is_up_to(until, one.version))
-        .count()
+    sent.iter().take_while(|one| is_up_to(until, one)).count()
 }
 
-fn is_up_to(until: Until, version: i32) -> bool {
+fn is_up_to(until: Until, one: &SentChanges) -> bool
+    ensures { result ≡ spec.is_reached until (sent_view one.now) }
+{
     match until {
-        Until::Version(last) => version <= last,
+        Until::Version(version) => one.version <= version,
         _ => true,
     }
 }
@@ -246,9 +252,9 @@ fn make(made: &mut Lined, encoding: Encoding, changes: &[Change], limit: u64) ->
 {
     match change_all(made, encoding, changes, limit) {
         Ok(found) => Ok(found.past_end.is_none()),
-        Err(failed) => {
-            let _rule = failed.fault.rule()?;
-            Ok(false)
-        }
+        Err(failed) => match failed.fault {
+            Fault::Rule(_) => Ok(false),
+            Fault::Memory => Err(Memory),
+        },
     }
 }

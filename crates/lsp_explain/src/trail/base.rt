@@ -42,10 +42,10 @@ pub(crate) struct Base {
 }
 
 impl Base {
-    ghost use Rattle.std.specs.Prelude.{◌≡◌, ◌++◌, ◌<◌, ◌∷◌, [], OnOk, ℤ, length};
+    ghost use Rattle.std.specs.Prelude.{◌≡◌, ◌++◌, ◌<◌, ◌∷◌, [], None, OnOk, ℤ, length, true};
     ghost use Rattle.lsp_text.specs.Changes.{edits_of};
     ghost use Rattle.lsp_explain.specs.Bases.{AddsTo, BeginsAt, DropsFirst, IsNewBase, IsRoom};
-    ghost use Rattle.lsp_explain.specs.Bases.{LeavesRoom, sent_in};
+    ghost use Rattle.lsp_explain.specs.Bases.{LeavesRoom, sent_in, text_in};
     ghost use Rattle.lsp_explain.specs.SentEdits.{are_few, sent_edits};
 
     /// A text of this version, in which nothing was changed.
@@ -116,6 +116,13 @@ impl Base {
         self.since = first.version;
         self.text = None;
         self.room += size_of_changes(first.changes.as_slice());
+    }
+
+    /// Whether the text is held no longer, where it was held before or not.
+    pub(crate) fn has_lost(&self, was_held: bool) -> bool
+        ensures { result ≡ true → text_in self.now ≡ None }
+    {
+        was_held && self.text.is_none()
     }
 
     /// Whether the changes that are held are few enough with these of one more message.

@@ -6,7 +6,8 @@ ghost use Rattle.lsp_docs.specs.Snapshots.{kept};
 ghost use Rattle.lsp_docs.specs.State.{Stands};
 ghost use Rattle.lsp_docs.specs.Taken.{call_view};
 ghost use Rattle.lsp_text.specs.Changes.{edits_of};
-ghost use Rattle.lsp_explain.specs.Bases.{AddedAt, AddedBy, Begun, BegunBy, ChangesOne, KeepsBy};
+ghost use Rattle.lsp_explain.specs.Bases.{AddedAt, AddedBy, Begun, BegunBy, ChangesOne, ClosedBy};
+ghost use Rattle.lsp_explain.specs.Bases.{KeepsBy};
 ghost use Rattle.lsp_explain.specs.Bases.{held_of, sent_by};
 ghost use Rattle.lsp_explain.specs.SentEdits.{SentEdits, sent_edits};
 ghost use Rattle.lsp_explain.specs.Marking.{IsAt};
@@ -173,11 +174,10 @@ fn add_call(map: &mut BaseMap, docs: &Docs<Lined>, call: Call<'_>) -> Result<()>
     let Some(at) = find(map, uri) else {
         return Ok(());
     };
-    let lost = add_at(map, uri, at, version, changes)?;
-    if lost && docs.kept_versions(uri)?.is_empty() {
-        close(map, uri);
+    if !add_at(map, uri, at, version, changes)? {
+        return Ok(());
     }
-    Ok(())
+    close_unless_kept(map, docs, uri)
 }
 
 /// Adds changes to those of the document there, which has this URI. Answers whether its text is
@@ -191,7 +191,21 @@ fn add_at(map: &mut BaseMap, uri: &str, at: usize, version: i32, changes: &[Chan
     let base = map.get_index_mut(at).unwrap();
     let was_held = base.text.is_some();
     base.add(version, changes)?;
-    Ok(was_held && base.text.is_none())
+    Ok(base.has_lost(was_held))
+}
+
+/// Lets go of what is held of a document of which no earlier version is kept.
+fn close_unless_kept(map: &mut BaseMap, docs: &Docs<Lined>, uri: &str) -> Result<()>
+    ensures { OnOk result ((after : List SpecCall) → Stands docs.now after
+        → ChangesOne uri.now (ClosedBy (kept docs.now.terms uri.now after))
+        map.old.entries map.new.entries) }
+{
+    let kept = docs.kept_versions(uri)?;
+    if !kept.is_empty() {
+        return Ok(());
+    }
+    close(map, uri);
+    Ok(())
 }
 
 /// Where in the map the document of this URI is, if anything is held of it.

@@ -1,4 +1,6 @@
-use Rattle.std.proofs.Common.{Some, refl, subst, sym}
+use Rattle.std.proofs.Common.{Some, refl, subst, sym, w32}
+use Rattle.std.proofs.lemmas.Int.{to_z-of_z}
+use mir.Val.{SFits}
 use Rattle.lsp_survey.proofs.Noting.{puts-key}
 use Rattle.lsp_explain.specs.Bases.{BegunBy}
 use Rattle.lsp_explain.proofs.BasesHeld.{put_one}
@@ -6,6 +8,8 @@ use Rattle.lsp_explain.proofs.trail.bases.begin_first.Goals as goal
 
 pub returns : goal.returns
 returns c =
+    let fits : SFits w32 c.args.version = c.ranges.version in
+    let begun = simp to_z-of_z at c.new.ensures in
     let uri = c.args.uri.now in
     let n = c.args.version in
     let t = c.args.text.content in
@@ -16,4 +20,4 @@ returns c =
     put_one uri (BegunBy n t) (Some base) old new
     (puts-key (λ b. b) (Some base) old new c.in_ok-key.key uri c.in_ok-key.ensures.ok updates.1
     updates.3)
-    (subst (λ o. BegunBy n t o (Some base)) (sym c.requires) (base, refl, c.new.ensures))
+    (subst (λ o. BegunBy n t o (Some base)) (sym c.requires) (base, refl, begun))
