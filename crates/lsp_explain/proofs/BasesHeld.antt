@@ -1,25 +1,29 @@
 -- What is held under a URI, with something put there.
 use Rattle.std.specs.Borrow.{Bor}
-use Rattle.std.specs.Prelude.{ℕ, ℤ, if◌then◌else◌, length, map, option_map, String}
+use Rattle.std.specs.Prelude.{ℕ, ℤ, ◌||◌, if◌then◌else◌, length, map, option_map, String}
+use Rattle.std.specs.Prelude.{MatchBool}
 use Rattle.std.specs.Global.{Global}
 use Rattle.std.specs.Str.{bytes_eq}
-use Rattle.std.proofs.Common.{◌≡◌, Bool, true, List, [], ◌∷◌, Option, Some, None, refl, sym, ap, ◌∙◌}
+use Rattle.std.proofs.Common.{◌≡◌, Bool, true, false, List, [], ◌∷◌, Option, Some, None, refl, sym, ap, ◌∙◌}
 use Rattle.std.proofs.Common.{arith, inl, inr, subst}
 use Rattle.std.proofs.lemmas.Option.{none-some, same_Some}
 use Rattle.lsp_types.specs.declared.change.Change.{Change}
 use Rattle.lsp_types.specs.declared.change.SyncKind.{SyncKind}
 use Rattle.lsp_types.specs.declared.position.Encoding.{Encoding}
 use Rattle.lsp_text.specs.Edits.{Edit}
-use Rattle.lsp_docs.specs.Calls.{Bytes, changes}
-use Rattle.lsp_docs.specs.Documents.{Version}
+use Rattle.lsp_docs.specs.Calls.{Bytes, Call, changes, uri_of}
+use Rattle.lsp_docs.specs.Documents.{Terms, Version}
+use Rattle.lsp_docs.specs.Snapshots.{kept}
 use Rattle.lsp_docs.specs.Taken.{call_view}
 use Rattle.lsp_docs.specs.declared.call.Call as code
 use Rattle.lsp_docs.specs.declared.call.Call.TheVariants.{Opens, Changes, Closes, Saves, Shows}
 use Rattle.lsp_docs.proofs.Words.{uri_same}
 use Rattle.lsp_survey.proofs.Noting.{PutsUnder}
-use Rattle.lsp_explain.specs.Bases.{AddedAt, AddedBy, ChangesOne, ClosedBy, held_of, sent_by}
+use Rattle.lsp_explain.specs.Bases.{AddedAt, AddedBy, Begun, ChangesOne, ClosedBy, KeepsBy}
+use Rattle.lsp_explain.specs.Bases.{held_of, sent_by}
 use Rattle.lsp_explain.specs.SentEdits.{SentEdits, sent_edits}
 use Rattle.lsp_explain.specs.declared.trail.base.Base.{Base}
+use Rattle.lsp_explain.specs.declared.trail.step.Step.TheVariants.{Reaches}
 
 abbrev pub Entries : Type 0
 Entries = List (String Global × Base)
@@ -99,6 +103,26 @@ pub sends_own : (uri : Bytes) (enc : Encoding) (kind : SyncKind) (n : ℤ) (cs :
 sends_own uri enc kind n cs more is =
     same_Some (sent_edits n cs) more
     (sym (ap (λ (b : Bool). if b then Some (sent_edits n cs) else None) (uri_same uri)) ∙ is)
+
+-- a message begins with a text that is known
+pub keeps_known : (terms : Terms) (after : List Call) (call : Call) (n : ℤ) (opens equal : Bool)
+    (old new : Entries) → (opens || equal) ≡ true → Begun terms after (uri_of call) n old new
+    → KeepsBy terms after call (Reaches n opens) equal old new
+keeps_known terms after call n opens equal old new is begun =
+    subst (λ (b : Bool). MatchBool b (Begun terms after (uri_of call) n old new)
+    ((more : SentEdits) → sent_by (uri_of call) call ≡ Some more
+    → ChangesOne (uri_of call) (AddedBy more (kept terms (uri_of call) after)) old new)) (sym is) begun
+
+-- or adds its changes
+pub keeps_added : (terms : Terms) (after : List Call) (call : Call) (n : ℤ) (opens equal : Bool)
+    (old new : Entries) → (opens || equal) ≡ false
+    → ((more : SentEdits) → sent_by (uri_of call) call ≡ Some more
+    → ChangesOne (uri_of call) (AddedBy more (kept terms (uri_of call) after)) old new)
+    → KeepsBy terms after call (Reaches n opens) equal old new
+keeps_added terms after call n opens equal old new is added =
+    subst (λ (b : Bool). MatchBool b (Begun terms after (uri_of call) n old new)
+    ((more : SentEdits) → sent_by (uri_of call) call ≡ Some more
+    → ChangesOne (uri_of call) (AddedBy more (kept terms (uri_of call) after)) old new)) (sym is) added
 
 -- a call that changes nothing sends no changes
 pub sends_none : (uri : Bytes) (c : code.Call) (more : SentEdits)

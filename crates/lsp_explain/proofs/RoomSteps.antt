@@ -1,18 +1,20 @@
 -- How much room the changes of messages take, and what is held while room is made for more.
-use Rattle.std.specs.Prelude.{ℤ, nat_lt, not, ◌&&◌, ◌-◌, filter, is_some, length, map, MatchOption}
+use Rattle.std.specs.Prelude.{ℤ, ◌≤ℤ◌, int_lt, nat_lt, not, ◌&&◌, filter, is_some, length, map}
+use Rattle.std.specs.Prelude.{MatchOption}
 use Rattle.std.specs.Prelude.{IfNone, if◌then◌else◌}
 use Rattle.std.specs.List.{sum_by}
 use Rattle.std.proofs.Common.{◌≡◌, ◌⊎◌, ◌≤◌, ◌<◌, ◌+◌, ℕ, Bool, true, false, List, [], ◌∷◌, ◌++◌, Option}
 use Rattle.std.proofs.Common.{Some, None, refl, sym, ap, ◌∙◌, arith, append_assoc, inl, inr, drop, get_or}
 use Rattle.std.proofs.Common.{subst}
 use Rattle.std.proofs.lemmas.Bool.Decides.{nat_tests}
-use Rattle.std.proofs.lemmas.List.{at_drop_more, length_push}
+use Rattle.std.proofs.lemmas.Int.{ints}
+use Rattle.std.proofs.lemmas.List.{at_drop_more, length_push, map-append}
 use Rattle.std.proofs.lemmas.List.Sums.{sum_by-append, sum_by-cons, sum_by_push}
 use Rattle.lsp_types.specs.declared.change.Change.{Change}
 use Rattle.lsp_text.specs.Changes.{edit_of, edits_of}
 use Rattle.lsp_text.specs.Edits.{Edit}
 use Rattle.lsp_explain.specs.Bases.{AddsTo, DropsFirst, HoldsMore, IsRoom, LeavesRoom, LetsGo}
-use Rattle.lsp_explain.specs.Bases.{Outgrows, sent_in, text_in}
+use Rattle.lsp_explain.specs.Bases.{Outgrows, later, sent_in, text_in}
 use Rattle.lsp_explain.specs.SentEdits.{SentEdits, are_few, edits_size, most_sent, most_size}
 use Rattle.lsp_explain.specs.SentEdits.{sent_edits, sent_size, sent_view, sents_view, total_size}
 use Rattle.lsp_explain.specs.SentEdits.{weight}
@@ -187,3 +189,42 @@ adds_none more edits old now new own leaves since text same =
         text = text;
       });
     }
+
+-- ---- as the messages are held
+
+pub pushed_view : (old new : List SentChanges) (s : SentChanges) (number : ℤ) (edits : List Edit)
+    → new ≡ old ++ s ∷ [] → s.version ≡ number → edits_of s.changes.items ≡ edits
+    → sents_view new ≡ sents_view old ++ sent_edits number edits ∷ []
+pushed_view old new s number edits is own same =
+    ap sents_view is ∙ map-append sent_view old (s ∷ [])
+    ∙ (λ i. sents_view old ++ sent_edits (own i) (same i) ∷ [])
+
+later_view : (n : ℤ) (sent : List SentChanges)
+    → sents_view (filter (λ (s : SentChanges). int_lt n s.version) sent) ≡ later n (sents_view sent)
+later_view n [] = refl
+later_view n (s ∷ sent) = by_test (int_lt n s.version) (later_view n sent)
+  where
+    by_test : (b : Bool)
+        → sents_view (filter (λ (x : SentChanges). int_lt n x.version) sent)
+        ≡ later n (sents_view sent)
+        → sents_view (if b then s ∷ filter (λ (x : SentChanges). int_lt n x.version) sent
+        else filter (λ (x : SentChanges). int_lt n x.version) sent)
+        ≡ (if b then sent_view s ∷ later n (sents_view sent) else later n (sents_view sent))
+    by_test true same = ap (λ (l : List SentEdits). sent_view s ∷ l) same
+    by_test false same = same
+
+-- those after a version
+pub kept_later : (m n : ℤ) (old new : List SentChanges) → m ≡ n
+    → new ≡ filter (λ (s : SentChanges). int_lt m s.version) old
+    → sents_view new ≡ later n (sents_view old)
+kept_later m n old new same is =
+    ap sents_view is ∙ later_view m old ∙ ap (λ k. later k (sents_view old)) same
+
+pub total-kept : (p : SentChanges → Bool) (old new : List SentChanges) → new ≡ filter p old
+    → total_size (sents_view new) ≤ total_size (sents_view old)
+total-kept p old new is =
+    subst (λ (l : List SentChanges). total_size (sents_view l) ≤ total_size (sents_view old)) (sym is)
+    (total-filter p old)
+
+pub not_less : (a b : ℤ) → b ≤ℤ a → int_lt a b ≡ true → ⊥
+not_less a b p q = grind (arith, ints)

@@ -1,5 +1,5 @@
 //! The texts from which documents may have drifted, and the changes since, by URI.
-ghost use Rattle.std.specs.Prelude.{◌≡◌, [], List, None, Some, OnOk, IfNone, IfOk, IfSome};
+ghost use Rattle.std.specs.Prelude.{◌≡◌, ◌||◌, [], List, None, Some, OnOk, IfNone, IfOk, IfSome};
 ghost use Rattle.std.specs.Prelude.{option_map};
 ghost use Rattle.lsp_docs.specs.Calls.{Call as SpecCall, uri_of};
 ghost use Rattle.lsp_docs.specs.Snapshots.{kept};
@@ -73,16 +73,22 @@ impl Bases {
                 Ok(())
             }
             Step::Reaches { version, opens } => {
-                if opens || is_equal {
-                    begin(&mut self.map, docs, call.uri(), version)
-                } else {
-                    add(&mut self.map, docs, call)
+                if is_known(opens, is_equal) {
+                    return begin(&mut self.map, docs, call.uri(), version);
                 }
+                add(&mut self.map, docs, call)
             }
             Step::Shows(version, Match::Equal) => begin(&mut self.map, docs, call.uri(), version),
             Step::Shows(..) => Ok(()),
         }
     }
+}
+
+/// Whether the editor's text is known of the version that is reached.
+fn is_known(opens: bool, is_equal: bool) -> bool
+    ensures { result ≡ (opens || is_equal) }
+{
+    opens || is_equal
 }
 
 /// Begins with the text that the document of a URI has at this version.

@@ -10,5 +10,3 @@ returns-then-is_empty c = λ after stands.
     none_closed c.args.uri.now (kept c.args.docs.now.terms c.args.uri.now after)
     c.args.map.now.entries
 
-pub returns : goal.returns
-returns c = ?
