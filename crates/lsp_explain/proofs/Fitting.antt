@@ -7,7 +7,7 @@ use Rattle.std.specs.List.{prefix_len}
 use Rattle.std.specs.Result.{result_ok}
 use Rattle.std.proofs.Common.{◌≡◌, ◌⊎◌, ◌≤◌, ◌<◌, ◌+◌, ℕ, Bool, true, false, List, [], ◌∷◌, ◌++◌, Option}
 use Rattle.std.proofs.Common.{Some, None, refl, sym, ap, ◌∙◌, append-nil, arith, drop, get_or, subst}
-use Rattle.std.proofs.Common.{take, true≢false}
+use Rattle.std.proofs.Common.{suc, take, true≢false}
 use Rattle.std.proofs.lemmas.Bool.Decides.{nat_tests}
 use Rattle.std.proofs.lemmas.List.{at_drop_more, take-map}
 use Rattle.lsp_types.specs.declared.change.Change.{Change}
@@ -32,7 +32,8 @@ use Rattle.lsp_explain.specs.Bases.{later, sent_in, text_in}
 use Rattle.lsp_explain.specs.SentEdits.{SentEdits, are_few, sent_view, sents_view}
 use Rattle.lsp_explain.specs.Fits.{AreNamed, AreSuspects, edits_in, fits, fits_facts, fitting}
 use Rattle.lsp_explain.specs.Fits.{fitting_any, fitting_of, if_given, if_named, is_given, is_made}
-use Rattle.lsp_explain.specs.Fits.{is_reached, listed, made, made_by, most_suspects, own_edits}
+use Rattle.lsp_explain.specs.Fits.{held_reached, is_reached, listed, made, made_by}
+use Rattle.lsp_explain.specs.Fits.{most_suspects, own_edits}
 use Rattle.lsp_explain.specs.Fits.{reached}
 use Rattle.lsp_explain.specs.Fits.{suspected, suspected_view, suspects_in, text_if}
 use Rattle.lsp_explain.specs.declared.fits.Suspected.{Suspected}
@@ -299,7 +300,7 @@ are_named few edits s all short some are =
 
 pub edits-length : (sent : List SentChanges) → length (edits_in (sents_view sent)) ≡ length sent
 edits-length [] = refl
-edits-length (s ∷ sent) = ap (λ n. n + 1) (edits-length sent)
+edits-length (s ∷ sent) = ap suc (edits-length sent)
 
 pub not_empty : (xs : List (List Edit)) (x : List Edit) → xs ++ x ∷ [] ≡ [] → ⊥
 not_empty [] x is = cc is
@@ -347,8 +348,16 @@ prefix_len-map f p (x ∷ xs) = ap (λ n. if p (f x) then 1 + n else 0) (prefix_
 
 -- those up to a version
 pub reached_view : (limit : Until) (sent : List SentChanges)
-    → sents_view (take (prefix_len (λ (s : SentChanges). is_reached limit (sent_view s)) sent) sent)
-    ≡ reached limit (sents_view sent)
+    → sents_view (held_reached limit sent) ≡ reached limit (sents_view sent)
 reached_view limit sent =
     sym (take-map sent_view (prefix_len (λ (s : SentChanges). is_reached limit (sent_view s)) sent) sent)
     ∙ ap (λ n. take n (sents_view sent)) (sym (prefix_len-map sent_view (is_reached limit) sent))
+
+-- none or some
+pub no_sents : (sent : List SentChanges) → length sent ≡ 0 → edits_in (sents_view sent) ≡ []
+no_sents [] none = refl
+no_sents (s ∷ sent) none = absurd (omega arith)
+
+pub some_sents : (sent : List SentChanges) → 0 < length sent → edits_in (sents_view sent) ≡ [] → ⊥
+some_sents [] some none = omega arith
+some_sents (s ∷ sent) some none = cc none

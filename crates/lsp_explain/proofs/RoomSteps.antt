@@ -1,5 +1,5 @@
 -- How much room the changes of messages take, and what is held while room is made for more.
-use Rattle.std.specs.Prelude.{ℤ, ◌≤ℤ◌, int_lt, nat_lt, not, ◌&&◌, filter, is_some, length, map}
+use Rattle.std.specs.Prelude.{ℤ, int_lt, nat_lt, not, ◌&&◌, filter, is_some, length, map}
 use Rattle.std.specs.Prelude.{MatchOption}
 use Rattle.std.specs.Prelude.{IfNone, if◌then◌else◌}
 use Rattle.std.specs.List.{sum_by}
@@ -7,7 +7,6 @@ use Rattle.std.proofs.Common.{◌≡◌, ◌⊎◌, ◌≤◌, ◌<◌, ◌+◌,
 use Rattle.std.proofs.Common.{Some, None, refl, sym, ap, ◌∙◌, arith, append_assoc, inl, inr, drop, get_or}
 use Rattle.std.proofs.Common.{subst}
 use Rattle.std.proofs.lemmas.Bool.Decides.{nat_tests}
-use Rattle.std.proofs.lemmas.Int.{ints}
 use Rattle.std.proofs.lemmas.List.{at_drop_more, length_push, map-append}
 use Rattle.std.proofs.lemmas.List.Sums.{sum_by-append, sum_by-cons, sum_by_push}
 use Rattle.lsp_types.specs.declared.change.Change.{Change}
@@ -225,6 +224,3 @@ pub total-kept : (p : SentChanges → Bool) (old new : List SentChanges) → new
 total-kept p old new is =
     subst (λ (l : List SentChanges). total_size (sents_view l) ≤ total_size (sents_view old)) (sym is)
     (total-filter p old)
-
-pub not_less : (a b : ℤ) → b ≤ℤ a → int_lt a b ≡ true → ⊥
-not_less a b p q = grind (arith, ints)

@@ -22,9 +22,10 @@ use Rattle.lsp_facts.specs.DocumentFacts.{fits_fact}
 use Rattle.lsp_facts.specs.Fact.{Fact}
 use Rattle.lsp_facts.specs.TwoTexts.{TwoTexts, texts_of}
 use Rattle.lsp_explain.specs.Bases.{base_at, later, sent_since}
-use Rattle.lsp_explain.specs.SentEdits.{SentEdits, are_few, sent_edits, sents_view}
+use Rattle.lsp_explain.specs.SentEdits.{SentEdits, are_few, sent_edits, sent_view, sents_view}
 use Rattle.lsp_explain.specs.declared.fits.Suspected.{Suspected}
 use Rattle.lsp_explain.specs.declared.suspects.Until.{Until}
+use Rattle.lsp_explain.specs.declared.trail.base.SentChanges.{SentChanges}
 use Rattle.lsp_explain.specs.declared.suspects.Until.TheVariants as until
 
 -- ---- the changes that are suspected, message by message
@@ -124,6 +125,10 @@ abbrev pub fits_facts : Terms → List Event → ℕ → Until → Call → List
 fits_facts terms before rule limit call = fits_fact (fits terms before rule limit call)
 
 -- ---- as the code has it
+
+abbrev pub held_reached : Until → List SentChanges → List SentChanges
+held_reached limit sent =
+    take (prefix_len (λ (s : SentChanges). is_reached limit (sent_view s)) sent) sent
 
 abbrev pub listed : Encoding × Encoding → List Encoding
 listed p = p.0 ∷ p.1 ∷ []

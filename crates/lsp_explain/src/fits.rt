@@ -122,7 +122,7 @@ fn few<'a>(sent: &'a [SentChanges]) -> Option<Suspected<'a>>
 
 /// Those of the messages that come no later than the one by which the text came about.
 fn up_to(until: Until, sent: &[SentChanges]) -> &[SentChanges]
-    ensures { sents_view result.now ≡ spec.reached until (sents_view sent.now) }
+    ensures { result.now ≡ spec.held_reached until sent.now }
 {
     &sent[..count_up_to(until, sent)]
 }
