@@ -1,7 +1,7 @@
 -- The encodings in which the suspects make a text, as the code finds them.
 use Rattle.std.specs.Borrow.{Bor}
 use Rattle.std.specs.Prelude.{int_lt, nat_lt, ◌&&◌, not, filter, if◌then◌else◌, length, map, option_map}
-use Rattle.std.specs.Prelude.{MatchOption, option_and_then, option_to_list, is_none, is_some, unwrap_or}
+use Rattle.std.specs.Prelude.{MatchOption, option_and_then, option_to_list, is_some, unwrap_or}
 use Rattle.std.specs.Prelude.{ℤ, Result, Ok, Err}
 use Rattle.std.specs.List.{prefix_len}
 use Rattle.std.specs.Result.{result_ok}
@@ -17,7 +17,6 @@ use Rattle.lsp_text.specs.Changes.{edits_of}
 use Rattle.lsp_text.specs.Edits.{Edit}
 use Rattle.lsp_text.specs.SameText.{same_text}
 use Rattle.lsp_text.specs.declared.findings.Findings.{Findings}
-use Rattle.lsp_text.specs.declared.findings.PastEnd.{PastEnd}
 use Rattle.lsp_docs.specs.Calls.{Call, Text}
 use Rattle.lsp_docs.specs.Documents.{Terms, Version}
 use Rattle.lsp_docs.specs.Taken.{call_view}
@@ -163,16 +162,15 @@ unfit old terms before rule limit call none =
 
 -- ---- what changes make
 
-pub made_ok : (f : Findings) (r : Result Text ℕ) (b : Bool) (u : Text) → b ≡ is_none f.past_end
+pub made_ok : (f : Findings) (r : Result Text ℕ) (b : Bool) (u : Text) → is_some f.past_end ≡ not b
     → r ≡ Ok u → text_if b u ≡ (if is_some f.past_end then None else result_ok r)
 made_ok f r b u is ok =
-    ap (λ (x : Bool). text_if x u) is ∙ by_end f.past_end
+    by_test b (is_some f.past_end) is
     ∙ ap (λ (x : Result Text ℕ). if is_some f.past_end then None else result_ok x) (sym ok)
   where
-    by_end : (o : Option PastEnd)
-        → text_if (is_none o) u ≡ (if is_some o then None else result_ok {T = Text} {E = ℕ} (Ok u))
-    by_end None = refl
-    by_end (Some p) = refl
+    by_test : (x e : Bool) → e ≡ not x → text_if x u ≡ (if e then None else Some u)
+    by_test true e same = sym (ap (λ (y : Bool). if y then None else Some u) same)
+    by_test false e same = sym (ap (λ (y : Bool). if y then None else Some u) same)
 
 pub made_not : (f : Findings) (r : Result Text ℕ) (u : Text) (rule : ℕ) → r ≡ Err rule
     → text_if false u ≡ (if is_some f.past_end then None else result_ok r)

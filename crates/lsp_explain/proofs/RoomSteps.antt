@@ -55,8 +55,12 @@ total-filter p (s ∷ sent) = by_test (p s) (total-filter p sent)
         → total_size (sents_view (if b then s ∷ filter p sent else filter p sent))
         ≤ total_size (sents_view (s ∷ sent))
     by_test true less =
-        omega (arith, less, sum_by-cons sent_size (sent_view s) (sents_view (filter p sent)),
-        sum_by-cons sent_size (sent_view s) (sents_view sent))
+        omega (
+          arith,
+          less,
+          sum_by-cons sent_size (sent_view s) (sents_view (filter p sent)),
+          sum_by-cons sent_size (sent_view s) (sents_view sent),
+        )
     by_test false less =
         omega (arith, less, sum_by-cons sent_size (sent_view s) (sents_view sent))
 
@@ -115,22 +119,22 @@ drops_next edits first now next made many drops =
     (sym drops.all) ∙ many number in
     elim made [
       | inl same ↦ record {
-          front = [];
-          last = drops.first;
-          all = ap sent_in (sym same) ∙ drops.all;
-          many = many_so;
-          since = drops.since;
-          text = drops.text;
-        }
+        front = [];
+        last = drops.first;
+        all = ap sent_in (sym same) ∙ drops.all;
+        many = many_so;
+        since = drops.since;
+        text = drops.text;
+      }
       | inr gone ↦ record {
-          front = gone.front ++ gone.last ∷ [];
-          last = drops.first;
-          all = gone.all ∙ ap (λ (l : List SentEdits). gone.front ++ gone.last ∷ l) drops.all
-              ∙ sym (append_assoc gone.front (gone.last ∷ []) (drops.first ∷ sent_in next));
-          many = many_so;
-          since = drops.since;
-          text = drops.text;
-        }
+        front = gone.front ++ gone.last ∷ [];
+        last = drops.first;
+        all = gone.all ∙ ap (λ (l : List SentEdits). gone.front ++ gone.last ∷ l) drops.all
+            ∙ sym (append_assoc gone.front (gone.last ∷ []) (drops.first ∷ sent_in next));
+        many = many_so;
+        since = drops.since;
+        text = drops.text;
+      }
     ]
 
 -- ---- changes are added
@@ -143,23 +147,23 @@ adds_room more edits left old now new own leaves holds = record {
   few = ap are_few holds.sent ∙ few;
   how = elim leaves.how [
     | inl same ↦ inl (record {
-        since = holds.since ∙ ap (λ (b : Base). b.since) same;
-        text = holds.text ∙ ap text_in same;
-        sent = holds.sent ∙ ap (λ (b : Base). sent_in b ++ more ∷ []) same;
-      })
+      since = holds.since ∙ ap (λ (b : Base). b.since) same;
+      text = holds.text ∙ ap text_in same;
+      sent = holds.sent ∙ ap (λ (b : Base). sent_in b ++ more ∷ []) same;
+    })
     | inr gone ↦ inr (record {
-        front = gone.front;
-        last = gone.last;
-        all = ap (λ (l : List SentEdits). l ++ more ∷ []) gone.all
-            ∙ append_assoc gone.front (gone.last ∷ sent_in now) (more ∷ [])
-            ∙ ap (λ (l : List SentEdits). gone.front ++ gone.last ∷ l) (sym holds.sent);
-        many = ap (λ (l : List SentEdits). are_few (gone.last ∷ l)) holds.sent
-            ∙ ap (λ (es : List Edit). are_few (gone.last ∷ sent_in now
-            ++ sent_edits more.number es ∷ [])) own
-            ∙ gone.many more.number;
-        since = holds.since ∙ gone.since;
-        text = holds.text ∙ gone.text;
-      })
+      front = gone.front;
+      last = gone.last;
+      all = ap (λ (l : List SentEdits). l ++ more ∷ []) gone.all
+          ∙ append_assoc gone.front (gone.last ∷ sent_in now) (more ∷ [])
+          ∙ ap (λ (l : List SentEdits). gone.front ++ gone.last ∷ l) (sym holds.sent);
+      many = ap (λ (l : List SentEdits). are_few (gone.last ∷ l)) holds.sent
+          ∙ ap (λ (es : List Edit). are_few (gone.last ∷ sent_in now
+          ++ sent_edits more.number es ∷ [])) own
+          ∙ gone.many more.number;
+      since = holds.since ∙ gone.since;
+      text = holds.text ∙ gone.text;
+    })
   ];
 }
   where

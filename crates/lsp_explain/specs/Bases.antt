@@ -13,6 +13,7 @@ use Rattle.lsp_docs.specs.Calls.{Bytes, Call, Text, byte_len, changes, uri_of}
 use Rattle.lsp_docs.specs.Documents.{Terms, Version, held, is_at, opening}
 use Rattle.lsp_docs.specs.Rules.{text_at}
 use Rattle.lsp_docs.specs.Snapshots.{has_number, kept, past}
+use Rattle.lsp_docs.specs.declared.snapshot.Match.{Match}
 use Rattle.lsp_docs.specs.declared.snapshot.Match.TheVariants.{Equal}
 use Rattle.lsp_survey.specs.Notes.{held_by}
 use Rattle.lsp_verdict.specs.Event.{calls, Event}
@@ -247,6 +248,12 @@ Begun terms after uri number old new =
     (t : Text) → text_at number (kept terms uri after) (held terms uri after) ≡ Some t
     → ChangesOne uri (BegunBy number t) old new
 
+-- a snapshot of this version, where it is compared, or waits
+abbrev pub ShownBy : Terms → List Call → Bytes → ℤ → Match → List (String Global × Base)
+    → List (String Global × Base) → Type 0
+ShownBy terms after uri number Equal old new = Begun terms after uri number old new
+ShownBy terms after uri number answer old new = new ≡ old
+
 -- what a step makes of what is held, where these are the calls up to the one that does it: by it a
 -- snapshot is found equal or not
 abbrev pub KeepsBy : Terms → List Call → Call → Step → Bool → List (String Global × Base)
@@ -256,6 +263,5 @@ KeepsBy terms after call (Reaches number first) equal old new =
     ((more : SentEdits) → sent_by (uri_of call) call ≡ Some more
     → ChangesOne (uri_of call) (AddedBy more (kept terms (uri_of call) after)) old new)
 KeepsBy terms after call Closes equal old new = ChangesOne (uri_of call) (λ o n. n ≡ None) old new
-KeepsBy terms after call (Shows number Equal) equal old new =
-    Begun terms after (uri_of call) number old new
-KeepsBy terms after call (Shows number answer) equal old new = new ≡ old
+KeepsBy terms after call (Shows number answer) equal old new =
+    ShownBy terms after (uri_of call) number answer old new

@@ -7,7 +7,7 @@ ghost use Rattle.lsp_docs.specs.State.{Stands};
 ghost use Rattle.lsp_docs.specs.Taken.{call_view};
 ghost use Rattle.lsp_text.specs.Changes.{edits_of};
 ghost use Rattle.lsp_explain.specs.Bases.{AddedAt, AddedBy, Begun, BegunBy, ChangesOne, ClosedBy};
-ghost use Rattle.lsp_explain.specs.Bases.{KeepsBy};
+ghost use Rattle.lsp_explain.specs.Bases.{KeepsBy, ShownBy};
 ghost use Rattle.lsp_explain.specs.Bases.{held_of, sent_by};
 ghost use Rattle.lsp_explain.specs.SentEdits.{SentEdits, sent_edits};
 ghost use Rattle.lsp_explain.specs.Marking.{IsAt};
@@ -78,9 +78,20 @@ impl Bases {
                 }
                 add(&mut self.map, docs, call)
             }
-            Step::Shows(version, Match::Equal) => begin(&mut self.map, docs, call.uri(), version),
-            Step::Shows(..) => Ok(()),
+            Step::Shows(version, answer) => show(&mut self.map, docs, call.uri(), version, answer),
         }
+    }
+}
+
+/// Begins with the text of the version of a snapshot that is equal.
+fn show(map: &mut BaseMap, docs: &Docs<Lined>, uri: &str, version: i32, answer: Match) -> Result<()>
+    ensures { OnOk result ((after : List SpecCall) → Stands docs.now after
+        → ShownBy docs.now.terms after uri.now version answer map.old.entries map.new.entries) }
+{
+    match answer {
+        Match::Equal => begin(map, docs, uri, version),
+        Match::Waits => Ok(()),
+        Match::Missed => Ok(()),
     }
 }
 

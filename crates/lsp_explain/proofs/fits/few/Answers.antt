@@ -12,14 +12,14 @@ returns-then-is_empty c =
     let none : length c.args.sent.now ≡ 0 = search (rules, c.is_empty.ensures, c.if-is_empty.true) in
     none_named (edits_in (sents_view c.args.sent.now)) (no_sents c.args.sent.now none)
 
-pub returns-then-len-gt-MOST_NAMED : goal.returns-then-len-gt-MOST_NAMED
-returns-then-len-gt-MOST_NAMED c =
+pub returns-then-sent-gt-MOST_NAMED : goal.returns-then-sent-gt-MOST_NAMED
+returns-then-sent-gt-MOST_NAMED c =
     many_named true (edits_in (sents_view c.args.sent.now))
-    (omega (arith, edits-length c.args.sent.now, c.len.ensures))
+    (omega (arith, edits-length c.args.sent.now))
 
 pub returns : goal.returns
 returns c =
     let some : 0 < length c.args.sent.now = grind (arith, nat_tests) in
     let edits = edits_in (sents_view c.args.sent.now) in
-    are_named true edits _ refl (omega (arith, edits-length c.args.sent.now, c.len.ensures))
+    are_named true edits _ refl (omega (arith, edits-length c.args.sent.now))
     (some_sents c.args.sent.now some) (append-nil edits)

@@ -1,5 +1,5 @@
-use Rattle.std.proofs.Common.{◌∙◌, ap, subst}
-use Rattle.std.specs.Prelude.{is_none}
+use Rattle.std.specs.Prelude.{is_some}
+use Rattle.std.proofs.Common.{◌∙◌, ap, subst, sym}
 use Rattle.lsp_types.specs.declared.fault.Fault.{Fault}
 use Rattle.lsp_text.specs.Changes.{edits_of}
 use Rattle.lsp_text.specs.Edits.{IsFaultOf, applied}
@@ -15,7 +15,7 @@ returns-in-Ok c =
     let cs = edits_of c.args.changes.now in
     made_ok (findings c.args.limit c.args.encoding t cs) (applied c.args.limit c.args.encoding t cs)
     c.is_none.result c.change_all.new.store.content
-    (c.is_none.ensures ∙ ap (λ (f : Findings). is_none f.past_end) c.in-Ok.ensures.found)
+    (sym (ap (λ (f : Findings). is_some f.past_end) c.in-Ok.ensures.found) ∙ c.is_none.ensures)
     c.in-Ok.ensures.ok
 
 -- one is refused

@@ -68,7 +68,7 @@ returns-in_default-suspects_of c = λ before stands breaks tried.
     let is = c.in-Some.ensures
     ∙ ap (held_of c.args.past.trail.now.bases.map.entries) c.uri.ensures in
     let k = known terms equal (past terms uri made) (kept terms uri made) sent
-    (held terms uri made) c.in-Some.base.now c.in-Some-text.text.now.content
+    (held terms uri made) c.in-Some.base.now c.in-Some-text.text.content
     (ap (option_map (λ t. t.content)) c.in-Some-text.is)
     (subst (HoldsAfter terms uri made equal) (sym is) (stands.trail.based uri)) in
     let enc = agreed_encoding (kept_of terms before) in
@@ -106,7 +106,7 @@ returns c = on_ok_weaker c.push_fitting.result (λ said before stands breaks tri
     let is = c.in-Some.ensures
     ∙ ap (held_of c.args.past.trail.now.bases.map.entries) c.uri.ensures in
     let k = known terms equal (past terms uri made) (kept terms uri made) sent
-    (held terms uri made) c.in-Some.base.now c.in-Some-text.text.now.content
+    (held terms uri made) c.in-Some.base.now c.in-Some-text.text.content
     (ap (option_map (λ t. t.content)) c.in-Some-text.is)
     (subst (HoldsAfter terms uri made equal) (sym is) (stands.trail.based uri)) in
     let enc = agreed_encoding kept_events in

@@ -14,10 +14,10 @@ returns c =
     let t = c.args.text.now.content in
     let edits = suspected_view c.args.suspected in
     let other = chars c.args.other.now in
-    let two = c.others.result in
+    let two = c.others-first.result in
     on_ok_weaker c.fitting.result (λ said. said
     ∙ ap (λ es. old ++ fits_fact es)
     (c.as_slice.ensures.value ∙ c.in_ok-push_if_given-2.ensures
     ∙ ap (λ es. es ++ if_given terms t edits other two.1) c.in_ok-push_if_given.ensures
     ∙ fitting_two terms t other edits two
-    ∙ ap (filter (is_given terms t edits other)) c.others.ensures)) c.fitting.ensures
+    ∙ ap (filter (is_given terms t edits other)) c.others-first.ensures)) c.fitting.ensures

@@ -8,12 +8,12 @@ use Rattle.lsp_explain.proofs.Fitting.{are_named, edits-length, large_named, man
 use Rattle.lsp_explain.proofs.fits.with_own.Goals as goal
 
 -- there are as many others as are named
-pub returns-then-len-ge-MOST_NAMED : goal.returns-then-len-ge-MOST_NAMED
-returns-then-len-ge-MOST_NAMED c = λ number.
+pub returns-then-sent-ge-MOST_NAMED : goal.returns-then-sent-ge-MOST_NAMED
+returns-then-sent-ge-MOST_NAMED c = λ number.
     let sent = edits_in (sents_view c.args.sent.now) in
     let edits = edits_of c.args.changes.now in
     many_named (are_few (sent_in c.args.base.now ++ sent_edits number edits ∷ [])) (sent ++ edits ∷ [])
-    (omega (arith, length_push sent edits, edits-length c.args.sent.now, c.len.ensures))
+    (omega (arith, length_push sent edits, edits-length c.args.sent.now))
 
 -- all together are too large
 pub returns-then-not-has_room : goal.returns-then-not-has_room
@@ -29,5 +29,5 @@ returns c = λ number.
     let edits = edits_of c.args.changes.now in
     are_named (are_few (sent_in c.args.base.now ++ sent_edits number edits ∷ []))
     (sent ++ edits ∷ []) _ (sym (c.has_room.ensures number) ∙ c.if-not-has_room.false)
-    (omega (arith, length_push sent edits, edits-length c.args.sent.now, c.len.ensures))
+    (omega (arith, length_push sent edits, edits-length c.args.sent.now))
     (not_empty sent edits) refl

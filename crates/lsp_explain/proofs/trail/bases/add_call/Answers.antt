@@ -22,7 +22,6 @@ returns-in_default-find c = rw c.in-Changes.is (λ after more stands is.
     (kept c.args.docs.now.terms c.in-Changes.uri.now after) c.args.map.now.entries
     c.in_default-find.ensures.none)
 
-
 -- the text stays, or was not held before
 pub returns-then-not-branch : goal.returns-then-not-branch
 returns-then-not-branch c = rw c.in-Changes.is (λ after more stands is.

@@ -4,7 +4,7 @@ use Rattle.std.proofs.lemmas.Result.{on_ok_weaker}
 use mir.Val.{SFits}
 use Rattle.lsp_docs.specs.Calls.{Bytes}
 use Rattle.lsp_docs.specs.Taken.{call_view}
-use Rattle.lsp_explain.specs.Bases.{Begun, ChangesOne, KeepsBy}
+use Rattle.lsp_explain.specs.Bases.{Begun, ChangesOne, KeepsBy, ShownBy}
 use Rattle.lsp_explain.specs.declared.trail.step.Step.{Step}
 use Rattle.lsp_explain.proofs.BasesHeld.{keeps_added, keeps_known}
 use Rattle.lsp_explain.proofs.trail.bases.Bases.keep.Goals as goal
@@ -47,6 +47,16 @@ returns-else-is_known c = on_ok_weaker c.add.result (λ added after stands.
     (sym c.is_known.ensures ∙ c.if-is_known.false) (λ more is. added after more stands is)))
     c.add.ensures
 
--- a snapshot is equal
-pub returns-in-Shows-default-Equal : goal.returns-in-Shows-default-Equal
-returns-in-Shows-default-Equal c = ?
+-- a snapshot is compared, or waits
+pub returns-in-Shows : goal.returns-in-Shows
+returns-in-Shows c =
+    let fits : SFits w32 c.in-Shows.version = search rules in
+    let shows = simp to_z-of_z at c.show.ensures in
+    on_ok_weaker c.show.result (λ shown after stands.
+    let terms = c.args.docs.now.terms in
+    let old = c.args.self.now.map.entries in
+    let new = c.show.new.map.entries in
+    subst (λ (s : Step). KeepsBy terms after (call_view c.args.call) s c.args.is_equal old new)
+    (sym c.in-Shows.is)
+    (subst (λ (u : Bytes). ShownBy terms after u c.in-Shows.version c.in-Shows.answer old new)
+    c.uri-in-Shows.ensures (shown after stands))) shows
