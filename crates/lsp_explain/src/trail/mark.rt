@@ -44,6 +44,8 @@ type WaitMap = BTreeMap<i32, Vec<EventPlace>>;
 pub(crate) struct Mark {
     setters: VecDeque<VersionEvent>,
     rank: u64,
+    /// The event that opened the document.
+    pub(crate) opened: Option<EventPlace>,
     /// The equal snapshot of the greatest version.
     pub(crate) agreed: Option<VersionEvent>,
     waiting: WaitMap,
@@ -57,6 +59,7 @@ impl Mark {
         Mark {
             setters: VecDeque::new(alloc),
             rank: 0,
+            opened: None,
             agreed: None,
             waiting: BTreeMap::new(alloc),
         }
@@ -123,6 +126,7 @@ impl Mark {
         };
         push_within(&mut self.setters, MOST_SETTERS, setter)?;
         self.rank = rank;
+        self.opened = self.opened.or(Some(place));
         Ok(self.meet(version, rank))
     }
 
@@ -132,6 +136,7 @@ impl Mark {
     fn meet(&mut self, version: i32, rank: u64) -> bool
         ensures setters { self.new.setters ≡ self.old.setters }
         ensures rank { self.new.rank ≡ self.old.rank }
+        ensures opened { self.new.opened ≡ self.old.opened }
         ensures agreed { self.new.agreed ≡ newer_of self.old.agreed (last_shown version rank
             (waiting_in self.old.waiting.entries version)) }
         ensures waiting { (number : ℤ) → waiting_in self.new.waiting.entries number

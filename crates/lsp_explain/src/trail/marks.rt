@@ -4,8 +4,9 @@ ghost use Rattle.lsp_docs.specs.Documents.{Terms};
 ghost use Rattle.lsp_replay.specs.declared.heard.EventPlace.{EventPlace as Place};
 ghost use Rattle.lsp_verdict.specs.Event.{Event};
 ghost use Rattle.lsp_explain.specs.History.{is_closing};
-ghost use Rattle.lsp_explain.specs.Marking.{agreed, recent, steps, unmarked, waiting_for, AreMarks};
-ghost use Rattle.lsp_explain.specs.Marking.{IsAt, MarkedBy, StepsOn, finds_equal, marked_in};
+ghost use Rattle.lsp_explain.specs.Marking.{agreed, opened, recent, steps, unmarked, waiting_for};
+ghost use Rattle.lsp_explain.specs.Marking.{AreMarks, IsAt, MarkedBy, StepsOn, finds_equal};
+ghost use Rattle.lsp_explain.specs.Marking.{marked_in};
 
 use crate::trail::mark::{Mark, VersionEvent};
 use crate::trail::step::Step;
@@ -53,6 +54,17 @@ impl Marks {
         match self.map.get(uri) {
             Some(mark) => mark.setters(alloc),
             None => Ok(Vec::new(alloc)),
+        }
+    }
+
+    /// The event that opened the document of a URI; none where it isn't open.
+    pub(crate) fn opened(&self, uri: &str) -> Option<EventPlace>
+        ensures { (terms : Terms) (events : List Event) → AreMarks terms self.now.map.entries events
+            → result ≡ opened (steps terms uri.now events) }
+    {
+        match self.map.get(uri) {
+            Some(mark) => mark.opened,
+            None => None,
         }
     }
 
