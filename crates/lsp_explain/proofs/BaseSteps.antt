@@ -1,12 +1,9 @@
 -- What is held of the text from which one document may have drifted, with one change or text more.
-use Rattle.std.specs.Prelude.{ℤ, int_lt, if◌then◌else◌, option_and_then, option_map}
-use Rattle.std.specs.Prelude.{slice_get, option_to_list, MatchOption}
-use Rattle.std.specs.List.{find, list_all, list_any}
+use Rattle.std.specs.Prelude.{ℤ, int_lt, if◌then◌else◌, MatchOption}
+use Rattle.std.specs.List.{find, list_all}
 use Rattle.std.specs.Option.{option_or}
-use Rattle.std.specs.Ordering.{int_eq}
-use Rattle.std.proofs.Common.{◌≡◌, ◌⊎◌, ℕ, Bool, true, false, List, [], ◌∷◌, ◌++◌, Option, Some, None}
-use Rattle.std.proofs.Common.{refl, sym, ap, ◌∙◌, arith, append_assoc, append-nil, inl, inr, subst}
-use Rattle.std.proofs.Common.{true≢false}
+use Rattle.std.proofs.Common.{◌≡◌, ◌⊎◌, Bool, true, false, List, [], ◌∷◌, ◌++◌, Option, Some, None}
+use Rattle.std.proofs.Common.{refl, sym, ap, ◌∙◌, arith, append_assoc, inl, inr, subst, true≢false}
 use Rattle.std.proofs.lemmas.Bool.{and_parts}
 use Rattle.std.proofs.lemmas.Int.{ints}
 use Rattle.std.proofs.lemmas.List.Folds.{find-append}
@@ -17,16 +14,15 @@ use Rattle.lsp_docs.specs.Documents.{Terms, Version, is_after, is_at}
 use Rattle.lsp_docs.specs.Laws.{rises}
 use Rattle.lsp_docs.specs.Rules.{text_in}
 use Rattle.lsp_docs.specs.Snapshots.{has_number}
-use Rattle.lsp_explain.specs.Bases.{AddedBy, AddsTo, Begins, BeginsAt, BegunBy, HoldsBase}
-use Rattle.lsp_explain.specs.Bases.{HoldsFrom, HoldsMore, HoldsNothing, HoldsOpen, IsNewBase}
-use Rattle.lsp_explain.specs.Bases.{MayBeEqual, Outgrows, base_in, later, numbered}
+use Rattle.lsp_explain.specs.Bases.{AddedBy, AddsTo, Begins, HoldsBase, HoldsFrom, HoldsMore}
+use Rattle.lsp_explain.specs.Bases.{IsNewBase, MayBeEqual, Outgrows, base_in, later, numbered}
 use Rattle.lsp_explain.specs.SentEdits.{SentEdits, are_few}
 use Rattle.lsp_explain.specs.Bases as spec
 use Rattle.lsp_explain.specs.declared.trail.base.Base.{Base}
 use Rattle.lsp_explain.specs.declared.trail.mark.VersionEvent.{VersionEvent}
-use Rattle.lsp_explain.proofs.LaterChanges.{AreRising, AreWithin, few-later, itself, later-append, later_all}
-use Rattle.lsp_explain.proofs.LaterChanges.{later_behind, later_last, later_later, later_none}
-use Rattle.lsp_explain.proofs.LaterChanges.{later_with, many-back, many-front, not_before, reaches}
+use Rattle.lsp_explain.proofs.LaterChanges.{AreRising, AreWithin, few-later, itself, later-append}
+use Rattle.lsp_explain.proofs.LaterChanges.{later_all, later_behind, later_last, later_with}
+use Rattle.lsp_explain.proofs.LaterChanges.{many-back, many-front, not_before, reaches}
 
 -- ---- the version from which a document may have drifted
 

@@ -1,11 +1,9 @@
 -- What is held under a URI, with something put there.
 use Rattle.std.specs.Borrow.{Bor}
-use Rattle.std.specs.Prelude.{ℕ, ℤ, ◌||◌, if◌then◌else◌, length, map, option_map, String}
-use Rattle.std.specs.Prelude.{MatchBool}
+use Rattle.std.specs.Prelude.{ℕ, ℤ, ◌||◌, if◌then◌else◌, length, map, option_map, String, MatchBool}
 use Rattle.std.specs.Global.{Global}
-use Rattle.std.specs.Str.{bytes_eq}
-use Rattle.std.proofs.Common.{◌≡◌, Bool, true, false, List, [], ◌∷◌, Option, Some, None, refl, sym, ap, ◌∙◌}
-use Rattle.std.proofs.Common.{arith, inl, inr, subst}
+use Rattle.std.proofs.Common.{◌≡◌, Bool, true, false, List, [], ◌∷◌, Option, Some, None, refl, sym}
+use Rattle.std.proofs.Common.{ap, ◌∙◌, arith, inl, inr, subst}
 use Rattle.std.proofs.lemmas.Option.{none-some, same_Some}
 use Rattle.lsp_types.specs.declared.change.Change.{Change}
 use Rattle.lsp_types.specs.declared.change.SyncKind.{SyncKind}
@@ -19,8 +17,8 @@ use Rattle.lsp_docs.specs.declared.call.Call as code
 use Rattle.lsp_docs.specs.declared.call.Call.TheVariants.{Opens, Changes, Closes, Saves, Shows}
 use Rattle.lsp_docs.proofs.Words.{uri_same}
 use Rattle.lsp_survey.proofs.Noting.{PutsUnder}
-use Rattle.lsp_explain.specs.Bases.{AddedAt, AddedBy, Begun, ChangesOne, ClosedBy, KeepsBy}
-use Rattle.lsp_explain.specs.Bases.{held_of, sent_by}
+use Rattle.lsp_explain.specs.Bases.{AddedAt, AddedBy, Begun, ChangesOne, ClosedBy, KeepsBy, held_of}
+use Rattle.lsp_explain.specs.Bases.{sent_by}
 use Rattle.lsp_explain.specs.SentEdits.{SentEdits, sent_edits}
 use Rattle.lsp_explain.specs.declared.trail.base.Base.{Base}
 use Rattle.lsp_explain.specs.declared.trail.step.Step.TheVariants.{Reaches}

@@ -1,56 +1,51 @@
 -- What is held of the texts from which documents may have drifted, with one call more.
-use Rattle.std.specs.Prelude.{ℤ, int_lt, ◌||◌, ◌-◌, if◌then◌else◌, option_map, option_to_list, length}
-use Rattle.std.specs.Prelude.{drop, filter, is_some, IfSome, String}
+use Rattle.std.specs.Prelude.{ℤ, int_lt, ◌||◌, ◌-◌, if◌then◌else◌, option_map, option_to_list}
+use Rattle.std.specs.Prelude.{length, drop, filter, is_some, IfSome, String}
 use Rattle.std.specs.Global.{Global}
-use Rattle.std.specs.List.{find, list_all, list_any}
+use Rattle.std.specs.List.{find, list_any}
 use Rattle.std.specs.Ordering.{int_eq}
 use Rattle.std.specs.Str.{bytes_eq}
-use Rattle.std.proofs.Common.{◌≡◌, ◌≤◌, ◌<◌, ◌+◌, ◌⊎◌, ℕ, zero, suc, Bool, true, false, List, [], ◌∷◌}
-use Rattle.std.proofs.Common.{◌++◌, Option, Some, None, refl, sym, ap, ◌∙◌, arith, append-nil, inl, inr}
+use Rattle.std.proofs.Common.{◌≡◌, ◌+◌, ◌⊎◌, ℕ, zero, suc, Bool, true, false, List, [], ◌∷◌, ◌++◌}
+use Rattle.std.proofs.Common.{Option, Some, None, refl, sym, ap, ◌∙◌, arith, append-nil, inl, inr}
 use Rattle.std.proofs.Common.{subst, append_assoc, take, true≢false}
 use Rattle.std.proofs.Math.Bool.{or-true}
-use Rattle.std.proofs.lemmas.Bool.{and_parts}
 use Rattle.std.proofs.lemmas.Int.{ints}
 use Rattle.std.proofs.lemmas.List.{length_push, length-drop, take-append-drop}
 use Rattle.std.proofs.lemmas.List.Elements.{filter-append}
 use Rattle.std.proofs.lemmas.List.Folds.{list_any-append}
-use Rattle.std.proofs.lemmas.Option.{none-some, same_Some}
 use Rattle.lsp_docs.proofs.Accepted.{accepted-split}
 use Rattle.lsp_docs.proofs.HeldSteps.{held-snoc, next_held}
-use Rattle.lsp_docs.proofs.Past.{nothing-past, past-rises-to, past-same, reached-number}
-use Rattle.lsp_docs.proofs.Rising.{last-empty, last-none, last-snoc}
+use Rattle.lsp_docs.proofs.Past.{nothing-past, past-rises-to, past-same}
+use Rattle.lsp_docs.proofs.Rising.{last-empty, last-snoc}
 use Rattle.lsp_docs.proofs.WaitingSteps.{none_row}
 use Rattle.lsp_docs.proofs.Words.{int_is, less_behind, no_some, uri_flip, uri_is, uri_same}
 use Rattle.lsp_types.specs.declared.change.SyncKind.{SyncKind}
 use Rattle.lsp_types.specs.declared.position.Encoding.{Encoding}
 use Rattle.lsp_text.specs.Edits.{Edit}
-use Rattle.lsp_docs.specs.Calls.{Bytes, Call, Text, changes, closes, opens, saves, shows, uri_of}
-use Rattle.lsp_docs.specs.Documents.{Terms, Version, held, is_after, is_at, versioned}
+use Rattle.lsp_docs.specs.Calls.{Bytes, Call, Text, changes, closes, opens, uri_of}
+use Rattle.lsp_docs.specs.Documents.{Terms, Version, held, is_at, versioned}
 use Rattle.lsp_docs.specs.Laws.{rises}
 use Rattle.lsp_docs.specs.Rules.{AreAccepted, call_rule, text_at}
-use Rattle.lsp_docs.specs.Snapshots.{has_number, is_ahead, kept, last_of, past}
-use Rattle.lsp_docs.specs.Stored.{answer_of}
-use Rattle.lsp_docs.specs.declared.snapshot.Match.{Match}
-use Rattle.lsp_docs.specs.declared.snapshot.Match.TheVariants.{Equal, Waits, Missed}
+use Rattle.lsp_docs.specs.Snapshots.{has_number, kept, last_of, past}
 use Rattle.lsp_replay.specs.declared.heard.EventPlace.{EventPlace}
 use Rattle.lsp_explain.specs.Bases.{AddedBy, BegunBy, ChangesOne, HoldsAfter, HoldsFrom, HoldsOpen}
 use Rattle.lsp_explain.specs.Bases.{base_in, held_of, later, numbered, revisions, sent_since}
 use Rattle.lsp_explain.specs.SentEdits.{SentEdits, are_few, sent_edits}
 use Rattle.lsp_explain.specs.Bases as spec
 use Rattle.lsp_explain.specs.History.{KeptCall, kept_call, since_last}
-use Rattle.lsp_explain.specs.Marking.{agreed, at_version, closes as closes_it, finds_equal, found_at}
-use Rattle.lsp_explain.specs.Marking.{is_about, marked, newer_of, rank_of, recent, standing}
+use Rattle.lsp_explain.specs.Marking.{agreed, at_version, closes as closes_it, finds_equal}
+use Rattle.lsp_explain.specs.Marking.{found_at, is_about, marked, newer_of, standing}
 use Rattle.lsp_explain.specs.declared.trail.base.Base.{Base}
 use Rattle.lsp_explain.specs.declared.trail.mark.VersionEvent.{VersionEvent}
-use Rattle.lsp_explain.specs.declared.trail.step.Step.TheVariants.{Closes, Reaches, Shows}
-use Rattle.lsp_explain.proofs.BaseSteps.{base_first, base_stays, found_is, found_passes, held_again}
-use Rattle.lsp_explain.proofs.BaseSteps.{held_changed, held_first, held_moved, numbered-last}
+use Rattle.lsp_explain.specs.declared.trail.step.Step.TheVariants.{Closes, Reaches}
+use Rattle.lsp_explain.proofs.BaseSteps.{base_stays, found_is, held_again, held_changed, held_first}
+use Rattle.lsp_explain.proofs.BaseSteps.{numbered-last}
 use Rattle.lsp_explain.proofs.History.{since_last-push}
-use Rattle.lsp_explain.proofs.LaterChanges.{AreRising, AreWithin, earlier, itself, later-append}
-use Rattle.lsp_explain.proofs.LaterChanges.{later_later, later_none, not_before}
+use Rattle.lsp_explain.proofs.LaterChanges.{AreRising, AreWithin, itself, later-append, later_later}
+use Rattle.lsp_explain.proofs.LaterChanges.{later_none, not_before}
 use Rattle.lsp_explain.proofs.Marking.{agreed-push, newer_none}
-use Rattle.lsp_explain.proofs.SentChanges.{IsChanged, Leaves, changed_so, leaves_other, leaves_saved}
-use Rattle.lsp_explain.proofs.SentChanges.{leaves_shown, sent_opened, sent_rise, sent_same}
+use Rattle.lsp_explain.proofs.SentChanges.{IsChanged, Leaves, changed_so, leaves_other, sent_opened}
+use Rattle.lsp_explain.proofs.SentChanges.{sent_rise}
 
 abbrev pub Entries : Type 0
 Entries = List (String Global × Base)

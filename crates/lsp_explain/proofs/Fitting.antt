@@ -1,13 +1,12 @@
 -- The encodings in which the suspects make a text, as the code finds them.
 use Rattle.std.specs.Borrow.{Bor}
-use Rattle.std.specs.Prelude.{int_lt, nat_lt, ◌&&◌, not, filter, if◌then◌else◌, length, map, option_map}
-use Rattle.std.specs.Prelude.{MatchOption, option_and_then, option_to_list, is_some, unwrap_or}
-use Rattle.std.specs.Prelude.{ℤ, Result, Ok, Err}
+use Rattle.std.specs.Prelude.{int_lt, nat_lt, not, filter, if◌then◌else◌, length, map, MatchOption}
+use Rattle.std.specs.Prelude.{option_and_then, option_to_list, is_some, ℤ, Result, Ok, Err}
 use Rattle.std.specs.List.{prefix_len}
 use Rattle.std.specs.Result.{result_ok}
-use Rattle.std.proofs.Common.{◌≡◌, ◌⊎◌, ◌≤◌, ◌<◌, ◌+◌, ℕ, Bool, true, false, List, [], ◌∷◌, ◌++◌, Option}
-use Rattle.std.proofs.Common.{Some, None, refl, sym, ap, ◌∙◌, append-nil, arith, drop, get_or, subst}
-use Rattle.std.proofs.Common.{suc, take, true≢false}
+use Rattle.std.proofs.Common.{◌≡◌, ◌≤◌, ◌<◌, ◌+◌, ℕ, Bool, true, false, List, [], ◌∷◌, ◌++◌, Option}
+use Rattle.std.proofs.Common.{Some, None, refl, sym, ap, ◌∙◌, append-nil, arith, drop, get_or}
+use Rattle.std.proofs.Common.{subst, suc, take}
 use Rattle.std.proofs.lemmas.Bool.Decides.{nat_tests}
 use Rattle.std.proofs.lemmas.List.{at_drop_more, take-map}
 use Rattle.lsp_types.specs.declared.change.Change.{Change}
@@ -26,15 +25,13 @@ use Rattle.lsp_facts.specs.DocumentFacts.{fits_fact}
 use Rattle.lsp_facts.specs.Fact.{Fact}
 use Rattle.lsp_facts.specs.TwoTexts.{TwoTexts}
 use Rattle.lsp_verdict.specs.Event.{Event}
-use Rattle.lsp_explain.specs.Bases.{HoldsAny, HoldsFrom, HoldsOpen, base_in}
-use Rattle.lsp_explain.specs.Bases.{later, sent_in, text_in}
+use Rattle.lsp_explain.specs.Bases.{HoldsAny, base_in, later, sent_in, text_in}
 use Rattle.lsp_explain.specs.SentEdits.{SentEdits, are_few, sent_view, sents_view}
 use Rattle.lsp_explain.specs.Fits.{AreNamed, AreSuspects, edits_in, fits, fits_facts, fitting}
 use Rattle.lsp_explain.specs.Fits.{fitting_any, fitting_of, if_given, if_named, is_given, is_made}
-use Rattle.lsp_explain.specs.Fits.{held_reached, is_reached, listed, made, made_by}
-use Rattle.lsp_explain.specs.Fits.{most_suspects, own_edits}
-use Rattle.lsp_explain.specs.Fits.{reached}
-use Rattle.lsp_explain.specs.Fits.{suspected, suspected_view, suspects_in, text_if}
+use Rattle.lsp_explain.specs.Fits.{held_reached, is_reached, listed, made, made_by, most_suspects}
+use Rattle.lsp_explain.specs.Fits.{own_edits, reached, suspected, suspected_view, suspects_in}
+use Rattle.lsp_explain.specs.Fits.{text_if}
 use Rattle.lsp_explain.specs.declared.fits.Suspected.{Suspected}
 use Rattle.lsp_explain.specs.declared.suspects.Until.{Until}
 use Rattle.lsp_explain.specs.declared.trail.base.Base.{Base}

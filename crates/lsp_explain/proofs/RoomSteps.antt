@@ -1,19 +1,17 @@
 -- How much room the changes of messages take, and what is held while room is made for more.
-use Rattle.std.specs.Prelude.{ℤ, int_lt, nat_lt, not, ◌&&◌, filter, is_some, length, map}
-use Rattle.std.specs.Prelude.{MatchOption}
-use Rattle.std.specs.Prelude.{IfNone, if◌then◌else◌}
-use Rattle.std.specs.List.{sum_by}
-use Rattle.std.proofs.Common.{◌≡◌, ◌⊎◌, ◌≤◌, ◌<◌, ◌+◌, ℕ, Bool, true, false, List, [], ◌∷◌, ◌++◌, Option}
-use Rattle.std.proofs.Common.{Some, None, refl, sym, ap, ◌∙◌, arith, append_assoc, inl, inr, drop, get_or}
-use Rattle.std.proofs.Common.{subst}
+use Rattle.std.specs.Prelude.{ℤ, int_lt, nat_lt, not, ◌&&◌, filter, is_some, length, MatchOption}
+use Rattle.std.specs.Prelude.{if◌then◌else◌}
+use Rattle.std.proofs.Common.{◌≡◌, ◌⊎◌, ◌≤◌, ◌<◌, ◌+◌, ℕ, Bool, true, false, List, [], ◌∷◌, ◌++◌}
+use Rattle.std.proofs.Common.{Option, Some, None, refl, sym, ap, ◌∙◌, arith, append_assoc, inl, inr}
+use Rattle.std.proofs.Common.{drop, get_or, subst}
 use Rattle.std.proofs.lemmas.Bool.Decides.{nat_tests}
 use Rattle.std.proofs.lemmas.List.{at_drop_more, length_push, map-append}
-use Rattle.std.proofs.lemmas.List.Sums.{sum_by-append, sum_by-cons, sum_by_push}
+use Rattle.std.proofs.lemmas.List.Sums.{sum_by-cons, sum_by_push}
 use Rattle.lsp_types.specs.declared.change.Change.{Change}
 use Rattle.lsp_text.specs.Changes.{edit_of, edits_of}
 use Rattle.lsp_text.specs.Edits.{Edit}
 use Rattle.lsp_explain.specs.Bases.{AddsTo, DropsFirst, HoldsMore, IsRoom, LeavesRoom, LetsGo}
-use Rattle.lsp_explain.specs.Bases.{Outgrows, later, sent_in, text_in}
+use Rattle.lsp_explain.specs.Bases.{later, sent_in, text_in}
 use Rattle.lsp_explain.specs.SentEdits.{SentEdits, are_few, edits_size, most_sent, most_size}
 use Rattle.lsp_explain.specs.SentEdits.{sent_edits, sent_size, sent_view, sents_view, total_size}
 use Rattle.lsp_explain.specs.SentEdits.{weight}

@@ -1,15 +1,14 @@
 -- From which text a document may have drifted, and what changed it since.
-use Rattle.std.specs.Prelude.{◌≡◌, ℕ, ℤ, int_lt, ◌+◌, ◌&&◌, nat_lt, not, Bool, true, false, List, []}
-use Rattle.std.specs.Prelude.{◌∷◌, ◌++◌, filter, length, map, slice_get, if◌then◌else◌, Option}
-use Rattle.std.specs.Prelude.{Some, None, is_some, option_and_then, option_map, option_to_list}
-use Rattle.std.specs.Prelude.{◌||◌, ◌⊎◌, IfNone, MatchBool, MatchOption, String}
+use Rattle.std.specs.Prelude.{◌≡◌, ℕ, ℤ, int_lt, ◌+◌, Bool, true, false, List, [], ◌∷◌, ◌++◌}
+use Rattle.std.specs.Prelude.{filter, slice_get, if◌then◌else◌, Option, Some, None, is_some}
+use Rattle.std.specs.Prelude.{option_and_then, option_map, option_to_list, ◌||◌, ◌⊎◌, IfNone}
+use Rattle.std.specs.Prelude.{MatchBool, MatchOption, String}
 use Rattle.std.specs.Global.{Global}
-use Rattle.std.specs.List.{filter_map, find, sum_by}
+use Rattle.std.specs.List.{filter_map, find}
 use Rattle.std.specs.Str.{bytes_eq}
-use Rattle.lsp_text.specs.Changes.{edits_of}
 use Rattle.lsp_text.specs.Counted.{Counted}
 use Rattle.lsp_text.specs.Edits.{Edit}
-use Rattle.lsp_docs.specs.Calls.{Bytes, Call, Text, byte_len, changes, uri_of}
+use Rattle.lsp_docs.specs.Calls.{Bytes, Call, Text, changes, uri_of}
 use Rattle.lsp_docs.specs.Documents.{Terms, Version, held, is_at, opening}
 use Rattle.lsp_docs.specs.Rules.{text_at}
 use Rattle.lsp_docs.specs.Snapshots.{has_number, kept, past}

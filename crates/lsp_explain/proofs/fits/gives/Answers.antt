@@ -1,5 +1,5 @@
 use Rattle.std.specs.Str.{chars}
-use Rattle.std.proofs.Common.{◌≡◌, ◌∙◌, true, false, ap, sym}
+use Rattle.std.proofs.Common.{◌∙◌, true, false, ap, sym}
 use Rattle.lsp_text.specs.SameText.{same_text}
 use Rattle.lsp_explain.specs.Fits.{made_by, suspected_view, text_if}
 use Rattle.lsp_explain.proofs.Fitting.{given_not, given_so}

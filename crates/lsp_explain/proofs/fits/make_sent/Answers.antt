@@ -1,4 +1,4 @@
-use Rattle.std.proofs.Common.{◌≡◌, ◌∷◌, ◌+◌, ◌∙◌, true, false, arith, ap, drop, sym}
+use Rattle.std.proofs.Common.{◌≡◌, ◌+◌, ◌∙◌, true, false, arith, ap, drop, sym}
 use Rattle.lsp_text.specs.Changes.{edits_of}
 use Rattle.lsp_explain.specs.Fits.{edits_in, made, made_by, text_if}
 use Rattle.lsp_explain.specs.SentEdits.{sents_view}

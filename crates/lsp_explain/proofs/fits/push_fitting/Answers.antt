@@ -19,5 +19,7 @@ returns c =
     ∙ ap (λ es. old ++ fits_fact es)
     (c.as_slice.ensures.value ∙ c.in_ok-push_if_given-2.ensures
     ∙ ap (λ es. es ++ if_given terms t edits other two.1) c.in_ok-push_if_given.ensures
+    ∙ ap (λ es. es ++ if_given terms t edits other two.0 ++ if_given terms t edits other two.1)
+    c.new-names.ensures.items
     ∙ fitting_two terms t other edits two
     ∙ ap (filter (is_given terms t edits other)) c.others-first.ensures)) c.fitting.ensures

@@ -2,7 +2,6 @@ use Rattle.std.proofs.Common.{◌≤◌, ◌∙◌, arith, ap, refl, rules, sym,
 use Rattle.std.proofs.lemmas.Int.{to_z-of_z}
 use mir.Val.{SFits}
 use Rattle.lsp_explain.specs.SentEdits.{sents_view, total_size}
-use Rattle.lsp_explain.specs.declared.trail.base.SentChanges.{SentChanges}
 use Rattle.lsp_explain.proofs.RoomSteps.{kept_later, total-kept}
 use Rattle.lsp_explain.proofs.trail.base.Base.begin.Goals as goal
 
