@@ -285,6 +285,23 @@ def explained_texts(size=TEXT):
     yield changed, f"{report}change 1 whole\n{sizes}".encode()
 
 
+def fitting_changes(beyond):
+    """A column that counts characters, in changes of 1 MiB and this many bytes more: each counts 64
+    bytes and those of its text. No other encoding is named where they are larger."""
+    uri, long = "file:///a", "a" * (CHUNK - 2 * 64 - 1 + beyond)
+    log = START + did_open(uri, 1, "x😀yz\n") + snapshot(1, uri, "x😀yz\n")
+    log += did_change(uri, 2, [replaced((0, 3), (0, 3), "!")])
+    log += did_change(uri, 3, [replaced((1, 0), (1, 0), long)])
+    log += snapshot(3, uri, f"x😀y!z\n{long}")
+    report = ["no 702 snapshot 2 event 8", "snapshot differs", "event 8 snapshot 2"]
+    report += ['uri "file:///a"', "held 3 event 7 editor 5", "version 3", "encoding utf-16"]
+    report += ["at 0 3", 'by-messages "x😀!yz\\n"', 'in-editor "x😀y!z\\n"', "codes U+0021 U+0079"]
+    report += ["snapshot event 8 snapshot 2", "equal 1 event 5 snapshot 1", "suspects 2"]
+    report += ["suspect 2 event 6 editor 4", "suspect 3 event 7 editor 5"]
+    report += ["fits utf-32"] if beyond == 0 else []
+    return log, "".join(f"{it}\n" for it in [*report, "usually editor"]).encode()
+
+
 def padded(size):
     """The content of a message of the server, of this many bytes."""
     front, back = b'{"jsonrpc":"2.0","method":"window/logMessage","params":{"type":3,"message":"', b'"}}'
@@ -302,6 +319,10 @@ def small():
         yield name, ["normal"], log, 0, log, b""
     log, report = many_misfits()
     yield "many documents that are noted", ["explain"], log, 0, report, b""
+    for beyond in [0, 1]:
+        log, report = fitting_changes(beyond)
+        for given in [log, log.replace(b"lsp-session 1", b"lsp-session 2", 1)]:
+            yield "large changes in another encoding", ["explain"], given, 1, report, b""
     for name, (log, report) in [
         ("many refused requests", many_refusals()),
         ("a refused request that is forgotten", forgotten_request()),

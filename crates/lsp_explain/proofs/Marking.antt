@@ -35,11 +35,11 @@ use Rattle.lsp_explain.specs.declared.trail.mark.Mark.{Mark}
 
 -- ---- the equal snapshot of the greatest version
 
-newer_none : (best : Option VersionEvent) → newer_of best None ≡ best
+pub newer_none : (best : Option VersionEvent) → newer_of best None ≡ best
 newer_none None = refl
 newer_none (Some s) = refl
 
-agreed-push : (done : List KeptCall) (k : KeptCall)
+pub agreed-push : (done : List KeptCall) (k : KeptCall)
     → agreed (done ++ k ∷ []) ≡ newer_of (agreed done) (found_at done k)
 agreed-push done k =
     ap newest (each_of-snoc found_at done k) ∙ by_one (each_of found_at done) (found_at done k)

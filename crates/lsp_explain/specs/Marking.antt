@@ -1,8 +1,8 @@
 -- Which events left a document as it is: the messages that set its versions, the equal snapshot of
 -- the greatest version, and the snapshots that wait.
 use Rattle.std.specs.Prelude.{ℕ, ℤ, int_lt, ◌+◌, ◌-◌, List, [], ◌∷◌, ◌++◌, length, filter}
-use Rattle.std.specs.Prelude.{slice_get, Bool, false, not, if◌then◌else◌, Option, Some, None}
-use Rattle.std.specs.Prelude.{option_map, ◌≡◌, unwrap_or, string_bytes, String}
+use Rattle.std.specs.Prelude.{slice_get, Bool, true, false, not, if◌then◌else◌, Option, Some, None}
+use Rattle.std.specs.Prelude.{is_some, option_map, ◌≡◌, unwrap_or, string_bytes, String}
 use Rattle.std.specs.List.{filter_map, find, fold}
 use Rattle.std.specs.Ordering.{int_eq}
 use Rattle.std.specs.Str.{bytes_eq}
@@ -212,6 +212,12 @@ stepped p (Shows own Waits) m = record {
 }
 stepped p (Shows own Missed) m = m
 
+-- a snapshot is found equal by this step
+abbrev pub finds_equal : Step → Marked → Bool
+finds_equal (Reaches own first) m = is_some (last_shown own (next_rank m.rank) (m.waiting own))
+finds_equal (Shows own Equal) m = true
+finds_equal _ m = false
+
 -- ---- the marks of documents, by URI
 
 -- the places of the snapshots of a version
@@ -244,11 +250,11 @@ rest_of (e ∷ es) = es
 abbrev pub marked_in : List (String Global × Mark) → List ℕ → Marked
 marked_in es uri = unwrap_or (held_by mark_view es uri) unmarked
 
--- at this place there is what is marked of the URI
-abbrev pub IsAt : List (String Global × Mark) → List ℕ → ℕ → Type 0
-IsAt es uri at =
-    (key : String Global) × (mark : Mark) × (slice_get es at ≡ Some (key, mark))
-    × (string_bytes key ≡ uri) × (lookup (λ k. bytes_eq uri (string_bytes k)) es ≡ Some mark)
+-- at this place there is what the map holds under the URI
+abbrev pub IsAt : {X : Type 0} → List (String Global × X) → List ℕ → ℕ → Type 0
+IsAt {X} es uri at =
+    (key : String Global) × (x : X) × (slice_get es at ≡ Some (key, x))
+    × (string_bytes key ≡ uri) × (lookup (λ k. bytes_eq uri (string_bytes k)) es ≡ Some x)
 
 -- one more step of the URI, by the event of this place, and all others are as they were
 abbrev pub StepsOn : List ℕ → EventPlace → Step → List (String Global × Mark)
