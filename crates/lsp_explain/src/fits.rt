@@ -82,7 +82,7 @@ fn suspects_of<'a>(base: &'a Base, until: Until, call: Call<'a>) -> Option<Suspe
     let sent = up_to(until, base.sent.as_slice());
     match call {
         Call::Changes { changes, .. } => with_own(base, sent, changes),
-        _ => few(sent),
+        _ => without_own(sent),
     }
 }
 
@@ -107,7 +107,7 @@ fn with_own<'a>(
 }
 
 /// Those of earlier messages alone, of which there is one at least.
-fn few<'a>(sent: &'a [SentChanges]) -> Option<Suspected<'a>>
+fn without_own<'a>(sent: &'a [SentChanges]) -> Option<Suspected<'a>>
     ensures { spec.AreNamed true (spec.edits_in (sents_view sent.now)) result }
 {
     if sent.is_empty() {
