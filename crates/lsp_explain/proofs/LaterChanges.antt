@@ -46,7 +46,7 @@ abbrev pub AreRising : List SentEdits → Type 0
 AreRising [] = Unit {0}
 AreRising (s ∷ sent) = AreAbove s.number sent × AreRising sent
 
-above-less : (m n : ℤ) (sent : List SentEdits) → int_lt m n ≡ true → AreAbove n sent → AreAbove m sent
+pub above-less : (m n : ℤ) (sent : List SentEdits) → int_lt m n ≡ true → AreAbove n sent → AreAbove m sent
 above-less m n [] less above = tt
 above-less m n (s ∷ sent) less above =
     (lt_trans m n s.number less above.0, above-less m n sent less above.1)

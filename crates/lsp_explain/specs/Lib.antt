@@ -10,6 +10,7 @@ pub mod SentEdits
 pub mod Bases
 pub mod Fits
 pub mod Traced
+pub mod AsciiLines
 pub mod Trails
 pub mod Compared
 pub mod DocumentNotes

@@ -1,4 +1,5 @@
 //! Laws of what is explained.
+ghost use Rattle.lsp_explain.specs.AsciiLines.{NoFitsInAscii};
 ghost use Rattle.lsp_explain.specs.Compared.{OneComparedText};
 ghost use Rattle.lsp_explain.specs.Explained.{BeginsWithReport, CausesAreExplained, FirstIsVerdict};
 ghost use Rattle.lsp_explain.specs.Explained.{OneExplanation, OneExplanationOfAll, SomeExplanation};
@@ -48,6 +49,12 @@ pub fn one_explanation_of_all()
 /// A log has one answer for each of the two texts of a verdict that says that they differ.
 pub fn one_compared_text()
     ensures { OneComparedText }
+{}
+
+/// No other encoding makes the text that the editor had, where each line that a position of a suspect
+/// falls in is ASCII.
+pub fn no_fits_in_ascii()
+    ensures { NoFitsInAscii }
 {}
 
 /// Each method of LSP 3.17 has a row of the table by which notes are made, with its kind and side.
