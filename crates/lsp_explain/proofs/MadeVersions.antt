@@ -107,7 +107,7 @@ reached_one n s sent less =
     (one_more (prefix_len (is_reached (until.Version n)) sent))
 
 -- none is
-reached_above : (n : ℤ) (sent : List SentEdits) → AreAbove n sent
+pub reached_above : (n : ℤ) (sent : List SentEdits) → AreAbove n sent
     → reached (until.Version n) sent ≡ []
 reached_above n [] above = refl
 reached_above n (s ∷ sent) above =
@@ -372,7 +372,7 @@ base_found equal all base is = by_number (base_number equal all) is
     by_number None is = absurd (none-some base is)
     by_number (Some m) is = (m, is)
 
-found_among : (p : Version → Bool) (vs : List Version) (w : Version) → find p vs ≡ Some w
+pub found_among : (p : Version → Bool) (vs : List Version) (w : Version) → find p vs ≡ Some w
     → Among w vs
 found_among p [] w found = absurd (none-some w found)
 found_among p (v ∷ vs) w found = by_test (p v) found (found_among p vs w)
