@@ -3,7 +3,7 @@
 use Rattle.std.specs.Prelude.{cond, nat_lt, ◌-◌, length, option_map, option_and_then, option_to_list}
 use Rattle.std.specs.Prelude.{Result, Ok, Err, is_some, filter, if◌then◌else◌, IfOk, IfSome, IsAscii}
 use Rattle.std.specs.Prelude.{ℤ, int_lt, not, slice_get, take}
-use Rattle.std.specs.List.{find}
+use Rattle.std.specs.List.{find, prefix_len}
 use Rattle.std.specs.Ordering.{int_eq}
 use Rattle.std.specs.Result.{result_ok}
 use Rattle.std.proofs.Common.{◌≡◌, ◌⊎◌, ◌<◌, ◌+◌, ℕ, Bool, true, false, List, [], ◌∷◌, ◌++◌, Option}
@@ -41,16 +41,16 @@ use Rattle.lsp_replay.specs.declared.heard.EventPlace.{EventPlace}
 use Rattle.lsp_verdict.proofs.CallsMade.{calls_accepted}
 use Rattle.lsp_verdict.proofs.Offences.Offending.{kept_offend_nowhere}
 use Rattle.lsp_verdict.proofs.Verdicts.{nothing_found}
-use Rattle.lsp_verdict.specs.Event.{calls, Event}
+use Rattle.lsp_verdict.specs.Event.{calls}
 use Rattle.lsp_verdict.specs.Offences.{kept_of}
 use Rattle.lsp_explain.specs.AsciiLines.{AllInAscii, AreInAscii, FallsInAscii, NoFitsInAscii}
-use Rattle.lsp_explain.specs.AsciiLines.{SpansAscii, SuspectsInAscii}
+use Rattle.lsp_explain.specs.AsciiLines.{SpansAscii}
 use Rattle.lsp_explain.specs.Bases.{base_at, base_in, later, sent_since}
-use Rattle.lsp_explain.specs.Fits.{agreed_encoding, edits_in, fits, fitting_any, fitting_of, if_named}
+use Rattle.lsp_explain.specs.Fits.{agreed_encoding, edits_in, fitting_any, fitting_of, if_named}
 use Rattle.lsp_explain.specs.Fits.{is_given, is_made, is_reached, made, made_by, most_suspects}
 use Rattle.lsp_explain.specs.Fits.{other_encodings, own_edits, reached, suspected}
 use Rattle.lsp_explain.specs.Marking.{agreed, steps}
-use Rattle.lsp_explain.specs.SentEdits.{SentEdits, are_few, sent_edits}
+use Rattle.lsp_explain.specs.SentEdits.{SentEdits, are_few}
 use Rattle.lsp_explain.specs.Traced.{until_of}
 use Rattle.lsp_explain.specs.declared.suspects.Until.{Until}
 use Rattle.lsp_explain.specs.declared.suspects.Until.TheVariants as until
@@ -58,8 +58,8 @@ use Rattle.lsp_explain.specs.declared.trail.mark.VersionEvent.{VersionEvent}
 use Rattle.lsp_explain.proofs.BaseSteps.{found_is}
 use Rattle.lsp_explain.proofs.LaterChanges.{AreAbove, above-less, itself}
 use Rattle.lsp_explain.proofs.MadeVersions.{AreMade, base_found, found_among, kept_among}
-use Rattle.lsp_explain.proofs.MadeVersions.{made_one_more, made_since, reached_above, reached_within}
-use Rattle.lsp_explain.proofs.MadeVersions.{within-later}
+use Rattle.lsp_explain.proofs.MadeVersions.{made_one_more, made_since, one_more, reached_above}
+use Rattle.lsp_explain.proofs.MadeVersions.{reached_within, within-later}
 use Rattle.lsp_explain.proofs.SentChanges.{sent_rise}
 
 -- ---- positions
@@ -216,21 +216,15 @@ none_or_all true all = by_test (nat_lt most_suspects (length all))
 reached_held : (sent : List SentEdits) → reached until.Held sent ≡ sent
 reached_held [] = refl
 reached_held (s ∷ sent) =
-    ap (λ (k : ℕ). take k (s ∷ sent)) (one_more _)
+    ap (λ (k : ℕ). take k (s ∷ sent)) (one_more (prefix_len (is_reached until.Held) sent))
     ∙ ap (λ (l : List SentEdits). s ∷ l) (reached_held sent)
-  where
-    one_more : (n : ℕ) → 1 + n ≡ suc n
-    one_more n = omega arith
 
 reached_message : (p : EventPlace) (n : ℤ) (sent : List SentEdits)
     → reached (until.Message p n) sent ≡ sent
 reached_message p n [] = refl
 reached_message p n (s ∷ sent) =
-    ap (λ (k : ℕ). take k (s ∷ sent)) (one_more _)
+    ap (λ (k : ℕ). take k (s ∷ sent)) (one_more (prefix_len (is_reached (until.Message p n)) sent))
     ∙ ap (λ (l : List SentEdits). s ∷ l) (reached_message p n sent)
-  where
-    one_more : (n : ℕ) → 1 + n ≡ suc n
-    one_more n = omega arith
 
 later-above : (n : ℤ) (sent : List SentEdits) → AreAbove n (later n sent)
 later-above n [] = tt

@@ -1,6 +1,6 @@
 -- The versions of an opening, each of which is made of the one before it.
-use Rattle.std.specs.Prelude.{ℕ, ℤ, int_lt, not, cond, if◌then◌else◌, option_and_then, option_to_list}
-use Rattle.std.specs.Prelude.{Result, Ok, take, drop, length, ◌-◌, is_some}
+use Rattle.std.specs.Prelude.{ℕ, ℤ, int_lt, not, cond, if◌then◌else◌, option_and_then, Ok, take}
+use Rattle.std.specs.Prelude.{length, ◌-◌, is_some}
 use Rattle.std.specs.List.{find, prefix_len}
 use Rattle.std.specs.Str.{bytes_eq}
 use Rattle.std.proofs.Common.{◌≡◌, ◌⊎◌, ◌+◌, Bool, true, false, List, [], ◌∷◌, ◌++◌, Option, Some}
@@ -12,14 +12,14 @@ use Rattle.lsp_docs.proofs.HeldSteps.{held-snoc}
 use Rattle.lsp_docs.proofs.Past.{nothing-past, past-same}
 use Rattle.lsp_docs.proofs.Rising.{Among, among-back, among-drop, among-front, among-split}
 use Rattle.lsp_docs.proofs.WaitingSteps.{none_row}
-use Rattle.lsp_docs.proofs.Words.{no_some, uri_is, uri_same}
+use Rattle.lsp_docs.proofs.Words.{no_some, uri_is}
 use Rattle.lsp_types.specs.declared.position.Encoding.{Encoding}
 use Rattle.lsp_text.specs.Edits.{Edit, applied}
 use Rattle.lsp_docs.specs.Calls.{Bytes, Call, Text, changes, closes, opens, saves, shows}
-use Rattle.lsp_docs.specs.Documents.{Terms, Version, held, is_at, versioned}
+use Rattle.lsp_docs.specs.Documents.{Terms, Version, held, is_at}
 use Rattle.lsp_docs.specs.Rules.{AreAccepted, AreAcceptedFrom, call_rule}
-use Rattle.lsp_docs.specs.Snapshots.{kept, last_of, past}
-use Rattle.lsp_explain.specs.Bases.{base_in, base_number, later, numbered, revisions, sent_since}
+use Rattle.lsp_docs.specs.Snapshots.{kept, past}
+use Rattle.lsp_explain.specs.Bases.{base_in, base_number, later, numbered, sent_since}
 use Rattle.lsp_explain.specs.Fits.{edits_in, is_reached, reached}
 use Rattle.lsp_explain.specs.SentEdits.{SentEdits, sent_edits}
 use Rattle.lsp_explain.specs.declared.suspects.Until.TheVariants as until
@@ -94,7 +94,7 @@ chained-above limit v (w ∷ ws) (s ∷ sent) are = (
 
 -- ---- up to one of them
 
-one_more : (n : ℕ) → 1 + n ≡ suc n
+pub one_more : (n : ℕ) → 1 + n ≡ suc n
 one_more n = omega arith
 
 -- its message is one of those that come no later
