@@ -407,115 +407,118 @@ moved_made limit t u w xs ys same own (inr are) =
 
 module _ (terms : Terms) (before : List Call) (accepted : AreAccepted terms before)
     (equal : Option VersionEvent) (base : Version) (p : EventPlace) (rule : ℕ) (texts : TwoTexts)
-    where
-  abbrev AllMake : Call → Type 0
-  AllMake call =
-      (edits_in (reached (until_of p call) (later base.number (sent_since (uri_of call) before)))
-      ++ edits_in (own_edits call) ≡ [])
-      ⊎ AreMade terms.limit base.text
-      (edits_in (reached (until_of p call) (later base.number (sent_since (uri_of call) before)))
-      ++ edits_in (own_edits call)) texts.by_messages
+  where
+    abbrev AllMake : Call → Type 0
+    AllMake call =
+        (edits_in (reached (until_of p call) (later base.number (sent_since (uri_of call) before)))
+        ++ edits_in (own_edits call) ≡ [])
+        ⊎ AreMade terms.limit base.text
+        (edits_in (reached (until_of p call) (later base.number (sent_since (uri_of call) before)))
+        ++ edits_in (own_edits call)) texts.by_messages
 
-  abbrev HasBase : Call → Option Version → Type 0
-  HasBase call h = base_in equal (past terms (uri_of call) before ++ option_to_list h) ≡ Some base
+    abbrev HasBase : Call → Option Version → Type 0
+    HasBase call h = base_in equal (past terms (uri_of call) before ++ option_to_list h) ≡ Some base
 
-  saved_all : (uri : Bytes) (text : Option Text) → compared terms before (saves uri text) ≡ Some texts
-      → HasBase (saves uri text) (held terms uri before) → AllMake (saves uri text)
-  saved_all uri text is own =
-      let found = saved_made text (held terms uri before) texts is in
-      let v = found.0 in
-      let since = later base.number (sent_since uri before) in
-      moved_made terms.limit base.text v.text texts.by_messages (edits_in since) _
-      (ap edits_in (sym (reached_held since)) ∙ sym (append-nil (edits_in (reached until.Held since))))
-      found.1.1
-      (inr (held_made terms before accepted equal uri base v found.1.0
-      (subst (HasBase (saves uri text)) found.1.0 own)))
+    saved_all : (uri : Bytes) (text : Option Text) → compared terms before (saves uri text) ≡ Some texts
+        → HasBase (saves uri text) (held terms uri before) → AllMake (saves uri text)
+    saved_all uri text is own =
+        let found = saved_made text (held terms uri before) texts is in
+        let v = found.0 in
+        let since = later base.number (sent_since uri before) in
+        moved_made terms.limit base.text v.text texts.by_messages (edits_in since) _
+        (ap edits_in (sym (reached_held since)) ∙ sym (append-nil (edits_in (reached until.Held since))))
+        found.1.1
+        (inr (held_made terms before accepted equal uri base v found.1.0
+        (subst (HasBase (saves uri text)) found.1.0 own)))
 
-  shown_all : (uri : Bytes) (n : ℤ) (text : Text)
-      → compared terms before (shows uri n text) ≡ Some texts
-      → HasBase (shows uri n text) (held terms uri before) → AllMake (shows uri n text)
-  shown_all uri n text is own = by_held (held terms uri before) refl own is
-    where
-      s : Version
-      s = versioned n text
+    shown_all : (uri : Bytes) (n : ℤ) (text : Text)
+        → compared terms before (shows uri n text) ≡ Some texts
+        → HasBase (shows uri n text) (held terms uri before) → AllMake (shows uri n text)
+    shown_all uri n text is own = by_held (held terms uri before) refl own is
+      where
+        s : Version
+        s = versioned n text
 
-      since : List SentEdits
-      since = later base.number (sent_since uri before)
+        since : List SentEdits
+        since = later base.number (sent_since uri before)
 
-      by_held : (h : Option Version) → held terms uri before ≡ h → HasBase (shows uri n text) h
-          → recorded text (other_than terms.line_ends s (kept terms uri before) h) ≡ Some texts
-          → AllMake (shows uri n text)
-      by_held None none own is =
-          absurd (no_base terms before accepted equal uri base none own)
-      by_held (Some v) now own is =
-          let found = shown_made text (find (differs_from terms.line_ends s)
-          (kept terms uri before ++ v ∷ [])) texts is in
-          let w = found.0 in
-          let at : w.number ≡ n =
-          int_is w.number n (and_parts (int_eq w.number n)
-          (not (same_text terms.line_ends w.text text))
-          (found_is (differs_from terms.line_ends s) (kept terms uri before ++ v ∷ []) w
-          found.1.0)).0 in
-          moved_made terms.limit base.text w.text texts.by_messages
-          (edits_in (reached (until.Version w.number) since)) _
-          (ap (λ (m : ℤ). edits_in (reached (until.Version m) since)) at
-          ∙ sym (append-nil (edits_in (reached (until.Version n) since))))
-          found.1.1
-          (kept_made terms before accepted equal uri base (differs_from terms.line_ends s) v w now
-          own found.1.0)
+        by_held : (h : Option Version) → held terms uri before ≡ h → HasBase (shows uri n text) h
+            → recorded text (other_than terms.line_ends s (kept terms uri before) h) ≡ Some texts
+            → AllMake (shows uri n text)
+        by_held None none own is =
+            absurd (no_base terms before accepted equal uri base none own)
+        by_held (Some v) now own is =
+            let found = shown_made text (find (differs_from terms.line_ends s)
+            (kept terms uri before ++ v ∷ [])) texts is in
+            let w = found.0 in
+            let at : w.number ≡ n =
+            int_is w.number n (and_parts (int_eq w.number n)
+            (not (same_text terms.line_ends w.text text))
+            (found_is (differs_from terms.line_ends s) (kept terms uri before ++ v ∷ []) w
+            found.1.0)).0 in
+            moved_made terms.limit base.text w.text texts.by_messages
+            (edits_in (reached (until.Version w.number) since)) _
+            (ap (λ (m : ℤ). edits_in (reached (until.Version m) since)) at
+            ∙ sym (append-nil (edits_in (reached (until.Version n) since))))
+            found.1.1
+            (kept_made terms before accepted equal uri base (differs_from terms.line_ends s) v w now
+            own found.1.0)
 
-  changed_all : (enc : Encoding) (kind : SyncKind) (uri : Bytes) (n : ℤ) (cs : List Edit)
-      → compared terms before (changes enc kind uri n cs) ≡ Some texts
-      → HasBase (changes enc kind uri n cs) (held terms uri before)
-      → AllMake (changes enc kind uri n cs)
-  changed_all enc kind uri n cs is own =
-      let found = change_made terms before uri enc n cs (held terms uri before) texts is in
-      let v = found.version in
-      let since = later base.number (sent_since uri before) in
-      moved_made terms.limit base.text texts.by_messages texts.by_messages
-      (edits_in since ++ cs ∷ []) _
-      (ap (λ (l : List SentEdits). edits_in l ++ cs ∷ []) (sym (reached_message p n since))) refl
-      (inr (made_one_more terms.limit base.text v.text texts.by_messages (edits_in since) cs
-      (held_made terms before accepted equal uri base v found.was
-      (subst (HasBase (changes enc kind uri n cs)) found.was own))
-      (record { encoding = enc; made = found.made })))
+    changed_all : (enc : Encoding) (kind : SyncKind) (uri : Bytes) (n : ℤ) (cs : List Edit)
+        → compared terms before (changes enc kind uri n cs) ≡ Some texts
+        → HasBase (changes enc kind uri n cs) (held terms uri before)
+        → AllMake (changes enc kind uri n cs)
+    changed_all enc kind uri n cs is own =
+        let found = change_made terms before uri enc n cs (held terms uri before) texts is in
+        let v = found.version in
+        let since = later base.number (sent_since uri before) in
+        moved_made terms.limit base.text texts.by_messages texts.by_messages
+        (edits_in since ++ cs ∷ []) _
+        (ap (λ (l : List SentEdits). edits_in l ++ cs ∷ []) (sym (reached_message p n since))) refl
+        (inr (made_one_more terms.limit base.text v.text texts.by_messages (edits_in since) cs
+        (held_made terms before accepted equal uri base v found.was
+        (subst (HasBase (changes enc kind uri n cs)) found.was own))
+        (record { encoding = enc; made = found.made })))
 
-  -- an opening has no base
-  opened_none : (uri : Bytes) (n : ℤ) (text : Text)
-      → call_rule terms before (opens uri n text) ≡ Some rule → is_of_texts rule ≡ true
-      → HasBase (opens uri n text) (held terms uri before) → ⊥
-  opened_none uri n text breaks of own = by_held (held terms uri before) refl own breaks
-    where
-      by_held : (h : Option Version) → held terms uri before ≡ h → HasBase (opens uri n text) h
-          → (if is_some h then Some 601
-          else first_row ((nat_lt terms.limit (byte_len text), Some 607)
-          ∷ (true, version_rule terms.line_ends (versions_of uri (waiting terms before))
-          (versioned n text)) ∷ [])) ≡ Some rule
-          → ⊥
-      by_held None none own breaks = no_base terms before accepted equal uri base none own
-      by_held (Some v) now own breaks =
-          true≢false (sym of ∙ ap is_of_texts (sym (same_Some 601 rule breaks)))
+    -- an opening has no base
+    opened_none : (uri : Bytes) (n : ℤ) (text : Text)
+        → call_rule terms before (opens uri n text) ≡ Some rule → is_of_texts rule ≡ true
+        → HasBase (opens uri n text) (held terms uri before) → ⊥
+    opened_none uri n text breaks of own = by_held (held terms uri before) refl own breaks
+      where
+        by_held : (h : Option Version) → held terms uri before ≡ h → HasBase (opens uri n text) h
+            → (if is_some h then Some 601
+            else first_row ((nat_lt terms.limit (byte_len text), Some 607)
+            ∷ (
+              true,
+              version_rule terms.line_ends (versions_of uri (waiting terms before))
+                  (versioned n text),
+            ) ∷ [])) ≡ Some rule
+            → ⊥
+        by_held None none own breaks = no_base terms before accepted equal uri base none own
+        by_held (Some v) now own breaks =
+            true≢false (sym of ∙ ap is_of_texts (sym (same_Some 601 rule breaks)))
 
-  -- **they make the text of the messages, or there are none**
-  all_make : (call : Call) → call_rule terms before call ≡ Some rule
-      → texts_of terms before call rule ≡ Some texts
-      → HasBase call (held terms (uri_of call) before) → AllMake call
-  all_make (opens uri n text) breaks is own =
-      absurd (opened_none uri n text breaks
-      (texts_compared (is_of_texts rule) (compared terms before (opens uri n text)) texts is).0 own)
-  all_make (changes enc kind uri n cs) breaks is own =
-      changed_all enc kind uri n cs
-      (texts_compared (is_of_texts rule) (compared terms before (changes enc kind uri n cs)) texts
-      is).1 own
-  all_make (closes uri) breaks is own =
-      absurd (none-some texts
-      (texts_compared (is_of_texts rule) (compared terms before (closes uri)) texts is).1)
-  all_make (saves uri text) breaks is own =
-      saved_all uri text
-      (texts_compared (is_of_texts rule) (compared terms before (saves uri text)) texts is).1 own
-  all_make (shows uri n text) breaks is own =
-      shown_all uri n text
-      (texts_compared (is_of_texts rule) (compared terms before (shows uri n text)) texts is).1 own
+    -- **they make the text of the messages, or there are none**
+    all_make : (call : Call) → call_rule terms before call ≡ Some rule
+        → texts_of terms before call rule ≡ Some texts
+        → HasBase call (held terms (uri_of call) before) → AllMake call
+    all_make (opens uri n text) breaks is own =
+        absurd (opened_none uri n text breaks
+        (texts_compared (is_of_texts rule) (compared terms before (opens uri n text)) texts is).0 own)
+    all_make (changes enc kind uri n cs) breaks is own =
+        changed_all enc kind uri n cs
+        (texts_compared (is_of_texts rule) (compared terms before (changes enc kind uri n cs)) texts
+        is).1 own
+    all_make (closes uri) breaks is own =
+        absurd (none-some texts
+        (texts_compared (is_of_texts rule) (compared terms before (closes uri)) texts is).1)
+    all_make (saves uri text) breaks is own =
+        saved_all uri text
+        (texts_compared (is_of_texts rule) (compared terms before (saves uri text)) texts is).1 own
+    all_make (shows uri n text) breaks is own =
+        shown_all uri n text
+        (texts_compared (is_of_texts rule) (compared terms before (shows uri n text)) texts is).1 own
 
 -- **Where each line that a position of a suspect falls in is ASCII, no encoding fits.**
 pub no_fits : NoFitsInAscii

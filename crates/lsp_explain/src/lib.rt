@@ -24,8 +24,8 @@ mod unopened;
 pub use compared::{ComparedText, run_compared};
 pub use laws::{
     all_explained_are_causes, explanation_begins_with_report, explanation_of_yes_is_report,
-    first_explained_is_verdict, no_fits_in_ascii, one_compared_text, one_explanation, one_explanation_of_all,
-    rows_are_standard_methods, some_explanation, some_explanation_of_all,
+    first_explained_is_verdict, no_fits_in_ascii, one_compared_text, one_explanation,
+    one_explanation_of_all, rows_are_standard_methods, some_explanation, some_explanation_of_all,
     standard_methods_have_rows,
 };
 pub use run::run_explain;
