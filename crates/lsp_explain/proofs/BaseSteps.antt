@@ -12,7 +12,6 @@ use Rattle.lsp_docs.proofs.Words.{int_is, less_behind}
 use Rattle.lsp_docs.specs.Calls.{Text}
 use Rattle.lsp_docs.specs.Documents.{Terms, Version, is_after, is_at}
 use Rattle.lsp_docs.specs.Laws.{rises}
-use Rattle.lsp_docs.specs.Rules.{text_in}
 use Rattle.lsp_docs.specs.Snapshots.{has_number}
 use Rattle.lsp_explain.specs.Bases.{AddedBy, AddsTo, Begins, HoldsBase, HoldsFrom, HoldsMore}
 use Rattle.lsp_explain.specs.Bases.{IsNewBase, MayBeEqual, Outgrows, base_in, later, numbered}
