@@ -47,7 +47,7 @@ use Rattle.lsp_explain.specs.AsciiLines.{AllInAscii, AreInAscii, FallsInAscii, N
 use Rattle.lsp_explain.specs.AsciiLines.{SpansAscii}
 use Rattle.lsp_explain.specs.Bases.{base_at, base_in, later, sent_since}
 use Rattle.lsp_explain.specs.Fits.{agreed_encoding, edits_in, fitting_any, fitting_of, if_named}
-use Rattle.lsp_explain.specs.Fits.{is_given, is_made, is_reached, made, made_by, most_suspects}
+use Rattle.lsp_explain.specs.Fits.{is_given, is_made, is_reached, made, made_by, most_named}
 use Rattle.lsp_explain.specs.Fits.{other_encodings, own_edits, reached, suspected}
 use Rattle.lsp_explain.specs.Marking.{agreed, steps}
 use Rattle.lsp_explain.specs.SentEdits.{SentEdits, are_few}
@@ -205,7 +205,7 @@ none_given terms enc t u other (one ∷ more) low are apart =
 none_or_all : (few : Bool) (all : List (List Edit))
     → ((if few then if_named all else []) ≡ []) ⊎ ((if few then if_named all else []) ≡ all)
 none_or_all false all = inl refl
-none_or_all true all = by_test (nat_lt most_suspects (length all))
+none_or_all true all = by_test (nat_lt most_named (length all))
   where
     by_test : (b : Bool)
         → ((if b then [] else all) ≡ []) ⊎ ((if b then [] else all) ≡ all)

@@ -29,7 +29,7 @@ use Rattle.lsp_explain.specs.Bases.{HoldsAny, base_in, later, sent_in, text_in}
 use Rattle.lsp_explain.specs.SentEdits.{SentEdits, are_few, sent_view, sents_view}
 use Rattle.lsp_explain.specs.Fits.{AreNamed, AreSuspects, edits_in, fits, fits_facts, fitting}
 use Rattle.lsp_explain.specs.Fits.{fitting_any, fitting_of, if_given, if_named, is_given, is_made}
-use Rattle.lsp_explain.specs.Fits.{held_reached, is_reached, listed, made, made_by, most_suspects}
+use Rattle.lsp_explain.specs.Fits.{held_reached, is_reached, listed, made, made_by, most_named}
 use Rattle.lsp_explain.specs.Fits.{own_edits, reached, suspected, suspected_view, suspects_in}
 use Rattle.lsp_explain.specs.Fits.{text_if}
 use Rattle.lsp_explain.specs.declared.fits.Suspected.{Suspected}
@@ -255,14 +255,14 @@ too_many : (edits : List (List Edit)) → 17 < length edits → if_named edits �
 too_many edits many =
     ap (λ (b : Bool). if b then [] else edits) (more_so (length edits) many)
   where
-    more_so : (n : ℕ) → 17 < n → nat_lt most_suspects n ≡ true
+    more_so : (n : ℕ) → 17 < n → nat_lt most_named n ≡ true
     more_so n many = grind (arith, nat_tests)
 
 not_too_many : (edits : List (List Edit)) → length edits ≤ 17 → if_named edits ≡ edits
 not_too_many edits some =
     ap (λ (b : Bool). if b then [] else edits) (less_so (length edits) some)
   where
-    less_so : (n : ℕ) → n ≤ 17 → nat_lt most_suspects n ≡ false
+    less_so : (n : ℕ) → n ≤ 17 → nat_lt most_named n ≡ false
     less_so n some = grind (arith, nat_tests)
 
 none_either : (b : Bool) (edits : List (List Edit)) → edits ≡ []

@@ -44,12 +44,13 @@ abbrev pub own_edits : Call → List SentEdits
 own_edits (changes enc kind uri number cs) = sent_edits number cs ∷ []
 own_edits _ = []
 
--- as many as are named as suspects, or none
-abbrev pub most_suspects : ℕ
-most_suspects = 17
+-- how many messages are named as suspects at most
+abbrev pub most_named : ℕ
+most_named = 17
 
+-- none, if there are more
 abbrev pub if_named : List (List Edit) → List (List Edit)
-if_named edits = if nat_lt most_suspects (length edits) then [] else edits
+if_named edits = if nat_lt most_named (length edits) then [] else edits
 
 abbrev pub edits_in : List SentEdits → List (List Edit)
 edits_in sent = map (λ (s : SentEdits). s.edits) sent

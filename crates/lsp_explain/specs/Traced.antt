@@ -32,7 +32,7 @@ use Rattle.lsp_session.specs.Entry.{Entry}
 use Rattle.lsp_session.specs.Handshake.{phase}
 use Rattle.lsp_session.specs.Requests.{open_requests}
 use Rattle.lsp_session.specs.Sent.{other_side}
-use Rattle.lsp_explain.specs.Fits.{fits_facts}
+use Rattle.lsp_explain.specs.Fits.{fits_facts, most_named}
 use Rattle.lsp_explain.specs.History.{last_ones, OnDocument, KeptCall}
 use Rattle.lsp_explain.specs.Marking.{next_rank, rank_or, agreed, last_setter, recent, steps}
 use Rattle.lsp_explain.specs.Marking.{waiting_for}
@@ -89,10 +89,6 @@ after_equal rank done = drop (prefix_len (is_cleared rank) done) done
 
 abbrev pub up_to : Until → List VersionEvent → List VersionEvent
 up_to limit done = take (prefix_len (is_up_to limit) done) done
-
--- how many of them are named at most
-abbrev pub most_named : ℕ
-most_named = 17
 
 -- the last of these messages that are suspects, where the version of this rank was equal
 abbrev pub suspected : ℕ → Until → List VersionEvent → List VersionEvent

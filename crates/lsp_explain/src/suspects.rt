@@ -1,6 +1,7 @@
 //! Which messages may have made texts differ.
 ghost use Rattle.std.specs.Prelude.{◌≡◌, ◌≤◌, ◌++◌, OnOk, length};
 ghost use Rattle.std.specs.List.{prefix_len};
+ghost use Rattle.lsp_explain.specs.Fits.{most_named};
 ghost use Rattle.lsp_explain.specs.History.{last_ones};
 ghost use Rattle.lsp_explain.specs.Marking.{rank_or};
 ghost use Rattle.lsp_explain.specs.Traced as spec;
@@ -97,7 +98,7 @@ fn is_up_to(until: Until, setter: &VersionEvent) -> bool
 
 /// The last of the suspects, as many as are named.
 fn last_named(setters: &[VersionEvent]) -> &[VersionEvent]
-    ensures { result.now ≡ last_ones spec.most_named setters.now }
+    ensures { result.now ≡ last_ones most_named setters.now }
 {
     &setters[setters.len().saturating_sub(MOST_NAMED)..]
 }
