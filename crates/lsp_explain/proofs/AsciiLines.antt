@@ -1,4 +1,4 @@
--- Positions in lines of ASCII denote the same places in each encoding, so that the suspects make the
+-- In lines of ASCII a position denotes the same place in each encoding, so the suspects make the
 -- same text.
 use Rattle.std.specs.Prelude.{cond, nat_lt, ◌-◌, length, option_map, option_and_then, option_to_list}
 use Rattle.std.specs.Prelude.{Result, Ok, Err, is_some, filter, if◌then◌else◌, IfOk, IfSome, IsAscii}

@@ -51,8 +51,8 @@ pub fn one_compared_text()
     ensures { OneComparedText }
 {}
 
-/// No other encoding makes the text that the editor had, where each line that a position of a suspect
-/// falls in is ASCII.
+/// Where each line that a position of a suspect falls in is ASCII, no other encoding makes the text
+/// that the editor had.
 pub fn no_fits_in_ascii()
     ensures { NoFitsInAscii }
 {}
