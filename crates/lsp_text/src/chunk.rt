@@ -143,13 +143,6 @@ impl<T: SharedPart> SharedPart for Chunk<T> {
 }
 
 impl<T: SharedPart> Chunk<T> {
-    /// A text in one chunk, however many parts that has.
-    pub(crate) fn whole(alloc: Global, text: &str) -> Result<Chunk<T>, AllocError>
-        ensures { IfOk result (λ chunk. chunk ≡ text.now) }
-    {
-        Chunk::of(alloc, &T::cut(alloc, text)?)
-    }
-
     /// Replaces some bytes by a text, in as many parts as that takes.
     pub(crate) fn edit(&mut self, from: usize, to: usize, text: &str) -> Result<(), AllocError>
         requires can { CanReplace self.old from to }
@@ -162,8 +155,8 @@ impl<T: SharedPart> Chunk<T> {
         Ok(())
     }
 
-    /// A chunk of some parts, each held by one more.
-    fn of(alloc: Global, parts: &[T]) -> Result<Chunk<T>, AllocError>
+    /// A chunk of some parts, each held by one more, however many there are.
+    pub(crate) fn of(alloc: Global, parts: &[T]) -> Result<Chunk<T>, AllocError>
         requires { AreKept (map T.text parts.now) }
         ensures { IfOk result (λ chunk. chunk ≡ joined (map T.text parts.now)) }
     {
@@ -215,7 +208,7 @@ fn replace_shared<T: SharedPart>(
 }
 
 /// Puts parts in chunks.
-fn chunks_of<T: SharedPart>(alloc: Global, parts: &[T]) -> Result<Vec<Chunk<T>>, AllocError>
+pub(crate) fn chunks_of<T: SharedPart>(alloc: Global, parts: &[T]) -> Result<Vec<Chunk<T>>, AllocError>
     requires { AreKept (map T.text parts.now) }
     ensures { IfOk result (λ chunks. MakeUp chunks.items (joined (map T.text parts.now))) }
 {

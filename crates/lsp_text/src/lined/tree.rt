@@ -1,11 +1,13 @@
-//! A text in one block while it is short, and in chunks of blocks once it is longer.
+//! A text in one block while it is short, in one chunk while that has room for its blocks, and in
+//! chunks of chunks once it is longer.
 
 ghost use Rattle.std.specs.Prelude.{◌≡◌, ◌<◌, ◌^◌, length, IfOk, OnOk, OnErr};
 ghost use Rattle.std.specs.List.{replace_range};
-ghost use Rattle.lsp_text.specs.Parts.{CanReplace};
+ghost use Rattle.lsp_text.specs.Parts.{joined, AreKept, CanReplace};
+ghost use Rattle.lsp_text.specs.Trees.{text_kept};
 
 use crate::block::Block;
-use crate::chunk::Chunk;
+use crate::chunk::{Chunk, chunks_of};
 use crate::part::{LineEnd, Part, SharedPart};
 use crate::sums::Sums;
 use crate::walk::Visitor;
@@ -22,7 +24,10 @@ pub(super) const SHORT: usize = 2048;
 enum Kept {
     /// In one block, which has less to allocate and to search.
     Short(Block),
-    /// In chunks.
+    /// In one chunk. With many documents open, an edit mostly finds its text in no cache, and waits
+    /// for each level of chunks.
+    Middle(Chunk<Block>),
+    /// In chunks of chunks.
     Long(Chunk<Chunk<Chunk<Block>>>),
 }
 
@@ -47,6 +52,7 @@ macro_rules! kept_in {
     ($tree:expr, $part:ident => $answer:expr) => {
         match &$tree.kept {
             Kept::Short($part) => $answer,
+            Kept::Middle($part) => $answer,
             Kept::Long($part) => $answer,
         }
     };
@@ -101,12 +107,13 @@ impl Tree {
         })
     }
 
-    /// A text in chunks.
+    /// A text in one chunk, or in chunks of chunks if one has no room for its blocks.
     fn in_chunks(alloc: Global, text: &str) -> Result<Tree, AllocError>
         ensures { IfOk result (λ tree. tree ≡ text.now) }
     {
+        let chunks = Chunk::cut(alloc, text)?;
         Ok(Tree {
-            kept: Kept::Long(Chunk::whole(alloc, text)?),
+            kept: kept_in_chunks(alloc, &chunks)?,
         })
     }
 
@@ -116,12 +123,14 @@ impl Tree {
     {
         let kept = match &self.kept {
             Kept::Short(block) => Kept::Short(block.share()?),
+            Kept::Middle(chunk) => Kept::Middle(chunk.share()?),
             Kept::Long(chunks) => Kept::Long(chunks.share()?),
         };
         Ok(Tree { kept })
     }
 
-    /// Replaces some bytes by a text. A block that is full then becomes chunks.
+    /// Replaces some bytes by a text. A block that is full then becomes chunks, and a chunk without
+    /// room for its blocks becomes chunks of chunks.
     pub(super) fn edit(
         &mut self,
         alloc: Global,
@@ -136,6 +145,14 @@ impl Tree {
     {
         match &mut self.kept {
             Kept::Long(chunks) => chunks.edit(from, to, text),
+            Kept::Middle(chunk) => {
+                if chunk.replace(from, to, text)? {
+                    return Ok(());
+                }
+                let chunks = Chunk::between(alloc, chunk, from, text, chunk, to)?;
+                self.kept = kept_in_chunks(alloc, &chunks)?;
+                Ok(())
+            }
             Kept::Short(block) => {
                 if block.replace(from, to, text)? {
                     return Ok(());
@@ -146,4 +163,16 @@ impl Tree {
             }
         }
     }
+}
+
+/// Chunks of blocks, kept as they are if they are one, and else in chunks of chunks.
+fn kept_in_chunks(alloc: Global, chunks: &[Chunk<Block>]) -> Result<Kept, AllocError>
+    requires { AreKept chunks.now }
+    ensures { IfOk result (λ kept. text_kept kept ≡ joined chunks.now) }
+{
+    if chunks.len() == 1 {
+        return Ok(Kept::Middle(chunks[0].share()?));
+    }
+    let larger = chunks_of(alloc, chunks)?;
+    Ok(Kept::Long(Chunk::of(alloc, &larger)?))
 }
