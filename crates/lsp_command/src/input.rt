@@ -19,9 +19,12 @@ use std::io::{BufReader, Read};
 /// How many bytes are asked for at once.
 const GATHERED: usize = 65_536;
 
-/// How many bytes a call appends at most. Of what was read ahead, longer copies would be slower:
-/// the room for a long record is touched for the first time.
-const PIECE: usize = 2_048;
+/// How many bytes of what was read ahead a call appends at most. Longer copies would be slower: the
+/// room for a long record is touched for the first time.
+const PIECE: usize = 8_064;
+
+/// How many bytes a call asks the reader for at most, since these are zeroed first.
+const FRESH: usize = 2_048;
 
 /// A reader of what a run of this task asks for. Frames are asked for by as much as is read ahead
 /// of other tasks, so nothing is read ahead of them: each piece goes straight to the run.
@@ -121,8 +124,8 @@ impl<'a, R: Read, V: Watch> Source for BufferedInput<'a, R, V> {
         Ok(count)
     }
 
-    /// Appends bytes to the buffer as the trait says, at most [`PIECE`]: those that were read
-    /// ahead, straight from there, or if there are none, what the reader gives.
+    /// Appends bytes to the buffer as the trait says: at most [`PIECE`] of those that were read
+    /// ahead, straight from there, or if there are none, at most [`FRESH`] that the reader gives.
     fn pull_onto(&mut self, buffer: &mut Vec<u8>, most: usize) -> Result<usize, Failed>
         requires room { vec_len buffer.old + most ≤ vec_capacity buffer.old }
         ensures room { vec_capacity buffer.old ≤ vec_capacity buffer.new }
@@ -158,7 +161,7 @@ impl<'a, R: Read, V: Watch> Source for BufferedInput<'a, R, V> {
     }
 }
 
-/// Appends what one call of the input gives, at most this many bytes and [`PIECE`].
+/// Appends what one call of the input gives, at most this many bytes and [`FRESH`].
 fn pull_fresh<'a, R: Read, V: Watch>(
     input: &mut BufferedInput<'a, R, V>,
     buffer: &mut Vec<u8>,
@@ -187,7 +190,7 @@ fn pull_fresh<'a, R: Read, V: Watch>(
     // tell where an unknown input ends. So the bytes are zeroed first. They are few, since the
     // reader reads the next 64 KB ahead in the same call.
     let start = buffer.len();
-    buffer.resize(start + most.min(PIECE), 0).unwrap();
+    buffer.resize(start + most.min(FRESH), 0).unwrap();
     let answer = input.pull(&mut buffer[start..]);
     buffer.truncate(start + answer.unwrap_or(0));
     answer
