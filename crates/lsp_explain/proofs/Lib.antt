@@ -14,6 +14,7 @@ pub mod Quiet
 pub mod DocumentNoting
 pub mod Misfitting
 pub mod Refusing
+pub mod OtherSpellings
 pub mod Trails
 pub mod Ending
 pub mod Comparing

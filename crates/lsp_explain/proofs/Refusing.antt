@@ -33,7 +33,8 @@ use Rattle.lsp_replay.proofs.Seeing.{events-push}
 use Rattle.lsp_explain.specs.DocumentNotes.{DocumentNote, first_notes, notes_view, with_note}
 use Rattle.lsp_explain.specs.History.{OnDocument, last_ones, on_document, with_room}
 use Rattle.lsp_explain.specs.Openings.{Holds, on_view}
-use Rattle.lsp_explain.specs.Refusals.{AreRefusals, document_named, document_of, event_request}
+use Rattle.lsp_explain.specs.Naming.{named_by}
+use Rattle.lsp_explain.specs.Refusals.{AreRefusals, document_asked, document_of, event_request}
 use Rattle.lsp_explain.specs.Refusals.{if_open, is_request, most_requests, refusal_at, refusal_by}
 use Rattle.lsp_explain.specs.Refusals.{refusal_note, refused_id, refused_request, refuses}
 use Rattle.lsp_explain.specs.Refusals.{request_of, requests}
@@ -109,19 +110,19 @@ module _ (terms : Terms) (before : List Call) (p : EventPlace) (m : Message) whe
   abbrev asked_by : Option (List ℕ) → Option OnDocument
   asked_by named = option_map (λ uri. on_document uri p) (option_and_then (if_open terms before) named)
 
-  -- a message that names no document asks nothing
-  pub asks_none : document_named m ≡ None → request_of terms before p Editor m ≡ None
+  -- a message that asks about no document asks nothing
+  pub asks_none : document_asked m ≡ None → request_of terms before p Editor m ≡ None
   asks_none is = ap asked_by is
 
   -- nor does one that names a document that is not open
-  pub asks_unopened : (uri : List ℕ) → document_named m ≡ Some uri
+  pub asks_unopened : (uri : List ℕ) → document_asked m ≡ Some uri
       → is_some (held terms uri before) ≡ false → request_of terms before p Editor m ≡ None
   asks_unopened uri names closed =
       ap asked_by names
       ∙ ap (λ (b : Bool). option_map (λ u. on_document u p) (if b then Some uri else None)) closed
 
   -- one that names an open one asks of it
-  pub asks_open : (uri : List ℕ) → document_named m ≡ Some uri
+  pub asks_open : (uri : List ℕ) → document_asked m ≡ Some uri
       → is_some (held terms uri before) ≡ true
       → request_of terms before p Editor m ≡ Some (on_document uri p)
   asks_open uri names there =
@@ -134,14 +135,25 @@ is_request-outline (notification method params) = refl
 is_request-outline (response own (result value)) = refl
 is_request-outline (response own (error code)) = refl
 
-names_none : (m : Message) → is_request m ≡ false → document_named m ≡ None
+names_none : (m : Message) → is_request m ≡ false → document_asked m ≡ None
 names_none (request own method params) is = absurd (cc is)
 names_none (notification method params) is = refl
 names_none (response own reply) is = refl
 
--- only a request names a document
+-- a request of the editor's names what it asks about
+asked_of : (m : Message) → is_request m ≡ true → named_by Editor m ≡ document_asked m
+asked_of (request own method params) is = refl
+asked_of (notification method params) is = absurd (cc is)
+asked_of (response own reply) is = absurd (cc is)
+
+pub asked_as : (m said : Message) → outline m ≡ outline said → is_request said ≡ true
+    → document_asked m ≡ named_by Editor m
+asked_as m said same is = sym (asked_of m
+    (is_request-outline m ∙ ap is_request same ∙ sym (is_request-outline said) ∙ is))
+
+-- only a request asks about a document
 pub unasked : (m said : Message) → outline m ≡ outline said → is_request said ≡ false
-    → document_named m ≡ None
+    → document_asked m ≡ None
 unasked m said same is =
     names_none m (is_request-outline m ∙ ap is_request same ∙ sym (is_request-outline said) ∙ is)
 

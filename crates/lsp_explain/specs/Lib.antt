@@ -11,7 +11,9 @@ pub mod Trails
 pub mod Compared
 pub mod DocumentNotes
 pub mod Misfits
+pub mod Naming
 pub mod Refusals
+pub mod Spellings
 pub mod Notes
 pub mod ExplainRuns
 pub mod Explained

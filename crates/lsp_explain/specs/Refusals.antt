@@ -4,13 +4,11 @@ use Rattle.std.specs.Prelude.{if◌then◌else◌, is_some, Option, Some, None, 
 use Rattle.std.specs.Prelude.{option_and_then, codes}
 use Rattle.std.specs.Ordering.{int_eq}
 use Rattle.json.specs.Print.{quoted}
-use Rattle.serde_json.specs.Data.{Data}
 use Rattle.lsp_docs.specs.Calls.{Call}
 use Rattle.lsp_docs.specs.Documents.{Terms, held}
 use Rattle.lsp_rpc.specs.Ident.{Ident}
 use Rattle.lsp_rpc.specs.Message.{Message, request, notification, response}
 use Rattle.lsp_rpc.specs.Message.{Reply, result, error}
-use Rattle.lsp_rpc.specs.Params.{required, uri_at}
 use Rattle.lsp_session.specs.Sent.{Sent}
 use Rattle.lsp_types.specs.declared.side.Side.{Side}
 use Rattle.lsp_types.specs.declared.side.Side.TheVariants.{Editor, Server}
@@ -22,24 +20,21 @@ use Rattle.lsp_replay.specs.declared.heard.EventPlace.{EventPlace}
 use Rattle.lsp_explain.specs.Asking.{asked, numbered}
 use Rattle.lsp_explain.specs.DocumentNotes.{DocumentNote, document_note, first_notes, notes_view}
 use Rattle.lsp_explain.specs.History.{OnDocument, each_kept, last_ones, last_that, on_document}
+use Rattle.lsp_explain.specs.Naming.{document_in}
 use Rattle.lsp_explain.specs.Openings.{closings, ons_view, stayed_open}
 use Rattle.lsp_explain.specs.declared.notes.refusals.Refusals as code
 
 -- ---- requests about documents
 
--- the document that params name (LSP 3.17, TextDocumentIdentifier)
-abbrev pub document_in : Data → Option (List ℕ)
-document_in params = required (codes "textDocument") uri_at params
-
--- the one that a request names
-abbrev pub document_named : Message → Option (List ℕ)
-document_named (request id method params) = option_and_then document_in params
-document_named (notification method params) = None
-document_named (response id reply) = None
+-- the document that a request names
+abbrev pub document_asked : Message → Option (List ℕ)
+document_asked (request id method params) = option_and_then document_in params
+document_asked (notification method params) = None
+document_asked (response id reply) = None
 
 -- that of a request of the editor
 abbrev pub document_of : Side → Message → Option (List ℕ)
-document_of Editor m = document_named m
+document_of Editor m = document_asked m
 document_of Server m = None
 
 -- it is open after these calls

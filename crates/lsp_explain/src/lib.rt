@@ -14,6 +14,7 @@ mod notes;
 mod offence_facts;
 mod run;
 mod run_all;
+mod spelled;
 mod suspects;
 mod trace;
 mod trail;

@@ -1,5 +1,5 @@
 //! What is said about a document that is not open.
-ghost use Rattle.std.specs.Prelude.{◌≡◌, ◌++◌, List, IfOk, OnOk};
+ghost use Rattle.std.specs.Prelude.{◌≡◌, ◌++◌, List, OnOk};
 ghost use Rattle.std.specs.List.{flat_map};
 ghost use Rattle.lsp_docs.specs.Calls.{uri_of};
 ghost use Rattle.lsp_docs.specs.Taken.{call_view};
@@ -8,14 +8,13 @@ ghost use Rattle.lsp_verdict.specs.Event.{Event};
 ghost use Rattle.lsp_explain.specs.Trails.{StandsAfter, terms_in};
 ghost use Rattle.lsp_explain.specs.Traced as spec;
 
+use crate::spelled::{is_spelled, stands_open};
 use crate::trail::{Closing, DocumentEvent, Past};
 use lsp_docs::Call;
 use lsp_facts::Facts;
-use lsp_replay::EventPlace;
 use lsp_rpc::Result;
 use lsp_survey::folded;
 use lsp_types::rules;
-use std::alloc::Global;
 
 /// Adds to the facts on a call that breaks this rule, under 602, how the document of which it
 /// speaks was closed, and which documents with a similar URI are open. The past is of the events
@@ -107,34 +106,5 @@ fn is_standing(past: Past<'_>, on: &DocumentEvent) -> bool
         → result ≡ spec.is_standing (terms_in past.entry) before (on_view on.now) }
 {
     let Past { held, trail } = past;
-    let uri = on.uri.as_str();
-    held.docs.version_of(uri).is_some() && is_at(on.place, trail.openings.opening(uri))
-}
-
-fn is_at(place: EventPlace, other: Option<EventPlace>) -> bool
-    ensures { result ≡ spec.is_at place other }
-{
-    match other {
-        Some(other) => place.event == other.event,
-        None => false,
-    }
-}
-
-/// Whether another URI differs in its spelling alone from one of this size with this spelling, and
-/// is at most three times as long.
-fn is_spelled(alloc: Global, size: usize, spelling: &[u8], other: &str) -> Result<bool>
-    ensures { IfOk result (λ spelled. spelled ≡ spec.is_spelled size spelling.now other.now) }
-{
-    if is_long(size, other.len()) {
-        return Ok(false);
-    }
-    let folded = folded(alloc, other)?;
-    Ok(spelling == folded.as_slice())
-}
-
-/// Whether the other size is more than three times this one.
-fn is_long(size: usize, other: usize) -> bool
-    ensures { result ≡ spec.is_long size other }
-{
-    other > size.saturating_mul(3)
+    stands_open(&held.docs, &trail.openings, on)
 }

@@ -4,7 +4,6 @@ ghost use Rattle.std.specs.Prelude.{Some, is_some, map, option_and_then, option_
 ghost use Rattle.std.specs.Prelude.{string_bytes, ◌==◌};
 ghost use Rattle.std.specs.List.{cons_option};
 ghost use Rattle.std.specs.Ordering.{int_eq};
-ghost use Rattle.serde_json.specs.View.{view};
 ghost use Rattle.lsp_docs.specs.Calls.{Call as SpecCall};
 ghost use Rattle.lsp_docs.specs.Documents.{Terms, held as held_at};
 ghost use Rattle.lsp_docs.specs.State.{Stands};
@@ -24,14 +23,14 @@ ghost use Rattle.lsp_verdict.specs.Event.{Event};
 ghost use Rattle.lsp_verdict.specs.Heard.{Heard, heard_events};
 
 use crate::notes::document_notes::{DocumentNote, is_noted, push_lines, push_note};
-use crate::trail::{DocumentEvent, Trail, push_within, text_at};
+use crate::notes::naming::document_of;
+use crate::trail::{DocumentEvent, Trail, push_within};
 use lsp_docs::Docs;
 use lsp_facts::Facts;
 use lsp_replay::{EventPlace, Events, Seen};
-use lsp_rpc::{Answer, Id, Memory, Message, Result, RpcFault, Side, push_quoted, read};
+use lsp_rpc::{Answer, Id, Message, Result, Side, push_quoted};
 use lsp_text::Lined;
 use lsp_verdict::{Raw, who_of};
-use serde_json::Value;
 use std::alloc::Global;
 use std::collections::VecDeque;
 
@@ -279,7 +278,7 @@ fn note_request(
     if !is_request(message) {
         return Ok(());
     }
-    let Some(uri) = document_of(docs.alloc(), content)? else {
+    let Some(uri) = document_of(docs.alloc(), Side::Editor, content)? else {
         return Ok(());
     };
     if !is_open(docs, uri.as_str()) {
@@ -300,52 +299,4 @@ fn is_open(docs: &Docs<Lined>, uri: &str) -> bool
         → result ≡ is_some (held_at docs.now.terms uri.now calls) }
 {
     docs.version_of(uri).is_some()
-}
-
-/// The document that the request of a content names: reads it again, with its params.
-fn document_of(alloc: Global, content: &[u8]) -> Result<Option<String>>
-    ensures { IfOk result (λ uri. (m : AMessage) → Reads content.now m
-        → option_map string_bytes uri ≡ spec.document_named m) }
-{
-    match read(alloc, content) {
-        Ok(message) => {
-            let uri = copy_document(alloc, &message);
-            drop(message);
-            uri
-        }
-        Err(RpcFault::Rule(_)) => Ok(None),
-        Err(RpcFault::Memory) => Err(Memory),
-    }
-}
-
-/// A copy of the URI of the document that a request names.
-fn copy_document(alloc: Global, message: &Message) -> Result<Option<String>>
-    ensures { IfOk result (λ uri. option_map string_bytes uri
-        ≡ spec.document_named (message_view message.now)) }
-{
-    match document_named(message) {
-        Some(uri) => Ok(Some(String::from_str(alloc, uri)?)),
-        None => Ok(None),
-    }
-}
-
-/// The URI of the document that a request names.
-fn document_named(message: &Message) -> Option<&str>
-    ensures { option_map (λ uri. uri.now) result
-        ≡ spec.document_named (message_view message.now) }
-{
-    match message {
-        Message::Request {
-            params: Some(params),
-            ..
-        } => document_in(params),
-        _ => None,
-    }
-}
-
-/// The URI of the document that params name.
-fn document_in(params: &Value) -> Option<&str>
-    ensures { option_map (λ uri. uri.now) result ≡ spec.document_in (view params.now) }
-{
-    text_at(params.get("textDocument")?, "uri")
 }

@@ -3,12 +3,12 @@ use Rattle.std.proofs.lemmas.Result.{IfOk-weaker}
 use Rattle.lsp_rpc.specs.Reading.{BreaksRule, IsRefusal}
 use Rattle.lsp_rpc.specs.View.{message_view}
 use Rattle.lsp_verdict.proofs.Below.{not_both, one_message}
-use Rattle.lsp_explain.specs.Refusals.{document_named}
-use Rattle.lsp_explain.proofs.notes.refusals.document_of.Goals as goal
+use Rattle.lsp_explain.specs.Naming.{named_by}
+use Rattle.lsp_explain.proofs.notes.naming.document_of.Goals as goal
 
 pub returns-in-Ok : goal.returns-in-Ok
 returns-in-Ok c = IfOk-weaker c.copy_document-uri.result _ _
-    (λ uri is m reads. is ∙ ap document_named
+    (λ uri is m reads. is ∙ ap (named_by c.args.side)
     (one_message c.args.content.now (message_view c.in-Ok.message) m c.in-Ok.ensures.ok reads))
     c.copy_document-uri.ensures
 

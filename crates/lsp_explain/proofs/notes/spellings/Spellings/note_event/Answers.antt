@@ -1,0 +1,13 @@
+use Rattle.std.proofs.lemmas.Result.{on_ok_weaker}
+use Rattle.lsp_explain.proofs.notes.spellings.Spellings.note_event.Goals as goal
+
+-- it says nothing of a document
+pub returns-in_default : goal.returns-in_default
+returns-in_default c = on_ok_weaker c.note_message.result
+    (λ noted terms before h trail are seen kept.
+    noted terms before h trail are seen kept c.in_default.is) c.note_message.ensures
+
+pub returns : goal.returns
+returns c = on_ok_weaker c.note_call.result
+    (λ noted terms before h trail are seen kept.
+    noted terms before h trail are seen kept c.in-Some.is) c.note_call.ensures
