@@ -15,6 +15,7 @@ pub mod DocumentNoting
 pub mod Misfitting
 pub mod Refusing
 pub mod OtherSpellings
+pub mod Changing
 pub mod Trails
 pub mod Ending
 pub mod Comparing

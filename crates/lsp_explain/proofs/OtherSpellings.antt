@@ -4,9 +4,9 @@ use Rattle.std.specs.List.{cons_option, find}
 use Rattle.std.specs.Option.{option_or}
 use Rattle.std.specs.Str.{bytes_eq}
 use Rattle.std.proofs.Common.{◌≡◌, ℕ, Bool, true, false, List, [], ◌∷◌, ◌++◌, Option, Some, None}
-use Rattle.std.proofs.Common.{refl, sym, ap, ◌∙◌, subst, append-nil}
+use Rattle.std.proofs.Common.{refl, sym, ap, ◌∙◌, subst}
 use Rattle.std.proofs.lemmas.List.Folds.{find-append}
-use Rattle.lsp_docs.specs.Calls.{Call, opens, saves}
+use Rattle.lsp_docs.specs.Calls.{Call, opens, changes, closes, saves, shows}
 use Rattle.lsp_docs.specs.Documents.{Terms, Version, held, revised, versioned}
 use Rattle.lsp_docs.proofs.HeldSteps.{held-snoc}
 use Rattle.lsp_rpc.specs.Message.{Message, notification, request, response, result, error}
@@ -31,14 +31,28 @@ use Rattle.lsp_replay.proofs.Seeing.{events-push}
 use Rattle.lsp_explain.specs.DocumentNotes.{DocumentNote, document_note, first_notes, is_noted}
 use Rattle.lsp_explain.specs.DocumentNotes.{notes_view, with_note}
 use Rattle.lsp_explain.specs.History.{OnDocument, on_document}
-use Rattle.lsp_explain.specs.Naming.{may_name, named_by}
-use Rattle.lsp_explain.specs.Spellings.{AreSpellings, HoldsOthers, if_unopened, similar_note}
+use Rattle.lsp_explain.specs.Naming.{if_unopened, may_name, named_by}
+use Rattle.lsp_explain.specs.Saves.{unopened_save}
+use Rattle.lsp_explain.specs.Spellings.{AreSpellings, HoldsOthers, similar_note}
 use Rattle.lsp_explain.specs.Spellings.{similar_words, spelling_at, spelling_by, spelling_note}
 use Rattle.lsp_explain.specs.Spellings.{unopened_by, unopened_in}
 use Rattle.lsp_explain.specs.declared.notes.spellings.Spellings.{Spellings}
 use Rattle.lsp_explain.proofs.DocumentNoting.{first_notes_with}
 
 -- ---- one event more
+
+-- the calls, with what it says about a document
+pub calls_after : (terms : Terms) (before : List Heard) (h : Heard) (o : Option Call)
+    → rule_of terms before h ≡ None → call_at (kept_before terms before) h.note.event ≡ o
+    → calls (kept_of terms (heard_events (before ++ h ∷ [])))
+    ≡ calls (kept_of terms (heard_events before)) ++ cons_option o []
+calls_after terms before h o kept says =
+    let events = heard_events before in
+    let own = calls (kept_of terms events) in
+    ap (λ (es : List Event). calls (kept_of terms es)) (events-push before h)
+    ∙ ap calls (kept-push terms events h.note.event kept)
+    ∙ each_of-snoc call_at (kept_of terms events) h.note.event
+    ∙ ap (λ (w : Option Call). own ++ cons_option w []) says
 
 module _ (terms : Terms) (events : List Event) (e : Event)
     (kept_here : rule_at terms events e ≡ None) where
@@ -141,6 +155,12 @@ saved_so : (terms : Terms) (other uri : List ℕ) (t : Option (List ℕ)) (h : O
 saved_so terms other uri t None = refl
 saved_so terms other uri t (Some v) = refl
 
+-- one that says nothing opens none
+pub others_stay : (terms : Terms) (uri : List ℕ) (before after : List Call) → after ≡ before
+    → HoldsOthers terms uri before after
+others_stay terms uri before after same = λ other apart.
+    ap (λ (made : List Call). is_some (held terms other made)) same
+
 -- one that saves it opens none
 saved_all : (terms : Terms) (before : List Call) (uri : List ℕ) (t : Option (List ℕ))
     (other : List ℕ)
@@ -157,6 +177,15 @@ saved_unopened : (terms : Terms) (before : List Call) (uri : List ℕ) (t : Opti
     → if_unopened terms (before ++ saves uri t ∷ []) uri ≡ if_unopened terms before uri
 saved_unopened terms before uri t =
     ap (λ (b : Bool). if b then None else Some uri) (saved_all terms before uri t uri)
+
+-- what a call saves that is not open is the same before it and after it
+pub save_same : (terms : Terms) (before : List Call) (call : Call)
+    → unopened_save terms (before ++ call ∷ []) call ≡ unopened_save terms before call
+save_same terms before (opens uri n t) = refl
+save_same terms before (changes enc kind uri n cs) = refl
+save_same terms before (closes uri) = refl
+save_same terms before (saves uri t) = saved_unopened terms before uri t
+save_same terms before (shows uri n t) = refl
 
 -- what a call opens, or saves though it is not open, is the same before it and after it, and the
 -- others are
@@ -237,20 +266,6 @@ module _ (terms : Terms) (before : List Heard) (h : Heard) (old : Spellings)
   abbrev m : Message
   m = spoken.sent.message
 
-  -- the calls stay
-  pub calls_stay : calls (kept_of terms (heard_events (before ++ h ∷ []))) ≡ own
-  calls_stay =
-      ap (λ (es : List Event). calls (kept_of terms es)) (events-push before h)
-      ∙ ap calls (kept-push terms events h.note.event kept_here)
-      ∙ each_of-snoc call_at (kept_of terms events) h.note.event
-      ∙ ap (λ (o : Option Call). own ++ cons_option o []) unsaid
-      ∙ append-nil own
-
-  pub stays_open : (uri : List ℕ)
-      → HoldsOthers terms uri own (calls (kept_of terms (heard_events (before ++ h ∷ []))))
-  stays_open uri = λ other apart.
-      ap (λ (made : List Call). is_some (held terms other made)) calls_stay
-
   own_side : spoken.sent.side ≡ side
   own_side = (subst (λ (x : Event). Reads (content side bytes) x) spoken.is reads).by
 
@@ -307,14 +322,6 @@ module _ (terms : Terms) (before : List Heard) (h : Heard) (old : Spellings)
 
   abbrev own : List Call
   own = calls (kept_of terms events)
-
-  -- one call more
-  pub calls_more : calls (kept_of terms (heard_events (before ++ h ∷ []))) ≡ own ++ call ∷ []
-  calls_more =
-      ap (λ (es : List Event). calls (kept_of terms es)) (events-push before h)
-      ∙ ap calls (kept-push terms events h.note.event kept_here)
-      ∙ each_of-snoc call_at (kept_of terms events) h.note.event
-      ∙ ap (λ (o : Option Call). own ++ cons_option o []) says
 
   -- nothing, where its document is open, or where it is a snapshot
   none_by : (p : EventPlace) (e : Event) → call_at (kept_of terms events) e ≡ Some call

@@ -4,7 +4,7 @@ use Rattle.std.specs.Prelude.{option_and_then, Result, Ok, Err, OnOk}
 use Rattle.std.specs.List.{cons_option}
 use Rattle.std.specs.Option.{option_or}
 use Rattle.std.proofs.Common.{◌≡◌, ℕ, List, [], ◌∷◌, ◌++◌, Option, Some, None, refl, sym, ap, ◌∙◌}
-use Rattle.std.proofs.Common.{append-nil, subst}
+use Rattle.std.proofs.Common.{append-nil, map, subst}
 use Rattle.lsp_docs.specs.Calls.{Call}
 use Rattle.lsp_docs.specs.Documents.{Terms}
 use Rattle.lsp_docs.specs.Taken.{took_by}
@@ -27,11 +27,14 @@ use Rattle.lsp_verdict.specs.Offences.{kept_of, rule_at}
 use Rattle.lsp_verdict.specs.Placed.{Reads, content}
 use Rattle.lsp_verdict.specs.declared.raw.Raw as lent
 use Rattle.lsp_verdict.specs.declared.raw.Raw.TheVariants as lents
-use Rattle.lsp_explain.specs.History.{KeptCall, call_kept, event_kept, kept_calls}
+use Rattle.lsp_explain.specs.History.{KeptCall, call_kept, event_kept, kept_calls, last_ones}
 use Rattle.lsp_explain.specs.Marking.{MarkedBy}
-use Rattle.lsp_explain.specs.Openings.{OpenedBy}
+use Rattle.lsp_explain.specs.Openings.{Holds, OpenedBy, ons_view}
 use Rattle.lsp_explain.specs.Renames.{RenamesIn, moves_view, renamed_by, renamed_held}
 use Rattle.lsp_explain.specs.Conversations.{IsConversation, Says}
+use Rattle.lsp_explain.specs.Saves.{AreSaves, event_save, most_saves, save_by, saves_unopened}
+use Rattle.lsp_explain.specs.SentChanges.{AreChanges, HoldsChanges, change_by, change_view}
+use Rattle.lsp_explain.specs.SentChanges.{event_change, most_changes, sent_changes}
 use Rattle.lsp_explain.specs.Trails.{IsTrail, Keeps}
 use Rattle.lsp_explain.specs.declared.trail.marks.Marks.{Marks}
 use Rattle.lsp_explain.specs.declared.trail.openings.Openings.{Openings}
@@ -90,6 +93,10 @@ module _ (terms : Terms) (before : List Heard) (h : Heard) (old : Trail)
       subst (IsTrail terms old) (sym (events-push before h)) (record {
         marked = subst (MarkedBy old.marks.map.entries) (sym same) is.marked;
         opened = subst (OpenedBy old.openings) (sym same) is.opened;
+        changed = is.changed ∙ ap (last_ones most_changes)
+            (sym (refused_more event_change terms events h.note.event rule offends));
+        saved = is.saved ∙ ap (last_ones most_saves)
+            (sym (refused_more (event_save terms) terms events h.note.event rule offends));
         said = refused_unsaid terms old.said events h.note.event rule is.said offends;
       })
 
@@ -99,9 +106,11 @@ module _ (terms : Terms) (before : List Heard) (h : Heard) (old : Trail)
     kept_so : (more : Option KeptCall)
         → event_kept terms place (kept_of terms events) h.note.event ≡ more
         → Keeps more old.marks old.openings new.marks new.openings
+        → AreChanges terms new.changes (events ++ h.note.event ∷ [])
+        → AreSaves terms new.saves (events ++ h.note.event ∷ [])
         → IsConversation terms new.said (events ++ h.note.event ∷ [])
         → IsTrail terms new (heard_events (before ++ h ∷ []))
-    kept_so more does keeps said =
+    kept_so more does keeps changed saved said =
         let whole : kept_calls terms (events ++ h.note.event ∷ [])
         ≡ kept_calls terms events ++ cons_option more [] =
         kept_more (event_kept terms) terms events h.note.event place more kept_here at does in
@@ -110,6 +119,8 @@ module _ (terms : Terms) (before : List Heard) (h : Heard) (old : Trail)
               (keeps.marked (kept_calls terms events) is.marked);
           opened = subst (OpenedBy new.openings) (sym whole)
               (keeps.opened (kept_calls terms events) is.opened);
+          changed = changed;
+          saved = saved;
           said = said;
         })
 
@@ -118,15 +129,26 @@ module _ (terms : Terms) (before : List Heard) (h : Heard) (old : Trail)
         → call_at (kept_before terms before) h.note.event ≡ Some call
         → took ≡ took_of terms (calls (kept_before terms before)) (Some call)
         → Keeps (call_kept place call took) old.marks old.openings new.marks new.openings
+        → HoldsChanges (cons_option (change_by place call) []) old.changes.sent.items
+        new.changes.sent.items
+        → Holds most_saves (cons_option (save_by terms (calls (kept_before terms before)) place call)
+        []) old.saves.saved.items new.saves.saved.items
         → new.said ≡ record old.said { renames = r } → r.moves ≡ old.said.renames.moves
         → renamed_held r ≡ option_or (renamed_held old.said.renames)
         (renamed_by place (moves_view old.said.renames.moves.items) call)
         → IsTrail terms new (heard_events (before ++ h ∷ []))
-    trail_called call took r reads says told keeps same moves renamed =
+    trail_called call took r reads says told keeps changes saves same moves renamed =
         kept_so (call_kept place call took)
         (ap (option_and_then (λ one. call_kept place one
         (took_by terms (calls (kept_of terms events)) one))) says
         ∙ ap (call_kept place call) (sym told)) keeps
+        (changes (sent_changes terms events) is.changed
+        ∙ ap (last_ones most_changes) (sym (kept_more event_change terms events h.note.event place
+        (change_by place call) kept_here at (ap (option_and_then (change_by place)) says))))
+        (saves (saves_unopened terms events) is.saved
+        ∙ ap (last_ones most_saves) (sym (kept_more (event_save terms) terms events h.note.event
+        place (save_by terms (calls (kept_of terms events)) place call) kept_here at
+        (ap (option_and_then (save_by terms (calls (kept_of terms events)) place)) says))))
         (subst (λ (n : Conversation). IsConversation terms n (events ++ h.note.event ∷ [])) (sym same)
         (call_taken terms old.said r events h.note.event h.raw place call is.said kept_here reads at
         says moves renamed))
@@ -136,13 +158,14 @@ module _ (terms : Terms) (before : List Heard) (h : Heard) (old : Trail)
         → Reads (content side bytes) h.note.event
         → IsSpoken (kept_before terms before) h.note.event by s
         → call_at (kept_before terms before) h.note.event ≡ None
-        → new.marks ≡ old.marks → new.openings ≡ old.openings
+        → new.marks ≡ old.marks → new.openings ≡ old.openings → new.changes ≡ old.changes
+        → new.saves ≡ old.saves
         → Says place side (message_view s.message)
         (phase (sent_in (kept_of terms (heard_events (before ++ h ∷ [])))))
         (is_done (sent_in (kept_of terms (heard_events (before ++ h ∷ []))))) old.said new.said
         → RenamesIn place side bytes (message_view s.message) None old.said.renames new.said.renames
         → IsTrail terms new (heard_events (before ++ h ∷ []))
-    trail_said side bytes by s reads spoken says marks openings told renamed =
+    trail_said side bytes by s reads spoken says marks openings changes saves told renamed =
         let sent = spoken.sent in
         let own = subst (λ (e : Event). Reads (content side bytes) e) spoken.is reads in
         let all : heard_events (before ++ h ∷ []) ≡ events ++ message sent ∷ [] =
@@ -163,6 +186,15 @@ module _ (terms : Terms) (before : List Heard) (h : Heard) (old : Trail)
         (subst (λ (m : Marks). Keeps None old.marks old.openings m new.openings) (sym marks)
         (subst (Keeps None old.marks old.openings old.marks) (sym openings)
         (none_kept old.marks old.openings)))
+        (ap (λ c. map change_view c.sent.items) changes ∙ is.changed
+        ∙ ap (last_ones most_changes) (sym (kept_more event_change terms events h.note.event place
+        None kept_here at (ap (option_and_then (change_by place)) says)
+        ∙ append-nil (sent_changes terms events))))
+        (ap (λ s. ons_view s.saved.items) saves ∙ is.saved
+        ∙ ap (last_ones most_saves) (sym (kept_more (event_save terms) terms events h.note.event
+        place None kept_here at
+        (ap (option_and_then (save_by terms (calls (kept_of terms events)) place)) says)
+        ∙ append-nil (saves_unopened terms events))))
         (subst (λ (e : Event). IsConversation terms new.said (events ++ e ∷ [])) (sym spoken.is)
         (message_taken terms old.said new.said events sent bytes (message_view s.message) place
         is.said (ap (λ (e : Event). rule_at terms events e) (sym spoken.is) ∙ kept_here)

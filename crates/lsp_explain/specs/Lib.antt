@@ -2,6 +2,9 @@ pub mod History
 pub mod Asking
 pub mod Marking
 pub mod Openings
+pub mod Naming
+pub mod Saves
+pub mod SentChanges
 pub mod StandardMethods
 pub mod SessionNotes
 pub mod Renames
@@ -11,7 +14,6 @@ pub mod Trails
 pub mod Compared
 pub mod DocumentNotes
 pub mod Misfits
-pub mod Naming
 pub mod Refusals
 pub mod Spellings
 pub mod Notes

@@ -1,8 +1,10 @@
--- Which document a message names in its params.
-use Rattle.std.specs.Prelude.{ℕ, List, Bool, true, false, Option, None, if◌then◌else◌, codes}
-use Rattle.std.specs.Prelude.{option_and_then}
+-- Which document a message names in its params, and whether it is open.
+use Rattle.std.specs.Prelude.{ℕ, List, Bool, true, false, Option, Some, None, if◌then◌else◌}
+use Rattle.std.specs.Prelude.{codes, is_some, option_and_then}
 use Rattle.std.specs.Str.{bytes_eq}
 use Rattle.serde_json.specs.Data.{Data}
+use Rattle.lsp_docs.specs.Calls.{Call}
+use Rattle.lsp_docs.specs.Documents.{Terms, held}
 use Rattle.lsp_rpc.specs.Message.{Message, request, notification, response}
 use Rattle.lsp_rpc.specs.Params.{required, uri_at}
 use Rattle.lsp_types.specs.declared.side.Side.{Side}
@@ -52,3 +54,9 @@ diagnoses (response id reply) = false
 abbrev pub may_name : Side → Message → Bool
 may_name Editor m = is_call m
 may_name Server m = diagnoses m
+
+-- ---- whether it is open
+
+-- the URI, if no document of it is open after these calls
+abbrev pub if_unopened : Terms → List Call → List ℕ → Option (List ℕ)
+if_unopened terms before uri = if is_some (held terms uri before) then None else Some uri

@@ -1,6 +1,6 @@
 -- Which messages name a document that is not open, while one is open whose URI differs from its URI
 -- in the spelling alone.
-use Rattle.std.specs.Prelude.{◌≡◌, ◌&&◌, ℕ, List, [], ◌∷◌, ◌++◌, length, Bool, false, not, is_some}
+use Rattle.std.specs.Prelude.{◌≡◌, ◌&&◌, ℕ, List, [], ◌∷◌, ◌++◌, length, Bool, not, is_some}
 use Rattle.std.specs.Prelude.{if◌then◌else◌, Option, Some, None, option_and_then, option_map, codes}
 use Rattle.std.specs.List.{find}
 use Rattle.std.specs.Str.{bytes_eq}
@@ -18,16 +18,13 @@ use Rattle.lsp_replay.specs.Lines.{place_of}
 use Rattle.lsp_replay.specs.declared.heard.EventPlace.{EventPlace}
 use Rattle.lsp_explain.specs.DocumentNotes.{DocumentNote, document_note, first_notes, notes_view}
 use Rattle.lsp_explain.specs.History.{OnDocument, on_document}
-use Rattle.lsp_explain.specs.Naming.{named_by}
+use Rattle.lsp_explain.specs.Naming.{if_unopened, named_by}
 use Rattle.lsp_explain.specs.Openings.{AreOpenings}
 use Rattle.lsp_explain.specs.Traced.{is_spelled, is_standing, last_openings}
 use Rattle.lsp_explain.specs.declared.notes.spellings.Spellings as code
 use Rattle.lsp_explain.specs.declared.notes.spellings.Sought.{Sought}
 
 -- ---- a document that a message names, and that is not open
-
-abbrev pub if_unopened : Terms → List Call → List ℕ → Option (List ℕ)
-if_unopened terms before uri = if is_some (held terms uri before) then None else Some uri
 
 -- one of which a message says this, after these calls: none is open where it opens one (601), and
 -- one is where it changes or closes it (602)

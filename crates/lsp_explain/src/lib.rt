@@ -10,6 +10,7 @@
 
 mod compared;
 mod laws;
+mod naming;
 mod notes;
 mod offence_facts;
 mod run;
@@ -20,6 +21,7 @@ mod trace;
 mod trail;
 mod twins;
 mod unopened;
+mod unrisen;
 
 pub use compared::{ComparedText, run_compared};
 pub use laws::{

@@ -14,7 +14,6 @@ ghost use Rattle.lsp_explain.specs.Trails.{StandsAfter, terms_in};
 
 mod document_notes;
 mod misfits;
-mod naming;
 mod refusals;
 mod spellings;
 

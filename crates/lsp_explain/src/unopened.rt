@@ -12,13 +12,14 @@ use crate::spelled::{is_spelled, stands_open};
 use crate::trail::{Closing, DocumentEvent, Past};
 use lsp_docs::Call;
 use lsp_facts::Facts;
+use lsp_replay::EventPlace;
 use lsp_rpc::Result;
 use lsp_survey::folded;
 use lsp_types::rules;
 
 /// Adds to the facts on a call that breaks this rule, under 602, how the document of which it
-/// speaks was closed, and which documents with a similar URI are open. The past is of the events
-/// before it.
+/// speaks was closed, and saved since, and which documents with a similar URI are open. The past is
+/// of the events before it.
 pub(crate) fn trace_unopened(
     facts: &mut Facts,
     past: Past<'_>,
@@ -33,7 +34,9 @@ pub(crate) fn trace_unopened(
         return Ok(());
     }
     let uri = call.uri();
-    push_closing(facts, past.trail.openings.closing(uri))?;
+    let closing = past.trail.openings.closing(uri);
+    push_closing(facts, closing)?;
+    push_saved(facts, closing, past.trail.saves.last(uri))?;
     push_similar(facts, past, uri)
 }
 
@@ -45,6 +48,37 @@ fn push_closing(facts: &mut Facts, closing: Closing) -> Result<()>
         Closing::Last(place) => facts.event("closed", place),
         Closing::Never => facts.word("opened", "never"),
         Closing::Forgotten => Ok(()),
+    }
+}
+
+/// Adds the message that saved the document last while it was not open, if none closed it since.
+fn push_saved(facts: &mut Facts, closing: Closing, saved: Option<EventPlace>) -> Result<()>
+    ensures { OnOk result (facts.new ≡ facts.old ++ spec.saved_facts closing saved) }
+{
+    match saved {
+        Some(place) => push_save(facts, closing, place),
+        None => Ok(()),
+    }
+}
+
+fn push_save(facts: &mut Facts, closing: Closing, place: EventPlace) -> Result<()>
+    ensures { OnOk result (facts.new ≡ facts.old ++ spec.save_facts closing place) }
+{
+    if is_since(closing, place) {
+        facts.event("saved-as", place)
+    } else {
+        Ok(())
+    }
+}
+
+/// Whether the event of this place comes after the closing, if one is known.
+fn is_since(closing: Closing, place: EventPlace) -> bool
+    ensures { result ≡ spec.is_since closing place }
+{
+    match closing {
+        Closing::Last(closed) => closed.event < place.event,
+        Closing::Never => true,
+        Closing::Forgotten => true,
     }
 }
 

@@ -5,7 +5,7 @@ ghost use Rattle.std.specs.Prelude.{string_bytes, ◌==◌};
 ghost use Rattle.std.specs.List.{cons_option};
 ghost use Rattle.std.specs.Ordering.{int_eq};
 ghost use Rattle.lsp_docs.specs.Calls.{Call as SpecCall};
-ghost use Rattle.lsp_docs.specs.Documents.{Terms, held as held_at};
+ghost use Rattle.lsp_docs.specs.Documents.{Terms};
 ghost use Rattle.lsp_docs.specs.State.{Stands};
 ghost use Rattle.lsp_explain.specs.DocumentNotes.{document_line, notes_view, with_note};
 ghost use Rattle.lsp_explain.specs.History.{last_that};
@@ -22,8 +22,8 @@ ghost use Rattle.lsp_rpc.specs.View.{answer_view, message_view};
 ghost use Rattle.lsp_verdict.specs.Event.{Event};
 ghost use Rattle.lsp_verdict.specs.Heard.{Heard, heard_events};
 
+use crate::naming::{document_of, is_open};
 use crate::notes::document_notes::{DocumentNote, is_noted, push_lines, push_note};
-use crate::notes::naming::document_of;
 use crate::trail::{DocumentEvent, Trail, push_within};
 use lsp_docs::Docs;
 use lsp_facts::Facts;
@@ -291,12 +291,4 @@ fn is_request(message: &Message) -> bool
     ensures { result ≡ spec.is_request (message_view message.now) }
 {
     matches!(message, Message::Request { .. })
-}
-
-/// Whether the document of this URI is open.
-fn is_open(docs: &Docs<Lined>, uri: &str) -> bool
-    ensures { (calls : List SpecCall) → Stands docs.now calls
-        → result ≡ is_some (held_at docs.now.terms uri.now calls) }
-{
-    docs.version_of(uri).is_some()
 }

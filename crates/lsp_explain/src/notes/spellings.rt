@@ -17,8 +17,8 @@ ghost use Rattle.lsp_verdict.specs.Event.{Event, calls};
 ghost use Rattle.lsp_verdict.specs.Heard.{Heard, heard_events};
 ghost use Rattle.lsp_verdict.specs.Offences.{kept_of};
 
+use crate::naming::{document_of, if_unopened, may_name};
 use crate::notes::document_notes::{DocumentNote, is_noted, push_lines, push_note};
-use crate::notes::naming::{document_of, may_name};
 use crate::spelled::{is_spelled, stands_open};
 use crate::trail::{DocumentEvent, Openings, Trail};
 use lsp_docs::{Call, Docs};
@@ -186,19 +186,7 @@ fn unopened_by<'a>(docs: &Docs<Lined>, call: Call<'a>) -> Option<&'a str>
     match call {
         Call::Opens { uri, .. } => Some(uri),
         Call::Saves { uri, .. } => if_unopened(docs, uri),
-        _ => None,
-    }
-}
-
-/// The URI, if no document of it is open.
-fn if_unopened<'a>(docs: &Docs<Lined>, uri: &'a str) -> Option<&'a str>
-    ensures { (made : List SpecCall) → Stands docs.now made
-        → option_map (λ uri. uri.now) result ≡ spec.if_unopened docs.now.terms made uri.now }
-{
-    if docs.version_of(uri).is_some() {
-        None
-    } else {
-        Some(uri)
+        Call::Changes { .. } | Call::Closes { .. } | Call::Shows { .. } => None,
     }
 }
 

@@ -4,5 +4,7 @@ pub returns : goal.returns
 returns c = λ terms. record {
   marked = c.new.ensures;
   opened = c.new-2.ensures;
-  said = c.new-3.ensures;
+  changed = c.new-3.ensures terms;
+  saved = c.new-4.ensures terms;
+  said = c.new-5.ensures;
 }

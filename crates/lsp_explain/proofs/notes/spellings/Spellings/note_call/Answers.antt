@@ -1,5 +1,5 @@
 use Rattle.std.specs.Prelude.{option_map}
-use Rattle.std.proofs.Common.{◌≡◌, ◌∙◌, ◌++◌, ◌∷◌, [], ap, refl, subst, sym}
+use Rattle.std.proofs.Common.{◌≡◌, ◌∙◌, ◌++◌, ◌∷◌, [], Some, ap, refl, subst, sym}
 use Rattle.std.proofs.lemmas.Result.{on_ok_weaker}
 use Rattle.lsp_docs.specs.Documents.{Terms}
 use Rattle.lsp_docs.specs.Taken.{call_view}
@@ -13,7 +13,7 @@ use Rattle.lsp_verdict.specs.Placed.{Raw}
 use Rattle.lsp_explain.specs.DocumentNotes.{notes_view, with_note}
 use Rattle.lsp_explain.specs.Openings.{AreOpenings}
 use Rattle.lsp_explain.specs.Spellings.{HoldsOthers, spelling_note, unopened_by}
-use Rattle.lsp_explain.proofs.OtherSpellings.{called_none, called_one, calls_more, none_before}
+use Rattle.lsp_explain.proofs.OtherSpellings.{called_none, called_one, calls_after, none_before}
 use Rattle.lsp_explain.proofs.OtherSpellings.{unopened_before}
 use Rattle.lsp_explain.proofs.notes.spellings.Spellings.note_call.Goals as goal
 
@@ -23,7 +23,7 @@ returns-in_default c = λ terms before h trail are seen kept said.
     let call = call_view c.args.call in
     let own = calls (kept_of terms (heard_events before)) in
     let says = sym seen.says ∙ ap (option_map call_view) said in
-    let more = calls_more terms before h c.args.self.now are kept call says c.args.self.now in
+    let more = calls_after terms before h (Some call) kept says in
     called_none terms before h c.args.self.now are kept call says _ refl
     (none_before terms own call
     (sym (c.in_default.ensures _ seen.stood.holds.called
@@ -42,7 +42,7 @@ returns c = on_ok_weaker c.note.result (λ noted terms before h trail are seen k
     (subst (AreCounts c.args.held.now.counts) (events-push before h) seen.stood.counted)
     (c.who.ensures ∙ sym (whose_read raw h.note.event read.0)) in
     let says = sym seen.says ∙ ap (option_map call_view) said in
-    let more = calls_more terms before h c.args.self.now are kept call says c.args.self.now in
+    let more = calls_after terms before h (Some call) kept says in
     let own = unopened_before terms (calls (kept_of terms events)) call uri
     (sym (c.in-Some.ensures _ seen.stood.holds.called
     ∙ (λ i. unopened_by (seen.stood.by i) (more i) call))) in

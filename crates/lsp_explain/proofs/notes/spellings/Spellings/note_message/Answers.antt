@@ -1,5 +1,5 @@
 use Rattle.std.specs.Prelude.{option_and_then, option_map, string_bytes}
-use Rattle.std.proofs.Common.{◌≡◌, ◌∙◌, ◌++◌, ◌∷◌, [], ap, refl, subst, sym}
+use Rattle.std.proofs.Common.{◌≡◌, ◌∙◌, ◌++◌, ◌∷◌, [], None, ap, append-nil, refl, subst, sym}
 use Rattle.std.proofs.lemmas.Result.{on_ok_weaker}
 use Rattle.lsp_docs.specs.Documents.{Terms}
 use Rattle.lsp_docs.specs.Taken.{call_view}
@@ -12,9 +12,10 @@ use Rattle.lsp_verdict.specs.Offences.{IsNoted, kept_of}
 use Rattle.lsp_verdict.specs.Placed.{Raw, Reads, content}
 use Rattle.lsp_explain.specs.DocumentNotes.{notes_view, with_note}
 use Rattle.lsp_explain.specs.Openings.{AreOpenings}
-use Rattle.lsp_explain.specs.Spellings.{HoldsOthers, if_unopened, spelling_note}
-use Rattle.lsp_explain.proofs.OtherSpellings.{calls_stay, named_none, named_one, own_reads}
-use Rattle.lsp_explain.proofs.OtherSpellings.{stays_open, unnamed}
+use Rattle.lsp_explain.specs.Naming.{if_unopened}
+use Rattle.lsp_explain.specs.Spellings.{HoldsOthers, spelling_note}
+use Rattle.lsp_explain.proofs.OtherSpellings.{calls_after, named_none, named_one, others_stay}
+use Rattle.lsp_explain.proofs.OtherSpellings.{own_reads, unnamed}
 use Rattle.lsp_explain.proofs.Trails.{is_message, no_content}
 use Rattle.lsp_explain.proofs.notes.spellings.Spellings.note_message.Goals as goal
 
@@ -80,8 +81,7 @@ returns-in_default-unopened c = λ terms before h trail are seen kept says.
     let own = calls (kept_of terms (heard_events before)) in
     let message = own_reads terms before h c.args.self.now are kept unsaid side heard.0 bytes
     c.in-Some.spoken.now reads heard.1 c.args.self.now in
-    let stay = calls_stay terms before h c.args.self.now are kept unsaid side heard.0 bytes
-    c.in-Some.spoken.now reads heard.1 c.args.self.now in
+    let stay = calls_after terms before h None kept unsaid ∙ append-nil own in
     named_none terms before h c.args.self.now are kept unsaid side heard.0 bytes
     c.in-Some.spoken.now reads heard.1 _ refl
     (ap (option_and_then (if_unopened terms own))
@@ -108,10 +108,8 @@ returns c = on_ok_weaker c.note.result (λ noted terms before h trail are seen k
     (c.who_of.ensures ∙ sym (whose_read (content side bytes) h.note.event reads)) in
     let message = own_reads terms before h c.args.self.now are kept unsaid side heard.0 bytes
     c.in-Some.spoken.now reads heard.1 c.args.self.now in
-    let stay = calls_stay terms before h c.args.self.now are kept unsaid side heard.0 bytes
-    c.in-Some.spoken.now reads heard.1 c.args.self.now in
-    let others = stays_open terms before h c.args.self.now are kept unsaid side heard.0 bytes
-    c.in-Some.spoken.now reads heard.1 c.args.self.now uri in
+    let stay = calls_after terms before h None kept unsaid ∙ append-nil own in
+    let others = others_stay terms uri own made stay in
     named_one terms before h c.args.self.now are kept unsaid side heard.0 bytes
     c.in-Some.spoken.now reads heard.1 _ place uri at
     (ap (option_and_then (if_unopened terms own))

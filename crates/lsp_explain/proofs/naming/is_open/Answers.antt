@@ -2,7 +2,7 @@ use Rattle.std.specs.Prelude.{is_some}
 use Rattle.std.proofs.Common.{◌∙◌, ap}
 use Rattle.lsp_docs.proofs.Entries.{is_some-mapped}
 use Rattle.lsp_docs.specs.Documents.{held}
-use Rattle.lsp_explain.proofs.notes.refusals.is_open.Goals as goal
+use Rattle.lsp_explain.proofs.naming.is_open.Goals as goal
 
 pub returns : goal.returns
 returns c = λ calls stands.

@@ -4,7 +4,7 @@ use Rattle.lsp_rpc.specs.Reading.{BreaksRule, IsRefusal}
 use Rattle.lsp_rpc.specs.View.{message_view}
 use Rattle.lsp_verdict.proofs.Below.{not_both, one_message}
 use Rattle.lsp_explain.specs.Naming.{named_by}
-use Rattle.lsp_explain.proofs.notes.naming.document_of.Goals as goal
+use Rattle.lsp_explain.proofs.naming.document_of.Goals as goal
 
 pub returns-in-Ok : goal.returns-in-Ok
 returns-in-Ok c = IfOk-weaker c.copy_document-uri.result _ _

@@ -1,13 +1,18 @@
-//! Which document a message names in its params.
-ghost use Rattle.std.specs.Prelude.{◌≡◌, IfOk, option_map, string_bytes};
+//! Which document a message names in its params, and whether it is open.
+ghost use Rattle.std.specs.Prelude.{◌≡◌, List, IfOk, is_some, option_map, string_bytes};
 ghost use Rattle.serde_json.specs.View.{view};
+ghost use Rattle.lsp_docs.specs.Calls.{Call as SpecCall};
+ghost use Rattle.lsp_docs.specs.Documents.{held};
+ghost use Rattle.lsp_docs.specs.State.{Stands};
 ghost use Rattle.lsp_explain.specs.Naming as spec;
 ghost use Rattle.lsp_rpc.specs.Message.{Message as AMessage};
 ghost use Rattle.lsp_rpc.specs.Reading.{Reads};
 ghost use Rattle.lsp_rpc.specs.View.{message_view};
 
 use crate::trail::text_at;
+use lsp_docs::Docs;
 use lsp_rpc::{Memory, Message, Result, RpcFault, Side, read};
+use lsp_text::Lined;
 use serde_json::Value;
 use std::alloc::Global;
 
@@ -134,4 +139,22 @@ fn if_diagnostics<'a>(method: &str, params: &'a Value) -> Option<&'a str>
     } else {
         None
     }
+}
+
+// ---- whether it is open
+
+/// Whether the document of this URI is open.
+pub(crate) fn is_open(docs: &Docs<Lined>, uri: &str) -> bool
+    ensures { (calls : List SpecCall) → Stands docs.now calls
+        → result ≡ is_some (held docs.now.terms uri.now calls) }
+{
+    docs.version_of(uri).is_some()
+}
+
+/// The URI, if no document of it is open.
+pub(crate) fn if_unopened<'a>(docs: &Docs<Lined>, uri: &'a str) -> Option<&'a str>
+    ensures { (calls : List SpecCall) → Stands docs.now calls
+        → option_map (λ uri. uri.now) result ≡ spec.if_unopened docs.now.terms calls uri.now }
+{
+    if is_open(docs, uri) { None } else { Some(uri) }
 }
