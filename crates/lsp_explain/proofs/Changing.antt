@@ -6,7 +6,7 @@ use Rattle.std.specs.declared.vec.Vec.{Vec}
 use Rattle.std.specs.Global.{Global}
 use Rattle.std.specs.List.{cons_option}
 use Rattle.std.proofs.Common.{◌≡◌, ◌<◌, ℕ, Bool, true, false, List, [], ◌∷◌, ◌++◌, Option, Some, None}
-use Rattle.std.proofs.Common.{refl, sym, ap, ◌∙◌, subst, append-nil, arith}
+use Rattle.std.proofs.Common.{map, refl, sym, ap, ◌∙◌, subst, append-nil, arith}
 use Rattle.lsp_docs.specs.Calls.{Call, opens, changes, closes, saves, shows}
 use Rattle.lsp_facts.proofs.SomeFacts.{message_named}
 use Rattle.lsp_rpc.specs.Act.{Act, initialize, initialized, shutdown, exit, did_open, did_change}
@@ -22,7 +22,7 @@ use Rattle.lsp_types.specs.declared.position.Encoding.{Encoding}
 use Rattle.lsp_types.specs.Fault.{Names}
 use Rattle.lsp_types.specs.declared.fault.Fault.TheVariants.{Rule}
 use Rattle.lsp_types.specs.declared.side.Side.{Side}
-use Rattle.lsp_verdict.specs.Event.{Event, call_at, call_of, fault, message, snapshot}
+use Rattle.lsp_verdict.specs.Event.{Event, call_at, call_of, edit_of, fault, message, snapshot}
 use Rattle.lsp_verdict.specs.Given.{raw_view}
 use Rattle.lsp_verdict.specs.Placed.{Reads, content}
 use Rattle.lsp_verdict.specs.declared.raw.Raw as lent
@@ -100,7 +100,7 @@ by_act : (p : EventPlace) (act : Act) (enc : Encoding) (kind : SyncKind) (call :
     → call_of enc kind act ≡ Some call → is_change call ≡ true
     → change_by p call ≡ Some (sent_change p (edits_by act))
 by_act p (did_change uri number edits) enc kind call says is =
-    let same = cc says in
+    let same : changes enc kind uri number (map edit_of edits) ≡ call = cc says in
     subst (λ (c : Call). change_by p c ≡ Some (sent_change p (edits_by
     (did_change uri number edits)))) same refl
 by_act p (did_open uri number text) enc kind call says is =
