@@ -70,7 +70,7 @@ const LINE_ENDS = { "\n": "LF", "\r\n": "CR LF", "\r": "CR" };
 function shownEnds([kind, from, to]) {
   if (kind === "converted") {
     return [`nothing else differs: each is ${LINE_ENDS[from]} by the messages, and `
-      + `${LINE_ENDS[to]} in the editor`];
+      + `${LINE_ENDS[to]} in the other text`];
   }
   return [kind === "last" ? "only the one at the very end of the text differs" :
     "some differ, and nothing else does"];
@@ -93,6 +93,10 @@ const LINES = {
   ]],
   held: ["Held", ([version, ...by]) => [`version ${version}, set by `, ...shownEvent(by)]],
   sent: ["This message", ([version]) => [`sets version ${version}`]],
+  same: ["The same", (by) => ["changes were already made by ", ...shownEvent(by)]],
+  precedes: ["Belongs before", ([version, ...by]) => [
+    ...shownEvent(by), `, which sets version ${version}`,
+  ]],
   version: ["Version", ([version]) => [`the snapshot is of version ${version}`]],
   changes: ["Changes", ([count]) => [`${count} in this message`]],
   sync: ["Agreed", ([kind]) => [`synchronisation “${kind}”`]],
@@ -110,7 +114,7 @@ const LINES = {
   "in-editor": ["In the editor", shownPart],
   saved: ["Saved", shownPart],
   codes: ["Characters", ([sent, other]) => [
-    `by the messages ${shownCode(sent)}, in the editor ${shownCode(other)}`,
+    `by the messages ${shownCode(sent)}, in the other text ${shownCode(other)}`,
   ]],
   ends: ["Line ends", shownEnds],
   "line-ends": ["Option", () => ["--ignore-line-ends: then these texts are the same"]],
@@ -122,6 +126,7 @@ const LINES = {
   ]],
   closed: ["Closed", (by) => ["by ", ...shownEvent(by)]],
   opened: ["Opened", () => ["never"]],
+  "saved-as": ["Saved", (by) => ["under this name by ", ...shownEvent(by)]],
   similar: ["Similar", ([uri, ...by]) => [shownText(uri), " is open, by ", ...shownEvent(by)]],
   id: ["Id", (_, [id]) => [shownText(id)]],
   asked: ["Still open", (by) => ["the request with this id: ", ...shownEvent(by)]],
@@ -163,6 +168,22 @@ function noteOn(words) {
   return ([text, ...by]) => [shownText(text), ` ${words}: `, ...shownEvent(by)];
 }
 
+// A note on a change of a didChange whose position is past the end of its line, or of the text.
+function pastEnd([line, column, what, count, ...by]) {
+  const end = what === "lines" ? `the text has ${count} lines` :
+    `that line is ${count} units long, without its line end`;
+  return [...shownEvent(by), ` changes a range at ${shownPlace(line, column)}, past the end: ${end}`];
+}
+
+// A note on a change whose rangeLength is not the length of its range.
+function wrongLength([sent, , length, ...rest]) {
+  const at = rest.indexOf("event");
+  const fits = rest.slice(1, at).map((name) => name.toUpperCase());
+  return [...shownEvent(rest.slice(at)),
+    ` has a rangeLength of ${sent}, and its range is ${length} units long`,
+    fits.length === 0 ? "" : `; in units of ${fits.join(" or ")} it is ${sent} long`];
+}
+
 const NOTES = {
   "as-notification": noteOn("is a request in LSP 3.17, and was sent as a notification"),
   "as-request": noteOn("is a notification in LSP 3.17, and was sent as a request"),
@@ -173,6 +194,16 @@ const NOTES = {
     " in the older member offsetEncoding: it may count columns in it"],
   renamed: noteOn("was renamed, and is still opened or changed under this name"),
   "nothing-compared": () => ["No snapshot was compared: yes says little about the texts"],
+  "past-end": pastEnd,
+  "range-length": wrongLength,
+  refused: ([code, uri, ...by]) => [
+    "A request about ", shownText(uri), ", which is open, was refused: ", ...shownEvent(by),
+    ` is the error ${code} (InvalidParams)`,
+  ],
+  similar: ([uri, open, ...by]) => [
+    ...shownEvent(by), " names ", shownText(uri), ", which is not open; ", shownText(open),
+    " is, and is spelled in another way",
+  ],
   "no-snapshot": ([uri]) => [shownText(uri), " was changed, and no snapshot of it was compared"],
 };
 

@@ -2,7 +2,7 @@
 use Rattle.std.proofs.Common.{◌≡◌, ◌⊎◌, ◌≤◌, ◌&&◌, ◌||◌, ℕ, suc, Bool, true, false, List, [], ◌∷◌}
 use Rattle.std.proofs.Common.{◌++◌, length, length-append, map, take, refl, sym, ap, subst, ◌∙◌, inl}
 use Rattle.std.proofs.Common.{inr, arith, true≢false, Option, Some, None}
-use Rattle.std.specs.Prelude.{◌==◌, filter, if◌then◌else◌, is_none, MatchOption, not}
+use Rattle.std.specs.Prelude.{◌==◌, filter, if◌then◌else◌, is_some, MatchOption, not}
 use Rattle.std.specs.Bool.{then_some}
 use Rattle.std.specs.List.{list_all}
 use Rattle.std.specs.Str.{bytes_eq, chars, is_utf8, IsUtf8}
@@ -101,12 +101,14 @@ module _ (from to : Text) where
 
 -- whether more line ends are left of the other text
 pub left_over : (from to : Text) (bs : List ℕ) (found : Option FirstLine) (b : Bool)
-    → b ≡ is_none found
+    → is_some found ≡ not b
     → MatchOption found (has_no_line_end (chars bs) ≡ true) (IsFirstLine bs)
     → b ≡ are_converted from to [] (ends_in (chars bs))
-left_over from to bs None b is h = is ∙ sym (ap (are_converted from to []) (ends_none bs h))
-left_over from to bs (Some f) b is h =
-    is ∙ sym (ap (are_converted from to []) (ends_first bs f h)
+left_over from to bs None true is h = sym (ap (are_converted from to []) (ends_none bs h))
+left_over from to bs None false is h = absurd (true≢false (sym is))
+left_over from to bs (Some f) true is h = absurd (true≢false is)
+left_over from to bs (Some f) false is h =
+    sym (ap (are_converted from to []) (ends_first bs f h)
     ∙ fewer_here from to (chars f.end.now) (ends_in (chars f.rest.now)))
 
 -- ---- the kinds of two texts
@@ -230,7 +232,7 @@ without_feed (c ∷ (d ∷ x)) alone =
     ∙ ap (λ (y : Text). c ∷ y)
     (without_feed (d ∷ x) (λ y e. alone (c ∷ y) (ap (λ (z : Text). c ∷ z) e)))
 
-second : Text → ℕ
+abbrev second : Text → ℕ
 second [] = 0
 second (c ∷ []) = 0
 second (c ∷ (d ∷ cs)) = d

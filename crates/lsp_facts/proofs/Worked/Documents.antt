@@ -213,11 +213,12 @@ saved_other =
       are = refl;
     }
 
--- a saved text differs in its line ends alone
+-- a saved text differs in its line ends alone: the first one has a CR, and the last one is gone
 saved_ends : AreDocumentFacts terms Utf16 opened
     (saves A (Some (codes "ab\r\nx" ++ 128512 ∷ codes "y"))) 608 unknown
     (said (codes "uri \"a\"\nheld 1\nencoding utf-16\nat 0 2\nby-messages \"ab\\n\"\n"
-    ++ codes "saved \"ab\\r\\n\"\ncodes U+000A U+000D\nline-ends option --ignore-line-ends\n"))
+    ++ codes "saved \"ab\\r\\n\"\ncodes U+000A U+000D\nends mixed\n"
+    ++ codes "line-ends option --ignore-line-ends\n"))
 unfolding digits escape_byte encode padded_integral char_count
 saved_ends =
     record {
@@ -230,18 +231,38 @@ saved_ends =
       are = refl;
     }
 
--- where texts of the document were equal before, the option is not offered
-saved_other_ends : AreDocumentFacts terms Utf16 opened
-    (saves A (Some (codes "ab\r\nx" ++ 128512 ∷ codes "y"))) 608 once_equal
+-- each LF has become CR LF
+saved_converted : AreDocumentFacts terms Utf16 opened
+    (saves A (Some (codes "ab\r\nx" ++ 128512 ∷ codes "y\r\n"))) 608 unknown
     (said (codes "uri \"a\"\nheld 1\nencoding utf-16\nat 0 2\nby-messages \"ab\\n\"\n"
-    ++ codes "saved \"ab\\r\\n\"\ncodes U+000A U+000D\n"))
+    ++ codes "saved \"ab\\r\\n\"\ncodes U+000A U+000D\nends converted \"\\n\" \"\\r\\n\"\n"
+    ++ codes "line-ends option --ignore-line-ends\n"))
 unfolding digits escape_byte encode padded_integral char_count
-saved_other_ends =
+saved_converted =
     record {
       details = _;
       says = record {
         place = _;
         at = (2, record { before = refl; here = λ e. true≢false (ap (is_char 10) e) }, refl);
+        are = refl;
+      };
+      are = refl;
+    }
+
+-- the last line end is gone; where texts of the document were equal before, the option is not
+-- offered
+saved_last : AreDocumentFacts terms Utf16 opened
+    (saves A (Some (codes "ab\nx" ++ 128512 ∷ codes "y"))) 608 once_equal
+    (said (codes "uri \"a\"\nheld 1\nencoding utf-16\nat 1 4\nby-messages \"x"
+    ++ 240 ∷ 159 ∷ 152 ∷ 128 ∷ codes "y\\n\"\nsaved \"x" ++ 240 ∷ 159 ∷ 152 ∷ 128
+    ∷ codes "y\"\ncodes U+000A end\nends last\n"))
+unfolding digits escape_byte encode padded_integral char_count
+saved_last =
+    record {
+      details = _;
+      says = record {
+        place = _;
+        at = (6, record { before = refl; here = λ e. true≢false (ap (is_char 10) e) }, refl);
         are = refl;
       };
       are = refl;

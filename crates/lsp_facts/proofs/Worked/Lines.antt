@@ -20,6 +20,7 @@ use Rattle.lsp_verdict.specs.Placed.{broken, show}
 use Rattle.lsp_facts.specs.Fact.{fact_lines, fails, holds, counts_in, cited, version_by, part_line}
 use Rattle.lsp_facts.specs.Fact.{waits, more_words, end_event, event_line, usual, differing_codes}
 use Rattle.lsp_replay.specs.declared.heard.EventPlace.{EventPlace}
+use Rattle.lsp_facts.specs.EndsApart.{ends_apart}
 use Rattle.lsp_facts.specs.EventFacts.{offer_fact}
 
 of_changes : fact_lines (fails 2 (Some (record {
@@ -40,6 +41,14 @@ of_codes : differing_codes (Some 10) (Some 97) ++ differing_codes (Some 65279) (
     ≡ codes "codes U+000A U+0061\ncodes U+FEFF U+1F600\ncodes end U+1000\ncodes U+10FFFF end\n"
 unfolding digits padded_integral char_count
 of_codes = refl
+
+-- each is another kind, only the last one is, or another one is and the last one is new
+of_ends : ends_apart (codes "a\n") (codes "a\r\n")
+    ++ ends_apart (codes "a\r\nb\r\n") (codes "a\r\nb\n")
+    ++ ends_apart (codes "a\nb") (codes "a\r\nb\n")
+    ≡ codes "ends converted \"\\n\" \"\\r\\n\"\nends last\nends mixed\n"
+unfolding digits escape_byte encode
+of_ends = refl
 
 of_names : offer_fact (codes "utf-8" ∷ codes "utf-16" ∷ []) ++ more_words 12
     ≡ codes "offered \"utf-8\" \"utf-16\"\n and 12"

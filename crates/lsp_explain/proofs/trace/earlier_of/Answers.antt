@@ -1,6 +1,5 @@
 use Rattle.std.proofs.Common.{◌∙◌, ap}
 use Rattle.std.specs.Prelude.{is_some}
-use Rattle.lsp_facts.specs.declared.earlier.Earlier.{Earlier}
 use Rattle.lsp_explain.proofs.trace.earlier_of.Goals as goal
 
 pub returns : goal.returns

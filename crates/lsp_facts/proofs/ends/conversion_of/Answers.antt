@@ -12,7 +12,7 @@ returns-in_err-first c =
 
 pub returns-in_err-second : goal.returns-in_err-second
 returns-in_err-second c =
-    rw c.from_residual-2.ensures
+    rw c.from_residual-in_err-second.ensures
     (sym (none_there c.args.held.now c.args.other.now c.in_ok-first.first c.in_ok-first.ensures
     c.in_err-second.ensures))
 
