@@ -178,10 +178,10 @@ fn end_usually(rest: &[u8], rule: u16, who: Who) -> &'static str
     ensures { (rests : Rests) (number event : ℕ) → rest.now ≡ rest_of rests (side_by who)
         → result.now ≡ end_usually rests (no rule who number event) }
 {
-    if rule == rules::STREAM_ENDS_INSIDE_FRAME {
-        return usual_inside(rest, who);
+    if rule != rules::STREAM_ENDS_INSIDE_FRAME {
+        return usual(rule, who);
     }
-    usual(rule, who)
+    usual_inside(rest, who)
 }
 
 /// The facts on how a session ends that breaks this rule: 107 has those on the rest of a side, 303
