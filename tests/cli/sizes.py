@@ -225,12 +225,17 @@ def opened_before(later):
 def sent_twice(later):
     """A change, others of another document after it, and the first one again. It is compared with
     the last 16 changes."""
-    uri, other, change = "file:///a", "file:///b", [replaced((0, 0), (0, 1), "x")]
+    return sent_again([replaced((0, 0), (0, 1), "x")], later, later < 16)
+
+
+def sent_again(change, later, is_same):
+    """The same of these changes, which are compared or not."""
+    uri, other = "file:///a", "file:///b"
     log = [START, did_open(uri, 1, "ab"), did_open(other, 1, "ab"), did_change(uri, 2, change)]
-    log += [did_change(other, 2 + number, change) for number in range(later)]
+    log += [did_change(other, 2 + number, []) for number in range(later)]
     report = f"no 603 editor {later + 6} event {later + 7}\nversion does not rise\n"
     report += f'event {later + 7} editor {later + 6} notification "textDocument/didChange"\nuri "file:///a"\n'
-    report += "held 2 event 6 editor 5\nsent 2\nchanges 1\n" + ("same event 6 editor 5\n" if later < 16 else "")
+    report += f"held 2 event 6 editor 5\nsent 2\nchanges {len(change)}\n" + ("same event 6 editor 5\n" if is_same else "")
     return b"".join([*log, did_change(uri, 2, change)]), f"{report}usually editor\n".encode()
 
 
@@ -358,6 +363,10 @@ def small():
     for name, (log, report) in [
         ("a change sent twice, with 15 between", sent_twice(15)),
         ("a change sent twice, with 16 between", sent_twice(16)),
+        ("64 changes sent twice", sent_again([replaced((0, 0), (0, 0), "x")] * 64, 0, True)),
+        ("65 changes sent twice", sent_again([replaced((0, 0), (0, 0), "x")] * 65, 0, False)),
+        ("a text of 65,536 bytes sent twice", sent_again([{"text": "é" * 32_768}], 0, True)),
+        ("a text of 65,537 bytes sent twice", sent_again([{"text": "é" * 32_768 + "x"}], 0, False)),
         ("a save before 63 others", saved_before(63)),
         ("a save before 64 others", saved_before(64)),
     ]:

@@ -1,17 +1,19 @@
 -- The last messages that changed documents, with their changes.
 use Rattle.std.specs.Prelude.{◌≡◌, ◌&&◌, ℕ, List, [], ◌∷◌, ◌++◌, map, ◌==◌, Bool, true, false}
-use Rattle.std.specs.Prelude.{Option, Some, None, option_and_then}
+use Rattle.std.specs.Prelude.{Option, Some, None, option_and_then, option_map}
+use Rattle.std.specs.Prelude.{if◌then◌else◌, length, nat_le}
+use Rattle.std.specs.List.{list_all}
 use Rattle.std.specs.Str.{bytes_eq}
-use Rattle.lsp_docs.specs.Calls.{Call, changes}
+use Rattle.lsp_docs.specs.Calls.{byte_len, Call, changes}
 use Rattle.lsp_docs.specs.Documents.{Terms}
-use Rattle.lsp_facts.specs.Fact.{content_message}
-use Rattle.lsp_rpc.specs.Act.{Act, did_change}
-use Rattle.lsp_rpc.specs.Params.{act_at}
+use Rattle.lsp_text.specs.Changes.{edits_of}
 use Rattle.lsp_text.specs.Edits.{Edit}
 use Rattle.lsp_types.specs.declared.position.Position.{Position}
 use Rattle.lsp_types.specs.declared.position.Span.{Span}
-use Rattle.lsp_types.specs.declared.side.Side.{Side}
-use Rattle.lsp_verdict.specs.Event.{call_at, edit_of, Event}
+use Rattle.lsp_types.specs.declared.change.Change.{Change}
+use Rattle.std.specs.declared.vec.Vec.{Vec}
+use Rattle.std.specs.Global.{Global}
+use Rattle.lsp_verdict.specs.Event.{call_at, Event}
 use Rattle.lsp_replay.specs.declared.heard.EventPlace.{EventPlace}
 use Rattle.lsp_explain.specs.History.{each_kept, last_ones, last_that}
 use Rattle.lsp_explain.specs.declared.trail.changes.SentChanges as code
@@ -19,7 +21,7 @@ use Rattle.lsp_explain.specs.declared.trail.changes.Changes.{Changes}
 
 -- ---- messages that change documents
 
--- the event of this place, and the changes that it has
+-- the event of this place, and the changes that it has, where they are few and short
 pub record SentChange : Type 0 where
   pub place : EventPlace
   pub edits : Option (List Edit)
@@ -27,13 +29,21 @@ pub record SentChange : Type 0 where
 abbrev pub sent_change : EventPlace → Option (List Edit) → SentChange
 sent_change p edits = record { place = p; edits = edits }
 
-abbrev pub is_change : Call → Bool
-is_change (changes enc kind uri number edits) = true
-is_change _ = false
+abbrev pub is_short : Edit → Bool
+is_short e = nat_le (byte_len e.text) 65536
+
+abbrev pub are_few : List Edit → Bool
+are_few edits = nat_le (length edits) 64 && list_all is_short edits
+
+abbrev pub held_edits : List Edit → Option (List Edit)
+held_edits edits = if are_few edits then Some edits else None
+
+abbrev pub edits_said : Call → Option (List Edit)
+edits_said (changes enc kind uri number edits) = Some edits
+edits_said _ = None
 
 abbrev pub change_by : EventPlace → Call → Option SentChange
-change_by p (changes enc kind uri number edits) = Some (sent_change p (Some edits))
-change_by p _ = None
+change_by p call = option_map (λ edits. sent_change p (held_edits edits)) (edits_said call)
 
 abbrev pub event_change : EventPlace → List Event → Event → Option SentChange
 event_change p before event = option_and_then (change_by p) (call_at before event)
@@ -86,17 +96,11 @@ has_changes p edits sent = are_edits edits (edits_at p sent)
 
 -- ---- as they are held
 
-abbrev pub edits_by : Act → Option (List Edit)
-edits_by (did_change uri number edits) = Some (map edit_of edits)
-edits_by _ = None
-
--- the changes that a message of this side has which is this content
-abbrev pub edits_in : Side → List ℕ → Option (List Edit)
-edits_in side bytes =
-    option_and_then edits_by (option_and_then (act_at side) (content_message bytes))
+abbrev pub held_view : Option (Vec Change Global) → Option (List Edit)
+held_view held = option_map (λ v. edits_of v.items) held
 
 abbrev pub change_view : code.SentChanges → SentChange
-change_view s = sent_change s.place (edits_in s.side s.content.items)
+change_view s = sent_change s.place (held_view s.changes)
 
 -- these more are held, of which the last ones stay
 abbrev pub HoldsChanges : List SentChange → List code.SentChanges → List code.SentChanges → Type 0

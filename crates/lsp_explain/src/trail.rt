@@ -96,7 +96,7 @@ impl Trail {
             return self.keep_message(held, seen.raw, seen.spoken);
         };
         let place = EventPlace::last(&held.counts, seen.raw.who());
-        self.changes.keep(&place, seen.raw, call)?;
+        self.changes.keep(&place, call)?;
         self.saves.keep(&held.docs, &place, call)?;
         let Some(step) = step_of(call, took) else {
             return Ok(());

@@ -119,7 +119,7 @@ fn push_same(facts: &mut Facts, sent: &Changes, place: EventPlace, changes: &[Ch
         → facts.new ≡ facts.old ++ spec.same_facts place (edits_of changes.now)
         (last_changes terms before)) }
 {
-    if !sent.has_changes(place, changes)? {
+    if !sent.has_changes(place, changes) {
         return Ok(());
     }
     facts.event("same", place)

@@ -1,39 +1,40 @@
 //! The last messages that changed documents, with their changes.
-ghost use Rattle.std.specs.Prelude.{◌≡◌, [], ◌∷◌, List, Some, IfOk, OnOk, map, option_map};
-ghost use Rattle.std.specs.Prelude.{◌==◌, option_and_then};
-ghost use Rattle.std.specs.List.{cons_option};
+ghost use Rattle.std.specs.Prelude.{◌≡◌, [], ◌∷◌, ◌==◌, List, Some, IfOk, OnOk, map, nat_le};
+ghost use Rattle.std.specs.Prelude.{option_map};
+ghost use Rattle.std.specs.List.{cons_option, list_all};
 ghost use Rattle.std.specs.Str.{bytes_eq, chars};
+ghost use Rattle.lsp_docs.specs.Calls.{byte_len};
 ghost use Rattle.lsp_docs.specs.Documents.{Terms};
 ghost use Rattle.lsp_docs.specs.Taken.{call_view};
 ghost use Rattle.lsp_explain.specs.History.{last_that};
 ghost use Rattle.lsp_explain.specs.SentChanges as spec;
-ghost use Rattle.lsp_explain.specs.SentChanges.{AreChanges, HoldsChanges, change_view, edits_by};
-ghost use Rattle.lsp_explain.specs.SentChanges.{edits_in, same_edits, sent_change};
-ghost use Rattle.lsp_rpc.specs.Params.{act_at};
-ghost use Rattle.lsp_rpc.specs.View.{act_view, message_view};
+ghost use Rattle.lsp_explain.specs.SentChanges.{AreChanges, HoldsChanges, change_view, held_edits};
+ghost use Rattle.lsp_explain.specs.SentChanges.{held_view, same_edits, sent_change};
 ghost use Rattle.lsp_text.specs.Changes.{edit_of, edits_of};
-ghost use Rattle.lsp_verdict.specs.Event.{Event, call_at};
-ghost use Rattle.lsp_verdict.specs.Given.{raw_view};
-ghost use Rattle.lsp_verdict.specs.Placed.{Reads};
+ghost use Rattle.lsp_verdict.specs.Event.{Event};
 
 use crate::trail::last_ones::push_within;
 use lsp_docs::Call;
 use lsp_replay::EventPlace;
-use lsp_rpc::{Act, Memory, Message, Result, RpcFault, Side, act_of, read};
+use lsp_rpc::Result;
 use lsp_types::{Change, Position, Span};
-use lsp_verdict::Raw;
 use std::alloc::Global;
 use std::collections::VecDeque;
 
 /// How many of the last messages that changed a document are held at most.
 const MOST_CHANGES: usize = 16;
 
-/// A message that changed a document.
+/// How many changes such a message has at most, if they are held.
+const MOST_EDITS: usize = 64;
+
+/// How many bytes the text of each of these has at most.
+const MOST_BYTES: usize = 65_536;
+
+/// A message that changed a document, with its changes if they are few and short.
 #[derive(Drop)]
 pub(crate) struct SentChanges {
     place: EventPlace,
-    side: Side,
-    content: Vec<u8>,
+    changes: Option<Vec<Change>>,
 }
 
 /// The last messages that changed documents.
@@ -59,61 +60,101 @@ impl Changes {
     /// # Errors
     /// `Memory` where memory was refused; nothing is then known of what is held.
     #[inline(always)]
-    pub(crate) fn keep(&mut self, place: &EventPlace, raw: Raw<'_>, call: Call<'_>) -> Result<()>
-        ensures { OnOk result ((kept : List Event) (event : Event)
-            → Reads (raw_view raw.entry) event → call_at kept event ≡ Some (call_view call.entry)
-            → HoldsChanges (cons_option (spec.change_by place.now (call_view call.entry)) [])
+    pub(crate) fn keep(&mut self, place: &EventPlace, call: Call<'_>) -> Result<()>
+        ensures { OnOk result (HoldsChanges
+            (cons_option (spec.change_by place.now (call_view call.entry)) [])
             self.old.sent.items self.new.sent.items) }
     {
-        if !is_change(call) {
-            return Ok(());
-        }
-        let Raw::Content { side, content } = raw else {
+        let Some(changes) = changes_of(call) else {
             return Ok(());
         };
-        push(&mut self.sent, *place, side, content)
+        push(&mut self.sent, *place, changes)
     }
 
-    /// Whether the event of this place is one of the messages that are held, and has these changes.
-    ///
-    /// # Errors
-    /// `Memory` where memory was refused.
-    pub(crate) fn has_changes(&self, place: EventPlace, changes: &[Change]) -> Result<bool>
-        ensures { IfOk result (λ same. (terms : Terms) (events : List Event)
-            → AreChanges terms self.now events
-            → same ≡ spec.has_changes place (edits_of changes.now)
-            (spec.last_changes terms events)) }
+    /// Whether the event of this place is one of the messages that are held, and has these changes,
+    /// which are few and short.
+    pub(crate) fn has_changes(&self, place: EventPlace, changes: &[Change]) -> bool
+        ensures { (terms : Terms) (events : List Event) → AreChanges terms self.now events
+            → result ≡ spec.has_changes place (edits_of changes.now)
+            (spec.last_changes terms events) }
     {
-        let Some(sent) = sent_at(&self.sent, place) else {
-            return Ok(false);
-        };
-        has_edits(*self.sent.allocator(), sent, changes)
+        match sent_at(&self.sent, place) {
+            Some(sent) => has_edits(sent, changes),
+            None => false,
+        }
     }
 }
 
-fn is_change(call: Call<'_>) -> bool
-    ensures { result ≡ spec.is_change (call_view call.entry) }
+/// The changes of a call that changes its document.
+fn changes_of(call: Call<'_>) -> Option<&[Change]>
+    ensures { option_map (λ changes. edits_of changes.now) result
+        ≡ spec.edits_said (call_view call.entry) }
 {
-    matches!(call, Call::Changes { .. })
+    match call {
+        Call::Changes { changes, .. } => Some(changes),
+        Call::Opens { .. } | Call::Closes { .. } => None,
+        Call::Saves { .. } | Call::Shows { .. } => None,
+    }
 }
 
 /// Adds a message after the others, of which the last ones stay.
-fn push(
-    sent: &mut VecDeque<SentChanges>,
-    place: EventPlace,
-    side: Side,
-    content: &[u8],
-) -> Result<()>
-    ensures { OnOk result (HoldsChanges (sent_change place (edits_in side content.now) ∷ [])
-        sent.old.items sent.new.items) }
+fn push(sent: &mut VecDeque<SentChanges>, place: EventPlace, changes: &[Change]) -> Result<()>
+    ensures { OnOk result (HoldsChanges
+        (sent_change place (held_edits (edits_of changes.now)) ∷ []) sent.old.items
+        sent.new.items) }
 {
-    let content = Vec::from_slice(*sent.allocator(), content)?;
-    let sent_now = SentChanges {
+    let held = held_of(*sent.allocator(), changes)?;
+    let one = SentChanges {
         place,
-        side,
-        content,
+        changes: held,
     };
-    push_within(sent, MOST_CHANGES, sent_now)
+    push_within(sent, MOST_CHANGES, one)
+}
+
+/// These changes, where they are few and short.
+fn held_of(alloc: Global, changes: &[Change]) -> Result<Option<Vec<Change>>>
+    ensures { IfOk result (λ held. held_view held ≡ held_edits (edits_of changes.now)) }
+{
+    if !are_few(changes) {
+        return Ok(None);
+    }
+    let held = copy_of(alloc, changes)?;
+    Ok(Some(held))
+}
+
+/// Whether they are few and short.
+fn are_few(changes: &[Change]) -> bool
+    ensures { result ≡ spec.are_few (edits_of changes.now) }
+{
+    changes.len() <= MOST_EDITS && are_short(changes)
+}
+
+/// Whether each is short.
+fn are_short(changes: &[Change]) -> bool
+    ensures { result ≡ list_all (λ change. spec.is_short (edit_of change)) changes.now }
+{
+    changes.iter().all(|change| is_short(change.text.as_str()))
+}
+
+fn is_short(text: &str) -> bool
+    ensures { result ≡ nat_le (byte_len (chars text.now)) 65536 }
+{
+    text.len() <= MOST_BYTES
+}
+
+fn copy_of(alloc: Global, changes: &[Change]) -> Result<Vec<Change>>
+    ensures { IfOk result (λ copy. edits_of copy.items ≡ edits_of changes.now) }
+{
+    let mut copy = Vec::new(alloc);
+    for change in changes {
+        let text = change.text.clone()?;
+        copy.push(Change {
+            span: change.span,
+            range_length: change.range_length,
+            text,
+        })?;
+    }
+    Ok(copy)
 }
 
 /// The message that is the event of this place, if it is held.
@@ -135,45 +176,13 @@ fn last_in(sent: &[SentChanges], place: EventPlace) -> Option<&SentChanges>
 
 // ---- the same changes
 
-/// Whether a message has these changes: reads it again.
-fn has_edits(alloc: Global, sent: &SentChanges, changes: &[Change]) -> Result<bool>
-    ensures { IfOk result (λ same. same ≡ spec.are_edits (edits_of changes.now)
-        (edits_in sent.now.side sent.now.content.items)) }
+/// Whether a message has these changes.
+fn has_edits(sent: &SentChanges, changes: &[Change]) -> bool
+    ensures { result ≡ spec.are_edits (edits_of changes.now) (held_view sent.now.changes) }
 {
-    match read(alloc, sent.content.as_slice()) {
-        Ok(message) => {
-            let same = says_edits(alloc, sent.side, &message, changes);
-            drop(message);
-            same
-        }
-        Err(RpcFault::Rule(_)) => Ok(false),
-        Err(RpcFault::Memory) => Err(Memory),
-    }
-}
-
-/// The same of the message that it is.
-fn says_edits(alloc: Global, side: Side, message: &Message, changes: &[Change]) -> Result<bool>
-    ensures { IfOk result (λ same. same ≡ spec.are_edits (edits_of changes.now)
-        (option_and_then edits_by (act_at side (message_view message.now)))) }
-{
-    match act_of(alloc, message, side) {
-        Ok(act) => {
-            let same = means_edits(&act, changes);
-            drop(act);
-            Ok(same)
-        }
-        Err(RpcFault::Rule(_)) => Ok(false),
-        Err(RpcFault::Memory) => Err(Memory),
-    }
-}
-
-/// The same of what it means.
-fn means_edits(act: &Act, changes: &[Change]) -> bool
-    ensures { result ≡ spec.are_edits (edits_of changes.now) (edits_by (act_view act.now)) }
-{
-    match act {
-        Act::DidChange { changes: own, .. } => same_changes(changes, own.as_slice()),
-        _ => false,
+    match &sent.changes {
+        Some(own) => same_changes(changes, own.as_slice()),
+        None => false,
     }
 }
 

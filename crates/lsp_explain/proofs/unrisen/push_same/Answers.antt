@@ -11,12 +11,12 @@ returns-then-not-has_changes c = λ terms before are.
     append-nil c.args.facts.now
     ∙ ap (λ (b : Bool). c.args.facts.now
     ++ (if b then cited (codes "same") c.args.place ∷ [] else []))
-    (sym c.if-not-has_changes.true ∙ c.in_ok-has_changes.ensures terms before are)
+    (sym c.if-not-has_changes.true ∙ c.has_changes.ensures terms before are)
 
 pub returns : goal.returns
 returns c = on_ok_weaker c.event.result (λ says terms before are.
     says
     ∙ ap (λ (b : Bool). c.args.facts.now
     ++ (if b then cited (codes "same") c.args.place ∷ [] else []))
-    (sym c.if-not-has_changes.false ∙ c.in_ok-has_changes.ensures terms before are))
+    (sym c.if-not-has_changes.false ∙ c.has_changes.ensures terms before are))
     c.event.ensures.ok

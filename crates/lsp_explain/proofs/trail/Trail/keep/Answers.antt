@@ -61,7 +61,7 @@ returns-in_default-step_of c = λ terms before h is seen.
     (subst (λ (o : Option Step). Keeps (option_map (kept_call (uri_of call) place) o) old.marks
     old.openings old.marks old.openings) c.in_default-step_of.ensures
     (none_kept old.marks old.openings))
-    (c.in_ok-keep.ensures (kept_before terms before) h.note.event noted.0 says)
+    c.in_ok-keep.ensures
     (subst (λ o. Holds most_saves (cons_option o []) old.saves.saved.items
     c.keep-2.new.self.saved.items)
     (ap (option_map (λ uri. on_document uri place))
@@ -92,7 +92,7 @@ returns c = on_ok_weaker c.keep_step.result (λ keeps terms before h is seen.
     (subst (λ more. Keeps more old.marks old.openings new.marks new.openings)
     (ap (λ u. Some (kept_call u place step)) c.uri.ensures
     ∙ ap (option_map (kept_call (uri_of call) place)) c.in-Some-step_of.ensures) keeps)
-    (c.in_ok-keep.ensures (kept_before terms before) h.note.event noted.0 says)
+    c.in_ok-keep.ensures
     (subst (λ o. Holds most_saves (cons_option o []) old.saves.saved.items
     c.keep-2.new.self.saved.items)
     (ap (option_map (λ uri. on_document uri place))
