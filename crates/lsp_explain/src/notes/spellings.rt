@@ -12,10 +12,11 @@ ghost use Rattle.lsp_explain.specs.Openings.{AreOpenings, on_view, ons_view};
 ghost use Rattle.lsp_explain.specs.Spellings as spec;
 ghost use Rattle.lsp_explain.specs.Spellings.{AreSpellings, HoldsOthers, IsSought};
 ghost use Rattle.lsp_explain.specs.Trails.{IsTrail};
-ghost use Rattle.lsp_replay.specs.Telling.{IsSeen, rule_of};
+ghost use Rattle.lsp_replay.specs.Telling.{IsSeen, MaySpeak, Stood, kept_before, rule_of};
 ghost use Rattle.lsp_verdict.specs.Event.{Event, calls};
 ghost use Rattle.lsp_verdict.specs.Heard.{Heard, heard_events};
-ghost use Rattle.lsp_verdict.specs.Offences.{kept_of};
+ghost use Rattle.lsp_verdict.specs.Given.{raw_view};
+ghost use Rattle.lsp_verdict.specs.Offences.{IsNoted, kept_of, said_at};
 
 use crate::naming::{document_of, if_unopened, may_name};
 use crate::notes::document_notes::{DocumentNote, is_noted, push_lines, push_note};
@@ -24,7 +25,7 @@ use crate::trail::{DocumentEvent, Openings, Trail};
 use lsp_docs::{Call, Docs};
 use lsp_facts::Facts;
 use lsp_replay::{EventPlace, Events, Seen};
-use lsp_rpc::{Result, push_quoted};
+use lsp_rpc::{Result, Spoken, push_quoted};
 use lsp_survey::folded;
 use lsp_text::Lined;
 use lsp_verdict::{Raw, who_of};
@@ -78,7 +79,7 @@ impl Spellings {
             → AreSpellings terms self.new (heard_events (before ++ h ∷ []))) }
     {
         let Some(call) = seen.call else {
-            return self.note_message(held, trail, seen);
+            return self.note_message(held, trail, seen.raw, seen.spoken);
         };
         self.note_call(held, trail, seen, call)
     }
@@ -106,21 +107,32 @@ impl Spellings {
         self.note(&held.docs, &trail.openings, place, uri)
     }
 
-    /// Notes the same of an event that says nothing of a document.
+    /// Notes a message that is kept and says nothing of a document. The trail is of the events
+    /// before it.
+    ///
+    /// It takes parts of what was seen: if all were lent, all would have to stand in memory.
     #[cold]
     #[inline(never)]
-    fn note_message(&mut self, held: &Events<Lined>, trail: &Trail, seen: &Seen<'_>) -> Result<()>
+    fn note_message(
+        &mut self,
+        held: &Events<Lined>,
+        trail: &Trail,
+        raw: Raw<'_>,
+        spoken: Option<&Spoken>,
+    ) -> Result<()>
         ensures { OnOk result ((terms : Terms) (before : List Heard) (h : Heard)
             → IsTrail terms trail.now (heard_events before)
             → AreSpellings terms self.old (heard_events before)
-            → IsSeen held.now.session held.now.docs held.now.counts seen.now terms before h
-            → rule_of terms before h ≡ None → seen.now.call ≡ None
+            → Stood terms held.now.session held.now.docs held.now.counts (before ++ h ∷ [])
+            → rule_of terms before h ≡ None → IsNoted (raw_view raw.entry) h.note
+            → MaySpeak (kept_before terms before) h.note.event (option_map (λ s. s.now) spoken.entry)
+            → said_at terms (heard_events before) h.note.event ≡ None
             → AreSpellings terms self.new (heard_events (before ++ h ∷ []))) }
     {
-        let Raw::Content { side, content } = seen.raw else {
+        let Raw::Content { side, content } = raw else {
             return Ok(());
         };
-        let Some(spoken) = seen.spoken else {
+        let Some(spoken) = spoken else {
             return Ok(());
         };
         if !may_name(side, &spoken.message) {
