@@ -13,7 +13,6 @@ use Rattle.lsp_rpc.specs.Message.{Message, notification, request, response, resu
 use Rattle.lsp_rpc.specs.Outline.{outline}
 use Rattle.lsp_rpc.specs.Params.{uri_at}
 use Rattle.lsp_rpc.specs.Reading as rpc
-use Rattle.lsp_rpc.specs.View.{message_view}
 use Rattle.lsp_rpc.specs.declared.act.Spoken.{Spoken}
 use Rattle.lsp_types.specs.declared.side.Side.{Side}
 use Rattle.lsp_types.specs.declared.side.Side.TheVariants.{Editor, Server}

@@ -1,5 +1,5 @@
 //! Whether a frame that is not whole can become one.
-ghost use Rattle.std.specs.Prelude.{◌≡◌, ◌≤◌, ◌<◌, length, drop, IfSome};
+ghost use Rattle.std.specs.Prelude.{◌≡◌, ◌≤◌, ◌<◌, length, IfSome};
 ghost use Rattle.std.specs.List.{list_all, prefix_len, position};
 ghost use Rattle.lsp_facts.specs.FrameFronts as spec;
 ghost use Rattle.lsp_frame.specs.Header.{is_text as text, is_token as token};

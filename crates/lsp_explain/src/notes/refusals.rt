@@ -1,6 +1,6 @@
 //! Which requests about documents the server refused for their params.
 ghost use Rattle.std.specs.Prelude.{◌≡◌, ◌++◌, ◌∷◌, [], List, None, IfOk, OnOk, if◌then◌else◌};
-ghost use Rattle.std.specs.Prelude.{Some, is_some, map, option_and_then, option_map};
+ghost use Rattle.std.specs.Prelude.{Some, map, option_and_then, option_map};
 ghost use Rattle.std.specs.Prelude.{string_bytes, ◌==◌};
 ghost use Rattle.std.specs.List.{cons_option};
 ghost use Rattle.std.specs.Ordering.{int_eq};
