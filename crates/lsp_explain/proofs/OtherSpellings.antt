@@ -9,13 +9,10 @@ use Rattle.std.proofs.lemmas.List.Folds.{find-append}
 use Rattle.lsp_docs.specs.Calls.{Call, opens, changes, closes, saves, shows}
 use Rattle.lsp_docs.specs.Documents.{Terms, Version, held, revised, versioned}
 use Rattle.lsp_docs.proofs.HeldSteps.{held-snoc}
-use Rattle.lsp_rpc.specs.Message.{Message, notification, request, response, result, error}
-use Rattle.lsp_rpc.specs.Outline.{outline}
-use Rattle.lsp_rpc.specs.Params.{uri_at}
+use Rattle.lsp_rpc.specs.Message.{Message}
 use Rattle.lsp_rpc.specs.Reading as rpc
 use Rattle.lsp_rpc.specs.declared.act.Spoken.{Spoken}
 use Rattle.lsp_types.specs.declared.side.Side.{Side}
-use Rattle.lsp_types.specs.declared.side.Side.TheVariants.{Editor, Server}
 use Rattle.lsp_verdict.specs.Event.{Event, call_at, calls, fault, message, sent_of, snapshot}
 use Rattle.lsp_verdict.specs.Heard.{Heard, heard_events}
 use Rattle.lsp_verdict.specs.LookBack.{each_of}
@@ -30,7 +27,7 @@ use Rattle.lsp_replay.proofs.Seeing.{events-push}
 use Rattle.lsp_explain.specs.DocumentNotes.{DocumentNote, document_note, first_notes, is_noted}
 use Rattle.lsp_explain.specs.DocumentNotes.{notes_view, with_note}
 use Rattle.lsp_explain.specs.History.{OnDocument, on_document}
-use Rattle.lsp_explain.specs.Naming.{if_unopened, may_name, named_by}
+use Rattle.lsp_explain.specs.Naming.{if_unopened, named_by}
 use Rattle.lsp_explain.specs.Saves.{unopened_save}
 use Rattle.lsp_explain.specs.Spellings.{AreSpellings, HoldsOthers, similar_note}
 use Rattle.lsp_explain.specs.Spellings.{similar_words, spelling_at, spelling_by, spelling_note}
@@ -220,34 +217,6 @@ pub none_before : (terms : Terms) (before : List Call) (call : Call)
 none_before terms before (opens own n t) is = is
 none_before terms before (saves own t) is = sym (saved_unopened terms before own t) ∙ is
 none_before terms before call is = refl
-
--- ---- a message that names none
-
-may_name-outline : (side : Side) (m : Message) → may_name side m ≡ may_name side (outline m)
-may_name-outline Editor (request own method params) = refl
-may_name-outline Editor (notification method params) = refl
-may_name-outline Editor (response own (result value)) = refl
-may_name-outline Editor (response own (error code)) = refl
-may_name-outline Server (request own method params) = refl
-may_name-outline Server (notification method params) = refl
-may_name-outline Server (response own (result value)) = refl
-may_name-outline Server (response own (error code)) = refl
-
-names_none : (side : Side) (m : Message) → may_name side m ≡ false → named_by side m ≡ None
-names_none Editor (request own method params) is = absurd (cc is)
-names_none Editor (notification method params) is = absurd (cc is)
-names_none Editor (response own reply) is = refl
-names_none Server (request own method params) is = refl
-names_none Server (notification method None) is = refl
-names_none Server (notification method (Some params)) is =
-    ap (λ (b : Bool). if b then uri_at params else None) is
-names_none Server (response own reply) is = refl
-
-pub unnamed : (side : Side) (m said : Message) → outline m ≡ outline said
-    → may_name side said ≡ false → named_by side m ≡ None
-unnamed side m said same is =
-    names_none side m
-    (may_name-outline side m ∙ ap (may_name side) same ∙ sym (may_name-outline side said) ∙ is)
 
 -- ---- a message that says nothing of a document
 

@@ -4,11 +4,14 @@ pub mod Marking
 pub mod Openings
 pub mod Naming
 pub mod Saves
-pub mod SentChanges
+pub mod LastChanges
 pub mod StandardMethods
 pub mod SessionNotes
 pub mod Renames
 pub mod Conversations
+pub mod SentEdits
+pub mod Bases
+pub mod Fits
 pub mod Traced
 pub mod Trails
 pub mod Compared

@@ -15,6 +15,7 @@ ghost use Rattle.lsp_explain.specs.Trails.{StandsAfter, terms_in};
 mod document_notes;
 mod misfits;
 mod refusals;
+mod requests;
 mod spellings;
 
 use crate::trace::push_earlier;

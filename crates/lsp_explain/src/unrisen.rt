@@ -4,7 +4,7 @@ ghost use Rattle.std.specs.List.{prefix_len};
 ghost use Rattle.lsp_docs.specs.Documents.{Terms};
 ghost use Rattle.lsp_docs.specs.Taken.{call_view};
 ghost use Rattle.lsp_explain.specs.Marking.{recent, steps};
-ghost use Rattle.lsp_explain.specs.SentChanges.{AreChanges, last_changes};
+ghost use Rattle.lsp_explain.specs.LastChanges.{AreChanges, last_changes};
 ghost use Rattle.lsp_explain.specs.Traced as spec;
 ghost use Rattle.lsp_explain.specs.Trails.{StandsAfter, terms_in};
 ghost use Rattle.lsp_text.specs.Changes.{edits_of};

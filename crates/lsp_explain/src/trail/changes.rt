@@ -1,18 +1,18 @@
 //! The last messages that changed documents, with their changes.
-ghost use Rattle.std.specs.Prelude.{◌≡◌, [], ◌∷◌, ◌==◌, List, Some, IfOk, OnOk, map, nat_le};
+ghost use Rattle.std.specs.Prelude.{◌≡◌, [], ◌∷◌, ◌==◌, List, Some, IfOk, OnOk, map};
 ghost use Rattle.std.specs.Prelude.{option_map};
-ghost use Rattle.std.specs.List.{cons_option, list_all};
+ghost use Rattle.std.specs.List.{cons_option};
 ghost use Rattle.std.specs.Str.{bytes_eq, chars};
-ghost use Rattle.lsp_docs.specs.Calls.{byte_len};
 ghost use Rattle.lsp_docs.specs.Documents.{Terms};
 ghost use Rattle.lsp_docs.specs.Taken.{call_view};
 ghost use Rattle.lsp_explain.specs.History.{last_that};
-ghost use Rattle.lsp_explain.specs.SentChanges as spec;
-ghost use Rattle.lsp_explain.specs.SentChanges.{AreChanges, HoldsChanges, change_view, held_edits};
-ghost use Rattle.lsp_explain.specs.SentChanges.{held_view, same_edits, sent_change};
+ghost use Rattle.lsp_explain.specs.LastChanges as spec;
+ghost use Rattle.lsp_explain.specs.LastChanges.{AreChanges, HoldsChanges, change_view, held_edits};
+ghost use Rattle.lsp_explain.specs.LastChanges.{held_view, same_edits, sent_change};
 ghost use Rattle.lsp_text.specs.Changes.{edit_of, edits_of};
 ghost use Rattle.lsp_verdict.specs.Event.{Event};
 
+use crate::trail::base::{copies_of, room_after};
 use crate::trail::last_ones::push_within;
 use lsp_docs::Call;
 use lsp_replay::EventPlace;
@@ -24,15 +24,12 @@ use std::collections::VecDeque;
 /// How many of the last messages that changed a document are held at most.
 const MOST_CHANGES: usize = 16;
 
-/// How many changes such a message has at most, if they are held.
-const MOST_EDITS: usize = 64;
+/// How large the changes of such a message are at most together, if they are held.
+const MOST_SIZE: u64 = 65_536;
 
-/// How many bytes the text of each of these has at most.
-const MOST_BYTES: usize = 65_536;
-
-/// A message that changed a document, with its changes if they are few and short.
+/// A message that changed a document, with its changes if they are small enough.
 #[derive(Drop)]
-pub(crate) struct SentChanges {
+pub(crate) struct ChangeEvent {
     place: EventPlace,
     changes: Option<Vec<Change>>,
 }
@@ -42,7 +39,7 @@ pub(crate) struct SentChanges {
 /// It stands for the events of a session of which those that offend are skipped.
 #[derive(Drop)]
 pub(crate) struct Changes {
-    sent: VecDeque<SentChanges>,
+    sent: VecDeque<ChangeEvent>,
 }
 
 impl Changes {
@@ -72,7 +69,7 @@ impl Changes {
     }
 
     /// Whether the event of this place is one of the messages that are held, and has these changes,
-    /// which are few and short.
+    /// which are small enough.
     pub(crate) fn has_changes(&self, place: EventPlace, changes: &[Change]) -> bool
         ensures { (terms : Terms) (events : List Event) → AreChanges terms self.now events
             → result ≡ spec.has_changes place (edits_of changes.now)
@@ -98,67 +95,38 @@ fn changes_of(call: Call<'_>) -> Option<&[Change]>
 }
 
 /// Adds a message after the others, of which the last ones stay.
-fn push(sent: &mut VecDeque<SentChanges>, place: EventPlace, changes: &[Change]) -> Result<()>
+fn push(sent: &mut VecDeque<ChangeEvent>, place: EventPlace, changes: &[Change]) -> Result<()>
     ensures { OnOk result (HoldsChanges
         (sent_change place (held_edits (edits_of changes.now)) ∷ []) sent.old.items
         sent.new.items) }
 {
     let held = held_of(*sent.allocator(), changes)?;
-    let one = SentChanges {
+    let one = ChangeEvent {
         place,
         changes: held,
     };
     push_within(sent, MOST_CHANGES, one)
 }
 
-/// These changes, where they are few and short.
+/// These changes, where they are small enough.
 fn held_of(alloc: Global, changes: &[Change]) -> Result<Option<Vec<Change>>>
     ensures { IfOk result (λ held. held_view held ≡ held_edits (edits_of changes.now)) }
 {
-    if !are_few(changes) {
+    if !are_small(changes) {
         return Ok(None);
     }
-    let held = copy_of(alloc, changes)?;
-    Ok(Some(held))
+    Ok(Some(copies_of(alloc, changes)?))
 }
 
-/// Whether they are few and short.
-fn are_few(changes: &[Change]) -> bool
-    ensures { result ≡ spec.are_few (edits_of changes.now) }
+/// Whether they are small enough to be held.
+fn are_small(changes: &[Change]) -> bool
+    ensures { result ≡ spec.are_small (edits_of changes.now) }
 {
-    changes.len() <= MOST_EDITS && are_short(changes)
-}
-
-/// Whether each is short.
-fn are_short(changes: &[Change]) -> bool
-    ensures { result ≡ list_all (λ change. spec.is_short (edit_of change)) changes.now }
-{
-    changes.iter().all(|change| is_short(change.text.as_str()))
-}
-
-fn is_short(text: &str) -> bool
-    ensures { result ≡ nat_le (byte_len (chars text.now)) 65536 }
-{
-    text.len() <= MOST_BYTES
-}
-
-fn copy_of(alloc: Global, changes: &[Change]) -> Result<Vec<Change>>
-    ensures { IfOk result (λ copy. edits_of copy.items ≡ edits_of changes.now) }
-{
-    let mut copy = Vec::new(alloc);
-    for change in changes {
-        let text = change.text.clone()?;
-        copy.push(Change {
-            span: change.span,
-            range_length: change.range_length,
-            text,
-        })?;
-    }
-    Ok(copy)
+    room_after(MOST_SIZE, changes).is_some()
 }
 
 /// The message that is the event of this place, if it is held.
-fn sent_at(sent: &VecDeque<SentChanges>, place: EventPlace) -> Option<&SentChanges>
+fn sent_at(sent: &VecDeque<ChangeEvent>, place: EventPlace) -> Option<&ChangeEvent>
     ensures { option_map (λ s. change_view s.now) result
         ≡ last_that (spec.is_sent_at place) (map change_view sent.now.items) }
 {
@@ -167,7 +135,7 @@ fn sent_at(sent: &VecDeque<SentChanges>, place: EventPlace) -> Option<&SentChang
 }
 
 /// The one of one part of them that is.
-fn last_in(sent: &[SentChanges], place: EventPlace) -> Option<&SentChanges>
+fn last_in(sent: &[ChangeEvent], place: EventPlace) -> Option<&ChangeEvent>
     ensures { option_map (λ s. s.now) result
         ≡ last_that (λ s. s.place.event == place.event) sent.now }
 {
@@ -177,7 +145,7 @@ fn last_in(sent: &[SentChanges], place: EventPlace) -> Option<&SentChanges>
 // ---- the same changes
 
 /// Whether a message has these changes.
-fn has_edits(sent: &SentChanges, changes: &[Change]) -> bool
+fn has_edits(sent: &ChangeEvent, changes: &[Change]) -> bool
     ensures { result ≡ spec.are_edits (edits_of changes.now) (held_view sent.now.changes) }
 {
     match &sent.changes {

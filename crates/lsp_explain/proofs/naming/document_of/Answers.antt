@@ -1,21 +1,17 @@
-use Rattle.std.proofs.Common.{◌∙◌, ap, subst}
+use Rattle.std.specs.Prelude.{option_map, string_bytes}
+use Rattle.std.proofs.Common.{◌∙◌, ap}
 use Rattle.std.proofs.lemmas.Result.{IfOk-weaker}
-use Rattle.lsp_rpc.specs.Reading.{BreaksRule, IsRefusal}
-use Rattle.lsp_rpc.specs.View.{message_view}
-use Rattle.lsp_verdict.proofs.Below.{not_both, one_message}
-use Rattle.lsp_explain.specs.Naming.{named_by}
+use Rattle.serde_json.specs.View.{view}
+use Rattle.lsp_explain.proofs.Naming.{no_text_names, text_names}
 use Rattle.lsp_explain.proofs.naming.document_of.Goals as goal
 
 pub returns-in-Ok : goal.returns-in-Ok
-returns-in-Ok c = IfOk-weaker c.copy_document-uri.result _ _
-    (λ uri is m reads. is ∙ ap (named_by c.args.side)
-    (one_message c.args.content.now (message_view c.in-Ok.message) m c.in-Ok.ensures.ok reads))
-    c.copy_document-uri.ensures
+returns-in-Ok c = IfOk-weaker c.copy_document.result _ _
+    (λ uri is. is ∙ text_names c.args.side c.args.content.now (view c.in-Ok.value)
+    c.in-Ok.ensures.ok.0 c.in-Ok.ensures.ok.1) c.copy_document.ensures
 
-pub returns-in-Err-Rule : goal.returns-in-Err-Rule
-returns-in-Err-Rule c =
-    let at = c.in-Err-Rule in
-    let bytes = c.args.content.now in
-    let breaks : BreaksRule bytes at.field-0-0 =
-    subst (IsRefusal bytes) at.field-0-is at.ensures.rule in
-    λ m reads. absurd (not_both bytes m at.field-0-0 reads breaks)
+-- it is no JSON text
+pub returns-in-Err : goal.returns-in-Err
+returns-in-Err c = IfOk-weaker c.unread.result _ _
+    (λ uri is. ap (option_map string_bytes) is.1
+    ∙ no_text_names c.args.side c.args.content.now (c.in-Err.ensures.err is.0)) c.unread.ensures

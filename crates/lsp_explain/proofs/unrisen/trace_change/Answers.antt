@@ -1,7 +1,7 @@
 use Rattle.std.proofs.Common.{◌++◌, ◌∙◌, ap}
 use Rattle.std.proofs.lemmas.Result.{on_ok_weaker}
 use Rattle.lsp_text.specs.Changes.{edits_of}
-use Rattle.lsp_explain.specs.SentChanges.{last_changes}
+use Rattle.lsp_explain.specs.LastChanges.{last_changes}
 use Rattle.lsp_explain.specs.Traced.{unrisen_facts}
 use Rattle.lsp_explain.specs.Trails.{terms_in}
 use Rattle.lsp_explain.proofs.unrisen.trace_change.Goals as goal

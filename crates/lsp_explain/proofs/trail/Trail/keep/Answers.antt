@@ -16,6 +16,7 @@ use Rattle.lsp_verdict.specs.Placed.{Raw}
 use Rattle.std.specs.List.{cons_option}
 use Rattle.std.specs.Option.{option_or}
 use Rattle.lsp_explain.specs.History.{kept_call, on_document}
+use Rattle.lsp_explain.specs.Marking.{finds_equal, marked_in}
 use Rattle.lsp_explain.specs.Openings.{Holds}
 use Rattle.lsp_explain.specs.Renames.{moves_view, renamed_held}
 use Rattle.lsp_explain.specs.Saves.{most_saves, unopened_save}
@@ -23,7 +24,8 @@ use Rattle.lsp_explain.specs.Trails.{Keeps}
 use Rattle.lsp_explain.specs.declared.trail.step.Step.{Step}
 use Rattle.lsp_explain.proofs.OtherSpellings.{calls_after, save_same}
 use Rattle.lsp_explain.proofs.RenameSteps.{no_edit}
-use Rattle.lsp_explain.proofs.Trails.{fate_offends, none_kept, trail_called, trail_past}
+use Rattle.lsp_explain.proofs.Trails.{based_called, based_same, fate_offends, none_kept}
+use Rattle.lsp_explain.proofs.Trails.{trail_called, trail_past}
 use Rattle.lsp_explain.proofs.trail.Trail.keep.Goals as goal
 
 -- it offends
@@ -56,11 +58,14 @@ returns-in_default-step_of c = λ terms before h is seen.
     (c.who.ensures ∙ sym (whose_read raw h.note.event noted.0)) in
     let has = subst (λ (f : Fate). HasFate terms before h f) c.in-Kept.is seen.fate in
     let says = sym seen.says ∙ ap (option_map call_view) c.in-Some.is in
+    let told = has.1 ∙ ap (took_of terms (calls (kept_before terms before))) says in
     trail_called terms before h old is _ has.0 place at call took old.said.renames seen.noted.0
-    says (has.1 ∙ ap (took_of terms (calls (kept_before terms before))) says)
+    says told
     (subst (λ (o : Option Step). Keeps (option_map (kept_call (uri_of call) place) o) old.marks
     old.openings old.marks old.openings) c.in_default-step_of.ensures
     (none_kept old.marks old.openings))
+    (based_same terms before h old is old has.0 place at call took told
+    c.in_default-step_of.ensures)
     c.in_ok-keep.ensures
     (subst (λ o. Holds most_saves (cons_option o []) old.saves.saved.items
     c.keep-2.new.self.saved.items)
@@ -74,7 +79,7 @@ returns-in_default-step_of c = λ terms before h is seen.
 
 -- it does something to one
 pub returns : goal.returns
-returns c = on_ok_weaker c.keep_step.result (λ keeps terms before h is seen.
+returns c = on_ok_weaker c.keep-3.result (λ texts terms before h is seen.
     let old = c.args.self.now in
     let new = c.keep_step.new in
     let raw = raw_view c.args.seen.now.raw in
@@ -87,11 +92,18 @@ returns c = on_ok_weaker c.keep_step.result (λ keeps terms before h is seen.
     (c.who.ensures ∙ sym (whose_read raw h.note.event noted.0)) in
     let has = subst (λ (f : Fate). HasFate terms before h f) c.in-Kept.is seen.fate in
     let says = sym seen.says ∙ ap (option_map call_view) c.in-Some.is in
+    let told = has.1 ∙ ap (took_of terms (calls (kept_before terms before))) says in
+    let done = c.in_ok-keep_step.ensures in
     trail_called terms before h _ is _ has.0 _ at call c.in-Kept.took c.keep_call.new.self
-    seen.noted.0 says (has.1 ∙ ap (took_of terms (calls (kept_before terms before))) says)
+    seen.noted.0 says told
     (subst (λ more. Keeps more old.marks old.openings new.marks new.openings)
     (ap (λ u. Some (kept_call u place step)) c.uri.ensures
-    ∙ ap (option_map (kept_call (uri_of call) place)) c.in-Some-step_of.ensures) keeps)
+    ∙ ap (option_map (kept_call (uri_of call) place)) c.in-Some-step_of.ensures) done.kept)
+    (based_called terms before h _ is _ has.0 _ at c.args.held.now.session c.args.held.now.docs
+    c.args.held.now.counts call c.in-Kept.took step c.in_ok-keep_step.is_equal seen.stood says told
+    c.in-Some-step_of.ensures
+    (done.equal ∙ ap (λ u. finds_equal step (marked_in old.marks.map.entries u)) c.uri.ensures)
+    texts)
     c.in_ok-keep.ensures
     (subst (λ o. Holds most_saves (cons_option o []) old.saves.saved.items
     c.keep-2.new.self.saved.items)
@@ -99,4 +111,4 @@ returns c = on_ok_weaker c.keep_step.result (λ keeps terms before h is seen.
     ((λ i. unopened_save (seen.stood.by i) (calls_after terms before h (Some call) has.0 says i)
     call) ∙ save_same terms (calls (kept_before terms before)) call))
     (c.in_ok-keep-2.ensures _ seen.stood.holds.called))
-    refl c.keep_call.ensures.moves c.in_ok-keep_call.ensures.renamed) c.keep_step.ensures
+    refl c.keep_call.ensures.moves c.in_ok-keep_call.ensures.renamed) c.keep-3.ensures

@@ -1,6 +1,6 @@
 use Rattle.std.proofs.Common.{[], ◌∷◌, subst}
 use Rattle.std.proofs.lemmas.Result.{on_ok_weaker}
-use Rattle.lsp_explain.specs.SentChanges.{HoldsChanges, sent_change}
+use Rattle.lsp_explain.specs.LastChanges.{HoldsChanges, sent_change}
 use Rattle.lsp_explain.proofs.Changing.{change_more}
 use Rattle.lsp_explain.proofs.trail.changes.push.Goals as goal
 

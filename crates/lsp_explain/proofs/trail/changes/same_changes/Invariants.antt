@@ -1,6 +1,6 @@
 use Rattle.std.proofs.Common.{◌≡◌, length}
 use Rattle.lsp_text.specs.Changes.{edits_of}
-use Rattle.lsp_explain.specs.SentChanges.{same_edits}
+use Rattle.lsp_explain.specs.LastChanges.{same_edits}
 use Rattle.lsp_explain.proofs.trail.changes.same_changes.Given as goal
 
 abbrev pub invariant-loop-first : goal.invariant-loop-first

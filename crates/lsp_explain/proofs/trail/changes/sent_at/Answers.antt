@@ -1,6 +1,6 @@
 use Rattle.std.specs.Prelude.{option_map}
 use Rattle.std.proofs.Common.{◌∙◌, ap}
-use Rattle.lsp_explain.specs.SentChanges.{change_view, is_sent_at}
+use Rattle.lsp_explain.specs.LastChanges.{change_view, is_sent_at}
 use Rattle.lsp_explain.proofs.Changing.{seen_as}
 use Rattle.lsp_explain.proofs.History.{last_held}
 use Rattle.lsp_explain.proofs.trail.changes.sent_at.Goals as goal

@@ -13,8 +13,9 @@ use Rattle.lsp_explain.specs.DocumentNotes.{notes_view, with_note}
 use Rattle.lsp_explain.specs.Openings.{AreOpenings}
 use Rattle.lsp_explain.specs.Naming.{if_unopened}
 use Rattle.lsp_explain.specs.Spellings.{HoldsOthers, spelling_note}
+use Rattle.lsp_explain.proofs.Naming.{named_so, unnamed}
 use Rattle.lsp_explain.proofs.OtherSpellings.{calls_after, named_none, named_one, others_stay}
-use Rattle.lsp_explain.proofs.OtherSpellings.{own_reads, unnamed}
+use Rattle.lsp_explain.proofs.OtherSpellings.{own_reads}
 use Rattle.lsp_explain.proofs.Trails.{is_message, no_content}
 use Rattle.lsp_explain.proofs.notes.spellings.Spellings.note_message.Goals as goal
 
@@ -56,8 +57,9 @@ returns-in_default-uri c = λ terms before h trail are stood kept noted spoken s
     named_none terms before h c.args.self.now are kept says side heard.0 bytes
     c.in-Some.spoken.now reads heard.1 _ refl
     (ap (option_and_then (if_unopened terms own))
-    (sym (c.in_ok-uri.ensures heard.1.sent.message message)
-    ∙ ap (option_map string_bytes) c.in_default-uri.is))
+    (named_so side bytes heard.1.sent.message _ message heard.1.says
+    (sym c.may_name.ensures ∙ c.if-not-may_name.false)
+    ∙ sym c.in_ok-uri.ensures ∙ ap (option_map string_bytes) c.in_default-uri.is))
 
 -- it is open
 pub returns-in_default-unopened : goal.returns-in_default-unopened
@@ -73,8 +75,9 @@ returns-in_default-unopened c = λ terms before h trail are stood kept noted spo
     named_none terms before h c.args.self.now are kept says side heard.0 bytes
     c.in-Some.spoken.now reads heard.1 _ refl
     (ap (option_and_then (if_unopened terms own))
-    (sym (c.in_ok-uri.ensures heard.1.sent.message message)
-    ∙ ap (option_map string_bytes) c.in-Some-uri.is)
+    (named_so side bytes heard.1.sent.message _ message heard.1.says
+    (sym c.may_name.ensures ∙ c.if-not-may_name.false)
+    ∙ sym c.in_ok-uri.ensures ∙ ap (option_map string_bytes) c.in-Some-uri.is)
     ∙ (λ i. if_unopened ((sym stood.by) i) ((sym stay) i) ((sym c.as_str.ensures.value) i))
     ∙ sym (c.in_default-unopened.ensures _ stood.holds.called))
 
@@ -99,8 +102,9 @@ returns c = on_ok_weaker c.note.result (λ one terms before h trail are stood ke
     named_one terms before h c.args.self.now are kept says side heard.0 bytes
     c.in-Some.spoken.now reads heard.1 _ place uri at
     (ap (option_and_then (if_unopened terms own))
-    (sym (c.in_ok-uri.ensures heard.1.sent.message message)
-    ∙ ap (option_map string_bytes) c.in-Some-uri.is)
+    (named_so side bytes heard.1.sent.message _ message heard.1.says
+    (sym c.may_name.ensures ∙ c.if-not-may_name.false)
+    ∙ sym c.in_ok-uri.ensures ∙ ap (option_map string_bytes) c.in-Some-uri.is)
     ∙ (λ i. if_unopened ((sym stood.by) i) ((sym stay) i) ((sym c.as_str.ensures.value) i))
     ∙ sym (c.in-Some-unopened.ensures _ stood.holds.called))
     (subst (λ (t : Terms). AreOpenings t c.args.trail.now.openings events

@@ -2,7 +2,7 @@ use Rattle.std.specs.Prelude.{option_and_then}
 use Rattle.std.proofs.Common.{◌∙◌, ap}
 use Rattle.lsp_text.specs.Changes.{edits_of}
 use Rattle.lsp_explain.specs.History.{last_that}
-use Rattle.lsp_explain.specs.SentChanges.{SentChange, are_edits, is_sent_at}
+use Rattle.lsp_explain.specs.LastChanges.{SentChange, are_edits, is_sent_at}
 use Rattle.lsp_explain.proofs.trail.changes.Changes.has_changes.Goals as goal
 
 pub returns-in-Some : goal.returns-in-Some

@@ -2,7 +2,7 @@ use Rattle.std.specs.List.{cons_option}
 use Rattle.std.specs.Prelude.{option_map}
 use Rattle.std.proofs.Common.{[], ap, subst, sym}
 use Rattle.std.proofs.lemmas.Result.{on_ok_weaker}
-use Rattle.lsp_explain.specs.SentChanges.{HoldsChanges, held_edits, sent_change}
+use Rattle.lsp_explain.specs.LastChanges.{HoldsChanges, held_edits, sent_change}
 use Rattle.lsp_explain.proofs.Changing.{no_change_more}
 use Rattle.lsp_explain.proofs.trail.changes.Changes.keep.Goals as goal
 
