@@ -243,7 +243,7 @@ def sent_twice(later):
 
 
 def changes_of(size):
-    """Two changes that count so many bytes: 64 each, and those of the texts."""
+    """Two changes of this size: 64 bytes for each, and those of the texts."""
     return [{"text": "é" * 30_000}, {"text": "x" * (size - 60_000 - 2 * 64)}]
 
 

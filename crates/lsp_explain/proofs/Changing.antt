@@ -1,13 +1,15 @@
 -- The last messages that changed documents, and those that saved documents that were not open, with
 -- one event more.
 use Rattle.std.specs.Borrow.{Bor}
-use Rattle.std.specs.Prelude.{option_map}
+use Rattle.std.specs.Prelude.{MatchOption, is_some, nat_lt, not, option_map}
 use Rattle.std.specs.List.{cons_option}
-use Rattle.std.proofs.Common.{◌≡◌, ◌<◌, ℕ, List, [], ◌∷◌, ◌++◌, Option, Some, None}
+use Rattle.std.proofs.Common.{◌≡◌, ◌<◌, ◌+◌, ℕ, true, false, List, [], ◌∷◌, ◌++◌, Option, Some, None}
 use Rattle.std.proofs.Common.{refl, sym, ap, ◌∙◌, append-nil, arith}
+use Rattle.std.proofs.lemmas.Bool.Decides.{nat_tests}
 use Rattle.lsp_explain.specs.History.{OnDocument, last_ones, with_room}
 use Rattle.lsp_explain.specs.Openings.{Holds}
 use Rattle.lsp_explain.specs.LastChanges.{HoldsChanges, SentChange, change_view, most_changes}
+use Rattle.lsp_explain.specs.LastChanges.{most_edits_size}
 use Rattle.lsp_explain.specs.declared.trail.changes.ChangeEvent as code
 use Rattle.lsp_explain.specs.declared.trail.openings.DocumentEvent.{DocumentEvent}
 use Rattle.lsp_explain.proofs.History.{held-push}
@@ -41,3 +43,18 @@ pub seen_as : {A B : Type 0} (view : A → B) (o : Option (Bor A))
     ≡ option_map view (option_map (λ (r : Bor A). r.now) o)
 seen_as view None = refl
 seen_as view (Some r) = refl
+
+-- ---- those that are small enough
+
+large_so : (size : ℕ) → most_edits_size < size → false ≡ not (nat_lt most_edits_size size)
+large_so size large = grind (arith, nat_tests)
+
+fits_so : (size left : ℕ) → left + size ≡ most_edits_size → true ≡ not (nat_lt most_edits_size size)
+fits_so size left is = grind (arith, nat_tests)
+
+-- there is room for them
+pub small_so : (size : ℕ) (left : Option ℕ)
+    → MatchOption left (most_edits_size < size) (λ l. l + size ≡ most_edits_size)
+    → is_some left ≡ not (nat_lt most_edits_size size)
+small_so size None large = large_so size large
+small_so size (Some l) is = fits_so size l is
