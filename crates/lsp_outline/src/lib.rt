@@ -2,11 +2,12 @@
 //!
 //! A `MessageReader` walks over the bytes of a content once. It reads a message without its params
 //! and without the value of its result; where the params of a notification are read, it also says
-//! what they mean. It answers exactly what `lsp_rpc` would, and leaves the contents that it
-//! declines to `lsp_rpc`.
+//! what they mean. Of any message it tells which document its params name. It answers exactly what
+//! `lsp_rpc` would, and leaves the contents that it declines to `lsp_rpc`.
 #![tactic(auto)]
 
 mod bytes;
+mod document;
 mod edits;
 mod members;
 mod message;

@@ -1,0 +1,12 @@
+use Rattle.std.proofs.Common.{◌≡◌, IsUtf8, sym, ap, ◌∙◌, arith}
+use Rattle.serde_json.specs.Read.{read as read_text}
+use Rattle.lsp_outline.proofs.Naming.{names_read}
+use Rattle.lsp_outline.proofs.document.uri_in.Goals as goal
+
+pub returns : goal.returns
+returns c =
+    let utf8 : (c.in_ok-text.text.now ≡ c.args.content.now) × IsUtf8 c.args.content.now =
+    grind arith in
+    let found = c.in_ok-text_into.ensures in
+    names_read c.args.content.now found.0 _ _ _ (ap read_text (sym utf8.0) ∙ found.1) found.2.0
+    found.2.1 c.uri_of_call.ensures
