@@ -1,12 +1,9 @@
 -- The document that a message names, as it is read from its content.
 use Rattle.std.specs.Prelude.{if◌then◌else◌, is_some, option_and_then, option_map, string_bytes}
-use Rattle.std.specs.Str.{is_utf8, IsUtf8}
 use Rattle.std.proofs.Common.{◌≡◌, ℕ, Bool, true, false, List, Option, Some, None, refl, sym, ap}
 use Rattle.std.proofs.Common.{◌∙◌}
-use Rattle.std.proofs.lemmas.Str.{IsUtf8-from_is_utf8, is_utf8-from_IsUtf8}
 use Rattle.serde_json.specs.Data.{Data, null, boolean, number, string, array, object}
 use Rattle.serde_json.specs.Find.{as_str}
-use Rattle.serde_json.specs.Read.{read}
 use Rattle.lsp_rpc.specs.Ident.{Ident}
 use Rattle.lsp_rpc.specs.Message.{Message, request, notification, response, Reply, result, error}
 use Rattle.lsp_rpc.specs.Outline.{outline}
@@ -14,8 +11,9 @@ use Rattle.lsp_rpc.specs.Reading as rpc
 use Rattle.lsp_rpc.specs.Shape.{as_id, unless_null}
 use Rattle.lsp_types.specs.declared.side.Side.{Side}
 use Rattle.lsp_types.specs.declared.side.Side.TheVariants.{Editor, Server}
-use Rattle.lsp_explain.specs.Naming.{document_in, is_call, may_name, named_by, named_in}
-use Rattle.lsp_explain.specs.Naming.{named_in_value, params_of}
+use Rattle.lsp_outline.specs.Named.{document_in, named_in}
+use Rattle.lsp_outline.proofs.Naming.{text_names}
+use Rattle.lsp_explain.specs.Naming.{is_call, may_name, named_by, params_of}
 
 -- ---- whether it may name one
 
@@ -82,14 +80,6 @@ made_with true None id own answer m made is = absurd (cc made)
 made_with false name id own (Some reply) m made is = absurd (cc (ap calls made ∙ is))
 made_with false name id own None m made is = absurd (cc made)
 
--- one that is a JSON text names that of its value
-pub text_names : (side : Side) (bytes : List ℕ) (d : Data) → IsUtf8 bytes → read bytes ≡ Some d
-    → named_in_value side d ≡ named_in side bytes
-text_names side bytes d utf8 is =
-    sym (ap (λ (b : Bool). if b then option_and_then (named_in_value side) (read bytes) else None)
-    (is_utf8-from_IsUtf8 bytes utf8)
-    ∙ ap (option_and_then (named_in_value side)) is)
-
 -- **a content names the document of its message**
 pub names_so : (side : Side) (bytes : List ℕ) (m : Message) → rpc.Reads bytes m
     → may_name side m ≡ true → named_by side m ≡ named_in side bytes
@@ -108,14 +98,3 @@ pub named_so : (side : Side) (bytes : List ℕ) (m said : Message) → rpc.Reads
     → outline m ≡ outline said → may_name side said ≡ true → named_by side m ≡ named_in side bytes
 named_so side bytes m said reads same is =
     names_so side bytes m reads (may_alike side m said same ∙ is)
-
--- one that is no JSON text names none
-pub no_text_names : (side : Side) (bytes : List ℕ) → (IsUtf8 bytes → read bytes ≡ None)
-    → None ≡ named_in side bytes
-no_text_names side bytes no_text = by_test (is_utf8 bytes) refl
-  where
-    by_test : (b : Bool) → is_utf8 bytes ≡ b
-        → None ≡ (if b then option_and_then (named_in_value side) (read bytes) else None)
-    by_test false is = refl
-    by_test true is =
-        sym (ap (option_and_then (named_in_value side)) (no_text (IsUtf8-from_is_utf8 bytes is)))

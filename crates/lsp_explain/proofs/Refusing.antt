@@ -31,7 +31,8 @@ use Rattle.lsp_replay.specs.declared.heard.EventPlace.{EventPlace}
 use Rattle.lsp_replay.proofs.Seeing.{events-push}
 use Rattle.lsp_explain.specs.DocumentNotes.{DocumentNote, first_notes, notes_view, with_note}
 use Rattle.lsp_explain.specs.History.{last_ones, with_room}
-use Rattle.lsp_explain.specs.Naming.{may_name, named_by, named_in}
+use Rattle.lsp_outline.specs.Named.{named_in}
+use Rattle.lsp_explain.specs.Naming.{may_name, named_by}
 use Rattle.lsp_explain.specs.Refusals.{AreRefusals, Holds, Request, event_request}
 use Rattle.lsp_explain.specs.Refusals.{is_request, most_requests, open_document}
 use Rattle.lsp_explain.specs.Refusals.{refusal_at, refusal_by, refusal_note, refused_document}

@@ -1,13 +1,12 @@
 -- Which document a message names in its params, and whether it is open.
 use Rattle.std.specs.Prelude.{ℕ, List, Bool, true, false, Option, Some, None, if◌then◌else◌}
 use Rattle.std.specs.Prelude.{codes, is_some, option_and_then}
-use Rattle.std.specs.Str.{bytes_eq, is_utf8}
+use Rattle.std.specs.Str.{bytes_eq}
 use Rattle.serde_json.specs.Data.{Data}
-use Rattle.serde_json.specs.Read.{read}
 use Rattle.lsp_docs.specs.Calls.{Call}
 use Rattle.lsp_docs.specs.Documents.{Terms, held}
 use Rattle.lsp_rpc.specs.Message.{Message, request, notification, response}
-use Rattle.lsp_rpc.specs.Params.{required, uri_at}
+use Rattle.lsp_outline.specs.Named.{document_in}
 use Rattle.lsp_types.specs.declared.side.Side.{Side}
 use Rattle.lsp_types.specs.declared.side.Side.TheVariants.{Editor, Server}
 
@@ -32,12 +31,6 @@ may_name Server m = diagnoses m
 
 -- ---- which one
 
--- the document that params name, of a message of this side (LSP 3.17, TextDocumentIdentifier,
--- PublishDiagnosticsParams)
-abbrev pub document_in : Side → Data → Option (List ℕ)
-document_in Editor params = required (codes "textDocument") uri_at params
-document_in Server params = uri_at params
-
 -- the params of a message; a response has none
 abbrev pub params_of : Message → Option Data
 params_of (request id method params) = params
@@ -48,16 +41,6 @@ params_of (response id reply) = None
 -- server's the diagnostics
 abbrev pub named_by : Side → Message → Option (List ℕ)
 named_by side m = if may_name side m then option_and_then (document_in side) (params_of m) else None
-
--- ---- as it is read
-
--- the one that the message of this JSON value names, if it may name one
-abbrev pub named_in_value : Side → Data → Option (List ℕ)
-named_in_value side value = required (codes "params") (document_in side) value
-
-abbrev pub named_in : Side → List ℕ → Option (List ℕ)
-named_in side content =
-    if is_utf8 content then option_and_then (named_in_value side) (read content) else None
 
 -- ---- whether it is open
 

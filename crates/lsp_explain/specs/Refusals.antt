@@ -20,7 +20,7 @@ use Rattle.lsp_explain.specs.Asking.{asked, numbered}
 use Rattle.lsp_explain.specs.DocumentNotes.{DocumentNote, document_note, first_notes, notes_view}
 use Rattle.lsp_explain.specs.History.{each_kept, last_ones, last_that, on_document}
 use Rattle.lsp_explain.specs.Marking.{opened, steps}
-use Rattle.lsp_explain.specs.Naming.{document_in, named_in}
+use Rattle.lsp_outline.specs.Named.{document_in, named_in}
 use Rattle.lsp_explain.specs.declared.notes.refusals.Refusals.{Refusals}
 use Rattle.lsp_explain.specs.declared.notes.requests.Named.{Named}
 use Rattle.lsp_explain.specs.declared.notes.requests.Named.TheVariants.{Content, Document}

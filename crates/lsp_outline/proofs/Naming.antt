@@ -1,84 +1,40 @@
--- Which document the message names that its members make.
-use Rattle.std.proofs.Common.{◌≡◌, ℕ, List, Bool, if◌then◌else◌, Option, Some, None}
-use Rattle.std.proofs.Common.{option_map, option_and_then, codes, Result, Ok, Err, OnErr, refl, sym}
-use Rattle.std.proofs.Common.{subst, ap, ◌∙◌}
-use Rattle.std.specs.Prelude.{is_some, unwrap_or}
-use Rattle.serde_json.specs.Data.{Data, null, boolean, number, string, array, object, Members}
-use Rattle.serde_json.specs.Find.{as_str, get_member}
+-- Which document a content names, as it is read.
+use Rattle.std.specs.Prelude.{if◌then◌else◌, option_and_then, codes}
+use Rattle.std.specs.Str.{is_utf8, IsUtf8}
+use Rattle.std.proofs.Common.{◌≡◌, ℕ, Bool, true, false, List, Option, Some, None, refl, sym, ap}
+use Rattle.std.proofs.Common.{◌∙◌}
+use Rattle.std.proofs.lemmas.Str.{IsUtf8-from_is_utf8, is_utf8-from_IsUtf8}
+use Rattle.serde_json.specs.Data.{Data, Members, object}
 use Rattle.serde_json.specs.Read.{read}
-use Rattle.lsp_rpc.specs.Act.{Text}
-use Rattle.lsp_rpc.specs.Ident.{Ident}
-use Rattle.lsp_rpc.specs.Message.{Message, response, Reply}
 use Rattle.lsp_rpc.specs.Params.{required}
-use Rattle.lsp_rpc.specs.Reading.{Parts, parts_of, call, message_in, reply_in, IsMessage}
-use Rattle.lsp_rpc.specs.Shape.{as_id, unless_null}
-use Rattle.lsp_outline.specs.Named.{document_in, document_named, Names}
+use Rattle.lsp_types.specs.declared.side.Side.{Side}
+use Rattle.lsp_types.specs.declared.side.Side.TheVariants.{Editor, Server}
+use Rattle.lsp_outline.specs.Named.{content_view, document_in, named_in, named_in_value}
+use Rattle.lsp_outline.specs.declared.document.ContentParts.{ContentParts}
 
-is_made : (a m : Message) → Some a ≡ Some m → a ≡ m
-is_made a m h = ap (λ (o : Option Message). unwrap_or o m) h
-
--- null names none
-unless_null_named : (o : Option Data)
-    → option_and_then document_in (option_and_then unless_null o) ≡ option_and_then document_in o
-unless_null_named None = refl
-unless_null_named (Some null) = refl
-unless_null_named (Some (boolean b)) = refl
-unless_null_named (Some (number n)) = refl
-unless_null_named (Some (string s)) = refl
-unless_null_named (Some (array ds)) = refl
-unless_null_named (Some (object ms)) = refl
-
--- a call names the document that its params name
-named_by_call : (method : List ℕ) (id : Option Ident) (params : Option Data)
-    → document_named (call method id params) ≡ option_and_then document_in params
-named_by_call method None params = refl
-named_by_call method (Some own) params = refl
-
-call_named : (method : Option (List ℕ)) (id : Option Ident) (params : Option Data) (m : Message)
-    → option_map (λ name. call name id (option_and_then unless_null params)) method ≡ Some m
-    → document_named m ≡ option_and_then document_in params
-call_named None id params m is = absurd (cc)
-call_named (Some name) id params m is =
-    ap document_named (sym (is_made _ m is)) ∙ named_by_call name id _ ∙ unless_null_named params
-
-response_named : (id : Option Ident) (reply : Option Reply) (m : Message)
-    → option_map (response id) reply ≡ Some m → document_named m ≡ None
-response_named id None m is = absurd (cc)
-response_named id (Some reply) m is = ap document_named (sym (is_made _ m is))
-
-parts_named : (version method id params result error : Option Data) (m : Message) →
-    let p : Parts = record {
-      version = version;
-      method = method;
-      id = id;
-      params = params;
-      result = result;
-      error = error;
-    } in message_in p ≡ Some m
-    → document_named m ≡ if is_some method then option_and_then document_in params else None
-parts_named version (Some d) id params result error m is =
-    call_named (as_str d) (option_and_then as_id id) params m is
-parts_named version None id params result error m is =
-    response_named (option_and_then as_id id) (reply_in result error) m is
-
--- what was read of the members of a content's object is what its message names
-pub names_read : (content : List ℕ) (ms : Members) (has_method : Bool) (told uri : Option Text)
-    → read content ≡ Some (object ms) → is_some (get_member (codes "method") ms) ≡ has_method
-    → required (codes "params") document_in (object ms) ≡ told
-    → uri ≡ (if has_method then told else None) → Names content uri
-names_read content ms has_method told uri json_is method params is m (d, json, made) =
-    let same : d ≡ object ms = one_value d (object ms) (sym json.1 ∙ json_is) in
-    let of_members : IsMessage (object ms) m = subst (λ (x : Data). IsMessage x m) same made in
-    let p = parts_of (object ms) in
-    parts_named p.version p.method p.id p.params p.result p.error m of_members.made
-    ∙ ap (λ (b : Bool). if b then required (codes "params") document_in (object ms) else None) method
-    ∙ ap (λ (t : Option Text). if has_method then t else None) params
-    ∙ sym is
+-- one that is no JSON text names none
+pub no_text_names : (side : Side) (bytes : List ℕ) → (IsUtf8 bytes → read bytes ≡ None)
+    → None ≡ named_in side bytes
+no_text_names side bytes no_text = by_test (is_utf8 bytes) refl
   where
-    one_value : (x y : Data) → Some x ≡ Some y → x ≡ y
-    one_value x y h = ap (λ (o : Option Data). unwrap_or o y) h
+    by_test : (b : Bool) → is_utf8 bytes ≡ b
+        → None ≡ (if b then option_and_then (named_in_value side) (read bytes) else None)
+    by_test false is = refl
+    by_test true is =
+        sym (ap (option_and_then (named_in_value side)) (no_text (IsUtf8-from_is_utf8 bytes is)))
 
--- what always holds, holds after an error
-pub on_err : {T E P : Type 0} (r : Result T E) → P → OnErr r P
-on_err (Ok v) p = tt
-on_err (Err e) p = p
+-- one that is a JSON text names that of its value
+pub text_names : (side : Side) (bytes : List ℕ) (d : Data) → IsUtf8 bytes → read bytes ≡ Some d
+    → named_in_value side d ≡ named_in side bytes
+text_names side bytes d utf8 is =
+    sym (ap (λ (b : Bool). if b then option_and_then (named_in_value side) (read bytes) else None)
+    (is_utf8-from_IsUtf8 bytes utf8)
+    ∙ ap (option_and_then (named_in_value side)) is)
+
+-- what was gathered of each side's, by side
+pub gathered_by : (side : Side) (ms : Members) (parts : ContentParts)
+    → required (codes "params") (document_in Editor) (object ms) ≡ content_view Editor parts
+    → required (codes "params") (document_in Server) (object ms) ≡ content_view Server parts
+    → named_in_value side (object ms) ≡ content_view side parts
+gathered_by Editor ms parts of_editor of_server = of_editor
+gathered_by Server ms parts of_editor of_server = of_server

@@ -1,18 +1,17 @@
-//! The document that a message names by its params (LSP 3.17, TextDocumentIdentifier).
-ghost use Rattle.std.specs.Prelude.{◌≡◌, ◌<◌, length, is_some, None, IfSome, IfOk, OnErr, codes};
-ghost use Rattle.std.specs.Prelude.{if◌then◌else◌, option_map, string_bytes};
+//! Which document a content names in its params, without building what the others of them hold.
+ghost use Rattle.std.specs.Prelude.{◌≡◌, IfSome, IfOk, None, codes, option_map, string_bytes};
 ghost use Rattle.serde_json.specs.Data.{object};
-ghost use Rattle.serde_json.specs.Find.{get_member};
+ghost use Rattle.serde_json.specs.Errors.{IsMemory};
 ghost use Rattle.serde_json.specs.View.{view};
 ghost use Rattle.lsp_outline.specs.Named as spec;
 ghost use Rattle.lsp_rpc.specs.Params as params;
-ghost use Rattle.lsp_rpc.specs.View.{message_view};
+ghost use Rattle.lsp_types.specs.declared.side.Side.TheVariants.{Editor, Server};
 
 use crate::members::{Gathered, keep, object_at, skipped, text_into};
 use crate::walk::string_copy;
-use lsp_rpc::{Memory, Message, read};
-use lsp_types::Fault;
-use serde_json::Value;
+use lsp_rpc::Memory;
+use lsp_types::Side;
+use serde_json::{Error, Value};
 use std::alloc::Global;
 
 /// The member of a text document's identifier.
@@ -44,17 +43,23 @@ impl Gathered for IdentifierParts {
     }
 }
 
-/// The member of params that names their document.
+/// The members of params that name their document, one for each side.
 #[derive(Drop)]
 struct NamingParts {
     document: Option<IdentifierParts>,
+    uri: Option<String>,
 }
 
 impl Gathered for NamingParts {
-    ghost gathers = { λ ms parts. spec.document_in (object ms) ≡ spec.naming_view parts };
+    ghost gathers = { λ ms parts.
+        (spec.document_in Editor (object ms) ≡ spec.naming_view Editor parts)
+        × (spec.document_in Server (object ms) ≡ spec.naming_view Server parts) };
 
     fn none() -> NamingParts {
-        NamingParts { document: None }
+        NamingParts {
+            document: None,
+            uri: None,
+        }
     }
 
     #[inline(always)]
@@ -68,28 +73,27 @@ impl Gathered for NamingParts {
     ) -> Option<usize> {
         match name {
             "textDocument" => keep!(self.document = Some(object_at(alloc, text, from, depth))),
+            "uri" => keep!(self.uri = Some(string_copy(alloc, text, from))),
             _ => skipped(text, from, depth),
         }
     }
 }
 
-/// The members of a message that tell which document it names: only a call has a method.
+/// The member of a message that names its document.
 #[derive(Drop)]
-struct CallParts {
-    has_method: bool,
+struct ContentParts {
     params: Option<NamingParts>,
 }
 
-impl Gathered for CallParts {
+impl Gathered for ContentParts {
     ghost gathers = { λ ms parts.
-        (is_some (get_member (codes "method") ms) ≡ parts.has_method)
-        × (params.required (codes "params") spec.document_in (object ms) ≡ spec.call_view parts) };
+        (params.required (codes "params") (spec.document_in Editor) (object ms)
+        ≡ spec.content_view Editor parts)
+        × (params.required (codes "params") (spec.document_in Server) (object ms)
+        ≡ spec.content_view Server parts) };
 
-    fn none() -> CallParts {
-        CallParts {
-            has_method: false,
-            params: None,
-        }
+    fn none() -> ContentParts {
+        ContentParts { params: None }
     }
 
     #[inline(always)]
@@ -102,79 +106,101 @@ impl Gathered for CallParts {
         depth: usize,
     ) -> Option<usize> {
         match name {
-            "method" => {
-                let end = skipped(text, from, depth)?;
-                self.has_method = true;
-                Some(end)
-            }
             "params" => keep!(self.params = Some(object_at(alloc, text, from, depth))),
             _ => skipped(text, from, depth),
         }
     }
 }
 
-/// The URI of the document that the call names.
-fn uri_of_call(call: CallParts) -> Option<String>
-    ensures { option_map (λ s. string_bytes s) result
-        ≡ if call.has_method then spec.call_view call else None }
+/// The URI of the document that a content names in its params, where a message of this side would:
+/// the string `uri` of their `textDocument` for the editor (LSP 3.17, TextDocumentIdentifier), and
+/// their own string `uri` for the server (PublishDiagnosticsParams). `None` where there is no such
+/// string. Whether the content is such a message is not looked at.
+///
+/// # Errors
+/// `Memory` where memory was refused.
+pub fn document_of(alloc: Global, side: Side, content: &[u8]) -> Result<Option<String>, Memory>
+    ensures { IfOk result (λ uri. option_map (λ s. string_bytes s) uri
+        ≡ spec.named_in side content.now) }
 {
-    if !call.has_method {
-        return None;
+    match uri_in(alloc, side, content) {
+        Some(uri) => Ok(uri),
+        None => uri_whole(alloc, side, content),
     }
-    call.params?.document?.uri
 }
 
-/// The URI of the document that the message of a content names, where the content has the common
-/// form.
-pub(crate) fn uri_in(alloc: Global, content: &[u8]) -> Option<Option<String>>
-    ensures { IfSome result
-        (λ uri. spec.Names content.now (option_map (λ s. string_bytes s) uri)) }
+/// The same of a content that has the common form.
+fn uri_in(alloc: Global, side: Side, content: &[u8]) -> Option<Option<String>>
+    ensures { IfSome result (λ uri. option_map (λ s. string_bytes s) uri
+        ≡ spec.named_in side content.now) }
 {
     let text = simdutf8::basic::from_utf8(content).ok()?;
-    let mut call = CallParts::none();
-    text_into(alloc, text, &mut call)?;
-    Some(uri_of_call(call))
+    let mut parts = ContentParts::none();
+    text_into(alloc, text, &mut parts)?;
+    Some(uri_of_content(side, parts))
 }
 
-/// The URI of the document that params name.
-fn uri_of_params(params: &Value) -> Option<&str>
-    ensures { option_map (λ s. s.now) result ≡ spec.document_in (view params.now) }
+fn uri_of_content(side: Side, parts: ContentParts) -> Option<String>
+    ensures { option_map (λ s. string_bytes s) result ≡ spec.content_view side parts }
 {
-    params.get("textDocument")?.get("uri")?.as_str()
+    uri_of_params(side, parts.params?)
 }
 
-/// The URI of the document that the message names.
-fn uri_of(message: &Message) -> Option<&str>
-    ensures { option_map (λ s. s.now) result ≡ spec.document_named (message_view message.now) }
+fn uri_of_params(side: Side, params: NamingParts) -> Option<String>
+    ensures { option_map (λ s. string_bytes s) result ≡ spec.naming_view side params }
 {
-    match message {
-        Message::Request { params, .. } => uri_of_params(params.as_ref()?),
-        Message::Notification { params, .. } => uri_of_params(params.as_ref()?),
-        Message::Response { .. } => None,
+    match side {
+        Side::Editor => params.document?.uri,
+        Side::Server => params.uri,
     }
 }
 
-/// The URI of the document that the message names, copied.
-fn uri_copy(alloc: Global, message: &Message) -> Result<Option<String>, Memory>
+// ---- of whatever form
+
+#[cold]
+#[inline(never)]
+fn uri_whole(alloc: Global, side: Side, content: &[u8]) -> Result<Option<String>, Memory>
     ensures { IfOk result (λ uri. option_map (λ s. string_bytes s) uri
-        ≡ spec.document_named (message_view message.now)) }
+        ≡ spec.named_in side content.now) }
 {
-    match uri_of(message) {
+    match Value::from_slice(alloc, content) {
+        Ok(value) => uri_copy(alloc, side, &value),
+        Err(error) => unread(&error),
+    }
+}
+
+/// No document, where a content is not a JSON text, or that memory was refused.
+fn unread(error: &Error) -> Result<Option<String>, Memory>
+    ensures { IfOk result (λ uri. (¬ IsMemory error.now) × (uri ≡ None)) }
+{
+    if error.is_memory() {
+        Err(Memory)
+    } else {
+        Ok(None)
+    }
+}
+
+fn uri_copy(alloc: Global, side: Side, value: &Value) -> Result<Option<String>, Memory>
+    ensures { IfOk result (λ uri. option_map (λ s. string_bytes s) uri
+        ≡ spec.named_in_value side (view value.now)) }
+{
+    match uri_of_value(side, value) {
         Some(uri) => Ok(Some(String::from_str(alloc, uri)?)),
         None => Ok(None),
     }
 }
 
-/// The URI of the document that the message of a content names, of whatever form.
-#[inline(never)]
-pub(crate) fn uri_whole(alloc: Global, content: &[u8]) -> Result<Option<String>, Memory>
-    ensures names { IfOk result
-        (λ uri. spec.Names content.now (option_map (λ s. string_bytes s) uri)) }
-    ensures memory { OnErr result (0 < length content.now) }
+fn uri_of_value(side: Side, value: &Value) -> Option<&str>
+    ensures { option_map (λ s. s.now) result ≡ spec.named_in_value side (view value.now) }
 {
-    match read(alloc, content) {
-        Ok(message) => uri_copy(alloc, &message),
-        Err(Fault::Memory) => Err(Memory),
-        Err(Fault::Rule(_)) => Ok(None),
+    uri_in_params(side, value.get("params")?)
+}
+
+fn uri_in_params(side: Side, params: &Value) -> Option<&str>
+    ensures { option_map (λ s. s.now) result ≡ spec.document_in side (view params.now) }
+{
+    match side {
+        Side::Editor => params.get("textDocument")?.get("uri")?.as_str(),
+        Side::Server => params.get("uri")?.as_str(),
     }
 }

@@ -2,8 +2,8 @@
 //!
 //! A `MessageReader` walks over the bytes of a content once. It reads a message without its params
 //! and without the value of its result; where the params of a notification are read, it also says
-//! what they mean. Of any message it tells which document its params name. It answers exactly what
-//! `lsp_rpc` would, and leaves the contents that it declines to `lsp_rpc`.
+//! what they mean. It answers exactly what `lsp_rpc` would, and leaves the contents that it declines
+//! to `lsp_rpc`. `document_of` tells in the same way which document a content names in its params.
 #![tactic(auto)]
 
 mod bytes;
@@ -21,4 +21,5 @@ mod texts;
 mod tries;
 mod walk;
 
+pub use document::document_of;
 pub use outline::{MessageReader, Results};

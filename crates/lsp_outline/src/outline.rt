@@ -1,9 +1,8 @@
 //! Reading a content without building what its params and its result hold.
 ghost use Rattle.std.specs.Prelude.{◌≡◌, ◌⊎◌, ◌<◌, length, false, IsTrue, Some, Err, IfSome, IfOk};
-ghost use Rattle.std.specs.Prelude.{IfErr, None, OnOk, OnErr, [], option_map, string_bytes};
+ghost use Rattle.std.specs.Prelude.{IfErr, None, OnOk, [], string_bytes};
 ghost use Rattle.serde_json.specs.Data.{Members, object};
 ghost use Rattle.serde_json.specs.Read.{read as read_text};
-ghost use Rattle.lsp_outline.specs.Named.{Names as NamesDocument};
 ghost use Rattle.lsp_outline.specs.Outlined.{Means, Tells, SaysSo, lacks_result};
 ghost use Rattle.lsp_outline.specs.Spoken as spec;
 ghost use Rattle.lsp_outline.specs.declared.outline.Results.TheVariants.{LeftOut};
@@ -17,11 +16,10 @@ ghost use Rattle.lsp_rpc.specs.Words.{words_of as spec_words_of};
 ghost use Rattle.lsp_types.specs.Fault.{Names};
 ghost use Rattle.lsp_types.specs.declared.rules.TheConstants as rules;
 
-use crate::document::{uri_in, uri_whole};
 use crate::members::text_into;
 use crate::message::{MessageParts, Reads, put_message};
 use crate::params::{Told, put_by};
-use lsp_rpc::{Act, Answer, Memory, Message, Method, Spoken, method_of, read, take_act, words_of};
+use lsp_rpc::{Act, Answer, Message, Method, Spoken, method_of, read, take_act, words_of};
 use lsp_types::{Fault, Side};
 use std::alloc::Global;
 
@@ -290,22 +288,5 @@ impl MessageReader {
     {
         let message = self.read(content)?;
         Ok(words_of(self.alloc, &message)?)
-    }
-
-    /// The URI of the document that the message of a content names: the string `uri` of
-    /// `textDocument` in the params of a request or notification. `None` where there is no such
-    /// string, and in a response. What is answered of a content that is no message is left open.
-    ///
-    /// # Errors
-    /// `Memory` where memory was refused.
-    pub fn document(&mut self, content: &[u8]) -> Result<Option<String>, Memory>
-        ensures names { IfOk result
-            (λ uri. NamesDocument content.now (option_map (λ s. string_bytes s) uri)) }
-        ensures memory { OnErr result (0 < length content.now) }
-    {
-        match uri_in(self.alloc, content) {
-            Some(uri) => Ok(uri),
-            None => uri_whole(self.alloc, content),
-        }
     }
 }

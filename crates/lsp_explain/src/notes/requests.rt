@@ -2,7 +2,7 @@
 ghost use Rattle.std.specs.Prelude.{◌≡◌, ◌==◌, [], IfOk, OnOk, option_map, string_bytes};
 ghost use Rattle.std.specs.List.{cons_option};
 ghost use Rattle.lsp_explain.specs.History.{last_that};
-ghost use Rattle.lsp_explain.specs.Naming.{named_in};
+ghost use Rattle.lsp_outline.specs.Named.{named_in};
 ghost use Rattle.lsp_explain.specs.Refusals as spec;
 ghost use Rattle.lsp_explain.specs.Refusals.{Holds, named_view, request_view, requests_view};
 ghost use Rattle.lsp_rpc.specs.Message.{Message as AMessage};
@@ -11,8 +11,8 @@ ghost use Rattle.lsp_rpc.specs.Reading.{Reads};
 ghost use Rattle.lsp_rpc.specs.View.{message_view};
 ghost use Rattle.lsp_types.specs.declared.side.Side.TheVariants.{Editor};
 
-use crate::naming::document_of;
 use crate::trail::push_within;
+use lsp_outline::document_of;
 use lsp_replay::EventPlace;
 use lsp_rpc::{Message, Result, Side};
 use std::alloc::Global;

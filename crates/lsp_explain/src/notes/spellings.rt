@@ -18,12 +18,13 @@ ghost use Rattle.lsp_verdict.specs.Heard.{Heard, heard_events};
 ghost use Rattle.lsp_verdict.specs.Given.{raw_view};
 ghost use Rattle.lsp_verdict.specs.Offences.{IsNoted, kept_of, said_at};
 
-use crate::naming::{document_of, if_unopened, may_name};
+use crate::naming::{if_unopened, may_name};
 use crate::notes::document_notes::{DocumentNote, is_noted, push_lines, push_note};
 use crate::spelled::{is_spelled, stands_open};
 use crate::trail::{DocumentEvent, Openings, Trail};
 use lsp_docs::{Call, Docs};
 use lsp_facts::Facts;
+use lsp_outline::document_of;
 use lsp_replay::{EventPlace, Events, Seen};
 use lsp_rpc::{Result, Spoken, push_quoted};
 use lsp_survey::folded;

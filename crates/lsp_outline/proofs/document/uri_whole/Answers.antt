@@ -1,8 +1,17 @@
-use Rattle.lsp_outline.proofs.Naming.{on_err}
-use Rattle.lsp_outline.proofs.Walking.{some_content}
+use Rattle.std.specs.Prelude.{option_map, string_bytes}
+use Rattle.std.proofs.Common.{◌∙◌, ap}
+use Rattle.std.proofs.lemmas.Result.{IfOk-weaker}
+use Rattle.serde_json.specs.View.{view}
+use Rattle.lsp_outline.proofs.Naming.{no_text_names, text_names}
 use Rattle.lsp_outline.proofs.document.uri_whole.Goals as goal
 
-pub returns-in-Ok-clause-memory : goal.returns-in-Ok-clause-memory
-returns-in-Ok-clause-memory c =
-    let reads = c.in-Ok.ensures.ok in
-    on_err c.uri_copy.result (some_content c.args.content.now reads.0 reads.1.1)
+pub returns-in-Ok : goal.returns-in-Ok
+returns-in-Ok c = IfOk-weaker c.uri_copy.result _ _
+    (λ uri is. is ∙ text_names c.args.side c.args.content.now (view c.in-Ok.value)
+    c.in-Ok.ensures.ok.0 c.in-Ok.ensures.ok.1) c.uri_copy.ensures
+
+-- it is no JSON text
+pub returns-in-Err : goal.returns-in-Err
+returns-in-Err c = IfOk-weaker c.unread.result _ _
+    (λ uri is. ap (option_map (λ s. string_bytes s)) is.1
+    ∙ no_text_names c.args.side c.args.content.now (c.in-Err.ensures.err is.0)) c.unread.ensures

@@ -2,12 +2,7 @@ use Rattle.std.proofs.Common.{arith}
 use Rattle.std.proofs.lemmas.Option.{IfSome_then}
 use Rattle.serde_json.specs.Data.{object}
 use Rattle.lsp_outline.proofs.Editing.{members}
-use Rattle.lsp_outline.proofs.document.CallPartsGathered.take.Goals as goal
-
-pub returns-in_ok-end-in-method : goal.returns-in_ok-end-in-method
-returns-in_ok-end-in-method c =
-    let read = c.in_ok-end-in-method.ensures in
-    (read.0, read.1, λ ms h. grind (arith, members))
+use Rattle.lsp_outline.proofs.document.ContentPartsGathered.take.Goals as goal
 
 pub returns-in_ok-value-in-params : goal.returns-in_ok-value-in-params
 returns-in_ok-value-in-params c =
@@ -16,5 +11,5 @@ returns-in_ok-value-in-params c =
 
 pub returns-in_default : goal.returns-in_default
 returns-in_default c =
-    IfSome_then c.skipped-in_default.result c.skipped-in_default.ensures
+    IfSome_then c.skipped.result c.skipped.ensures
     (λ end read. (read.0, read.1, λ ms h. grind (arith, members)))
