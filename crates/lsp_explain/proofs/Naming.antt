@@ -1,5 +1,5 @@
 -- The document that a message names, as it is read from its content.
-use Rattle.std.specs.Prelude.{if◌then◌else◌, is_some, option_and_then, option_map, string_bytes}
+use Rattle.std.specs.Prelude.{if◌then◌else◌, is_some, option_and_then, option_map}
 use Rattle.std.proofs.Common.{◌≡◌, ℕ, Bool, true, false, List, Option, Some, None, refl, sym, ap}
 use Rattle.std.proofs.Common.{◌∙◌}
 use Rattle.serde_json.specs.Data.{Data, null, boolean, number, string, array, object}
