@@ -99,7 +99,7 @@ returns c = on_ok_weaker c.keep-3.result (λ texts terms before h is seen.
     (subst (λ more. Keeps more old.marks old.openings new.marks new.openings)
     (ap (λ u. Some (kept_call u place step)) c.uri.ensures
     ∙ ap (option_map (kept_call (uri_of call) place)) c.in-Some-step_of.ensures) done.kept)
-    (based_called terms before h _ is (record old { bases = c.keep.new.self }) has.0 _ at
+    (based_called terms before h _ is (record old { bases = c.keep-3.new.self }) has.0 _ at
     c.args.held.now.session c.args.held.now.docs c.args.held.now.counts call c.in-Kept.took step
     c.in_ok-is_equal.is_equal seen.stood says told c.in-Some-step_of.ensures
     (done.equal ∙ ap (λ u. finds_equal step (marked_in old.marks.map.entries u)) c.uri.ensures)
