@@ -11,6 +11,6 @@ returns c =
     let found = c.in_ok-text_into.ensures in
     let told = found.2 in
     c.uri_of_content.ensures
-    ∙ sym (gathered_by c.args.side found.0 _ told.0 told.1)
+    ∙ sym (gathered_by c.args.side found.0 c.text_into.new.gathered told.0 told.1)
     ∙ text_names c.args.side c.args.content.now (object found.0) utf8.1
     (ap read_text (sym utf8.0) ∙ found.1)
