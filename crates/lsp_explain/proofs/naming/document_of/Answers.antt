@@ -1,13 +1,12 @@
 use Rattle.std.specs.Prelude.{option_map, string_bytes}
 use Rattle.std.proofs.Common.{◌∙◌, ap}
 use Rattle.std.proofs.lemmas.Result.{IfOk-weaker}
-use Rattle.serde_json.specs.View.{view}
 use Rattle.lsp_explain.proofs.Naming.{no_text_names, text_names}
 use Rattle.lsp_explain.proofs.naming.document_of.Goals as goal
 
 pub returns-in-Ok : goal.returns-in-Ok
 returns-in-Ok c = IfOk-weaker c.copy_document.result _ _
-    (λ uri is. is ∙ text_names c.args.side c.args.content.now (view c.in-Ok.value)
+    (λ uri is. is ∙ text_names c.args.side c.args.content.now _
     c.in-Ok.ensures.ok.0 c.in-Ok.ensures.ok.1) c.copy_document.ensures
 
 -- it is no JSON text
