@@ -93,6 +93,10 @@ const LINES = {
   ]],
   held: ["Held", ([version, ...by]) => [`version ${version}, set by `, ...shownEvent(by)]],
   sent: ["This message", ([version]) => [`sets version ${version}`]],
+  same: ["The same", (by) => ["changes were already made by ", ...shownEvent(by)]],
+  precedes: ["Belongs before", ([version, ...by]) => [
+    ...shownEvent(by), `, which sets version ${version}`,
+  ]],
   version: ["Version", ([version]) => [`the snapshot is of version ${version}`]],
   changes: ["Changes", ([count]) => [`${count} in this message`]],
   sync: ["Agreed", ([kind]) => [`synchronisation “${kind}”`]],
@@ -122,6 +126,7 @@ const LINES = {
   ]],
   closed: ["Closed", (by) => ["by ", ...shownEvent(by)]],
   opened: ["Opened", () => ["never"]],
+  "saved-as": ["Saved", (by) => ["under this name by ", ...shownEvent(by)]],
   similar: ["Similar", ([uri, ...by]) => [shownText(uri), " is open, by ", ...shownEvent(by)]],
   id: ["Id", (_, [id]) => [shownText(id)]],
   asked: ["Still open", (by) => ["the request with this id: ", ...shownEvent(by)]],
@@ -195,6 +200,10 @@ const NOTES = {
   refused: ([code, uri, ...by]) => [
     "A request about ", shownText(uri), ", which is open, was refused: ", ...shownEvent(by),
     ` is the error ${code} (InvalidParams)`,
+  ],
+  similar: ([uri, open, ...by]) => [
+    ...shownEvent(by), " names ", shownText(uri), ", which is not open; ", shownText(open),
+    " is, and is spelled in another way",
   ],
   "no-snapshot": ([uri]) => [shownText(uri), " was changed, and no snapshot of it was compared"],
 };

@@ -241,6 +241,7 @@ def noted():
         frame(b"S", request(1, "textDocument/publishDiagnostics")),
         frame(b"E", request(3, "workspace/configuration")),
         frame(b"S", notification("textDocument/didSave", about)),
+        frame(b"S", notification("textDocument/publishDiagnostics", {"uri": "file:///N%20%3cb>.c", "diagnostics": []})),
         frame(b"E", notification("exit", {})),
     ])
 

@@ -269,6 +269,9 @@ def ends_words(values):
 SENTENCES = {
     "held": ("Held", lambda it: f"version {it[0]}, set by {event_words(it[1:])}"),
     "sent": ("This message", lambda it: f"sets version {it[0]}"),
+    "same": ("The same", lambda it: f"changes were already made by {event_words(it)}"),
+    "precedes": ("Belongs before", lambda it: f"{event_words(it[1:])}, which sets version {it[0]}"),
+    "saved-as": ("Saved", lambda it: f"under this name by {event_words(it)}"),
     "version": ("Version", lambda it: f"the snapshot is of version {it[0]}"),
     "changes": ("Changes", lambda it: f"{it[0]} in this message"),
     "encoding": ("Columns", lambda it: f"are counted in units of {it[0].upper()}"),
@@ -309,6 +312,8 @@ def note_words(name, values):
     if name == "refused":
         what = f"A request about {values[1]}, which is open, was refused"
         return f"{what}: {event_words(values[2:])} is the error {values[0]} (InvalidParams)"
+    if name == "similar":
+        return f"{event_words(values[2:])} names {values[0]}, which is not open; {values[1]} is, and is spelled in another way"
     return {
         "exit-without-shutdown": lambda: f"The editor sent exit without shutdown: {event_words(values)}",
         "offset-encoding": lambda: f"The server names {values[0]} in the older member offsetEncoding: it may count columns in it",
@@ -339,7 +344,7 @@ def says_each_note(page, program, log):
     assert shown == [note_words(name, values) for name, *values in notes], (shown, notes)
     if log.name == "noted.log":
         kinds = {name for name, *_ in notes}
-        assert kinds == {*MISUSES, "past-end", "range-length", "refused", "exit-without-shutdown", "offset-encoding", "no-snapshot"}, kinds
+        assert kinds == {*MISUSES, "past-end", "range-length", "refused", "similar", "exit-without-shutdown", "offset-encoding", "no-snapshot"}, kinds
 
 
 def explains_each_violation(page, program, log):

@@ -54,6 +54,10 @@ def did_close(uri):
     return message(b"E", method="textDocument/didClose", params={"textDocument": {"uri": uri}})
 
 
+def did_save(uri):
+    return message(b"E", method="textDocument/didSave", params={"textDocument": {"uri": uri}})
+
+
 def replaced(first, second, text):
     """A change of the text from one line and column to another."""
     start, end = ({"line": line, "character": column} for line, column in (first, second))
@@ -203,6 +207,68 @@ def long_requests():
     return b"".join(log), yes((6, 3), (0, 0), lines)
 
 
+def diagnosed(uri):
+    """A message of the server about a document."""
+    return message(b"S", method="textDocument/publishDiagnostics", params={"uri": uri, "diagnostics": []})
+
+
+def many_spellings(count=66):
+    """Documents of which the server spells each URI in another way: the first 64 are noted."""
+    log, notes, lines = [START], [], []
+    for number in range(count):
+        uri, other = f"file:///{number}/a", f"file:///{number}/A"
+        log += [did_open(uri, 1, "ab"), diagnosed(other)]
+        notes.append(f'note similar "{other}" "{uri}" event {2 * number + 5} server {number + 2}')
+        lines.append(f'document 1 2 "{uri}"')
+    lines += ["note nothing-compared", *notes[:64], "notes 65"]
+    return b"".join(log), yes((count + 2, count + 1), (0, 0), lines)
+
+
+def opened_before(later):
+    """A document, others that are opened after it, and a message that spells its URI in another
+    way. The last 64 openings are looked at."""
+    uris = ["file:///a", *(f"file:///{number}" for number in range(later))]
+    log = [START, *(did_open(uri, 1, "ab") for uri in uris), diagnosed("file:///A")]
+    lines = [*(f'document 1 2 "{uri}"' for uri in uris), "note nothing-compared"]
+    if later < 64:
+        lines.append(f'note similar "file:///A" "file:///a" event {later + 5} server 2')
+    lines.append(f"notes {len(lines) - len(uris)}")
+    return b"".join(log), yes((later + 3, 2), (0, 0), lines)
+
+
+def sent_twice(later):
+    """A change, others of another document after it, and the first one again. It is compared with
+    the last 16 changes."""
+    return sent_again([replaced((0, 0), (0, 1), "x")], later, later < 16)
+
+
+def changes_of(size):
+    """Two changes of this size: 64 bytes for each, and those of the texts."""
+    return [{"text": "é" * 30_000}, {"text": "x" * (size - 60_000 - 2 * 64)}]
+
+
+def sent_again(change, later, is_same):
+    """The same of these changes, which are compared or not."""
+    uri, other = "file:///a", "file:///b"
+    log = [START, did_open(uri, 1, "ab"), did_open(other, 1, "ab"), did_change(uri, 2, change)]
+    log += [did_change(other, 2 + number, []) for number in range(later)]
+    report = f"no 603 editor {later + 6} event {later + 7}\nversion does not rise\n"
+    report += f'event {later + 7} editor {later + 6} notification "textDocument/didChange"\nuri "file:///a"\n'
+    report += f"held 2 event 6 editor 5\nsent 2\nchanges {len(change)}\n" + ("same event 6 editor 5\n" if is_same else "")
+    return b"".join([*log, did_change(uri, 2, change)]), f"{report}usually editor\n".encode()
+
+
+def saved_before(later):
+    """A document that is saved and was never open, others after it, and a change of the first one.
+    The last 64 of these are remembered."""
+    uri = "file:///a"
+    log = [START, *(did_save(it) for it in [uri, *(f"file:///{number}" for number in range(later))])]
+    report = f"no 602 editor {later + 4} event {later + 5}\ndocument is not open\n"
+    report += f'event {later + 5} editor {later + 4} notification "textDocument/didChange"\nuri "file:///a"\n'
+    report += "sent 2\nchanges 0\nopened never\n" + ("saved-as event 4 editor 3\n" if later < 64 else "")
+    return b"".join([*log, did_change(uri, 2, [])]), f"{report}usually editor\n".encode()
+
+
 def units(text):
     """How many units of UTF-16 a text has."""
     return len(text.encode("utf-16-le")) // 2
@@ -328,8 +394,20 @@ def small():
         ("a refused request that is forgotten", forgotten_request()),
         ("1,100 openings since a request", many_openings()),
         ("long refused requests", long_requests()),
+        ("many documents under two spellings", many_spellings()),
+        ("a document opened before 63 others", opened_before(63)),
+        ("a document opened before 64 others", opened_before(64)),
     ]:
         yield name, ["explain"], log, 0, report, b""
+    for name, (log, report) in [
+        ("a change sent twice, with 15 between", sent_twice(15)),
+        ("a change sent twice, with 16 between", sent_twice(16)),
+        ("changes of 65,536 bytes sent twice", sent_again(changes_of(65_536), 0, True)),
+        ("changes of 65,537 bytes sent twice", sent_again(changes_of(65_537), 0, False)),
+        ("a save before 63 others", saved_before(63)),
+        ("a save before 64 others", saved_before(64)),
+    ]:
+        yield name, ["explain"], log, 1, report, b""
     for count in [1000, 100_000]:
         log, report, text = long_document(count)
         yield f"a document of {count} lines", ["check"], log, 0, report, b""

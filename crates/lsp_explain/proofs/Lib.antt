@@ -13,7 +13,10 @@ pub mod Standard
 pub mod Quiet
 pub mod DocumentNoting
 pub mod Misfitting
+pub mod Naming
 pub mod Refusing
+pub mod OtherSpellings
+pub mod Changing
 pub mod LaterChanges
 pub mod SentChanges
 pub mod BaseSteps

@@ -26,7 +26,7 @@ use Rattle.lsp_verdict.proofs.Offences.Surveying.{one_notes}
 use Rattle.lsp_verdict.proofs.Outcomes.{one_rest}
 use Rattle.lsp_verdict.proofs.PlacedLemmas.{one_placed}
 use Rattle.lsp_verdict.proofs.Sessions.{some_placed}
-use Rattle.lsp_facts.specs.Fact.{Fact}
+use Rattle.lsp_facts.specs.Fact.{Fact, usual_of}
 use Rattle.lsp_facts.specs.EventFacts.{log_facts}
 use Rattle.lsp_facts.proofs.OneFacts.{one_facts}
 use Rattle.lsp_facts.proofs.SomeFacts.{some_facts}
@@ -87,6 +87,7 @@ module _ (rests : Rests) (terms : Terms) where
         no = no_by before b.here.note.event b.rule;
         event = event_of (no_by before b.here.note.event b.rule) b.here.raw;
         facts = plain.0 ++ traced terms before b.here.note.event b.rule;
+        usually = usual_of (no_by before b.here.note.event b.rule);
       } in
       let rest = some_each bs all.1 in (
         own ∷ rest.0,
@@ -95,6 +96,7 @@ module _ (rests : Rests) (terms : Terms) where
             no_is = refl;
             event_is = refl;
             facts_are = (plain.0, plain.1, refl);
+            usually_is = refl;
           },
           rest.1,
         ),
@@ -113,7 +115,9 @@ module _ (rests : Rests) (terms : Terms) where
       let no : d.no ≡ e.no = p.no_is ∙ sym q.no_is in
       let event : d.event ≡ e.event =
       p.event_is ∙ ap (λ v. event_of v b.here.raw) no ∙ sym q.event_is in
-      λ i. record { no = no i; event = event i; facts = facts i }
+      let usually : d.usually ≡ e.usually =
+      p.usually_is ∙ ap usual_of no ∙ sym q.usually_is in
+      λ i. record { no = no i; event = event i; facts = facts i; usually = usually i }
 
   one_each : (bs : List Breach) (ds es : List Explained) → AllZip (Explains rests terms) bs ds
       → AllZip (Explains rests terms) bs es → ds ≡ es

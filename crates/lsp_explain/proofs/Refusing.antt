@@ -1,22 +1,17 @@
 -- Which requests about documents the server refused, with one event more.
 use Rattle.std.specs.Borrow.{Bor}
-use Rattle.std.specs.Prelude.{codes, option_and_then, option_map, unwrap_or, is_some}
+use Rattle.std.specs.Prelude.{option_and_then, option_map, unwrap_or, is_some}
 use Rattle.std.specs.Prelude.{if◌then◌else◌}
 use Rattle.std.specs.List.{cons_option}
-use Rattle.std.proofs.Common.{◌≡◌, ◌<◌, ℕ, Bool, true, false, List, [], ◌∷◌, ◌++◌, Option, Some, None}
+use Rattle.std.proofs.Common.{◌≡◌, ◌<◌, ℕ, true, false, List, [], ◌∷◌, ◌++◌, Option, Some, None}
 use Rattle.std.proofs.Common.{refl, sym, ap, ◌∙◌, subst, append-nil, arith}
-use Rattle.std.proofs.lemmas.Str.{is_utf8-from_IsUtf8}
-use Rattle.serde_json.specs.Data.{Data, null, boolean, number, string, array, object}
-use Rattle.serde_json.specs.Find.{as_str}
-use Rattle.serde_json.specs.Read.{read}
 use Rattle.lsp_docs.specs.Calls.{Call}
 use Rattle.lsp_docs.specs.Documents.{Terms}
 use Rattle.lsp_rpc.specs.Ident.{Ident}
-use Rattle.lsp_rpc.specs.Message.{Message, request, notification, response, Reply, result, error}
+use Rattle.lsp_rpc.specs.Message.{Message, request, notification, response, result, error}
 use Rattle.lsp_rpc.specs.Outline.{outline}
-use Rattle.lsp_rpc.specs.Params.{act_at, required}
+use Rattle.lsp_rpc.specs.Params.{act_at}
 use Rattle.lsp_rpc.specs.Reading as rpc
-use Rattle.lsp_rpc.specs.Shape.{as_id, unless_null}
 use Rattle.lsp_rpc.specs.View.{message_view}
 use Rattle.lsp_rpc.specs.declared.act.Spoken.{Spoken}
 use Rattle.lsp_session.specs.Negotiation.{encoding, sync_kind}
@@ -36,15 +31,18 @@ use Rattle.lsp_replay.specs.declared.heard.EventPlace.{EventPlace}
 use Rattle.lsp_replay.proofs.Seeing.{events-push}
 use Rattle.lsp_explain.specs.DocumentNotes.{DocumentNote, first_notes, notes_view, with_note}
 use Rattle.lsp_explain.specs.History.{last_ones, with_room}
-use Rattle.lsp_explain.specs.Refusals.{AreRefusals, Holds, Request, document_in, event_request}
-use Rattle.lsp_explain.specs.Refusals.{is_request, most_requests, named_in, open_document}
+use Rattle.lsp_outline.specs.Named.{named_in}
+use Rattle.lsp_explain.specs.Naming.{may_name, named_by}
+use Rattle.lsp_explain.specs.Refusals.{AreRefusals, Holds, Request, event_request}
+use Rattle.lsp_explain.specs.Refusals.{is_request, most_requests, open_document}
 use Rattle.lsp_explain.specs.Refusals.{refusal_at, refusal_by, refusal_note, refused_document}
-use Rattle.lsp_explain.specs.Refusals.{refused_id, refused_request, refuses, request_at, request_by}
+use Rattle.lsp_explain.specs.Refusals.{refused_id, refused_request, refuses, request_at}
 use Rattle.lsp_explain.specs.Refusals.{request_of, request_view, requests}
 use Rattle.lsp_explain.specs.declared.notes.refusals.Refusals.{Refusals}
 use Rattle.lsp_explain.specs.declared.notes.requests.Request as code
 use Rattle.lsp_explain.proofs.DocumentNoting.{first_notes_with}
 use Rattle.lsp_explain.proofs.History.{held-push, kept_more}
+use Rattle.lsp_explain.proofs.Naming.{names_so}
 use Rattle.lsp_explain.proofs.Standard.{on_document as said_on}
 
 -- ---- one event more
@@ -109,50 +107,17 @@ seen_on (Some r) = refl
 
 -- ---- a request
 
--- null has no members
-null_names : (own : Option Data)
-    → option_and_then document_in (option_and_then unless_null own)
-    ≡ option_and_then document_in own
-null_names None = refl
-null_names (Some null) = refl
-null_names (Some (boolean b)) = refl
-null_names (Some (number n)) = refl
-null_names (Some (string s)) = refl
-null_names (Some (array ds)) = refl
-null_names (Some (object ms)) = refl
+-- a request asks about the document that it names
+asks_one : (p : EventPlace) (m : Message) → is_request m ≡ true
+    → request_of p Editor m ≡ Some (request_at p (named_by Editor m))
+asks_one p (request own method params) is = refl
+asks_one p (notification method params) is = absurd (cc is)
+asks_one p (response own reply) is = absurd (cc is)
 
-abbrev asks : Option Message → Bool
-asks None = false
-asks (Some m) = is_request m
-
--- of the message that these parts make
-made_as : (p : EventPlace) (b : Bool) (name : Option (List ℕ)) (id : Option Ident)
-    (own : Option Data) (answer : Option Reply) (m : Message)
-    → (if b then option_map (λ method. rpc.call method id own) name else option_map (response id) answer)
-    ≡ Some m
-    → is_request m ≡ true → request_by p m ≡ Some (request_at p (option_and_then document_in own))
-made_as p true (Some name) (Some id) own answer m made is =
-    sym (ap (option_and_then (request_by p)) made)
-made_as p true (Some name) None own answer m made is = absurd (cc (ap asks made ∙ is))
-made_as p true None id own answer m made is = absurd (cc made)
-made_as p false name id own (Some reply) m made is = absurd (cc (ap asks made ∙ is))
-made_as p false name id own None m made is = absurd (cc made)
-
--- the content of a request names its document
-pub request_names : (p : EventPlace) (bytes : List ℕ) (m : Message) → rpc.Reads bytes m
-    → is_request m ≡ true → request_of p Editor m ≡ Some (request_at p (named_in bytes))
-request_names p bytes m reads is =
-    let d = reads.0 in
-    let parts = rpc.parts_of d in
-    made_as p (is_some parts.method) (option_and_then as_str parts.method)
-    (option_and_then as_id parts.id) (option_and_then unless_null parts.params)
-    (rpc.reply_in parts.result parts.error) m reads.2.made is
-    ∙ ap (λ (o : Option (List ℕ)). Some (request_at p o))
-    (null_names parts.params
-    ∙ sym (ap (λ (b : Bool). if b
-    then option_and_then (required (codes "params") document_in) (read bytes) else None)
-    (is_utf8-from_IsUtf8 bytes reads.1.0)
-    ∙ ap (option_and_then (required (codes "params") document_in)) reads.1.1))
+may_ask : (m : Message) → is_request m ≡ true → may_name Editor m ≡ true
+may_ask (request own method params) is = refl
+may_ask (notification method params) is = absurd (cc is)
+may_ask (response own reply) is = absurd (cc is)
 
 -- a message that is none asks nothing
 asks_none : (p : EventPlace) (m : Message) → is_request m ≡ false → request_of p Editor m ≡ None
@@ -177,9 +142,11 @@ unasked p m said same is = asks_none p m (requests_alike m said same ∙ is)
 
 pub asked_so : (p : EventPlace) (bytes : List ℕ) (m said : Message) → rpc.Reads bytes m
     → outline m ≡ outline said → is_request said ≡ true
-    → request_of p Editor m ≡ Some (request_at p (named_in bytes))
+    → request_of p Editor m ≡ Some (request_at p (named_in Editor bytes))
 asked_so p bytes m said reads same is =
-    request_names p bytes m reads (requests_alike m said same ∙ is)
+    let asks = requests_alike m said same ∙ is in
+    asks_one p m asks
+    ∙ ap (λ o. Some (request_at p o)) (names_so Editor bytes m reads (may_ask m asks))
 
 refused_id-outline : (m : Message) → refused_id m ≡ refused_id (outline m)
 refused_id-outline (request own method params) = refl

@@ -31,7 +31,7 @@ use Rattle.lsp_replay.specs.declared.seen.Fate.{Fate}
 use Rattle.lsp_replay.specs.declared.seen.Fate.TheVariants as fates
 use Rattle.lsp_replay.specs.declared.seen.Seen.{Seen}
 use Rattle.lsp_replay.proofs.Seeing.{events-push}
-use Rattle.lsp_facts.specs.Fact.{Fact, detail_lines, event_line}
+use Rattle.lsp_facts.specs.Fact.{Fact, detail_lines, event_line, usual_of}
 use Rattle.lsp_facts.specs.EventFacts.{AreFacts}
 use Rattle.lsp_text.specs.Counted.{Counted}
 use Rattle.lsp_explain.specs.Traced.{earlier_at, traced, AreTraced}
@@ -110,14 +110,14 @@ pub tells_of : (terms : Terms) (before : List Heard) (h : Heard) (o : Offence) (
     (traced terms (heard_events before) h.note.event o.rule) facts)
     → mid ≡ old ++ report (offence_view o).no
     → next ≡ mid ++ event_line o.event o.who o.number raw
-    → new ≡ next ++ detail_lines facts (offence_view o).no
+    → new ≡ next ++ detail_lines facts (usual_of (offence_view o).no)
     → TellsOf terms before h o.rule Fits old new
 tells_of terms before h o raw Fits facts old mid next new raw_is no_is are first second third =
     let v = (offence_view o).no in
     let line = event_line o.event o.who o.number raw in
-    let details = detail_lines facts v in
+    let details = detail_lines facts (usual_of v) in
     record {
-      e = record { no = v; event = line; facts = facts };
+      e = record { no = v; event = line; facts = facts; usually = usual_of v };
       no_is = no_is;
       explains = λ rests fits. record {
         no_is = no_is;
@@ -127,6 +127,7 @@ tells_of terms before h o raw Fits facts old mid next new raw_is no_is are first
             (earlier_at terms (heard_events before) h.note.event)
             (traced terms (heard_events before) h.note.event o.rule) facts) (sym raw_is)
             (are rests fits);
+        usually_is = refl;
       };
       added = third ∙ ap (λ w. w ++ details) (second ∙ ap (λ w. w ++ line) first)
           ∙ append_assoc (old ++ report v) line details

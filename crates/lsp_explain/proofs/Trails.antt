@@ -4,7 +4,7 @@ use Rattle.std.specs.Prelude.{Bool, option_and_then, option_map, Result, Ok, Err
 use Rattle.std.specs.List.{cons_option}
 use Rattle.std.specs.Option.{option_or}
 use Rattle.std.proofs.Common.{◌≡◌, ℕ, List, [], ◌∷◌, ◌++◌, Option, Some, None, refl, sym, ap, ◌∙◌}
-use Rattle.std.proofs.Common.{append-nil, subst}
+use Rattle.std.proofs.Common.{append-nil, map, subst}
 use Rattle.lsp_docs.specs.Calls.{Call, uri_of}
 use Rattle.lsp_docs.specs.Documents.{Terms}
 use Rattle.lsp_docs.specs.Rules.{AreAccepted}
@@ -34,11 +34,15 @@ use Rattle.lsp_verdict.specs.declared.counts.Counts.{Counts}
 use Rattle.lsp_verdict.specs.declared.raw.Raw as lent
 use Rattle.lsp_verdict.specs.declared.raw.Raw.TheVariants as lents
 use Rattle.lsp_explain.specs.Bases.{KeepsBy}
-use Rattle.lsp_explain.specs.History.{KeptCall, call_kept, event_kept, kept_call, kept_calls, step_of}
+use Rattle.lsp_explain.specs.History.{KeptCall, call_kept, event_kept, kept_call, kept_calls}
+use Rattle.lsp_explain.specs.History.{last_ones, step_of}
 use Rattle.lsp_explain.specs.Marking.{MarkedBy, finds_equal, marked_in}
-use Rattle.lsp_explain.specs.Openings.{OpenedBy}
+use Rattle.lsp_explain.specs.Openings.{Holds, OpenedBy, ons_view}
 use Rattle.lsp_explain.specs.Renames.{RenamesIn, moves_view, renamed_by, renamed_held}
 use Rattle.lsp_explain.specs.Conversations.{IsConversation, Says}
+use Rattle.lsp_explain.specs.Saves.{AreSaves, event_save, most_saves, save_by, saves_unopened}
+use Rattle.lsp_explain.specs.LastChanges.{AreChanges, HoldsChanges, change_by, change_view}
+use Rattle.lsp_explain.specs.LastChanges.{event_change, most_changes, sent_changes}
 use Rattle.lsp_explain.specs.Trails.{IsTrail, Keeps}
 use Rattle.lsp_explain.specs.declared.trail.marks.Marks.{Marks}
 use Rattle.lsp_explain.specs.declared.trail.openings.Openings.{Openings}
@@ -105,6 +109,10 @@ module _ (terms : Terms) (before : List Heard) (h : Heard) (old : Trail)
             old.bases.map.entries) (sym same)
             (subst (λ es. HoldAll terms (calls es) (kept_calls terms events) old.bases.map.entries)
             (sym (kept-refused terms events h.note.event rule offends)) is.based);
+        changed = is.changed ∙ ap (last_ones most_changes)
+            (sym (refused_more event_change terms events h.note.event rule offends));
+        saved = is.saved ∙ ap (last_ones most_saves)
+            (sym (refused_more (event_save terms) terms events h.note.event rule offends));
         said = refused_unsaid terms old.said events h.note.event rule is.said offends;
       })
 
@@ -116,9 +124,11 @@ module _ (terms : Terms) (before : List Heard) (h : Heard) (old : Trail)
         → Keeps more old.marks old.openings new.marks new.openings
         → HoldAll terms (calls (kept_of terms (events ++ h.note.event ∷ [])))
         (kept_calls terms events ++ cons_option more []) new.bases.map.entries
+        → AreChanges terms new.changes (events ++ h.note.event ∷ [])
+        → AreSaves terms new.saves (events ++ h.note.event ∷ [])
         → IsConversation terms new.said (events ++ h.note.event ∷ [])
         → IsTrail terms new (heard_events (before ++ h ∷ []))
-    kept_so more does keeps based said =
+    kept_so more does keeps based changed saved said =
         let whole : kept_calls terms (events ++ h.note.event ∷ [])
         ≡ kept_calls terms events ++ cons_option more [] =
         kept_more (event_kept terms) terms events h.note.event place more kept_here at does in
@@ -130,6 +140,8 @@ module _ (terms : Terms) (before : List Heard) (h : Heard) (old : Trail)
           based = subst (λ ks. HoldAll terms
               (calls (kept_of terms (events ++ h.note.event ∷ []))) ks new.bases.map.entries)
               (sym whole) based;
+          changed = changed;
+          saved = saved;
           said = said;
         })
 
@@ -206,11 +218,15 @@ module _ (terms : Terms) (before : List Heard) (h : Heard) (old : Trail)
         → HoldAll terms (calls (kept_of terms events) ++ call ∷ [])
         (kept_calls terms events ++ cons_option (call_kept place call took) [])
         new.bases.map.entries
+        → HoldsChanges (cons_option (change_by place call) []) old.changes.sent.items
+        new.changes.sent.items
+        → Holds most_saves (cons_option (save_by terms (calls (kept_before terms before)) place call)
+        []) old.saves.saved.items new.saves.saved.items
         → new.said ≡ record old.said { renames = r } → r.moves ≡ old.said.renames.moves
         → renamed_held r ≡ option_or (renamed_held old.said.renames)
         (renamed_by place (moves_view old.said.renames.moves.items) call)
         → IsTrail terms new (heard_events (before ++ h ∷ []))
-    trail_called call took r reads says told keeps based same moves renamed =
+    trail_called call took r reads says told keeps based changes saves same moves renamed =
         kept_so (call_kept place call took)
         (ap (option_and_then (λ one. call_kept place one
         (took_by terms (calls (kept_of terms events)) one))) says
@@ -218,6 +234,13 @@ module _ (terms : Terms) (before : List Heard) (h : Heard) (old : Trail)
         (subst (λ cs. HoldAll terms cs
         (kept_calls terms events ++ cons_option (call_kept place call took) [])
         new.bases.map.entries) (sym (calls_with call says)) based)
+        (changes (sent_changes terms events) is.changed
+        ∙ ap (last_ones most_changes) (sym (kept_more event_change terms events h.note.event place
+        (change_by place call) kept_here at (ap (option_and_then (change_by place)) says))))
+        (saves (saves_unopened terms events) is.saved
+        ∙ ap (last_ones most_saves) (sym (kept_more (event_save terms) terms events h.note.event
+        place (save_by terms (calls (kept_of terms events)) place call) kept_here at
+        (ap (option_and_then (save_by terms (calls (kept_of terms events)) place)) says))))
         (subst (λ (n : Conversation). IsConversation terms n (events ++ h.note.event ∷ [])) (sym same)
         (call_taken terms old.said r events h.note.event h.raw place call is.said kept_here reads at
         says moves renamed))
@@ -228,12 +251,13 @@ module _ (terms : Terms) (before : List Heard) (h : Heard) (old : Trail)
         → IsSpoken (kept_before terms before) h.note.event by s
         → call_at (kept_before terms before) h.note.event ≡ None
         → new.marks ≡ old.marks → new.openings ≡ old.openings → new.bases ≡ old.bases
+        → new.changes ≡ old.changes → new.saves ≡ old.saves
         → Says place side (message_view s.message)
         (phase (sent_in (kept_of terms (heard_events (before ++ h ∷ [])))))
         (is_done (sent_in (kept_of terms (heard_events (before ++ h ∷ []))))) old.said new.said
         → RenamesIn place side bytes (message_view s.message) None old.said.renames new.said.renames
         → IsTrail terms new (heard_events (before ++ h ∷ []))
-    trail_said side bytes by s reads spoken says marks openings bases told renamed =
+    trail_said side bytes by s reads spoken says marks openings bases changes saves told renamed =
         let sent = spoken.sent in
         let own = subst (λ (e : Event). Reads (content side bytes) e) spoken.is reads in
         let all : heard_events (before ++ h ∷ []) ≡ events ++ message sent ∷ [] =
@@ -261,6 +285,15 @@ module _ (terms : Terms) (before : List Heard) (h : Heard) (old : Trail)
         (sym (calls_without says))
         (subst (λ ks. HoldAll terms (calls (kept_of terms events)) ks old.bases.map.entries)
         (sym (append-nil (kept_calls terms events))) is.based)))
+        (ap (λ c. map change_view c.sent.items) changes ∙ is.changed
+        ∙ ap (last_ones most_changes) (sym (kept_more event_change terms events h.note.event place
+        None kept_here at (ap (option_and_then (change_by place)) says)
+        ∙ append-nil (sent_changes terms events))))
+        (ap (λ s. ons_view s.saved.items) saves ∙ is.saved
+        ∙ ap (last_ones most_saves) (sym (kept_more (event_save terms) terms events h.note.event
+        place None kept_here at
+        (ap (option_and_then (save_by terms (calls (kept_of terms events)) place)) says)
+        ∙ append-nil (saves_unopened terms events))))
         (subst (λ (e : Event). IsConversation terms new.said (events ++ e ∷ [])) (sym spoken.is)
         (message_taken terms old.said new.said events sent bytes (message_view s.message) place
         is.said (ap (λ (e : Event). rule_at terms events e) (sym spoken.is) ∙ kept_here)

@@ -29,7 +29,8 @@ use Rattle.lsp_verdict.specs.declared.outcome.Outcome.{Outcome}
 use Rattle.lsp_verdict.specs.declared.outcome.RunFault.{RunFault}
 use Rattle.lsp_verdict.specs.declared.outcome.RunFault.TheVariants as faults
 use Rattle.lsp_facts.specs.EventFacts.{AreFacts, side_by, log_facts, front_facts}
-use Rattle.lsp_facts.specs.Fact.{Fact, detail_lines, event_line, end_event}
+use Rattle.lsp_facts.specs.Fact.{Fact, detail_lines, event_line, end_event, usual, usual_inside}
+use Rattle.lsp_facts.specs.Fact.{usual_of}
 use Rattle.lsp_replay.specs.declared.heard.EventPlace.{EventPlace}
 use Rattle.lsp_explain.specs.Misfits.{Found, found_kept, found_refuted}
 use Rattle.lsp_explain.specs.Notes.{Noticed, noticed, note_lines, notes_by}
@@ -67,11 +68,13 @@ event_of (no rule by count event) raw = event_line event by count raw
 event_of (yes s) raw = []
 event_of (bad_log at code) raw = []
 
--- the No, the line of its event, and the facts, with the events that brought it
+-- the No, the line of its event, the facts, with the events that brought it, and whose fault it
+-- usually is
 pub record Explained : Type 0 where
   pub no : Verdict
   pub event : List ℕ
   pub facts : List Fact
+  pub usually : List ℕ
 
 pub record Explains (rests : Rests) (terms : Terms) (b : Breach) (e : Explained) : Type 0 where
   pub no_is : e.no ≡ no_by (events_of (notes_of b.before)) b.here.note.event b.rule
@@ -81,6 +84,7 @@ pub record Explains (rests : Rests) (terms : Terms) (b : Breach) (e : Explained)
       b.here.note.event b.rule)
       (earlier_at terms (events_of (notes_of b.before)) b.here.note.event)
       (traced terms (events_of (notes_of b.before)) b.here.note.event b.rule) e.facts
+  pub usually_is : e.usually ≡ usual_of e.no
 
 -- ---- how a session ends
 
@@ -98,17 +102,30 @@ end_facts rests said (no rule by count event) =
 end_facts rests said (yes s) = []
 end_facts rests said (bad_log at code) = []
 
+-- whose fault it is that a side's bytes end inside a frame shows in what there is of it
+abbrev pub end_usually : Rests → Verdict → List ℕ
+end_usually rests (no rule by count event) =
+    if rule == rules.STREAM_ENDS_INSIDE_FRAME
+    then usual_inside (rest_of rests (side_by by)) by else usual rule by
+end_usually rests (yes s) = usual_of (yes s)
+end_usually rests (bad_log at code) = usual_of (bad_log at code)
+
 abbrev pub end_explained : Rests → List Numbered → Verdict → Explained
-end_explained rests said v = record { no = v; event = end_line v; facts = end_facts rests said v }
+end_explained rests said v = record {
+  no = v;
+  event = end_line v;
+  facts = end_facts rests said v;
+  usually = end_usually rests v;
+}
 
 -- ---- the first offence: the report
 
 abbrev pub said_of : Explained → List ℕ
-said_of e = e.event ++ detail_lines e.facts e.no
+said_of e = e.event ++ detail_lines e.facts e.usually
 
 -- what is said about the fault of a log
 abbrev pub flaw_lines : Option Verdict → List Fact → List ℕ
-flaw_lines (Some (bad_log at code)) flaw = detail_lines flaw (bad_log at code)
+flaw_lines (Some (bad_log at code)) flaw = detail_lines flaw (usual_of (bad_log at code))
 flaw_lines _ flaw = []
 
 -- **the explanation**: where nothing offends the report, and of a bad log what is said about its

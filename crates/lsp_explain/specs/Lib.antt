@@ -2,6 +2,9 @@ pub mod History
 pub mod Asking
 pub mod Marking
 pub mod Openings
+pub mod Naming
+pub mod Saves
+pub mod LastChanges
 pub mod StandardMethods
 pub mod SessionNotes
 pub mod Renames
@@ -16,6 +19,7 @@ pub mod Compared
 pub mod DocumentNotes
 pub mod Misfits
 pub mod Refusals
+pub mod Spellings
 pub mod Notes
 pub mod ExplainRuns
 pub mod Explained

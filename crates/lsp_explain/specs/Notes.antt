@@ -13,6 +13,7 @@ use Rattle.lsp_explain.specs.Misfits.{Found, misfit_notes}
 use Rattle.lsp_explain.specs.Refusals.{refusals}
 use Rattle.lsp_explain.specs.Renames.{renamed}
 use Rattle.lsp_explain.specs.Openings.{unshown}
+use Rattle.lsp_explain.specs.Spellings.{spellings}
 use Rattle.lsp_verdict.specs.Event.{Event}
 use Rattle.lsp_explain.specs.declared.trail.misuses.Misuse.{Misuse}
 use Rattle.lsp_explain.specs.declared.trail.misuses.Misuse.TheVariants.{AsRequest, AsNotification}
@@ -75,12 +76,14 @@ old_name_notes found = option_to_list (option_map
     (λ (x : OnDocument). line (codes "note renamed" ∷ quoted x.uri ∷ place_words x.place)) found)
 
 -- what the notes are on: messages, the documents that were changed and have no snapshot, what
--- changes found, and the documents about which a request was refused
+-- changes found, the documents about which a request was refused, and the URIs under which one was
+-- named that is open under another
 pub record Noticed : Type 0 where
   pub said : List Numbered
   pub unshown : List (List ℕ)
   pub found : List Found
   pub refused : List DocumentNote
+  pub spelled : List DocumentNote
 
 -- what these events have of it, whose changes found this
 abbrev pub noticed : Terms → List Event → List Found → Noticed
@@ -89,6 +92,7 @@ noticed terms events found = record {
   unshown = unshown terms events;
   found = found;
   refused = refusals terms events;
+  spelled = spellings terms events;
 }
 
 -- **the notes on these**, with this verdict
@@ -100,6 +104,7 @@ notes_by v n =
     ++ uncompared v n.unshown
     ++ misfit_notes n.found
     ++ map document_line n.refused
+    ++ map document_line n.spelled
 
 -- how many there are, if there are any
 abbrev pub count_line : ℕ → List ℕ

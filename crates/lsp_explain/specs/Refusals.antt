@@ -3,15 +3,11 @@ use Rattle.std.specs.Prelude.{◌≡◌, ℕ, ℤ, negsuc, nat_lt, List, ◌++�
 use Rattle.std.specs.Prelude.{if◌then◌else◌, is_some, Option, Some, None, option_map}
 use Rattle.std.specs.Prelude.{option_and_then, codes, string_bytes}
 use Rattle.std.specs.Ordering.{int_eq}
-use Rattle.std.specs.Str.{is_utf8}
 use Rattle.json.specs.Print.{quoted}
-use Rattle.serde_json.specs.Data.{Data}
-use Rattle.serde_json.specs.Read.{read}
 use Rattle.lsp_docs.specs.Documents.{Terms}
 use Rattle.lsp_rpc.specs.Ident.{Ident}
 use Rattle.lsp_rpc.specs.Message.{Message, request, notification, response}
 use Rattle.lsp_rpc.specs.Message.{Reply, result, error}
-use Rattle.lsp_rpc.specs.Params.{required, uri_at}
 use Rattle.lsp_session.specs.Sent.{Sent}
 use Rattle.lsp_types.specs.declared.side.Side.{Side}
 use Rattle.lsp_types.specs.declared.side.Side.TheVariants.{Editor, Server}
@@ -24,6 +20,7 @@ use Rattle.lsp_explain.specs.Asking.{asked, numbered}
 use Rattle.lsp_explain.specs.DocumentNotes.{DocumentNote, document_note, first_notes, notes_view}
 use Rattle.lsp_explain.specs.History.{each_kept, last_ones, last_that, on_document}
 use Rattle.lsp_explain.specs.Marking.{opened, steps}
+use Rattle.lsp_outline.specs.Named.{document_in, named_in}
 use Rattle.lsp_explain.specs.declared.notes.refusals.Refusals.{Refusals}
 use Rattle.lsp_explain.specs.declared.notes.requests.Named.{Named}
 use Rattle.lsp_explain.specs.declared.notes.requests.Named.TheVariants.{Content, Document}
@@ -39,13 +36,10 @@ pub record Request : Type 0 where
 abbrev pub request_at : EventPlace → Option (List ℕ) → Request
 request_at p document = record { document = document; place = p }
 
--- the document that params name (LSP 3.17, TextDocumentIdentifier)
-abbrev pub document_in : Data → Option (List ℕ)
-document_in params = required (codes "textDocument") uri_at params
-
 -- a message of the editor, the event of this place, if it is a request
 abbrev pub request_by : EventPlace → Message → Option Request
-request_by p (request id method params) = Some (request_at p (option_and_then document_in params))
+request_by p (request id method params) =
+    Some (request_at p (option_and_then (document_in Editor) params))
 request_by p (notification method params) = None
 request_by p (response id reply) = None
 
@@ -159,15 +153,9 @@ refusals terms events = first_notes (each_of (refusal_at terms) events)
 
 -- ---- as they are held
 
--- the document that a content names, if it is that of a request
-abbrev pub named_in : List ℕ → Option (List ℕ)
-named_in content =
-    if is_utf8 content
-    then option_and_then (required (codes "params") document_in) (read content) else None
-
 -- the document that a request of which this is held names
 abbrev pub named_view : Named → Option (List ℕ)
-named_view (Content content) = named_in content.items
+named_view (Content content) = named_in Editor content.items
 named_view (Document uri) = option_map string_bytes uri
 
 abbrev pub request_view : code.Request → Request

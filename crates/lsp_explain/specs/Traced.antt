@@ -2,18 +2,20 @@
 use Rattle.std.specs.Prelude.{ℕ, ℤ, List, Option, Some, option_and_then, option_map, ◌-◌}
 use Rattle.std.specs.Prelude.{int_lt, nat_lt, [], ◌∷◌, ◌++◌, map, take, drop, Bool, true, not, None}
 use Rattle.std.specs.Prelude.{codes, decimal, ◌*◌, length, false, ◌&&◌, ◌==◌, if◌then◌else◌}
-use Rattle.std.specs.Prelude.{is_some, ◌≡◌, option_to_list, unwrap_or}
+use Rattle.std.specs.Prelude.{is_some, ◌≡◌, option_to_list, slice_get, unwrap_or}
 use Rattle.std.specs.Bool.{then_some}
 use Rattle.std.specs.Fmt.{signed_decimal}
 use Rattle.std.specs.Str.{bytes_eq}
 use Rattle.std.specs.Str.Parse.{signed_digits_value}
 use Rattle.std.specs.List.{prefix_len, flat_map}
+use Rattle.std.specs.Ordering.{int_eq}
 use Rattle.lsp_rpc.specs.Ident as ident
 use Rattle.lsp_rpc.specs.Ident.{Ident}
 use Rattle.lsp_rpc.specs.Shape.{small}
 use Rattle.lsp_rpc.specs.Words.{id_text}
 use Rattle.lsp_docs.specs.Calls.{Call, opens, changes, shows, uri_of}
 use Rattle.lsp_docs.specs.Documents.{held, Terms}
+use Rattle.lsp_text.specs.Edits.{Edit}
 use Rattle.lsp_replay.specs.declared.heard.EventPlace.{EventPlace}
 use Rattle.lsp_replay.specs.Lines.{place_of}
 use Rattle.lsp_facts.specs.Fact.{Fact, version_by, cited, place_words, in_phase, waits}
@@ -40,6 +42,8 @@ use Rattle.lsp_explain.specs.declared.trail.mark.VersionEvent.{VersionEvent}
 use Rattle.lsp_explain.specs.declared.suspects.Until.{Until}
 use Rattle.lsp_explain.specs.declared.suspects.Until.TheVariants as until
 use Rattle.lsp_explain.specs.Openings.{closing_of, closings, last_on, most_openings, openings}
+use Rattle.lsp_explain.specs.Saves.{saved_unopened}
+use Rattle.lsp_explain.specs.LastChanges.{SentChange, has_changes, last_changes}
 use Rattle.lsp_explain.specs.declared.trail.openings.Closing.{Closing}
 use Rattle.lsp_explain.specs.declared.trail.openings.Closing.TheVariants as closing
 use Rattle.lsp_explain.specs.Asking.{Numbered, answered, asked, numbered, sents, since}
@@ -163,12 +167,72 @@ closing_facts (closing.Last p) = cited (codes "closed") p ∷ []
 closing_facts closing.Never = line (codes "opened" ∷ codes "never" ∷ []) ∷ []
 closing_facts closing.Forgotten = []
 
+-- the event of this place comes after the closing, if one is known
+abbrev pub is_since : Closing → EventPlace → Bool
+is_since (closing.Last closed) p = nat_lt closed.event p.event
+is_since closing.Never p = true
+is_since closing.Forgotten p = true
+
+abbrev pub save_facts : Closing → EventPlace → List Fact
+save_facts closed p = if is_since closed p then cited (codes "saved-as") p ∷ [] else []
+
+-- the message that saved the document last while it was not open, if none closed it since
+abbrev pub saved_facts : Closing → Option EventPlace → List Fact
+saved_facts closed None = []
+saved_facts closed (Some p) = save_facts closed p
+
+-- how the document of this URI was closed, and saved since
+abbrev pub left_facts : Terms → List Event → List ℕ → List Fact
+left_facts terms before uri =
+    let closed = closing_of uri (closings terms before) in
+    closing_facts closed ++ saved_facts closed (saved_unopened terms before uri)
+
 -- **what is said about the document of this URI, where a call on it breaks this rule**
 abbrev pub unopened_traced : Terms → List Event → ℕ → List ℕ → List Fact
 unopened_traced terms before rule uri =
     if rule == rules.DOCUMENT_NOT_OPEN
-    then closing_facts (closing_of uri (closings terms before)) ++ similar_facts terms before uri
+    then left_facts terms before uri ++ similar_facts terms before uri
     else []
+
+-- ---- 603
+
+-- it set a lesser version
+abbrev pub is_below : ℤ → VersionEvent → Bool
+is_below number setter = int_lt setter.version number
+
+-- the event of this place, where it has the same changes
+abbrev pub same_facts : EventPlace → List Edit → List SentChange → List Fact
+same_facts p edits sent = if has_changes p edits sent then cited (codes "same") p ∷ [] else []
+
+-- the message that set a greater version, where this many are known that set a lesser one
+abbrev pub precedes_facts : ℕ → VersionEvent → List Fact
+precedes_facts below setter =
+    if below == 0 then []
+    else version_by (codes "precedes") setter.version setter.place ∷ []
+
+-- the first of the messages that set this version or a greater one
+abbrev pub setter_facts : ℤ → List Edit → List SentChange → ℕ → Option VersionEvent → List Fact
+setter_facts number edits sent below None = []
+setter_facts number edits sent below (Some setter) =
+    if int_eq setter.version number then same_facts setter.place edits sent
+    else precedes_facts below setter
+
+abbrev pub unrisen_facts : ℤ → List Edit → List SentChange → List VersionEvent → List Fact
+unrisen_facts number edits sent done =
+    let below = prefix_len (is_below number) done in
+    setter_facts number edits sent below (slice_get (drop below done) 0)
+
+-- of a call that changes a document
+abbrev pub change_traced : Terms → List Event → Call → List Fact
+change_traced terms before (changes enc kind uri number edits) =
+    unrisen_facts number edits (last_changes terms before) (recent (steps terms uri before))
+change_traced terms before _ = []
+
+-- **the message of this opening that set the version of such a call, if it has the same changes**;
+-- where none set it, the first that set a greater one
+abbrev pub unrisen_traced : Terms → List Event → ℕ → Call → List Fact
+unrisen_traced terms before rule call =
+    if rule == rules.VERSION_DOES_NOT_RISE then change_traced terms before call else []
 
 -- ---- what is added to the facts on an offence, read off all events before it
 
@@ -243,6 +307,7 @@ apart_traced terms before p rule call =
 abbrev pub call_traced : Terms → List Event → EventPlace → ℕ → Call → List Fact
 call_traced terms before p rule call =
     apart_traced terms before p rule call ++ unopened_traced terms before rule (uri_of call)
+    ++ unrisen_traced terms before rule call
 
 -- those that brought what an event says about a document
 abbrev pub said_traced : Terms → List Event → Event → ℕ → List Fact

@@ -11,15 +11,18 @@
 mod compared;
 mod fits;
 mod laws;
+mod naming;
 mod notes;
 mod offence_facts;
 mod run;
 mod run_all;
+mod spelled;
 mod suspects;
 mod trace;
 mod trail;
 mod twins;
 mod unopened;
+mod unrisen;
 
 pub use compared::{ComparedText, run_compared};
 pub use laws::{

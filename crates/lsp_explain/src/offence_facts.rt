@@ -17,7 +17,8 @@ ghost use Rattle.lsp_verdict.specs.Placed.{Reads};
 ghost use Rattle.lsp_verdict.specs.Report.{report};
 ghost use Rattle.lsp_verdict.specs.Verdict.{bad_log_of, no, no_by};
 ghost use Rattle.lsp_verdict.specs.declared.verdict.Who.{Who};
-ghost use Rattle.lsp_explain.specs.Explained.{cause_lines, end_explained, end_facts, flaw_lines};
+ghost use Rattle.lsp_explain.specs.Explained.{cause_lines, end_explained, end_facts, end_usually};
+ghost use Rattle.lsp_explain.specs.Explained.{flaw_lines};
 ghost use Rattle.lsp_explain.specs.Explained.{place_in};
 ghost use Rattle.lsp_explain.specs.ExplainRuns.{TellsOf, flaw_held, rests_held};
 ghost use Rattle.lsp_explain.specs.Trails.{StandsAfter, terms_in, IsTrail};
@@ -30,7 +31,7 @@ use crate::trail::Past;
 use lsp_docs::Tried;
 use lsp_facts::{
     Facts, content_facts, flaw_facts, frame_facts, front_facts, push_bare_event,
-    push_content_event, push_details, push_end_event, push_message_event, usual,
+    push_content_event, push_details, push_end_event, push_message_event, usual, usual_inside,
 };
 use lsp_replay::{End, EventPlace, LogEvents, Seen};
 use lsp_rpc::{Result, Side, Spoken};
@@ -167,8 +168,20 @@ pub(crate) fn push_end(
 {
     push_report(text, end)?;
     push_end_event(text, end.event, end.who)?;
-    let facts = end_facts(past, log.rest(side_by(end.who)), end.rule)?;
-    push_details(text, &facts, usual(end.rule, end.who))
+    let rest = log.rest(side_by(end.who));
+    let facts = end_facts(past, rest, end.rule)?;
+    push_details(text, &facts, end_usually(rest, end.rule, end.who))
+}
+
+/// Whose fault it usually is that a session ends so, where this is the rest of the side.
+fn end_usually(rest: &[u8], rule: u16, who: Who) -> &'static str
+    ensures { (rests : Rests) (number event : ℕ) → rest.now ≡ rest_of rests (side_by who)
+        → result.now ≡ end_usually rests (no rule who number event) }
+{
+    if rule != rules::STREAM_ENDS_INSIDE_FRAME {
+        return usual(rule, who);
+    }
+    usual_inside(rest, who)
 }
 
 /// The facts on how a session ends that breaks this rule: 107 has those on the rest of a side, 303

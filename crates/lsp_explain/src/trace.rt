@@ -31,6 +31,7 @@ use crate::suspects::{Until, push_suspects};
 use crate::trail::{Conversation, Marks, Past, VersionEvent};
 use crate::twins::twin_of;
 use crate::unopened::trace_unopened;
+use crate::unrisen::trace_unrisen;
 use lsp_docs::{Call, Tried};
 use lsp_facts::{Earlier, Facts, call_facts, id_in, refuting, session_facts};
 use lsp_replay::EventPlace;
@@ -120,6 +121,7 @@ fn call_traced(
     let mut facts = call_facts(&held.docs, encoding, call, rule, tried, earlier)?;
     trace_call(&mut facts, past, place, call, rule, tried)?;
     trace_unopened(&mut facts, past, call, rule)?;
+    trace_unrisen(&mut facts, past, call, rule)?;
     Ok(facts)
 }
 

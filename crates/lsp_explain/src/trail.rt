@@ -2,8 +2,10 @@
 //! them led to what. No event is judged here, and no log is read.
 //!
 //! [`Marks`] says which events left a document as it is, [`Openings`] which opened and closed
-//! documents last, and [`Conversation`] by which requests were asked and answered, which led to the
-//! phase, and what the notes say of the messages.
+//! documents last, [`Bases`] which texts and changes some had last, [`Changes`] which messages
+//! changed some and how, [`Saves`] which saved some that were not open, and [`Conversation`] by
+//! which requests were asked and answered, which led to the phase, and what the notes say of the
+//! messages.
 ghost use Rattle.std.specs.Prelude.{◌≡◌, ◌++◌, ◌∷◌, [], IfOk, List, None, OnOk, Some, option_map};
 ghost use Rattle.lsp_docs.specs.Documents.{Terms};
 ghost use Rattle.lsp_replay.specs.Telling.{IsSeen, MaySpeak, Stood, kept_before, rule_of};
@@ -17,6 +19,7 @@ ghost use Rattle.lsp_explain.specs.Trails.{IsTrail, Keeps};
 mod asked;
 mod base;
 mod bases;
+mod changes;
 mod conversation;
 mod exchange;
 mod last_ones;
@@ -26,12 +29,15 @@ mod misuses;
 mod notes;
 mod openings;
 mod renames;
+mod saves;
 mod standard_methods;
 mod step;
 
+use crate::trail::saves::Saves;
 use crate::trail::step::{Step, step_of};
 pub(crate) use base::{Base, SentChanges};
 pub(crate) use bases::Bases;
+pub(crate) use changes::Changes;
 pub(crate) use conversation::Conversation;
 pub(crate) use last_ones::push_within;
 use lsp_replay::{EventPlace, Events, Fate, Seen};
@@ -42,16 +48,17 @@ pub(crate) use mark::VersionEvent;
 pub(crate) use marks::Marks;
 pub(crate) use misuses::{Misuse, Misused};
 pub(crate) use openings::{Closing, DocumentEvent, Openings};
-pub(crate) use renames::text_at;
 use std::alloc::Global;
 
-/// Which kept events left the documents as they are, which opened and closed them last, and which
-/// sent and answered requests and led to the phase.
+/// Which kept events left the documents as they are, which opened and closed them last, changed
+/// them, and saved others, and which sent and answered requests and led to the phase.
 #[derive(Drop)]
 pub(crate) struct Trail {
     pub(crate) marks: Marks,
     pub(crate) openings: Openings,
     pub(crate) bases: Bases,
+    pub(crate) changes: Changes,
+    pub(crate) saves: Saves,
     pub(crate) said: Conversation,
 }
 
@@ -71,6 +78,8 @@ impl Trail {
             marks: Marks::new(alloc),
             openings: Openings::new(alloc),
             bases: Bases::new(alloc),
+            changes: Changes::new(alloc),
+            saves: Saves::new(alloc),
             said: Conversation::new(alloc),
         }
     }
@@ -93,10 +102,12 @@ impl Trail {
         let Some(call) = seen.call else {
             return self.keep_message(held, seen.raw, seen.spoken);
         };
+        let place = EventPlace::last(&held.counts, seen.raw.who());
+        self.changes.keep(&place, call)?;
+        self.saves.keep(&held.docs, &place, call)?;
         let Some(step) = step_of(call, took) else {
             return Ok(());
         };
-        let place = EventPlace::last(&held.counts, seen.raw.who());
         self.said.renames.keep_call(&place, call)?;
         let is_equal = keep_step(
             &mut self.marks,

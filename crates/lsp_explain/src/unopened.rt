@@ -1,5 +1,5 @@
 //! What is said about a document that is not open.
-ghost use Rattle.std.specs.Prelude.{◌≡◌, ◌++◌, List, IfOk, OnOk};
+ghost use Rattle.std.specs.Prelude.{◌≡◌, ◌++◌, List, OnOk};
 ghost use Rattle.std.specs.List.{flat_map};
 ghost use Rattle.lsp_docs.specs.Calls.{uri_of};
 ghost use Rattle.lsp_docs.specs.Taken.{call_view};
@@ -8,6 +8,7 @@ ghost use Rattle.lsp_verdict.specs.Event.{Event};
 ghost use Rattle.lsp_explain.specs.Trails.{StandsAfter, terms_in};
 ghost use Rattle.lsp_explain.specs.Traced as spec;
 
+use crate::spelled::{is_spelled, stands_open};
 use crate::trail::{Closing, DocumentEvent, Past};
 use lsp_docs::Call;
 use lsp_facts::Facts;
@@ -15,11 +16,10 @@ use lsp_replay::EventPlace;
 use lsp_rpc::Result;
 use lsp_survey::folded;
 use lsp_types::rules;
-use std::alloc::Global;
 
 /// Adds to the facts on a call that breaks this rule, under 602, how the document of which it
-/// speaks was closed, and which documents with a similar URI are open. The past is of the events
-/// before it.
+/// speaks was closed, and saved since, and which documents with a similar URI are open. The past is
+/// of the events before it.
 pub(crate) fn trace_unopened(
     facts: &mut Facts,
     past: Past<'_>,
@@ -34,7 +34,9 @@ pub(crate) fn trace_unopened(
         return Ok(());
     }
     let uri = call.uri();
-    push_closing(facts, past.trail.openings.closing(uri))?;
+    let closing = past.trail.openings.closing(uri);
+    push_closing(facts, closing)?;
+    push_saved(facts, closing, past.trail.saves.last(uri))?;
     push_similar(facts, past, uri)
 }
 
@@ -46,6 +48,37 @@ fn push_closing(facts: &mut Facts, closing: Closing) -> Result<()>
         Closing::Last(place) => facts.event("closed", place),
         Closing::Never => facts.word("opened", "never"),
         Closing::Forgotten => Ok(()),
+    }
+}
+
+/// Adds the message that saved the document last while it was not open, if none closed it since.
+fn push_saved(facts: &mut Facts, closing: Closing, saved: Option<EventPlace>) -> Result<()>
+    ensures { OnOk result (facts.new ≡ facts.old ++ spec.saved_facts closing saved) }
+{
+    match saved {
+        Some(place) => push_save(facts, closing, place),
+        None => Ok(()),
+    }
+}
+
+fn push_save(facts: &mut Facts, closing: Closing, place: EventPlace) -> Result<()>
+    ensures { OnOk result (facts.new ≡ facts.old ++ spec.save_facts closing place) }
+{
+    if is_since(closing, place) {
+        facts.event("saved-as", place)
+    } else {
+        Ok(())
+    }
+}
+
+/// Whether the event of this place comes after the closing, if one is known.
+fn is_since(closing: Closing, place: EventPlace) -> bool
+    ensures { result ≡ spec.is_since closing place }
+{
+    match closing {
+        Closing::Last(closed) => closed.event < place.event,
+        Closing::Never => true,
+        Closing::Forgotten => true,
     }
 }
 
@@ -107,34 +140,5 @@ fn is_standing(past: Past<'_>, on: &DocumentEvent) -> bool
         → result ≡ spec.is_standing (terms_in past.entry) before (on_view on.now) }
 {
     let Past { held, trail } = past;
-    let uri = on.uri.as_str();
-    held.docs.version_of(uri).is_some() && is_at(on.place, trail.openings.opening(uri))
-}
-
-fn is_at(place: EventPlace, other: Option<EventPlace>) -> bool
-    ensures { result ≡ spec.is_at place other }
-{
-    match other {
-        Some(other) => place.event == other.event,
-        None => false,
-    }
-}
-
-/// Whether another URI differs in its spelling alone from one of this size with this spelling, and
-/// is at most three times as long.
-fn is_spelled(alloc: Global, size: usize, spelling: &[u8], other: &str) -> Result<bool>
-    ensures { IfOk result (λ spelled. spelled ≡ spec.is_spelled size spelling.now other.now) }
-{
-    if is_long(size, other.len()) {
-        return Ok(false);
-    }
-    let folded = folded(alloc, other)?;
-    Ok(spelling == folded.as_slice())
-}
-
-/// Whether the other size is more than three times this one.
-fn is_long(size: usize, other: usize) -> bool
-    ensures { result ≡ spec.is_long size other }
-{
-    other > size.saturating_mul(3)
+    stands_open(&held.docs, &trail.openings, on)
 }

@@ -1,5 +1,6 @@
 pub mod Offers
 pub mod EndLists
+pub mod FrontLines
 pub mod LinePlaces
 pub mod MadeChanges
 pub mod AtEdges

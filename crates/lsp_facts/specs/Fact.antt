@@ -29,6 +29,7 @@ use Rattle.lsp_verdict.specs.Verdict.{Verdict, yes, no, bad_log}
 use Rattle.lsp_verdict.specs.declared.verdict.Who.{Who}
 use Rattle.serde_json.specs.Data.{Data}
 use Rattle.serde_json.specs.Read.{read}
+use Rattle.lsp_facts.specs.FrameFronts.{may_go_on}
 use Rattle.lsp_facts.specs.declared.part.Excerpt as code
 
 -- ---- a line of a document, of which a long one is shown as the part around a place
@@ -264,8 +265,17 @@ usual rule by =
 abbrev pub usual_line : List ℕ → List ℕ
 usual_line who = line (codes "usually" ∷ who ∷ [])
 
--- **the facts, and whose fault it usually is**; that of a log is the recorder's
-abbrev pub detail_lines : List Fact → Verdict → List ℕ
-detail_lines facts (no rule by count event) = fact_lines facts ++ usual_line (usual rule by)
-detail_lines facts (bad_log at code) = fact_lines facts ++ usual_line (codes "recorder")
-detail_lines facts (yes s) = fact_lines facts
+-- 107: that of the recording, where bytes that could follow may make a frame of what there is; else
+-- the side sent something else
+abbrev pub usual_inside : List ℕ → Who → List ℕ
+usual_inside rest by = if may_go_on rest then codes "recorder" else who_name by
+
+-- that of a No; that of a log is the recorder's
+abbrev pub usual_of : Verdict → List ℕ
+usual_of (no rule by count event) = usual rule by
+usual_of (bad_log at code) = codes "recorder"
+usual_of (yes s) = codes "recorder"
+
+-- **the facts, and whose fault it usually is**
+abbrev pub detail_lines : List Fact → List ℕ → List ℕ
+detail_lines facts who = fact_lines facts ++ usual_line who

@@ -5,4 +5,5 @@ pub mod EventFacts
 pub mod Members
 pub mod TwoTexts
 pub mod EndsApart
+pub mod FrameFronts
 pub mod DocumentFacts

@@ -2,6 +2,7 @@
 ghost use Rattle.std.specs.Prelude.{◌≡◌};
 ghost use Rattle.lsp_facts.specs.Fact as spec;
 
+use crate::frame_fronts::may_go_on;
 use lsp_types::rules;
 use lsp_verdict::{Who, who_name};
 
@@ -17,6 +18,17 @@ pub fn usual(rule: u16, by: Who) -> &'static str
         rules::HEADER_PART_TOO_LONG..=rules::ID_ALREADY_OPEN => who_name(by),
         _ => usual_role(rule),
     }
+}
+
+/// The same of a stream of `by` that ends inside a frame (107), of which there is this: `recorder`
+/// where bytes that could follow may make a frame of it, otherwise its side.
+pub fn usual_inside(rest: &[u8], by: Who) -> &'static str
+    ensures { result.now ≡ spec.usual_inside rest.now by }
+{
+    if may_go_on(rest) {
+        return "recorder";
+    }
+    who_name(by)
 }
 
 /// The same of a rule above those on what a side writes, and how it asks and answers.

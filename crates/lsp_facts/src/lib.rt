@@ -20,6 +20,7 @@ mod edges;
 mod ends;
 mod facts;
 mod faults;
+mod frame_fronts;
 mod grammar;
 mod json_text;
 mod laws;
@@ -35,7 +36,7 @@ mod text_facts;
 mod two_texts;
 mod waiting;
 
-pub use blame::usual;
+pub use blame::{usual, usual_inside};
 pub use contents::content_facts;
 pub use documents::call_facts;
 pub use earlier::Earlier;

@@ -14,3 +14,4 @@ pub mod Walking
 pub mod Speaking
 pub mod Negatives
 pub mod LongBlocks
+pub mod Naming

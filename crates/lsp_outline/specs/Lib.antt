@@ -1,3 +1,4 @@
+pub mod Named
 pub mod Outlined
 pub mod Places
 pub mod Spoken

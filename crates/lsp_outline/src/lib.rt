@@ -2,11 +2,12 @@
 //!
 //! A `MessageReader` walks over the bytes of a content once. It reads a message without its params
 //! and without the value of its result; where the params of a notification are read, it also says
-//! what they mean. It answers exactly what `lsp_rpc` would, and leaves the contents that it
-//! declines to `lsp_rpc`.
+//! what they mean. It answers exactly what `lsp_rpc` would, and leaves the contents that it declines
+//! to `lsp_rpc`. `document_of` tells in the same way which document a content names in its params.
 #![tactic(auto)]
 
 mod bytes;
+mod document;
 mod edits;
 mod members;
 mod message;
@@ -20,4 +21,5 @@ mod texts;
 mod tries;
 mod walk;
 
+pub use document::document_of;
 pub use outline::{MessageReader, Results};

@@ -4,6 +4,7 @@ ghost use Rattle.std.specs.Prelude.{◌≡◌, ◌^◌, ℕ, ◌<◌, ◌≤◌,
 ghost use Rattle.std.specs.Prelude.{string_bytes};
 ghost use Rattle.serde_json.specs.Data.{Data, Members, object, string, no_members, put};
 ghost use Rattle.serde_json.specs.Find.{as_str};
+ghost use Rattle.serde_json.specs.Read.{read as read_text};
 ghost use Rattle.lsp_rpc.specs.Ident.{id_view};
 ghost use Rattle.lsp_rpc.specs.Params.{if_given};
 ghost use Rattle.lsp_rpc.specs.Shape.{as_id, as_integer, unless_null};
@@ -12,7 +13,7 @@ ghost use Rattle.lsp_outline.specs.Walk.{IsValue, AreMembers};
 use crate::bytes::{byte_at, spaces_end};
 use crate::numbers::{natural_at, negative_at};
 use crate::tries::Tries;
-use crate::walk::{key, literal_end, plain_string, string_copy, value_end};
+use crate::walk::{MAX_DEPTH, key, literal_end, plain_string, string_copy, value_end};
 use lsp_rpc::Id;
 use std::alloc::Global;
 
@@ -127,6 +128,23 @@ pub(crate) fn object_at<T: Gathered>(
     let mut gathered = T::none();
     let end = object_into(alloc, text, from, depth, &mut gathered)?;
     Some((gathered, end))
+}
+
+/// Gathers the members of the object that the text is. `None` where a member is not as wanted. It
+/// is not inlined, so that what is gathered stays in one place in memory.
+#[inline(never)]
+pub(crate) fn text_into<T: Gathered>(alloc: Global, text: &str, gathered: &mut T) -> Option<()>
+    requires { T.gathers no_members gathered.old }
+    ensures { IfSome result (λ _. (ms : Members) × (read_text text.now ≡ Some (object ms))
+        × T.gathers ms gathered.new) }
+{
+    let bytes = text.as_bytes();
+    let from = spaces_end(bytes, 0);
+    let end = object_into(alloc, text, from, MAX_DEPTH, gathered)?;
+    if spaces_end(bytes, end) < bytes.len() {
+        return None;
+    }
+    Some(())
 }
 
 /// Where the value that begins there ends, of which nothing is wanted.

@@ -3,7 +3,6 @@
 ghost use Rattle.std.specs.Prelude.{◌≡◌, ◌≤◌, ℕ, length, true, Some, IfSome, codes, option_map};
 ghost use Rattle.std.specs.Prelude.{string_bytes};
 ghost use Rattle.serde_json.specs.Data.{Data, Members, no_members, object};
-ghost use Rattle.serde_json.specs.Read.{read as read_text};
 ghost use Rattle.lsp_outline.specs.Outlined.{AreOutlined, IsLeft, id_in, call_in, response_in};
 ghost use Rattle.lsp_outline.specs.Walk.{IsValue};
 ghost use Rattle.lsp_rpc.specs.Ident.{id_view};
@@ -12,12 +11,10 @@ ghost use Rattle.lsp_rpc.specs.Reading as reading;
 ghost use Rattle.lsp_rpc.specs.Shape.{as_integer, holds_of, is_string, member};
 ghost use Rattle.lsp_rpc.specs.View.{message_view};
 
-use crate::bytes::{byte_at, spaces_end};
-use crate::members::{
-    Gathered, given_text, id_at, integer_at, keep, object_at, object_into, skipped,
-};
+use crate::bytes::byte_at;
+use crate::members::{Gathered, given_text, id_at, integer_at, keep, object_at, skipped};
 use crate::params::{Told, params_at};
-use crate::walk::{MAX_DEPTH, literal_end, string_copy, string_end};
+use crate::walk::{literal_end, string_copy, string_end};
 use lsp_rpc::{Answer, Id, Message, Method, notification_method, request_method};
 use lsp_types::Side;
 use serde_json::Value;
@@ -253,31 +250,4 @@ pub(crate) fn put_message(parts: &mut MessageParts, message: &mut Message) -> Op
         return put_response(message, parts.id.take()?, parts.has_result, parts.error);
     };
     put_call(message, method, parts.id.take())
-}
-
-/// Gathers the members of the message that begins there, and gives where it ends. It is not
-/// inlined, so that the parts stay in one place in memory.
-#[inline(never)]
-fn parts_at(alloc: Global, text: &str, from: usize, parts: &mut MessageParts) -> Option<usize>
-    requires from { from ≤ length text.now }
-    requires none { AreOutlined no_members parts.old }
-    ensures { IfSome result (λ end. (ms : Members) × IsValue MAX_DEPTH text.now from end (object ms)
-        × AreOutlined ms parts.new) }
-{
-    object_into(alloc, text, from, MAX_DEPTH, parts)
-}
-
-/// Gathers the members of the message that the text is.
-pub(crate) fn parts_of_text(alloc: Global, text: &str, parts: &mut MessageParts) -> Option<()>
-    requires { AreOutlined no_members parts.old }
-    ensures { IfSome result (λ _. (ms : Members) × (read_text text.now ≡ Some (object ms))
-        × AreOutlined ms parts.new) }
-{
-    let bytes = text.as_bytes();
-    let from = spaces_end(bytes, 0);
-    let end = parts_at(alloc, text, from, parts)?;
-    if spaces_end(bytes, end) < bytes.len() {
-        return None;
-    }
-    Some(())
 }

@@ -16,7 +16,8 @@ ghost use Rattle.lsp_rpc.specs.Words.{words_of as spec_words_of};
 ghost use Rattle.lsp_types.specs.Fault.{Names};
 ghost use Rattle.lsp_types.specs.declared.rules.TheConstants as rules;
 
-use crate::message::{MessageParts, Reads, parts_of_text, put_message};
+use crate::members::text_into;
+use crate::message::{MessageParts, Reads, put_message};
 use crate::params::{Told, put_by};
 use lsp_rpc::{Act, Answer, Message, Method, Spoken, method_of, read, take_act, words_of};
 use lsp_types::{Fault, Side};
@@ -61,7 +62,7 @@ fn put_otherwise(alloc: Global, method: Method, text: &str, act: &mut Act) -> Op
         return Some(());
     }
     let mut again = MessageParts::reading(Reads::OfMethod(method));
-    parts_of_text(alloc, text, &mut again)?;
+    text_into(alloc, text, &mut again)?;
     put_by(act, method, again.told.take())
 }
 
@@ -97,7 +98,7 @@ fn put_text(
         × SaysSo results side ms (message_view spoken.new.message) (act_view spoken.new.act)) }
 {
     let mut parts = MessageParts::reading(Reads::OfSide(side));
-    parts_of_text(alloc, text, &mut parts)?;
+    text_into(alloc, text, &mut parts)?;
     put_message(&mut parts, &mut spoken.message)?;
     if !suffices(results, &spoken.message) {
         return None;
@@ -140,7 +141,7 @@ fn outline_in(alloc: Global, text: &str) -> Option<Message>
         × (message_view message ≡ outline whole))) }
 {
     let mut parts = MessageParts::reading(Reads::Nothing);
-    parts_of_text(alloc, text, &mut parts)?;
+    text_into(alloc, text, &mut parts)?;
     let mut message = blank_message(alloc);
     put_message(&mut parts, &mut message)?;
     Some(message)

@@ -24,7 +24,7 @@ use Rattle.lsp_survey.specs.Notes.{sides_failed, sides_of, sides_read}
 use Rattle.lsp_survey.specs.declared.losses.Losses.{Losses}
 use Rattle.lsp_survey.specs.declared.notes.note.Notes as code_notes
 use Rattle.lsp_survey.specs.declared.notes.sides.Sides.{Sides}
-use Rattle.lsp_survey.proofs.Noting.{if_same, if_some, notes_stay, nothing_said}
+use Rattle.lsp_survey.proofs.Noting.{if_some, notes_stay, nothing_said}
 use Rattle.lsp_survey.proofs.PassedSteps.{fault_passes, kept_passes}
 use Rattle.lsp_survey.proofs.SidesSteps.{sides_pushed}
 use Rattle.lsp_verdict.specs.Event.{calls, Event, fault, message, sent_in, snapshot}
@@ -34,7 +34,7 @@ use Rattle.lsp_verdict.specs.LookBack.{first_of}
 use Rattle.lsp_verdict.specs.Offences.{IsMalformed, IsNoted, IsReading, Noted, answered_by}
 use Rattle.lsp_verdict.specs.Offences.{asked_by, asks, breaks_handshake, broken_by, brought_by}
 use Rattle.lsp_verdict.specs.Offences.{events_of, follows, follows_bytes, follows_passed}
-use Rattle.lsp_verdict.specs.Offences.{is_initialized_by, is_lost, is_on_lost, is_passed}
+use Rattle.lsp_verdict.specs.Offences.{is_lost, is_on_lost, is_passed, leaves_unheard}
 use Rattle.lsp_verdict.specs.Offences.{is_reopened, is_unheard, kept_of, left_by, may_answer}
 use Rattle.lsp_verdict.specs.Offences.{passes, rule_at, said_at}
 use Rattle.lsp_verdict.specs.Placed.{Raw, Reads, broken, content, show}
@@ -66,9 +66,10 @@ broken_pushed terms notes n =
     (may_answer (kept_of terms (events_of notes)) n.event))
 
 unheard_at : (o : Option ℕ) (e : Event)
-    → is_some (if is_initialized_by e then o else None) ≡ unheard_with o e
-unheard_at None e = ap is_some (if_same (is_initialized_by e) None)
-unheard_at (Some rule) e = if_some (is_initialized_by e) rule
+    → is_some (option_and_then (λ rule. if leaves_unheard rule e then Some rule else None) o)
+    ≡ unheard_with o e
+unheard_at None e = refl
+unheard_at (Some rule) e = if_some (leaves_unheard rule e) rule
 
 pub unheard_pushed : (terms : Terms) (notes : List Noted) (n : Noted)
     → is_unheard terms (notes ++ n ∷ [])

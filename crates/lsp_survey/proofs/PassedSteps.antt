@@ -20,6 +20,7 @@ use Rattle.lsp_types.specs.declared.side.Side.TheVariants.{Editor, Server}
 use Rattle.lsp_verdict.specs.Event.{Event, fault}
 use Rattle.lsp_verdict.specs.Offences.{Noted, answered_by, asked_by, asked_from, follows_passed}
 use Rattle.lsp_verdict.specs.Offences.{is_any_passed, is_initialized_by, is_passed, is_unheard}
+use Rattle.lsp_verdict.specs.Offences.{leaves_unheard}
 use Rattle.lsp_verdict.specs.Offences.{passes, request_id, tells_initialized}
 use Rattle.lsp_survey.specs.Notes.{asked_in, ArePassed, Passes, SetsRequest, SetsAny, has_any}
 use Rattle.lsp_survey.specs.Notes.{has_passed}
@@ -116,6 +117,13 @@ module _ (by : Side) (said : Message) (event : Event) (is : IsMessageOf by said 
       ∙ ap tells_initialized (sym is.3) ∙ tells_alike is.0.message)
       ∙ ap (λ s. same_side Editor s && tells_initialized is.0.message) (sym is.2)
       ∙ ap is_initialized_by (sym is.1)
+
+  -- it leaves the server without an `initialized`
+  pub message_unheard : (rule : ℕ)
+      → (is_initialized_by event || rule == rules.INITIALIZED_NOT_FIRST) ≡ leaves_unheard rule event
+  message_unheard rule =
+      ap (λ e. is_initialized_by e || rule == rules.INITIALIZED_NOT_FIRST) is.1
+      ∙ ap (leaves_unheard rule) (sym is.1)
 
   same_id_in : response_id said ≡ response_id is.0.message
   same_id_in = sym (answered_alike said) ∙ ap response_id (sym is.3) ∙ answered_alike is.0.message

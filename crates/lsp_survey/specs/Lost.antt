@@ -19,7 +19,7 @@ use Rattle.lsp_verdict.specs.Heard.{Heard, notes_of}
 use Rattle.lsp_verdict.specs.LookBack.{first_of}
 use Rattle.lsp_verdict.specs.Offences.{Noted, asks, breaks_handshake, broken_by}
 use Rattle.lsp_verdict.specs.Offences.{brought_by, events_of, follows, is_handshake_lost}
-use Rattle.lsp_verdict.specs.Offences.{is_initialized_by, is_lost, is_passed, is_reopened}
+use Rattle.lsp_verdict.specs.Offences.{is_lost, is_passed, is_reopened, leaves_unheard}
 use Rattle.lsp_verdict.specs.Offences.{is_unheard, kept_of, may_answer, wants_handshake, wants_text}
 use Rattle.lsp_verdict.specs.Placed.{Raw, broken, content, show}
 
@@ -60,10 +60,10 @@ abbrev pub breaks_by : Option ℕ → Option Message → Bool → Bool
 breaks_by None malformed answers = false
 breaks_by (Some rule) malformed answers = breaks_handshake (asks malformed) rule || answers
 
--- it is an `initialized` that is passed over
+-- an event that offends by this rule, or is kept, leaves the server without an `initialized`
 abbrev pub unheard_with : Option ℕ → Event → Bool
 unheard_with None event = false
-unheard_with (Some rule) event = is_initialized_by event
+unheard_with (Some rule) event = leaves_unheard rule event
 
 -- **this event, which offends by this rule or is kept, was noted after these**: where its content
 -- is malformed it is this message, and it says this about a document

@@ -135,7 +135,7 @@ impl Losses {
         let follows = self.offend_call(held, rule, said, late)?;
         self.sides = self.sides.after_message(side);
         self.passed.note(side, rule, message)?;
-        self.unheard |= is_initialized(side, message);
+        self.unheard |= is_initialized(side, message) | (rule == rules::INITIALIZED_NOT_FIRST);
         Ok(follows)
     }
 

@@ -290,7 +290,7 @@ abbrev pub is_any_passed : Terms → Side → Option Ident → List Noted → Bo
 is_any_passed terms side None before = false
 is_any_passed terms side (Some id) before = is_passed terms side id before
 
--- ---- `initialized` is passed over
+-- ---- `initialized` is passed over, or missing
 
 -- the message is a notification `initialized`
 abbrev pub tells_initialized : Message → Bool
@@ -304,16 +304,26 @@ is_initialized_by (message m) = same_side Editor m.side && tells_initialized m.m
 is_initialized_by (fault side rule) = false
 is_initialized_by (snapshot uri number text) = false
 
+-- an event that offends by this rule leaves the server without an `initialized`: it is one, or
+-- wants one before it
+abbrev pub leaves_unheard : ℕ → Event → Bool
+leaves_unheard rule (message m) =
+    is_initialized_by (message m) || rule == rules.INITIALIZED_NOT_FIRST
+leaves_unheard rule (fault side code) = false
+leaves_unheard rule (snapshot uri number text) = false
+
 abbrev pub unheard_by : Terms → List Noted → Noted → Option ℕ
 unheard_by terms before n =
-    if is_initialized_by n.event then rule_at terms (events_of before) n.event else None
+    option_and_then (λ rule. if leaves_unheard rule n.event then Some rule else None)
+    (rule_at terms (events_of before) n.event)
 
--- **the editor's `initialized` was passed over**: once one is kept, no 403 is broken any more
+-- **the editor's `initialized` was passed over, or is missing**: once one is kept, no 403 is broken
+-- any more
 abbrev pub is_unheard : Terms → List Noted → Bool
 is_unheard terms before = is_some (first_of (unheard_by terms) before)
 
 -- **an offence of this event, by this rule, follows from a message that was passed over**: it is
--- the answer to a request, or wants `initialized` before it
+-- the answer to a request, or wants `initialized` before it, as an earlier one did in vain
 abbrev pub follows_passed : Terms → ℕ → List Noted → Event → Bool
 follows_passed terms rule before (message m) =
     rule == rules.RESPONSE_TO_NO_OPEN_REQUEST

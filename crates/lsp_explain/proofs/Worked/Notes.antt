@@ -9,6 +9,7 @@ use Rattle.json.specs.Lex.{punctuate, lex}
 use Rattle.json.specs.Text.{content}
 use Rattle.json.specs.Word.{word, after_number}
 use Rattle.json.specs.Print.{escape_byte}
+use Rattle.percent_encoding.specs.Percent.{percent_decode}
 use Rattle.serde_json.specs.Read.{number_of}
 use Rattle.lsp_verdict.specs.Event.{Event}
 use Rattle.lsp_verdict.specs.Verdict.{no, summary, yes}
@@ -164,6 +165,34 @@ closed_since : notes_before (OPENED ++ ABOUT ∷ CLOSE ∷ REFUSED ∷ []) ≡ [
 unfolding value punctuate lex content word after_number number_of scan_numeral chars digits
     escape_byte use_of use_among standard
 closed_since = refl
+
+-- ---- documents under another spelling
+
+abbrev DIAG : List ℕ → Event
+DIAG uri =
+    S (codes "{\"jsonrpc\":\"2.0\",\"method\":\"textDocument/publishDiagnostics\",\"params\":{\"uri\":\"" ++ uri ++ codes "\",\"diagnostics\":[]}}")
+
+abbrev AB : Event
+AB = OPEN (codes "1") (codes "ab")
+
+-- once for each
+spelled_otherwise : notes_before (START ++ AB ∷ DIAG (codes "file:///%61") ∷ DIAG (codes "file:///A")
+    ∷ DIAG (codes "file:///%61") ∷ [])
+    ≡ codes "note similar \"file:///%61\" \"file:///a\" event 5 server 2\n"
+    ++ codes "note similar \"file:///A\" \"file:///a\" event 6 server 3\nnotes 2\n"
+unfolding value punctuate lex content word after_number number_of scan_numeral chars digits
+    escape_byte use_of use_among standard percent_decode
+spelled_otherwise = refl
+
+as_it_is : notes_before (START ++ AB ∷ DIAG (codes "file:///a") ∷ DIAG (codes "file:///b") ∷ []) ≡ []
+unfolding value punctuate lex content word after_number number_of scan_numeral chars digits
+    escape_byte use_of use_among standard percent_decode
+as_it_is = refl
+
+closed_already : notes_before (START ++ AB ∷ CLOSE ∷ DIAG (codes "file:///A") ∷ []) ≡ []
+unfolding value punctuate lex content word after_number number_of scan_numeral chars digits
+    escape_byte use_of use_among standard percent_decode
+closed_already = refl
 
 -- ---- snapshots
 

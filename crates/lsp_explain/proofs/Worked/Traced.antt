@@ -17,7 +17,7 @@ use Rattle.lsp_rpc.specs.Ident.{number, text}
 use Rattle.lsp_explain.specs.Asking.{numbered}
 use Rattle.lsp_verdict.specs.Event.{Event}
 use Rattle.lsp_verdict.proofs.Worked.Templates.{terms, I1, N1, START, OPEN, CHG, FULL, REP, CLOSE}
-use Rattle.lsp_verdict.proofs.Worked.Templates.{REQ, RES, ERR, T}
+use Rattle.lsp_verdict.proofs.Worked.Templates.{REQ, RES, ERR, SAVE, T}
 use Rattle.lsp_facts.specs.Fact.{fact_lines, holds}
 use Rattle.lsp_explain.specs.Traced.{earlier_at, lack_traced, traced, twin, is_spelled}
 use Rattle.lsp_verdict.specs.Spelling.{folded}
@@ -181,6 +181,61 @@ not_opened : with_events 602 START (CHG (codes "2") (FULL (codes "x"))) ≡ code
 unfolding value punctuate lex content word after_number number_of scan_numeral chars digits
     escape_byte percent_decode
 not_opened = refl
+
+saved_unopened : with_events 602 (START ++ SAVE (codes "x") ∷ []) (CHG (codes "2") [])
+    ≡ codes "opened never\nsaved-as event 4 editor 3\n"
+unfolding value punctuate lex content word after_number number_of scan_numeral chars digits
+    escape_byte percent_decode
+saved_unopened = refl
+
+-- only a closing after which it was saved may stand before it
+saved_since : with_events 602
+    (START ++ OPEN (codes "1") (codes "ab") ∷ CLOSE ∷ SAVE (codes "x") ∷ []) CLOSE
+    ≡ codes "closed event 5 editor 4\nsaved-as event 6 editor 5\n"
+unfolding value punctuate lex content word after_number number_of scan_numeral chars digits
+    escape_byte percent_decode
+saved_since = refl
+
+saved_before : with_events 602
+    (START ++ SAVE (codes "x") ∷ OPEN (codes "1") (codes "ab") ∷ CLOSE ∷ []) CLOSE
+    ≡ codes "closed event 6 editor 5\n"
+unfolding value punctuate lex content word after_number number_of scan_numeral chars digits
+    escape_byte percent_decode
+saved_before = refl
+
+-- ---- a version that does not rise
+
+abbrev PUT : List ℕ → List ℕ → Event
+PUT version text = CHG version (REP (codes "0") (codes "0") (codes "0") (codes "1") text)
+
+sent_twice : with_events 603
+    (START ++ OPEN (codes "1") (codes "ab") ∷ PUT (codes "2") (codes "x") ∷ [])
+    (PUT (codes "2") (codes "x")) ≡ codes "same event 5 editor 4\n"
+unfolding value punctuate lex content word after_number number_of scan_numeral chars digits
+    escape_byte
+sent_twice = refl
+
+of_another_text : with_events 603
+    (START ++ OPEN (codes "1") (codes "ab") ∷ PUT (codes "2") (codes "x") ∷ [])
+    (PUT (codes "2") (codes "y")) ≡ []
+unfolding value punctuate lex content word after_number number_of scan_numeral chars digits
+    escape_byte
+of_another_text = refl
+
+exchanged : with_events 603
+    (START ++ OPEN (codes "1") (codes "ab") ∷ PUT (codes "3") (codes "x") ∷ PUT (codes "4")
+    (codes "y") ∷ []) (PUT (codes "2") (codes "x")) ≡ codes "precedes 3 event 5 editor 4\n"
+unfolding value punctuate lex content word after_number number_of scan_numeral chars digits
+    escape_byte
+exchanged = refl
+
+-- the first one opened it
+below_the_first : with_events 603
+    (START ++ OPEN (codes "5") (codes "ab") ∷ PUT (codes "6") (codes "x") ∷ [])
+    (PUT (codes "4") (codes "x")) ≡ []
+unfolding value punctuate lex content word after_number number_of scan_numeral chars digits
+    escape_byte
+below_the_first = refl
 
 -- the other is at most three times as long, and differs in its spelling alone
 abbrev is_similar : List ℕ → List ℕ → Bool

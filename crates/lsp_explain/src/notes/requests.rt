@@ -1,23 +1,20 @@
 //! The last requests of the editor, and which documents they name.
-ghost use Rattle.std.specs.Prelude.{◌≡◌, ◌==◌, [], IfOk, OnOk, codes, option_map};
-ghost use Rattle.std.specs.Prelude.{None, string_bytes};
+ghost use Rattle.std.specs.Prelude.{◌≡◌, ◌==◌, [], IfOk, OnOk, option_map, string_bytes};
 ghost use Rattle.std.specs.List.{cons_option};
-ghost use Rattle.serde_json.specs.Errors.{IsMemory};
-ghost use Rattle.serde_json.specs.View.{view};
 ghost use Rattle.lsp_explain.specs.History.{last_that};
+ghost use Rattle.lsp_outline.specs.Named.{named_in};
 ghost use Rattle.lsp_explain.specs.Refusals as spec;
-ghost use Rattle.lsp_explain.specs.Refusals.{Holds, named_in, named_view, request_view, requests_view};
+ghost use Rattle.lsp_explain.specs.Refusals.{Holds, named_view, request_view, requests_view};
 ghost use Rattle.lsp_rpc.specs.Message.{Message as AMessage};
 ghost use Rattle.lsp_rpc.specs.Outline.{outline};
-ghost use Rattle.lsp_rpc.specs.Params.{required};
 ghost use Rattle.lsp_rpc.specs.Reading.{Reads};
 ghost use Rattle.lsp_rpc.specs.View.{message_view};
 ghost use Rattle.lsp_types.specs.declared.side.Side.TheVariants.{Editor};
 
-use crate::trail::{push_within, text_at};
+use crate::trail::push_within;
+use lsp_outline::document_of;
 use lsp_replay::EventPlace;
-use lsp_rpc::{Memory, Message, Result};
-use serde_json::{Error, Value};
+use lsp_rpc::{Message, Result, Side};
 use std::alloc::Global;
 use std::collections::VecDeque;
 
@@ -54,7 +51,9 @@ impl Request {
             ≡ (request_view self.now).document) }
     {
         match &self.named {
-            Named::Content(content) => document_of(*content.allocator(), content.as_slice()),
+            Named::Content(content) => {
+                document_of(*content.allocator(), Side::Editor, content.as_slice())
+            }
             Named::Document(uri) => copy_of(uri),
         }
     }
@@ -110,52 +109,13 @@ fn is_request(message: &Message) -> bool
 
 /// What is held of the request of a content.
 fn held(alloc: Global, content: &[u8]) -> Result<Named>
-    ensures { IfOk result (λ named. named_view named ≡ named_in content.now) }
+    ensures { IfOk result (λ named. named_view named ≡ named_in Editor content.now) }
 {
     if content.len() > MOST_BYTES {
-        return Ok(Named::Document(document_of(alloc, content)?));
+        let uri = document_of(alloc, Side::Editor, content)?;
+        return Ok(Named::Document(uri));
     }
     Ok(Named::Content(Vec::from_slice(alloc, content)?))
-}
-
-/// The document that the request of a content names. It reads the content again, with its params.
-fn document_of(alloc: Global, content: &[u8]) -> Result<Option<String>>
-    ensures { IfOk result (λ uri. option_map string_bytes uri ≡ named_in content.now) }
-{
-    match Value::from_slice(alloc, content) {
-        Ok(value) => copy_document(alloc, &value),
-        Err(error) => unread(&error),
-    }
-}
-
-/// No document, where a content is not a JSON text, or that memory was refused.
-fn unread(error: &Error) -> Result<Option<String>>
-    ensures { IfOk result (λ uri. (¬ IsMemory error.now) × (uri ≡ None)) }
-{
-    if error.is_memory() {
-        Err(Memory)
-    } else {
-        Ok(None)
-    }
-}
-
-/// A copy of the URI of the document that the request of this value names.
-fn copy_document(alloc: Global, value: &Value) -> Result<Option<String>>
-    ensures { IfOk result (λ uri. option_map string_bytes uri
-        ≡ required (codes "params") spec.document_in (view value.now)) }
-{
-    match document_in(value) {
-        Some(uri) => Ok(Some(String::from_str(alloc, uri)?)),
-        None => Ok(None),
-    }
-}
-
-/// The URI of the document that the request of this value names.
-fn document_in(value: &Value) -> Option<&str>
-    ensures { option_map (λ uri. uri.now) result
-        ≡ required (codes "params") spec.document_in (view value.now) }
-{
-    text_at(value.get("params")?.get("textDocument")?, "uri")
 }
 
 fn copy_of(uri: &Option<String>) -> Result<Option<String>>

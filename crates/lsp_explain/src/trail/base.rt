@@ -170,7 +170,7 @@ fn size_of_changes(changes: &[Change]) -> u64
 }
 
 /// How much of this room these changes leave, if there is enough for them.
-fn room_after(room: u64, changes: &[Change]) -> Option<u64>
+pub(crate) fn room_after(room: u64, changes: &[Change]) -> Option<u64>
     ensures { MatchOption result (room < edits_size (edits_of changes.now))
         (λ left. left + edits_size (edits_of changes.now) ≡ room) }
 {
@@ -203,7 +203,7 @@ fn drop_until(sent: &mut Vec<SentChanges>, version: i32)
 }
 
 /// Copies of changes.
-fn copies_of(alloc: Global, changes: &[Change]) -> Result<Vec<Change>, AllocError>
+pub(crate) fn copies_of(alloc: Global, changes: &[Change]) -> Result<Vec<Change>, AllocError>
     ensures { IfOk result (λ copies. edits_of copies.items ≡ edits_of changes.now) }
 {
     let mut copies = Vec::with_capacity(alloc, changes.len())?;

@@ -148,7 +148,7 @@ fn closing_by(all: bool, last: Option<EventPlace>) -> Closing
 }
 
 /// The place of the last of these messages about the document of this URI.
-fn last_on(held: &VecDeque<DocumentEvent>, uri: &str) -> Option<EventPlace>
+pub(crate) fn last_on(held: &VecDeque<DocumentEvent>, uri: &str) -> Option<EventPlace>
     ensures { result ≡ last_on uri.now (ons_view held.now.items) }
 {
     let (first, second) = held.as_slices();
@@ -167,7 +167,7 @@ fn last_in<'a>(held: &'a [DocumentEvent], uri: &str) -> Option<&'a DocumentEvent
 }
 
 /// Adds a message after the others, of which the last ones stay.
-fn push(
+pub(crate) fn push(
     held: &mut VecDeque<DocumentEvent>,
     most: usize,
     uri: &str,

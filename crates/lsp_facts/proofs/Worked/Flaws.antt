@@ -1,6 +1,6 @@
 -- What is said of streams and logs that have a fault.
 use Rattle.std.proofs.Common.{◌≡◌, ◌∷◌, [], refl}
-use Rattle.std.specs.Prelude.{codes, Some}
+use Rattle.std.specs.Prelude.{codes, false, Some, true}
 use Rattle.std.specs.Str.{chars, is_utf8}
 use Rattle.std.specs.Str.Lossy.{utf8_valid_len}
 use Rattle.std.specs.Fmt.{digits}
@@ -13,6 +13,7 @@ use Rattle.lsp_log.specs.Log.{chunk}
 use Rattle.lsp_log.specs.declared.fault.LogCode.TheVariants.{L2}
 use Rattle.lsp_facts.specs.EventFacts.{frame_facts, log_facts, front_facts}
 use Rattle.lsp_facts.specs.Fact.{fact_lines}
+use Rattle.lsp_facts.specs.FrameFronts.{may_go_on}
 
 -- the header part alone, whatever follows
 a_misspelt_field : fact_lines (frame_facts (codes "Content-Lenght: 2\r\n\r\n{}Content")) ≡ codes "begins \"Content-Lenght: 2\\r\\n\\r\\n\"\n"
@@ -31,3 +32,26 @@ an_unfinished_frame = refl
 a_bad_record : fact_lines (log_facts profile (codes "lsp-session 1\nE 3\nabc\nX 4\nabcd\n") (Some One) (chunk Editor (codes "abc") ∷ []) (Some (2, L2))) ≡ codes "record 2\nbyte 22\nfound \"X 4\\n\"\n"
 unfolding utf8_valid_len is_utf8 chars encode digits escape_byte
 a_bad_record = refl
+
+-- ---- what may become a frame
+
+in_a_name : may_go_on (codes "Content-Le") ≡ true
+in_a_name = refl
+
+in_a_value : may_go_on (codes "Content-Length: 9\r\nContent-Type:") ≡ true
+in_a_value = refl
+
+in_a_line_end : may_go_on (codes "Content-Length: 9\r\n\r") ≡ true
+in_a_line_end = refl
+
+in_a_content : may_go_on (codes "Content-Length: 9\r\n\r\nno field\n") ≡ true
+in_a_content = refl
+
+line_feeds_alone : may_go_on (codes "Content-Length: 9\n\n{}") ≡ false
+line_feeds_alone = refl
+
+printed : may_go_on (codes "clangd version 14") ≡ false
+printed = refl
+
+nothing_there : may_go_on [] ≡ true
+nothing_there = refl

@@ -27,7 +27,7 @@ use Rattle.lsp_verdict.specs.Offences.{has_broken, unread_by, is_unread}
 use Rattle.lsp_verdict.specs.Offences.{wants_other, follows_bytes, wants_handshake, wants_text}
 use Rattle.lsp_verdict.specs.Offences.{is_on_lost, asked_by, answered_by, passes, passed_by}
 use Rattle.lsp_verdict.specs.Offences.{is_passed, is_any_passed, follows_passed, follows}
-use Rattle.lsp_verdict.specs.Offences.{is_initialized_by, is_unheard, unheard_by}
+use Rattle.lsp_verdict.specs.Offences.{is_unheard, leaves_unheard, unheard_by}
 use Rattle.lsp_verdict.specs.Offences.{offence_by, offence_at, offences}
 use Rattle.lsp_verdict.specs.Verdict.{Verdict, offence, no_by, no_at, first_no}
 use Rattle.lsp_verdict.proofs.Finding.{nothing_from, nothing_at, map_none, not_empty}
@@ -271,16 +271,13 @@ none_passed terms side id before clean =
     (ap (λ (ns : List Noted). first_of (no_at terms) (events_of ns)) (sym cut) ∙ clean)) in
     absurd (cc (sym passed ∙ none)))
 
-either_none : (b : Bool) (o : Option ℕ) → o ≡ None → (if b then o else None) ≡ None
-either_none true o none = none
-either_none false o none = refl
-
 none_unheard : (terms : Terms) (before : List Noted) → IsClean terms before
     → is_unheard terms before ≡ false
 none_unheard terms before clean =
     ap (λ (o : Option ℕ). is_some o) (nothing_from (unheard_by terms) [] before
-    (λ front after n cut. either_none (is_initialized_by n.event)
-    (rule_at terms (events_of front) n.event) (clean_rule terms front after n
+    (λ front after n cut. ap
+    (option_and_then (λ rule. if leaves_unheard rule n.event then Some rule else None))
+    (clean_rule terms front after n
     (ap (λ (ns : List Noted). first_of (no_at terms) (events_of ns)) (sym cut) ∙ clean))))
 
 no_answer : (terms : Terms) (rule : ℕ) (before : List Noted) (e : Event) → IsClean terms before

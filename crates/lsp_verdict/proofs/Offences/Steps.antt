@@ -61,7 +61,7 @@ some_or (Some x) b = refl
 pub broken-push : (terms : Terms) (notes : List Noted) (n : Noted) → is_some (first_of (broken_by terms) (notes ++ n ∷ [])) ≡ (is_some (first_of (broken_by terms) notes) || is_some (broken_by terms notes n))
 broken-push terms notes n = ap is_some (first_of-snoc (broken_by terms) notes n) ∙ some_or (first_of (broken_by terms) notes) (broken_by terms notes n)
 
--- an `initialized` was passed over by this event, or before
+-- an `initialized` was passed over by this event, or wanted in vain, or before
 pub unheard-push : (terms : Terms) (notes : List Noted) (n : Noted)
     → is_unheard terms (notes ++ n ∷ [])
     ≡ (is_unheard terms notes || is_some (unheard_by terms notes n))

@@ -7,7 +7,7 @@ use Rattle.lsp_verdict.specs.Report.{report}
 use Rattle.lsp_facts.specs.Fact.{fact_lines, detail_lines, end_event, usual_line}
 use Rattle.lsp_facts.specs.EventFacts.{side_by}
 use Rattle.lsp_explain.specs.ExplainRuns.{rests_held}
-use Rattle.lsp_explain.specs.Explained.{end_facts}
+use Rattle.lsp_explain.specs.Explained.{end_facts, end_usually}
 use Rattle.lsp_explain.specs.Trails.{terms_in}
 use Rattle.lsp_explain.proofs.Telling.{held_rest}
 use Rattle.lsp_explain.proofs.offence_facts.push_end.Goals as goal
@@ -23,11 +23,13 @@ returns c = on_ok_weaker c.push_details.result (λ says before stands.
     let before_it = string_bytes c.push_end_event.new.lines in
     let rest = c.rest.ensures ∙ ap (λ s. (decoder_of s c.args.log.now.streams).rest) c.side_by.ensures
     ∙ held_rest c.args.log.now (side_by end.who) in
+    let who = end_usually rests v in
     says
-    ∙ ap (λ fs. before_it ++ (fact_lines fs ++ usual_line c.usual.result.now))
+    ∙ ap (λ fs. before_it ++ (fact_lines fs ++ usual_line c.end_usually.result.now))
     (c.in_ok-facts.ensures rests before end.who end.number end.event stands rest)
-    ∙ ap (λ (w : List ℕ). before_it ++ (fact_lines facts ++ usual_line w)) c.usual.ensures
-    ∙ ap (λ w. w ++ detail_lines facts v) (c.in_ok-push_end_event.ensures
+    ∙ ap (λ (w : List ℕ). before_it ++ (fact_lines facts ++ usual_line w))
+    (c.end_usually.ensures rests end.number end.event rest)
+    ∙ ap (λ w. w ++ detail_lines facts who) (c.in_ok-push_end_event.ensures
     ∙ ap (λ w. w ++ line) c.in_ok-push_report.ensures)
-    ∙ append_assoc (old ++ report v) line (detail_lines facts v)
-    ∙ append_assoc old (report v) (line ++ detail_lines facts v)) c.push_details.ensures
+    ∙ append_assoc (old ++ report v) line (detail_lines facts who)
+    ∙ append_assoc old (report v) (line ++ detail_lines facts who)) c.push_details.ensures

@@ -8,6 +8,7 @@ pass-requires g c = record {
     trail = c.new.ensures terms;
     misfits = c.new-2.ensures;
     refusals = c.new-3.ensures terms;
+    spellings = c.new-4.ensures terms;
     clean = refl;
   };
 }

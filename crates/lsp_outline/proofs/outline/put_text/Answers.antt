@@ -9,7 +9,7 @@ use Rattle.lsp_outline.proofs.outline.put_text.Goals as goal
 
 pub returns : goal.returns
 returns c =
-    let found = c.in_ok-parts_of_text.ensures in
+    let found = c.in_ok-text_into.ensures in
     let is = c.in_ok-put_message.ensures.left found.0 found.2 in
     let m = message_view c.put_message.new.message in
     let tells = subst (Tells found.0)

@@ -5,6 +5,7 @@ use Rattle.lsp_verdict.specs.Heard.{heard_events}
 use Rattle.lsp_explain.specs.Misfits.{AreMisfits, found_kept}
 use Rattle.lsp_explain.specs.Notes.{noticed, note_lines, notes_by}
 use Rattle.lsp_explain.specs.Refusals.{AreRefusals}
+use Rattle.lsp_explain.specs.Spellings.{AreSpellings}
 use Rattle.lsp_explain.proofs.Ending.{first_closes}
 use Rattle.lsp_explain.proofs.Telling.{stands_at}
 use Rattle.lsp_explain.proofs.run.FirstOffenceAccount.end.Goals as goal
@@ -23,5 +24,7 @@ returns c = record {
       (stands_at _ terms heard stands.trail stood)
       (subst (AreMisfits c.args.self.now.misfits) (sym (append-nil found)) stands.misfits)
       (subst (λ (t : Terms). AreRefusals t c.args.self.now.refusals (heard_events heard))
-      (sym stood.by) stands.refusals)));
+      (sym stood.by) stands.refusals)
+      (subst (λ (t : Terms). AreSpellings t c.args.self.now.spellings (heard_events heard))
+      (sym stood.by) stands.spellings)));
 }

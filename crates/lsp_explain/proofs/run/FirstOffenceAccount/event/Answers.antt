@@ -10,6 +10,7 @@ use Rattle.lsp_verdict.specs.Offences.{Offence}
 use Rattle.lsp_explain.specs.Misfits.{found_kept, found_refuted}
 use Rattle.lsp_explain.specs.Notes.{noticed, note_lines, notes_by}
 use Rattle.lsp_explain.specs.Refusals.{AreRefusals}
+use Rattle.lsp_explain.specs.Spellings.{AreSpellings}
 use Rattle.lsp_explain.proofs.AccountSteps.{first_kept, first_told}
 use Rattle.lsp_explain.proofs.Telling.{stands_before, told_of}
 use Rattle.lsp_explain.proofs.run.FirstOffenceAccount.event.Goals as goal
@@ -24,13 +25,18 @@ returns-in_default c = record {
       first_kept terms before h c.args.self.now _ stands (ShowsFault c.args.seen.now.raw)
       (string_bytes c.args.text.now) rule (c.in_ok-keep.ensures terms before h stands.trail seen)
       (c.in_ok-note_kept.ensures terms before h stands.misfits seen)
-      (c.in_ok-note_event.ensures terms before h stands.trail stands.refusals seen rule);
+      (c.in_ok-note_event.ensures terms before h stands.trail stands.refusals seen rule)
+      (c.in_ok-note_event-2.ensures terms before h stands.trail stands.spellings seen rule);
 }
 
 -- memory is refused
 pub returns-in_err-note_event-clause-memory : goal.returns-in_err-note_event-clause-memory
 returns-in_err-note_event-clause-memory c =
     on_err c.from_residual.result (λ terms before h stands seen. refl)
+
+pub returns-in_err-note_event-2-clause-memory : goal.returns-in_err-note_event-2-clause-memory
+returns-in_err-note_event-2-clause-memory c =
+    on_err c.from_residual-in_err-note_event-2.result (λ terms before h stands seen. refl)
 
 pub returns-in_err-keep-clause-memory : goal.returns-in_err-keep-clause-memory
 returns-in_err-keep-clause-memory c =
@@ -84,5 +90,7 @@ returns c = record {
       (stands_before _ terms before h rule stands.trail seen.stood has.0)
       (c.in_ok-note_refuted.ensures terms before h stands.misfits seen has.0)
       (subst (λ (t : Terms). AreRefusals t c.args.self.now.refusals (heard_events before))
-      (sym seen.stood.by) stands.refusals)));
+      (sym seen.stood.by) stands.refusals)
+      (subst (λ (t : Terms). AreSpellings t c.args.self.now.spellings (heard_events before))
+      (sym seen.stood.by) stands.spellings)));
 }

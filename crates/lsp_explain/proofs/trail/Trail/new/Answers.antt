@@ -7,5 +7,7 @@ returns c = λ terms. record {
   marked = c.new.ensures;
   opened = c.new-2.ensures;
   based = subst (λ es. AreBases terms es []) (sym c.new-3.ensures) (λ uri. (refl, refl));
-  said = c.new-4.ensures;
+  changed = c.new-4.ensures terms;
+  saved = c.new-5.ensures terms;
+  said = c.new-6.ensures;
 }

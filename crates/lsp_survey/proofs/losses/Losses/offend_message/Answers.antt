@@ -1,15 +1,16 @@
-use Rattle.std.specs.Prelude.{◌||◌, option_map}
+use Rattle.std.specs.Prelude.{◌||◌, ◌==◌, option_map}
 use Rattle.std.proofs.Common.{◌∙◌, Some, None, false, ap, subst}
 use Rattle.lsp_docs.specs.Documents.{Terms}
 use Rattle.lsp_docs.specs.Taken.{call_view}
 use Rattle.lsp_rpc.specs.View.{message_view}
+use Rattle.lsp_types.specs.declared.rules.TheConstants as rules
 use Rattle.lsp_survey.specs.Lost.{follows_of}
 use Rattle.lsp_survey.specs.Notes.{Leaves, Passes, is_noted_lost, sides_read}
 use Rattle.lsp_survey.specs.declared.losses.Losses.{Losses}
 use Rattle.lsp_survey.specs.declared.notes.passed.Passed.{Passed}
 use Rattle.lsp_verdict.specs.Event.{calls}
 use Rattle.lsp_verdict.specs.Offences.{breaks_handshake, events_of, is_reopened, kept_of}
-use Rattle.lsp_survey.proofs.PassedSteps.{message_initialized, message_passes}
+use Rattle.lsp_survey.proofs.PassedSteps.{message_initialized, message_passes, message_unheard}
 use Rattle.lsp_survey.proofs.SidesSteps.{message_after, message_answers}
 use Rattle.lsp_survey.proofs.losses.Losses.offend_message.Goals as goal
 
@@ -36,9 +37,12 @@ returns c = λ terms before event losses same holds is.
         passed = message_passes side message event is rule old.passed c.note.new.self
             (subst (λ (p : Passed). Passes rule side message p c.note.new.self)
             (ap (λ (l : Losses). l.passed) told.stays) c.in_ok-note.ensures);
-        unheard = ap (λ (l : Losses). l.unheard || c.is_initialized.result) told.stays
+        unheard = ap (λ (l : Losses). l.unheard
+            || (c.is_initialized.result || rule == rules.INITIALIZED_NOT_FIRST)) told.stays
             ∙ ap (λ b. old.unheard || b)
-            (c.is_initialized.ensures ∙ message_initialized side message event is);
+            (ap (λ b. b || rule == rules.INITIALIZED_NOT_FIRST)
+            (c.is_initialized.ensures ∙ message_initialized side message event is)
+            ∙ message_unheard side message event is rule);
         noted = subst (λ (t : Terms). Leaves (Some rule) None (is_reopened t (calls kept) said) said
             old.documents.map.entries c.offend_call.new.self.documents.map.entries) same
             (told.noted (calls kept) holds.called);

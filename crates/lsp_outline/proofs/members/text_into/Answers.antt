@@ -1,10 +1,10 @@
 use Rattle.std.proofs.Common.{arith}
 use Rattle.serde_json.specs.Data.{object}
 use Rattle.lsp_outline.proofs.Walking.{whole_value}
-use Rattle.lsp_outline.proofs.message.parts_of_text.Goals as goal
+use Rattle.lsp_outline.proofs.members.text_into.Goals as goal
 
 pub returns : goal.returns
-returns c =
+returns g c =
     let d = c.args.text.now in
     let bytes = c.as_bytes-bytes.ensures.value in
     let found = c.in_ok-end.ensures in
