@@ -1,2 +1,4 @@
+pub mod JsonLines
+pub mod JsonRows
 pub mod ReportWords
 pub mod Words
