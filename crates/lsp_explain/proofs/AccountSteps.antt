@@ -23,9 +23,9 @@ use Rattle.lsp_verdict.specs.declared.outcome.Outcome.TheVariants.{Judged}
 use Rattle.lsp_verdict.specs.declared.verdict.Verdict as code
 use Rattle.lsp_explain.specs.ExplainRuns.{AllStands, FirstStands, TellsOf, SaysCauses, SaysFirst}
 use Rattle.lsp_explain.specs.ExplainRuns.{all_run, cause_at, explain_run, first_lines, has_cause}
-use Rattle.lsp_explain.specs.ExplainRuns.{may_note}
+use Rattle.lsp_explain.specs.ExplainRuns.{may_keep}
 use Rattle.lsp_explain.specs.Explained.{cause_lines, is_cause, Breach, breach}
-use Rattle.lsp_explain.specs.Remarks.{noticed, remark_lines, remarks_of}
+use Rattle.lsp_explain.specs.Notes.{noticed, note_lines, notes_by}
 use Rattle.lsp_explain.specs.Trails.{IsTrail}
 use Rattle.lsp_explain.specs.declared.run.FirstOffence.{FirstOffence}
 use Rattle.lsp_explain.specs.declared.run_all.AllCauses.{AllCauses}
@@ -41,7 +41,7 @@ module _ (terms : Terms) (before : List Heard) (h : Heard) where
   lost_wants completeness rule lost =
       ap (λ b. b || has_cause (offence_at terms (notes_of before) h.note)) (by_raw h.raw lost)
     where
-      by_raw : (raw : Raw) → may_lose raw rule ≡ true → may_note raw ≡ true
+      by_raw : (raw : Raw) → may_lose raw rule ≡ true → may_keep raw ≡ true
       by_raw (content side bytes) lost = refl
       by_raw (broken side by) lost = absurd (cc lost)
       by_raw (show number uri text) lost = refl
@@ -54,7 +54,7 @@ module _ (terms : Terms) (before : List Heard) (h : Heard) where
       (by_raw h.raw noted kept)
     where
       by_raw : (raw : Raw) → IsNoted raw h.note → rule_of terms before h ≡ None
-          → may_note raw ≡ true
+          → may_keep raw ≡ true
       by_raw (content side bytes) noted kept = refl
       by_raw (broken side rule) noted kept =
           let same = sym (ap (λ (e : Event). rule_at terms events e) noted.0) ∙ kept in absurd (cc same)
@@ -65,7 +65,7 @@ module _ (terms : Terms) (before : List Heard) (h : Heard) where
       → rule_of terms before h ≡ Some rule → o ≡ offence_by terms (notes_of before) h.note rule
       → o.follows ≡ false → (all_run completeness).wants terms before h ≡ true
   cause_wants completeness rule o offends own none =
-      let noted = may_note h.raw in
+      let noted = may_keep h.raw in
       ap (λ (x : Option ℕ). noted || has_cause
       (option_map (offence_by terms (notes_of before) h.note) x)) offends
       ∙ ap (λ (x : Offence). noted || not x.follows) (sym own)
@@ -88,7 +88,7 @@ module _ (terms : Terms) (before : List Heard) (h : Heard) where
       goes = (
         ap is_some kept,
         record {
-          noted = trail;
+          trail = trail;
           clean = first_after terms before h stands.clean ∙ none_is terms before h kept;
         },
       );
@@ -99,12 +99,12 @@ module _ (terms : Terms) (before : List Heard) (h : Heard) where
         (mid new : List ℕ) → boxed.value ≡ Judged given → rule_of terms before h ≡ Some rule
         → verdict_view given ≡ no_by events h.note.event rule
         → TellsOf terms before h rule Fits old mid
-        → new ≡ mid ++ remark_lines (remarks_of (verdict_view given) (noticed terms events))
+        → new ≡ mid ++ note_lines (notes_by (verdict_view given) (noticed terms events))
         → Says (explain_run account.completeness) terms before h Fits old new Stands
         (Stop boxed)
     first_told Stands rule given boxed mid new is_boxed offends verdict told noted =
         let e = told.e in
-        let notes : Verdict → List ℕ = λ v. remark_lines (remarks_of v (noticed terms events)) in
+        let notes : Verdict → List ℕ = λ v. note_lines (notes_by v (noticed terms events)) in
         record {
           said = first_lines terms before e;
           added = noted ∙ ap (λ w. w ++ notes (verdict_view given)) told.added
@@ -165,7 +165,7 @@ module _ (terms : Terms) (before : List Heard) (h : Heard) where
         says_none (AllStands next terms (before ++ h ∷ [])) (no_cause kept) (record {
           lost = told.losses;
           tallied = kept_tally terms before h account.tally next.tally stands.tallied kept same;
-          noted = trail;
+          trail = trail;
         })
 
     -- it stands for one that offends
@@ -179,7 +179,7 @@ module _ (terms : Terms) (before : List Heard) (h : Heard) where
       lost = told.losses;
       tallied = offence_tally terms before h account.tally next.tally stands.tallied rule o offends
           own counts;
-      noted = trail;
+      trail = trail;
     }
 
     -- one that follows from an earlier one says nothing

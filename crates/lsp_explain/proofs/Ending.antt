@@ -48,7 +48,7 @@ use Rattle.lsp_explain.specs.ExplainRuns.{flaw_held, rests_held, all_run, end_ve
 use Rattle.lsp_explain.specs.ExplainRuns.{explain_run, flaw_at}
 use Rattle.lsp_explain.specs.Explained.{all_closing, cause_lines, Explained, end_explained}
 use Rattle.lsp_explain.specs.Explained.{explanation, flaw_lines, said_of}
-use Rattle.lsp_explain.specs.Remarks.{noticed, remark_lines, remarks_of}
+use Rattle.lsp_explain.specs.Notes.{noticed, note_lines, notes_by}
 
 -- ---- what is listed of the end says nothing of a side whose frames have a fault
 
@@ -164,20 +164,20 @@ module _ (completeness : Completeness) (terms : Terms) (heard : List Heard) (e :
   abbrev first_end : Option (ℕ × LogCode) → List Fact → List Verdict → List Explained → List ℕ
   first_end fault flaw ends said =
       explanation (map by_itself ends) (take 1 said) (bad_log_of fault) flaw (summary terms all)
-      ++ remark_lines (remarks_of (end_verdict terms heard fault ends) (noticed terms all))
+      ++ note_lines (notes_by (end_verdict terms heard fault ends) (noticed terms all))
 
   pub first_closes : (given : code.Verdict) (old mid new : List ℕ)
       → (mid ≡ old ++ explanation (map by_itself told)
       (take 1 (ends_said terms heard (rests_held e) told)) (bad_log_of (flaw_of end))
       (flaw_held e end) (summary terms all))
       × (verdict_view given ≡ end_verdict terms heard (flaw_of end) told)
-      → new ≡ mid ++ remark_lines (remarks_of (verdict_view given) (noticed terms all))
+      → new ≡ mid ++ note_lines (notes_by (verdict_view given) (noticed terms all))
       → Closes (explain_run completeness) terms heard (IsEnd e end heard) old new (Judged given)
   first_closes given old mid new (first, verdict) last =
       let plain = explanation (map by_itself told)
       (take 1 (ends_said terms heard (rests_held e) told)) (bad_log_of (flaw_of end))
       (flaw_held e end) (summary terms all) in
-      let notes : Verdict → List ℕ = λ v. remark_lines (remarks_of v (noticed terms all)) in
+      let notes : Verdict → List ℕ = λ v. note_lines (notes_by v (noticed terms all)) in
       let v = end_verdict terms heard (flaw_of end) told in
       record {
         said = plain ++ notes v;

@@ -33,7 +33,7 @@ use Rattle.lsp_survey.specs.SessionEnds.{ends_of}
 use Rattle.lsp_explain.specs.Explained.{AreExplained, Breach, Explained, IsWritten, breach}
 use Rattle.lsp_explain.specs.Explained.{breach_at, breaches, flaw_lines, noticed_before, said_of}
 use Rattle.lsp_explain.specs.Explained.{Explains, BeginsWithReport, YesIsReport}
-use Rattle.lsp_explain.specs.Remarks.{remark_lines, remarks_of}
+use Rattle.lsp_explain.specs.Notes.{note_lines, notes_by}
 use Rattle.lsp_explain.specs.ExplainRuns.{ends_said, flaw_at}
 
 -- ---- the verdict that is explained is that on the log
@@ -145,10 +145,10 @@ breaches-first terms hs later h rule clean is =
 pub begins_with_report : BeginsWithReport
 begins_with_report terms heard [] explained bad flaw s =
     let v = first_verdict [] bad s in
-    let notes = remark_lines (remarks_of v (noticed_before terms heard)) in
+    let notes = note_lines (notes_by v (noticed_before terms heard)) in
     (flaw_lines bad flaw ++ notes, append_assoc (report v) (flaw_lines bad flaw) notes)
 begins_with_report terms heard (o ∷ found) explained bad flaw s =
-    let notes = remark_lines (remarks_of o.no (noticed_before terms heard)) in (
+    let notes = note_lines (notes_by o.no (noticed_before terms heard)) in (
       flat_map said_of explained ++ notes,
       append_assoc (report o.no) (flat_map said_of explained) notes,
     )
@@ -165,9 +165,9 @@ plain_yes (Some (bad_log at code)) flaw s t is = absurd cc
 pub yes_is_report : YesIsReport
 yes_is_report terms heard (o ∷ found) explained bad flaw s t none is = absurd cc
 yes_is_report terms heard [] explained bad flaw s t none is =
-    ap (λ l. l ++ remark_lines (remarks_of (first_verdict [] bad s) (noticed_before terms heard)))
+    ap (λ l. l ++ note_lines (notes_by (first_verdict [] bad s) (noticed_before terms heard)))
     (plain_yes bad flaw s t is)
-    ∙ ap (λ v. report (yes t) ++ remark_lines (remarks_of v (noticed_before terms heard))) is
+    ∙ ap (λ v. report (yes t) ++ note_lines (notes_by v (noticed_before terms heard))) is
 
 -- ---- what is explained of a log of which all events were told
 

@@ -31,7 +31,7 @@ use Rattle.lsp_explain.specs.Explained.{BeginsExplanation, Breach, Explained, Ex
 use Rattle.lsp_explain.specs.Explained.{IsExplanation, WritesExplanation, before_first, breach}
 use Rattle.lsp_explain.specs.Explained.{breach_at, breaches, explanation, first_breach}
 use Rattle.lsp_explain.specs.Explained.{noticed_before, said_of}
-use Rattle.lsp_explain.specs.Remarks.{Noticed, noticed, remark_lines, remarks_of}
+use Rattle.lsp_explain.specs.Notes.{Noticed, noticed, note_lines, notes_by}
 use Rattle.lsp_explain.proofs.Explaining.{breaches-first, offence_of, offences_are, written_verdict}
 use Rattle.lsp_explain.proofs.Explaining.{clean_all, explained_told}
 use Rattle.lsp_explain.proofs.OneExplanation.{some_explanation}
@@ -65,7 +65,7 @@ module _ (completeness : Completeness) where
     ends = ends_of completeness terms p.heard p.tail
 
     abbrev notes_on : Verdict → Noticed → List ℕ
-    notes_on v n = remark_lines (remarks_of v n)
+    notes_on v n = note_lines (notes_by v n)
 
     abbrev Due : Verdict → List ℕ → Type 0
     Due v written = IsExplanation completeness limits log v written

@@ -23,10 +23,10 @@ use Rattle.lsp_replay.specs.declared.heard.EventPlace.{EventPlace}
 use Rattle.lsp_explain.specs.History.{last_ones, last_that, since_last, with_room, KeptCall, doing}
 use Rattle.lsp_explain.specs.History.{each_kept, kept_as, OnDocument, is_change, is_closing}
 use Rattle.lsp_explain.specs.History.{is_opening, is_showing}
-use Rattle.lsp_explain.specs.declared.notes.step.Step.{Step}
+use Rattle.lsp_explain.specs.declared.trail.step.Step.{Step}
 use Rattle.lsp_explain.specs.Openings.{OpenedBy, OpensBy, Touches, has_name, most_closings}
 use Rattle.lsp_explain.specs.Openings.{most_openings, names_view, touched, with_name}
-use Rattle.lsp_explain.specs.declared.notes.openings.Openings.{Openings}
+use Rattle.lsp_explain.specs.declared.trail.openings.Openings.{Openings}
 
 -- ---- so many as may be
 

@@ -25,11 +25,11 @@ use Rattle.lsp_explain.specs.Marking.{marked, most_setters, newer_of, next_rank,
 use Rattle.lsp_explain.specs.Marking.{reached, recent, setter_at, setters, stepped, waiting_at}
 use Rattle.lsp_explain.specs.Marking.{waiting_for, Marked, closes, is_about, unmarked, MarkedBy}
 use Rattle.lsp_explain.specs.Marking.{StepsOn, mark_view, marked_in}
-use Rattle.lsp_explain.specs.declared.notes.mark.VersionEvent.{VersionEvent}
-use Rattle.lsp_explain.specs.declared.notes.step.Step.{Step}
-use Rattle.lsp_explain.specs.declared.notes.step.Step.TheVariants.{Reaches, Closes, Shows}
+use Rattle.lsp_explain.specs.declared.trail.mark.VersionEvent.{VersionEvent}
+use Rattle.lsp_explain.specs.declared.trail.step.Step.{Step}
+use Rattle.lsp_explain.specs.declared.trail.step.Step.TheVariants.{Reaches, Closes, Shows}
 use Rattle.lsp_explain.proofs.History.{last_behind_all, since_last-push}
-use Rattle.lsp_explain.specs.declared.notes.mark.Mark.{Mark}
+use Rattle.lsp_explain.specs.declared.trail.mark.Mark.{Mark}
 
 -- ---- the equal snapshot of the greatest version
 

@@ -1,4 +1,4 @@
--- Marks and notes, worked on short lists.
+-- Marks, openings and answers, worked on short lists.
 use Rattle.std.proofs.Common.{◌≡◌, ℕ, ℤ, pos, true, false, List, [], ◌∷◌, ◌++◌, Some, None, refl}
 use Rattle.lsp_docs.specs.declared.snapshot.Match.TheVariants.{Equal, Waits}
 use Rattle.lsp_rpc.specs.Ident.{number}
@@ -6,9 +6,9 @@ use Rattle.lsp_explain.specs.Asking.{Reply, last_reply, replied}
 use Rattle.lsp_explain.specs.History.{last_ones, KeptCall, OnDocument, kept_call, on_document}
 use Rattle.lsp_explain.specs.Marking.{agreed, at_version, recent, standing, waiting_for}
 use Rattle.lsp_explain.specs.Openings.{closing_of}
-use Rattle.lsp_explain.specs.declared.notes.mark.VersionEvent.{VersionEvent}
-use Rattle.lsp_explain.specs.declared.notes.step.Step.TheVariants.{Closes, Reaches, Shows}
-use Rattle.lsp_explain.specs.declared.notes.openings.Closing.TheVariants as closing
+use Rattle.lsp_explain.specs.declared.trail.mark.VersionEvent.{VersionEvent}
+use Rattle.lsp_explain.specs.declared.trail.step.Step.TheVariants.{Closes, Reaches, Shows}
+use Rattle.lsp_explain.specs.declared.trail.openings.Closing.TheVariants as closing
 use Rattle.lsp_replay.specs.declared.heard.EventPlace.{EventPlace}
 use Rattle.lsp_verdict.specs.declared.verdict.Who.TheVariants.{Editor}
 

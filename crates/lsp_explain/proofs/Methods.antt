@@ -6,7 +6,7 @@ use Rattle.std.proofs.Common.{refl, sym, subst}
 use Rattle.std.proofs.lemmas.Slice.Eq.{bytes_eq-Decides}
 use Rattle.lsp_explain.specs.StandardMethods.{MethodsHaveRows, Row, RowsAreStandard}
 use Rattle.lsp_explain.specs.StandardMethods.{standard, table, use_among, use_of}
-use Rattle.lsp_explain.specs.declared.notes.standard_methods.MethodUse.{MethodUse}
+use Rattle.lsp_explain.specs.declared.trail.standard_methods.MethodUse.{MethodUse}
 
 -- these rows say the same of each method of those
 abbrev AreIn : List Row → List Row → Type 0

@@ -1,4 +1,4 @@
--- A message that says something of a document leaves what is noted of the session.
+-- A message that says something of a document leaves what is kept of the session.
 use Rattle.std.specs.Prelude.{◌&&◌, not, if◌then◌else◌, is_some, option_and_then, option_map}
 use Rattle.std.specs.Prelude.{option_to_list, unwrap_or}
 use Rattle.std.specs.Option.{option_or}
@@ -36,15 +36,15 @@ use Rattle.lsp_verdict.proofs.Offences.Quiet.{leaves_session}
 use Rattle.lsp_verdict.proofs.Offences.Steps.{kept-push}
 use Rattle.lsp_explain.specs.Asking.{asks, leads, most_replies, reply_of}
 use Rattle.lsp_explain.specs.History.{last_ones}
-use Rattle.lsp_explain.specs.SessionRemarks.{misuse_in, misused, misused_views, with_misuse}
-use Rattle.lsp_explain.specs.SessionRemarks.{abrupt, older_held, older_of}
+use Rattle.lsp_explain.specs.SessionNotes.{misuse_in, misused, misused_views, with_misuse}
+use Rattle.lsp_explain.specs.SessionNotes.{abrupt, older_held, older_of}
 use Rattle.lsp_explain.specs.Renames.{RenamesIn, moves_view, notifies_files, renamed_by}
 use Rattle.lsp_explain.specs.Renames.{renamed_held, tells_files}
-use Rattle.lsp_explain.specs.SessionNoting.{AreNotes, Exchanges, Says, place_in}
-use Rattle.lsp_explain.specs.declared.notes.exchange.Exchange.{Exchange}
-use Rattle.lsp_explain.specs.declared.notes.renames.Renames.{Renames}
-use Rattle.lsp_explain.specs.declared.notes.session_notes.SessionNotes.{SessionNotes}
-use Rattle.lsp_explain.proofs.SessionSteps.{message_noted, other_unsaid, sents-numbered}
+use Rattle.lsp_explain.specs.Conversations.{IsConversation, Exchanges, Says, place_in}
+use Rattle.lsp_explain.specs.declared.trail.exchange.Exchange.{Exchange}
+use Rattle.lsp_explain.specs.declared.trail.renames.Renames.{Renames}
+use Rattle.lsp_explain.specs.declared.trail.conversation.Conversation.{Conversation}
+use Rattle.lsp_explain.proofs.SessionSteps.{message_taken, other_unsaid, sents-numbered}
 use Rattle.lsp_explain.proofs.RenameSteps.{nothing_told}
 use Rattle.lsp_explain.proofs.Standard.{IsOnDocument, on_document}
 
@@ -104,7 +104,7 @@ quiet_state terms events m enc kind call kept_now means says =
     ∙ ap state_of (filter_map-append sent_of (kept_of terms events) (message m ∷ []))
     ∙ leaves_session sents m.side m.message m.act enc kind call means says
 
--- ---- what is noted
+-- ---- what is kept
 
 module _ (p : EventPlace) (side : Side) (said : Message) (heard : IsOnDocument side said) where
   asks_none : (own : Side) (id : Ident) → asks own id p side said ≡ None
@@ -148,8 +148,8 @@ module _ (p : EventPlace) (side : Side) (said : Message) (heard : IsOnDocument s
       by_side Server = refl
 
   -- it leaves all notes but those on files
-  quiet_says : (old : SessionNotes) (r : Renames) (before behind : List Sent)
-      → old.phase ≡ phase before → old.remarks.is_done ≡ is_done before
+  quiet_says : (old : Conversation) (r : Renames) (before behind : List Sent)
+      → old.phase ≡ phase before → old.notes.is_done ≡ is_done before
       → state_of behind ≡ state_of before
       → Says p side said (phase behind) (is_done behind) old (record old { renames = r })
   quiet_says old r before behind in_phase is_settled same = record {
@@ -158,42 +158,42 @@ module _ (p : EventPlace) (side : Side) (said : Message) (heard : IsOnDocument s
     phase_is = to_phase;
     since_is = ap (λ (o : Option (Option EventPlace)). unwrap_or o old.since)
         (sym (leads_none p old.phase) ∙ ap (leads p old.phase) to_phase);
-    remarked = record {
-      misuses_are = ap (with_misuse (misused_views old.remarks.misuses.items))
+    notes_more = record {
+      misuses_are = ap (with_misuse (misused_views old.notes.misuses.items))
           (sym misuse_none);
       abrupt_is = ap (λ (o : Option (Option EventPlace)).
-          unwrap_or o old.remarks.abrupt_exit)
+          unwrap_or o old.notes.abrupt_exit)
           (sym (abrupt_none p old.phase) ∙ ap (abrupt p old.phase) to_phase);
       done_is = to_done;
-      older_is = by_same old.remarks.is_done
-          ∙ ap (λ (d : Bool). if not old.remarks.is_done && d then older_of said else
-          older_held old.remarks) to_done;
+      older_is = by_same old.notes.is_done
+          ∙ ap (λ (d : Bool). if not old.notes.is_done && d then older_of said else
+          older_held old.notes) to_done;
     };
   }
     where
       to_phase : old.phase ≡ phase behind
       to_phase = in_phase ∙ sym (phase_kept behind before same)
 
-      to_done : old.remarks.is_done ≡ is_done behind
+      to_done : old.notes.is_done ≡ is_done behind
       to_done = is_settled ∙ sym (done_kept behind before same)
 
-      by_same : (d : Bool) → older_held old.remarks
-          ≡ (if not d && d then older_of said else older_held old.remarks)
+      by_same : (d : Bool) → older_held old.notes
+          ≡ (if not d && d then older_of said else older_held old.notes)
       by_same true = refl
       by_same false = refl
 
--- **a call leaves all that is noted of the session**, but which document was edited under an old
+-- **a call leaves all that is kept of the session**, but which document was edited under an old
 -- URI
-pub call_noted : (terms : Terms) (old : SessionNotes) (r : Renames) (events : List Event)
-    (e : Event) (raw : Raw) (p : EventPlace) (call : Call) → AreNotes terms old events
+pub call_taken : (terms : Terms) (old : Conversation) (r : Renames) (events : List Event)
+    (e : Event) (raw : Raw) (p : EventPlace) (call : Call) → IsConversation terms old events
     → rule_at terms events e ≡ None → Reads raw e → p ≡ place_of events e
     → call_at (kept_of terms events) e ≡ Some call → r.moves ≡ old.renames.moves
     → renamed_held r ≡ option_or (renamed_held old.renames)
     (renamed_by p (moves_view old.renames.moves.items) call)
-    → AreNotes terms (record old { renames = r }) (events ++ e ∷ [])
-call_noted terms old r events (fault side rule) raw p call are kept reads at says moves renamed =
+    → IsConversation terms (record old { renames = r }) (events ++ e ∷ [])
+call_taken terms old r events (fault side rule) raw p call are kept reads at says moves renamed =
     absurd (cc kept)
-call_noted terms old r events (snapshot uri number text) raw p call are kept reads at says moves
+call_taken terms old r events (snapshot uri number text) raw p call are kept reads at says moves
     renamed =
     let moved = moves_view old.renames.moves.items in
     let none : renamed_by p moved call ≡ None =
@@ -203,18 +203,18 @@ call_noted terms old r events (snapshot uri number text) raw p call are kept rea
       server = are.server;
       phase_is = are.phase_is;
       since_is = are.since_is;
-      remarks_are = are.remarks_are;
+      notes_are = are.notes_are;
       renames_are = record {
         moves_are = ap (λ w. moves_view w.items) moves ∙ are.renames_are.moves_are;
         renamed_is = renamed ∙ ap (option_or (renamed_held old.renames)) none
             ∙ option_or-none (renamed_held old.renames) ∙ are.renames_are.renamed_is;
       };
     }) kept refl
-call_noted terms old r events (message m) (broken side code) p call are kept reads at says moves
+call_taken terms old r events (message m) (broken side code) p call are kept reads at says moves
     renamed = absurd (cc reads)
-call_noted terms old r events (message m) (show uri number text) p call are kept reads at says moves
+call_taken terms old r events (message m) (show uri number text) p call are kept reads at says moves
     renamed = absurd (cc reads)
-call_noted terms old r events (message m) (content side bytes) p call are kept reads at says moves
+call_taken terms old r events (message m) (content side bytes) p call are kept reads at says moves
     renamed =
     let sents = sent_in (kept_of terms events) in
     let enc = unwrap_or (encoding sents) Utf16 in
@@ -230,11 +230,11 @@ call_noted terms old r events (message m) (content side bytes) p call are kept r
       standard = heard.standard;
       no_files = heard.no_files;
     } in
-    message_noted terms old (record old { renames = r }) events m bytes bare p are kept at
+    message_taken terms old (record old { renames = r }) events m bytes bare p are kept at
     reads.reads (ap outline heard.is ∙ sym (ap outline own.is)) (inr refl)
     (quiet_says p m.side bare own old r sents (sent_in (kept_of terms (events ++ message m ∷ [])))
     (are.phase_is ∙ ap phase (sents-numbered terms events))
-    (are.remarks_are.done_is ∙ ap is_done (sents-numbered terms events))
+    (are.notes_are.done_is ∙ ap is_done (sents-numbered terms events))
     (quiet_state terms events m enc kind call kept means says))
     (subst (λ o. RenamesIn p m.side bytes bare o old.renames r) (sym says)
     (nothing_told p m.side bytes bare (Some call) old.renames r r moves renamed

@@ -1,4 +1,4 @@
--- What is noted of renamed files, with one message more.
+-- What is kept of renamed files, with one message more.
 use Rattle.std.specs.Prelude.{◌||◌, if◌then◌else◌, option_and_then, string_bytes, String}
 use Rattle.std.specs.Global.{Global}
 use Rattle.std.specs.Option.{option_or}
@@ -28,8 +28,8 @@ use Rattle.lsp_explain.specs.Renames.{moves_at, moves_by, moves_in, moves_view}
 use Rattle.lsp_explain.specs.Renames.{notifies_files, or_none, renamed_at, renamed_by, renamed_held}
 use Rattle.lsp_explain.specs.Renames.{renames, renames_in, tells_files, uris_at}
 use Rattle.lsp_explain.specs.Openings.{names_view}
-use Rattle.lsp_explain.specs.declared.notes.renames.Move as held
-use Rattle.lsp_explain.specs.declared.notes.renames.Renames.{Renames}
+use Rattle.lsp_explain.specs.declared.trail.renames.Move as held
+use Rattle.lsp_explain.specs.declared.trail.renames.Renames.{Renames}
 
 -- ---- one message more
 

@@ -1,4 +1,4 @@
--- What is noted of requests and phases, and what is remarkable, with one message more.
+-- What is kept of requests and phases, and for the notes, with one message more.
 use Rattle.std.specs.Prelude.{if◌then◌else◌, ◌⊎◌, ◌&&◌, ◌||◌, not, string_bytes, option_and_then}
 use Rattle.std.specs.Prelude.{unwrap_or, is_some, map, option_map, option_to_list}
 use Rattle.std.specs.Option.{option_or}
@@ -40,18 +40,18 @@ use Rattle.lsp_docs.specs.Documents.{Terms}
 use Rattle.lsp_explain.specs.Asking.{Numbered, numbered_as, sents, Reply, asks, asks_by, leads}
 use Rattle.lsp_explain.specs.Asking.{leads_by, message_kept, most_replies, numbered, replies}
 use Rattle.lsp_explain.specs.Asking.{reply_by, reply_of}
-use Rattle.lsp_explain.specs.SessionRemarks.{Misused, has_method, misuse_at, misuse_in}
-use Rattle.lsp_explain.specs.SessionRemarks.{misused_views, misuses, misuses_after, with_misuse}
-use Rattle.lsp_explain.specs.SessionRemarks.{AreRemarks, Remarked, abrupt_by, older_held, older_in}
-use Rattle.lsp_explain.specs.SessionRemarks.{older_of}
-use Rattle.lsp_explain.specs.declared.notes.misuses.Misused as code
-use Rattle.lsp_explain.specs.declared.notes.remarks.Remarks.{Remarks}
+use Rattle.lsp_explain.specs.SessionNotes.{Misused, has_method, misuse_at, misuse_in}
+use Rattle.lsp_explain.specs.SessionNotes.{misused_views, misuses, misuses_after, with_misuse}
+use Rattle.lsp_explain.specs.SessionNotes.{AreNotes, NotesBy, abrupt_by, older_held, older_in}
+use Rattle.lsp_explain.specs.SessionNotes.{older_of}
+use Rattle.lsp_explain.specs.declared.trail.misuses.Misused as code
+use Rattle.lsp_explain.specs.declared.trail.notes.Notes.{Notes}
 use Rattle.lsp_explain.specs.History.{kept_as, last_ones}
 use Rattle.lsp_explain.specs.Renames.{RenamesBy, RenamesIn, call_by}
-use Rattle.lsp_explain.specs.SessionNoting.{AreNotes, Exchanges, IsExchange, Says, SessionStands}
-use Rattle.lsp_explain.specs.SessionNoting.{place_in}
-use Rattle.lsp_explain.specs.declared.notes.exchange.Exchange.{Exchange}
-use Rattle.lsp_explain.specs.declared.notes.session_notes.SessionNotes.{SessionNotes}
+use Rattle.lsp_explain.specs.Conversations.{IsConversation, Exchanges, IsExchange, Says, SessionStands}
+use Rattle.lsp_explain.specs.Conversations.{place_in}
+use Rattle.lsp_explain.specs.declared.trail.exchange.Exchange.{Exchange}
+use Rattle.lsp_explain.specs.declared.trail.conversation.Conversation.{Conversation}
 use Rattle.lsp_explain.proofs.History.{kept_more, refused_more}
 use Rattle.lsp_explain.proofs.RenameSteps.{renames_more}
 
@@ -63,7 +63,7 @@ pub or_if : {X : Type 0} (b : Bool) (x : X) (o : Option X)
 or_if true x o = refl
 or_if false x o = refl
 
--- ---- what is remarkable about messages, with one message more
+-- ---- what is kept for the notes, with one message more
 
 pub filter_map-snoc : {A X : Type 0} (f : A → Option X) (xs : List A) (x : A)
     → filter_map f (xs ++ x ∷ []) ≡ filter_map f xs ++ cons_option (f x) []
@@ -154,15 +154,15 @@ older_more None (Some s) said old new has are more =
 -- ---- one message more
 
 -- **what is held stands for it too**
-pub remarked : (p : EventPlace) (m : Sent) (said : Message) (before : List Numbered)
-    (old new : Remarks)
+pub notes_more : (p : EventPlace) (m : Sent) (said : Message) (before : List Numbered)
+    (old new : Notes)
     → outline m.message ≡ outline said
     → (open_initializes (sents before) ≡ []) ⊎ (said ≡ without_params m.message)
-    → AreRemarks old before
-    → Remarked p m.side said (phase (sents before)) (phase (sents (before ++ numbered_as p m ∷ [])))
+    → AreNotes old before
+    → NotesBy p m.side said (phase (sents before)) (phase (sents (before ++ numbered_as p m ∷ [])))
     (is_done (sents (before ++ numbered_as p m ∷ []))) old new
-    → AreRemarks new (before ++ numbered_as p m ∷ [])
-remarked p m said before old new same has_value are more = record {
+    → AreNotes new (before ++ numbered_as p m ∷ [])
+notes_more p m said before old new same has_value are more = record {
   misuses_are = misuse_more p m said before (misused_views old.misuses.items)
       (misused_views new.misuses.items) same are.misuses_are more.misuses_are;
   abrupt_is =
@@ -289,24 +289,24 @@ module _ (side : Side) (p : EventPlace) (m : Sent) (said : Message)
 -- ---- one event more
 
 -- **an event that offends leaves all notes**
-pub refused_unsaid : (terms : Terms) (s : SessionNotes) (before : List Event) (e : Event) (rule : ℕ)
-    → AreNotes terms s before → rule_at terms before e ≡ Some rule
-    → AreNotes terms s (before ++ e ∷ [])
+pub refused_unsaid : (terms : Terms) (s : Conversation) (before : List Event) (e : Event) (rule : ℕ)
+    → IsConversation terms s before → rule_at terms before e ≡ Some rule
+    → IsConversation terms s (before ++ e ∷ [])
 refused_unsaid terms s before e rule are is =
     subst (SessionStands s) (sym (refused_more message_kept terms before e rule is)) are
 
 -- so does one that is kept and no message
-pub other_unsaid : (terms : Terms) (s : SessionNotes) (before : List Event) (e : Event)
-    → AreNotes terms s before → rule_at terms before e ≡ None → sent_of e ≡ None
-    → AreNotes terms s (before ++ e ∷ [])
+pub other_unsaid : (terms : Terms) (s : Conversation) (before : List Event) (e : Event)
+    → IsConversation terms s before → rule_at terms before e ≡ None → sent_of e ≡ None
+    → IsConversation terms s (before ++ e ∷ [])
 other_unsaid terms s before e are kept is =
     subst (SessionStands s) (sym (kept_more message_kept terms before e (place_of before e) None kept
     refl (ap (option_map (numbered_as (place_of before e))) is)
     ∙ append-nil (numbered terms before))) are
 
 -- **a message that is kept**, which this content is
-pub message_noted : (terms : Terms) (old new : SessionNotes) (before : List Event) (m : Sent)
-    (bytes : List ℕ) (said : Message) (p : EventPlace) → AreNotes terms old before
+pub message_taken : (terms : Terms) (old new : Conversation) (before : List Event) (m : Sent)
+    (bytes : List ℕ) (said : Message) (p : EventPlace) → IsConversation terms old before
     → rule_at terms before (message m) ≡ None
     → p ≡ place_of before (message m) → Reads bytes m.message → outline m.message ≡ outline said
     → HasValue (kept_of terms before) said m.message
@@ -314,8 +314,8 @@ pub message_noted : (terms : Terms) (old new : SessionNotes) (before : List Even
     (is_done (sent_in (kept_of terms (before ++ message m ∷ [])))) old new
     → RenamesIn p m.side bytes said (call_at (kept_of terms before) (message m)) old.renames
     new.renames
-    → AreNotes terms new (before ++ message m ∷ [])
-message_noted terms old new before m bytes said p are kept number reads same has_value says
+    → IsConversation terms new (before ++ message m ∷ [])
+message_taken terms old new before m bytes said p are kept number reads same has_value says
     renamed =
     subst (SessionStands new) (sym whole) (record {
       editor = exchanged Editor p m said same old.editor new.editor ms are.editor says.editor;
@@ -326,9 +326,9 @@ message_noted terms old new before m bytes said p are kept number reads same has
           ∙ (λ i. unwrap_or (leads p (are.phase_is i) (behind i)) (are.since_is i))
           ∙ sym (ap (last_or None) (each_of-snoc leads_by ms (numbered_as p m))
           ∙ last_behind None (each_of leads_by ms) (leads_by ms (numbered_as p m)));
-      remarks_are = remarked p m said ms old.remarks new.remarks same value are.remarks_are
-          (subst (λ (q : Phase). Remarked p m.side said q (phase sents_behind)
-          (is_done sents_behind) old.remarks new.remarks) are.phase_is more);
+      notes_are = notes_more p m said ms old.notes new.notes same value are.notes_are
+          (subst (λ (q : Phase). NotesBy p m.side said q (phase sents_behind)
+          (is_done sents_behind) old.notes new.notes) are.phase_is more);
       renames_are = renames_more p m ms old.renames new.renames are.renames_are
           (subst (λ o. RenamesBy p m.side m.message o old.renames new.renames)
           (sym (called terms before m p)) (renamed m.message reads same));
@@ -354,7 +354,7 @@ message_noted terms old new before m bytes said p are kept number reads same has
     value = subst (λ (l : List Sent). (open_initializes l ≡ []) ⊎ (said ≡ without_params m.message))
         (sym (sents-numbered terms before)) has_value
 
-    more : Remarked p m.side said old.phase (phase sents_behind) (is_done sents_behind) old.remarks
-        new.remarks
-    more = subst (λ (l : List Sent). Remarked p m.side said old.phase (phase l) (is_done l)
-        old.remarks new.remarks) sents_are says.remarked
+    more : NotesBy p m.side said old.phase (phase sents_behind) (is_done sents_behind) old.notes
+        new.notes
+    more = subst (λ (l : List Sent). NotesBy p m.side said old.phase (phase l) (is_done l)
+        old.notes new.notes) sents_are says.notes_more

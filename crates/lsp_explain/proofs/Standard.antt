@@ -17,7 +17,7 @@ use Rattle.lsp_types.specs.declared.side.Side.{Side}
 use Rattle.lsp_types.specs.declared.side.Side.TheVariants.{Editor, Server}
 use Rattle.lsp_verdict.specs.Event.{call_of}
 use Rattle.lsp_verdict.proofs.Offences.Quiet.{IsNotified, IsPlain, is_notified}
-use Rattle.lsp_explain.specs.SessionRemarks.{notification_misuse}
+use Rattle.lsp_explain.specs.SessionNotes.{notification_misuse}
 use Rattle.lsp_explain.specs.StandardMethods.{standard, use_among, use_of}
 use Rattle.lsp_explain.specs.Renames.{is_on_files}
 

@@ -1,4 +1,4 @@
--- What is noted once one more event was told.
+-- The trail once one more event was told.
 use Rattle.std.specs.Borrow.{Bor}
 use Rattle.std.specs.Prelude.{option_and_then, Result, Ok, Err, OnOk}
 use Rattle.std.specs.List.{cons_option}
@@ -31,16 +31,16 @@ use Rattle.lsp_explain.specs.History.{KeptCall, call_kept, event_kept, kept_call
 use Rattle.lsp_explain.specs.Marking.{MarkedBy}
 use Rattle.lsp_explain.specs.Openings.{OpenedBy}
 use Rattle.lsp_explain.specs.Renames.{RenamesIn, moves_view, renamed_by, renamed_held}
-use Rattle.lsp_explain.specs.SessionNoting.{AreNotes, Says}
+use Rattle.lsp_explain.specs.Conversations.{IsConversation, Says}
 use Rattle.lsp_explain.specs.Trails.{IsTrail, Keeps}
-use Rattle.lsp_explain.specs.declared.notes.marks.Marks.{Marks}
-use Rattle.lsp_explain.specs.declared.notes.openings.Openings.{Openings}
-use Rattle.lsp_explain.specs.declared.notes.renames.Renames.{Renames}
-use Rattle.lsp_explain.specs.declared.notes.session_notes.SessionNotes.{SessionNotes}
+use Rattle.lsp_explain.specs.declared.trail.marks.Marks.{Marks}
+use Rattle.lsp_explain.specs.declared.trail.openings.Openings.{Openings}
+use Rattle.lsp_explain.specs.declared.trail.renames.Renames.{Renames}
+use Rattle.lsp_explain.specs.declared.trail.conversation.Conversation.{Conversation}
 use Rattle.lsp_explain.specs.declared.trail.Trail.{Trail}
 use Rattle.lsp_explain.proofs.History.{kept_more, refused_more}
-use Rattle.lsp_explain.proofs.Quiet.{call_noted}
-use Rattle.lsp_explain.proofs.SessionSteps.{message_noted, refused_unsaid}
+use Rattle.lsp_explain.proofs.Quiet.{call_taken}
+use Rattle.lsp_explain.proofs.SessionSteps.{message_taken, refused_unsaid}
 
 -- nothing more
 pub none_kept : (m : Marks) (o : Openings) → Keeps None m o m o
@@ -90,7 +90,7 @@ module _ (terms : Terms) (before : List Heard) (h : Heard) (old : Trail)
       subst (IsTrail terms old) (sym (events-push before h)) (record {
         marked = subst (MarkedBy old.marks.map.entries) (sym same) is.marked;
         opened = subst (OpenedBy old.openings) (sym same) is.opened;
-        noted = refused_unsaid terms old.said events h.note.event rule is.noted offends;
+        said = refused_unsaid terms old.said events h.note.event rule is.said offends;
       })
 
   module _ (new : Trail) (kept_here : rule_of terms before h ≡ None) (place : EventPlace)
@@ -99,9 +99,9 @@ module _ (terms : Terms) (before : List Heard) (h : Heard) (old : Trail)
     kept_so : (more : Option KeptCall)
         → event_kept terms place (kept_of terms events) h.note.event ≡ more
         → Keeps more old.marks old.openings new.marks new.openings
-        → AreNotes terms new.said (events ++ h.note.event ∷ [])
+        → IsConversation terms new.said (events ++ h.note.event ∷ [])
         → IsTrail terms new (heard_events (before ++ h ∷ []))
-    kept_so more does keeps noted =
+    kept_so more does keeps said =
         let whole : kept_calls terms (events ++ h.note.event ∷ [])
         ≡ kept_calls terms events ++ cons_option more [] =
         kept_more (event_kept terms) terms events h.note.event place more kept_here at does in
@@ -110,7 +110,7 @@ module _ (terms : Terms) (before : List Heard) (h : Heard) (old : Trail)
               (keeps.marked (kept_calls terms events) is.marked);
           opened = subst (OpenedBy new.openings) (sym whole)
               (keeps.opened (kept_calls terms events) is.opened);
-          noted = noted;
+          said = said;
         })
 
     -- one that says this about a document
@@ -127,8 +127,8 @@ module _ (terms : Terms) (before : List Heard) (h : Heard) (old : Trail)
         (ap (option_and_then (λ one. call_kept place one
         (took_by terms (calls (kept_of terms events)) one))) says
         ∙ ap (call_kept place call) (sym told)) keeps
-        (subst (λ (n : SessionNotes). AreNotes terms n (events ++ h.note.event ∷ [])) (sym same)
-        (call_noted terms old.said r events h.note.event h.raw place call is.noted kept_here reads at
+        (subst (λ (n : Conversation). IsConversation terms n (events ++ h.note.event ∷ [])) (sym same)
+        (call_taken terms old.said r events h.note.event h.raw place call is.said kept_here reads at
         says moves renamed))
 
     -- a message that says nothing of a document
@@ -163,9 +163,9 @@ module _ (terms : Terms) (before : List Heard) (h : Heard) (old : Trail)
         (subst (λ (m : Marks). Keeps None old.marks old.openings m new.openings) (sym marks)
         (subst (Keeps None old.marks old.openings old.marks) (sym openings)
         (none_kept old.marks old.openings)))
-        (subst (λ (e : Event). AreNotes terms new.said (events ++ e ∷ [])) (sym spoken.is)
-        (message_noted terms old.said new.said events sent bytes (message_view s.message) place
-        is.noted (ap (λ (e : Event). rule_at terms events e) (sym spoken.is) ∙ kept_here)
+        (subst (λ (e : Event). IsConversation terms new.said (events ++ e ∷ [])) (sym spoken.is)
+        (message_taken terms old.said new.said events sent bytes (message_view s.message) place
+        is.said (ap (λ (e : Event). rule_at terms events e) (sym spoken.is) ∙ kept_here)
         (at ∙ ap (λ (e : Event). place_of events e) spoken.is) own.reads spoken.says
         spoken.has_value here
         (subst (λ o. RenamesIn place sent.side bytes (message_view s.message) o old.said.renames

@@ -24,7 +24,7 @@ use Rattle.lsp_facts.specs.EventFacts.{flaw_facts}
 use Rattle.lsp_explain.specs.Asking.{numbered}
 use Rattle.lsp_explain.specs.Explained.{all_closing, cause_lines, is_cause, Breach, Explained}
 use Rattle.lsp_explain.specs.Explained.{Explains, breach_at, end_explained, explanation, breach}
-use Rattle.lsp_explain.specs.Remarks.{noticed, remark_lines, remarks_of}
+use Rattle.lsp_explain.specs.Notes.{noticed, note_lines, notes_by}
 use Rattle.lsp_explain.specs.Trails.{IsTrail}
 use Rattle.lsp_explain.specs.declared.run.FirstOffence.{FirstOffence}
 use Rattle.lsp_explain.specs.declared.run_all.AllCauses.{AllCauses}
@@ -34,7 +34,7 @@ use Rattle.lsp_explain.specs.declared.run_all.AllCauses.{AllCauses}
 -- what is said about it, and the notes on the messages before it
 abbrev pub first_lines : Terms → List Heard → Explained → List ℕ
 first_lines terms before e =
-    cause_lines e ++ remark_lines (remarks_of e.no (noticed terms (heard_events before)))
+    cause_lines e ++ note_lines (notes_by e.no (noticed terms (heard_events before)))
 
 -- where an event offends, this is said
 abbrev pub SaysFirst : Rests → Terms → Option Breach → List ℕ → Type 0
@@ -75,7 +75,7 @@ abbrev pub end_explanation : Terms → List Heard → Rests → Option (ℕ × L
 end_explanation terms heard rests fault flaw ends =
     explanation (map by_itself ends) (take 1 (ends_said terms heard rests ends))
     (bad_log_of fault) flaw (summary terms (heard_events heard))
-    ++ remark_lines (remarks_of (end_verdict terms heard fault ends)
+    ++ note_lines (notes_by (end_verdict terms heard fault ends)
     (noticed terms (heard_events heard)))
 
 -- what is said of the ends, and what closes the explanation
@@ -88,11 +88,11 @@ all_end terms heard rests fault flaw ends =
 
 -- ---- where memory may be wanted
 
--- something may have to be noted of it: nothing of a fault of the frames
-abbrev pub may_note : Raw → Bool
-may_note (content side bytes) = true
-may_note (broken side rule) = false
-may_note (show number uri text) = true
+-- something may have to be kept of it: nothing of a fault of the frames
+abbrev pub may_keep : Raw → Bool
+may_keep (content side bytes) = true
+may_keep (broken side rule) = false
+may_keep (show number uri text) = true
 
 -- there is an offence, which follows from no earlier one
 abbrev pub has_cause : Option Offence → Bool
@@ -121,7 +121,7 @@ abbrev pub all_run : Completeness → Run
 all_run completeness = record {
   says = λ terms rests before h out. SaysCauses rests terms (cause_at terms before h) out;
   wants = λ terms before h.
-      may_note h.raw || has_cause (offence_at terms (notes_of before) h.note);
+      may_keep h.raw || has_cause (offence_at terms (notes_of before) h.note);
   stops = λ terms before h. false;
   ends = λ terms before h outcome. ⊥;
   closes = λ terms heard tail out outcome.
@@ -135,14 +135,14 @@ all_run completeness = record {
 
 -- **the account of `explain` stands for these events**, none of which offends
 pub record FirstStands (a : FirstOffence) (terms : Terms) (heard : List Heard) : Type 0 where
-  pub noted : IsTrail terms a.trail (heard_events heard)
+  pub trail : IsTrail terms a.trail (heard_events heard)
   pub clean : first_no terms (heard_events heard) ≡ None
 
 -- **that of `explain --all`**, which may offend
 pub record AllStands (a : AllCauses) (terms : Terms) (heard : List Heard) : Type 0 where
   pub lost : AreLosses terms a.losses (notes_of heard)
   pub tallied : IsTally a.tally (offences terms (notes_of heard))
-  pub noted : IsTrail terms a.trail (heard_events heard)
+  pub trail : IsTrail terms a.trail (heard_events heard)
 
 -- it is said what the event is that offends by this rule, whatever rests the log has that fit
 pub record TellsOf (terms : Terms) (before : List Heard) (h : Heard) (rule : ℕ)

@@ -30,7 +30,7 @@ use Rattle.lsp_verdict.specs.declared.outcome.RunFault.TheVariants as faults
 use Rattle.lsp_facts.specs.EventFacts.{AreFacts, side_by, log_facts, front_facts}
 use Rattle.lsp_facts.specs.Fact.{Fact, detail_lines, event_line, end_event}
 use Rattle.lsp_replay.specs.declared.heard.EventPlace.{EventPlace}
-use Rattle.lsp_explain.specs.Remarks.{Noticed, noticed, remark_lines, remarks_of}
+use Rattle.lsp_explain.specs.Notes.{Noticed, noticed, note_lines, notes_by}
 use Rattle.lsp_explain.specs.Traced.{AreTraced, lack_traced, setter_at, traced}
 use Rattle.lsp_explain.specs.Asking.{Numbered, numbered}
 
@@ -134,7 +134,7 @@ abbrev pub noted_explanation : Terms → List Heard → List Offence → List Ex
     → List Fact → Summary → List ℕ
 noted_explanation terms heard found explained bad flaw s =
     explanation found explained bad flaw s
-    ++ remark_lines (remarks_of (first_verdict found bad s) (noticed_before terms heard))
+    ++ note_lines (notes_by (first_verdict found bad s) (noticed_before terms heard))
 
 -- ---- a log
 
@@ -306,7 +306,7 @@ YesIsReport =
     (bad : Option Verdict) (flaw : List Fact) (s t : Summary)
     → found ≡ [] → first_verdict found bad s ≡ yes t
     → noted_explanation terms heard found explained bad flaw s
-    ≡ report (yes t) ++ remark_lines (remarks_of (yes t) (noticed_before terms heard))
+    ≡ report (yes t) ++ note_lines (notes_by (yes t) (noticed_before terms heard))
 
 -- ---- laws: all that is wrong
 

@@ -13,8 +13,8 @@ use Rattle.lsp_verdict.specs.LookBack.{each_of}
 use Rattle.lsp_verdict.specs.Offences.{kept_of, rule_at}
 use Rattle.lsp_replay.specs.Lines.{place_of}
 use Rattle.lsp_replay.specs.declared.heard.EventPlace.{EventPlace}
-use Rattle.lsp_explain.specs.declared.notes.step.Step.{Step}
-use Rattle.lsp_explain.specs.declared.notes.step.Step.TheVariants.{Reaches, Closes, Shows}
+use Rattle.lsp_explain.specs.declared.trail.step.Step.{Step}
+use Rattle.lsp_explain.specs.declared.trail.step.Step.TheVariants.{Reaches, Closes, Shows}
 
 -- ---- the last ones of a list
 

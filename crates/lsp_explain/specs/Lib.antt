@@ -3,12 +3,12 @@ pub mod Asking
 pub mod Marking
 pub mod Openings
 pub mod StandardMethods
-pub mod SessionRemarks
+pub mod SessionNotes
 pub mod Renames
-pub mod SessionNoting
+pub mod Conversations
 pub mod Traced
 pub mod Trails
 pub mod Compared
-pub mod Remarks
+pub mod Notes
 pub mod ExplainRuns
 pub mod Explained

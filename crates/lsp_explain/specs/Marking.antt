@@ -18,10 +18,10 @@ use Rattle.lsp_replay.specs.declared.heard.EventPlace.{EventPlace}
 use Rattle.lsp_survey.specs.Notes.{held_by}
 use Rattle.lsp_explain.specs.History.{KeptCall, is_closing, kept_calls, last_ones, since_last}
 use Rattle.lsp_explain.specs.History.{with_room}
-use Rattle.lsp_explain.specs.declared.notes.mark.VersionEvent.{VersionEvent}
-use Rattle.lsp_explain.specs.declared.notes.step.Step.{Step}
-use Rattle.lsp_explain.specs.declared.notes.step.Step.TheVariants.{Reaches, Closes, Shows}
-use Rattle.lsp_explain.specs.declared.notes.mark.Mark.{Mark}
+use Rattle.lsp_explain.specs.declared.trail.mark.VersionEvent.{VersionEvent}
+use Rattle.lsp_explain.specs.declared.trail.step.Step.{Step}
+use Rattle.lsp_explain.specs.declared.trail.step.Step.TheVariants.{Reaches, Closes, Shows}
+use Rattle.lsp_explain.specs.declared.trail.mark.Mark.{Mark}
 
 -- ---- what was done to a document
 

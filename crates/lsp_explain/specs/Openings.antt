@@ -9,10 +9,10 @@ use Rattle.lsp_docs.specs.Documents.{Terms}
 use Rattle.lsp_verdict.specs.Event.{Event}
 use Rattle.lsp_explain.specs.History.{KeptCall, OnDocument, doing, is_change, is_closing}
 use Rattle.lsp_explain.specs.History.{is_opening, is_showing, kept_calls, last_ones, last_that}
-use Rattle.lsp_explain.specs.declared.notes.openings.Closing.{Closing}
-use Rattle.lsp_explain.specs.declared.notes.openings.Closing.TheVariants as closing
-use Rattle.lsp_explain.specs.declared.notes.openings.DocumentEvent.{DocumentEvent}
-use Rattle.lsp_explain.specs.declared.notes.openings.Openings.{Openings}
+use Rattle.lsp_explain.specs.declared.trail.openings.Closing.{Closing}
+use Rattle.lsp_explain.specs.declared.trail.openings.Closing.TheVariants as closing
+use Rattle.lsp_explain.specs.declared.trail.openings.DocumentEvent.{DocumentEvent}
+use Rattle.lsp_explain.specs.declared.trail.openings.Openings.{Openings}
 use Rattle.lsp_replay.specs.declared.heard.EventPlace.{EventPlace}
 
 -- ---- opened and closed

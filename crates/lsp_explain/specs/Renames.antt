@@ -21,8 +21,8 @@ use Rattle.lsp_replay.specs.declared.heard.EventPlace.{EventPlace}
 use Rattle.lsp_explain.specs.Asking.{Numbered, sents}
 use Rattle.lsp_explain.specs.History.{OnDocument, on_document, last_ones, last_that}
 use Rattle.lsp_explain.specs.Openings.{on_view}
-use Rattle.lsp_explain.specs.declared.notes.renames.Move as held
-use Rattle.lsp_explain.specs.declared.notes.renames.Renames.{Renames}
+use Rattle.lsp_explain.specs.declared.trail.renames.Move as held
+use Rattle.lsp_explain.specs.declared.trail.renames.Renames.{Renames}
 
 -- ---- what the editor says of files
 

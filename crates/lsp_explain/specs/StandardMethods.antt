@@ -4,9 +4,9 @@ use Rattle.std.specs.Prelude.{◌≡◌, ℕ, List, [], ◌∷◌, map, if◌the
 use Rattle.std.specs.Prelude.{codes}
 use Rattle.std.specs.Str.{bytes_eq}
 use Rattle.lsp_types.specs.declared.side.Side.TheVariants.{Editor, Server}
-use Rattle.lsp_explain.specs.declared.notes.standard_methods.MethodUse.{MethodUse}
-use Rattle.lsp_explain.specs.declared.notes.standard_methods.MethodUse.TheVariants as uses
-use Rattle.lsp_explain.specs.declared.notes.standard_methods.TheConstants.{METHODS}
+use Rattle.lsp_explain.specs.declared.trail.standard_methods.MethodUse.{MethodUse}
+use Rattle.lsp_explain.specs.declared.trail.standard_methods.MethodUse.TheVariants as uses
+use Rattle.lsp_explain.specs.declared.trail.standard_methods.TheConstants.{METHODS}
 
 -- a method, and what has it
 abbrev pub Row : Type 0

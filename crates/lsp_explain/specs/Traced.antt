@@ -34,12 +34,12 @@ use Rattle.lsp_session.specs.Sent.{other_side}
 use Rattle.lsp_explain.specs.History.{last_ones, OnDocument, KeptCall}
 use Rattle.lsp_explain.specs.Marking.{next_rank, rank_or, agreed, last_setter, recent, steps}
 use Rattle.lsp_explain.specs.Marking.{waiting_for}
-use Rattle.lsp_explain.specs.declared.notes.mark.VersionEvent.{VersionEvent}
+use Rattle.lsp_explain.specs.declared.trail.mark.VersionEvent.{VersionEvent}
 use Rattle.lsp_explain.specs.declared.suspects.Until.{Until}
 use Rattle.lsp_explain.specs.declared.suspects.Until.TheVariants as until
 use Rattle.lsp_explain.specs.Openings.{closing_of, closings, last_on, most_openings, openings}
-use Rattle.lsp_explain.specs.declared.notes.openings.Closing.{Closing}
-use Rattle.lsp_explain.specs.declared.notes.openings.Closing.TheVariants as closing
+use Rattle.lsp_explain.specs.declared.trail.openings.Closing.{Closing}
+use Rattle.lsp_explain.specs.declared.trail.openings.Closing.TheVariants as closing
 use Rattle.lsp_explain.specs.Asking.{Numbered, answered, asked, numbered, sents, since}
 
 -- ---- ids that differ in their type alone

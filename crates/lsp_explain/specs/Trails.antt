@@ -1,4 +1,4 @@
--- What is noted of the events of a session on the way.
+-- What is kept of the events of a session on the way.
 use Rattle.std.specs.Prelude.{[], ◌++◌, List, Option}
 use Rattle.std.specs.List.{cons_option}
 use Rattle.lsp_docs.specs.Documents.{Terms}
@@ -8,21 +8,21 @@ use Rattle.lsp_replay.specs.Standing.{Holds}
 use Rattle.lsp_explain.specs.History.{KeptCall}
 use Rattle.lsp_explain.specs.Marking.{AreMarks, MarkedBy}
 use Rattle.lsp_explain.specs.Openings.{AreOpenings, OpenedBy}
-use Rattle.lsp_explain.specs.SessionNoting.{AreNotes}
-use Rattle.lsp_explain.specs.declared.notes.marks.Marks.{Marks}
-use Rattle.lsp_explain.specs.declared.notes.openings.Openings.{Openings}
+use Rattle.lsp_explain.specs.Conversations.{IsConversation}
+use Rattle.lsp_explain.specs.declared.trail.marks.Marks.{Marks}
+use Rattle.lsp_explain.specs.declared.trail.openings.Openings.{Openings}
 use Rattle.lsp_explain.specs.declared.trail.Trail.{Trail}
 use Rattle.lsp_explain.specs.declared.trail.Past.{Past}
 
--- ---- what is noted
+-- ---- what is kept
 
--- **what is noted is what these events left**
+-- **the trail is what these events left**
 pub record IsTrail (terms : Terms) (t : Trail) (events : List Event) : Type 0 where
   pub marked : AreMarks terms t.marks.map.entries events
   pub opened : AreOpenings terms t.openings events
-  pub noted : AreNotes terms t.said events
+  pub said : IsConversation terms t.said events
 
--- one more kept call is noted, or none
+-- one more kept call is taken over, or none
 pub record Keeps (more : Option KeptCall) (marks : Marks) (openings : Openings) (next : Marks)
     (behind : Openings) : Type 0 where
   pub marked : (calls : List KeptCall) → MarkedBy marks.map.entries calls
@@ -36,7 +36,7 @@ pub record Keeps (more : Option KeptCall) (marks : Marks) (openings : Openings) 
 abbrev pub terms_in : Past → Terms
 terms_in p = p.held.now.docs.terms
 
--- **what is held and noted is the result of these events**
+-- **what is held, and the trail, are the result of these events**
 pub record StandsAfter (p : Past) (before : List Event) : Type 0 where
   pub holds : Holds p.held.now.session p.held.now.docs (kept_of (terms_in p) before)
   pub trail : IsTrail (terms_in p) p.trail.now before

@@ -1,18 +1,17 @@
-//! Explains a No: the runs that write, after the report of the verdict, what is wrong, or all that
-//! is wrong.
+//! Explains a No: a run that writes what is wrong after the report of the verdict, and one that
+//! writes all that is wrong.
 //!
 //! [`run_explain`] reads a log and explains the verdict on it, and [`run_explain_all`] all that is
 //! wrong with it. An offence is explained by the facts of `lsp_facts` and by the earlier events
 //! that led to it. [`run_compared`] writes one of two whole texts, if the verdict says that they
 //! differ. Each is an account (`FirstOffence`, `AllCauses`, `OneText`) over the one `pass` of
-//! `lsp_replay`, and `Trail` keeps what is noted of the events on the way.
+//! `lsp_replay`, and `Trail` keeps on the way which events led to what.
 #![tactic(auto)]
 
 mod compared;
 mod laws;
 mod notes;
 mod offence_facts;
-mod remarks;
 mod run;
 mod run_all;
 mod suspects;

@@ -1,26 +1,139 @@
-//! What is noted of the kept events of a session, to explain what comes after them. No event is
-//! judged here, and no log is read.
-//!
-//! [`Marks`] says which events left a document as it is, [`Openings`] which opened and closed
-//! documents last, and [`SessionNotes`] by which requests were asked and answered, which led to the
-//! phase, and what is remarkable about the messages, though it breaks no rule.
+//! The notes on a session, which change no verdict.
+ghost use Rattle.std.specs.Prelude.{◌≡◌, ◌++◌, List, OnOk, map, option_map};
+ghost use Rattle.std.specs.Prelude.{string_bytes};
+ghost use Rattle.lsp_explain.specs.SessionNotes.{misused_views};
+ghost use Rattle.lsp_explain.specs.Openings.{names_view, on_view};
+ghost use Rattle.lsp_verdict.specs.Event.{Event};
+ghost use Rattle.lsp_verdict.specs.Given.{verdict_view};
+ghost use Rattle.lsp_explain.specs.Notes as spec;
+ghost use Rattle.lsp_explain.specs.Notes.{misuse_line, name_notes};
+ghost use Rattle.lsp_explain.specs.Notes.{noticed, old_name_notes, note_lines, notes_by};
+ghost use Rattle.lsp_explain.specs.Notes.{uncompared, unshown_line};
+ghost use Rattle.lsp_explain.specs.Trails.{StandsAfter, terms_in};
 
-mod asked;
-mod exchange;
-mod last_ones;
-mod mark;
-mod marks;
-mod misuses;
-mod openings;
-mod remarks;
-mod renames;
-mod session_notes;
-mod standard_methods;
-mod step;
+use crate::trace::push_earlier;
+use crate::trail::{DocumentEvent, Misuse, Misused, Past};
+use lsp_facts::{Facts, push_facts};
+use lsp_rpc::{Encoding, Result};
+use lsp_verdict::{Verdict, encoding_name};
+use std::fmt::Write;
 
-pub(crate) use mark::VersionEvent;
-pub(crate) use marks::Marks;
-pub(crate) use misuses::{Misuse, Misused};
-pub(crate) use openings::{Closing, DocumentEvent, Openings};
-pub(crate) use session_notes::SessionNotes;
-pub(crate) use step::{Step, step_of};
+/// Adds the notes on the messages that were heard, each on a line, and how many they are.
+///
+/// # Errors
+/// `Memory` where memory was refused.
+pub(crate) fn push_notes(lines: &mut String, past: Past<'_>, verdict: &Verdict) -> Result<()>
+    ensures { OnOk result ((before : List Event) → StandsAfter past.entry before
+        → string_bytes lines.new ≡ string_bytes lines.old ++ note_lines
+        (notes_by (verdict_view verdict.now) (noticed (terms_in past.entry) before))) }
+{
+    let Past { held, trail } = past;
+    let heard = &trail.said.notes;
+    let name = other_name(heard.older_encoding(), held.session.encoding());
+    let renamed = trail.said.renames.renamed();
+    let unshown = trail.openings.unshown()?;
+    let mut notes = Facts::new(*lines.allocator());
+    push_misuses(&mut notes, heard.misuses.as_slice())?;
+    push_earlier(&mut notes, "note exit-without-shutdown", heard.abrupt_exit)?;
+    push_name(&mut notes, name)?;
+    push_renamed(&mut notes, renamed)?;
+    push_uncompared(&mut notes, verdict, unshown.as_slice())?;
+    push_counted(lines, &notes)
+}
+
+/// Adds the lines of notes, and how many they are, if there are any.
+fn push_counted(lines: &mut String, notes: &Facts) -> Result<()>
+    ensures { OnOk result (string_bytes lines.new
+        ≡ string_bytes lines.old ++ note_lines notes.now) }
+{
+    push_facts(lines, notes)?;
+    let count = notes.len();
+    if count > 0 {
+        writeln!(lines, "notes {count}")?;
+    }
+    Ok(())
+}
+
+/// Adds the calls that were not sent as LSP 3.17 defines them.
+fn push_misuses(notes: &mut Facts, misuses: &[Misused]) -> Result<()>
+    ensures { OnOk result (notes.new
+        ≡ notes.old ++ map misuse_line (misused_views misuses.now)) }
+{
+    for misused in misuses {
+        let key = misuse_key(misused.misuse);
+        notes.text_by(key, misused.method.as_str(), misused.place)?;
+    }
+    Ok(())
+}
+
+fn misuse_key(misuse: Misuse) -> &'static str
+    ensures { result.now ≡ spec.misuse_key misuse }
+{
+    match misuse {
+        Misuse::AsRequest => "note as-request",
+        Misuse::AsNotification => "note as-notification",
+        Misuse::ByEditor => "note by-editor",
+        Misuse::ByServer => "note by-server",
+    }
+}
+
+/// Adds the encoding that is named in the older way, if there is one.
+fn push_name(notes: &mut Facts, name: Option<&str>) -> Result<()>
+    ensures { OnOk result (notes.new
+        ≡ notes.old ++ name_notes (option_map (λ s. s.now) name.entry)) }
+{
+    match name {
+        Some(name) => notes.text("note offset-encoding", name),
+        None => Ok(()),
+    }
+}
+
+/// Adds the message about a document under a URI that its file lost when renamed, if there is one.
+fn push_renamed(notes: &mut Facts, renamed: Option<&DocumentEvent>) -> Result<()>
+    ensures { OnOk result (notes.new
+        ≡ notes.old ++ old_name_notes (option_map (λ r. on_view r.now) renamed.entry)) }
+{
+    match renamed {
+        Some(renamed) => notes.text_by("note renamed", renamed.uri.as_str(), renamed.place),
+        None => Ok(()),
+    }
+}
+
+/// Adds of a Yes that no snapshot was compared, or else the documents that were changed and have
+/// none.
+fn push_uncompared(notes: &mut Facts, verdict: &Verdict, unshown: &[String]) -> Result<()>
+    ensures { OnOk result (notes.new
+        ≡ notes.old ++ uncompared (verdict_view verdict.now) (names_view unshown.now)) }
+{
+    let Verdict::Yes(summary) = verdict else {
+        return Ok(());
+    };
+    if summary.snapshots == summary.unmatched {
+        return notes.word("note", "nothing-compared");
+    }
+    push_unshown(notes, unshown)
+}
+
+/// Adds the documents that were changed and have no snapshot.
+fn push_unshown(notes: &mut Facts, unshown: &[String]) -> Result<()>
+    ensures { OnOk result (notes.new
+        ≡ notes.old ++ map unshown_line (names_view unshown.now)) }
+{
+    for uri in unshown {
+        notes.text("note no-snapshot", uri.as_str())?;
+    }
+    Ok(())
+}
+
+/// The name that was used in the older way, where it is not that of the agreed encoding.
+fn other_name<'a>(name: Option<&'a str>, agreed: Option<Encoding>) -> Option<&'a str>
+    ensures { option_map (λ s. s.now) result
+        ≡ spec.other_name (option_map (λ s. s.now) name.entry) agreed }
+{
+    let name = name?;
+    let agreed = agreed?;
+    if name == encoding_name(Some(agreed)) {
+        return None;
+    }
+    Some(name)
+}

@@ -16,8 +16,8 @@ ghost use Rattle.lsp_explain.specs.ExplainRuns.{ends_said, explain_run};
 ghost use Rattle.lsp_explain.specs.Explained.{WritesExplanation, explanation};
 ghost use Rattle.lsp_explain.specs.Trails.{IsTrail};
 
+use crate::notes::push_notes;
 use crate::offence_facts::{push_end, push_flaw, push_offence};
-use crate::remarks::push_remarks;
 use crate::trail::{Past, Trail};
 use lsp_frame::{Limits, Sink, Source};
 use lsp_replay::{Account, End, Events, Fate, Flow, LogEvents, Seen, last_offence, pass};
@@ -82,7 +82,7 @@ impl Account for FirstOffence {
         let offence = last_offence(&held.counts, seen.raw, rule, false);
         let verdict = offence.verdict();
         push_offence(text, past, &offence, seen, tried)?;
-        push_remarks(text, past, &verdict)?;
+        push_notes(text, past, &verdict)?;
         let boxed = Box::new(*text.allocator(), Outcome::Judged(verdict))?;
         Ok(Flow::Stop(boxed))
     }
@@ -97,7 +97,7 @@ impl Account for FirstOffence {
         let trail = &self.trail;
         let past = Past { held, trail };
         let verdict = push_ending(text, past, log, end, self.completeness)?;
-        push_remarks(text, past, &verdict)?;
+        push_notes(text, past, &verdict)?;
         Ok(Outcome::Judged(verdict))
     }
 }

@@ -5,7 +5,7 @@ ghost use Rattle.lsp_explain.specs.History.{last_ones};
 ghost use Rattle.lsp_explain.specs.Marking.{rank_or};
 ghost use Rattle.lsp_explain.specs.Traced as spec;
 
-use crate::notes::VersionEvent;
+use crate::trail::VersionEvent;
 use lsp_facts::Facts;
 use lsp_replay::EventPlace;
 use lsp_rpc::Result;

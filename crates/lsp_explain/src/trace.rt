@@ -19,16 +19,15 @@ ghost use Rattle.lsp_replay.specs.Tries.{IsTriedOf, made_in};
 ghost use Rattle.lsp_verdict.specs.Offences.{kept_of, said_at};
 ghost use Rattle.lsp_explain.specs.Asking.{numbered};
 ghost use Rattle.lsp_explain.specs.Marking.{steps, AreMarks};
-ghost use Rattle.lsp_explain.specs.SessionNoting.{AreNotes};
+ghost use Rattle.lsp_explain.specs.Conversations.{IsConversation};
 ghost use Rattle.lsp_facts.specs.EventFacts.{AreCallFacts, id_in, session_facts};
 ghost use Rattle.lsp_facts.specs.Fact.{cited};
 ghost use Rattle.lsp_explain.specs.Trails.{StandsAfter, terms_in};
 ghost use Rattle.lsp_explain.specs.Traced as spec;
 ghost use Rattle.lsp_explain.specs.Traced.{twin};
 
-use crate::notes::{Marks, SessionNotes, VersionEvent};
 use crate::suspects::{Until, push_suspects};
-use crate::trail::Past;
+use crate::trail::{Conversation, Marks, Past, VersionEvent};
 use crate::twins::twin_of;
 use crate::unopened::trace_unopened;
 use lsp_docs::{Call, Tried};
@@ -286,12 +285,12 @@ fn push_apart(
 /// event that led to the phase, under 301 and 302 the events that have to do with its id.
 fn trace_message(
     facts: &mut Facts,
-    said: &SessionNotes,
+    said: &Conversation,
     side: Side,
     message: &Message,
     rule: u16,
 ) -> Result<()>
-    ensures { OnOk result ((terms : Terms) (before : List Event) → AreNotes terms said.now before
+    ensures { OnOk result ((terms : Terms) (before : List Event) → IsConversation terms said.now before
         → facts.new ≡ facts.old ++ spec.session_trace rule (numbered terms before) side
         (id_in (message_view message.now))) }
 {
@@ -317,8 +316,8 @@ fn is_on_phase(rule: u16) -> bool
 /// Adds to the facts on a message of a side with this id, under 301 the open request whose id
 /// differs in its type alone, under 302 the event that asked the request that is open, under both
 /// the one that answered a request of this id before.
-fn trace_id(facts: &mut Facts, said: &SessionNotes, side: Side, id: &Id, rule: u16) -> Result<()>
-    ensures { OnOk result ((terms : Terms) (before : List Event) → AreNotes terms said.now before
+fn trace_id(facts: &mut Facts, said: &Conversation, side: Side, id: &Id, rule: u16) -> Result<()>
+    ensures { OnOk result ((terms : Terms) (before : List Event) → IsConversation terms said.now before
         → facts.new ≡ facts.old
         ++ spec.id_trace rule (numbered terms before) side (id_view id.now)) }
 {
@@ -337,8 +336,8 @@ fn trace_id(facts: &mut Facts, said: &SessionNotes, side: Side, id: &Id, rule: u
 }
 
 /// Adds this side's open request whose id differs from this one in its type alone.
-fn push_twin(facts: &mut Facts, said: &SessionNotes, side: Side, id: &Id) -> Result<()>
-    ensures { OnOk result ((terms : Terms) (before : List Event) → AreNotes terms said.now before
+fn push_twin(facts: &mut Facts, said: &Conversation, side: Side, id: &Id) -> Result<()>
+    ensures { OnOk result ((terms : Terms) (before : List Event) → IsConversation terms said.now before
         → facts.new ≡ facts.old
         ++ spec.twin_facts side (numbered terms before) (twin (id_view id.now))) }
 {
@@ -389,9 +388,9 @@ pub(crate) fn lack_traced(past: Past<'_>) -> Result<Facts>
 }
 
 /// The requests that wait, with the events that asked them.
-fn requests(alloc: Global, pending: &Pending, said: &SessionNotes) -> Result<Facts>
+fn requests(alloc: Global, pending: &Pending, said: &Conversation) -> Result<Facts>
     ensures { IfOk result (λ facts. (terms : Terms) (before : List Event)
-        → AreNotes terms said.now before
+        → IsConversation terms said.now before
         → facts ≡ map (spec.waiting_by (numbered terms before)) pending.now) }
 {
     let mut facts = Facts::new(alloc);
@@ -402,8 +401,8 @@ fn requests(alloc: Global, pending: &Pending, said: &SessionNotes) -> Result<Fac
     Ok(facts)
 }
 
-fn push_request(facts: &mut Facts, request: &OpenRequest, said: &SessionNotes) -> Result<()>
-    ensures { OnOk result ((terms : Terms) (before : List Event) → AreNotes terms said.now before
+fn push_request(facts: &mut Facts, request: &OpenRequest, said: &Conversation) -> Result<()>
+    ensures { OnOk result ((terms : Terms) (before : List Event) → IsConversation terms said.now before
         → facts.new ≡ facts.old
         ++ spec.waiting_by (numbered terms before) (request_view request.now) ∷ []) }
 {

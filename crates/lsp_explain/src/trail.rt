@@ -1,4 +1,9 @@
-//! What is noted of the events of a session on the way: which of them led to what.
+//! What is kept of the events of a session on the way, to explain what comes after them: which of
+//! them led to what. No event is judged here, and no log is read.
+//!
+//! [`Marks`] says which events left a document as it is, [`Openings`] which opened and closed
+//! documents last, and [`Conversation`] by which requests were asked and answered, which led to the
+//! phase, and what the notes say of the messages.
 ghost use Rattle.std.specs.Prelude.{◌≡◌, ◌++◌, ◌∷◌, [], List, None, OnOk, Some, option_map};
 ghost use Rattle.lsp_docs.specs.Documents.{Terms};
 ghost use Rattle.lsp_replay.specs.Telling.{IsSeen, MaySpeak, Stood, kept_before, rule_of};
@@ -8,11 +13,29 @@ ghost use Rattle.lsp_verdict.specs.Offences.{IsNoted, said_at};
 ghost use Rattle.lsp_explain.specs.History.{kept_call};
 ghost use Rattle.lsp_explain.specs.Trails.{IsTrail, Keeps};
 
-use crate::notes::{Marks, Openings, SessionNotes, Step, step_of};
+mod asked;
+mod conversation;
+mod exchange;
+mod last_ones;
+mod mark;
+mod marks;
+mod misuses;
+mod notes;
+mod openings;
+mod renames;
+mod standard_methods;
+mod step;
+
+use crate::trail::step::{Step, step_of};
+pub(crate) use conversation::Conversation;
 use lsp_replay::{EventPlace, Events, Fate, Seen};
 use lsp_rpc::{Result, Spoken};
 use lsp_text::Lined;
 use lsp_verdict::{Raw, who_of};
+pub(crate) use mark::VersionEvent;
+pub(crate) use marks::Marks;
+pub(crate) use misuses::{Misuse, Misused};
+pub(crate) use openings::{Closing, DocumentEvent, Openings};
 use std::alloc::Global;
 
 /// Which kept events left the documents as they are, which opened and closed them last, and which
@@ -21,7 +44,7 @@ use std::alloc::Global;
 pub(crate) struct Trail {
     pub(crate) marks: Marks,
     pub(crate) openings: Openings,
-    pub(crate) said: SessionNotes,
+    pub(crate) said: Conversation,
 }
 
 /// What is known of the events so far: session, documents and counts, and which events led there.
@@ -32,22 +55,22 @@ pub(crate) struct Past<'a> {
 }
 
 impl Trail {
-    /// Nothing is noted.
+    /// Nothing was heard.
     pub(crate) fn new(alloc: Global) -> Trail
         ensures { (terms : Terms) → IsTrail terms result [] }
     {
         Trail {
             marks: Marks::new(alloc),
             openings: Openings::new(alloc),
-            said: SessionNotes::new(alloc),
+            said: Conversation::new(alloc),
         }
     }
 
-    /// Notes the next event. One that offends leaves nothing to note, and one that says something
-    /// of a document leaves the session as it is.
+    /// Takes over the next event. One that offends leaves nothing to keep, and one that says
+    /// something of a document leaves the session as it is.
     ///
     /// # Errors
-    /// `Memory` where memory was refused; nothing is then known of what is noted.
+    /// `Memory` where memory was refused; nothing is then known of what is kept.
     #[inline(always)]
     pub(crate) fn keep(&mut self, held: &Events<Lined>, seen: &Seen<'_>) -> Result<()>
         ensures { OnOk result ((terms : Terms) (before : List Heard) (h : Heard)
@@ -69,7 +92,7 @@ impl Trail {
         keep_step(&mut self.marks, &mut self.openings, place, call.uri(), step)
     }
 
-    /// Notes a message that is kept and says nothing of a document.
+    /// Takes over a message that is kept and says nothing of a document.
     #[inline(always)]
     fn keep_message(
         &mut self,
@@ -99,7 +122,7 @@ impl Trail {
     }
 }
 
-/// Notes what a kept event, that of this place, does to the document of a URI.
+/// Takes over what a kept event, that of this place, does to the document of a URI.
 #[inline(always)]
 fn keep_step(
     marks: &mut Marks,

@@ -8,8 +8,7 @@ ghost use Rattle.lsp_verdict.specs.Event.{Event};
 ghost use Rattle.lsp_explain.specs.Trails.{StandsAfter, terms_in};
 ghost use Rattle.lsp_explain.specs.Traced as spec;
 
-use crate::notes::{Closing, DocumentEvent};
-use crate::trail::Past;
+use crate::trail::{Closing, DocumentEvent, Past};
 use lsp_docs::Call;
 use lsp_facts::Facts;
 use lsp_replay::EventPlace;

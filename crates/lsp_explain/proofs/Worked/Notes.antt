@@ -15,14 +15,14 @@ use Rattle.lsp_verdict.specs.Verdict.{no, summary, yes}
 use Rattle.lsp_verdict.specs.declared.verdict.Who.TheVariants.{Editor}
 use Rattle.lsp_verdict.proofs.Worked.Templates.{terms, E, S, I1, N1, START, OPEN, REQ, SH, RN, EX, T}
 use Rattle.lsp_explain.specs.StandardMethods.{standard, use_among, use_of}
-use Rattle.lsp_explain.specs.Remarks.{noticed, remark_lines, remarks_of}
+use Rattle.lsp_explain.specs.Notes.{noticed, note_lines, notes_by}
 
 -- the notes after a No at what comes next, and after a Yes
 abbrev notes_before : List Event → List ℕ
-notes_before events = remark_lines (remarks_of (no 0 Editor 0 0) (noticed terms events))
+notes_before events = note_lines (notes_by (no 0 Editor 0 0) (noticed terms events))
 
 abbrev notes_after : List Event → List ℕ
-notes_after events = remark_lines (remarks_of (yes (summary terms events)) (noticed terms events))
+notes_after events = note_lines (notes_by (yes (summary terms events)) (noticed terms events))
 
 -- ---- calls
 

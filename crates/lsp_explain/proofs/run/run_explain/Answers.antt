@@ -4,7 +4,7 @@ use Rattle.lsp_explain.proofs.run.run_explain.Goals as goal
 
 pub pass-requires : goal.pass-requires
 pass-requires g c = record {
-  begins = λ terms. record { noted = c.new.ensures terms; clean = refl };
+  begins = λ terms. record { trail = c.new.ensures terms; clean = refl };
 }
 
 pub returns : goal.returns

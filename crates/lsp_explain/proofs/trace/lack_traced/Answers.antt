@@ -14,7 +14,7 @@ pub returns : goal.returns
 returns c = λ before stands.
     let terms = terms_in c.args.past in
     let said = numbered terms before in
-    let noted = stands.trail.noted in
+    let noted = stands.trail.said in
     let sent = subst (λ (ms : List Sent). Stands c.args.past.held.now.session ms)
     (sym (sents-numbered terms before)) stands.holds.sent in
     let asked = c.in_ok-facts.ensures terms before noted

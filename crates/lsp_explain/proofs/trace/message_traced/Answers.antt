@@ -15,7 +15,7 @@ returns c = λ event before stands heard.
     let act = act_view c.args.spoken.now.act in
     let rule = c.args.rule in
     let side = c.args.side in
-    c.in_ok-trace_message.ensures terms before stands.trail.noted
+    c.in_ok-trace_message.ensures terms before stands.trail.said
     ∙ (λ i. (c.in_ok-facts.ensures sents stands.holds.sent
     ∙ session_heard rule heard.sent side said heard.by heard.says sents act heard.means
     heard.has_value) i ++ trace_heard rule heard.sent side said heard.by heard.says

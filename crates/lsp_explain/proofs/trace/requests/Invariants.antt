@@ -2,7 +2,7 @@ use Rattle.std.proofs.Common.{◌≡◌, ◌++◌, List, length, map}
 use Rattle.lsp_docs.specs.Documents.{Terms}
 use Rattle.lsp_verdict.specs.Event.{Event}
 use Rattle.lsp_explain.specs.Asking.{numbered}
-use Rattle.lsp_explain.specs.SessionNoting.{AreNotes}
+use Rattle.lsp_explain.specs.Conversations.{IsConversation}
 use Rattle.lsp_explain.specs.Traced.{waiting_by}
 use Rattle.lsp_explain.proofs.trace.requests.Given as goal
 
@@ -11,6 +11,6 @@ decreases-loop-request l = length l.requests
 
 abbrev pub invariant-loop-request : goal.invariant-loop-request
 invariant-loop-request l =
-    (terms : Terms) (before : List Event) → AreNotes terms l.said before
+    (terms : Terms) (before : List Event) → IsConversation terms l.said before
     → l.facts ++ map (waiting_by (numbered terms before)) l.requests
     ≡ map (waiting_by (numbered terms before)) l.pending

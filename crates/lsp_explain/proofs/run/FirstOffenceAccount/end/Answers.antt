@@ -2,7 +2,7 @@ use Rattle.std.proofs.Common.{◌≡◌, ◌++◌, string_bytes, subst}
 use Rattle.lsp_docs.specs.Documents.{Terms}
 use Rattle.lsp_verdict.specs.Given.{verdict_view}
 use Rattle.lsp_verdict.specs.Heard.{heard_events}
-use Rattle.lsp_explain.specs.Remarks.{noticed, remark_lines, remarks_of}
+use Rattle.lsp_explain.specs.Notes.{noticed, note_lines, notes_by}
 use Rattle.lsp_explain.proofs.Ending.{first_closes}
 use Rattle.lsp_explain.proofs.Telling.{stands_at}
 use Rattle.lsp_explain.proofs.run.FirstOffenceAccount.end.Goals as goal
@@ -12,10 +12,10 @@ returns c = record {
   closes = λ terms heard stands stood few.
       let verdict = c.in_ok-verdict.verdict in
       first_closes c.args.self.now.completeness terms heard c.args.log.now c.args.end verdict _ _ _
-      (c.in_ok-verdict.ensures terms heard stands.noted stands.clean stood few)
-      (subst (λ (t : Terms). string_bytes c.push_remarks.new.lines
-      ≡ string_bytes c.push_ending.new.text ++ remark_lines (remarks_of (verdict_view verdict)
+      (c.in_ok-verdict.ensures terms heard stands.trail stands.clean stood few)
+      (subst (λ (t : Terms). string_bytes c.push_notes.new.lines
+      ≡ string_bytes c.push_ending.new.text ++ note_lines (notes_by (verdict_view verdict)
       (noticed t (heard_events heard)))) stood.by
-      (c.in_ok-push_remarks.ensures (heard_events heard)
-      (stands_at _ terms heard stands.noted stood)));
+      (c.in_ok-push_notes.ensures (heard_events heard)
+      (stands_at _ terms heard stands.trail stood)));
 }

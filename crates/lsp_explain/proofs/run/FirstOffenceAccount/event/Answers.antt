@@ -7,7 +7,7 @@ use Rattle.lsp_replay.specs.declared.seen.Fate.{Fate}
 use Rattle.lsp_verdict.specs.Given.{verdict_view}
 use Rattle.lsp_verdict.specs.Heard.{heard_events}
 use Rattle.lsp_verdict.specs.Offences.{Offence}
-use Rattle.lsp_explain.specs.Remarks.{noticed, remark_lines, remarks_of}
+use Rattle.lsp_explain.specs.Notes.{noticed, note_lines, notes_by}
 use Rattle.lsp_explain.proofs.AccountSteps.{first_kept, first_told}
 use Rattle.lsp_explain.proofs.Telling.{stands_before, told_of}
 use Rattle.lsp_explain.proofs.run.FirstOffenceAccount.event.Goals as goal
@@ -20,7 +20,7 @@ returns-in_default c = record {
   says = λ terms before h stands seen.
       let rule = kept_seen terms before h c.args.seen.now.fate c.in_default.not-Offends seen.fate in
       first_kept terms before h c.args.self.now _ stands (ShowsFault c.args.seen.now.raw)
-      (string_bytes c.args.text.now) rule (c.in_ok-keep.ensures terms before h stands.noted seen);
+      (string_bytes c.args.text.now) rule (c.in_ok-keep.ensures terms before h stands.trail seen);
 }
 
 -- memory is refused
@@ -32,9 +32,9 @@ pub returns-in_err-push_offence-clause-memory : goal.returns-in_err-push_offence
 returns-in_err-push_offence-clause-memory c =
     on_err c.from_residual-in_err-push_offence.result (λ terms before h stands seen. refl)
 
-pub returns-in_err-push_remarks-clause-memory : goal.returns-in_err-push_remarks-clause-memory
-returns-in_err-push_remarks-clause-memory c =
-    on_err c.from_residual-in_err-push_remarks.result (λ terms before h stands seen. refl)
+pub returns-in_err-push_notes-clause-memory : goal.returns-in_err-push_notes-clause-memory
+returns-in_err-push_notes-clause-memory c =
+    on_err c.from_residual-in_err-push_notes.result (λ terms before h stands seen. refl)
 
 pub returns-in_err-boxed-clause-memory : goal.returns-in_err-boxed-clause-memory
 returns-in_err-boxed-clause-memory c =
@@ -58,10 +58,10 @@ returns c = record {
       (c.verdict-verdict.ensures ∙ ap (λ (x : Offence). x.no) last)
       (told_of terms before h c.args.seen.now rule c.in-Offends.tried offence _ _ _ _ _ _
       c.in-Offends.is last seen
-      (c.in_ok-push_offence.ensures terms before h stands.noted))
-      (subst (λ (t : Terms). string_bytes c.push_remarks.new.lines
-      ≡ string_bytes c.push_offence.new.text ++ remark_lines (remarks_of
+      (c.in_ok-push_offence.ensures terms before h stands.trail))
+      (subst (λ (t : Terms). string_bytes c.push_notes.new.lines
+      ≡ string_bytes c.push_offence.new.text ++ note_lines (notes_by
       (verdict_view verdict) (noticed t (heard_events before)))) seen.stood.by
-      (c.in_ok-push_remarks.ensures (heard_events before)
-      (stands_before _ terms before h rule stands.noted seen.stood has.0)));
+      (c.in_ok-push_notes.ensures (heard_events before)
+      (stands_before _ terms before h rule stands.trail seen.stood has.0)));
 }

@@ -4,5 +4,5 @@ pub returns-clause-stands : goal.returns-clause-stands
 returns-clause-stands c = λ terms. record {
   lost = c.new.ensures terms;
   tallied = c.new-2.ensures;
-  noted = c.new-3.ensures terms;
+  trail = c.new-3.ensures terms;
 }

@@ -24,7 +24,7 @@ returns c = record {
       (option_map verdict_view c.in_ok-listed.field-0.bad) _ _ _ _ _ (ap (λ os. events ++ os) are)
       c.in_ok-listed.ensures.bad
       (nos_listed terms heard _ listed _ _ _ are
-      (c.in_ok-explain_ends.ensures.said terms heard stands.noted stood))
+      (c.in_ok-explain_ends.ensures.said terms heard stands.trail stood))
       (c.in_ok-verdict.ensures terms heard found stood few tally (clean_by terms heard ends))
       c.in_ok-push_flaw.ensures
       (c.in_ok-push_count.ensures found tally (few_found completeness terms heard log end ends are few));

@@ -21,7 +21,7 @@ returns-in_default c = record {
       let rule = kept_seen terms before h c.args.seen.now.fate c.in_default.not-Offends seen.fate in
       all_kept terms before h c.args.self.now _ stands (ShowsFault c.args.seen.now.raw)
       (string_bytes c.args.text.now) _ told rule refl
-      (c.in_ok-keep.ensures terms before h stands.noted seen);
+      (c.in_ok-keep.ensures terms before h stands.trail seen);
 }
 
 -- memory is refused
@@ -60,7 +60,7 @@ returns-then-follows c = record {
       (c.last_offence-offence.ensures before h seen.stood.counted seen.few seen.is seen.noted) in
       all_late terms before h c.args.self.now _ stands (ShowsFault c.args.seen.now.raw)
       (string_bytes c.args.text.now) _ told c.in-Offends.rule _ c.if-follows.true has.0 is
-      c.add.ensures (trail_past terms before h _ stands.noted c.in-Offends.rule has.0);
+      c.add.ensures (trail_past terms before h _ stands.trail c.in-Offends.rule has.0);
 }
 
 -- it offends, and is explained
@@ -78,8 +78,8 @@ returns c = record {
       let is = offence_is terms before h rule _ _ has.0 told.late_is last in
       all_told terms before h c.args.self.now _ stands (ShowsFault c.args.seen.now.raw)
       (string_bytes c.args.text.now) _ told rule _ _ c.if-follows.false has.0 is c.add.ensures
-      (trail_past terms before h _ stands.noted rule has.0)
+      (trail_past terms before h _ stands.trail rule has.0)
       (told_of terms before h c.args.seen.now rule c.in-Offends.tried offence _ _ _ _ _ _
       c.in-Offends.is last seen
-      (c.in_ok-push_offence.ensures terms before h stands.noted));
+      (c.in_ok-push_offence.ensures terms before h stands.trail));
 }

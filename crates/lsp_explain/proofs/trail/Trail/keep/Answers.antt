@@ -18,7 +18,7 @@ use Rattle.std.specs.Option.{option_or}
 use Rattle.lsp_explain.specs.History.{kept_call}
 use Rattle.lsp_explain.specs.Renames.{moves_view, renamed_held}
 use Rattle.lsp_explain.specs.Trails.{Keeps}
-use Rattle.lsp_explain.specs.declared.notes.step.Step.{Step}
+use Rattle.lsp_explain.specs.declared.trail.step.Step.{Step}
 use Rattle.lsp_explain.proofs.RenameSteps.{no_edit}
 use Rattle.lsp_explain.proofs.Trails.{fate_offends, none_kept, trail_called, trail_past}
 use Rattle.lsp_explain.proofs.trail.Trail.keep.Goals as goal

@@ -4,5 +4,5 @@ pub returns : goal.returns
 returns c = λ terms. record {
   marked = c.new.ensures;
   opened = c.new-2.ensures;
-  noted = c.new-3.ensures;
+  said = c.new-3.ensures;
 }

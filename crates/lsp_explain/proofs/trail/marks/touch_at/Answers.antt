@@ -1,0 +1,37 @@
+use Rattle.std.proofs.Common.{Some, sym, ap, ◌∙◌, option_map, rules}
+use Rattle.std.specs.Option.{option_copied_mut}
+use Rattle.std.specs.String.{string_eq_equiv}
+use Rattle.std.proofs.lemmas.Option.{same_Some, slice_get-map}
+use Rattle.std.proofs.lemmas.Result.{on_ok_weaker}
+use Rattle.indexmap.proofs.CallerLemmas.{updates-with_value_at}
+use Rattle.lsp_survey.proofs.Noting.{puts-key}
+use Rattle.lsp_explain.specs.Marking.{stepped, mark_view}
+use Rattle.lsp_explain.proofs.Marking.{step_there}
+use Rattle.lsp_explain.proofs.trail.marks.touch_at.Goals as goal
+
+pub returns : goal.returns
+returns c =
+    let uri = c.args.uri.now in
+    let p = c.args.place in
+    let step = c.args.step in
+    let (key, was, at, own, there) = c.requires.here in
+    let now = c.step.new.self in
+    let old = c.args.map.now in
+    let updates = updates-with_value_at old c.args.at now string_eq_equiv
+    c.get_index_mut.ensures.unique key was at in
+    let put = puts-key mark_view (Some now) old.entries _ key uri own updates.1 updates.3 in
+    let same = same_Some c.unwrap-mark.result.now was
+    (ap option_copied_mut (sym c.unwrap-mark.ensures) ∙ c.get_index_mut.ensures.value
+    ∙ slice_get-map (λ e. e.1) old.entries c.args.at ∙ ap (option_map (λ e. e.1)) at) in
+    on_ok_weaker c.step.result
+    (λ is. step_there uri p step was now old.entries _ (ap (option_map mark_view) there)
+    (is ∙ ap (λ m. stepped p step (mark_view m)) same) put) c.step.ensures
+
+pub unwrap-mark-requires : goal.unwrap-mark-requires
+unwrap-mark-requires c =
+    search (
+      rules,
+      c.get_index_mut.ensures.value
+          ∙ slice_get-map (λ e. e.1) c.args.map.now.entries c.args.at
+          ∙ ap (option_map (λ e. e.1)) c.requires.here.2,
+    )

@@ -1,0 +1,19 @@
+use Rattle.std.proofs.Common.{Some, sym, ap, ◌∙◌}
+use Rattle.lsp_survey.proofs.Noting.{puts-key}
+use Rattle.lsp_explain.specs.Marking.{stepped, mark_view}
+use Rattle.lsp_explain.proofs.Marking.{steps_on}
+use Rattle.lsp_explain.proofs.trail.marks.touch_first.Goals as goal
+
+pub returns : goal.returns
+returns c =
+    let uri = c.args.uri.now in
+    let p = c.args.place in
+    let step = c.args.step in
+    let mark = c.step.new.self in
+    let old = c.args.map.now.entries in
+    let new = c.insert.new.self.entries in
+    let updates = c.in_ok-insert.ensures.updates in
+    steps_on uri p step (Some (mark_view mark)) old new
+    (puts-key mark_view (Some mark) old new c.in_ok-key.key uri c.in_ok-key.ensures.ok updates.1
+    updates.3)
+    (c.in_ok-step.ensures ∙ ap (stepped p step) (c.new-mark.ensures ∙ sym c.requires.none))

@@ -1,0 +1,97 @@
+-- The notes on a session, which change no verdict.
+use Rattle.std.specs.Prelude.{ℕ, List, [], ◌∷◌, ◌++◌, map, length, ◌==◌, Option, Some, None}
+use Rattle.std.specs.Prelude.{if◌then◌else◌, option_to_list, option_map, codes, decimal}
+use Rattle.std.specs.Str.{bytes_eq}
+use Rattle.json.specs.Print.{quoted}
+use Rattle.lsp_session.specs.Negotiation.{encoding}
+use Rattle.lsp_docs.specs.Documents.{Terms}
+use Rattle.lsp_explain.specs.Asking.{Numbered, numbered, sents}
+use Rattle.lsp_explain.specs.SessionNotes.{Misused, misuses, abrupt_exit, older_encoding}
+use Rattle.lsp_explain.specs.History.{OnDocument}
+use Rattle.lsp_explain.specs.Renames.{renamed}
+use Rattle.lsp_explain.specs.Openings.{unshown}
+use Rattle.lsp_verdict.specs.Event.{Event}
+use Rattle.lsp_explain.specs.declared.trail.misuses.Misuse.{Misuse}
+use Rattle.lsp_explain.specs.declared.trail.misuses.Misuse.TheVariants.{AsRequest, AsNotification}
+use Rattle.lsp_explain.specs.declared.trail.misuses.Misuse.TheVariants.{ByEditor, ByServer}
+use Rattle.lsp_types.specs.declared.position.Encoding.{Encoding}
+use Rattle.lsp_replay.specs.declared.heard.EventPlace.{EventPlace}
+use Rattle.lsp_facts.specs.Fact.{Fact, fact_lines, place_words}
+use Rattle.lsp_explain.specs.Traced.{place_facts}
+use Rattle.lsp_verdict.specs.Report.{encoding_name, line}
+use Rattle.lsp_verdict.specs.Verdict.{Verdict, yes, no, bad_log}
+
+-- ---- their lines
+
+abbrev pub misuse_key : Misuse → List ℕ
+misuse_key AsRequest = codes "note as-request"
+misuse_key AsNotification = codes "note as-notification"
+misuse_key ByEditor = codes "note by-editor"
+misuse_key ByServer = codes "note by-server"
+
+-- a call that LSP 3.17 has in another way than it was sent
+abbrev pub misuse_line : Misused → Fact
+misuse_line x = line (misuse_key x.misuse ∷ quoted x.method ∷ place_words x.place)
+
+-- a document that was changed and has no snapshot
+abbrev pub unshown_line : List ℕ → Fact
+unshown_line uri = line (codes "note no-snapshot" ∷ quoted uri ∷ [])
+
+-- ---- which there are
+
+-- the name, where it is not that of the agreed encoding
+abbrev pub differing : List ℕ → Option Encoding → Option (List ℕ)
+differing name None = None
+differing name (Some enc) = if bytes_eq name (encoding_name (Some enc)) then None else Some name
+
+-- the encoding that was named in the older way, where that is not the agreed one
+abbrev pub other_name : Option (List ℕ) → Option Encoding → Option (List ℕ)
+other_name None agreed = None
+other_name (Some name) agreed = differing name agreed
+
+-- of a Yes: that no snapshot was compared, or else these documents that have none
+abbrev pub uncompared : Verdict → List (List ℕ) → List Fact
+uncompared (yes s) unshown =
+    if s.snapshots == s.unmatched then line (codes "note" ∷ codes "nothing-compared" ∷ []) ∷ []
+    else map unshown_line unshown
+uncompared (no rule by count event) unshown = []
+uncompared (bad_log at code) unshown = []
+
+-- `exit` without `shutdown`, by the event of this place
+abbrev pub exit_notes : Option EventPlace → List Fact
+exit_notes exit = place_facts (codes "note exit-without-shutdown") exit
+
+-- an older `offsetEncoding` that names another encoding than the agreed one
+abbrev pub name_notes : Option (List ℕ) → List Fact
+name_notes name = option_to_list
+    (option_map (λ own. line (codes "note offset-encoding" ∷ quoted own ∷ [])) name)
+
+-- a message about a document under a URI that its file lost when it was renamed
+abbrev pub old_name_notes : Option OnDocument → List Fact
+old_name_notes found = option_to_list (option_map
+    (λ (x : OnDocument). line (codes "note renamed" ∷ quoted x.uri ∷ place_words x.place)) found)
+
+-- what the notes are on: messages, and the documents that were changed and have no snapshot
+pub record Noticed : Type 0 where
+  pub said : List Numbered
+  pub unshown : List (List ℕ)
+
+-- what these events have of it
+abbrev pub noticed : Terms → List Event → Noticed
+noticed terms events = record { said = numbered terms events; unshown = unshown terms events }
+
+-- **the notes on these**, with this verdict
+abbrev pub notes_by : Verdict → Noticed → List Fact
+notes_by v n =
+    map misuse_line (misuses n.said) ++ exit_notes (abrupt_exit n.said)
+    ++ name_notes (other_name (older_encoding (sents n.said)) (encoding (sents n.said)))
+    ++ old_name_notes (renamed n.said)
+    ++ uncompared v n.unshown
+
+-- how many there are, if there are any
+abbrev pub count_line : ℕ → List ℕ
+count_line count = if count == 0 then [] else line (codes "notes" ∷ decimal count ∷ [])
+
+-- **the lines of notes**
+abbrev pub note_lines : List Fact → List ℕ
+note_lines notes = fact_lines notes ++ count_line (length notes)

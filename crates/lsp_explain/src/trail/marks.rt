@@ -1,0 +1,173 @@
+//! The marks of documents, by URI.
+ghost use Rattle.std.specs.Prelude.{◌≡◌, [], true, false, List, IfNone, IfOk, IfSome, OnOk};
+ghost use Rattle.lsp_docs.specs.Documents.{Terms};
+ghost use Rattle.lsp_replay.specs.declared.heard.EventPlace.{EventPlace as Place};
+ghost use Rattle.lsp_verdict.specs.Event.{Event};
+ghost use Rattle.lsp_explain.specs.History.{is_closing};
+ghost use Rattle.lsp_explain.specs.Marking.{agreed, recent, steps, unmarked, waiting_for, AreMarks};
+ghost use Rattle.lsp_explain.specs.Marking.{IsAt, MarkedBy, StepsOn, marked_in};
+
+use crate::trail::mark::{Mark, VersionEvent};
+use crate::trail::step::Step;
+use indexmap::IndexMap;
+use lsp_docs::Match;
+use lsp_replay::EventPlace;
+use lsp_rpc::Result;
+use std::alloc::Global;
+
+type MarkMap = IndexMap<String, Mark>;
+
+/// Which events left the documents as they are, by URI: which messages set the last versions, which
+/// equal snapshot has the greatest version, and which snapshots wait for a version.
+///
+/// It stands for the events of a session of which those that offend are skipped. A document of
+/// which nothing is marked has no entry.
+#[derive(Drop)]
+pub struct Marks {
+    map: MarkMap,
+    /// Where in the map the document is that was marked last: most messages are about that one, and
+    /// comparing its URI takes a third of the time of looking it up.
+    last: usize,
+}
+
+impl Marks {
+    /// Nothing is marked.
+    pub fn new(alloc: Global) -> Marks
+        ensures { MarkedBy result.map.entries [] }
+    {
+        let map = IndexMap::new(alloc);
+        Marks { map, last: 0 }
+    }
+
+    /// The messages that set the last versions of a URI, in order, the held one last; at most 32,
+    /// and none where it isn't open.
+    ///
+    /// # Errors
+    /// `Memory` where memory was refused.
+    pub fn setters(&self, uri: &str) -> Result<Vec<VersionEvent>>
+        ensures { IfOk result (λ setters. (terms : Terms) (events : List Event)
+            → AreMarks terms self.now.map.entries events
+            → setters.items ≡ recent (steps terms uri.now events)) }
+    {
+        let alloc = *self.map.allocator();
+        match self.map.get(uri) {
+            Some(mark) => mark.setters(alloc),
+            None => Ok(Vec::new(alloc)),
+        }
+    }
+
+    /// Of the snapshots that were found equal in the standing opening of a URI, that of the
+    /// greatest version, the last of several; none where none was.
+    pub fn agreed(&self, uri: &str) -> Option<VersionEvent>
+        ensures { (terms : Terms) (events : List Event) → AreMarks terms self.now.map.entries events
+            → result ≡ agreed (steps terms uri.now events) }
+    {
+        match self.map.get(uri) {
+            Some(mark) => mark.agreed,
+            None => None,
+        }
+    }
+
+    /// The places of the snapshots of a URI that wait for this version, in order.
+    pub fn waiting(&self, uri: &str, version: i32) -> &[EventPlace]
+        ensures { (terms : Terms) (events : List Event) → AreMarks terms self.now.map.entries events
+            → result.now ≡ waiting_for version (steps terms uri.now events) }
+    {
+        match self.map.get(uri) {
+            Some(mark) => mark.waiting(version),
+            None => &[],
+        }
+    }
+
+    /// Marks what a kept event, that of this place, does to the document of a URI.
+    ///
+    /// # Errors
+    /// `Memory` where memory was refused; nothing is then known of the marks.
+    #[inline(always)]
+    pub(crate) fn keep(&mut self, place: EventPlace, uri: &str, step: Step) -> Result<()>
+        ensures { OnOk result (StepsOn uri.now place step self.old.map.entries
+            self.new.map.entries) }
+    {
+        match step {
+            Step::Closes => {
+                close(&mut self.map, uri);
+                Ok(())
+            }
+            Step::Shows(_, Match::Missed) => Ok(()),
+            Step::Shows(..) => self.touch(place, uri, step),
+            Step::Reaches { .. } => self.touch(place, uri, step),
+        }
+    }
+
+    /// Marks the same of a step that doesn't close the document.
+    #[inline(always)]
+    fn touch(&mut self, place: EventPlace, uri: &str, step: Step) -> Result<()>
+        requires { is_closing step ≡ false }
+        ensures { OnOk result (StepsOn uri.now place step self.old.map.entries
+            self.new.map.entries) }
+    {
+        let Some(at) = find(&self.map, self.last, uri) else {
+            return touch_first(&mut self.map, uri, place, step);
+        };
+        self.last = at;
+        touch_at(&mut self.map, at, uri, place, step)
+    }
+}
+
+/// Where in the map the document of this URI is, if anything is marked of it. The document there
+/// is looked at first; mostly it is the one.
+#[inline(always)]
+fn find(map: &MarkMap, first: usize, uri: &str) -> Option<usize>
+    ensures none { IfNone result (marked_in map.now.entries uri.now ≡ unmarked) }
+    ensures found { IfSome result (IsAt map.now.entries uri.now) }
+{
+    if is_at(map, first, uri) {
+        return Some(first);
+    }
+    let (at, _, _) = map.get_full(uri)?;
+    Some(at)
+}
+
+/// Whether the document there has this URI.
+#[inline(always)]
+fn is_at(map: &MarkMap, at: usize, uri: &str) -> bool
+    ensures { result ≡ true → IsAt map.now.entries uri.now at }
+{
+    match map.get_index(at) {
+        Some((key, _)) => key.as_str() == uri,
+        None => false,
+    }
+}
+
+/// Marks what the event of this place does to the document there, which has this URI.
+#[inline(always)]
+fn touch_at(map: &mut MarkMap, at: usize, uri: &str, place: EventPlace, step: Step) -> Result<()>
+    requires here { IsAt map.old.entries uri.now at }
+    requires open { is_closing step ≡ false }
+    ensures { OnOk result (StepsOn uri.now place step map.old.entries map.new.entries) }
+{
+    let alloc = *map.allocator();
+    let mark = map.get_index_mut(at).unwrap();
+    mark.step(alloc, place, step)
+}
+
+/// Marks the same of a document of which nothing is marked.
+fn touch_first(map: &mut MarkMap, uri: &str, place: EventPlace, step: Step) -> Result<()>
+    requires none { marked_in map.old.entries uri.now ≡ unmarked }
+    requires open { is_closing step ≡ false }
+    ensures { OnOk result (StepsOn uri.now place step map.old.entries map.new.entries) }
+{
+    let alloc = *map.allocator();
+    let mut mark = Mark::new(alloc);
+    mark.step(alloc, place, step)?;
+    let key = String::from_str(alloc, uri)?;
+    map.insert(key, mark)?;
+    Ok(())
+}
+
+/// Takes away what is marked of a document.
+fn close(map: &mut MarkMap, uri: &str)
+    ensures { (p : Place) → StepsOn uri.now p Step.Closes map.old.entries map.new.entries }
+{
+    let _ = map.swap_remove(uri);
+}
