@@ -1,4 +1,2 @@
-pub mod JsonLines
-pub mod JsonRows
 pub mod ReportWords
 pub mod Words

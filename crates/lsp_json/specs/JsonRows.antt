@@ -1,7 +1,7 @@
 -- The rows by which the lines of a report become JSON.
 use Rattle.std.specs.Prelude.{ℕ, List, [], ◌∷◌, ◌++◌, codes}
-use Rattle.lsp_voice.specs.JsonLines.{Field, Member, Row, event, flag, in_quotes, kind, name, names}
-use Rattle.lsp_voice.specs.JsonLines.{value, values, word}
+use Rattle.lsp_json.specs.JsonLines.{Field, Member, Row, event, flag, in_quotes, kind, name, names}
+use Rattle.lsp_json.specs.JsonLines.{value, values, word}
 
 -- a line that begins with this word
 abbrev pub row : List ℕ → List Field → Row
@@ -152,7 +152,7 @@ note_rows =
     note (codes "range-length") (value (codes "sent") ∷ word (codes "length") ∷ value (codes "length") ∷ word (codes "fits") ∷ name (codes "fits") ∷ event [] ∷ []) ∷
     note (codes "range-length") (value (codes "sent") ∷ word (codes "length") ∷ value (codes "length") ∷ event [] ∷ []) ∷
     note (codes "refused") (value (codes "code") ∷ value (codes "uri") ∷ event [] ∷ []) ∷
-    note (codes "late-edits") (event (codes "request_") ∷ event (codes "response_") ∷ event [] ∷ []) ∷
+    note (codes "late-edits") (word (codes "event") ∷ value (codes "request") ∷ word (codes "editor") ∷ value (codes "request_number") ∷ word (codes "event") ∷ value (codes "response") ∷ word (codes "server") ∷ value (codes "response_number") ∷ event [] ∷ []) ∷
     note (codes "outside") (value (codes "line") ∷ value (codes "column") ∷ event [] ∷ []) ∷
     note (codes "overlap") (event [] ∷ []) ∷
     note (codes "unsent") (value (codes "version") ∷ event [] ∷ []) ∷
