@@ -118,9 +118,6 @@ module _ (completeness : Completeness) (words : Words) (terms : Terms) (heard : 
   abbrev ends : List Verdict
   ends = ends_held completeness terms heard e end
 
-  abbrev own : Verdict → List Verdict
-  own v = v ∷ []
-
   module _ (given : code.Verdict) (said : List ℕ) (added : new ≡ old ++ said)
       (listed : List Verdict) (are : ends ≡ listed)
       (is : (tail : Tail) → IsEnd e end heard tail

@@ -1,3 +1,4 @@
-pub mod FirstSteps
 pub mod FirstRuns
+pub mod FirstSteps
+pub mod OneOutput
 pub mod Reports

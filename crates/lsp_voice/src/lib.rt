@@ -5,10 +5,12 @@
 
 mod check;
 mod first;
+mod laws;
 mod report;
 mod voice;
 
 pub use check::{run_check, run_check_line};
 pub use first::First;
+pub use laws::one_report;
 pub use report::Report;
 pub use voice::Voice;
