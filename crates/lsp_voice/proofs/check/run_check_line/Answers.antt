@@ -1,0 +1,9 @@
+use Rattle.std.proofs.Common.{Some}
+use Rattle.lsp_voice.proofs.Reports.{writes_verdict}
+use Rattle.lsp_voice.proofs.check.run_check_line.Goals as goal
+
+pub returns : goal.returns
+returns g c = record {
+  checked = writes_verdict c.args.completeness (Some c.args.name.now) c.args.limits
+      c.pass.ensures.range _ _ c.pass.ensures.passes;
+}
