@@ -69,14 +69,14 @@ module _ (completeness : Completeness) (words : Words) where
       × EndsFirst words terms heard tail (ends_of completeness terms heard tail) last)
 
   pub record FirstGives (limits : Bounds) (log out : List ℕ) (v : Verdict) : Type 0 where
-    pub terms : Terms
-    pub tail : Tail
-    pub first : List Heard
+    pub by : Terms
+    pub behind : Tail
+    pub told : List Heard
     pub front : List ℕ
     pub last : List ℕ
     pub is : out ≡ front ++ last
-    pub says : SaysAll (first_run completeness words) terms tail.rests [] first front
-    pub ends : SaysLast limits log terms tail.rests tail first last v
+    pub says : SaysAll (first_run completeness words) by behind.rests [] told front
+    pub closes : SaysLast limits log by behind.rests behind told last v
     pub right : IsVerdictBy completeness limits log v
 
   module _ (limits : Bounds) (sizes : IsInRange limits) (log out : List ℕ) (outcome : Outcome)
@@ -89,18 +89,18 @@ module _ (completeness : Completeness) (words : Words) where
     stopped s =
         let (v, no, judged) = s.stop.ends in
         let clean = clean_after terms p.tail.rests [] s.first s.front s.said refl in
-        let told = subst (λ (w : List Heard). IsTold limits log p.format p.records w p.tail) s.are
+        let known = subst (λ (w : List Heard). IsTold limits log p.format p.records w p.tail) s.are
         p.told in (
           v,
           record {
-            terms = terms;
-            tail = p.tail;
-            first = s.first;
+            by = terms;
+            behind = p.tail;
+            told = s.first;
             front = s.front;
             last = s.last;
             is = s.is;
             says = s.said;
-            ends = inl (
+            closes = inl (
               s.first,
               s.here,
               no,
@@ -108,7 +108,7 @@ module _ (completeness : Completeness) (words : Words) where
                   s.last) no s.stop.says,
             );
             right = ends_verdict completeness limits log (heard_events s.first) v
-                (told_no limits log p.format p.records p.tail s.first s.later s.here told clean v no
+                (told_no limits log p.format p.records p.tail s.first s.later s.here known clean v no
                 completeness);
           },
           judged,
@@ -124,14 +124,14 @@ module _ (completeness : Completeness) (words : Words) where
         (nothing_listed terms (notes_of p.heard)).1 clean in (
           v,
           record {
-            terms = terms;
-            tail = p.tail;
-            first = p.heard;
+            by = terms;
+            behind = p.tail;
+            told = p.heard;
             front = e.front;
             last = e.last;
             is = e.is;
             says = e.said;
-            ends = inr (refl, e.closes.0);
+            closes = inr (refl, e.closes.0);
             right = subst (IsVerdictBy completeness limits log)
                 (ap (λ (os : List Offence). first_verdict (os ++ map by_itself ends)
                 (bad_log_of p.tail.fault) (summary terms (heard_events p.heard))) none)

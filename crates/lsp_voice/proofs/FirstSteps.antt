@@ -42,13 +42,13 @@ module _ {terms : Terms} {before : List Heard} {h : Heard} {Fits : Rests → Typ
       → rule_of terms before h ≡ None → Adds (words.kept terms before h) old new × Stands
       → Says (first_run completeness words) terms before h Fits old new
       ((first_no terms (heard_events (before ++ h ∷ [])) ≡ None) × Stands) GoOn
-  first_kept clean kept ((said, added, is), on) =
+  first_kept clean kept ((out, grew, holds), on) =
       let none = none_is terms before h kept in
       record {
-        said = said;
-        added = added;
+        said = out;
+        added = grew;
         is = λ rests fits. subst (λ (o : Option Verdict).
-            SaysFirst words terms rests before h o said) (sym none) is;
+            SaysFirst words terms rests before h o out) (sym none) holds;
         goes = (ap is_some none, (first_after terms before h clean ∙ none, on));
       }
 
@@ -58,17 +58,17 @@ module _ {terms : Terms} {before : List Heard} {h : Heard} {Fits : Rests → Typ
       → o ≡ by_itself (no_by (heard_events before) h.note.event rule)
       → verdict_view given ≡ o.no → Adds (SaysOffence words terms Fits before h o) old new
       → Says (first_run completeness words) terms before h Fits old new Stands (Stop boxed)
-  first_told rule o given boxed in_box breaks own named (said, added, is) =
+  first_told rule o given boxed in_box breaks own named (out, grew, holds) =
       let no : Verdict = no_by (heard_events before) h.note.event rule in
       let some : no_of terms before h ≡ Some no =
       ap (option_map (no_by (heard_events before) h.note.event)) breaks in
       record {
-        said = said;
-        added = added;
+        said = out;
+        added = grew;
         is = λ rests fits. subst (λ (v : Option Verdict).
-            SaysFirst words terms rests before h v said) (sym some)
-            (subst (λ (x : Offence). words.offence terms rests before h x said) own
-            (is rests fits));
+            SaysFirst words terms rests before h v out) (sym some)
+            (subst (λ (x : Offence). words.offence terms rests before h x out) own
+            (holds rests fits));
         goes = (
           ap is_some some,
           (no, some, (given, in_box, named ∙ ap (λ (x : Offence). x.no) own)),
@@ -118,21 +118,21 @@ module _ (completeness : Completeness) (words : Words) (terms : Terms) (heard : 
   abbrev ends : List Verdict
   ends = ends_held completeness terms heard e end
 
-  module _ (given : code.Verdict) (said : List ℕ) (added : new ≡ old ++ said)
+  module _ (given : code.Verdict) (out : List ℕ) (grew : new ≡ old ++ out)
       (listed : List Verdict) (are : ends ≡ listed)
-      (is : (tail : Tail) → IsEnd e end heard tail
-      → EndsFirst words terms heard tail listed said)
+      (holds : (tail : Tail) → IsEnd e end heard tail
+      → EndsFirst words terms heard tail listed out)
       (named : (tail : Tail) → IsEnd e end heard tail
       → verdict_view given ≡ end_verdict terms heard tail.fault listed) where
     closes_by : Closes (first_run completeness words) terms heard (IsEnd e end heard) old new
         (Judged given)
     closes_by = record {
-      said = said;
-      added = added;
+      said = out;
+      added = grew;
       is = λ tail fits.
           let due : listed ≡ ends_of completeness terms heard tail =
           sym are ∙ ends_fit completeness terms heard e end tail fits in (
-            subst (λ vs. EndsFirst words terms heard tail vs said) due (is tail fits),
+            subst (λ vs. EndsFirst words terms heard tail vs out) due (holds tail fits),
             (
               given,
               refl,
@@ -148,11 +148,11 @@ module _ (completeness : Completeness) (words : Words) (terms : Terms) (heard : 
       → Adds (SaysEnding words terms heard (IsEnd e end heard) (offence_view o)) old new
       → Closes (first_run completeness words) terms heard (IsEnd e end heard) old new
       (Judged given)
-  ending_closes given o os listed named (said, added, is) =
+  ending_closes given o os listed named (out, grew, holds) =
       let (vs, first, single) = first_listed o os ends listed in
-      closes_by given said added ((offence_view o).no ∷ vs) first
-      (λ tail fits. subst (λ (x : Offence). words.ending terms heard tail x said) single
-      (is tail fits))
+      closes_by given out grew ((offence_view o).no ∷ vs) first
+      (λ tail fits. subst (λ (x : Offence). words.ending terms heard tail x out) single
+      (holds tail fits))
       (λ tail fits. named)
 
   module _ (m : session.State) (d : docs.State) (c : Counts) (stood : Stood terms m d c heard)
@@ -166,7 +166,7 @@ module _ (completeness : Completeness) (words : Words) (terms : Terms) (heard : 
         → Adds (SaysClosing words terms heard (IsEnd e end heard) [] (verdict_view given)) old new
         → Closes (first_run completeness words) terms heard (IsEnd e end heard) old new
         (Judged given)
-    closing_closes given bad none bad_is sound (said, added, is) =
+    closing_closes given bad none bad_is sound (out, grew, holds) =
         let named : (tail : Tail) → IsEnd e end heard tail
         → verdict_view given ≡ end_verdict terms heard tail.fault [] = λ tail fits.
         sound (heard_events heard) (follows_all terms heard m d c stood clean)
@@ -174,6 +174,6 @@ module _ (completeness : Completeness) (words : Words) (terms : Terms) (heard : 
         ∙ ap (λ (t : Terms). first_verdict [] bad (summary t (heard_events heard))) stood.by
         ∙ ap (λ (b : Option Verdict). first_verdict [] b (summary terms (heard_events heard)))
         (bad_is ∙ ap bad_log_of (sym fits.fault)) in
-        closes_by given said added [] (none_listed ends none)
-        (λ tail fits. subst (λ (v : Verdict). words.closing terms heard tail [] v said)
-        (named tail fits) (is tail fits)) named
+        closes_by given out grew [] (none_listed ends none)
+        (λ tail fits. subst (λ (v : Verdict). words.closing terms heard tail [] v out)
+        (named tail fits) (holds tail fits)) named

@@ -68,8 +68,8 @@ module _ (completeness : Completeness) (name : Option (List ℕ)) (limits : Boun
       first_gives completeness (report_words name) limits sizes log out outcome p in
       let said : out ≡ due_for name v =
       g.is ∙ ap (λ w. w ++ g.last)
-      (quiet_all checks quiet g.terms g.tail.rests [] g.first g.front g.says)
-      ∙ last_due log g.terms g.tail g.first g.last v g.ends in (
+      (quiet_all checks quiet g.by g.behind.rests [] g.told g.front g.says)
+      ∙ last_due log g.by g.behind g.told g.last v g.closes in (
         given,
         same,
         subst (λ (w : Verdict). IsDue log w out) (sym named) (g.right, said),
