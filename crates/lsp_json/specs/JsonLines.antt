@@ -28,7 +28,7 @@ is_between byte escaped = false
 -- a byte before the first of these words
 abbrev pub before_first : ℕ → List (List ℕ) → List (List ℕ)
 before_first byte [] = (byte ∷ []) ∷ []
-before_first byte (word ∷ words) = (byte ∷ word) ∷ words
+before_first byte (w ∷ words) = (byte ∷ w) ∷ words
 
 abbrev pub words_from : Place → List ℕ → List (List ℕ)
 words_from place [] = [] ∷ []
@@ -61,7 +61,7 @@ abbrev pub Member : Type 0
 Member = List ℕ × List ℕ
 
 abbrev pub in_quotes : List ℕ → List ℕ
-in_quotes word = 34 ∷ word ++ 34 ∷ []
+in_quotes x = 34 ∷ x ++ 34 ∷ []
 
 -- a name; `-` and `end` stand for none
 abbrev pub name_text : List ℕ → List ℕ
