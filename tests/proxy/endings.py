@@ -10,7 +10,8 @@ import time
 from datetime import datetime, timedelta, timezone
 from pathlib import Path
 
-from session import PROXY, PYTHON, SECONDS, SERVER, Editor
+from processes import SECONDS, until
+from session import PROXY, PYTHON, SERVER, TRACED, Editor
 
 sys.path.insert(0, str(PROXY.parent))
 import proxy_log  # noqa: E402
@@ -24,6 +25,7 @@ def ends(method, number, status, line):
         begun = time.time()
         editor.tell(method, [number])
         found = editor.wait()
+        ended = time.time()
         yield "the status", found == status, found
         log, = editor.logs.glob("*.log")
         text = log.with_suffix(".exit").read_text()
@@ -31,17 +33,33 @@ def ends(method, number, status, line):
         match = re.fullmatch(form, text)
         yield "the file", match is not None, text
         when = match and time.mktime(time.strptime(match[1], "%Y-%m-%dT%H:%M:%S"))
-        yield "the time", match and abs(when - begun) < 10, text
+        yield "the time", match and int(begun) <= when <= ended, text
         rights = {stat.S_IMODE(it.stat().st_mode) for it in editor.logs.iterdir()}
         yield "nobody else reads it", rights == {0o600}, rights
 
     return trial
 
 
-def told_to_end(place):
-    """A signal to the proxy goes to the server, after the editor's last bytes."""
+def recorder_is_late(place):
+    """The proxy ends when its recorder has ended."""
     editor = Editor(place).start()
-    editor.tell("large", "x" * 2_000_000)
+    recorder = editor.recorder()
+    os.kill(recorder, signal.SIGSTOP)
+    editor.ask("shutdown")
+    editor.tell("exit")
+    time.sleep(1)
+    waits = editor.process.poll() is None
+    os.kill(recorder, signal.SIGCONT)
+    yield "it waits", waits and editor.ended() == 0 and editor.has_recorded(), editor.words()
+    yield "the log is whole", editor.log().endswith(b'"exit"}\n'), editor.log()[-100:]
+
+
+def told_to_end(place):
+    """A signal to the proxy goes to the server, after the editor's last bytes, even if the server
+    takes its time to read them."""
+    editor = Editor(place).start()
+    editor.tell("sleep", [1])
+    editor.tell("large", "x" * 150_000)
     editor.tell("note", ["last"])
     editor.process.terminate()
     yield "the status", editor.wait() == 128 + signal.SIGTERM, editor.words()
@@ -51,6 +69,7 @@ def told_to_end(place):
 def group_told_to_end(place):
     """A signal to the proxy and all that it started leaves the recorder its time."""
     editor = Editor(place, start_new_session=True).start()
+    editor.has_logged(b"initialized")
     os.killpg(editor.process.pid, signal.SIGTERM)
     yield "the status", editor.wait() == 128 + signal.SIGTERM, editor.words()
     ended = [it.read_text().split("\n")[0] for it in editor.logs.glob("*.exit")]
@@ -67,15 +86,14 @@ def editor_dies(place):
 
 def child_stays(place):
     """A process that the server started keeps its output open."""
-    editor = Editor(place, server=["sh", "-c", "sleep 60 & cat; echo end"])
+    editor = Editor(place, server=["sh", "-c", "sleep 6000 & echo $!; cat; echo end"])
+    child = int(editor.process.stdout.readline())
     editor.write(b"begin\n")
     editor.process.stdin.close()
-    begun = time.monotonic()
-    status = editor.wait()
-    seconds = time.monotonic() - begun
-    yield "the proxy ends with the server", status == 0 and seconds < 30, (status, seconds)
+    yield "the proxy ends with the server", editor.wait() == 0, editor.words()
     got = os.read(editor.process.stdout.fileno(), 100)
     yield "all is passed on", got == b"begin\nend\n", got
+    os.kill(child, signal.SIGKILL)
 
 
 def names(place):
@@ -112,7 +130,8 @@ def same_number(place):
         words = ["unshare", "--map-root-user", "--fork", "--pid", "--mount-proc"]
     if subprocess.run([*words, "true"], capture_output=True).returncode != 0:
         words = []
-    script = f"printf x | '{PYTHON}' -B '{PROXY}' '{place}/logs' cat"
+    traced = f"'{PYTHON}' -B '{TRACED}' '{place}/trace' {SECONDS} 1"
+    script = f"printf x | {traced} '{place}/logs' cat"
     shell, pipe = [*words, "sh", "-c", script], {"stdout": subprocess.PIPE}
     many = [subprocess.Popen(shell, **pipe) for _ in range(4)]
     passed = [it.communicate(timeout=SECONDS)[0] for it in many]
@@ -144,10 +163,16 @@ def no_session(place):
         how = {"stdin": subprocess.DEVNULL, "capture_output": True, "timeout": SECONDS}
         run = subprocess.run(words, **how)
         yield "what it writes is passed on", run.stdout == b"clangd version\n", run
+        until((place / "logs").is_dir)
         yield "no log", not list((place / "logs").iterdir()), list((place / "logs").iterdir())
-    run = subprocess.run([PROXY, place / "logs", "no-such-server"], **how)
-    missing = b"proxy: no-such-server: No such file or directory\n"
-    yield "no server", (run.returncode, run.stderr) == (1, missing), run
+    closed = ["sh", "-c", 'exec "$@" <&-', "sh", PROXY, place / "logs", "cat"]
+    run = subprocess.run(closed, **how)
+    found = run.returncode, run.stdout, run.stderr
+    yield "a standard input that is closed", found == (0, b"", b""), run
+    editor = Editor(place, server=["no-such-server"])
+    missing = "proxy: no-such-server: No such file or directory\n"
+    found = editor.wait(), editor.words()
+    yield "no server", found == (1, missing), found
     yield "no log of none", not list((place / "logs").iterdir()), None
 
 
@@ -172,6 +197,7 @@ TESTS = {
     "end: a status": ends("leave", 3, 3, "status 3"),
     "end: a signal": ends("die", signal.SIGSEGV, 139, "signal 11"),
     "end: killed": ends("die", signal.SIGKILL, 137, "signal 9"),
+    "end: the recorder is late": recorder_is_late,
     "end: told to": told_to_end,
     "end: told to as a group": group_told_to_end,
     "end: the editor dies": editor_dies,

@@ -11,11 +11,10 @@ ghost use Rattle.lsp_docs.specs.Documents.{versioned};
 ghost use Rattle.lsp_docs.specs.Snapshots.{last_of};
 ghost use Rattle.lsp_docs.specs.Rules.{show_rule, text_at};
 ghost use Rattle.lsp_docs.specs.Stored.{answer_of};
-ghost use Rattle.lsp_docs.specs.Fault.{IsRule, Names};
-ghost use Rattle.lsp_docs.specs.State.{early_rule, rule_with};
+ghost use Rattle.lsp_docs.specs.State.{due_rule, early_rule, rule_with};
+ghost use Rattle.lsp_types.specs.Fault.{IsRule, Names};
 ghost use Rattle.lsp_docs.specs.Tried.{AreTried, tried_in};
 
-use crate::fault::DocFault;
 use crate::history::History;
 use crate::kind::fits_kind;
 use crate::revision::Revision;
@@ -23,7 +22,7 @@ use crate::snapshot::{Match, Texts, refutes};
 use crate::terms::Terms;
 use crate::tried::Tried;
 use lsp_text::{Findings, TextStore};
-use lsp_types::{Change, Encoding, LineEnds, SyncKind, rules};
+use lsp_types::{Change, Encoding, Fault, LineEnds, SyncKind, rules};
 use std::alloc::{AllocError, Global};
 
 /// The version that is held of a document, and those that are kept of what was held before.
@@ -70,6 +69,7 @@ impl<S: TextStore> Document<S> {
     /// it. Where no version is kept, one change is made in the held store itself, which a refused
     /// change leaves as it is. What was tried in a copy that is refused is put there, and what the
     /// changes found.
+    #[inline(always)]
     pub(crate) fn change(
         &mut self,
         terms: Terms,
@@ -80,7 +80,7 @@ impl<S: TextStore> Document<S> {
         due: Option<&Texts>,
         tried: &mut Option<Tried<S>>,
         found: &mut Findings,
-    ) -> Result<(), DocFault>
+    ) -> Result<(), Fault>
         requires { found.old ≡ nothing }
         ensures found { OnOk result (found.new
             ≡ findings terms.limit encoding (S.content self.old.held.store)
@@ -100,7 +100,7 @@ impl<S: TextStore> Document<S> {
             (Names (rule_with terms.limit terms.line_ends (unwrap_or (option_copied due.entry) [])
             encoding kind version (edits_of changes.now)
             (Some (versioned self.old.held.version (S.content self.old.held.store))))) }
-        ensures memory { result ≡ Err DocFault.Memory
+        ensures memory { result ≡ Err Fault.Memory
             → early_rule kind version (edits_of changes.now)
             (Some (versioned self.old.held.version (S.content self.old.held.store))) ≡ None }
         ensures tried { IfErr result (λ fault. IsRule fault
@@ -113,7 +113,7 @@ impl<S: TextStore> Document<S> {
             ≡ versioned self.old.held.version (S.content self.old.held.store))) }
     {
         if let Some(rule) = self.change_rule(kind, version, changes) {
-            return Err(DocFault::Rule(rule));
+            return Err(Fault::Rule(rule));
         }
         if terms.kept == 0 && changes.len() == 1 && due.is_none() {
             let change = &changes[0];
@@ -126,6 +126,47 @@ impl<S: TextStore> Document<S> {
             }
             return Ok(());
         }
+        self.change_copy(terms, encoding, version, changes, due, tried, found)
+    }
+
+    /// Makes the changes in a copy, which replaces the held store if no text that is due
+    /// contradicts it. What is large stays out of the frame of `change`, where it is rarely needed.
+    #[inline(never)]
+    fn change_copy(
+        &mut self,
+        terms: Terms,
+        encoding: Encoding,
+        version: i32,
+        changes: &[Change],
+        due: Option<&Texts>,
+        tried: &mut Option<Tried<S>>,
+        found: &mut Findings,
+    ) -> Result<(), Fault>
+        ensures found { OnOk result (found.new
+            ≡ findings terms.limit encoding (S.content self.old.held.store)
+            (edits_of changes.now)) }
+        ensures version { OnOk result (self.new.held.version ≡ version) }
+        ensures store { OnOk result
+            (applied terms.limit encoding (S.content self.old.held.store) (edits_of changes.now)
+            ≡ Ok (S.content self.new.held.store)) }
+        ensures kept { OnOk result (length self.old.kept ≤ terms.kept
+            → self.new.kept ≡ last_of terms.kept (self.old.kept
+            ++ versioned self.old.held.version (S.content self.old.held.store) ∷ [])) }
+        ensures accepted { OnOk result
+            (due_rule terms.line_ends (unwrap_or (option_copied due.entry) [])
+            (applied terms.limit encoding (S.content self.old.held.store) (edits_of changes.now))
+            ≡ None) }
+        ensures rule { IfErr result
+            (Names (due_rule terms.line_ends (unwrap_or (option_copied due.entry) [])
+            (applied terms.limit encoding (S.content self.old.held.store)
+            (edits_of changes.now)))) }
+        ensures tried { IfErr result (λ fault. IsRule fault
+            → AreTried terms.limit encoding (S.content self.old.held.store) (edits_of changes.now)
+            (tried_in S.content tried.new)) }
+        ensures err { OnErr result ((self.new.kept ≡ self.old.kept)
+            × (versioned self.new.held.version (S.content self.new.held.store)
+            ≡ versioned self.old.held.version (S.content self.old.held.store))) }
+    {
         let alloc = self.kept.alloc();
         let held = &self.held;
         let changed = held.changed(alloc, terms.limit, encoding, changes, tried, found)?;
@@ -134,7 +175,7 @@ impl<S: TextStore> Document<S> {
                 store: changed,
                 count: changes.len(),
             });
-            return Err(DocFault::Rule(rules::SNAPSHOT_DIFFERS));
+            return Err(Fault::Rule(rules::SNAPSHOT_DIFFERS));
         }
         self.revise(terms.kept, version, changed)?;
         Ok(())
@@ -160,7 +201,7 @@ impl<S: TextStore> Document<S> {
         line_ends: LineEnds,
         version: i32,
         text: &str,
-    ) -> Result<Match, DocFault>
+    ) -> Result<Match, Fault>
         ensures answer { IfOk result
             (λ answer. answer ≡ answer_of version self.now.kept
             (Some (versioned self.now.held.version (S.content self.now.held.store)))) }
@@ -173,7 +214,7 @@ impl<S: TextStore> Document<S> {
         ensures rule_only { IfErr result IsRule }
     {
         match self.rule(line_ends, version, text) {
-            Some(rule) => Err(DocFault::Rule(rule)),
+            Some(rule) => Err(Fault::Rule(rule)),
             None => Ok(self.answer(version)),
         }
     }

@@ -12,10 +12,9 @@ ghost use Rattle.lsp_text.specs.Findings.{noted, found_in, text_extent, length_o
 ghost use Rattle.lsp_text.specs.Findings.{FitsLine};
 ghost use Rattle.lsp_text.specs.Steps.{raised, RisesWithin, line_bytes, line_number, touched};
 
-use crate::fault::TextFault;
 use crate::findings::{Extent, Findings, OtherLength, is_length, past_end_of};
 use crate::lined::lines::{LentLine, Lines, Steps};
-use lsp_types::{Encoding, Position, Span, rules};
+use lsp_types::{Encoding, Fault, Position, Span, rules};
 
 /// Replaces what the span holds: 605, then 606, then 607 where the result is over the limit.
 pub(crate) fn edit(
@@ -27,7 +26,7 @@ pub(crate) fn edit(
     text: &str,
     limit: u64,
     found: &mut Findings,
-) -> Result<(), TextFault>
+) -> Result<(), Fault>
     ensures found { OnOk result (found.new
         ≡ noted found.old (found_in encoding (chars lines.old) span range_length)) }
     ensures ok { OnOk result (replaced encoding (chars lines.old) span (chars text.now) limit
@@ -46,21 +45,21 @@ pub(crate) fn edit(
 {
     let line = read_at(lines, span.first, steps);
     let Some(first) = find_in(lines, &line, encoding, span.first) else {
-        return Err(TextFault::Rule(rules::POSITION_INSIDE_CHARACTER));
+        return Err(Fault::Rule(rules::POSITION_INSIDE_CHARACTER));
     };
     let Some(second) = find_second(lines, &line, encoding, span, first, steps) else {
-        return Err(TextFault::Rule(rules::POSITION_INSIDE_CHARACTER));
+        return Err(Fault::Rule(rules::POSITION_INSIDE_CHARACTER));
     };
     let bytes = lines.byte_len();
     if second.offset < first.offset {
-        return Err(TextFault::Rule(rules::RANGE_REVERSED));
+        return Err(Fault::Rule(rules::RANGE_REVERSED));
     }
     if is_over(
         bytes - (second.offset - first.offset) as u64,
         text.len(),
         limit,
     ) {
-        return Err(TextFault::Rule(rules::DOCUMENT_OVER_LIMIT));
+        return Err(Fault::Rule(rules::DOCUMENT_OVER_LIMIT));
     }
     note(lines, encoding, span, first, second, range_length, found);
     lines.replace(first.offset, second.offset, text)?;
@@ -69,7 +68,7 @@ pub(crate) fn edit(
 }
 
 /// Lends the line that a position falls in, and counts its bytes.
-fn read_at<'a>(lines: &'a Lines, position: Position, steps: &mut Steps) -> LentLine<'a>
+pub(crate) fn read_at<'a>(lines: &'a Lines, position: Position, steps: &mut Steps) -> LentLine<'a>
     ensures value { IsLentLine lines.now (line_number (chars lines.now) position) result }
     ensures counted { steps.new
         ≡ raised steps.old (line_bytes (chars lines.now) (line_number (chars lines.now) position)) }
@@ -80,14 +79,14 @@ fn read_at<'a>(lines: &'a Lines, position: Position, steps: &mut Steps) -> LentL
 /// Where a position lies in a text: the bytes before its place, and how far the text goes, if it
 /// lies past the end.
 #[derive(Clone, Copy)]
-struct Spotted {
-    offset: usize,
+pub(crate) struct Spotted {
+    pub(crate) offset: usize,
     extent: Option<Extent>,
 }
 
 /// Where a position lies that falls in a lent line, or `None` where it lies inside a character.
 #[inline(always)]
-fn find_in(
+pub(crate) fn find_in(
     lines: &Lines,
     line: &LentLine<'_>,
     encoding: Encoding,

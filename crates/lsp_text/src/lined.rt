@@ -38,21 +38,17 @@ mod patch;
 mod tree;
 mod window;
 
-ghost use Rattle.std.specs.Prelude.{◌≡◌, ◌*◌, length, IfOk, OnOk, OnErr, IfErr};
-ghost use Rattle.std.specs.Prelude.{MatchOption, None, Ok};
+ghost use Rattle.std.specs.Prelude.{◌≡◌, ◌*◌, length, IfOk, OnOk, OnErr, IfErr, Ok};
 ghost use Rattle.std.specs.Str.{chars};
 ghost use Rattle.lsp_text.specs.Edits.{replaced, limited, IsFaultOf};
-ghost use Rattle.lsp_text.specs.Places.{place_of};
 ghost use Rattle.lsp_text.specs.Steps.{RisesWithin, touched};
-ghost use Rattle.lsp_text.specs.Offsets.{IsTextOffset};
 ghost use Rattle.lsp_text.specs.Findings.{noted, found_in};
 
-use crate::edit::edit;
-use crate::fault::TextFault;
+use crate::edit::{edit, find_in, read_at};
 use crate::findings::Findings;
 use crate::store::{Place, TextStore};
 use lines::{Lines, Steps};
-use lsp_types::{Encoding, Memory, Position, Span, rules};
+use lsp_types::{Encoding, Fault, Memory, Position, Span, rules};
 use std::alloc::Global;
 use std::marker::Model;
 
@@ -96,11 +92,12 @@ impl TextStore for Lined {
         })
     }
 
-    fn resolve(&self, encoding: Encoding, position: Position) -> Result<Place, TextFault> {
-        match offset_of(&self.lines, encoding, position) {
-            None => Err(TextFault::Rule(rules::POSITION_INSIDE_CHARACTER)),
-            Some(offset) => Ok(Place {
-                chars: self.lines.chars_before(offset),
+    fn resolve(&self, encoding: Encoding, position: Position) -> Result<Place, Fault> {
+        let line = read_at(&self.lines, position, &mut Steps::none());
+        match find_in(&self.lines, &line, encoding, position) {
+            None => Err(Fault::Rule(rules::POSITION_INSIDE_CHARACTER)),
+            Some(spotted) => Ok(Place {
+                chars: self.lines.chars_before(spotted.offset),
             }),
         }
     }
@@ -111,7 +108,7 @@ impl TextStore for Lined {
         span: Span,
         text: &str,
         limit: u64,
-    ) -> Result<(), TextFault>
+    ) -> Result<(), Fault>
         ensures ok { OnOk result (replaced encoding self.old.content span (chars text.now) limit
             ≡ Ok self.new.content) }
         ensures fault { IfErr result
@@ -137,7 +134,7 @@ impl TextStore for Lined {
         text: &str,
         limit: u64,
         found: &mut Findings,
-    ) -> Result<(), TextFault>
+    ) -> Result<(), Fault>
         ensures found { OnOk result (found.new
             ≡ noted found.old (found_in encoding self.old.content span range_length)) }
         ensures ok { OnOk result (replaced encoding self.old.content span (chars text.now) limit
@@ -166,14 +163,14 @@ impl TextStore for Lined {
         )
     }
 
-    fn replace_all(&mut self, text: &str, limit: u64) -> Result<(), TextFault>
+    fn replace_all(&mut self, text: &str, limit: u64) -> Result<(), Fault>
         ensures ok { OnOk result (limited limit (chars text.now) ≡ Ok self.new.content) }
         ensures fault { IfErr result (IsFaultOf (limited limit (chars text.now))) }
         ensures err { OnErr result (self.new.content ≡ self.old.content) }
         ensures steps { self.new.steps ≡ self.old.steps }
     {
         if limit < text.len() as u64 {
-            return Err(TextFault::Rule(rules::DOCUMENT_OVER_LIMIT));
+            return Err(Fault::Rule(rules::DOCUMENT_OVER_LIMIT));
         }
         self.lines.renew(text)?;
         Ok(())
@@ -208,17 +205,4 @@ impl TextStore for Lined {
             steps: Steps::none(),
         })
     }
-}
-
-/// The bytes before a position, or `None` where it lies inside a character.
-fn offset_of(lines: &Lines, encoding: Encoding, position: Position) -> Option<usize>
-    ensures { MatchOption result (place_of encoding (chars lines.now) position ≡ None)
-        (IsTextOffset encoding lines.now position) }
-{
-    let number = lines.number_of(position);
-    let line = lines.peek(number);
-    if number < position.line as u64 {
-        return Some(lines.byte_len() as usize);
-    }
-    line.offset_of(encoding, position.column)
 }

@@ -7,7 +7,7 @@ ghost use Rattle.std.specs.Map.{lookup};
 ghost use Rattle.std.specs.Ordering.{int_eq};
 ghost use Rattle.lsp_explain.specs.History.{is_closing};
 ghost use Rattle.lsp_explain.specs.Marking.{above, is_set_to, last_shown, newer, newer_of};
-ghost use Rattle.lsp_explain.specs.Marking.{next_rank, rank_of, stepped, unmarked};
+ghost use Rattle.lsp_explain.specs.Marking.{rank_of, stepped, unmarked};
 ghost use Rattle.lsp_explain.specs.Marking.{is_first_reached, mark_view, rest_of, waiting_in};
 
 use crate::trail::last_ones::push_within;
@@ -83,17 +83,18 @@ impl Mark {
 
     /// Marks what the event of this place does to the document, which it doesn't close.
     #[inline(never)]
-    pub(crate) fn step(&mut self, alloc: Global, place: EventPlace, step: Step) -> Result<()>
-        requires { is_closing step ≡ false }
-        ensures { OnOk result (mark_view self.new ≡ stepped place step (mark_view self.old)) }
+    pub(crate) fn step(&mut self, alloc: Global, place: &EventPlace, step: &Step) -> Result<()>
+        requires { is_closing step.now ≡ false }
+        ensures { OnOk result (mark_view self.new
+            ≡ stepped place.now step.now (mark_view self.old)) }
     {
-        match step {
-            Step::Reaches { version, .. } => self.reach(place, version),
+        match *step {
+            Step::Reaches { version, .. } => self.reach(*place, version),
             Step::Shows(version, Match::Equal) => {
-                self.compare(place, version);
+                self.compare(*place, version);
                 Ok(())
             }
-            Step::Shows(version, Match::Waits) => add(&mut self.waiting, alloc, version, place),
+            Step::Shows(version, Match::Waits) => add(&mut self.waiting, alloc, version, *place),
             Step::Shows(_, Match::Missed) => Ok(()),
             Step::Closes => Ok(()),
         }
@@ -104,7 +105,7 @@ impl Mark {
         ensures { OnOk result ((first : Bool) → mark_view self.new
             ≡ stepped place (Step.Reaches version first) (mark_view self.old)) }
     {
-        let rank = next_rank(self.rank);
+        let rank = self.rank.saturating_add(1);
         let setter = VersionEvent {
             place,
             version,
@@ -149,13 +150,6 @@ impl Mark {
     }
 }
 
-/// Which version of its opening comes after the one of this rank.
-fn next_rank(rank: u64) -> u64
-    ensures { result ≡ next_rank rank }
-{
-    rank.saturating_add(1)
-}
-
 /// Which version of its opening this is by one of these messages; 0 where none of them set it.
 fn rank_of(setters: &VecDeque<VersionEvent>, version: i32) -> u64
     ensures { result ≡ rank_of version setters.now.items }
@@ -170,13 +164,7 @@ fn rank_of(setters: &VecDeque<VersionEvent>, version: i32) -> u64
 fn setter_of(setters: &VecDeque<VersionEvent>, version: i32) -> Option<&VersionEvent>
     ensures { option_map (λ s. s.now) result ≡ find (is_set_to version) setters.now.items }
 {
-    setters.iter().find(|setter| is_set_to(setter, version))
-}
-
-fn is_set_to(setter: &VersionEvent, version: i32) -> bool
-    ensures { result ≡ is_set_to version setter.now }
-{
-    setter.version == version
+    setters.iter().find(|setter| setter.version == version)
 }
 
 /// The last of the snapshots that wait for a version, which is the one of this rank.
