@@ -1,0 +1,4 @@
+pub mod FirstRuns
+pub mod FirstSteps
+pub mod OneOutput
+pub mod Reports
