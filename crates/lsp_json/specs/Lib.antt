@@ -1,3 +1,4 @@
-pub mod JsonLines
-pub mod JsonRows
-pub mod JsonRun
+pub mod Fields
+pub mod Lines
+pub mod Members
+pub mod Words

@@ -1,8 +1,14 @@
-//! A trial: what a run says, as JSON.
+//! The lines of a report as JSON: an object for each line, in the order of the lines.
 //!
-//! `Json` is an account around an account: the text of each step is made into objects.
+//! `words` cuts a line into words. `rows` has the table of what the words of each kind of line are,
+//! and `field` tells which row takes a line. `members` writes what its words become, and `lines` the
+//! objects.
 #![tactic(auto)]
 
-mod json;
+mod field;
+mod lines;
+mod members;
+mod rows;
+mod words;
 
-pub use json::Json;
+pub use lines::push_json;

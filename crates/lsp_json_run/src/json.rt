@@ -1,11 +1,10 @@
 //! What an account says, as JSON.
-ghost use Rattle.std.specs.Prelude.{◌≡◌, ◌++◌, OnOk, string_bytes};
-ghost use Rattle.lsp_json.specs.JsonLines.{json_lines};
-ghost use Rattle.lsp_json.specs.JsonRows.{rows};
-ghost use Rattle.lsp_json.specs.JsonRun.{json_run};
+ghost use Rattle.std.specs.Prelude.{◌≡◌};
+ghost use Rattle.lsp_json_run.specs.JsonRun.{json_run};
 
+use lsp_json::push_json;
 use lsp_replay::{Account, End, Events, Flow, LogEvents, Seen};
-use lsp_rpc::{Memory, Result};
+use lsp_rpc::Result;
 use lsp_text::Lined;
 use lsp_verdict::Outcome;
 use std::alloc::Global;
@@ -14,7 +13,8 @@ use std::alloc::Global;
 #[derive(Drop)]
 pub struct Json<A> {
     account: A,
-    plain: String,
+    /// The lines of one step.
+    lines: String,
 }
 
 impl<A: Account + Drop> Json<A> {
@@ -22,10 +22,8 @@ impl<A: Account + Drop> Json<A> {
     pub fn new(alloc: Global, account: A) -> Json<A>
         ensures { result.account ≡ account }
     {
-        Json {
-            account,
-            plain: String::new(alloc),
-        }
+        let lines = String::new(alloc);
+        Json { account, lines }
     }
 }
 
@@ -40,9 +38,9 @@ impl<A: Account + Drop> Account for Json<A> {
 
     #[inline(always)]
     fn event(&mut self, held: &Events<Lined>, seen: &Seen<'_>, text: &mut String) -> Result<Flow> {
-        self.plain.clear();
-        let flow = self.account.event(held, seen, &mut self.plain)?;
-        push_json(text, self.plain.as_str())?;
+        self.lines.clear();
+        let flow = self.account.event(held, seen, &mut self.lines)?;
+        push_json(text, self.lines.as_str())?;
         Ok(flow)
     }
 
@@ -53,18 +51,9 @@ impl<A: Account + Drop> Account for Json<A> {
         end: End,
         text: &mut String,
     ) -> Result<Outcome> {
-        self.plain.clear();
-        let outcome = self.account.end(held, log, end, &mut self.plain)?;
-        push_json(text, self.plain.as_str())?;
+        self.lines.clear();
+        let outcome = self.account.end(held, log, end, &mut self.lines)?;
+        push_json(text, self.lines.as_str())?;
         Ok(outcome)
     }
-}
-
-/// Adds the objects of these lines to a text. A stub.
-fn push_json(text: &mut String, plain: &str) -> Result<()>
-    ensures { OnOk result (string_bytes text.new ≡ string_bytes text.old
-        ++ json_lines rows plain.now) }
-{
-    let _lengths = (text.len(), plain.len());
-    Err(Memory)
 }

@@ -1,0 +1,78 @@
+-- The lines of a report as JSON: an object for each line, in the order of the lines. A No and a bad
+-- log have the line behind them, which says what is wrong, in their object.
+use Rattle.std.specs.Prelude.{ℕ, Bool, true, false, ◌||◌, not, List, [], ◌∷◌, ◌++◌, map, flat_map, codes}
+use Rattle.std.specs.Prelude.{Option, Some, None, if◌then◌else◌}
+use Rattle.std.specs.Borrow.{Bor}
+use Rattle.std.specs.Str.{bytes_eq}
+use Rattle.std.specs.Str.Lines.{lines}
+use Rattle.json.specs.Print.{quoted}
+use Rattle.lsp_json.specs.Fields.{Entry, field_view, fit}
+use Rattle.lsp_json.specs.Members.{member, members_of}
+use Rattle.lsp_json.specs.Words.{Words, words_in}
+use Rattle.lsp_json.specs.declared.field.Field.{Field}
+use Rattle.lsp_json.specs.declared.rows.TheConstants.{ROWS}
+
+-- ---- rows
+
+-- what a line is, and what its words are
+abbrev pub Row : Type 0
+Row = List ℕ × List Entry
+
+abbrev pub row_view : Bor (List ℕ) × Bor (List (Field × Bor (List ℕ))) → Row
+row_view row = (row.0.now, map field_view row.1.now)
+
+-- **the rows of the lines of a report**
+abbrev pub rows : List Row
+rows = map row_view ROWS
+
+-- the first row that takes all words
+abbrev pub row_for : List Row → Words → Option Row
+row_for [] words = None
+row_for (row ∷ rows) words = if fit row.1 words then Some row else row_for rows words
+
+-- the line behind such a line says what is wrong
+abbrev pub has_text : Option Row → Bool
+has_text None = false
+has_text (Some row) = bytes_eq row.0 (codes "no") || bytes_eq row.0 (codes "bad log")
+
+-- ---- objects
+
+-- an object up to its end: what the line is, and the members of its words; a line that no row takes
+-- is a text
+abbrev pub front : Option Row → Words → List ℕ → List ℕ
+front None words line = codes "{\"is\":\"line\",\"text\":" ++ quoted line
+front (Some row) words line =
+    codes "{\"is\":" ++ quoted row.0 ++ flat_map member (members_of row.1 words)
+
+-- the end of an object, and LF, unless its text comes next
+abbrev pub end_unless : Bool → List ℕ
+end_unless true = []
+end_unless false = 125 ∷ 10 ∷ []
+
+-- the object of a line, whose end comes after the text, if it has one
+abbrev pub object_json : List Row → List ℕ → List ℕ
+object_json rows line = let row = row_for rows (words_in line) in
+    front row (words_in line) line ++ end_unless (has_text row)
+
+-- the text of an object, and its end
+abbrev pub text_json : List ℕ → List ℕ
+text_json line = codes ",\"text\":" ++ quoted line ++ end_unless false
+
+-- what a line becomes, which may be the text of an object
+abbrev pub line_json : List Row → Bool → List ℕ → List ℕ
+line_json rows true line = text_json line
+line_json rows false line = object_json rows line
+
+abbrev pub awaits_text : List Row → Bool → List ℕ → Bool
+awaits_text rows true line = false
+awaits_text rows false line = has_text (row_for rows (words_in line))
+
+-- what these lines become, the first of which may be the text of an object
+abbrev pub json_from : List Row → Bool → List (List ℕ) → List ℕ
+json_from rows is_text [] = end_unless (not is_text)
+json_from rows is_text (line ∷ lines) =
+    line_json rows is_text line ++ json_from rows (awaits_text rows is_text line) lines
+
+-- **a report as JSON**: an object for each of its lines
+abbrev pub json_lines : List ℕ → List ℕ
+json_lines report = json_from rows false (lines report)

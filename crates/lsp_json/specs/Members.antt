@@ -1,0 +1,72 @@
+-- The members that the words of a row become.
+use Rattle.std.specs.Prelude.{ℕ, Bool, true, false, ◌&&◌, ◌||◌, ◌==◌, not, nat_lt, List, [], ◌∷◌, ◌++◌}
+use Rattle.std.specs.Prelude.{flat_map, get_or, codes, if◌then◌else◌}
+use Rattle.std.specs.Str.{bytes_eq}
+use Rattle.json.specs.Print.{quoted}
+use Rattle.lsp_json.specs.Fields.{Entry, behind, is_none, own}
+use Rattle.lsp_json.specs.Words.{Words}
+use Rattle.lsp_json.specs.declared.field.Field.{Field}
+use Rattle.lsp_json.specs.declared.field.Field.TheVariants.{Word, Kind, Note, Value, Values, Event, Flag}
+
+-- a key, and the JSON text of its value
+abbrev pub Member : Type 0
+Member = List ℕ × List ℕ
+
+-- a key in quotes, with the comma before it and the colon behind it
+abbrev pub key : List ℕ → List ℕ
+key name = codes ",\"" ++ name ++ codes "\":"
+
+abbrev pub member : Member → List ℕ
+member m = key m.0 ++ m.1
+
+abbrev pub is_digit : ℕ → Bool
+is_digit byte = nat_lt 47 byte && nat_lt byte 58
+
+-- it begins as a number or as JSON text
+abbrev pub is_json : List ℕ → Bool
+is_json word = let first = get_or word 0 0 in
+    (first == 34) || is_digit first || ((first == 45) && is_digit (get_or word 1 0))
+
+-- **a word as JSON**: a number or JSON text as it is, null for `-` and `end`, and any other word in
+-- quotes
+abbrev pub json_of : List ℕ → List ℕ
+json_of word =
+    if is_json word || bytes_eq word (codes "null") then word
+    else if bytes_eq word (codes "-") || bytes_eq word (codes "end") then codes "null"
+    else quoted word
+
+abbrev pub flag : Bool → List ℕ
+flag true = codes "true"
+flag false = codes "false"
+
+abbrev pub other_item : List ℕ → List ℕ
+other_item word = 44 ∷ json_of word
+
+abbrev pub items : Words → List ℕ
+items [] = []
+items (word ∷ words) = json_of word ++ flat_map other_item words
+
+abbrev pub array : Words → List ℕ
+array words = 91 ∷ items words ++ 93 ∷ []
+
+-- the number of an event, whose it is, and its number among theirs
+abbrev pub event_members : Words → List Member
+event_members words =
+    (codes "event", json_of (get_or words 1 [])) ∷ (codes "side", json_of (get_or words 2 []))
+    ∷ (codes "number", json_of (get_or words 3 [])) ∷ []
+
+-- the members that the words of a field become
+abbrev pub members : Field → List ℕ → Words → List Member
+members Word text words = []
+members Kind text words = (codes "kind", quoted text) ∷ []
+members Note text words = (codes "note", quoted text) ∷ []
+members Value text words = (text, json_of (get_or words 0 [])) ∷ []
+members Values text words = (text, array words) ∷ []
+members Event text words = event_members words
+members Flag text words = (text, flag (not (is_none words))) ∷ []
+
+-- **the members that the words of these fields become**
+abbrev pub members_of : List Entry → Words → List Member
+members_of [] words = []
+members_of (entry ∷ entries) words =
+    members entry.0 entry.1 (own entry.0 words) ++ members_of entries (behind entry.0 words)
