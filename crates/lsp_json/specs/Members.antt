@@ -1,6 +1,7 @@
 -- The members that the words of a row become.
-use Rattle.std.specs.Prelude.{ℕ, Bool, true, false, ◌&&◌, ◌||◌, ◌==◌, not, nat_lt, List, [], ◌∷◌, ◌++◌}
+use Rattle.std.specs.Prelude.{ℕ, Bool, true, false, ◌&&◌, ◌||◌, ◌==◌, not, List, [], ◌∷◌, ◌++◌}
 use Rattle.std.specs.Prelude.{flat_map, get_or, codes, if◌then◌else◌}
+use Rattle.std.specs.Char.{is_ascii_digit}
 use Rattle.std.specs.Str.{bytes_eq}
 use Rattle.json.specs.Print.{quoted}
 use Rattle.lsp_json.specs.Fields.{Entry, behind, is_none, own}
@@ -19,13 +20,12 @@ key name = codes ",\"" ++ name ++ codes "\":"
 abbrev pub member : Member → List ℕ
 member m = key m.0 ++ m.1
 
-abbrev pub is_digit : ℕ → Bool
-is_digit byte = nat_lt 47 byte && nat_lt byte 58
-
 -- it begins as a number or as JSON text
 abbrev pub is_json : List ℕ → Bool
-is_json word = let first = get_or word 0 0 in
-    (first == 34) || is_digit first || ((first == 45) && is_digit (get_or word 1 0))
+is_json [] = false
+is_json (first ∷ []) = (first == 34) || is_ascii_digit first
+is_json (first ∷ next ∷ bytes) =
+    (first == 34) || (if first == 45 then is_ascii_digit next else is_ascii_digit first)
 
 -- **a word as JSON**: a number or JSON text as it is, null for `-` and `end`, and any other word in
 -- quotes

@@ -142,7 +142,9 @@ fn is_json(word: &[u8]) -> bool
     ensures { result ≡ spec.is_json word.now }
 {
     match word {
-        [b'"', ..] | [b'0'..=b'9', ..] | [b'-', b'0'..=b'9', ..] => true,
-        _ => false,
+        [b'"', ..] => true,
+        [b'-', digit, ..] => digit.is_ascii_digit(),
+        [first, ..] => first.is_ascii_digit(),
+        [] => false,
     }
 }

@@ -60,7 +60,10 @@ impl Place {
     fn ends_word(self, byte: u8) -> bool
         ensures { result ≡ spec.ends_word self byte }
     {
-        matches!(self, Place::Outside) && byte == b' '
+        match self {
+            Place::Outside => byte == b' ',
+            Place::Inside | Place::Escaped => false,
+        }
     }
 
     /// Where the byte behind this one stands.
@@ -68,11 +71,29 @@ impl Place {
         ensures { result ≡ spec.place_after self byte }
     {
         match self {
-            Place::Outside if byte == b'"' => Place::Inside,
-            Place::Outside => Place::Outside,
-            Place::Inside if byte == b'"' => Place::Outside,
-            Place::Inside if byte == b'\\' => Place::Escaped,
-            Place::Inside | Place::Escaped => Place::Inside,
+            Place::Outside => behind_outside(byte),
+            Place::Inside => behind_inside(byte),
+            Place::Escaped => Place::Inside,
         }
+    }
+}
+
+fn behind_outside(byte: u8) -> Place
+    ensures { result ≡ spec.place_after Place.Outside byte }
+{
+    if byte == b'"' {
+        Place::Inside
+    } else {
+        Place::Outside
+    }
+}
+
+fn behind_inside(byte: u8) -> Place
+    ensures { result ≡ spec.place_after Place.Inside byte }
+{
+    match byte {
+        b'"' => Place::Outside,
+        b'\\' => Place::Escaped,
+        _ => Place::Inside,
     }
 }
