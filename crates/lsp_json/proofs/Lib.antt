@@ -1,4 +1,2 @@
 pub mod Cuts
-pub mod Entries
 pub mod Objects
-pub mod Worked

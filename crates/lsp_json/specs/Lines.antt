@@ -22,13 +22,13 @@ abbrev pub row_view : Bor (List ℕ) × Bor (List (Field × Bor (List ℕ))) →
 row_view row = (row.0.now, map field_view row.1.now)
 
 -- **the rows of the lines of a report**
-abbrev pub rows : List Row
-rows = map row_view ROWS
+unfoldable pub rows : List Row
+rows = map (λ row. (row.0.now, map (λ entry. (entry.0, entry.1.now)) row.1.now)) ROWS
 
 -- the first row that takes all words
 abbrev pub row_for : List Row → Words → Option Row
 row_for [] words = None
-row_for (row ∷ rows) words = if fit row.1 words then Some row else row_for rows words
+row_for (row ∷ others) words = if fit row.1 words then Some row else row_for others words
 
 -- the line behind such a line says what is wrong
 abbrev pub has_text : Option Row → Bool
@@ -49,30 +49,33 @@ abbrev pub end_unless : Bool → List ℕ
 end_unless true = []
 end_unless false = 125 ∷ 10 ∷ []
 
--- the object of a line, whose end comes after the text, if it has one
-abbrev pub object_json : List Row → List ℕ → List ℕ
-object_json rows line = let row = row_for rows (words_in line) in
+-- the object of a line by these rows; its end comes after the text, if it has one
+abbrev pub object_by : List Row → List ℕ → List ℕ
+object_by table line = let row = row_for table (words_in line) in
     front row (words_in line) line ++ end_unless (has_text row)
+
+abbrev pub object_json : List ℕ → List ℕ
+object_json line = object_by rows line
 
 -- the text of an object, and its end
 abbrev pub text_json : List ℕ → List ℕ
 text_json line = codes ",\"text\":" ++ quoted line ++ end_unless false
 
 -- what a line becomes, which may be the text of an object
-abbrev pub line_json : List Row → Bool → List ℕ → List ℕ
-line_json rows true line = text_json line
-line_json rows false line = object_json rows line
+abbrev pub line_json : Bool → List ℕ → List ℕ
+line_json true line = text_json line
+line_json false line = object_json line
 
-abbrev pub awaits_text : List Row → Bool → List ℕ → Bool
-awaits_text rows true line = false
-awaits_text rows false line = has_text (row_for rows (words_in line))
+abbrev pub awaits_text : Bool → List ℕ → Bool
+awaits_text true line = false
+awaits_text false line = has_text (row_for rows (words_in line))
 
 -- what these lines become, the first of which may be the text of an object
-abbrev pub json_from : List Row → Bool → List (List ℕ) → List ℕ
-json_from rows is_text [] = end_unless (not is_text)
-json_from rows is_text (line ∷ lines) =
-    line_json rows is_text line ++ json_from rows (awaits_text rows is_text line) lines
+abbrev pub json_from : Bool → List (List ℕ) → List ℕ
+json_from is_text [] = end_unless (not is_text)
+json_from is_text (line ∷ lines) =
+    line_json is_text line ++ json_from (awaits_text is_text line) lines
 
 -- **a report as JSON**: an object for each of its lines
 abbrev pub json_lines : List ℕ → List ℕ
-json_lines report = json_from rows false (lines report)
+json_lines report = json_from false (lines report)

@@ -29,15 +29,14 @@ pub(crate) type Entry = (Field, &'static str);
 pub(crate) fn fit(fields: &[Entry], words: &[&str]) -> bool
     ensures { result ≡ spec.fit (map field_view fields.now) (map word_view words.now) }
 {
-    let mut left = words;
-    for (field, text) in fields {
-        let (own, behind) = field.split(left);
-        if !field.suits(text, own) {
-            return false;
-        }
-        left = behind;
+    let [(field, text), others @ ..] = fields else {
+        return words.is_empty();
+    };
+    let (own, behind) = field.split(words);
+    if !field.suits(text, own) {
+        return false;
     }
-    left.is_empty()
+    fit(others, behind)
 }
 
 impl Field {

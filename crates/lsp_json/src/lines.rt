@@ -1,9 +1,9 @@
 //! The objects of the lines of a report.
-ghost use Rattle.std.specs.Prelude.{◌≡◌, ◌++◌, IfOk, OnOk, map, option_map, string_bytes};
+ghost use Rattle.std.specs.Prelude.{◌≡◌, ◌++◌, IfOk, OnOk, false, map, option_map, string_bytes};
 ghost use Rattle.lsp_json.specs.Fields.{word_view};
 ghost use Rattle.lsp_json.specs.Lines as spec;
-ghost use Rattle.lsp_json.specs.Lines.{front, json_lines, line_json, object_json, row_view, rows};
-ghost use Rattle.lsp_json.specs.Lines.{text_json};
+ghost use Rattle.lsp_json.specs.Lines.{front, json_lines, line_json, object_by, object_json, row_for};
+ghost use Rattle.lsp_json.specs.Lines.{row_view, text_json};
 ghost use Rattle.lsp_json.specs.Words.{words_in};
 
 use crate::field::fit;
@@ -31,8 +31,8 @@ pub fn push_json(text: &mut String, report: &str) -> Result<()>
 /// Adds what a line becomes, which may be the text of an object. Answers whether a text comes next.
 fn push_line(text: &mut String, line: &str, is_text: bool) -> Result<bool>
     ensures added { OnOk result
-        (string_bytes text.new ≡ string_bytes text.old ++ line_json rows is_text line.now) }
-    ensures awaits { IfOk result (λ awaits. awaits ≡ spec.awaits_text rows is_text line.now) }
+        (string_bytes text.new ≡ string_bytes text.old ++ line_json is_text line.now) }
+    ensures awaits { IfOk result (λ awaits. awaits ≡ spec.awaits_text is_text line.now) }
 {
     if is_text {
         push_text(text, line)?;
@@ -51,15 +51,25 @@ fn push_text(text: &mut String, line: &str) -> Result<()>
 }
 
 /// Adds the object of a line, and ends it, unless it has a text: that comes next then.
+#[tactic(auto, unfolding(crate::specs::Lines::rows))]
 fn push_object(text: &mut String, line: &str) -> Result<bool>
     ensures added { OnOk result
-        (string_bytes text.new ≡ string_bytes text.old ++ object_json rows line.now) }
+        (string_bytes text.new ≡ string_bytes text.old ++ object_json line.now) }
+    ensures awaits { IfOk result (λ awaits. awaits ≡ spec.awaits_text false line.now) }
+{
+    push_object_by(&ROWS, text, line)
+}
+
+/// The same by these rows.
+fn push_object_by(rows: &[Row], text: &mut String, line: &str) -> Result<bool>
+    ensures added { OnOk result (string_bytes text.new ≡ string_bytes text.old
+        ++ object_by (map row_view rows.now) line.now) }
     ensures awaits { IfOk result
-        (λ awaits. awaits ≡ spec.has_text (spec.row_for rows (words_in line.now))) }
+        (λ awaits. awaits ≡ spec.has_text (row_for (map row_view rows.now) (words_in line.now))) }
 {
     let words = words_in(*text.allocator(), line)?;
     let words = words.as_slice();
-    let row = row_for(&ROWS, words);
+    let row = row_for(rows, words);
     push_front(text, row, words, line)?;
     let awaits_text = has_text(row);
     push_end_unless(text, awaits_text)?;
@@ -97,7 +107,7 @@ fn push_front(text: &mut String, row: Option<&Row>, words: &[&str], line: &str) 
 /// The first row that takes all words.
 fn row_for<'r>(rows: &'r [Row], words: &[&str]) -> Option<&'r Row>
     ensures { option_map (λ row. row_view row.now) result
-        ≡ spec.row_for (map row_view rows.now) (map word_view words.now) }
+        ≡ row_for (map row_view rows.now) (map word_view words.now) }
 {
     for row in rows {
         let (_, fields) = row;

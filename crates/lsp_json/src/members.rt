@@ -16,13 +16,12 @@ pub(crate) fn push_members(object: &mut String, fields: &[Entry], words: &[&str]
     ensures { OnOk result (string_bytes object.new ≡ string_bytes object.old
         ++ flat_map member (spec.members_of (map field_view fields.now) (map word_view words.now))) }
 {
-    let mut left = words;
-    for (field, text) in fields {
-        let (own, behind) = field.split(left);
-        push_field(object, *field, text, own)?;
-        left = behind;
-    }
-    Ok(())
+    let [(field, text), others @ ..] = fields else {
+        return Ok(());
+    };
+    let (own, behind) = field.split(words);
+    push_field(object, *field, text, own)?;
+    push_members(object, others, behind)
 }
 
 /// Adds the members of a field.

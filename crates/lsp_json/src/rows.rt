@@ -43,7 +43,7 @@ const URI: Entry = (Value, "uri");
 const VERSION: Entry = (Value, "version");
 
 /// The rows of the lines of a report: of a verdict, of details, of notes, and of events.
-pub(crate) const ROWS: [Row; 116] = [
+pub(crate) static ROWS: [Row; 116] = [
     ("yes", &[(Word, "yes")]),
     (
         "no",
