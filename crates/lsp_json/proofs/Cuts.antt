@@ -110,8 +110,12 @@ boundary line = by_cut (cut Outside line)
         within : n < length line
         within = omega (arith, ap length next, length-drop n line)
 
+        none_more : n ≡ n + 0
+        none_more = omega arith
+
+        at : get_or line n 0 ≡ 32
+        at = ap (λ (k : ℕ). get_or line k 0) none_more ∙ sym (get_or-drop n line 0 0)
+            ∙ ap (λ (w : List ℕ). get_or w 0 0) next
+
         small : get_or line n 0 < 128
-        small = omega (
-          arith,
-          sym (get_or-drop n line 0 0) ∙ ap (λ (w : List ℕ). get_or w 0 0) next,
-        )
+        small = omega (arith, at)

@@ -10,7 +10,6 @@ use Rattle.lsp_json.specs.Fields.{Entry, field_view, fit}
 use Rattle.lsp_json.specs.Members.{member, members_of}
 use Rattle.lsp_json.specs.Words.{Words, words_in}
 use Rattle.lsp_json.specs.declared.field.Field.{Field}
-use Rattle.lsp_json.specs.declared.rows.TheConstants.{ROWS}
 
 -- ---- rows
 
@@ -20,10 +19,6 @@ Row = List ℕ × List Entry
 
 abbrev pub row_view : Bor (List ℕ) × Bor (List (Field × Bor (List ℕ))) → Row
 row_view row = (row.0.now, map field_view row.1.now)
-
--- **the rows of the lines of a report**
-unfoldable pub rows : List Row
-rows = map (λ row. (row.0.now, map (λ entry. (entry.0, entry.1.now)) row.1.now)) ROWS
 
 -- the first row that takes all words
 abbrev pub row_for : List Row → Words → Option Row
@@ -37,10 +32,13 @@ has_text (Some row) = bytes_eq row.0 (codes "no") || bytes_eq row.0 (codes "bad 
 
 -- ---- objects
 
+abbrev pub other_front : List ℕ → List ℕ
+other_front line = codes "{\"is\":\"line\",\"text\":" ++ quoted line
+
 -- an object up to its end: what the line is, and the members of its words; a line that no row takes
 -- is a text
 abbrev pub front : Option Row → Words → List ℕ → List ℕ
-front None words line = codes "{\"is\":\"line\",\"text\":" ++ quoted line
+front None words line = other_front line
 front (Some row) words line =
     codes "{\"is\":" ++ quoted row.0 ++ flat_map member (members_of row.1 words)
 
@@ -49,33 +47,30 @@ abbrev pub end_unless : Bool → List ℕ
 end_unless true = []
 end_unless false = 125 ∷ 10 ∷ []
 
--- the object of a line by these rows; its end comes after the text, if it has one
+-- the object of a line; its end comes after the text, if it has one
 abbrev pub object_by : List Row → List ℕ → List ℕ
 object_by table line = let row = row_for table (words_in line) in
     front row (words_in line) line ++ end_unless (has_text row)
-
-abbrev pub object_json : List ℕ → List ℕ
-object_json line = object_by rows line
 
 -- the text of an object, and its end
 abbrev pub text_json : List ℕ → List ℕ
 text_json line = codes ",\"text\":" ++ quoted line ++ end_unless false
 
 -- what a line becomes, which may be the text of an object
-abbrev pub line_json : Bool → List ℕ → List ℕ
-line_json true line = text_json line
-line_json false line = object_json line
+abbrev pub line_by : List Row → Bool → List ℕ → List ℕ
+line_by table true line = text_json line
+line_by table false line = object_by table line
 
-abbrev pub awaits_text : Bool → List ℕ → Bool
-awaits_text true line = false
-awaits_text false line = has_text (row_for rows (words_in line))
+abbrev pub awaits_text : List Row → Bool → List ℕ → Bool
+awaits_text table true line = false
+awaits_text table false line = has_text (row_for table (words_in line))
 
 -- what these lines become, the first of which may be the text of an object
-abbrev pub json_from : Bool → List (List ℕ) → List ℕ
-json_from is_text [] = end_unless (not is_text)
-json_from is_text (line ∷ lines) =
-    line_json is_text line ++ json_from (awaits_text is_text line) lines
+abbrev pub json_from : List Row → Bool → List (List ℕ) → List ℕ
+json_from table is_text [] = end_unless (not is_text)
+json_from table is_text (line ∷ others) =
+    line_by table is_text line ++ json_from table (awaits_text table is_text line) others
 
--- **a report as JSON**: an object for each of its lines
-abbrev pub json_lines : List ℕ → List ℕ
-json_lines report = json_from false (lines report)
+-- **a report as JSON**: an object for each of its lines, by these rows
+abbrev pub json_by : List Row → List ℕ → List ℕ
+json_by table report = json_from table false (lines report)

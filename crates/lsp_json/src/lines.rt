@@ -1,44 +1,47 @@
 //! The objects of the lines of a report.
-ghost use Rattle.std.specs.Prelude.{◌≡◌, ◌++◌, IfOk, OnOk, false, map, option_map, string_bytes};
+ghost use Rattle.std.specs.Prelude.{◌≡◌, ◌++◌, IfOk, OnOk, map, option_map, string_bytes};
 ghost use Rattle.lsp_json.specs.Fields.{word_view};
 ghost use Rattle.lsp_json.specs.Lines as spec;
-ghost use Rattle.lsp_json.specs.Lines.{front, json_lines, line_json, object_by, object_json, row_for};
-ghost use Rattle.lsp_json.specs.Lines.{row_view, text_json};
+ghost use Rattle.lsp_json.specs.Lines.{front, json_by, line_by, object_by, row_for, row_view};
+ghost use Rattle.lsp_json.specs.Lines.{text_json};
 ghost use Rattle.lsp_json.specs.Words.{words_in};
 
-use crate::field::fit;
+use crate::field::{Entry, fit};
 use crate::members::push_members;
-use crate::rows::{ROWS, Row};
 use crate::words::words_in;
 use lsp_rpc::{Result, push_quoted};
 
-/// Adds the lines of a report to a text as JSON: an object for each line. A No and a bad log have
-/// the line behind them, which says what is wrong, in their object.
+/// What a line is, and what its words are.
+pub(crate) type Row = (&'static str, &'static [Entry]);
+
+/// Adds the lines of a report to a text as JSON, by these rows: an object for each line. A No and a
+/// bad log have the line behind them, which says what is wrong, in their object.
 ///
 /// # Errors
 /// `Memory` where memory was refused.
-pub fn push_json(text: &mut String, report: &str) -> Result<()>
-    ensures { OnOk result
-        (string_bytes text.new ≡ string_bytes text.old ++ json_lines report.now) }
+pub(crate) fn push_json_by(rows: &[Row], text: &mut String, report: &str) -> Result<()>
+    ensures { OnOk result (string_bytes text.new ≡ string_bytes text.old
+        ++ json_by (map row_view rows.now) report.now) }
 {
     let mut awaits_text = false;
     for line in report.lines() {
-        awaits_text = push_line(text, line, awaits_text)?;
+        awaits_text = push_line(rows, text, line, awaits_text)?;
     }
     push_end_unless(text, !awaits_text)
 }
 
 /// Adds what a line becomes, which may be the text of an object. Answers whether a text comes next.
-fn push_line(text: &mut String, line: &str, is_text: bool) -> Result<bool>
-    ensures added { OnOk result
-        (string_bytes text.new ≡ string_bytes text.old ++ line_json is_text line.now) }
-    ensures awaits { IfOk result (λ awaits. awaits ≡ spec.awaits_text is_text line.now) }
+fn push_line(rows: &[Row], text: &mut String, line: &str, is_text: bool) -> Result<bool>
+    ensures added { OnOk result (string_bytes text.new ≡ string_bytes text.old
+        ++ line_by (map row_view rows.now) is_text line.now) }
+    ensures awaits { IfOk result (λ awaits. awaits
+        ≡ spec.awaits_text (map row_view rows.now) is_text line.now) }
 {
     if is_text {
         push_text(text, line)?;
         return Ok(false);
     }
-    push_object(text, line)
+    push_object(rows, text, line)
 }
 
 /// Adds the text of an object, and ends it.
@@ -51,17 +54,7 @@ fn push_text(text: &mut String, line: &str) -> Result<()>
 }
 
 /// Adds the object of a line, and ends it, unless it has a text: that comes next then.
-#[tactic(auto, unfolding(crate::specs::Lines::rows))]
-fn push_object(text: &mut String, line: &str) -> Result<bool>
-    ensures added { OnOk result
-        (string_bytes text.new ≡ string_bytes text.old ++ object_json line.now) }
-    ensures awaits { IfOk result (λ awaits. awaits ≡ spec.awaits_text false line.now) }
-{
-    push_object_by(&ROWS, text, line)
-}
-
-/// The same by these rows.
-fn push_object_by(rows: &[Row], text: &mut String, line: &str) -> Result<bool>
+fn push_object(rows: &[Row], text: &mut String, line: &str) -> Result<bool>
     ensures added { OnOk result (string_bytes text.new ≡ string_bytes text.old
         ++ object_by (map row_view rows.now) line.now) }
     ensures awaits { IfOk result
@@ -97,11 +90,17 @@ fn push_front(text: &mut String, row: Option<&Row>, words: &[&str], line: &str) 
             push_quoted(*text.allocator(), text, is)?;
             push_members(text, fields, words)
         }
-        None => {
-            text.push_str("{\"is\":\"line\",\"text\":")?;
-            push_quoted(*text.allocator(), text, line)
-        }
+        None => push_other_front(text, line),
     }
+}
+
+/// Adds the object of a line that no row takes, up to its end.
+fn push_other_front(text: &mut String, line: &str) -> Result<()>
+    ensures { OnOk result (string_bytes text.new ≡ string_bytes text.old
+        ++ spec.other_front line.now) }
+{
+    text.push_str("{\"is\":\"line\",\"text\":")?;
+    push_quoted(*text.allocator(), text, line)
 }
 
 /// The first row that takes all words.

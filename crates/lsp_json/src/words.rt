@@ -37,8 +37,8 @@ fn first_word(line: &str) -> (&str, Option<&str>)
         ≡ result.0.now ∷ spec.words_left (option_map (λ left. left.now) result.1) }
     ensures less { MatchOption result.1 (Unit {0}) (λ left. length left.now < length line.now) }
 {
-    let len = word_len(line.as_bytes());
-    (&line[..len], line.get(len + 1..))
+    let (word, behind) = line.split_at(word_len(line.as_bytes()));
+    (word, behind.strip_prefix(' '))
 }
 
 /// How many bytes the first word of a line has.

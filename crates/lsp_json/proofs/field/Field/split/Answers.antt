@@ -1,5 +1,5 @@
 use Rattle.std.specs.Prelude.{min}
-use Rattle.std.proofs.Common.{◌≡◌, ◌∙◌, ap, drop, length, map, sym, take}
+use Rattle.std.proofs.Common.{◌≡◌, ◌∙◌, ap, drop, length, map, rules, sym, take}
 use Rattle.std.proofs.lemmas.List.{drop-map, drop_min, take-map, take_min}
 use Rattle.lsp_json.specs.Fields.{word_view}
 use Rattle.lsp_json.proofs.field.Field.split.Goals as goal
