@@ -32,15 +32,15 @@ has_text (Some row) = bytes_eq row.0 (codes "no") || bytes_eq row.0 (codes "bad 
 
 -- ---- objects
 
-abbrev pub other_front : List ℕ → List ℕ
-other_front line = codes "{\"is\":\"line\",\"text\":" ++ quoted line
+-- the beginning of an object: what its line is
+abbrev pub is_front : List ℕ → List ℕ
+is_front is = codes "{\"is\":" ++ quoted is
 
 -- an object up to its end: what the line is, and the members of its words; a line that no row takes
 -- is a text
 abbrev pub front : Option Row → Words → List ℕ → List ℕ
-front None words line = other_front line
-front (Some row) words line =
-    codes "{\"is\":" ++ quoted row.0 ++ flat_map member (members_of row.1 words)
+front None words line = is_front (codes "line") ++ member (codes "text", quoted line)
+front (Some row) words line = is_front row.0 ++ flat_map member (members_of row.1 words)
 
 -- the end of an object, and LF, unless its text comes next
 abbrev pub end_unless : Bool → List ℕ
@@ -54,7 +54,7 @@ object_by table line = let row = row_for table (words_in line) in
 
 -- the text of an object, and its end
 abbrev pub text_json : List ℕ → List ℕ
-text_json line = codes ",\"text\":" ++ quoted line ++ end_unless false
+text_json line = member (codes "text", quoted line) ++ end_unless false
 
 -- what a line becomes, which may be the text of an object
 abbrev pub line_by : List Row → Bool → List ℕ → List ℕ

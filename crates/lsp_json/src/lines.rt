@@ -7,7 +7,7 @@ ghost use Rattle.lsp_json.specs.Lines.{text_json};
 ghost use Rattle.lsp_json.specs.Words.{words_in};
 
 use crate::field::{Entry, fit};
-use crate::members::push_members;
+use crate::members::{push_members, push_named};
 use crate::words::words_in;
 use lsp_rpc::{Result, push_quoted};
 
@@ -27,7 +27,8 @@ pub(crate) fn push_json_by(rows: &[Row], text: &mut String, report: &str) -> Res
     for line in report.lines() {
         awaits_text = push_line(rows, text, line, awaits_text)?;
     }
-    push_end_unless(text, !awaits_text)
+    push_end_unless(text, !awaits_text)?;
+    Ok(())
 }
 
 /// Adds what a line becomes, which may be the text of an object. Answers whether a text comes next.
@@ -48,8 +49,7 @@ fn push_line(rows: &[Row], text: &mut String, line: &str, is_text: bool) -> Resu
 fn push_text(text: &mut String, line: &str) -> Result<()>
     ensures { OnOk result (string_bytes text.new ≡ string_bytes text.old ++ text_json line.now) }
 {
-    text.push_str(",\"text\":")?;
-    push_quoted(*text.allocator(), text, line)?;
+    push_named(text, "text", line)?;
     Ok(text.push_str("}\n")?)
 }
 
@@ -86,21 +86,22 @@ fn push_front(text: &mut String, row: Option<&Row>, words: &[&str], line: &str) 
 {
     match row {
         Some((is, fields)) => {
-            text.push_str("{\"is\":")?;
-            push_quoted(*text.allocator(), text, is)?;
+            push_is(text, is)?;
             push_members(text, fields, words)
         }
-        None => push_other_front(text, line),
+        None => {
+            push_is(text, "line")?;
+            push_named(text, "text", line)
+        }
     }
 }
 
-/// Adds the object of a line that no row takes, up to its end.
-fn push_other_front(text: &mut String, line: &str) -> Result<()>
-    ensures { OnOk result (string_bytes text.new ≡ string_bytes text.old
-        ++ spec.other_front line.now) }
+/// Adds the beginning of an object: what its line is.
+fn push_is(text: &mut String, is: &str) -> Result<()>
+    ensures { OnOk result (string_bytes text.new ≡ string_bytes text.old ++ spec.is_front is.now) }
 {
-    text.push_str("{\"is\":\"line\",\"text\":")?;
-    push_quoted(*text.allocator(), text, line)
+    text.push_str("{\"is\":")?;
+    push_quoted(*text.allocator(), text, is)
 }
 
 /// The first row that takes all words.

@@ -50,7 +50,7 @@ fn push_key(object: &mut String, key: &str) -> Result<()>
 }
 
 /// Adds a member whose value is this text in quotes.
-fn push_named(object: &mut String, key: &str, text: &str) -> Result<()>
+pub(crate) fn push_named(object: &mut String, key: &str, text: &str) -> Result<()>
     ensures { OnOk result (string_bytes object.new ≡ string_bytes object.old
         ++ member (key.now, quoted text.now)) }
 {
