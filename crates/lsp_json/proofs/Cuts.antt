@@ -1,10 +1,10 @@
 -- Where a line is cut into words.
-use Rattle.std.specs.Prelude.{MatchOption, if◌then◌else◌, map, option_map}
+use Rattle.std.specs.Prelude.{MatchOption, if◌then◌else◌, option_map}
 use Rattle.std.specs.Borrow.{Bor}
 use Rattle.std.specs.List.{onto_first}
 use Rattle.std.specs.Str.{IsCharBoundary}
 use Rattle.std.proofs.Common.{◌≡◌, ◌≢◌, ◌⊎◌, ℕ, suc, ◌<◌, ◌≤◌, ◌+◌, Bool, true, false, List, [], ◌∷◌}
-use Rattle.std.proofs.Common.{◌++◌, Option, Some, None, length, take, drop, get_or, inl, inr, refl, sym}
+use Rattle.std.proofs.Common.{Option, Some, None, length, take, drop, get_or, inl, inr, refl, sym}
 use Rattle.std.proofs.Common.{ap, subst, ◌∙◌, arith}
 use Rattle.std.proofs.lemmas.Bool.{eqb-true}
 use Rattle.std.proofs.lemmas.List.{get_or-drop, length-drop}
