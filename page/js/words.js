@@ -144,6 +144,22 @@ function noteOn(words) {
   return ([text, ...by]) => [shownText(text), ` ${words}: `, ...shownEvent(by)];
 }
 
+// A note on a change of a didChange whose position is past the end of its line, or of the text.
+function pastEnd([line, column, what, count, ...by]) {
+  const end = what === "lines" ? `the text has ${count} lines` :
+    `that line is ${count} units long, without its line end`;
+  return [...shownEvent(by), ` changes a range at ${shownPlace(line, column)}, past the end: ${end}`];
+}
+
+// A note on a change whose rangeLength is not the length of its range.
+function wrongLength([sent, , length, ...rest]) {
+  const at = rest.indexOf("event");
+  const fits = rest.slice(1, at).map((name) => name.toUpperCase());
+  return [...shownEvent(rest.slice(at)),
+    ` has a rangeLength of ${sent}, and its range is ${length} units long`,
+    fits.length === 0 ? "" : `; in units of ${fits.join(" or ")} it is ${sent} long`];
+}
+
 const NOTES = {
   "as-notification": noteOn("is a request in LSP 3.17, and was sent as a notification"),
   "as-request": noteOn("is a notification in LSP 3.17, and was sent as a request"),
@@ -154,6 +170,12 @@ const NOTES = {
     " in the older member offsetEncoding: it may count columns in it"],
   renamed: noteOn("was renamed, and is still opened or changed under this name"),
   "nothing-compared": () => ["No snapshot was compared: yes says little about the texts"],
+  "past-end": pastEnd,
+  "range-length": wrongLength,
+  refused: ([code, uri, ...by]) => [
+    "A request about ", shownText(uri), ", which is open, was refused: ", ...shownEvent(by),
+    ` is the error ${code} (InvalidParams)`,
+  ],
   "no-snapshot": ([uri]) => [shownText(uri), " was changed, and no snapshot of it was compared"],
 };
 
