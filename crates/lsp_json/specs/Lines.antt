@@ -1,29 +1,29 @@
 -- The lines of a report as JSON: an object for each line, in the order of the lines. A No and a bad
 -- log have the line behind them, which says what is wrong, in their object.
-use Rattle.std.specs.Prelude.{ℕ, Bool, true, false, ◌||◌, not, List, [], ◌∷◌, ◌++◌, map, flat_map, codes}
+use Rattle.std.specs.Prelude.{ℕ, Bool, true, false, ◌||◌, not, List, [], ◌∷◌, ◌++◌, flat_map, codes}
 use Rattle.std.specs.Prelude.{Option, Some, None, if◌then◌else◌}
 use Rattle.std.specs.Borrow.{Bor}
 use Rattle.std.specs.Str.{bytes_eq}
 use Rattle.std.specs.Str.Lines.{lines}
 use Rattle.json.specs.Print.{quoted}
-use Rattle.lsp_json.specs.Fields.{Entry, field_view, fit}
+use Rattle.lsp_json.specs.Fields.{fields_of, fit}
 use Rattle.lsp_json.specs.Members.{member, members_of}
 use Rattle.lsp_json.specs.Words.{Words, words_in}
-use Rattle.lsp_json.specs.declared.field.Field.{Field}
 
 -- ---- rows
 
--- what a line is, and what its words are
+-- what a line is, and the pattern of its words
 abbrev pub Row : Type 0
-Row = List ℕ × List Entry
+Row = List ℕ × List ℕ
 
-abbrev pub row_view : Bor (List ℕ) × Bor (List (Field × Bor (List ℕ))) → Row
-row_view row = (row.0.now, map field_view row.1.now)
+abbrev pub row_view : Bor (List ℕ) × Bor (List ℕ) → Row
+row_view row = (row.0.now, row.1.now)
 
--- the first row that takes all words
+-- the first row whose pattern takes all words
 abbrev pub row_for : List Row → Words → Option Row
 row_for [] words = None
-row_for (row ∷ others) words = if fit row.1 words then Some row else row_for others words
+row_for (row ∷ others) words =
+    if fit (fields_of row.1) words then Some row else row_for others words
 
 -- the line behind such a line says what is wrong
 abbrev pub has_text : Option Row → Bool
@@ -40,7 +40,7 @@ is_front is = codes "{\"is\":" ++ quoted is
 -- is a text
 abbrev pub front : Option Row → Words → List ℕ → List ℕ
 front None words line = is_front (codes "line") ++ member (codes "text", quoted line)
-front (Some row) words line = is_front row.0 ++ flat_map member (members_of row.1 words)
+front (Some row) words line = is_front row.0 ++ flat_map member (members_of (fields_of row.1) words)
 
 -- the end of an object, and LF, unless its text comes next
 abbrev pub end_unless : Bool → List ℕ

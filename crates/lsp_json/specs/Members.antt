@@ -4,10 +4,9 @@ use Rattle.std.specs.Prelude.{flat_map, get_or, codes, if◌then◌else◌}
 use Rattle.std.specs.Char.{is_ascii_digit}
 use Rattle.std.specs.Str.{bytes_eq}
 use Rattle.json.specs.Print.{quoted}
-use Rattle.lsp_json.specs.Fields.{Entry, behind, is_none, own}
+use Rattle.lsp_json.specs.Fields.{Field, literal, labelled, one, many, whether, an_event}
+use Rattle.lsp_json.specs.Fields.{behind, is_none, own}
 use Rattle.lsp_json.specs.Words.{Words}
-use Rattle.lsp_json.specs.declared.field.Field.{Field}
-use Rattle.lsp_json.specs.declared.field.Field.TheVariants.{Word, Kind, Note, Value, Values, Event, Flag}
 
 -- a key, and the JSON text of its value
 abbrev pub Member : Type 0
@@ -56,17 +55,16 @@ event_members words =
     ∷ (codes "number", json_of (get_or words 3 [])) ∷ []
 
 -- the members that the words of a field become
-abbrev pub members : Field → List ℕ → Words → List Member
-members Word text words = []
-members Kind text words = (codes "kind", quoted text) ∷ []
-members Note text words = (codes "note", quoted text) ∷ []
-members Value text words = (text, json_of (get_or words 0 [])) ∷ []
-members Values text words = (text, array words) ∷ []
-members Event text words = event_members words
-members Flag text words = (text, flag (not (is_none words))) ∷ []
+abbrev pub members : Field → Words → List Member
+members (literal word) words = []
+members (labelled key word) words = (key, quoted word) ∷ []
+members (one key) words = (key, json_of (get_or words 0 [])) ∷ []
+members (many key) words = (key, array words) ∷ []
+members (whether word) words = (word, flag (not (is_none words))) ∷ []
+members an_event words = event_members words
 
 -- **the members that the words of these fields become**
-abbrev pub members_of : List Entry → Words → List Member
+abbrev pub members_of : List Field → Words → List Member
 members_of [] words = []
-members_of (entry ∷ entries) words =
-    members entry.0 entry.1 (own entry.0 words) ++ members_of entries (behind entry.0 words)
+members_of (field ∷ fields) words =
+    members field (own field words) ++ members_of fields (behind field words)

@@ -4,22 +4,28 @@ ghost use Rattle.lsp_json.specs.Fields.{word_view};
 ghost use Rattle.lsp_json.specs.Lines as spec;
 ghost use Rattle.lsp_json.specs.Lines.{front, json_by, line_by, object_by, row_for, row_view};
 ghost use Rattle.lsp_json.specs.Lines.{text_json};
+ghost use Rattle.lsp_json.specs.Rows.{json_lines};
 ghost use Rattle.lsp_json.specs.Words.{words_in};
 
-use crate::field::{Entry, fit};
+use crate::field::fit;
 use crate::members::{push_members, push_named};
+use crate::rows::{ROWS, Row};
 use crate::words::words_in;
 use lsp_rpc::{Result, push_quoted};
 
-/// What a line is, and what its words are.
-pub(crate) type Row = (&'static str, &'static [Entry]);
-
-/// Adds the lines of a report to a text as JSON, by these rows: an object for each line. A No and a
-/// bad log have the line behind them, which says what is wrong, in their object.
+/// Adds the lines of a report to a text as JSON: an object for each line. A No and a bad log have the
+/// line behind them, which says what is wrong, in their object.
 ///
 /// # Errors
 /// `Memory` where memory was refused.
-pub(crate) fn push_json_by(rows: &[Row], text: &mut String, report: &str) -> Result<()>
+pub fn push_json(text: &mut String, report: &str) -> Result<()>
+    ensures { OnOk result (string_bytes text.new ≡ string_bytes text.old ++ json_lines report.now) }
+{
+    push_json_by(&ROWS, text, report)
+}
+
+/// Adds the lines of a report to a text as JSON, by these rows.
+fn push_json_by(rows: &[Row], text: &mut String, report: &str) -> Result<()>
     ensures { OnOk result (string_bytes text.new ≡ string_bytes text.old
         ++ json_by (map row_view rows.now) report.now) }
 {
@@ -85,9 +91,9 @@ fn push_front(text: &mut String, row: Option<&Row>, words: &[&str], line: &str) 
         ++ front (option_map (λ row. row_view row.now) row.entry) (map word_view words.now) line.now) }
 {
     match row {
-        Some((is, fields)) => {
+        Some((is, pattern)) => {
             push_is(text, is)?;
-            push_members(text, fields, words)
+            push_members(text, pattern, words)
         }
         None => {
             push_is(text, "line")?;
@@ -104,14 +110,14 @@ fn push_is(text: &mut String, is: &str) -> Result<()>
     push_quoted(*text.allocator(), text, is)
 }
 
-/// The first row that takes all words.
+/// The first row whose pattern takes all words.
 fn row_for<'r>(rows: &'r [Row], words: &[&str]) -> Option<&'r Row>
     ensures { option_map (λ row. row_view row.now) result
         ≡ row_for (map row_view rows.now) (map word_view words.now) }
 {
     for row in rows {
-        let (_, fields) = row;
-        if fit(fields, words) {
+        let (_, pattern) = row;
+        if fit(pattern, words) {
             return Some(row);
         }
     }

@@ -1,42 +1,42 @@
 //! The members that the words of a row become.
 ghost use Rattle.std.specs.Prelude.{◌≡◌, ◌++◌, OnOk, flat_map, map, string_bytes};
 ghost use Rattle.json.specs.Print.{quoted};
-ghost use Rattle.lsp_json.specs.Fields.{field_view, word_view};
+ghost use Rattle.lsp_json.specs.Fields.{field_view, fields_of, word_view};
 ghost use Rattle.lsp_json.specs.Members as spec;
 ghost use Rattle.lsp_json.specs.Members.{array, items, json_of, member, other_item};
 
-use crate::field::{Entry, Field, word_at};
+use crate::field::{Field, first_field, word_at};
 use lsp_rpc::{Result, push_quoted};
 
-/// Adds the members of these words.
+/// Adds the members of these words, which the fields of a pattern take.
 ///
 /// # Errors
 /// `Memory` where memory was refused.
-pub(crate) fn push_members(object: &mut String, fields: &[Entry], words: &[&str]) -> Result<()>
+pub(crate) fn push_members(object: &mut String, pattern: &str, words: &[&str]) -> Result<()>
     ensures { OnOk result (string_bytes object.new ≡ string_bytes object.old
-        ++ flat_map member (spec.members_of (map field_view fields.now) (map word_view words.now))) }
+        ++ flat_map member (spec.members_of (fields_of pattern.now) (map word_view words.now))) }
 {
-    let [(field, text), others @ ..] = fields else {
+    let (field, left) = first_field(pattern);
+    let (own, behind) = field.split(words);
+    push_field(object, field, own)?;
+    let Some(left) = left else {
         return Ok(());
     };
-    let (own, behind) = field.split(words);
-    push_field(object, *field, text, own)?;
-    push_members(object, others, behind)
+    push_members(object, left, behind)
 }
 
 /// Adds the members of a field.
-fn push_field(object: &mut String, field: Field, text: &str, own: &[&str]) -> Result<()>
+fn push_field(object: &mut String, field: Field<'_>, own: &[&str]) -> Result<()>
     ensures { OnOk result (string_bytes object.new ≡ string_bytes object.old
-        ++ flat_map member (spec.members field text.now (map word_view own.now))) }
+        ++ flat_map member (spec.members (field_view field.entry) (map word_view own.now))) }
 {
     match field {
-        Field::Word => Ok(()),
-        Field::Kind => push_named(object, "kind", text),
-        Field::Note => push_named(object, "note", text),
-        Field::Value => push_word(object, text, word_at(own, 0)),
-        Field::Values => push_array(object, text, own),
+        Field::Literal(_) => Ok(()),
+        Field::Labelled { key, word } => push_named(object, key, word),
+        Field::One(key) => push_word(object, key, word_at(own, 0)),
+        Field::Many(key) => push_array(object, key, own),
+        Field::Whether(key) => push_flag(object, key, !own.is_empty()),
         Field::Event => push_event(object, own),
-        Field::Flag => push_flag(object, text, !own.is_empty()),
     }
 }
 

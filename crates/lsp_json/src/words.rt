@@ -32,7 +32,7 @@ pub(crate) fn words_in<'a>(alloc: Global, line: &'a str) -> Result<Vec<&'a str>>
 }
 
 /// The first word of a line, and the words behind it, if there are any.
-fn first_word(line: &str) -> (&str, Option<&str>)
+pub(crate) fn first_word(line: &str) -> (&str, Option<&str>)
     ensures words { spec.words_in line.now
         ≡ result.0.now ∷ spec.words_left (option_map (λ left. left.now) result.1) }
     ensures less { MatchOption result.1 (Unit {0}) (λ left. length left.now < length line.now) }

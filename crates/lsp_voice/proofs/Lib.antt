@@ -1,4 +1,0 @@
-pub mod FirstRuns
-pub mod FirstSteps
-pub mod OneOutput
-pub mod Reports
