@@ -1,12 +1,16 @@
-"""The definition of crates/lsp_json/specs clause by clause, over the rows of src/rows.rt: on the golden lines, and the kinds of json-kinds.txt by their keys."""
-import json, pathlib, re, sys, collections
-text = pathlib.Path("/work/json/wip/json/rows.rattle").read_text()
-CONSTS = {name: (field, word) for name, field, word in re.findall(r'const (\w+): Entry = \((\w+), "([^"]*)"\);', text)}
-ROWS = []
-src = text.split("ROWS:")[1]
-for m in re.finditer(r'\(\s*"([^"]*)",\s*&\[(.*?)\]\s*,?\s*\)', src, re.S):
-    ROWS.append((m.group(1), [CONSTS[c] if c else (f, w) for f, w, c in re.findall(r'\((\w+), "([^"]*)"\)|\b([A-Z_]{2,})\b', m.group(2))]))
-assert len(ROWS) == int(re.search(r"Row; (\d+)\]", src).group(1)), len(ROWS)
+"""The definitions of crates/lsp_json/specs, clause by clause in Python, over the rows of src/rows.rt: on all golden lines, and on the kinds of json-kinds.txt by their keys. usage: json2.py [ROWS]"""
+import collections, json, pathlib, re, sys
+TOP = pathlib.Path(__file__).resolve().parents[2]
+SOURCE = pathlib.Path(sys.argv[1]) if len(sys.argv) > 1 and sys.argv[1].endswith(".rt") else TOP / "crates/lsp_json/src/rows.rt"
+TABLE = SOURCE.read_text().split("ROWS:")[1]
+def field_of(word):
+    """literal_field and labelled_field: what a field is, its key, and its word."""
+    key, sign, shape = word.partition("=")
+    if not shape: return ("an_event", "", "") if key == "@" else ("literal", "", key)
+    return {"*": ("one", key, ""), "..": ("many", key, ""), "?": ("whether", key, key)}.get(shape, ("labelled", key, shape))
+PAIRS = re.findall(r'\(\s*"([^"]*)",\s*"([^"]*)",?\s*\)', TABLE)
+assert len(PAIRS) == int(re.search(r"Row; (\d+)\]", TABLE).group(1)), len(PAIRS)
+ROWS = [(is_, [field_of(word) for word in pattern.split(" ")]) for is_, pattern in PAIRS]
 
 def place_after(place, c):
     if place == "outside": return "inside" if c == '"' else "outside"
@@ -24,35 +28,37 @@ def items_before(words):
     for i, w in enumerate(words):
         if w in ("and", "event"): return i
     return len(words)
-def size(f, words): return items_before(words) if f == "Values" else 4 if f == "Event" else 1
-def suits(f, text, own):
-    if f in ("Word", "Kind", "Note"): return get(own, 0) == text
-    if f == "Value": return bool(own)
-    if f == "Values": return True
-    if f == "Event": return len(own) == 4 and get(own, 0) == text
-    return not own or get(own, 0) == text
+def size(field, words): return {"many": items_before(words), "an_event": 4}.get(field[0], 1)
+def suits(field, own):
+    what, key, word = field
+    if what in ("literal", "labelled"): return get(own, 0) == word
+    if what == "one": return bool(own)
+    if what == "many": return True
+    if what == "whether": return not own or get(own, 0) == word
+    return len(own) == 4 and get(own, 0) == "event"
 def fit(fields, words):
-    for f, text in fields:
-        n = size(f, words)
-        if not suits(f, text, words[:n]): return False
+    for field in fields:
+        n = size(field, words)
+        if not suits(field, words[:n]): return False
         words = words[n:]
     return not words
 def quoted(text): return json.dumps(text, ensure_ascii=False)
 def json_of(w):
     if w[:1] == '"' or w[:1].isdigit() or (w[:1] == "-" and w[1:2].isdigit()) or w == "null": return w
     return "null" if w in ("-", "end") else quoted(w)
-def members(f, text, own):
-    if f == "Word": return []
-    if f in ("Kind", "Note"): return [(f.lower(), quoted(text))]
-    if f == "Value": return [(text, json_of(get(own, 0)))]
-    if f == "Values": return [(text, "[" + ",".join(map(json_of, own)) + "]")]
-    if f == "Event": return [("event", json_of(get(own, 1))), ("side", json_of(get(own, 2))), ("number", json_of(get(own, 3)))]
-    return [(text, "true" if own else "false")]
+def members(field, own):
+    what, key, word = field
+    if what == "literal": return []
+    if what == "labelled": return [(key, quoted(word))]
+    if what == "one": return [(key, json_of(get(own, 0)))]
+    if what == "many": return [(key, "[" + ",".join(map(json_of, own)) + "]")]
+    if what == "whether": return [(key, "true" if own else "false")]
+    return [("event", json_of(get(own, 1))), ("side", json_of(get(own, 2))), ("number", json_of(get(own, 3)))]
 def members_of(fields, words):
     out = []
-    for f, text in fields:
-        n = size(f, words)
-        out += members(f, text, words[:n]); words = words[n:]
+    for field in fields:
+        n = size(field, words)
+        out += members(field, words[:n]); words = words[n:]
     return out
 def row_for(words):
     for row in ROWS:
@@ -79,7 +85,7 @@ if __name__ == "__main__":
         if raw.startswith('{"is"'):
             d = json.loads(raw); kinds[d["is"], d.get("note"), d.get("kind") if d["is"] == "event" else None].append(d)
     seen = collections.defaultdict(set); lines = 0; many = 0
-    for path in sorted(pathlib.Path("/work/json/tests/golden").glob("*.txt")):
+    for path in sorted((TOP / "tests/golden").glob("*.txt")):
         block = []
         for line in path.read_text().splitlines() + ["end of file"]:
             if line.startswith("> ") or line == ">": block.append(line[2:]); continue

@@ -22,7 +22,8 @@ pub(crate) fn push_members(object: &mut String, pattern: &str, words: &[&str]) -
     let Some(left) = left else {
         return Ok(());
     };
-    push_members(object, left, behind)
+    push_members(object, left, behind)?;
+    Ok(())
 }
 
 /// Adds the members of a field.
