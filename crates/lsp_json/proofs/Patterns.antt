@@ -4,7 +4,7 @@ use Rattle.std.proofs.Common.{◌≡◌, ◌∙◌, ℕ, Bool, true, false, List
 use Rattle.std.proofs.Common.{append_assoc, append-nil}
 use Rattle.std.proofs.lemmas.Grind.{flat_map-append}
 use Rattle.lsp_json.specs.Fields.{Field, behind, fit, own, suits}
-use Rattle.lsp_json.specs.Members.{member, members, members_of}
+use Rattle.lsp_json.specs.Members.{Member, member, members, members_of}
 use Rattle.lsp_json.specs.Words.{Words}
 
 -- of these fields the first one takes these words, and those are left
@@ -46,7 +46,7 @@ module _ (fields others : List Field) (field : Field) (words taken left : Words)
       later ∙ ap (λ (w : List ℕ). w ++ back) first ∙ append_assoc old front back
       ∙ ap (λ (w : List ℕ). old ++ w)
       (sym (flat_map-append member (members field taken) (members_of others left)))
-      ∙ ap (λ w. old ++ flat_map member w) (sym members_first)
+      ∙ ap (λ (w : List Member). old ++ flat_map member w) (sym members_first)
 
 -- where there is no other field
 pub members_last : (fields : List Field) (field : Field) (words taken : Words)

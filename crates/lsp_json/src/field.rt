@@ -122,7 +122,7 @@ impl Field<'_> {
     {
         match self {
             Field::Literal(word) => word_at(own, 0) == word,
-            Field::Labelled { key: _, word } => word_at(own, 0) == word,
+            Field::Labelled { word, .. } => word_at(own, 0) == word,
             Field::One(_) => !own.is_empty(),
             Field::Many(_) => true,
             Field::Whether(word) => own.is_empty() || word_at(own, 0) == word,

@@ -1,7 +1,7 @@
 -- The steps of an account whose lines are made into objects.
 use Rattle.std.proofs.Common.{◌≡◌, ℕ, List, [], ◌++◌, refl, ap, ◌∙◌}
 use Rattle.lsp_docs.specs.Documents.{Terms}
-use Rattle.lsp_json.specs.Lines.{json_lines}
+use Rattle.lsp_json.specs.Rows.{json_lines}
 use Rattle.lsp_json_run.specs.JsonRun.{json_run}
 use Rattle.lsp_replay.specs.Run.{Run, Tail}
 use Rattle.lsp_replay.specs.Telling.{Closes, Goes, Says}

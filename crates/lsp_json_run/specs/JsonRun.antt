@@ -1,6 +1,6 @@
 -- A run of which what it says of each event, and of the end, is written as JSON.
 use Rattle.std.specs.Prelude.{◌≡◌, ℕ, List, true}
-use Rattle.lsp_json.specs.Lines.{json_lines}
+use Rattle.lsp_json.specs.Rows.{json_lines}
 use Rattle.lsp_replay.specs.Run.{Run}
 
 -- this is the JSON of something of which that holds

@@ -1,4 +1,4 @@
-//! A trial: what a run says of a log, as JSON.
+//! What a run says of a log, as JSON.
 //!
 //! `Json` is an account around an account: the lines of each step are made into objects.
 #![tactic(auto)]
