@@ -1,6 +1,7 @@
 //! What an account says, as JSON.
-ghost use Rattle.std.specs.Prelude.{◌≡◌};
-ghost use Rattle.lsp_json_run.specs.JsonRun.{json_run};
+ghost use Rattle.std.specs.Prelude.{◌≡◌, ◌++◌, [], OnErr, OnOk, string_bytes};
+ghost use Rattle.lsp_json.specs.Rows.{json_lines};
+ghost use Rattle.lsp_json_run.specs.JsonRun.{IsQuiet, json_run};
 
 use lsp_json::push_json;
 use lsp_replay::{Account, End, Events, Flow, LogEvents, Seen};
@@ -34,13 +35,14 @@ impl<A: Account + Drop> Account for Json<A> {
 
     ghost run = { λ asked. json_run (A.run asked) };
 
-    ghost stands = { λ json terms heard. A.stands json.account terms heard };
+    ghost stands = { λ json terms heard.
+        A.stands json.account terms heard × IsQuiet (A.run (A.asked json.account)) };
 
     #[inline(always)]
     fn event(&mut self, held: &Events<Lined>, seen: &Seen<'_>, text: &mut String) -> Result<Flow> {
         self.lines.clear();
         let flow = self.account.event(held, seen, &mut self.lines)?;
-        push_json(text, self.lines.as_str())?;
+        push_objects(text, self.lines.as_str())?;
         Ok(flow)
     }
 
@@ -53,7 +55,18 @@ impl<A: Account + Drop> Account for Json<A> {
     ) -> Result<Outcome> {
         self.lines.clear();
         let outcome = self.account.end(held, log, end, &mut self.lines)?;
-        push_json(text, self.lines.as_str())?;
+        push_objects(text, self.lines.as_str())?;
         Ok(outcome)
     }
+}
+
+/// Adds the objects of lines, which takes no memory where there are none.
+fn push_objects(text: &mut String, lines: &str) -> Result<()>
+    ensures ok { OnOk result (string_bytes text.new ≡ string_bytes text.old ++ json_lines lines.now) }
+    ensures memory { OnErr result (lines.now ≡ [] → ⊥) }
+{
+    if lines.is_empty() {
+        return Ok(());
+    }
+    push_json(text, lines)
 }

@@ -1,12 +1,33 @@
-use Rattle.std.proofs.Common.{refl}
-use Rattle.lsp_json_run.proofs.JsonSteps.{json_says}
+use Rattle.std.proofs.Common.{subst, sym}
+use Rattle.lsp_json_run.specs.JsonRun.{IsQuiet}
+use Rattle.lsp_json_run.proofs.JsonSteps.{json_says, json_wants, some_rests}
 use Rattle.lsp_json_run.proofs.json.JsonAccount.event.Goals as goal
+
+pub returns-in_err-flow : goal.returns-in_err-flow
+returns-in_err-flow g c = record {
+  asked = c.in_err-flow.ensures.asked;
+  memory = λ terms before h stands seen.
+      c.in_err-flow.ensures.memory terms before h stands.0 seen;
+  says = tt;
+}
+
+pub returns-in_err-push_objects : goal.returns-in_err-push_objects
+returns-in_err-push_objects g c = record {
+  asked = c.in_ok-flow.ensures.asked;
+  memory = λ terms before h stands seen.
+      let rests = some_rests c.args.seen.now.raw in
+      json_wants c.clear.ensures.bytes c.as_str.ensures.value stands.1 rests.0 rests.1
+      (c.in_ok-flow.ensures.says terms before h stands.0 seen)
+      c.in_err-push_objects.ensures.memory;
+  says = tt;
+}
 
 pub returns : goal.returns
 returns g c = record {
   asked = c.in_ok-flow.ensures.asked;
   memory = tt;
   says = λ terms before h stands seen.
-      json_says c.clear.ensures.bytes c.as_str.ensures.value c.in_ok-push_json.ensures
-      (c.in_ok-flow.ensures.says terms before h stands seen);
+      json_says c.clear.ensures.bytes c.as_str.ensures.value c.in_ok-push_objects.ensures.ok
+      (subst (λ (asked : g.A.Account.Asked). IsQuiet (g.A.Account.run asked)) (sym c.in_ok-flow.ensures.asked) stands.1)
+      (c.in_ok-flow.ensures.says terms before h stands.0 seen);
 }
