@@ -22,13 +22,13 @@ module _ (fields others : List Field) (field : Field) (words taken left : Words)
 
   pub fit_not : (suited : Bool) → suited ≡ suits field taken → suited ≡ false
       → false ≡ fit fields words
-  fit_not suited is no =
-      sym (fit_first suited is ∙ ap (λ (b : Bool). b && fit others left) no)
+  fit_not suited is unfit =
+      sym (fit_first suited is ∙ ap (λ (b : Bool). b && fit others left) unfit)
 
   pub fit_on : (suited : Bool) → suited ≡ suits field taken → suited ≡ true
       → fit others left ≡ fit fields words
-  fit_on suited is yes =
-      sym (fit_first suited is ∙ ap (λ (b : Bool). b && fit others left) yes)
+  fit_on suited is well =
+      sym (fit_first suited is ∙ ap (λ (b : Bool). b && fit others left) well)
 
   -- the members of them all
   members_first : members_of fields words ≡ members field taken ++ members_of others left

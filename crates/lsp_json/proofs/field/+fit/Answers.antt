@@ -4,20 +4,20 @@ use Rattle.lsp_json.specs.Fields.{fields_left, fields_of, is_none, word_view}
 use Rattle.lsp_json.proofs.Patterns.{fit_not, fit_on}
 use Rattle.lsp_json.proofs.field.+fit.Goals as goal
 
-pub fit-returns-then-not-suits : goal.fit-returns-then-not-suits
-fit-returns-then-not-suits t c =
+pub returns-then-not-suits : goal.returns-then-not-suits
+returns-then-not-suits t c =
     fit_not _ _ _ _ _ _ c.first_field.ensures.fields c.split.ensures.own c.split.ensures.behind
     c.suits.result c.suits.ensures c.if-not-suits.true
 
-pub fit-returns-in_default : goal.fit-returns-in_default
-fit-returns-in_default t c =
+pub returns-in_default : goal.returns-in_default
+returns-in_default t c =
     let empty : c.is_empty.result ≡ is_none (map word_view c.split.result.1.now) = search rules in
     let fields = rw c.in_default.is at c.first_field.ensures.fields in
     empty ∙ fit_on _ _ _ _ _ _ fields c.split.ensures.own c.split.ensures.behind c.suits.result
     c.suits.ensures c.if-not-suits.false
 
-pub fit-returns : goal.fit-returns
-fit-returns t c =
+pub returns : goal.returns
+returns t c =
     let fields = rw c.in-Some.is at c.first_field.ensures.fields in
     c.fit.ensures ∙ fit_on _ _ _ _ _ _ fields c.split.ensures.own c.split.ensures.behind
     c.suits.result c.suits.ensures c.if-not-suits.false
