@@ -13,8 +13,8 @@ use crate::rows::{ROWS, Row};
 use crate::words::words_in;
 use lsp_rpc::{Result, push_quoted};
 
-/// Adds the lines of a report to a text as JSON: an object for each line. A No and a bad log have the
-/// line behind them, which says what is wrong, in their object.
+/// Adds the lines of a report to a text as JSON: an object for each line. A No and a bad log have
+/// the line behind them, which says what is wrong, in their object.
 ///
 /// # Errors
 /// `Memory` where memory was refused.
