@@ -61,6 +61,21 @@ function shownPart(values) {
   return said;
 }
 
+function shownCode(code) {
+  return code === "end" ? "the end of the text" : code;
+}
+
+const LINE_ENDS = { "\n": "LF", "\r\n": "CR LF", "\r": "CR" };
+
+function shownEnds([kind, from, to]) {
+  if (kind === "converted") {
+    return [`nothing else differs: each is ${LINE_ENDS[from]} by the messages, and `
+      + `${LINE_ENDS[to]} in the other text`];
+  }
+  return [kind === "last" ? "only the one at the very end of the text differs" :
+    "some differ, and nothing else does"];
+}
+
 const SUSPECTS = {
   0: "none: the editor changed its text without a message, or the texts were equal again later",
   1: "one message made the texts differ, unless a change was never sent",
@@ -94,7 +109,11 @@ const LINES = {
   "by-messages": ["By the messages", shownPart],
   "in-editor": ["In the editor", shownPart],
   saved: ["Saved", shownPart],
-  "line-ends": ["Line ends", () => ["nothing else differs: see --ignore-line-ends"]],
+  codes: ["Characters", ([sent, other]) => [
+    `by the messages ${shownCode(sent)}, in the other text ${shownCode(other)}`,
+  ]],
+  ends: ["Line ends", shownEnds],
+  "line-ends": ["Option", () => ["--ignore-line-ends: then these texts are the same"]],
   kept: ["Kept versions", (versions) => [versions.join(", ")]],
   snapshot: ["Differs from", (by) => shownEvent(by)],
   equal: ["Last equal", ([version, ...by]) => [`at version ${version}: `, ...shownEvent(by)]],
@@ -148,7 +167,8 @@ function noteOn(words) {
 function pastEnd([line, column, what, count, ...by]) {
   const end = what === "lines" ? `the text has ${count} lines` :
     `that line is ${count} units long, without its line end`;
-  return [...shownEvent(by), ` changes a range at ${shownPlace(line, column)}, past the end: ${end}`];
+  const place = shownPlace(line, column);
+  return [...shownEvent(by), ` changes a range at ${place}, past the end: ${end}`];
 }
 
 // A note on a change whose rangeLength is not the length of its range.

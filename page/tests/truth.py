@@ -31,7 +31,7 @@ return [...document.querySelectorAll("#lanes > .row")].filter((it) => it.querySe
 
 def open_all(page, wanted, **how):
     """Opens a page in a window in which all rows are seen, and opens all rows."""
-    page.open(height=400 + 60 * len(wanted.events), **how)
+    page.open(height=800 + 60 * len(wanted.events), **how)
     closed = page.run(ROWS)
     page.run("document.querySelectorAll('.say').forEach((it) => it.click())")
     for _ in range(40):
@@ -254,6 +254,18 @@ def one_suspect(values):
     return "one message made the texts differ, unless a change was never sent" if values[0] == "1" else None
 
 
+def code_words(values):
+    sent, other = ("the end of the text" if it == "end" else it for it in values)
+    return f"by the messages {sent}, in the other text {other}"
+
+
+def ends_words(values):
+    if values[0] == "converted":
+        sent, other = ({"\n": "LF", "\r\n": "CR LF", "\r": "CR"}[it] for it in values[1:])
+        return f"nothing else differs: each is {sent} by the messages, and {other} in the other text"
+    return "only the one at the very end of the text differs" if values[0] == "last" else "some differ, and nothing else does"
+
+
 SENTENCES = {
     "held": ("Held", lambda it: f"version {it[0]}, set by {event_words(it[1:])}"),
     "sent": ("This message", lambda it: f"sets version {it[0]}"),
@@ -265,6 +277,9 @@ SENTENCES = {
     "inside": ("Inside", lambda it: f"the column falls into the character {it[0]}"),
     "fits": ("It would fit", lambda it: f"if columns were counted in {' or '.join(it).upper()}"),
     "at": ("First difference", place),
+    "codes": ("Characters", code_words),
+    "ends": ("Line ends", ends_words),
+    "line-ends": ("Option", lambda it: "--ignore-line-ends: then these texts are the same"),
     "uri": ("Document", lambda it: f"{it[0].rpartition('/')[2]} {it[0]}"),
     "equal": ("Last equal", lambda it: f"at version {it[0]}: {event_words(it[1:])}"),
     "since": ("Since", event_words),
