@@ -1,8 +1,10 @@
 //! The fields of a row: which words of a line they take.
-ghost use Rattle.std.specs.Prelude.{◌≡◌, ◌<◌, ◌∷◌, [], MatchOption, get_or, length, map, option_map};
+ghost use Rattle.std.specs.Prelude.{◌≡◌, ◌<◌, ◌∷◌, [], MatchOption, get_or, length, map};
+ghost use Rattle.std.specs.Prelude.{option_map};
 ghost use Rattle.std.specs.List.{after_first, before_first};
 ghost use Rattle.lsp_json.specs.Fields as spec;
-ghost use Rattle.lsp_json.specs.Fields.{field_view, fields_left, fields_of, is_equals_sign, word_view};
+ghost use Rattle.lsp_json.specs.Fields.{field_view, fields_left, fields_of, is_equals_sign};
+ghost use Rattle.lsp_json.specs.Fields.{word_view};
 
 use crate::words::first_word;
 

@@ -77,7 +77,8 @@ fn push_object(rows: &[Row], text: &mut String, line: &str) -> Result<bool>
 
 /// Adds the end of an object, unless its text comes next.
 fn push_end_unless(text: &mut String, awaits_text: bool) -> Result<()>
-    ensures { OnOk result (string_bytes text.new ≡ string_bytes text.old ++ spec.end_unless awaits_text) }
+    ensures { OnOk result (string_bytes text.new ≡ string_bytes text.old
+        ++ spec.end_unless awaits_text) }
 {
     if awaits_text {
         return Ok(());
@@ -88,7 +89,8 @@ fn push_end_unless(text: &mut String, awaits_text: bool) -> Result<()>
 /// Adds an object up to its end. A line that no row takes is a text.
 fn push_front(text: &mut String, row: Option<&Row>, words: &[&str], line: &str) -> Result<()>
     ensures { OnOk result (string_bytes text.new ≡ string_bytes text.old
-        ++ front (option_map (λ row. row_view row.now) row.entry) (map word_view words.now) line.now) }
+        ++ front (option_map (λ row. row_view row.now) row.entry) (map word_view words.now)
+        line.now) }
 {
     match row {
         Some((is, pattern)) => {

@@ -62,7 +62,8 @@ impl<A: Account + Drop> Account for Json<A> {
 
 /// Adds the objects of lines, which takes no memory where there are none.
 fn push_objects(text: &mut String, lines: &str) -> Result<()>
-    ensures ok { OnOk result (string_bytes text.new ≡ string_bytes text.old ++ json_lines lines.now) }
+    ensures ok { OnOk result (string_bytes text.new ≡ string_bytes text.old
+        ++ json_lines lines.now) }
     ensures memory { OnErr result (lines.now ≡ [] → ⊥) }
 {
     if lines.is_empty() {
