@@ -175,18 +175,32 @@ def forgotten_request(later=1024):
     return b"".join(log), yes((5 + later, 3), (0, 0), lines)
 
 
-def many_closings(before, later, is_noted):
-    """A request about a document that is open, other documents that are closed before and after it,
-    and the answer that refuses it; then a second request that is refused. The last 1,024 closings
-    tell whether the document stayed open since a request, if they are all or go back so far."""
-    uri, others = "file:///a", [f"file:///{number}" for number in range(before + later)]
+def many_openings(count=1100):
+    """A request about a document that is open, others that are opened and closed after it, and the
+    answer that refuses it."""
+    uri, others = "file:///a", [f"file:///{number}" for number in range(count)]
     passing = [did_open(other, 1, "x") + did_close(other) for other in others]
-    log = [START, did_open(uri, 1, "ab"), *passing[:before], asked(10, uri), *passing[before:]]
-    log += [refused(10), asked(11, uri), refused(11)]
-    event = 6 + 2 * len(others) + (0 if is_noted else 2)
-    note = noted_refusal(uri, event, 2 if is_noted else 3)
+    log = [START, did_open(uri, 1, "ab"), asked(10, uri), *passing, refused(10)]
+    note = noted_refusal(uri, 6 + 2 * count, 2)
     lines = [f'document 1 2 "{uri}"', "note nothing-compared", note, "notes 2"]
-    return b"".join(log), yes((5 + 2 * len(others), 3), (0, 0), lines)
+    return b"".join(log), yes((4 + 2 * count, 2), (0, 0), lines)
+
+
+def long_requests():
+    """Requests about two documents, whose contents have the greatest size that is held, and one
+    byte more, and the answers that refuse them."""
+    uris, log, lines, notes = ["file:///a", "file:///b"], [START], [], []
+    for number, (uri, size) in enumerate(zip(uris, [16_384, 16_385])):
+        params = {"textDocument": {"uri": uri}, "name": ""}
+        short = {"jsonrpc": "2.0", "id": number + 10, "method": "own/ask", "params": params}
+        params["name"] = "x" * (size - len(json.dumps(short)))
+        content = json.dumps(short).encode()
+        assert len(content) == size
+        log += [did_open(uri, 1, "ab"), cut(b"E", framed(content)), refused(number + 10)]
+        lines.append(f'document 1 2 "{uri}"')
+        notes.append(noted_refusal(uri, 3 * number + 6, number + 2))
+    lines += ["note nothing-compared", *notes, "notes 3"]
+    return b"".join(log), yes((6, 3), (0, 0), lines)
 
 
 def units(text):
@@ -271,6 +285,23 @@ def explained_texts(size=TEXT):
     yield changed, f"{report}change 1 whole\n{sizes}".encode()
 
 
+def fitting_changes(beyond):
+    """A column that counts characters, in changes of 1 MiB and this many bytes more: each counts 64
+    bytes and those of its text. No other encoding is named where they are larger."""
+    uri, long = "file:///a", "a" * (CHUNK - 2 * 64 - 1 + beyond)
+    log = START + did_open(uri, 1, "x😀yz\n") + snapshot(1, uri, "x😀yz\n")
+    log += did_change(uri, 2, [replaced((0, 3), (0, 3), "!")])
+    log += did_change(uri, 3, [replaced((1, 0), (1, 0), long)])
+    log += snapshot(3, uri, f"x😀y!z\n{long}")
+    report = ["no 702 snapshot 2 event 8", "snapshot differs", "event 8 snapshot 2"]
+    report += ['uri "file:///a"', "held 3 event 7 editor 5", "version 3", "encoding utf-16"]
+    report += ["at 0 3", 'by-messages "x😀!yz\\n"', 'in-editor "x😀y!z\\n"', "codes U+0021 U+0079"]
+    report += ["snapshot event 8 snapshot 2", "equal 1 event 5 snapshot 1", "suspects 2"]
+    report += ["suspect 2 event 6 editor 4", "suspect 3 event 7 editor 5"]
+    report += ["fits utf-32"] if beyond == 0 else []
+    return log, "".join(f"{it}\n" for it in [*report, "usually editor"]).encode()
+
+
 def padded(size):
     """The content of a message of the server, of this many bytes."""
     front, back = b'{"jsonrpc":"2.0","method":"window/logMessage","params":{"type":3,"message":"', b'"}}'
@@ -288,12 +319,15 @@ def small():
         yield name, ["normal"], log, 0, log, b""
     log, report = many_misfits()
     yield "many documents that are noted", ["explain"], log, 0, report, b""
+    for beyond in [0, 1]:
+        log, report = fitting_changes(beyond)
+        for given in [log, log.replace(b"lsp-session 1", b"lsp-session 2", 1)]:
+            yield "large changes in another encoding", ["explain"], given, 1, report, b""
     for name, (log, report) in [
         ("many refused requests", many_refusals()),
         ("a refused request that is forgotten", forgotten_request()),
-        ("1,023 closings before an answer", many_closings(0, 1023, True)),
-        ("1,024 closings since a request", many_closings(0, 1024, False)),
-        ("1,023 closings since a request, and one before it", many_closings(1, 1023, True)),
+        ("1,100 openings since a request", many_openings()),
+        ("long refused requests", long_requests()),
     ]:
         yield name, ["explain"], log, 0, report, b""
     for count in [1000, 100_000]:

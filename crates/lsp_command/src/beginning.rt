@@ -30,10 +30,14 @@ impl Beginning {
         &self.bytes[..self.count]
     }
 
-    /// Keeps of these bytes, which the input gave next, as many as there is room for.
+    /// Keeps of these bytes, which the input gave next, as many as there is room for. Mostly there
+    /// is none left.
     pub fn keep(&mut self, given: &[u8])
         ensures { kept self.new ≡ take 32 (kept self.old ++ given.now) }
     {
+        if self.count == self.bytes.len() {
+            return;
+        }
         let end = self.count + (32 - self.count).min(given.len());
         self.bytes[self.count..end].copy_from_slice(&given[..end - self.count]);
         self.count = end;

@@ -14,6 +14,14 @@ pub mod Quiet
 pub mod DocumentNoting
 pub mod Misfitting
 pub mod Refusing
+pub mod LaterChanges
+pub mod SentChanges
+pub mod BaseSteps
+pub mod RoomSteps
+pub mod Basing
+pub mod BasingShown
+pub mod BasesHeld
+pub mod Fitting
 pub mod Trails
 pub mod Ending
 pub mod Comparing

@@ -1,6 +1,8 @@
 -- What is marked of a document, and the marks by URI, with one step more.
-use Rattle.std.specs.Prelude.{ℤ, int_lt, not, length, if◌then◌else◌, filter, unwrap_or, String}
+use Rattle.std.specs.Prelude.{ℤ, int_lt, not, length, if◌then◌else◌, filter, option_map}
+use Rattle.std.specs.Prelude.{slice_get, unwrap_or, String}
 use Rattle.std.specs.List.{cons_option, filter_map, fold}
+use Rattle.std.specs.Option.{option_or}
 use Rattle.std.specs.Ordering.{int_eq}
 use Rattle.std.proofs.Common.{◌≡◌, ℕ, Bool, true, false, List, [], ◌∷◌, ◌++◌, Option, Some, None}
 use Rattle.std.proofs.Common.{refl, sym, ap, ◌∙◌, append-nil, arith}
@@ -21,7 +23,7 @@ use Rattle.lsp_survey.proofs.Noting.{PutsUnder}
 use Rattle.lsp_explain.specs.History.{KeptCall, is_closing, kept_call, last_ones, since_last}
 use Rattle.lsp_explain.specs.History.{with_room}
 use Rattle.lsp_explain.specs.Marking.{agreed, at_version, ends_waiting, found_at, last_shown}
-use Rattle.lsp_explain.specs.Marking.{marked, most_setters, newer_of, next_rank, rank_after}
+use Rattle.lsp_explain.specs.Marking.{marked, most_setters, newer_of, next_rank, opened, rank_after}
 use Rattle.lsp_explain.specs.Marking.{reached, recent, setter_at, setters, stepped, waiting_at}
 use Rattle.lsp_explain.specs.Marking.{waiting_for, Marked, closes, is_about, unmarked, MarkedBy}
 use Rattle.lsp_explain.specs.Marking.{StepsOn, mark_view, marked_in}
@@ -33,11 +35,11 @@ use Rattle.lsp_explain.specs.declared.trail.mark.Mark.{Mark}
 
 -- ---- the equal snapshot of the greatest version
 
-newer_none : (best : Option VersionEvent) → newer_of best None ≡ best
+pub newer_none : (best : Option VersionEvent) → newer_of best None ≡ best
 newer_none None = refl
 newer_none (Some s) = refl
 
-agreed-push : (done : List KeptCall) (k : KeptCall)
+pub agreed-push : (done : List KeptCall) (k : KeptCall)
     → agreed (done ++ k ∷ []) ≡ newer_of (agreed done) (found_at done k)
 agreed-push done k =
     ap newest (each_of-snoc found_at done k) ∙ by_one (each_of found_at done) (found_at done k)
@@ -51,6 +53,9 @@ agreed-push done k =
     by_one found (Some s) = fold_push (λ best s. newer_of best (Some s)) None found s
 
 -- ---- a message that sets a version
+
+abbrev first_place : List VersionEvent → Option EventPlace
+first_place ss = option_map (λ (s : VersionEvent). s.place) (slice_get ss 0)
 
 module _ (done : List KeptCall) (uri : List ℕ) (p : EventPlace) (own : ℤ) (first : Bool) where
   abbrev setting : KeptCall
@@ -70,6 +75,17 @@ module _ (done : List KeptCall) (uri : List ℕ) (p : EventPlace) (own : ℤ) (f
       ∙ last_behind_all most_setters (setters done)
       (at_version (rank_after (done ++ setting ∷ [])) p own) (omega arith)
       ∙ ap (λ (r : ℕ). with_room most_setters (recent done) ++ at_version r p own ∷ []) rank-more
+
+  opened-more : opened (done ++ setting ∷ []) ≡ option_or (opened done) (Some p)
+  opened-more =
+      ap first_place (each_of-snoc setter_at done setting)
+      ∙ by_first (setters done)
+    where
+      by_first : (ss : List VersionEvent)
+          → first_place (ss ++ at_version (rank_after (done ++ setting ∷ [])) p own ∷ [])
+          ≡ option_or (first_place ss) (Some p)
+      by_first [] = refl
+      by_first (s ∷ ss) = refl
 
   -- those of a greater version wait on
   waits_above : (number : ℤ) → waiting_for number (done ++ setting ∷ [])
@@ -92,6 +108,7 @@ module _ (done : List KeptCall) (uri : List ℕ) (p : EventPlace) (own : ℤ) (f
   reached-push = λ i. record {
     setters = recent-more i;
     rank = rank-more i;
+    opened = opened-more i;
     agreed = (agreed-push done setting
         ∙ ap (λ (r : ℕ). newer_of (agreed done) (last_shown own r (waiting_for own done)))
         rank-more) i;
@@ -113,6 +130,10 @@ module _ (done : List KeptCall) (uri : List ℕ) (p : EventPlace) (own : ℤ) (a
   recent-same = ap (last_ones most_setters)
       (each_of-snoc setter_at done showing ∙ append-nil (setters done))
 
+  opened-same : opened (done ++ showing ∷ []) ≡ opened done
+  opened-same =
+      ap first_place (each_of-snoc setter_at done showing ∙ append-nil (setters done))
+
   waits-more : (number : ℤ) → waiting_for number (done ++ showing ∷ [])
       ≡ waiting_for number done ++ filter_map (waiting_at number) (showing ∷ [])
   waits-more number =
@@ -130,6 +151,7 @@ shown-push : (done : List KeptCall) (uri : List ℕ) (p : EventPlace) (own : ℤ
 shown-push done uri p own Equal = λ i. record {
   setters = recent-same done uri p own Equal i;
   rank = rank-same done uri p own Equal i;
+  opened = opened-same done uri p own Equal i;
   agreed = agreed-push done (kept_call uri p (Shows own Equal)) i;
   waiting = λ number. (waits-more done uri p own Equal number
       ∙ append-nil (waiting_for number done)) i;
@@ -137,6 +159,7 @@ shown-push done uri p own Equal = λ i. record {
 shown-push done uri p own Waits = λ i. record {
   setters = recent-same done uri p own Waits i;
   rank = rank-same done uri p own Waits i;
+  opened = opened-same done uri p own Waits i;
   agreed = (agreed-push done (kept_call uri p (Shows own Waits)) ∙ newer_none (agreed done)) i;
   waiting = λ number. (waits-more done uri p own Waits number
       ∙ ap (λ (l : List EventPlace). waiting_for number done ++ l) (awaited (int_eq own number) p))
@@ -145,6 +168,7 @@ shown-push done uri p own Waits = λ i. record {
 shown-push done uri p own Missed = λ i. record {
   setters = recent-same done uri p own Missed i;
   rank = rank-same done uri p own Missed i;
+  opened = opened-same done uri p own Missed i;
   agreed = (agreed-push done (kept_call uri p (Shows own Missed)) ∙ newer_none (agreed done)) i;
   waiting = λ number. (waits-more done uri p own Missed number
       ∙ append-nil (waiting_for number done)) i;

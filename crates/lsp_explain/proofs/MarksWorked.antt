@@ -4,7 +4,7 @@ use Rattle.lsp_docs.specs.declared.snapshot.Match.TheVariants.{Equal, Waits}
 use Rattle.lsp_rpc.specs.Ident.{number}
 use Rattle.lsp_explain.specs.Asking.{Reply, last_reply, replied}
 use Rattle.lsp_explain.specs.History.{last_ones, KeptCall, OnDocument, kept_call, on_document}
-use Rattle.lsp_explain.specs.Marking.{agreed, at_version, recent, standing, waiting_for}
+use Rattle.lsp_explain.specs.Marking.{agreed, at_version, opened, recent, standing, waiting_for}
 use Rattle.lsp_explain.specs.Openings.{closing_of}
 use Rattle.lsp_explain.specs.declared.trail.mark.VersionEvent.{VersionEvent}
 use Rattle.lsp_explain.specs.declared.trail.step.Step.TheVariants.{Closes, Reaches, Shows}
@@ -54,6 +54,9 @@ event_of n own rank = at_version rank (at n) own
 set_by_two : recent (done opening) ≡ event_of 3 (pos 1) 1 ∷ event_of 5 (pos 3) 2 ∷ []
 set_by_two = refl
 
+opened_by_first : opened (done opening) ≡ Some (at 3)
+opened_by_first = refl
+
 none_agreed : agreed (done opening) ≡ None
 none_agreed = refl
 
@@ -95,6 +98,12 @@ passed_over = refl
 -- closed, nothing is left; opened again, no snapshot of before agrees
 none_set : recent (done (reached ++ closes ∷ [])) ≡ []
 none_set = refl
+
+not_open : opened (done (reached ++ closes ∷ [])) ≡ None
+not_open = refl
+
+opened_anew : opened (done (reached ++ closes ∷ reaches (at 9) (pos 5) ∷ [])) ≡ Some (at 9)
+opened_anew = refl
 
 -- the versions of the next opening count from 1
 set_anew : recent (done (reached ++ closes ∷ reaches (at 9) (pos 5) ∷ []))

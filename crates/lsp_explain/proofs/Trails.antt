@@ -1,16 +1,18 @@
 -- The trail once one more event was told.
 use Rattle.std.specs.Borrow.{Bor}
-use Rattle.std.specs.Prelude.{option_and_then, Result, Ok, Err, OnOk}
+use Rattle.std.specs.Prelude.{Bool, option_and_then, option_map, Result, Ok, Err, OnOk}
 use Rattle.std.specs.List.{cons_option}
 use Rattle.std.specs.Option.{option_or}
 use Rattle.std.proofs.Common.{◌≡◌, ℕ, List, [], ◌∷◌, ◌++◌, Option, Some, None, refl, sym, ap, ◌∙◌}
 use Rattle.std.proofs.Common.{append-nil, subst}
-use Rattle.lsp_docs.specs.Calls.{Call}
+use Rattle.lsp_docs.specs.Calls.{Call, uri_of}
 use Rattle.lsp_docs.specs.Documents.{Terms}
+use Rattle.lsp_docs.specs.Rules.{AreAccepted}
+use Rattle.lsp_docs.specs.State as docs
 use Rattle.lsp_docs.specs.Taken.{took_by}
 use Rattle.lsp_docs.specs.declared.call.Took.{Took}
 use Rattle.lsp_replay.specs.Lines.{place_of}
-use Rattle.lsp_replay.specs.Telling.{HasFate, IsSpoken, kept_before, rule_of, took_of}
+use Rattle.lsp_replay.specs.Telling.{HasFate, IsSpoken, Stood, kept_before, rule_of, took_of}
 use Rattle.lsp_replay.specs.declared.heard.EventPlace.{EventPlace}
 use Rattle.lsp_replay.specs.declared.seen.Fate.{Fate}
 use Rattle.lsp_replay.specs.declared.seen.Fate.TheVariants as fates
@@ -19,16 +21,21 @@ use Rattle.lsp_rpc.specs.View.{message_view}
 use Rattle.lsp_rpc.specs.declared.act.Spoken.{Spoken}
 use Rattle.lsp_session.specs.Handshake.{is_done, phase}
 use Rattle.lsp_session.specs.Sent.{Sent}
+use Rattle.lsp_session.specs.State as session
 use Rattle.lsp_types.specs.declared.side.Side.{Side}
 use Rattle.lsp_verdict.specs.Event.{call_at, calls, Event, fault, message, sent_in, snapshot}
 use Rattle.lsp_verdict.specs.Given.{raw_view}
 use Rattle.lsp_verdict.specs.Heard.{Heard, heard_events}
 use Rattle.lsp_verdict.specs.Offences.{kept_of, rule_at}
 use Rattle.lsp_verdict.specs.Placed.{Reads, content}
+use Rattle.lsp_verdict.proofs.LookBackLemmas.{each_of-snoc}
+use Rattle.lsp_verdict.proofs.Offences.Steps.{kept-push, kept-refused}
+use Rattle.lsp_verdict.specs.declared.counts.Counts.{Counts}
 use Rattle.lsp_verdict.specs.declared.raw.Raw as lent
 use Rattle.lsp_verdict.specs.declared.raw.Raw.TheVariants as lents
-use Rattle.lsp_explain.specs.History.{KeptCall, call_kept, event_kept, kept_calls}
-use Rattle.lsp_explain.specs.Marking.{MarkedBy}
+use Rattle.lsp_explain.specs.Bases.{KeepsBy}
+use Rattle.lsp_explain.specs.History.{KeptCall, call_kept, event_kept, kept_call, kept_calls, step_of}
+use Rattle.lsp_explain.specs.Marking.{MarkedBy, finds_equal, marked_in}
 use Rattle.lsp_explain.specs.Openings.{OpenedBy}
 use Rattle.lsp_explain.specs.Renames.{RenamesIn, moves_view, renamed_by, renamed_held}
 use Rattle.lsp_explain.specs.Conversations.{IsConversation, Says}
@@ -38,6 +45,10 @@ use Rattle.lsp_explain.specs.declared.trail.openings.Openings.{Openings}
 use Rattle.lsp_explain.specs.declared.trail.renames.Renames.{Renames}
 use Rattle.lsp_explain.specs.declared.trail.conversation.Conversation.{Conversation}
 use Rattle.lsp_explain.specs.declared.trail.Trail.{Trail}
+use Rattle.lsp_explain.specs.declared.trail.step.Step.{Step}
+use Rattle.lsp_explain.specs.declared.trail.bases.Bases.{Bases}
+use Rattle.lsp_explain.proofs.Basing.{HoldAll}
+use Rattle.lsp_explain.proofs.BasingShown.{hold_more, hold_same}
 use Rattle.lsp_explain.proofs.History.{kept_more, refused_more}
 use Rattle.lsp_explain.proofs.Quiet.{call_taken}
 use Rattle.lsp_explain.proofs.SessionSteps.{message_taken, refused_unsaid}
@@ -90,6 +101,10 @@ module _ (terms : Terms) (before : List Heard) (h : Heard) (old : Trail)
       subst (IsTrail terms old) (sym (events-push before h)) (record {
         marked = subst (MarkedBy old.marks.map.entries) (sym same) is.marked;
         opened = subst (OpenedBy old.openings) (sym same) is.opened;
+        based = subst (λ ks. HoldAll terms (calls (kept_of terms (events ++ h.note.event ∷ []))) ks
+            old.bases.map.entries) (sym same)
+            (subst (λ es. HoldAll terms (calls es) (kept_calls terms events) old.bases.map.entries)
+            (sym (kept-refused terms events h.note.event rule offends)) is.based);
         said = refused_unsaid terms old.said events h.note.event rule is.said offends;
       })
 
@@ -99,9 +114,11 @@ module _ (terms : Terms) (before : List Heard) (h : Heard) (old : Trail)
     kept_so : (more : Option KeptCall)
         → event_kept terms place (kept_of terms events) h.note.event ≡ more
         → Keeps more old.marks old.openings new.marks new.openings
+        → HoldAll terms (calls (kept_of terms (events ++ h.note.event ∷ [])))
+        (kept_calls terms events ++ cons_option more []) new.bases.map.entries
         → IsConversation terms new.said (events ++ h.note.event ∷ [])
         → IsTrail terms new (heard_events (before ++ h ∷ []))
-    kept_so more does keeps said =
+    kept_so more does keeps based said =
         let whole : kept_calls terms (events ++ h.note.event ∷ [])
         ≡ kept_calls terms events ++ cons_option more [] =
         kept_more (event_kept terms) terms events h.note.event place more kept_here at does in
@@ -110,23 +127,97 @@ module _ (terms : Terms) (before : List Heard) (h : Heard) (old : Trail)
               (keeps.marked (kept_calls terms events) is.marked);
           opened = subst (OpenedBy new.openings) (sym whole)
               (keeps.opened (kept_calls terms events) is.opened);
+          based = subst (λ ks. HoldAll terms
+              (calls (kept_of terms (events ++ h.note.event ∷ []))) ks new.bases.map.entries)
+              (sym whole) based;
           said = said;
         })
+
+    -- the calls up to it
+    pub calls_with : (call : Call) → call_at (kept_before terms before) h.note.event ≡ Some call
+        → calls (kept_of terms (events ++ h.note.event ∷ []))
+        ≡ calls (kept_of terms events) ++ call ∷ []
+    calls_with call says =
+        ap calls (kept-push terms events h.note.event kept_here)
+        ∙ each_of-snoc call_at (kept_of terms events) h.note.event
+        ∙ ap (λ o. calls (kept_of terms events) ++ cons_option o []) says
+
+    calls_without : call_at (kept_before terms before) h.note.event ≡ None
+        → calls (kept_of terms (events ++ h.note.event ∷ [])) ≡ calls (kept_of terms events)
+    calls_without says =
+        ap calls (kept-push terms events h.note.event kept_here)
+        ∙ each_of-snoc call_at (kept_of terms events) h.note.event
+        ∙ ap (λ o. calls (kept_of terms events) ++ cons_option o []) says
+        ∙ append-nil (calls (kept_of terms events))
+
+    -- what is held of the texts after one that does something to a document
+    pub based_called : (messages : session.State) (d : docs.State) (counts : Counts) (call : Call)
+        (took : Took) (step : Step) (found : Bool)
+        → Stood terms messages d counts (before ++ h ∷ [])
+        → call_at (kept_before terms before) h.note.event ≡ Some call
+        → took ≡ took_of terms (calls (kept_before terms before)) (Some call)
+        → Some step ≡ step_of call took
+        → found ≡ finds_equal step (marked_in old.marks.map.entries (uri_of call))
+        → ((after : List Call) → docs.Stands d after
+        → KeepsBy d.terms after call step found old.bases.map.entries new.bases.map.entries)
+        → HoldAll terms (calls (kept_of terms events) ++ call ∷ [])
+        (kept_calls terms events ++ cons_option (call_kept place call took) [])
+        new.bases.map.entries
+    based_called messages d counts call took step found stood says told does equal keeps =
+        let before-it : List Call = calls (kept_of terms events) in
+        let stands : docs.Stands d (before-it ++ call ∷ []) =
+        subst (docs.Stands d)
+        (ap (λ es. calls (kept_of terms es)) (events-push before h) ∙ calls_with call says)
+        stood.holds.called in
+        subst (λ (o : Option Step). HoldAll terms (before-it ++ call ∷ []) (kept_calls terms events
+        ++ cons_option (option_map (kept_call (uri_of call) place) o) []) new.bases.map.entries)
+        does
+        (hold_more terms before-it call (kept_calls terms events) place step found
+        old.bases.map.entries new.bases.map.entries
+        (subst (λ (t : Terms). AreAccepted t (before-it ++ call ∷ [])) stood.by stands.accepted)
+        (ap (step_of call) (sym told) ∙ sym does)
+        (equal ∙ ap (finds_equal step) (is.marked (uri_of call)))
+        (subst (λ (t : Terms). KeepsBy t (before-it ++ call ∷ []) call step found
+        old.bases.map.entries new.bases.map.entries) stood.by (keeps (before-it ++ call ∷ []) stands))
+        is.based)
+
+    -- and after one that does nothing
+    pub based_same : (call : Call) (took : Took)
+        → took ≡ took_of terms (calls (kept_before terms before)) (Some call)
+        → None ≡ step_of call took
+        → HoldAll terms (calls (kept_of terms events) ++ call ∷ [])
+        (kept_calls terms events ++ cons_option (call_kept place call took) [])
+        old.bases.map.entries
+    based_same call took told nothing =
+        let before-it : List Call = calls (kept_of terms events) in
+        subst (λ (o : Option Step). HoldAll terms (before-it ++ call ∷ []) (kept_calls terms events
+        ++ cons_option (option_map (kept_call (uri_of call) place) o) []) old.bases.map.entries)
+        nothing
+        (subst (λ ks. HoldAll terms (before-it ++ call ∷ []) ks old.bases.map.entries)
+        (sym (append-nil (kept_calls terms events)))
+        (hold_same terms before-it call (kept_calls terms events) old.bases.map.entries
+        (ap (step_of call) (sym told) ∙ sym nothing) is.based))
 
     -- one that says this about a document
     pub trail_called : (call : Call) (took : Took) (r : Renames) → Reads h.raw h.note.event
         → call_at (kept_before terms before) h.note.event ≡ Some call
         → took ≡ took_of terms (calls (kept_before terms before)) (Some call)
         → Keeps (call_kept place call took) old.marks old.openings new.marks new.openings
+        → HoldAll terms (calls (kept_of terms events) ++ call ∷ [])
+        (kept_calls terms events ++ cons_option (call_kept place call took) [])
+        new.bases.map.entries
         → new.said ≡ record old.said { renames = r } → r.moves ≡ old.said.renames.moves
         → renamed_held r ≡ option_or (renamed_held old.said.renames)
         (renamed_by place (moves_view old.said.renames.moves.items) call)
         → IsTrail terms new (heard_events (before ++ h ∷ []))
-    trail_called call took r reads says told keeps same moves renamed =
+    trail_called call took r reads says told keeps based same moves renamed =
         kept_so (call_kept place call took)
         (ap (option_and_then (λ one. call_kept place one
         (took_by terms (calls (kept_of terms events)) one))) says
         ∙ ap (call_kept place call) (sym told)) keeps
+        (subst (λ cs. HoldAll terms cs
+        (kept_calls terms events ++ cons_option (call_kept place call took) [])
+        new.bases.map.entries) (sym (calls_with call says)) based)
         (subst (λ (n : Conversation). IsConversation terms n (events ++ h.note.event ∷ [])) (sym same)
         (call_taken terms old.said r events h.note.event h.raw place call is.said kept_here reads at
         says moves renamed))
@@ -136,13 +227,13 @@ module _ (terms : Terms) (before : List Heard) (h : Heard) (old : Trail)
         → Reads (content side bytes) h.note.event
         → IsSpoken (kept_before terms before) h.note.event by s
         → call_at (kept_before terms before) h.note.event ≡ None
-        → new.marks ≡ old.marks → new.openings ≡ old.openings
+        → new.marks ≡ old.marks → new.openings ≡ old.openings → new.bases ≡ old.bases
         → Says place side (message_view s.message)
         (phase (sent_in (kept_of terms (heard_events (before ++ h ∷ [])))))
         (is_done (sent_in (kept_of terms (heard_events (before ++ h ∷ []))))) old.said new.said
         → RenamesIn place side bytes (message_view s.message) None old.said.renames new.said.renames
         → IsTrail terms new (heard_events (before ++ h ∷ []))
-    trail_said side bytes by s reads spoken says marks openings told renamed =
+    trail_said side bytes by s reads spoken says marks openings bases told renamed =
         let sent = spoken.sent in
         let own = subst (λ (e : Event). Reads (content side bytes) e) spoken.is reads in
         let all : heard_events (before ++ h ∷ []) ≡ events ++ message sent ∷ [] =
@@ -163,6 +254,13 @@ module _ (terms : Terms) (before : List Heard) (h : Heard) (old : Trail)
         (subst (λ (m : Marks). Keeps None old.marks old.openings m new.openings) (sym marks)
         (subst (Keeps None old.marks old.openings old.marks) (sym openings)
         (none_kept old.marks old.openings)))
+        (subst (λ (b : Bases). HoldAll terms
+        (calls (kept_of terms (events ++ h.note.event ∷ []))) (kept_calls terms events ++ [])
+        b.map.entries) (sym bases)
+        (subst (λ cs. HoldAll terms cs (kept_calls terms events ++ []) old.bases.map.entries)
+        (sym (calls_without says))
+        (subst (λ ks. HoldAll terms (calls (kept_of terms events)) ks old.bases.map.entries)
+        (sym (append-nil (kept_calls terms events))) is.based)))
         (subst (λ (e : Event). IsConversation terms new.said (events ++ e ∷ [])) (sym spoken.is)
         (message_taken terms old.said new.said events sent bytes (message_view s.message) place
         is.said (ap (λ (e : Event). rule_at terms events e) (sym spoken.is) ∙ kept_here)

@@ -6,6 +6,9 @@ pub mod StandardMethods
 pub mod SessionNotes
 pub mod Renames
 pub mod Conversations
+pub mod SentEdits
+pub mod Bases
+pub mod Fits
 pub mod Traced
 pub mod Trails
 pub mod Compared

@@ -1,13 +1,14 @@
 -- Which events left a document as it is: the messages that set its versions, the equal snapshot of
 -- the greatest version, and the snapshots that wait.
 use Rattle.std.specs.Prelude.{ℕ, ℤ, int_lt, ◌+◌, ◌-◌, List, [], ◌∷◌, ◌++◌, length, filter}
-use Rattle.std.specs.Prelude.{slice_get, Bool, false, not, if◌then◌else◌, Option, Some, None}
-use Rattle.std.specs.Prelude.{option_map, ◌≡◌, unwrap_or, string_bytes, String}
+use Rattle.std.specs.Prelude.{slice_get, Bool, true, false, not, if◌then◌else◌, Option, Some, None}
+use Rattle.std.specs.Prelude.{is_some, option_map, ◌≡◌, unwrap_or, string_bytes, String}
 use Rattle.std.specs.List.{filter_map, find, fold}
 use Rattle.std.specs.Ordering.{int_eq}
 use Rattle.std.specs.Str.{bytes_eq}
 use Rattle.std.specs.Global.{Global}
 use Rattle.std.specs.Map.{lookup}
+use Rattle.std.specs.Option.{option_or}
 use Rattle.std.specs.declared.vec.Vec.{Vec}
 use Rattle.lsp_docs.specs.State.{capped}
 use Rattle.lsp_docs.specs.Documents.{Terms}
@@ -62,6 +63,10 @@ setter_at before k =
 -- **the messages that set the versions of the standing opening**, in order
 abbrev pub setters : List KeptCall → List VersionEvent
 setters done = each_of setter_at done
+
+-- **the event that opened the document**, the first of them
+abbrev pub opened : List KeptCall → Option EventPlace
+opened done = option_map (λ (s : VersionEvent). s.place) (slice_get (setters done) 0)
 
 -- how many of the last ones are looked at: those of the held version and of the 16 versions before
 -- it that may be kept, and of 15 before the oldest of these, whose text may be the one that differs
@@ -152,6 +157,7 @@ agreed done = fold (λ best s. newer_of best (Some s)) None (each_of found_at do
 pub record Marked : Type 0 where
   pub setters : List VersionEvent
   pub rank : ℕ
+  pub opened : Option EventPlace
   pub agreed : Option VersionEvent
   pub waiting : ℤ → List EventPlace
 
@@ -159,12 +165,19 @@ abbrev pub marked : List KeptCall → Marked
 marked done = record {
   setters = recent done;
   rank = rank_after done;
+  opened = opened done;
   agreed = agreed done;
   waiting = λ number. waiting_for number done;
 }
 
 abbrev pub unmarked : Marked
-unmarked = record { setters = []; rank = 0; agreed = None; waiting = λ number. [] }
+unmarked = record {
+  setters = [];
+  rank = 0;
+  opened = None;
+  agreed = None;
+  waiting = λ number. [];
+}
 
 -- those of a greater version than this wait on
 abbrev pub above : ℤ → (ℤ → List EventPlace) → ℤ → List EventPlace
@@ -178,6 +191,7 @@ abbrev pub stepped : EventPlace → Step → Marked → Marked
 stepped p (Reaches own first) m = record {
   setters = with_room most_setters m.setters ++ at_version (next_rank m.rank) p own ∷ [];
   rank = next_rank m.rank;
+  opened = option_or m.opened (Some p);
   agreed = newer_of m.agreed (last_shown own (next_rank m.rank) (m.waiting own));
   waiting = above own m.waiting;
 }
@@ -185,16 +199,24 @@ stepped p Closes m = unmarked
 stepped p (Shows own Equal) m = record {
   setters = m.setters;
   rank = m.rank;
+  opened = m.opened;
   agreed = newer_of m.agreed (Some (at_version (rank_of own m.setters) p own));
   waiting = m.waiting;
 }
 stepped p (Shows own Waits) m = record {
   setters = m.setters;
   rank = m.rank;
+  opened = m.opened;
   agreed = m.agreed;
   waiting = λ number. m.waiting number ++ (if int_eq own number then p ∷ [] else []);
 }
 stepped p (Shows own Missed) m = m
+
+-- a snapshot is found equal by this step
+abbrev pub finds_equal : Step → Marked → Bool
+finds_equal (Reaches own first) m = is_some (last_shown own (next_rank m.rank) (m.waiting own))
+finds_equal (Shows own Equal) m = true
+finds_equal _ m = false
 
 -- ---- the marks of documents, by URI
 
@@ -210,6 +232,7 @@ abbrev pub mark_view : Mark → Marked
 mark_view m = record {
   setters = m.setters.items;
   rank = m.rank;
+  opened = m.opened;
   agreed = m.agreed;
   waiting = waiting_in m.waiting.entries;
 }
@@ -227,11 +250,11 @@ rest_of (e ∷ es) = es
 abbrev pub marked_in : List (String Global × Mark) → List ℕ → Marked
 marked_in es uri = unwrap_or (held_by mark_view es uri) unmarked
 
--- at this place there is what is marked of the URI
-abbrev pub IsAt : List (String Global × Mark) → List ℕ → ℕ → Type 0
-IsAt es uri at =
-    (key : String Global) × (mark : Mark) × (slice_get es at ≡ Some (key, mark))
-    × (string_bytes key ≡ uri) × (lookup (λ k. bytes_eq uri (string_bytes k)) es ≡ Some mark)
+-- at this place there is what the map holds under the URI
+abbrev pub IsAt : {X : Type 0} → List (String Global × X) → List ℕ → ℕ → Type 0
+IsAt {X} es uri at =
+    (key : String Global) × (x : X) × (slice_get es at ≡ Some (key, x))
+    × (string_bytes key ≡ uri) × (lookup (λ k. bytes_eq uri (string_bytes k)) es ≡ Some x)
 
 -- one more step of the URI, by the event of this place, and all others are as they were
 abbrev pub StepsOn : List ℕ → EventPlace → Step → List (String Global × Mark)

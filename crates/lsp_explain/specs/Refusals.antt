@@ -1,12 +1,13 @@
 -- Which requests about documents the server refused for their params.
-use Rattle.std.specs.Prelude.{◌≡◌, ℕ, ℤ, negsuc, List, ◌++◌, ◌==◌, Bool, true, false}
+use Rattle.std.specs.Prelude.{◌≡◌, ℕ, ℤ, negsuc, nat_lt, List, ◌++◌, ◌==◌, Bool, true, false, map}
 use Rattle.std.specs.Prelude.{if◌then◌else◌, is_some, Option, Some, None, option_map}
-use Rattle.std.specs.Prelude.{option_and_then, codes}
+use Rattle.std.specs.Prelude.{option_and_then, codes, string_bytes}
 use Rattle.std.specs.Ordering.{int_eq}
+use Rattle.std.specs.Str.{is_utf8}
 use Rattle.json.specs.Print.{quoted}
 use Rattle.serde_json.specs.Data.{Data}
-use Rattle.lsp_docs.specs.Calls.{Call}
-use Rattle.lsp_docs.specs.Documents.{Terms, held}
+use Rattle.serde_json.specs.Read.{read}
+use Rattle.lsp_docs.specs.Documents.{Terms}
 use Rattle.lsp_rpc.specs.Ident.{Ident}
 use Rattle.lsp_rpc.specs.Message.{Message, request, notification, response}
 use Rattle.lsp_rpc.specs.Message.{Reply, result, error}
@@ -14,70 +15,67 @@ use Rattle.lsp_rpc.specs.Params.{required, uri_at}
 use Rattle.lsp_session.specs.Sent.{Sent}
 use Rattle.lsp_types.specs.declared.side.Side.{Side}
 use Rattle.lsp_types.specs.declared.side.Side.TheVariants.{Editor, Server}
-use Rattle.lsp_verdict.specs.Event.{calls, Event, sent_of}
+use Rattle.lsp_verdict.specs.Event.{Event, sent_of}
 use Rattle.lsp_verdict.specs.LookBack.{each_of}
 use Rattle.lsp_verdict.specs.Offences.{rule_at}
 use Rattle.lsp_replay.specs.Lines.{place_of}
 use Rattle.lsp_replay.specs.declared.heard.EventPlace.{EventPlace}
 use Rattle.lsp_explain.specs.Asking.{asked, numbered}
 use Rattle.lsp_explain.specs.DocumentNotes.{DocumentNote, document_note, first_notes, notes_view}
-use Rattle.lsp_explain.specs.History.{OnDocument, each_kept, last_ones, last_that, on_document}
-use Rattle.lsp_explain.specs.Openings.{closings, ons_view, stayed_open}
-use Rattle.lsp_explain.specs.declared.notes.refusals.Refusals as code
+use Rattle.lsp_explain.specs.History.{each_kept, last_ones, last_that, on_document}
+use Rattle.lsp_explain.specs.Marking.{opened, steps}
+use Rattle.lsp_explain.specs.declared.notes.refusals.Refusals.{Refusals}
+use Rattle.lsp_explain.specs.declared.notes.requests.Named.{Named}
+use Rattle.lsp_explain.specs.declared.notes.requests.Named.TheVariants.{Content, Document}
+use Rattle.lsp_explain.specs.declared.notes.requests.Request as code
 
--- ---- requests about documents
+-- ---- requests
+
+-- a request of the editor: the document that it names, if it names one, and the place of its event
+pub record Request : Type 0 where
+  pub document : Option (List ℕ)
+  pub place : EventPlace
+
+abbrev pub request_at : EventPlace → Option (List ℕ) → Request
+request_at p document = record { document = document; place = p }
 
 -- the document that params name (LSP 3.17, TextDocumentIdentifier)
 abbrev pub document_in : Data → Option (List ℕ)
 document_in params = required (codes "textDocument") uri_at params
 
--- the one that a request names
-abbrev pub document_named : Message → Option (List ℕ)
-document_named (request id method params) = option_and_then document_in params
-document_named (notification method params) = None
-document_named (response id reply) = None
+-- a message of the editor, the event of this place, if it is a request
+abbrev pub request_by : EventPlace → Message → Option Request
+request_by p (request id method params) = Some (request_at p (option_and_then document_in params))
+request_by p (notification method params) = None
+request_by p (response id reply) = None
 
--- that of a request of the editor
-abbrev pub document_of : Side → Message → Option (List ℕ)
-document_of Editor m = document_named m
-document_of Server m = None
+abbrev pub request_of : EventPlace → Side → Message → Option Request
+request_of p Editor m = request_by p m
+request_of p Server m = None
 
--- it is open after these calls
-abbrev pub if_open : Terms → List Call → List ℕ → Option (List ℕ)
-if_open terms before uri = if is_some (held terms uri before) then Some uri else None
+abbrev pub event_request : EventPlace → List Event → Event → Option Request
+event_request p before event =
+    option_and_then (λ (m : Sent). request_of p m.side m.message) (sent_of event)
 
--- a message that is a request about a document that is open, the event of this place
-abbrev pub request_of : Terms → List Call → EventPlace → Side → Message → Option OnDocument
-request_of terms before p side m =
-    option_map (λ uri. on_document uri p)
-    (option_and_then (if_open terms before) (document_of side m))
-
-abbrev pub request_in : Terms → EventPlace → List Event → Sent → Option OnDocument
-request_in terms p before m = request_of terms (calls before) p m.side m.message
-
-abbrev pub event_request : Terms → EventPlace → List Event → Event → Option OnDocument
-event_request terms p before event =
-    option_and_then (request_in terms p before) (sent_of event)
-
--- **the editor's requests that are kept and are about documents that are open**, in order
-abbrev pub requests : Terms → List Event → List OnDocument
-requests terms events = each_kept (event_request terms) terms events
+-- **the editor's requests that are kept**, in order
+abbrev pub requests : Terms → List Event → List Request
+requests terms events = each_kept event_request terms events
 
 -- how many of the last ones are looked at
 abbrev pub most_requests : ℕ
 most_requests = 1024
 
-abbrev pub last_requests : Terms → List Event → List OnDocument
+abbrev pub last_requests : Terms → List Event → List Request
 last_requests terms events = last_ones most_requests (requests terms events)
 
-abbrev pub is_by : EventPlace → OnDocument → Bool
-is_by p on = on.place.event == p.event
+abbrev pub is_by : EventPlace → Request → Bool
+is_by p r = r.place.event == p.event
 
 -- the one of these that is the event of this place
-abbrev pub request_by : EventPlace → List OnDocument → Option OnDocument
-request_by p ons = last_that (is_by p) ons
+abbrev pub request_at_place : EventPlace → List Request → Option Request
+request_at_place p rs = last_that (is_by p) rs
 
--- whether a message is a request: of those alone the params are read
+-- whether a message is a request
 abbrev pub is_request : Message → Bool
 is_request (request id method params) = true
 is_request (notification method params) = false
@@ -105,35 +103,48 @@ abbrev pub refuses : Side → Message → Option Ident
 refuses Server m = refused_id m
 refuses Editor m = None
 
--- the document of a request is open since then
-abbrev pub if_stays : List OnDocument → OnDocument → Option OnDocument
-if_stays closed on = if stayed_open on.place on.uri closed then Some on else None
-
--- the editor's request with this id, which is open after these events, where it is about a document
--- that is open from the request on
-abbrev pub refused_request : Terms → List Event → Ident → Option OnDocument
+-- the editor's request with this id, which is open after these events
+abbrev pub refused_request : Terms → List Event → Ident → Option Request
 refused_request terms before id =
-    option_and_then (if_stays (closings terms before))
-    (option_and_then (λ p. request_by p (last_requests terms before))
-    (asked Editor id (numbered terms before)))
+    option_and_then (λ p. request_at_place p (last_requests terms before))
+    (asked Editor id (numbered terms before))
+
+-- it was opened before the event of this place
+abbrev pub is_opened_before : EventPlace → Option EventPlace → Bool
+is_opened_before p None = false
+is_opened_before p (Some opened) = nat_lt opened.event p.event
+
+-- the document of this URI, if it is open after these events, and was at that of this place
+abbrev pub if_open_since : Terms → List Event → EventPlace → List ℕ → Option (List ℕ)
+if_open_since terms before p uri =
+    if is_opened_before p (opened (steps terms uri before)) then Some uri else None
+
+-- the document that a request names, if that is open from the request on
+abbrev pub open_document : Terms → List Event → Request → Option (List ℕ)
+open_document terms before r = option_and_then (if_open_since terms before r.place) r.document
+
+-- **the one that the editor's request with this id names**
+abbrev pub refused_document : Terms → List Event → Ident → Option (List ℕ)
+refused_document terms before id =
+    option_and_then (open_document terms before) (refused_request terms before id)
 
 -- ---- their notes
 
 abbrev pub refused_words : List ℕ → List ℕ
 refused_words uri = codes "note refused -32602 " ++ quoted uri
 
+-- the note on the event of this place, which refuses a request about this document
 abbrev pub note_on : EventPlace → List ℕ → DocumentNote
 note_on p uri = document_note (on_document uri p) (refused_words uri)
 
--- the note on the event of this place, which refuses this request
-abbrev pub refusal_note : EventPlace → OnDocument → DocumentNote
-refusal_note p on = note_on p on.uri
+-- the note on the event of this place, if it refuses the editor's request with this id
+abbrev pub refusal_note : Terms → List Event → EventPlace → Option Ident → Option DocumentNote
+refusal_note terms before p id =
+    option_map (note_on p) (option_and_then (refused_document terms before) id)
 
--- on a message, the event of this place, if it refuses one
+-- on a message
 abbrev pub refusal_by : Terms → List Event → EventPlace → Sent → Option DocumentNote
-refusal_by terms before p m =
-    option_map (refusal_note p)
-    (option_and_then (refused_request terms before) (refuses m.side m.message))
+refusal_by terms before p m = refusal_note terms before p (refuses m.side m.message)
 
 -- where it is kept
 abbrev pub refusal_at : Terms → List Event → Event → Option DocumentNote
@@ -148,7 +159,30 @@ refusals terms events = first_notes (each_of (refusal_at terms) events)
 
 -- ---- as they are held
 
+-- the document that a content names, if it is that of a request
+abbrev pub named_in : List ℕ → Option (List ℕ)
+named_in content =
+    if is_utf8 content
+    then option_and_then (required (codes "params") document_in) (read content) else None
+
+-- the document that a request of which this is held names
+abbrev pub named_view : Named → Option (List ℕ)
+named_view (Content content) = named_in content.items
+named_view (Document uri) = option_map string_bytes uri
+
+abbrev pub request_view : code.Request → Request
+request_view r = request_at r.place (named_view r.named)
+
+abbrev pub requests_view : List code.Request → List Request
+requests_view held = map request_view held
+
+-- these more are held, of which the last ones stay
+abbrev pub Holds : List Request → List code.Request → List code.Request → Type 0
+Holds more old new =
+    (rs : List Request) → requests_view old ≡ last_ones most_requests rs
+    → requests_view new ≡ last_ones most_requests (rs ++ more)
+
 -- **it is what these events leave of it**
-pub record AreRefusals (terms : Terms) (r : code.Refusals) (events : List Event) : Type 0 where
-  pub asked_are : ons_view r.asked.items ≡ last_requests terms events
+pub record AreRefusals (terms : Terms) (r : Refusals) (events : List Event) : Type 0 where
+  pub asked_are : requests_view r.asked.items ≡ last_requests terms events
   pub refused_are : notes_view r.refused.items ≡ refusals terms events

@@ -32,6 +32,7 @@ use Rattle.lsp_session.specs.Entry.{Entry}
 use Rattle.lsp_session.specs.Handshake.{phase}
 use Rattle.lsp_session.specs.Requests.{open_requests}
 use Rattle.lsp_session.specs.Sent.{other_side}
+use Rattle.lsp_explain.specs.Fits.{fits_facts}
 use Rattle.lsp_explain.specs.History.{last_ones, OnDocument, KeptCall}
 use Rattle.lsp_explain.specs.Marking.{next_rank, rank_or, agreed, last_setter, recent, steps}
 use Rattle.lsp_explain.specs.Marking.{waiting_for}
@@ -224,6 +225,12 @@ abbrev pub apart_facts : List KeptCall → Until → List Fact
 apart_facts done limit =
     equal_facts (agreed done) ++ suspect_facts (agreed done) limit (recent done)
 
+-- with the encodings in which these give the text that the editor had
+abbrev pub apart_said : Terms → List Event → ℕ → Until → Call → List Fact
+apart_said terms before rule limit call =
+    apart_facts (steps terms (uri_of call) before) limit
+    ++ fits_facts terms before rule limit call
+
 -- what brought texts apart, where a call, the event of this place, breaks this rule after these:
 -- under 702 the snapshots that differ come first
 abbrev pub apart_traced : Terms → List Event → EventPlace → ℕ → Call → List Fact
@@ -232,8 +239,9 @@ apart_traced terms before p rule call =
     let limit = until_of p call in
     if rule == rules.SNAPSHOT_DIFFERS
     then map (cited (codes "snapshot"))
-    (differing terms (calls (kept_of terms before)) done p call limit) ++ apart_facts done limit
-    else (if rule == rules.SAVED_TEXT_DIFFERS then apart_facts done limit else [])
+    (differing terms (calls (kept_of terms before)) done p call limit)
+    ++ apart_said terms before rule limit call
+    else (if rule == rules.SAVED_TEXT_DIFFERS then apart_said terms before rule limit call else [])
 
 -- the events that brought such a call, with what is said about a document that is not open
 abbrev pub call_traced : Terms → List Event → EventPlace → ℕ → Call → List Fact

@@ -5,6 +5,7 @@ use Rattle.lsp_docs.specs.Documents.{Terms}
 use Rattle.lsp_verdict.specs.Event.{Event}
 use Rattle.lsp_verdict.specs.Offences.{kept_of}
 use Rattle.lsp_replay.specs.Standing.{Holds}
+use Rattle.lsp_explain.specs.Bases.{AreBases}
 use Rattle.lsp_explain.specs.History.{KeptCall}
 use Rattle.lsp_explain.specs.Marking.{AreMarks, MarkedBy}
 use Rattle.lsp_explain.specs.Openings.{AreOpenings, OpenedBy}
@@ -20,6 +21,7 @@ use Rattle.lsp_explain.specs.declared.trail.Past.{Past}
 pub record IsTrail (terms : Terms) (t : Trail) (events : List Event) : Type 0 where
   pub marked : AreMarks terms t.marks.map.entries events
   pub opened : AreOpenings terms t.openings events
+  pub based : AreBases terms t.bases.map.entries events
   pub said : IsConversation terms t.said events
 
 -- with one more kept call, or none

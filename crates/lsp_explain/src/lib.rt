@@ -9,6 +9,7 @@
 #![tactic(auto)]
 
 mod compared;
+mod fits;
 mod laws;
 mod notes;
 mod offence_facts;

@@ -14,6 +14,7 @@ ghost use Rattle.lsp_explain.specs.Trails.{StandsAfter, terms_in};
 mod document_notes;
 mod misfits;
 mod refusals;
+mod requests;
 
 use crate::trace::push_earlier;
 use crate::trail::{DocumentEvent, Misuse, Misused, Past};

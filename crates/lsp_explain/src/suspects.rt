@@ -11,7 +11,7 @@ use lsp_replay::EventPlace;
 use lsp_rpc::Result;
 
 /// How many of the messages that set a version are named at most.
-const MOST_NAMED: usize = 17;
+pub(crate) const MOST_NAMED: usize = 17;
 
 /// Which message produced the text that differs.
 #[derive(Clone, Copy, Debug, PartialEq, Eq)]

@@ -26,6 +26,7 @@ ghost use Rattle.lsp_explain.specs.Trails.{StandsAfter, terms_in};
 ghost use Rattle.lsp_explain.specs.Traced as spec;
 ghost use Rattle.lsp_explain.specs.Traced.{twin};
 
+use crate::fits::push_fits;
 use crate::suspects::{Until, push_suspects};
 use crate::trail::{Conversation, Marks, Past, VersionEvent};
 use crate::twins::twin_of;
@@ -177,10 +178,12 @@ fn trace_call(
     if rule == rules::SNAPSHOT_DIFFERS {
         let snapshots = differing(past, until, place, call, tried)?;
         push_snapshots(facts, snapshots.as_slice())?;
-        return trace_texts(facts, marks, uri, until);
+        trace_texts(facts, marks, uri, until)?;
+        return push_fits(facts, past, call, rule, until, tried);
     }
     if rule == rules::SAVED_TEXT_DIFFERS {
-        return trace_texts(facts, marks, uri, until);
+        trace_texts(facts, marks, uri, until)?;
+        return push_fits(facts, past, call, rule, until, tried);
     }
     Ok(())
 }

@@ -4,16 +4,19 @@
 //! [`Marks`] says which events left a document as it is, [`Openings`] which opened and closed
 //! documents last, and [`Conversation`] by which requests were asked and answered, which led to the
 //! phase, and what the notes say of the messages.
-ghost use Rattle.std.specs.Prelude.{◌≡◌, ◌++◌, ◌∷◌, [], List, None, OnOk, Some, option_map};
+ghost use Rattle.std.specs.Prelude.{◌≡◌, ◌++◌, ◌∷◌, [], IfOk, List, None, OnOk, Some, option_map};
 ghost use Rattle.lsp_docs.specs.Documents.{Terms};
 ghost use Rattle.lsp_replay.specs.Telling.{IsSeen, MaySpeak, Stood, kept_before, rule_of};
 ghost use Rattle.lsp_verdict.specs.Given.{raw_view};
 ghost use Rattle.lsp_verdict.specs.Heard.{Heard, heard_events};
 ghost use Rattle.lsp_verdict.specs.Offences.{IsNoted, said_at};
 ghost use Rattle.lsp_explain.specs.History.{kept_call};
+ghost use Rattle.lsp_explain.specs.Marking.{finds_equal, marked_in};
 ghost use Rattle.lsp_explain.specs.Trails.{IsTrail, Keeps};
 
 mod asked;
+mod base;
+mod bases;
 mod conversation;
 mod exchange;
 mod last_ones;
@@ -27,6 +30,8 @@ mod standard_methods;
 mod step;
 
 use crate::trail::step::{Step, step_of};
+pub(crate) use base::{Base, SentChanges};
+pub(crate) use bases::Bases;
 pub(crate) use conversation::Conversation;
 pub(crate) use last_ones::push_within;
 use lsp_replay::{EventPlace, Events, Fate, Seen};
@@ -46,6 +51,7 @@ use std::alloc::Global;
 pub(crate) struct Trail {
     pub(crate) marks: Marks,
     pub(crate) openings: Openings,
+    pub(crate) bases: Bases,
     pub(crate) said: Conversation,
 }
 
@@ -64,6 +70,7 @@ impl Trail {
         Trail {
             marks: Marks::new(alloc),
             openings: Openings::new(alloc),
+            bases: Bases::new(alloc),
             said: Conversation::new(alloc),
         }
     }
@@ -91,13 +98,14 @@ impl Trail {
         };
         let place = EventPlace::last(&held.counts, seen.raw.who());
         self.said.renames.keep_call(&place, call)?;
-        keep_step(
+        let is_equal = keep_step(
             &mut self.marks,
             &mut self.openings,
             &place,
             call.uri(),
             &step,
-        )
+        )?;
+        self.bases.keep(&held.docs, call, &step, is_equal)
     }
 
     /// Adds a message that is kept and says nothing of a document.
@@ -130,7 +138,8 @@ impl Trail {
     }
 }
 
-/// Adds what a kept event, that of this place, does to the document of a URI.
+/// Adds what a kept event, that of this place, does to the document of a URI. Answers whether a
+/// snapshot is found equal by it.
 #[inline(always)]
 fn keep_step(
     marks: &mut Marks,
@@ -138,10 +147,13 @@ fn keep_step(
     place: &EventPlace,
     uri: &str,
     step: &Step,
-) -> Result<()>
-    ensures { OnOk result (Keeps (Some (kept_call uri.now place.now step.now)) marks.old openings.old
-        marks.new openings.new) }
+) -> Result<bool>
+    ensures kept { OnOk result (Keeps (Some (kept_call uri.now place.now step.now)) marks.old
+        openings.old marks.new openings.new) }
+    ensures equal { IfOk result (λ is_equal. is_equal
+        ≡ finds_equal step.now (marked_in marks.old.map.entries uri.now)) }
 {
-    marks.keep(place, uri, step)?;
-    openings.keep(place, uri, step)
+    let is_equal = marks.keep(place, uri, step)?;
+    openings.keep(place, uri, step)?;
+    Ok(is_equal)
 }

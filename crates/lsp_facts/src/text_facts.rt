@@ -91,10 +91,17 @@ impl Facts {
             ++ spec.fits_fact (edges (chars text.now) position)) }
     {
         let names = edges(self.alloc(), text, position)?;
-        if names.len() == 0 {
+        self.fitting(names.as_slice())
+    }
+
+    /// The encodings that fit, where there are any.
+    pub fn fitting(&mut self, names: &[Encoding]) -> Result<()>
+        ensures { OnOk result (self.new ≡ self.old ++ spec.fits_fact names.now) }
+    {
+        if names.is_empty() {
             return Ok(());
         }
-        let words = fits_words(self.alloc(), names.as_slice())?;
+        let words = fits_words(self.alloc(), names)?;
         self.push_end(words)
     }
 

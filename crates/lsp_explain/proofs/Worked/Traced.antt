@@ -16,8 +16,8 @@ use Rattle.lsp_docs.specs.Documents.{Terms}
 use Rattle.lsp_rpc.specs.Ident.{number, text}
 use Rattle.lsp_explain.specs.Asking.{numbered}
 use Rattle.lsp_verdict.specs.Event.{Event}
-use Rattle.lsp_verdict.proofs.Worked.Templates.{terms, I1, N1, START, OPEN, CHG, FULL, CLOSE, REQ}
-use Rattle.lsp_verdict.proofs.Worked.Templates.{RES, ERR, T}
+use Rattle.lsp_verdict.proofs.Worked.Templates.{terms, I1, N1, START, OPEN, CHG, FULL, REP, CLOSE}
+use Rattle.lsp_verdict.proofs.Worked.Templates.{REQ, RES, ERR, T}
 use Rattle.lsp_facts.specs.Fact.{fact_lines, holds}
 use Rattle.lsp_explain.specs.Traced.{earlier_at, lack_traced, traced, twin, is_spelled}
 use Rattle.lsp_verdict.specs.Spelling.{folded}
@@ -142,6 +142,32 @@ late_suspect : with_held keeping
 unfolding value punctuate lex content word after_number number_of scan_numeral chars digits
     escape_byte
 late_suspect = refl
+
+-- a column that counts characters: behind the face the editor has the mark a column later
+abbrev face : List ℕ
+face = codes "x\\ud83d\\ude00yz"
+
+abbrev shown_face : List ℕ → List ℕ
+shown_face behind = 120 ∷ 0x1F600 ∷ behind
+
+abbrev marked_behind : List Event
+marked_behind = START ++ OPEN (codes "1") face ∷ T 1 (shown_face (codes "yz"))
+    ∷ CHG (codes "2") (REP (codes "0") (codes "3") (codes "0") (codes "3") (codes "!")) ∷ []
+
+in_characters : with_held terms marked_behind (T 2 (shown_face (codes "y!z"))) 2
+    ≡ codes "held 2 event 6 editor 4\nsnapshot event 7 snapshot 2\n"
+    ++ codes "equal 1 event 5 snapshot 1\nsuspects 1\nsuspect 2 event 6 editor 4\nfits utf-32\n"
+unfolding value punctuate lex content word after_number number_of scan_numeral chars digits
+    escape_byte
+in_characters = refl
+
+-- the change was never made
+in_none : with_held terms marked_behind (T 2 (shown_face (codes "yz"))) 2
+    ≡ codes "held 2 event 6 editor 4\nsnapshot event 7 snapshot 2\n"
+    ++ codes "equal 1 event 5 snapshot 1\nsuspects 1\nsuspect 2 event 6 editor 4\n"
+unfolding value punctuate lex content word after_number number_of scan_numeral chars digits
+    escape_byte
+in_none = refl
 
 -- ---- a document that is not open
 

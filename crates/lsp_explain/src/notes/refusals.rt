@@ -1,24 +1,16 @@
 //! Which requests about documents the server refused for their params.
 ghost use Rattle.std.specs.Prelude.{◌≡◌, ◌++◌, ◌∷◌, [], List, None, IfOk, OnOk, if◌then◌else◌};
-ghost use Rattle.std.specs.Prelude.{Some, is_some, map, option_and_then, option_map};
-ghost use Rattle.std.specs.Prelude.{string_bytes, ◌==◌};
-ghost use Rattle.std.specs.List.{cons_option};
+ghost use Rattle.std.specs.Prelude.{Some, map, option_and_then, option_map, string_bytes};
 ghost use Rattle.std.specs.Ordering.{int_eq};
-ghost use Rattle.serde_json.specs.View.{view};
-ghost use Rattle.lsp_docs.specs.Calls.{Call as SpecCall};
-ghost use Rattle.lsp_docs.specs.Documents.{Terms, held as held_at};
-ghost use Rattle.lsp_docs.specs.State.{Stands};
+ghost use Rattle.lsp_docs.specs.Documents.{Terms};
 ghost use Rattle.lsp_explain.specs.DocumentNotes.{document_line, notes_view, with_note};
-ghost use Rattle.lsp_explain.specs.History.{last_that};
-ghost use Rattle.lsp_explain.specs.Openings.{Holds, on_view, ons_view};
+ghost use Rattle.lsp_explain.specs.Marking.{AreMarks};
 ghost use Rattle.lsp_explain.specs.Refusals as spec;
-ghost use Rattle.lsp_explain.specs.Refusals.{AreRefusals, invalid_params, most_requests};
+ghost use Rattle.lsp_explain.specs.Refusals.{AreRefusals, invalid_params, request_view};
+ghost use Rattle.lsp_explain.specs.Refusals.{requests_view};
 ghost use Rattle.lsp_explain.specs.Trails.{IsTrail};
 ghost use Rattle.lsp_replay.specs.Telling.{IsSeen, MaySpeak, Stood, kept_before, rule_of};
 ghost use Rattle.lsp_rpc.specs.Ident.{id_view};
-ghost use Rattle.lsp_rpc.specs.Message.{Message as AMessage};
-ghost use Rattle.lsp_rpc.specs.Outline.{outline};
-ghost use Rattle.lsp_rpc.specs.Reading.{Reads};
 ghost use Rattle.lsp_rpc.specs.View.{answer_view, message_view};
 ghost use Rattle.lsp_verdict.specs.Event.{Event};
 ghost use Rattle.lsp_verdict.specs.Given.{raw_view};
@@ -26,31 +18,27 @@ ghost use Rattle.lsp_verdict.specs.Heard.{Heard, heard_events};
 ghost use Rattle.lsp_verdict.specs.Offences.{IsNoted, said_at};
 
 use crate::notes::document_notes::{DocumentNote, is_noted, push_lines, push_note};
-use crate::trail::{DocumentEvent, Trail, push_within, text_at};
-use lsp_docs::Docs;
+use crate::notes::requests::{Request, note_request, request_at};
+use crate::trail::{Marks, Trail};
 use lsp_facts::Facts;
 use lsp_replay::{EventPlace, Events, Seen};
-use lsp_rpc::{Answer, Id, Memory, Message, Result, RpcFault, Side, Spoken, push_quoted, read};
+use lsp_rpc::{Answer, Id, Message, Result, Side, Spoken, push_quoted};
 use lsp_text::Lined;
 use lsp_verdict::{Raw, who_of};
-use serde_json::Value;
 use std::alloc::Global;
 use std::collections::VecDeque;
-
-/// How many requests about documents are held at most.
-const MOST_REQUESTS: usize = 1024;
 
 /// The code of an error that says that a request's params are not valid (JSON-RPC 2.0, section
 /// 5.1).
 const INVALID_PARAMS: i32 = -32602;
 
-/// The last requests of the editor about documents that were open, and of each document the first
-/// answer that refused one for its params, though the document was open all the time.
+/// The last requests of the editor, and of each document the first answer that refused one about it
+/// for its params, though the document was open all the time.
 ///
 /// It stands for the events of a session.
 #[derive(Drop)]
 pub(crate) struct Refusals {
-    asked: VecDeque<DocumentEvent>,
+    asked: VecDeque<Request>,
     refused: Vec<DocumentNote>,
 }
 
@@ -121,9 +109,7 @@ impl Refusals {
         };
         let place = EventPlace::last(&held.counts, who_of(side));
         match side {
-            Side::Editor => {
-                note_request(&mut self.asked, &held.docs, place, &spoken.message, content)
-            }
+            Side::Editor => note_request(&mut self.asked, place, &spoken.message, content),
             Side::Server => self.note_answer(trail, place, &spoken.message),
         }
     }
@@ -134,15 +120,17 @@ impl Refusals {
         ensures asked { self.new.asked ≡ self.old.asked }
         ensures refused { OnOk result ((terms : Terms) (before : List Event)
             → IsTrail terms trail.now before
-            → ons_view self.old.asked.items ≡ spec.last_requests terms before
+            → requests_view self.old.asked.items ≡ spec.last_requests terms before
             → notes_view self.new.refused.items ≡ with_note (notes_view self.old.refused.items)
-            (option_map (spec.refusal_note place) (option_and_then (spec.refused_request terms before)
-            (spec.refused_id (message_view message.now))))) }
+            (spec.refusal_note terms before place (spec.refused_id (message_view message.now)))) }
     {
         let Some(request) = refused_request(&self.asked, trail, message) else {
             return Ok(());
         };
-        note_refusal(&mut self.refused, place, request.uri.as_str())
+        let Some(uri) = open_document(&trail.marks, request)? else {
+            return Ok(());
+        };
+        note_refusal(&mut self.refused, place, uri.as_str())
     }
 
     /// Adds the lines of the notes.
@@ -180,33 +168,46 @@ fn refused_words(alloc: Global, uri: &str) -> Result<String>
 
 // ---- answers
 
-/// The request that a message of the server refuses for its params, if it is about a document that
-/// is open from the request on. The trail is of the events before.
+/// The request that a message of the server refuses for its params. The trail is of the events
+/// before.
 fn refused_request<'a>(
-    asked: &'a VecDeque<DocumentEvent>,
+    asked: &'a VecDeque<Request>,
     trail: &Trail,
     message: &Message,
-) -> Option<&'a DocumentEvent>
+) -> Option<&'a Request>
     ensures { (terms : Terms) (before : List Event) → IsTrail terms trail.now before
-        → ons_view asked.now.items ≡ spec.last_requests terms before
-        → option_map (λ r. on_view r.now) result
+        → requests_view asked.now.items ≡ spec.last_requests terms before
+        → option_map (λ r. request_view r.now) result
         ≡ option_and_then (spec.refused_request terms before)
         (spec.refused_id (message_view message.now)) }
 {
     let id = refused_id(message)?;
     let place = trail.said.asked(Side::Editor, id)?;
-    let request = request_by(asked, place)?;
-    let stays = trail
-        .openings
-        .stayed_open(request.uri.as_str(), request.place);
-    if_stays(request, stays)
+    request_at(asked, place)
 }
 
-fn if_stays(request: &DocumentEvent, stays: bool) -> Option<&DocumentEvent>
-    ensures { option_map (λ r. on_view r.now) result
-        ≡ (if stays then Some (on_view request.now) else None) }
+/// The document that a request names, if it is open from the request on.
+fn open_document(marks: &Marks, request: &Request) -> Result<Option<String>>
+    ensures { IfOk result (λ uri. (terms : Terms) (before : List Event)
+        → AreMarks terms marks.now.map.entries before
+        → option_map string_bytes uri ≡ spec.open_document terms before (request_view request.now)) }
 {
-    if stays { Some(request) } else { None }
+    let Some(uri) = request.document()? else {
+        return Ok(None);
+    };
+    if is_opened_before(marks.opened(uri.as_str()), request.place) {
+        return Ok(Some(uri));
+    }
+    Ok(None)
+}
+
+fn is_opened_before(opened: Option<EventPlace>, place: EventPlace) -> bool
+    ensures { result ≡ spec.is_opened_before place opened }
+{
+    match opened {
+        Some(opened) => opened.event < place.event,
+        None => false,
+    }
 }
 
 /// The id of the request that a message of the server refuses for its params.
@@ -249,114 +250,4 @@ fn is_invalid_params(code: i32) -> bool
     ensures { result ≡ int_eq code invalid_params }
 {
     code == INVALID_PARAMS
-}
-
-/// The one of these requests that is the event of this place.
-fn request_by(asked: &VecDeque<DocumentEvent>, place: EventPlace) -> Option<&DocumentEvent>
-    ensures { option_map (λ r. on_view r.now) result
-        ≡ spec.request_by place (ons_view asked.now.items) }
-{
-    let (first, second) = asked.as_slices();
-    last_in(second, place).or(last_in(first, place))
-}
-
-/// The one of one part of them that is.
-fn last_in(asked: &[DocumentEvent], place: EventPlace) -> Option<&DocumentEvent>
-    ensures { option_map (λ r. r.now) result
-        ≡ last_that (λ r. r.place.event == place.event) asked.now }
-{
-    asked
-        .iter()
-        .rev()
-        .find(|request| request.place.event == place.event)
-}
-
-// ---- requests
-
-/// Adds a message of the editor, the event of this place, read from this content, if it is a
-/// request about a document that is open.
-fn note_request(
-    asked: &mut VecDeque<DocumentEvent>,
-    docs: &Docs<Lined>,
-    place: EventPlace,
-    message: &Message,
-    content: &[u8],
-) -> Result<()>
-    ensures { OnOk result ((calls : List SpecCall) (m : AMessage) → Stands docs.now calls
-        → Reads content.now m → outline m ≡ outline (message_view message.now)
-        → Holds most_requests (cons_option (spec.request_of docs.now.terms calls place Side.Editor m) [])
-        asked.old.items asked.new.items) }
-{
-    if !is_request(message) {
-        return Ok(());
-    }
-    let Some(uri) = document_of(docs.alloc(), content)? else {
-        return Ok(());
-    };
-    if !is_open(docs, uri.as_str()) {
-        return Ok(());
-    }
-    push_within(asked, MOST_REQUESTS, DocumentEvent { uri, place })
-}
-
-fn is_request(message: &Message) -> bool
-    ensures { result ≡ spec.is_request (message_view message.now) }
-{
-    matches!(message, Message::Request { .. })
-}
-
-/// Whether the document of this URI is open.
-fn is_open(docs: &Docs<Lined>, uri: &str) -> bool
-    ensures { (calls : List SpecCall) → Stands docs.now calls
-        → result ≡ is_some (held_at docs.now.terms uri.now calls) }
-{
-    docs.version_of(uri).is_some()
-}
-
-/// The document that the request of a content names: reads it again, with its params.
-fn document_of(alloc: Global, content: &[u8]) -> Result<Option<String>>
-    ensures { IfOk result (λ uri. (m : AMessage) → Reads content.now m
-        → option_map string_bytes uri ≡ spec.document_named m) }
-{
-    match read(alloc, content) {
-        Ok(message) => {
-            let uri = copy_document(alloc, &message);
-            drop(message);
-            uri
-        }
-        Err(RpcFault::Rule(_)) => Ok(None),
-        Err(RpcFault::Memory) => Err(Memory),
-    }
-}
-
-/// A copy of the URI of the document that a request names.
-fn copy_document(alloc: Global, message: &Message) -> Result<Option<String>>
-    ensures { IfOk result (λ uri. option_map string_bytes uri
-        ≡ spec.document_named (message_view message.now)) }
-{
-    match document_named(message) {
-        Some(uri) => Ok(Some(String::from_str(alloc, uri)?)),
-        None => Ok(None),
-    }
-}
-
-/// The URI of the document that a request names.
-fn document_named(message: &Message) -> Option<&str>
-    ensures { option_map (λ uri. uri.now) result
-        ≡ spec.document_named (message_view message.now) }
-{
-    match message {
-        Message::Request {
-            params: Some(params),
-            ..
-        } => document_in(params),
-        _ => None,
-    }
-}
-
-/// The URI of the document that params name.
-fn document_in(params: &Value) -> Option<&str>
-    ensures { option_map (λ uri. uri.now) result ≡ spec.document_in (view params.now) }
-{
-    text_at(params.get("textDocument")?, "uri")
 }

@@ -1,12 +1,13 @@
 //! What left a document as it is: which messages set its versions, which equal snapshot has the
 //! greatest version, and which snapshots wait.
 ghost use Rattle.std.specs.Prelude.{◌≡◌, ◌++◌, ◌∷◌, [], None, OnOk, if◌then◌else◌, Bool, ℤ, false};
-ghost use Rattle.std.specs.Prelude.{int_lt, not, option_map, IfOk};
+ghost use Rattle.std.specs.Prelude.{int_lt, is_some, not, option_map, IfOk};
 ghost use Rattle.std.specs.List.{find};
 ghost use Rattle.std.specs.Map.{lookup};
 ghost use Rattle.std.specs.Ordering.{int_eq};
 ghost use Rattle.lsp_explain.specs.History.{is_closing};
-ghost use Rattle.lsp_explain.specs.Marking.{above, is_set_to, last_shown, newer, newer_of};
+ghost use Rattle.lsp_explain.specs.Marking.{above, finds_equal, is_set_to, last_shown, newer};
+ghost use Rattle.lsp_explain.specs.Marking.{newer_of};
 ghost use Rattle.lsp_explain.specs.Marking.{rank_of, stepped, unmarked};
 ghost use Rattle.lsp_explain.specs.Marking.{is_first_reached, mark_view, rest_of, waiting_in};
 
@@ -43,6 +44,8 @@ type WaitMap = BTreeMap<i32, Vec<EventPlace>>;
 pub(crate) struct Mark {
     setters: VecDeque<VersionEvent>,
     rank: u64,
+    /// The event that opened the document.
+    pub(crate) opened: Option<EventPlace>,
     /// The equal snapshot of the greatest version.
     pub(crate) agreed: Option<VersionEvent>,
     waiting: WaitMap,
@@ -56,6 +59,7 @@ impl Mark {
         Mark {
             setters: VecDeque::new(alloc),
             rank: 0,
+            opened: None,
             agreed: None,
             waiting: BTreeMap::new(alloc),
         }
@@ -81,29 +85,38 @@ impl Mark {
         }
     }
 
-    /// Marks what the event of this place does to the document, which it doesn't close.
+    /// Marks what the event of this place does to the document, which it doesn't close. Answers
+    /// whether a snapshot is found equal by it.
     #[inline(never)]
-    pub(crate) fn step(&mut self, alloc: Global, place: &EventPlace, step: &Step) -> Result<()>
+    pub(crate) fn step(&mut self, alloc: Global, place: &EventPlace, step: &Step) -> Result<bool>
         requires { is_closing step.now ≡ false }
-        ensures { OnOk result (mark_view self.new
+        ensures marked { OnOk result (mark_view self.new
             ≡ stepped place.now step.now (mark_view self.old)) }
+        ensures equal { IfOk result
+            (λ is_equal. is_equal ≡ finds_equal step.now (mark_view self.old)) }
     {
         match *step {
             Step::Reaches { version, .. } => self.reach(*place, version),
             Step::Shows(version, Match::Equal) => {
                 self.compare(*place, version);
-                Ok(())
+                Ok(true)
             }
-            Step::Shows(version, Match::Waits) => add(&mut self.waiting, alloc, version, *place),
-            Step::Shows(_, Match::Missed) => Ok(()),
-            Step::Closes => Ok(()),
+            Step::Shows(version, Match::Waits) => {
+                add(&mut self.waiting, alloc, version, *place)?;
+                Ok(false)
+            }
+            Step::Shows(_, Match::Missed) => Ok(false),
+            Step::Closes => Ok(false),
         }
     }
 
-    /// Marks that the event of this place brings the document to this version.
-    fn reach(&mut self, place: EventPlace, version: i32) -> Result<()>
-        ensures { OnOk result ((first : Bool) → mark_view self.new
+    /// Marks that the event of this place brings the document to this version. Answers whether a
+    /// snapshot waited for it.
+    fn reach(&mut self, place: EventPlace, version: i32) -> Result<bool>
+        ensures marked { OnOk result ((first : Bool) → mark_view self.new
             ≡ stepped place (Step.Reaches version first) (mark_view self.old)) }
+        ensures equal { IfOk result (λ is_equal. (first : Bool)
+            → is_equal ≡ finds_equal (Step.Reaches version first) (mark_view self.old)) }
     {
         let rank = self.rank.saturating_add(1);
         let setter = VersionEvent {
@@ -113,26 +126,31 @@ impl Mark {
         };
         push_within(&mut self.setters, MOST_SETTERS, setter)?;
         self.rank = rank;
-        self.meet(version, rank);
-        Ok(())
+        self.opened = self.opened.or(Some(place));
+        Ok(self.meet(version, rank))
     }
 
     /// Marks that the document is at this version, of this rank: the snapshots that waited for it
-    /// or for one before it wait no more, and those of it were equal. Usually none waits.
-    fn meet(&mut self, version: i32, rank: u64)
+    /// or for one before it wait no more, and those of it were equal. Usually none waits. Answers
+    /// whether one waited for it.
+    fn meet(&mut self, version: i32, rank: u64) -> bool
         ensures setters { self.new.setters ≡ self.old.setters }
         ensures rank { self.new.rank ≡ self.old.rank }
+        ensures opened { self.new.opened ≡ self.old.opened }
         ensures agreed { self.new.agreed ≡ newer_of self.old.agreed (last_shown version rank
             (waiting_in self.old.waiting.entries version)) }
         ensures waiting { (number : ℤ) → waiting_in self.new.waiting.entries number
             ≡ above version (waiting_in self.old.waiting.entries) number }
+        ensures equal { result ≡ is_some (last_shown version rank
+            (waiting_in self.old.waiting.entries version)) }
     {
         if self.waiting.is_empty() {
-            return;
+            return false;
         }
         let shown = last_of(&self.waiting, version, rank);
         self.agreed = newer_of(self.agreed, shown);
         drop_reached(&mut self.waiting, version);
+        shown.is_some()
     }
 
     /// Marks that the event of this place is an equal snapshot of this version.

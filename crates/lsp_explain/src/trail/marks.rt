@@ -4,8 +4,9 @@ ghost use Rattle.lsp_docs.specs.Documents.{Terms};
 ghost use Rattle.lsp_replay.specs.declared.heard.EventPlace.{EventPlace as Place};
 ghost use Rattle.lsp_verdict.specs.Event.{Event};
 ghost use Rattle.lsp_explain.specs.History.{is_closing};
-ghost use Rattle.lsp_explain.specs.Marking.{agreed, recent, steps, unmarked, waiting_for, AreMarks};
-ghost use Rattle.lsp_explain.specs.Marking.{IsAt, MarkedBy, StepsOn, marked_in};
+ghost use Rattle.lsp_explain.specs.Marking.{agreed, opened, recent, steps, unmarked, waiting_for};
+ghost use Rattle.lsp_explain.specs.Marking.{AreMarks, IsAt, MarkedBy, StepsOn, finds_equal};
+ghost use Rattle.lsp_explain.specs.Marking.{marked_in};
 
 use crate::trail::mark::{Mark, VersionEvent};
 use crate::trail::step::Step;
@@ -56,6 +57,17 @@ impl Marks {
         }
     }
 
+    /// The event that opened the document of a URI; none where it isn't open.
+    pub(crate) fn opened(&self, uri: &str) -> Option<EventPlace>
+        ensures { (terms : Terms) (events : List Event) → AreMarks terms self.now.map.entries events
+            → result ≡ opened (steps terms uri.now events) }
+    {
+        match self.map.get(uri) {
+            Some(mark) => mark.opened,
+            None => None,
+        }
+    }
+
     /// Of the snapshots that were found equal in the standing opening of a URI, that of the
     /// greatest version, the last of several; none where none was.
     pub fn agreed(&self, uri: &str) -> Option<VersionEvent>
@@ -79,21 +91,24 @@ impl Marks {
         }
     }
 
-    /// Marks what a kept event, that of this place, does to the document of a URI.
+    /// Marks what a kept event, that of this place, does to the document of a URI. Answers whether
+    /// a snapshot is found equal by it.
     ///
     /// # Errors
     /// `Memory` where memory was refused; nothing is then known of the marks.
     #[inline(always)]
-    pub(crate) fn keep(&mut self, place: &EventPlace, uri: &str, step: &Step) -> Result<()>
-        ensures { OnOk result (StepsOn uri.now place.now step.now self.old.map.entries
+    pub(crate) fn keep(&mut self, place: &EventPlace, uri: &str, step: &Step) -> Result<bool>
+        ensures marked { OnOk result (StepsOn uri.now place.now step.now self.old.map.entries
             self.new.map.entries) }
+        ensures equal { IfOk result (λ is_equal. is_equal
+            ≡ finds_equal step.now (marked_in self.old.map.entries uri.now)) }
     {
         match *step {
             Step::Closes => {
                 close(&mut self.map, uri);
-                Ok(())
+                Ok(false)
             }
-            Step::Shows(_, Match::Missed) => Ok(()),
+            Step::Shows(_, Match::Missed) => Ok(false),
             Step::Shows(..) => self.touch(place, uri, step),
             Step::Reaches { .. } => self.touch(place, uri, step),
         }
@@ -101,10 +116,12 @@ impl Marks {
 
     /// Marks the same of a step that doesn't close the document.
     #[inline(always)]
-    fn touch(&mut self, place: &EventPlace, uri: &str, step: &Step) -> Result<()>
+    fn touch(&mut self, place: &EventPlace, uri: &str, step: &Step) -> Result<bool>
         requires { is_closing step.now ≡ false }
-        ensures { OnOk result (StepsOn uri.now place.now step.now self.old.map.entries
+        ensures marked { OnOk result (StepsOn uri.now place.now step.now self.old.map.entries
             self.new.map.entries) }
+        ensures equal { IfOk result (λ is_equal. is_equal
+            ≡ finds_equal step.now (marked_in self.old.map.entries uri.now)) }
     {
         let Some(at) = find(&self.map, self.last, uri) else {
             return touch_first(&mut self.map, uri, place, step);
@@ -141,10 +158,19 @@ fn is_at(map: &MarkMap, at: usize, uri: &str) -> bool
 
 /// Marks what the event of this place does to the document there, which has this URI.
 #[inline(always)]
-fn touch_at(map: &mut MarkMap, at: usize, uri: &str, place: &EventPlace, step: &Step) -> Result<()>
+fn touch_at(
+    map: &mut MarkMap,
+    at: usize,
+    uri: &str,
+    place: &EventPlace,
+    step: &Step,
+) -> Result<bool>
     requires here { IsAt map.old.entries uri.now at }
     requires open { is_closing step.now ≡ false }
-    ensures { OnOk result (StepsOn uri.now place.now step.now map.old.entries map.new.entries) }
+    ensures marked { OnOk result
+        (StepsOn uri.now place.now step.now map.old.entries map.new.entries) }
+    ensures equal { IfOk result
+        (λ is_equal. is_equal ≡ finds_equal step.now (marked_in map.old.entries uri.now)) }
 {
     let alloc = *map.allocator();
     let mark = map.get_index_mut(at).unwrap();
@@ -152,17 +178,20 @@ fn touch_at(map: &mut MarkMap, at: usize, uri: &str, place: &EventPlace, step: &
 }
 
 /// Marks the same of a document of which nothing is marked.
-fn touch_first(map: &mut MarkMap, uri: &str, place: &EventPlace, step: &Step) -> Result<()>
+fn touch_first(map: &mut MarkMap, uri: &str, place: &EventPlace, step: &Step) -> Result<bool>
     requires none { marked_in map.old.entries uri.now ≡ unmarked }
     requires open { is_closing step.now ≡ false }
-    ensures { OnOk result (StepsOn uri.now place.now step.now map.old.entries map.new.entries) }
+    ensures marked { OnOk result
+        (StepsOn uri.now place.now step.now map.old.entries map.new.entries) }
+    ensures equal { IfOk result
+        (λ is_equal. is_equal ≡ finds_equal step.now (marked_in map.old.entries uri.now)) }
 {
     let alloc = *map.allocator();
     let mut mark = Mark::new(alloc);
-    mark.step(alloc, place, step)?;
+    let is_equal = mark.step(alloc, place, step)?;
     let key = String::from_str(alloc, uri)?;
     map.insert(key, mark)?;
-    Ok(())
+    Ok(is_equal)
 }
 
 /// Takes away what is marked of a document.

@@ -1,8 +1,21 @@
 use Rattle.std.proofs.Common.{rules, ◌≤◌, ◌≡◌, ◌++◌, ◌∙◌, take, ◌+◌, ◌-◌, length, arith, ap, min}
-use Rattle.std.proofs.lemmas.List.{length-take-le}
+use Rattle.std.proofs.Common.{sym}
+use Rattle.std.proofs.lemmas.List.{length-take-le, take-append-le, take_all}
 use Rattle.std.proofs.lemmas.Slice.{take-put_mid}
 use Rattle.lsp_command.proofs.Fronts.{front_more}
 use Rattle.lsp_command.proofs.beginning.Beginning.keep.Goals as goal
+
+-- there is no room
+pub returns-then-self-eq32 : goal.returns-then-self-eq32
+returns-then-self-eq32 c =
+    let old = c.args.self.now in
+    let kept = take old.count old.bytes in
+    let size : length old.bytes ≡ 32 = search rules in
+    let full : old.count ≡ 32 = search rules in
+    let long : length kept ≡ 32 =
+    length-take-le old.count old.bytes (omega (arith, size, full)) ∙ full in
+    sym (take-append-le 32 kept c.args.given.now (omega (arith, long))
+    ∙ take_all 32 kept (omega (arith, long)))
 
 pub returns : goal.returns
 returns c =

@@ -16,11 +16,13 @@ use Rattle.lsp_verdict.specs.Offences.{IsNoted}
 use Rattle.lsp_verdict.specs.Placed.{Raw}
 use Rattle.std.specs.Option.{option_or}
 use Rattle.lsp_explain.specs.History.{kept_call}
+use Rattle.lsp_explain.specs.Marking.{finds_equal, marked_in}
 use Rattle.lsp_explain.specs.Renames.{moves_view, renamed_held}
 use Rattle.lsp_explain.specs.Trails.{Keeps}
 use Rattle.lsp_explain.specs.declared.trail.step.Step.{Step}
 use Rattle.lsp_explain.proofs.RenameSteps.{no_edit}
-use Rattle.lsp_explain.proofs.Trails.{fate_offends, none_kept, trail_called, trail_past}
+use Rattle.lsp_explain.proofs.Trails.{based_called, based_same, fate_offends, none_kept}
+use Rattle.lsp_explain.proofs.Trails.{trail_called, trail_past}
 use Rattle.lsp_explain.proofs.trail.Trail.keep.Goals as goal
 
 -- it offends
@@ -47,18 +49,21 @@ returns-in_default-step_of c = λ terms before h is seen.
     let moved = moves_view old.said.renames.moves.items in
     let has = subst (λ (f : Fate). HasFate terms before h f) c.in-Kept.is seen.fate in
     let says = sym seen.says ∙ ap (option_map call_view) c.in-Some.is in
+    let told = has.1 ∙ ap (took_of terms (calls (kept_before terms before))) says in
     trail_called terms before h old is old has.0 place refl call took old.said.renames seen.noted.0
-    says (has.1 ∙ ap (took_of terms (calls (kept_before terms before))) says)
+    says told
     (subst (λ (o : Option Step). Keeps (option_map (kept_call (uri_of call) place) o) old.marks
     old.openings old.marks old.openings) c.in_default-step_of.ensures
-    (none_kept old.marks old.openings)) refl refl
+    (none_kept old.marks old.openings))
+    (based_same terms before h old is old has.0 place refl call took told
+    c.in_default-step_of.ensures) refl refl
     (sym (ap (option_or (renamed_held old.said.renames))
     (no_edit call took place moved (sym c.in_default-step_of.ensures))
     ∙ option_or-none (renamed_held old.said.renames)))
 
 -- it does something to one
 pub returns : goal.returns
-returns c = on_ok_weaker c.keep_step.result (λ keeps terms before h is seen.
+returns c = on_ok_weaker c.keep.result (λ texts terms before h is seen.
     let old = c.args.self.now in
     let new = c.keep_step.new in
     let raw = raw_view c.args.seen.now.raw in
@@ -71,9 +76,16 @@ returns c = on_ok_weaker c.keep_step.result (λ keeps terms before h is seen.
     (c.who.ensures ∙ sym (whose_read raw h.note.event noted.0)) in
     let has = subst (λ (f : Fate). HasFate terms before h f) c.in-Kept.is seen.fate in
     let says = sym seen.says ∙ ap (option_map call_view) c.in-Some.is in
+    let told = has.1 ∙ ap (took_of terms (calls (kept_before terms before))) says in
+    let done = c.in_ok-keep_step.ensures in
     trail_called terms before h _ is _ has.0 _ at call c.in-Kept.took c.keep_call.new.self
-    seen.noted.0 says (has.1 ∙ ap (took_of terms (calls (kept_before terms before))) says)
+    seen.noted.0 says told
     (subst (λ more. Keeps more old.marks old.openings new.marks new.openings)
     (ap (λ u. Some (kept_call u place step)) c.uri.ensures
-    ∙ ap (option_map (kept_call (uri_of call) place)) c.in-Some-step_of.ensures) keeps)
-    refl c.keep_call.ensures.moves c.in_ok-keep_call.ensures.renamed) c.keep_step.ensures
+    ∙ ap (option_map (kept_call (uri_of call) place)) c.in-Some-step_of.ensures) done.kept)
+    (based_called terms before h _ is _ has.0 _ at c.args.held.now.session c.args.held.now.docs
+    c.args.held.now.counts call c.in-Kept.took step c.in_ok-keep_step.is_equal seen.stood says told
+    c.in-Some-step_of.ensures
+    (done.equal ∙ ap (λ u. finds_equal step (marked_in old.marks.map.entries u)) c.uri.ensures)
+    texts)
+    refl c.keep_call.ensures.moves c.in_ok-keep_call.ensures.renamed) c.keep.ensures

@@ -1,8 +1,11 @@
+use Rattle.std.proofs.Common.{[], refl, subst, sym}
+use Rattle.lsp_explain.specs.Bases.{AreBases}
 use Rattle.lsp_explain.proofs.trail.Trail.new.Goals as goal
 
 pub returns : goal.returns
 returns c = λ terms. record {
   marked = c.new.ensures;
   opened = c.new-2.ensures;
-  said = c.new-3.ensures;
+  based = subst (λ es. AreBases terms es []) (sym c.new-3.ensures) (λ uri. (refl, refl));
+  said = c.new-4.ensures;
 }

@@ -1,11 +1,11 @@
 use Rattle.std.proofs.Common.{Some, sym, ap, ◌∙◌}
 use Rattle.lsp_survey.proofs.Noting.{puts-key}
-use Rattle.lsp_explain.specs.Marking.{stepped, mark_view}
+use Rattle.lsp_explain.specs.Marking.{finds_equal, mark_view, stepped}
 use Rattle.lsp_explain.proofs.Marking.{steps_on}
 use Rattle.lsp_explain.proofs.trail.marks.touch_first.Goals as goal
 
-pub returns : goal.returns
-returns c =
+pub returns-clause-marked : goal.returns-clause-marked
+returns-clause-marked c =
     let uri = c.args.uri.now in
     let p = c.args.place.now in
     let step = c.args.step.now in
@@ -16,4 +16,9 @@ returns c =
     steps_on uri p step (Some (mark_view mark)) old new
     (puts-key mark_view (Some mark) old new c.in_ok-key.key uri c.in_ok-key.ensures.ok updates.1
     updates.3)
-    (c.in_ok-step.ensures ∙ ap (stepped p step) (c.new-mark.ensures ∙ sym c.requires.none))
+    (c.in_ok-is_equal.ensures.marked ∙ ap (stepped p step) (c.new-mark.ensures ∙ sym c.requires.none))
+
+pub returns-clause-equal : goal.returns-clause-equal
+returns-clause-equal c =
+    c.in_ok-is_equal.ensures.equal
+    ∙ ap (finds_equal c.args.step.now) (c.new-mark.ensures ∙ sym c.requires.none)

@@ -30,9 +30,8 @@ returns-in-Editor c = on_ok_weaker c.note_request.result
     (subst (AreCounts c.args.held.now.counts) (events-push before h) stood.counted)
     (c.who_of.ensures ∙ sym (whose_read (content side bytes) h.note.event reads)) in
     let heard = rw c.in-Some.is at spoken in
-    asked_more terms before h c.args.self.now are kept says c.last-place.result at side heard.0
-    bytes c.in-Some.spoken.now reads heard.1 _ c.args.held.now.docs stood.by stood.holds.called
-    c.in-Editor.is holds refl) c.note_request.ensures
+    asked_more terms before h c.args.self.now are kept c.last-place.result at side heard.0
+    bytes c.in-Some.spoken.now reads heard.1 _ c.in-Editor.is holds refl) c.note_request.ensures
 
 pub returns-in-Server : goal.returns-in-Server
 returns-in-Server c = on_ok_weaker c.note_answer.result
@@ -44,6 +43,6 @@ returns-in-Server c = on_ok_weaker c.note_answer.result
     (subst (AreCounts c.args.held.now.counts) (events-push before h) stood.counted)
     (c.who_of.ensures ∙ sym (whose_read (content side bytes) h.note.event reads)) in
     let heard = rw c.in-Some.is at spoken in
-    answered_more terms before h c.args.self.now are kept says c.last-place.result at side heard.0
+    answered_more terms before h c.args.self.now are kept c.last-place.result at side heard.0
     bytes c.in-Some.spoken.now reads heard.1 _ c.in-Server.is c.note_answer.ensures.asked
     (refused terms (heard_events before) trail are.asked_are)) c.note_answer.ensures.refused

@@ -1,0 +1,38 @@
+use Rattle.std.specs.Prelude.{MatchOption}
+use Rattle.std.proofs.Common.{◌≡◌, ◌++◌, ◌∷◌, ◌∙◌, List, [], true, ap, subst, sym}
+use Rattle.lsp_docs.specs.Taken.{call_view}
+use Rattle.lsp_docs.specs.declared.call.Call as code
+use Rattle.lsp_text.specs.Changes.{edits_of}
+use Rattle.lsp_explain.specs.Bases.{sent_in}
+use Rattle.lsp_explain.specs.Fits.{AreNamed, AreSuspects, edits_in, reached, suspects_in}
+use Rattle.lsp_explain.specs.SentEdits.{SentEdits, are_few, sent_edits, sents_view}
+use Rattle.lsp_explain.proofs.Fitting.{own_none, reached_view, suspects_alone}
+use Rattle.lsp_explain.proofs.fits.suspects_of.Goals as goal
+
+-- with those of the call
+pub returns-in-Changes : goal.returns-in-Changes
+returns-in-Changes c = λ few.
+    let until = c.args.until in
+    let sent = sent_in c.args.base.now in
+    let number = c.in-Changes.version in
+    let edits = edits_of c.in-Changes.changes.now in
+    let named = c.with_own.result in
+    let held : sents_view c.up_to-sent.result.now ≡ reached until sent =
+    ap sents_view c.up_to-sent.ensures ∙ reached_view until c.as_slice.result.now
+    ∙ ap (λ items. reached until (sents_view items)) c.as_slice.ensures.value in
+    let are = subst (λ (l : List SentEdits). AreNamed (are_few (sent ++ sent_edits number edits ∷ []))
+    (edits_in l ++ edits ∷ []) named) held (c.with_own.ensures number) in
+    subst (λ (call : code.Call). MatchOption named (suspects_in until sent (call_view call) ≡ [])
+    (AreSuspects (suspects_in until sent (call_view call)))) (sym c.in-Changes.is) are.is
+
+-- without
+pub returns-in_default : goal.returns-in_default
+returns-in_default c = λ few.
+    let until = c.args.until in
+    let sent = sent_in c.args.base.now in
+    let held : sents_view c.up_to-sent.result.now ≡ reached until sent =
+    ap sents_view c.up_to-sent.ensures ∙ reached_view until c.as_slice.result.now
+    ∙ ap (λ items. reached until (sents_view items)) c.as_slice.ensures.value in
+    suspects_alone until sent (call_view c.args.call) c.few.result
+    (own_none c.args.call c.in_default.not-Changes) few
+    (subst (λ (l : List SentEdits). AreNamed true (edits_in l) c.few.result) held c.few.ensures)
