@@ -31,3 +31,4 @@ pub mod AccountSteps
 pub mod AllExplanations
 pub mod OneExplanation
 pub mod Written
+pub mod QuietRuns

@@ -4,9 +4,13 @@
 /// What a line is, and the pattern of its words.
 pub(crate) type Row = (&'static str, &'static str);
 
-/// The rows of the lines of a report: of a verdict, of details, of notes, and of events.
-pub(crate) const ROWS: [Row; 97] = [
+/// The rows of the lines of a report: of a verdict, of a log that was not judged, of details, of
+/// notes, and of events.
+pub(crate) const ROWS: [Row; 100] = [
     ("yes", "yes"),
+    ("yes", "yes remark=nothing-compared"),
+    ("read fault", "read fault"),
+    ("out of memory", "out of memory"),
     ("no", "no rule=* who=* number=* event event=* follows=?"),
     ("bad log", "bad log code=* record record=*"),
     ("messages", "messages editor=* server=*"),

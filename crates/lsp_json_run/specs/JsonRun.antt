@@ -1,9 +1,13 @@
 -- A run of which what it says of each event, and at the end, is written as JSON.
-use Rattle.std.specs.Prelude.{◌≡◌, ℕ, List, [], false}
+use Rattle.std.specs.Prelude.{◌≡◌, ℕ, List, [], false, Result}
 use Rattle.lsp_docs.specs.Documents.{Terms}
+use Rattle.lsp_frame.specs.Bounds.{Bounds}
 use Rattle.lsp_json.specs.Rows.{json_lines}
-use Rattle.lsp_replay.specs.Run.{Run}
+use Rattle.lsp_replay.specs.Run.{Passes, Run}
 use Rattle.lsp_verdict.specs.Heard.{Heard, Rests}
+use Rattle.lsp_verdict.specs.Runs.{Ports}
+use Rattle.lsp_verdict.specs.declared.outcome.Outcome.{Outcome}
+use Rattle.lsp_verdict.specs.declared.outcome.RunFault.{RunFault}
 
 -- this is the JSON of something of which that holds
 abbrev pub IsJson : (List ℕ → Type 0) → List ℕ → Type 0
@@ -24,3 +28,9 @@ json_run run = record {
 abbrev pub IsQuiet : Run → Type 0
 IsQuiet run = (terms : Terms) (rests : Rests) (before : List Heard) (h : Heard) (said : List ℕ)
     → run.wants terms before h ≡ false → run.says terms rests before h said → said ≡ []
+
+-- **this is what a run writes as JSON, and how it ends**, on this input and into this output
+abbrev pub WritesJson : Run → Bounds → Ports → Result Outcome RunFault → Type 0
+WritesJson run limits io result =
+    Passes (json_run run) limits io.source_before io.source_after io.sink_before io.sink_after
+    result
