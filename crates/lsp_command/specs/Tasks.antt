@@ -5,8 +5,9 @@ use Rattle.lsp_extract.specs.declared.event.EventOutcome.{EventOutcome}
 use Rattle.lsp_extract.specs.Event.{GivesEvent}
 use Rattle.lsp_extract.specs.Normal.{Normalizes}
 use Rattle.lsp_json_run.specs.JsonRun.{WritesJson}
-use Rattle.lsp_judge.specs.Checked.{Checked, CheckedLine, CheckedObject}
+use Rattle.lsp_judge.specs.Checked.{Checked, CheckedLine}
 use Rattle.lsp_judge.specs.JudgingRun.{check_run, show_run}
+use Rattle.lsp_judge.specs.Objects.{CheckedObject}
 use Rattle.lsp_judge.specs.ShownLog.{Showed, UpgradesLog}
 use Rattle.lsp_extract.specs.Stream.{RunsFrames}
 use Rattle.lsp_verdict.specs.declared.outcome.Outcome.{Outcome}

@@ -2,12 +2,12 @@
 use Rattle.std.specs.Prelude.{ℕ, Bool, List, [], ◌∷◌, ◌++◌, ◌==◌, codes, map}
 use Rattle.std.specs.List.{after_first, before_first}
 use Rattle.json.specs.Print.{quoted}
-use Rattle.lsp_json.specs.Lines.{Row, json_by, row_view}
+use Rattle.lsp_json.specs.Lines.{Row, json_by}
 use Rattle.lsp_json.specs.declared.rows.TheConstants.{ROWS}
 
 -- **the rows of the lines of a report**
 unfoldable pub rows : List Row
-rows = map row_view ROWS
+rows = map (λ row. (row.0.now, row.1.now)) ROWS
 
 -- **a report as JSON**: an object for each of its lines
 abbrev pub json_lines : List ℕ → List ℕ

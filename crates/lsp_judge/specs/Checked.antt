@@ -2,10 +2,9 @@
 use Rattle.std.specs.Prelude.{◌≡◌, ◌⊎◌, ℕ, List, Option, Result, Ok, Err, IfOk, ◌==◌, [], ◌∷◌, ◌++◌}
 use Rattle.std.specs.Prelude.{Bool, false, codes, if◌then◌else◌}
 use Rattle.std.specs.Io.KnownBytes.{IsAtEnd}
-use Rattle.std.specs.List.{after_first, before_first}
+use Rattle.std.specs.List.{before_first}
 use Rattle.lsp_frame.specs.Bounds.{Bounds}
 use Rattle.lsp_frame.specs.declared.format.Format.{Format}
-use Rattle.lsp_json.specs.Rows.{file_json}
 use Rattle.lsp_log.specs.declared.fault.LogCode.{LogCode}
 use Rattle.lsp_verdict.specs.Complete.{IsBroughtToEnd, IsComplete, IsCutShort, IsVerdictBy}
 use Rattle.lsp_verdict.specs.Event.{Event}
@@ -97,10 +96,6 @@ pub record Checked (completeness : Completeness) (limits : Bounds) (io : Ports)
 abbrev pub first_line : List ℕ → List ℕ
 first_line bytes = before_first (λ byte. byte == 10) bytes
 
--- and those behind it
-abbrev pub other_lines : List ℕ → List ℕ
-other_lines bytes = after_first (λ byte. byte == 10) bytes
-
 -- the verdict is a Yes for which no snapshot was compared: there is none, or each is unmatched
 abbrev pub compared_nothing : spec.Verdict → Bool
 compared_nothing (spec.yes s) = s.snapshots == s.unmatched
@@ -120,19 +115,3 @@ line_for name v = name ++ codes ": " ++ first_line (report v) ++ line_remark v +
 abbrev pub CheckedLine : Completeness → Bounds → List ℕ → Ports → Result Outcome RunFault → Type 0
 CheckedLine completeness limits name io result =
     WritesVerdict completeness limits (line_for name) io result
-
--- ---- the same as JSON
-
--- a report whose first line this follows
-abbrev pub remarked : List ℕ → List ℕ → List ℕ
-remarked report remark = first_line report ++ remark ++ 10 ∷ other_lines report
-
--- **the object of a log**: that of the line, with the name of the file, and with the text of a No
--- and of a bad log
-abbrev pub object_for : List ℕ → spec.Verdict → List ℕ
-object_for file v = file_json file (remarked (report v) (line_remark v))
-
--- **what `check --json` answers and writes for one of several logs**
-abbrev pub CheckedObject : Completeness → Bounds → List ℕ → Ports → Result Outcome RunFault → Type 0
-CheckedObject completeness limits file io result =
-    WritesVerdict completeness limits (object_for file) io result

@@ -1,7 +1,8 @@
 -- What is said of a log up to its verdict, and for that.
 use Rattle.std.specs.Prelude.{◌≡◌, ◌||◌, ℕ, List, Option, Some, None, is_some}
 use Rattle.lsp_docs.specs.Documents.{Terms}
-use Rattle.lsp_judge.specs.Checked.{line_for, object_for}
+use Rattle.lsp_judge.specs.Checked.{line_for}
+use Rattle.lsp_judge.specs.Objects.{object_for}
 use Rattle.lsp_judge.specs.declared.judging.Form as code
 use Rattle.lsp_judge.specs.declared.judging.Form.TheVariants as forms
 use Rattle.lsp_replay.specs.Lines.{shown_line}

@@ -1,8 +1,8 @@
 //! Judges one of several logs, and writes a line, or the object of that line.
 ghost use Rattle.std.specs.Prelude.{◌≡◌, ◌++◌, ◌∷◌, [], OnOk, codes, string_bytes};
 ghost use Rattle.lsp_json.specs.Rows.{file_json};
-ghost use Rattle.lsp_judge.specs.Checked.{CheckedLine, CheckedObject, compared_nothing, first_line};
-ghost use Rattle.lsp_judge.specs.Checked.{line_remark, other_lines, remarked};
+ghost use Rattle.lsp_judge.specs.Checked.{CheckedLine, compared_nothing, first_line, line_remark};
+ghost use Rattle.lsp_judge.specs.Objects.{CheckedObject, other_lines, remarked};
 ghost use Rattle.lsp_verdict.specs.Given.{verdict_view};
 ghost use Rattle.lsp_verdict.specs.Runs.{ports};
 
@@ -41,8 +41,8 @@ pub fn run_check_line<R: Source, W: Sink>(
     pass(alloc, reader, writer, limits, &mut account)
 }
 
-/// Reads one of several logs as [`run_check_line`] does, and writes the object of its line. That has
-/// the name of the file first, and of a No and of a bad log the text too.
+/// Reads one of several logs as [`run_check_line`] does, and writes the object of its line: the
+/// name of the file first, and of a No and of a bad log the text too.
 ///
 /// # Errors
 /// Those of [`run_check_line`].

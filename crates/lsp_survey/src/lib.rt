@@ -3,10 +3,10 @@
 //!
 //! `run_survey` reads a log and writes a report of all its offences, `run_show_all` also shows the
 //! events between them, and `run_text_all` writes the text that is held after a message of the
-//! editor's. `run_survey_json` and `run_show_all_json` write as JSON. Each is an account (`Survey`, and `HeldText` of `lsp_replay`) over the one `pass` of
-//! `lsp_replay`. An offence may follow from an earlier one, after which the two sides no longer
-//! agree on a document or on the handshake; what is an offence, and what follows, is defined in
-//! `lsp_verdict`.
+//! editor's. `run_survey_json` and `run_show_all_json` write the same as JSON. Each is an account
+//! (`Survey`, and `HeldText` of `lsp_replay`) over the one `pass` of `lsp_replay`. An offence may
+//! follow from an earlier one, after which the two sides no longer agree on a document or on the
+//! handshake; what is an offence, and what follows, is defined in `lsp_verdict`.
 #![tactic(auto)]
 
 mod end_of_session;
