@@ -5,7 +5,8 @@ ghost use Rattle.lsp_verdict.specs.Given.{verdict_view};
 ghost use Rattle.lsp_verdict.specs.Heard.{heard_events};
 ghost use Rattle.lsp_verdict.specs.Verdict.{first_no};
 
-use crate::check_line::{line_remark, push_line, push_object};
+use crate::check_line::{line_remark, push_line};
+use crate::check_object::push_object;
 use crate::ending::verdict_at;
 use lsp_replay::{Account, End, Events, Fate, Flow, LogEvents, Seen, last_offence, push_kept_line};
 use lsp_rpc::Result;

@@ -16,6 +16,7 @@
 
 mod check;
 mod check_line;
+mod check_object;
 mod contents;
 mod ending;
 mod json;
@@ -28,7 +29,8 @@ mod text;
 mod upgrade;
 
 pub use check::{run_check, run_check_complete};
-pub use check_line::{compared_nothing, run_check_line, run_check_object};
+pub use check_line::{compared_nothing, run_check_line};
+pub use check_object::run_check_object;
 pub use json::{run_check_json, run_show_json};
 pub use judge::Judge;
 pub use lsp_extract::{

@@ -1,6 +1,6 @@
 use Rattle.lsp_judge.specs.JudgingRun.{an_object}
 use Rattle.lsp_judge.proofs.JudgingRuns.{writes_verdict}
-use Rattle.lsp_judge.proofs.check_line.run_check_object.Goals as goal
+use Rattle.lsp_judge.proofs.check_object.run_check_object.Goals as goal
 
 pub returns : goal.returns
 returns g c = record {
