@@ -82,15 +82,15 @@ sent_in b = sents_view b.sent.items
 abbrev pub text_in : Base → Option Text
 text_in b = option_map (λ (s : Counted). s.content) b.text
 
--- a snapshot may be found equal at this version later, where these are kept and held
+-- a snapshot may still be found equal at this version, where these versions are kept and held
 abbrev pub MayBeEqual : Version → List Version → Version → ℤ → Type 0
 MayBeEqual base kept v number =
     (int_lt number base.number ≡ false) × (has_number number kept (Some v) ≡ true)
 
--- **this is held of a document**, of which this is the base, where it was changed so since it was
--- opened: its changes after a version, and the text of the base, if these are all that come after
--- it. They are not all only where those are not few; likewise of each version at which a snapshot
--- may be found equal
+-- **what is held of a document** that was changed so since it was opened, where this is its base:
+-- the changes after a version, and the text of the base, if they are all that come after it.
+-- Changes after the base are missing only if all of these are not few; likewise those after any
+-- version at which a snapshot may still be found equal
 pub record HoldsBase (base : Version) (kept : List Version) (v : Version) (all : List SentEdits)
     (b : Base) : Type 0 where
   pub few : are_few (sent_in b) ≡ true
@@ -102,7 +102,7 @@ pub record HoldsBase (base : Version) (kept : List Version) (v : Version) (all :
   pub since_others : (number : ℤ) → MayBeEqual base kept v number → int_lt number b.since ≡ true
       → are_few (later number all) ≡ false
 
--- nothing is held of it: its changes since the base are not few, and no earlier version is kept
+-- nothing is held of it: the changes after the base are not few, and no earlier version is kept
 pub record HoldsNothing (terms : Terms) (base : Version) (all : List SentEdits) : Type 0 where
   pub none_kept : terms.kept ≡ 0
   pub many : are_few (later base.number all) ≡ false

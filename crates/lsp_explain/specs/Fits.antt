@@ -1,7 +1,7 @@
 -- In which other encodings the suspects make the text that the editor had.
 use Rattle.std.specs.Borrow.{Bor}
-use Rattle.std.specs.Prelude.{ℕ, int_lt, nat_lt, not, Bool, true, false, List, [], ◌∷◌, ◌++◌, filter}
-use Rattle.std.specs.Prelude.{if◌then◌else◌, is_some, length, map, Option, Some, None}
+use Rattle.std.specs.Prelude.{ℕ, int_lt, nat_lt, not, Bool, true, false, List, [], ◌∷◌, ◌++◌}
+use Rattle.std.specs.Prelude.{filter, if◌then◌else◌, is_some, length, map, Option, Some, None}
 use Rattle.std.specs.Prelude.{◌≡◌, MatchOption, option_and_then, option_map, take, unwrap_or}
 use Rattle.std.specs.List.{prefix_len}
 use Rattle.std.specs.Result.{result_ok}

@@ -33,9 +33,9 @@ struct Suspected<'a> {
     own: Option<&'a [Change]>,
 }
 
-/// Adds the encodings, other than the agreed one, in which the suspects make the other text of a
-/// call that breaks 608 or 702. The past is of the events before it, and this was tried of its
-/// changes.
+/// Adds the encodings, other than the agreed one, in which the suspects make the text that the
+/// editor had, where a call breaks 608 or 702. The past is of the events before it, and this was
+/// tried of its changes.
 ///
 /// # Errors
 /// `Memory` where memory was refused.
@@ -72,8 +72,8 @@ pub(crate) fn push_fits(
     push_fitting(facts, &held.docs, agreed, text, suspected, texts.in_editor)
 }
 
-/// The suspects, where there are some, not more than are named, and with those of the call, the
-/// changes are few.
+/// The suspects, if there is one at least and not more than are named. None either, if the changes
+/// since the base, with those of the call, are more or larger than is held.
 fn suspects_of<'a>(base: &'a Base, until: Until, call: Call<'a>) -> Option<Suspected<'a>>
     ensures { are_few (sent_in base.now) ≡ true
         → MatchOption result (spec.suspects_in until (sent_in base.now) (call_view call.entry) ≡ [])
@@ -82,11 +82,11 @@ fn suspects_of<'a>(base: &'a Base, until: Until, call: Call<'a>) -> Option<Suspe
     let sent = up_to(until, base.sent.as_slice());
     match call {
         Call::Changes { changes, .. } => with_own(base, sent, changes),
-        _ => few(sent),
+        _ => without_own(sent),
     }
 }
 
-/// Those with the message that offends.
+/// These messages, and the one that offends.
 fn with_own<'a>(
     base: &'a Base,
     sent: &'a [SentChanges],
@@ -106,8 +106,8 @@ fn with_own<'a>(
     Some(Suspected { sent, own })
 }
 
-/// Those of earlier messages alone, of which there is one at least.
-fn few<'a>(sent: &'a [SentChanges]) -> Option<Suspected<'a>>
+/// These messages alone.
+fn without_own<'a>(sent: &'a [SentChanges]) -> Option<Suspected<'a>>
     ensures { spec.AreNamed true (spec.edits_in (sents_view sent.now)) result }
 {
     if sent.is_empty() {
@@ -120,7 +120,7 @@ fn few<'a>(sent: &'a [SentChanges]) -> Option<Suspected<'a>>
     Some(Suspected { sent, own })
 }
 
-/// Those of the messages that come no later than the one by which the text came about.
+/// The messages that come no later than the one by which the text came about.
 fn up_to(until: Until, sent: &[SentChanges]) -> &[SentChanges]
     ensures { result.now ≡ spec.held_reached until sent.now }
 {

@@ -31,12 +31,11 @@ pub(crate) struct SentChanges {
 /// A text that a document had at a version, and the changes that were made in it since.
 #[derive(Drop)]
 pub(crate) struct Base {
-    /// The version of the text; where the text is no longer held, the one after which the changes
-    /// are.
+    /// The version of the text. Once that is no longer held, the one after which the changes come.
     since: i32,
     pub(crate) text: Option<Lined>,
     pub(crate) sent: Vec<SentChanges>,
-    /// How large changes may be beside these.
+    /// How large further changes may be.
     room: u64,
     ghost counted: { room + total_size (sents_view sent.items) ≡ most_size },
 }
@@ -80,7 +79,8 @@ impl Base {
     /// # Errors
     /// `Memory` where memory was refused.
     pub(crate) fn add(&mut self, version: i32, changes: &[Change]) -> Result<()>
-        ensures { OnOk result (AddsTo (sent_edits version (edits_of changes.now)) self.old self.new) }
+        ensures { OnOk result (AddsTo (sent_edits version (edits_of changes.now))
+            self.old self.new) }
     {
         let Some(room) = self.make_room(changes) else {
             self.since = version;
@@ -118,7 +118,7 @@ impl Base {
         self.room += size_of_changes(first.changes.as_slice());
     }
 
-    /// Whether the text is held no longer, where it was held before or not.
+    /// Whether the text was held before, as is said, and is not held now.
     pub(crate) fn has_lost(&self, was_held: bool) -> bool
         ensures { result ≡ true → text_in self.now ≡ None }
     {

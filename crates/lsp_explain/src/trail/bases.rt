@@ -26,8 +26,9 @@ type BaseMap = IndexMap<String, Base>;
 /// Of each open document the text at the greatest version at which a snapshot was equal, or else
 /// the one that it was opened with, and the changes since.
 ///
-/// It stands for the events of a session of which those that offend are skipped. A document has no
-/// entry once too much was changed to be held, until a snapshot is equal again.
+/// It stands for the events of a session of which those that offend are skipped. Once more was
+/// changed than is held, the text is let go of until a snapshot is equal again; so is all that is
+/// held of the document, unless earlier versions are kept, at which a snapshot may be equal.
 #[derive(Drop)]
 pub struct Bases {
     map: BaseMap,
@@ -197,8 +198,8 @@ fn add_call(map: &mut BaseMap, docs: &Docs<Lined>, call: Call<'_>) -> Result<()>
     close_unless_kept(map, docs, uri)
 }
 
-/// Adds changes to those of the document there, which has this URI. Answers whether its text is
-/// held no longer.
+/// Adds changes to those of the document there, which has this URI. Answers whether its text was
+/// let go of.
 fn add_at(map: &mut BaseMap, uri: &str, at: usize, version: i32, changes: &[Change]) -> Result<bool>
     requires { IsAt map.old.entries uri.now at }
     ensures { IfOk result (λ lost. ChangesOne uri.now

@@ -8,7 +8,7 @@ ghost use Rattle.lsp_docs.specs.Documents.{Terms};
 ghost use Rattle.lsp_verdict.specs.Event.{Event};
 ghost use Rattle.lsp_explain.specs.History.{kept_call, on_document, last_ones, last_that};
 ghost use Rattle.lsp_explain.specs.Openings.{AreOpenings, Holds, OpenedBy, OpensBy, closing_by};
-ghost use Rattle.lsp_explain.specs.Openings.{closing_of, closings, has_name, last_on, most_closings};
+ghost use Rattle.lsp_explain.specs.Openings.{closing_of, closings, has_name, last_on};
 ghost use Rattle.lsp_explain.specs.Openings.{most_openings, names_view, ons_view, openings, others};
 ghost use Rattle.lsp_explain.specs.Openings.{unshown, with_name};
 

@@ -33,6 +33,7 @@ returns-in_default c = λ few.
     let held : sents_view c.up_to-sent.result.now ≡ reached until sent =
     ap sents_view c.up_to-sent.ensures ∙ reached_view until c.as_slice.result.now
     ∙ ap (λ items. reached until (sents_view items)) c.as_slice.ensures.value in
-    suspects_alone until sent (call_view c.args.call) c.few.result
+    suspects_alone until sent (call_view c.args.call) c.without_own.result
     (own_none c.args.call c.in_default.not-Changes) few
-    (subst (λ (l : List SentEdits). AreNamed true (edits_in l) c.few.result) held c.few.ensures)
+    (subst (λ (l : List SentEdits). AreNamed true (edits_in l) c.without_own.result) held
+    c.without_own.ensures)

@@ -5,7 +5,7 @@ use Rattle.lsp_explain.specs.Fits.{edits_in}
 use Rattle.lsp_explain.specs.SentEdits.{sents_view}
 use Rattle.lsp_explain.proofs.Fitting.{are_named, edits-length, many_named, no_sents, none_named}
 use Rattle.lsp_explain.proofs.Fitting.{some_sents}
-use Rattle.lsp_explain.proofs.fits.few.Goals as goal
+use Rattle.lsp_explain.proofs.fits.without_own.Goals as goal
 
 pub returns-then-is_empty : goal.returns-then-is_empty
 returns-then-is_empty c =
