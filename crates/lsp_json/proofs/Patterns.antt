@@ -1,11 +1,26 @@
 -- The first field of a pattern, and the fields behind it.
 use Rattle.std.specs.Prelude.{◌&&◌, flat_map}
-use Rattle.std.proofs.Common.{◌≡◌, ◌∙◌, ℕ, Bool, true, false, List, [], ◌∷◌, ◌++◌, ap, refl, sym}
-use Rattle.std.proofs.Common.{append_assoc, append-nil}
+use Rattle.std.specs.Borrow.{Bor}
+use Rattle.std.proofs.Common.{◌≡◌, ◌∙◌, ◌==◌, ℕ, Bool, true, false, List, [], ◌∷◌, ◌++◌, length, map}
+use Rattle.std.proofs.Common.{append_assoc, append-nil, ap, arith, refl, sym}
+use Rattle.std.proofs.lemmas.Bool.{eqb-true}
 use Rattle.std.proofs.lemmas.Grind.{flat_map-append}
-use Rattle.lsp_json.specs.Fields.{Field, behind, fit, own, suits}
+use Rattle.lsp_json.specs.Fields.{Field, behind, fit, is_none, own, suits, word_view}
 use Rattle.lsp_json.specs.Members.{Member, member, members, members_of}
 use Rattle.lsp_json.specs.Words.{Words}
+
+-- whether words are left
+pub none_left : (words : List (Bor (List ℕ)))
+    → (length words == 0) ≡ is_none (map word_view words)
+none_left [] = refl
+none_left (word ∷ words) = by_test (length (word ∷ words) == 0) refl
+  where
+    by_test : (b : Bool) → (length (word ∷ words) == 0) ≡ b
+        → (length (word ∷ words) == 0) ≡ false
+    by_test true is =
+        let none : length (word ∷ words) ≡ 0 = eqb-true (length (word ∷ words)) 0 is in
+        absurd (omega (arith, none))
+    by_test false is = is
 
 -- of these fields the first one takes these words, and those are left
 module _ (fields others : List Field) (field : Field) (words taken left : Words)

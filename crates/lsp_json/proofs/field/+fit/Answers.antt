@@ -1,7 +1,5 @@
-use Rattle.std.specs.Prelude.{option_map}
-use Rattle.std.proofs.Common.{◌≡◌, ◌∙◌, map, ap, rules}
-use Rattle.lsp_json.specs.Fields.{fields_left, fields_of, is_none, word_view}
-use Rattle.lsp_json.proofs.Patterns.{fit_not, fit_on}
+use Rattle.std.proofs.Common.{◌∙◌}
+use Rattle.lsp_json.proofs.Patterns.{fit_not, fit_on, none_left}
 use Rattle.lsp_json.proofs.field.+fit.Goals as goal
 
 pub returns-then-not-suits : goal.returns-then-not-suits
@@ -11,9 +9,8 @@ returns-then-not-suits t c =
 
 pub returns-in_default : goal.returns-in_default
 returns-in_default t c =
-    let empty : c.is_empty.result ≡ is_none (map word_view c.split.result.1.now) = search rules in
     let fields = rw c.in_default.is at c.first_field.ensures.fields in
-    empty ∙ fit_on _ _ _ _ _ _ fields c.split.ensures.own c.split.ensures.behind c.suits.result
+    c.is_empty.ensures ∙ none_left c.split.result.1.now ∙ fit_on _ _ _ _ _ _ fields c.split.ensures.own c.split.ensures.behind c.suits.result
     c.suits.ensures c.if-not-suits.false
 
 pub returns : goal.returns
