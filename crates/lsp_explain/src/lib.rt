@@ -9,9 +9,9 @@
 //! on the way which events led to what.
 #![tactic(auto)]
 
+mod as_json;
 mod compared;
 mod fits;
-mod json;
 mod laws;
 mod notes;
 mod offence_facts;
@@ -23,8 +23,8 @@ mod trail;
 mod twins;
 mod unopened;
 
+pub use as_json::{run_explain_all_json, run_explain_json};
 pub use compared::{ComparedText, run_compared};
-pub use json::{run_explain_all_json, run_explain_json};
 pub use laws::{
     all_explained_are_causes, explanation_begins_with_report, explanation_of_yes_is_report,
     first_explained_is_verdict, one_compared_text, one_explanation, one_explanation_of_all,

@@ -3,6 +3,6 @@
 //! `Json` is an account around an account: the lines of each step are made into objects.
 #![tactic(auto)]
 
-mod json;
+mod as_json;
 
-pub use json::Json;
+pub use as_json::Json;

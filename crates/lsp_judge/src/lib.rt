@@ -14,12 +14,12 @@
 //! `lsp_extract`, whose runs judge nothing.
 #![tactic(auto)]
 
+mod as_json;
 mod check;
 mod check_line;
 mod check_object;
 mod contents;
 mod ending;
-mod json;
 mod judge;
 mod judging;
 mod ruling;
@@ -28,10 +28,10 @@ mod show_laws;
 mod text;
 mod upgrade;
 
+pub use as_json::{run_check_json, run_show_json};
 pub use check::{run_check, run_check_complete};
 pub use check_line::{compared_nothing, run_check_line};
 pub use check_object::run_check_object;
-pub use json::{run_check_json, run_show_json};
 pub use judge::Judge;
 pub use lsp_extract::{
     EventOutcome, event_is_numbered, normal_form_keeps_events, normal_form_keeps_verdict,

@@ -9,8 +9,8 @@
 //! handshake; what is an offence, and what follows, is defined in `lsp_verdict`.
 #![tactic(auto)]
 
+mod as_json;
 mod end_of_session;
-mod json;
 mod laws;
 mod losses;
 mod notes;
@@ -19,8 +19,8 @@ mod run;
 mod survey;
 mod text;
 
+pub use as_json::{run_show_all_json, run_survey_json};
 pub use end_of_session::{SessionEnd, session_end};
-pub use json::{run_show_all_json, run_survey_json};
 pub use laws::{all_shown_is_report, one_all_shown, one_kept_text};
 pub use losses::Losses;
 pub use lsp_verdict::Listing;

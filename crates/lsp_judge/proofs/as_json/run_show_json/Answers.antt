@@ -1,6 +1,6 @@
 use Rattle.std.proofs.Common.{refl}
 use Rattle.lsp_judge.proofs.Quiet.{judging_quiet}
-use Rattle.lsp_judge.proofs.json.run_show_json.Goals as goal
+use Rattle.lsp_judge.proofs.as_json.run_show_json.Goals as goal
 
 pub pass-requires : goal.pass-requires
 pass-requires g c = record { begins = λ terms. (refl, judging_quiet _) }

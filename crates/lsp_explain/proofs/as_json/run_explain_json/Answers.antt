@@ -1,5 +1,5 @@
 use Rattle.lsp_explain.proofs.QuietRuns.{explain_quiet}
-use Rattle.lsp_explain.proofs.json.run_explain_json.Goals as goal
+use Rattle.lsp_explain.proofs.as_json.run_explain_json.Goals as goal
 
 pub pass-requires : goal.pass-requires
 pass-requires g c = record {

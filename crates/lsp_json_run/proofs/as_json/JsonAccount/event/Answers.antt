@@ -1,7 +1,7 @@
 use Rattle.std.proofs.Common.{subst, sym}
 use Rattle.lsp_json_run.specs.JsonRun.{IsQuiet}
 use Rattle.lsp_json_run.proofs.JsonSteps.{json_says, json_wants, some_rests}
-use Rattle.lsp_json_run.proofs.json.JsonAccount.event.Goals as goal
+use Rattle.lsp_json_run.proofs.as_json.JsonAccount.event.Goals as goal
 
 pub returns-in_err-flow : goal.returns-in_err-flow
 returns-in_err-flow g c = record {

@@ -1,5 +1,5 @@
 use Rattle.lsp_survey.proofs.Quiet.{survey_quiet}
-use Rattle.lsp_survey.proofs.json.run_show_all_json.Goals as goal
+use Rattle.lsp_survey.proofs.as_json.run_survey_json.Goals as goal
 
 pub pass-requires : goal.pass-requires
 pass-requires g c = record {
