@@ -145,7 +145,7 @@ late_suspect = refl
 
 -- a column that counts characters: behind the face the editor has the mark a column later
 abbrev face : List ℕ
-face = codes "x\\ud83d\\ude00yz"
+face = codes "x" ++ 0xF0 ∷ 0x9F ∷ 0x98 ∷ 0x80 ∷ codes "yz"
 
 abbrev shown_face : List ℕ → List ℕ
 shown_face behind = 120 ∷ 0x1F600 ∷ behind

@@ -49,7 +49,7 @@ returns-then-rule-eq-SAVED_TEXT_DIFFERS c =
     let limit = until_of c.args.place call in
     let is = c.if-rule-eq-SAVED_TEXT_DIFFERS.true in
     let fit = fits_facts terms before SAVED_TEXT_DIFFERS limit call in
-    let texts = c.in_ok-trace_texts-then-rule-eq-SAVED_TEXT_DIFFERS.ensures terms before
+    let texts = c.in_ok-trace_texts-2.ensures terms before
     stands.trail.marked in
     says before stands breaks tried
     ∙ (λ i. texts i ++ fits_facts terms before (is i) (c.until_of-until.ensures i) call)

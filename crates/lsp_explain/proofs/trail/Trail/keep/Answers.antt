@@ -77,15 +77,15 @@ returns c = on_ok_weaker c.keep.result (λ texts terms before h is seen.
     let has = subst (λ (f : Fate). HasFate terms before h f) c.in-Kept.is seen.fate in
     let says = sym seen.says ∙ ap (option_map call_view) c.in-Some.is in
     let told = has.1 ∙ ap (took_of terms (calls (kept_before terms before))) says in
-    let done = c.in_ok-keep_step.ensures in
+    let done = c.in_ok-is_equal.ensures in
     trail_called terms before h _ is _ has.0 _ at call c.in-Kept.took c.keep_call.new.self
     seen.noted.0 says told
     (subst (λ more. Keeps more old.marks old.openings new.marks new.openings)
     (ap (λ u. Some (kept_call u place step)) c.uri.ensures
     ∙ ap (option_map (kept_call (uri_of call) place)) c.in-Some-step_of.ensures) done.kept)
-    (based_called terms before h _ is _ has.0 _ at c.args.held.now.session c.args.held.now.docs
-    c.args.held.now.counts call c.in-Kept.took step c.in_ok-keep_step.is_equal seen.stood says told
-    c.in-Some-step_of.ensures
+    (based_called terms before h _ is (record old { bases = c.keep.new.self }) has.0 _ at
+    c.args.held.now.session c.args.held.now.docs c.args.held.now.counts call c.in-Kept.took step
+    c.in_ok-is_equal.is_equal seen.stood says told c.in-Some-step_of.ensures
     (done.equal ∙ ap (λ u. finds_equal step (marked_in old.marks.map.entries u)) c.uri.ensures)
     texts)
     refl c.keep_call.ensures.moves c.in_ok-keep_call.ensures.renamed) c.keep.ensures
