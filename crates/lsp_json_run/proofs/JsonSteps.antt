@@ -1,5 +1,4 @@
 -- The steps of an account whose lines are made into objects.
-use Rattle.std.specs.Str.Lines.{lines}
 use Rattle.std.proofs.Common.{◌≡◌, ◌∙◌, ℕ, Bool, true, false, List, [], ◌++◌, ap, append-nil, refl, sym}
 use Rattle.lsp_docs.specs.Documents.{Terms}
 use Rattle.lsp_frame.specs.Front.{header_front}
@@ -18,7 +17,6 @@ use Rattle.lsp_verdict.specs.declared.raw.Raw.TheVariants.{Content, Broken, Snap
 
 -- no line, no object
 no_objects : json_lines [] ≡ []
-unfolding lines
 no_objects = refl
 
 pub nothing_added : (old shown : List ℕ) → shown ≡ [] → old ≡ old ++ json_lines shown
@@ -49,10 +47,10 @@ goes_on run terms before h Stands More GoOn more goes = (goes.0, (goes.1, more))
 goes_on run terms before h Stands More (Stop boxed) more goes = goes
 
 -- a text that was empty grew by these lines, and this one by their objects
-module _ {grown added shown old new : List ℕ} (grew : grown ≡ [] ++ added) (same : shown ≡ grown)
-    (objects : new ≡ old ++ json_lines shown) where
-  objects_of : new ≡ old ++ json_lines added
-  objects_of = objects ∙ ap (λ w. old ++ json_lines w) (same ∙ grew)
+objects_of : (grown added shown old new : List ℕ) → grown ≡ [] ++ added → shown ≡ grown
+    → new ≡ old ++ json_lines shown → new ≡ old ++ json_lines added
+objects_of grown added shown old new grew same objects =
+    objects ∙ ap (λ w. old ++ json_lines w) (same ∙ grew)
 
 module _ {run : Run} {empty grown shown : List ℕ} (clear : empty ≡ []) (same : shown ≡ grown) where
   -- of an event
@@ -62,7 +60,8 @@ module _ {run : Run} {empty grown shown : List ℕ} (clear : empty ≡ []) (same
       → Says (json_run run) terms before h Fits old new (Stands × More) flow
   json_says {terms} {before} {h} {Fits} {Stands} {More} {flow} objects more s = record {
     said = json_lines s.said;
-    added = objects_of (s.added ∙ ap (λ w. w ++ s.said) clear) same objects;
+    added = objects_of grown s.said shown old new (s.added ∙ ap (λ w. w ++ s.said) clear) same
+        objects;
     is = λ rests fits. (s.said, s.is rests fits, refl);
     goes = goes_on run terms before h Stands More flow more s.goes;
   }
@@ -86,8 +85,9 @@ module _ {run : Run} {empty grown shown : List ℕ} (clear : empty ≡ []) (same
       {outcome : Outcome} {old new : List ℕ} → new ≡ old ++ json_lines shown
       → Closes run terms heard Fits empty grown outcome
       → Closes (json_run run) terms heard Fits old new outcome
-  json_closes objects s = record {
+  json_closes {terms} {heard} {Fits} {outcome} {old} {new} objects s = record {
     said = json_lines s.said;
-    added = objects_of (s.added ∙ ap (λ w. w ++ s.said) clear) same objects;
+    added = objects_of grown s.said shown old new (s.added ∙ ap (λ w. w ++ s.said) clear) same
+        objects;
     is = λ tail fits. (s.said, s.is tail fits, refl);
   }
