@@ -78,7 +78,7 @@ def try_names(trial):
         run = subprocess.run([trial.program, "check", "--json", *words], cwd=folder, capture_output=True, timeout=SECONDS)
         wanted = written(*((name, body) for name in words))
         trial.note("names in JSON", (run.returncode, run.stdout) == (status, wanted), run.stdout)
-        read = [json.loads(line)["file"] for line in run.stdout.decode().split("\n")[:-1]]
+        read = [json.loads(line).get("file") for line in run.stdout.decode().split("\n")[:-1]]
         trial.note("names read from JSON", read == words, read)
 
 

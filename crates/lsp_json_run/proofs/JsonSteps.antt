@@ -58,7 +58,7 @@ module _ {run : Run} {empty grown shown : List ℕ} (clear : empty ≡ []) (same
       {Stands More : Type 0} {flow : Flow} {old new : List ℕ} → new ≡ old ++ json_lines shown → More
       → Says run terms before h Fits empty grown Stands flow
       → Says (json_run run) terms before h Fits old new (Stands × More) flow
-  json_says {terms} {before} {h} {Fits} {Stands} {More} {flow} objects more s = record {
+  json_says {terms} {before} {h} {Fits} {Stands} {More} {flow} {old} {new} objects more s = record {
     said = json_lines s.said;
     added = objects_of grown s.said shown old new (s.added ∙ ap (λ w. w ++ s.said) clear) same
         objects;
