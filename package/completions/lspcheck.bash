@@ -17,9 +17,9 @@ _lspcheck() {
     [[ $previous == "=" && $given == *" --as "* ]] && previous=--as
     case $command in
         "") options="--help --version -h -V" ;;
-        check) options="--complete --all --every --compared --ignore-line-ends --quiet --help -h" ;;
-        explain) options="--complete --all --ignore-line-ends --by-messages --in-editor --quiet --help -h" ;;
-        show) options="--all --long --quiet --help -h" ;;
+        check) options="--complete --all --every --compared --ignore-line-ends --json --quiet --help -h" ;;
+        explain) options="--complete --all --ignore-line-ends --by-messages --in-editor --json --quiet --help -h" ;;
+        show) options="--all --long --json --quiet --help -h" ;;
         text) options="--all --quiet --help -h" ;;
         event | normal | upgrade) options="--quiet --help -h" ;;
         frames) options="--as --quiet --help -h" ;;

@@ -35,6 +35,7 @@ complete -c lspcheck -n '__lspcheck_option by-messages explain' -l by-messages -
 complete -c lspcheck -n '__lspcheck_option in-editor explain' -l in-editor -d 'Write only the text of the editor'
 complete -c lspcheck -n '__lspcheck_option all show' -l all -d 'Continue past each violation'
 complete -c lspcheck -n '__lspcheck_option long show' -l long -d 'Add numbers, URIs and versions'
+complete -c lspcheck -n '__lspcheck_option json check explain show' -l json -d 'Write each line as a JSON object'
 complete -c lspcheck -n '__lspcheck_option quiet check explain show text event normal upgrade frames' -l quiet -d 'Show no progress on a terminal'
 set -l as '__lspcheck_option as frames; or test (commandline -opc)[-1] = --as'
 complete -c lspcheck -n $as -l as -x -a 'lengths canonical kinds' -d 'What to write for each frame'

@@ -50,7 +50,7 @@ REPORTED = {
 STATUSES = [
     (r"no \d|.*\nno \d", 1),
     (r"bad log |(.*\n)*fault ", 2),
-    (r"(.+: .*\n)*lspcheck: (read|write) fault", 3),
+    (r"((.+: |\{).*\n)*lspcheck: (read|write) fault", 3),
     (r"no such document|no content|no texts |fewer ", 5),
     (r"(?s:.*)lspcheck: --compared: ", 1),
 ]

@@ -161,6 +161,7 @@ no_text rows none (tasks.Event number) h = apart _ _ refl h.command
 no_text rows none tasks.Normal h = apart _ _ refl h.command
 no_text rows none tasks.Upgrade h = apart _ _ refl h.command
 no_text rows none (tasks.Frames mode) h = apart _ _ refl h.command
+no_text rows none (tasks.Json report) h = absurd h.arguments
 
 pub no_event : (rows : List Row) → ((n : ℕ) → GivesNumber rows n → ⊥) → (task : Task) → HasTask (codes "event") rows task → ⊥
 no_event rows none (tasks.Check a) h = apart _ _ refl h.command
@@ -177,6 +178,7 @@ no_event rows none (tasks.Event number) h = none (non_zero_u64_get number) h.arg
 no_event rows none tasks.Normal h = apart _ _ refl h.command
 no_event rows none tasks.Upgrade h = apart _ _ refl h.command
 no_event rows none (tasks.Frames mode) h = apart _ _ refl h.command
+no_event rows none (tasks.Json report) h = absurd h.arguments
 
 -- ---- what is to be read
 

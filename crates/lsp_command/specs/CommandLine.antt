@@ -23,6 +23,10 @@ flag name = record (new_rule name) { long = Some name; action = Some SetTrue }
 abbrev pub quiet : Rule
 quiet = flag (codes "quiet")
 
+-- whether JSON is written
+abbrev pub json : Rule
+json = flag (codes "json")
+
 -- whether line ends do not count
 abbrev pub ignore_line_ends : Rule
 ignore_line_ends = flag (codes "ignore-line-ends")
@@ -75,7 +79,8 @@ check_options = command (codes "check")
     ∷ flag (codes "compared") ∷ [])
 
 abbrev pub check : Shape
-check = command (codes "check") (check_options.rules ++ ignore_line_ends ∷ quiet ∷ files ∷ [])
+check = command (codes "check")
+    (check_options.rules ++ ignore_line_ends ∷ json ∷ quiet ∷ files ∷ [])
 
 -- `explain` with its own options alone
 abbrev pub explain_options : Shape
@@ -84,10 +89,11 @@ explain_options = command (codes "explain")
 
 abbrev pub explain : Shape
 explain = command (codes "explain") (explain_options.rules ++ flag (codes "by-messages")
-    ∷ flag (codes "in-editor") ∷ quiet ∷ file ∷ [])
+    ∷ flag (codes "in-editor") ∷ json ∷ quiet ∷ file ∷ [])
 
 abbrev pub show : Shape
-show = command (codes "show") (flag (codes "all") ∷ flag (codes "long") ∷ quiet ∷ file ∷ [])
+show = command (codes "show")
+    (flag (codes "all") ∷ flag (codes "long") ∷ json ∷ quiet ∷ file ∷ [])
 
 -- `text` with its own arguments and options alone
 abbrev pub text_options : Shape

@@ -8,7 +8,9 @@ use Rattle.json.specs.Print.{quoted}
 use Rattle.clap.specs.Words.{Text}
 use Rattle.lsp_command.specs.ShownText.{is_control, shown_text}
 use Rattle.lsp_command.specs.declared.command_line.several.Conflict.{Conflict}
-use Rattle.lsp_command.specs.declared.command_line.several.Conflict.TheVariants.{ListOfSeveral, InputTwice, BothTexts}
+use Rattle.lsp_command.specs.declared.command_line.several.Conflict.TheVariants.{ListOfSeveral, InputTwice}
+use Rattle.lsp_command.specs.declared.command_line.several.Conflict.TheVariants.{BothTexts, JsonText}
+use Rattle.lsp_command.specs.declared.command_line.task.Report.TheVariants as reports
 use Rattle.lsp_command.specs.declared.command_line.task.Request.{Request}
 use Rattle.lsp_command.specs.declared.command_line.task.Task.{Task}
 use Rattle.lsp_command.specs.declared.command_line.task.Task.TheVariants as tasks
@@ -18,6 +20,20 @@ abbrev pub line_task : Task → Bor Text → Task
 line_task (tasks.Check completeness) name = tasks.CheckLine completeness name
 line_task task name = task
 
+-- the task that writes as JSON what this one writes, where there is one
+abbrev pub json_task : Task → Task
+json_task (tasks.Check completeness) = tasks.Json (reports.Check completeness)
+json_task (tasks.CheckLine completeness name) = tasks.Json (reports.CheckLine completeness name)
+json_task (tasks.Survey completeness listing) = tasks.Json (reports.Survey completeness listing)
+json_task (tasks.Explain completeness) = tasks.Json (reports.Explain completeness)
+json_task (tasks.ExplainAll completeness) = tasks.Json (reports.ExplainAll completeness)
+json_task (tasks.Show lines) = tasks.Json (reports.Show lines)
+json_task (tasks.ShowAll lines) = tasks.Json (reports.ShowAll lines)
+json_task task = task
+
+abbrev pub in_form : Bool → Task → Task
+in_form json task = if json then json_task task else task
+
 abbrev pub is_several : Request → Bool
 is_several request = nat_lt 1 (length request.inputs.items)
 
@@ -26,18 +42,24 @@ abbrev pub is_listing : Task → Bool
 is_listing (tasks.Survey completeness listing) = true
 is_listing task = false
 
+-- one of two texts is asked for
+abbrev pub is_text : Task → Bool
+is_text (tasks.Compared which) = true
+is_text task = false
+
 -- how often standard input is read
 abbrev pub standard_inputs : Request → ℕ
 standard_inputs request =
     count_by (λ input. bytes_eq input (codes "-")) (map (λ input. input.now) request.inputs.items)
 
 -- what is asked and has no answer: a list of the violations of several logs, standard input twice,
--- or both of two texts
+-- both of two texts, or one of them as JSON
 abbrev pub conflict_of : Request → Option Conflict
 conflict_of request =
     if is_several request && is_listing request.task then Some ListOfSeveral
     else if nat_lt 1 (standard_inputs request) then Some InputTwice
     else if request.both_texts then Some BothTexts
+    else if request.json && is_text request.task then Some JsonText
     else None
 
 -- the words that say so
@@ -45,6 +67,7 @@ abbrev pub conflict_text : Conflict → Text
 conflict_text ListOfSeveral = codes "--all and --every list the violations of one FILE"
 conflict_text InputTwice = codes "standard input ('-') can be read only once"
 conflict_text BothTexts = codes "the argument '--by-messages' cannot be used with '--in-editor'"
+conflict_text JsonText = codes "--json cannot be used with --by-messages or --in-editor"
 
 -- a name with a control character, as JSON text in which each of these is an escape
 abbrev pub quoted_name : Text → Option Text

@@ -4,7 +4,10 @@ use Rattle.std.specs.Int.NonZero.{non_zero_u64_get}
 use Rattle.lsp_extract.specs.declared.event.EventOutcome.{EventOutcome}
 use Rattle.lsp_extract.specs.Event.{GivesEvent}
 use Rattle.lsp_extract.specs.Normal.{Normalizes}
+use Rattle.lsp_json_run.specs.JsonRun.{WritesJson}
 use Rattle.lsp_judge.specs.Checked.{Checked, CheckedLine}
+use Rattle.lsp_judge.specs.JudgingRun.{check_run, show_run}
+use Rattle.lsp_judge.specs.Objects.{CheckedObject}
 use Rattle.lsp_judge.specs.ShownLog.{Showed, UpgradesLog}
 use Rattle.lsp_extract.specs.Stream.{RunsFrames}
 use Rattle.lsp_verdict.specs.declared.outcome.Outcome.{Outcome}
@@ -17,19 +20,23 @@ use Rattle.lsp_frame.specs.Bounds.{Bounds}
 use Rattle.lsp_frame.specs.Told.{Told, CountsFailure, KeepsBytes}
 use Rattle.lsp_frame.specs.declared.io.Failed.{Failed}
 use Rattle.lsp_replay.specs.TextAnswers.{WritesText}
+use Rattle.lsp_explain.specs.ExplainRuns.{all_run, explain_run}
 use Rattle.lsp_explain.specs.Explained.{ExplainsAll, WritesExplanation}
 use Rattle.lsp_explain.specs.Compared.{AnswersCompared}
 use Rattle.lsp_survey.specs.AllShown.{ShowsAll}
 use Rattle.lsp_survey.specs.KeptText.{AnswersKept}
 use Rattle.lsp_survey.specs.Reported.{SurveysLog}
+use Rattle.lsp_survey.specs.SurveyRun.{report_run, show_all_run}
 use Rattle.lsp_command.specs.declared.task_outcome.TaskOutcome.{TaskOutcome}
 use Rattle.lsp_command.specs.declared.task_outcome.TaskOutcome.TheVariants as outcomes
+use Rattle.lsp_command.specs.declared.command_line.task.Report.{Report}
+use Rattle.lsp_command.specs.declared.command_line.task.Report.TheVariants as reports
 use Rattle.lsp_command.specs.declared.command_line.task.Task.{Task}
 use Rattle.lsp_command.specs.declared.command_line.task.Task.TheVariants.{Check, CheckLine, Survey}
 use Rattle.lsp_command.specs.declared.command_line.task.Task.TheVariants.{Explain, ExplainAll}
 use Rattle.lsp_command.specs.declared.command_line.task.Task.TheVariants.{Compared, Show, ShowAll}
 use Rattle.lsp_command.specs.declared.command_line.task.Task.TheVariants.{Text, TextAll, Event}
-use Rattle.lsp_command.specs.declared.command_line.task.Task.TheVariants.{Normal, Upgrade, Frames}
+use Rattle.lsp_command.specs.declared.command_line.task.Task.TheVariants.{Normal, Upgrade, Frames, Json}
 
 -- ---- how a task ends, by how its run ended
 
@@ -46,6 +53,21 @@ of_event (Err fault) = Err fault
 -- the run over a log or a stream answers so, and the task as it does
 abbrev pub EndsRun : (Result Outcome RunFault → Type 0) → Result TaskOutcome RunFault → Type 0
 EndsRun Ends result = (ended : Result Outcome RunFault) × (result ≡ of_run ended) × Ends ended
+
+-- **a report is written as JSON by the run of its name**, with its arguments
+abbrev pub WritesReport : Bounds → Report → Ports → Result Outcome RunFault → Type 0
+WritesReport limits (reports.Check completeness) p ended =
+    WritesJson (check_run completeness) limits p ended
+WritesReport limits (reports.CheckLine completeness file) p ended =
+    CheckedObject completeness limits file.now p ended
+WritesReport limits (reports.Survey completeness listing) p ended =
+    WritesJson (report_run completeness listing) limits p ended
+WritesReport limits (reports.Explain completeness) p ended =
+    WritesJson (explain_run completeness) limits p ended
+WritesReport limits (reports.ExplainAll completeness) p ended =
+    WritesJson (all_run completeness) limits p ended
+WritesReport limits (reports.Show lines) p ended = WritesJson (show_run lines) limits p ended
+WritesReport limits (reports.ShowAll lines) p ended = WritesJson (show_all_run lines) limits p ended
 
 -- **each task is the run of its name**, with its arguments, on this input and into this output
 abbrev pub Answers : Bounds → Task → Ports → Result TaskOutcome RunFault → Type 0
@@ -72,6 +94,7 @@ Answers limits (Event number) p result =
 Answers limits Normal p result = EndsRun (Normalizes limits p) result
 Answers limits Upgrade p result = EndsRun (UpgradesLog limits p) result
 Answers limits (Frames mode) p result = EndsRun (RunsFrames mode limits p) result
+Answers limits (Json report) p result = EndsRun (WritesReport limits report p) result
 
 -- a task is done, and fails where the source or the sink counted a failure
 pub record RanTask (limits : Bounds) (task : Task) (p : Ports)

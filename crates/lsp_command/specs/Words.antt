@@ -187,6 +187,7 @@ command_of (tasks.Event number) = codes "event"
 command_of tasks.Normal = codes "normal"
 command_of tasks.Upgrade = codes "upgrade"
 command_of (tasks.Frames mode) = codes "frames"
+command_of (tasks.Json report) = []
 
 -- the arguments and options of a task
 abbrev pub HasArguments : List Row → Task → Type 0
@@ -205,6 +206,8 @@ HasArguments rows (tasks.Event number) = GivesNumber rows (non_zero_u64_get numb
 HasArguments rows tasks.Normal = Unit {0}
 HasArguments rows tasks.Upgrade = Unit {0}
 HasArguments rows (tasks.Frames mode) = mode ≡ mode_of (first_of (codes "as") rows)
+-- nor for this: it is done in place of another task where JSON is asked for
+HasArguments rows (tasks.Json report) = ⊥
 
 -- **the command of this name asks for the task**, with what was found of its arguments and options
 pub record HasTask (name : Text) (rows : List Row) (task : Task) : Type 0 where
@@ -218,7 +221,7 @@ TaskIn name rows result =
 
 -- a command of this name asks for the request: its task, what is to be read, whether no progress is
 -- to be shown, whether a Yes must rest on a snapshot that was compared, whether both texts that
--- differ are to be written, and whether line ends count
+-- differ are to be written, whether line ends count, and whether JSON is to be written
 pub record AsksOf (name : Text) (rows : List Row) (request : Request) : Type 0 where
   pub task : HasTask name rows request.task
   pub inputs : map (λ input. input.now) request.inputs.items
@@ -227,6 +230,7 @@ pub record AsksOf (name : Text) (rows : List Row) (request : Request) : Type 0 w
   pub compared : IsFlag (one_of (codes "compared") rows) request.compared
   pub both_texts : AsksBoth rows request.both_texts
   pub line_ends : AsksLineEnds rows request.line_ends
+  pub json : IsFlag (one_of (codes "json") rows) request.json
 
 abbrev pub AsksFor : Option (Text × List Row) → Request → Type 0
 AsksFor None request = ⊥

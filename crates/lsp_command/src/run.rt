@@ -3,20 +3,23 @@ ghost use Rattle.std.specs.Prelude.{◌≡◌, [], None, Err, OnOk, IsSome};
 ghost use Rattle.lsp_verdict.specs.Runs.{ports};
 ghost use Rattle.lsp_verdict.specs.declared.outcome.RunFault.TheVariants as faults;
 ghost use Rattle.lsp_command.specs.Ports.{input_error, late_error, output_error, unwritten};
-ghost use Rattle.lsp_command.specs.Tasks.{RanTask, RanThrough, handed_on};
+ghost use Rattle.lsp_command.specs.Tasks.{RanTask, RanThrough, WritesReport, handed_on};
 
-use crate::command_line::Task;
+use crate::command_line::{Report, Task};
 use crate::input::BufferedInput;
 use crate::output::BufferedOutput;
 use crate::task_outcome::{TaskOutcome, of_event, of_run};
 use crate::watch::Watch;
-use lsp_explain::{run_compared, run_explain, run_explain_all};
+use lsp_explain::{
+    run_compared, run_explain, run_explain_all, run_explain_all_json, run_explain_json,
+};
 use lsp_frame::{Failed, Limits, Sink, Source};
 use lsp_judge::{
-    Completeness, Lines, RunFault, run_check, run_check_complete, run_check_line, run_event,
-    run_frames, run_normal, run_show, run_show_long, run_text, run_upgrade,
+    Completeness, Lines, Outcome, RunFault, run_check, run_check_complete, run_check_json,
+    run_check_line, run_check_object, run_event, run_frames, run_normal, run_show, run_show_json,
+    run_show_long, run_text, run_upgrade,
 };
-use lsp_survey::{run_show_all, run_survey, run_text_all};
+use lsp_survey::{run_show_all, run_show_all_json, run_survey, run_survey_json, run_text_all};
 use std::alloc::Global;
 use std::io::{Read, Write};
 
@@ -65,6 +68,38 @@ pub fn run_task<R: Source, W: Sink>(
         Task::Normal => of_run(run_normal(alloc, source, sink, limits)),
         Task::Upgrade => of_run(run_upgrade(alloc, source, sink, limits)),
         Task::Frames(mode) => of_run(run_frames(alloc, source, sink, limits, mode)),
+        Task::Json(report) => of_run(run_json(alloc, report, source, sink, limits)),
+    }
+}
+
+/// Writes a report as JSON over a source and a sink.
+fn run_json<R: Source, W: Sink>(
+    alloc: Global,
+    report: Report<'_>,
+    source: &mut R,
+    sink: &mut W,
+    limits: Limits,
+) -> Result<Outcome, RunFault>
+    ensures json { WritesReport limits report.entry
+        (ports (R.told source.old) (R.told source.new) (W.told sink.old) (W.told sink.new))
+        result }
+{
+    match report {
+        Report::Check(completeness) => run_check_json(alloc, source, sink, limits, completeness),
+        Report::CheckLine { completeness, file } => {
+            run_check_object(alloc, source, sink, limits, completeness, file)
+        }
+        Report::Survey(completeness, listing) => {
+            run_survey_json(alloc, source, sink, limits, completeness, listing)
+        }
+        Report::Explain(completeness) => {
+            run_explain_json(alloc, source, sink, limits, completeness)
+        }
+        Report::ExplainAll(completeness) => {
+            run_explain_all_json(alloc, source, sink, limits, completeness)
+        }
+        Report::Show(lines) => run_show_json(alloc, source, sink, limits, lines),
+        Report::ShowAll(lines) => run_show_all_json(alloc, source, sink, limits, lines),
     }
 }
 

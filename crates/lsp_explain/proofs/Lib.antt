@@ -36,3 +36,4 @@ pub mod AccountSteps
 pub mod AllExplanations
 pub mod OneExplanation
 pub mod Written
+pub mod QuietRuns

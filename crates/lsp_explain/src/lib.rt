@@ -4,10 +4,12 @@
 //! [`run_explain`] reads a log and explains the verdict on it, and [`run_explain_all`] all that is
 //! wrong with it. An offence is explained by the facts of `lsp_facts` and by the earlier events
 //! that led to it. [`run_compared`] writes one of two whole texts, if the verdict says that they
-//! differ. Each is an account (`FirstOffence`, `AllCauses`, `OneText`) over the one `pass` of
-//! `lsp_replay`, and `Trail` keeps on the way which events led to what.
+//! differ. [`run_explain_json`] and [`run_explain_all_json`] explain in JSON. Each is an account
+//! (`FirstOffence`, `AllCauses`, `OneText`) over the one `pass` of `lsp_replay`, and `Trail` keeps
+//! on the way which events led to what.
 #![tactic(auto)]
 
+mod as_json;
 mod compared;
 mod fits;
 mod laws;
@@ -24,6 +26,7 @@ mod twins;
 mod unopened;
 mod unrisen;
 
+pub use as_json::{run_explain_all_json, run_explain_json};
 pub use compared::{ComparedText, run_compared};
 pub use laws::{
     all_explained_are_causes, explanation_begins_with_report, explanation_of_yes_is_report,

@@ -1,5 +1,5 @@
 //! Explains the verdict on a log.
-ghost use Rattle.std.specs.Prelude.{◌≡◌, ◌++◌, ◌<◌, ◌^◌, List, None, IfOk, length, string_bytes};
+ghost use Rattle.std.specs.Prelude.{◌≡◌, ◌++◌, ◌<◌, ◌^◌, [], List, None, IfOk, length, string_bytes};
 ghost use Rattle.std.specs.Prelude.{map, take};
 ghost use Rattle.lsp_docs.specs.Documents.{Terms};
 ghost use Rattle.lsp_replay.specs.LogEvents.{flaw_of};
@@ -48,13 +48,7 @@ pub fn run_explain<R: Source, W: Sink>(
         (ports (R.told reader.old) (R.told reader.new) (W.told writer.old) (W.told writer.new))
         result }
 {
-    let mut account = FirstOffence {
-        completeness,
-        trail: Trail::new(alloc),
-        misfits: Misfits::new(alloc),
-        refusals: Refusals::new(alloc),
-        spellings: Spellings::new(alloc),
-    };
+    let mut account = FirstOffence::new(alloc, completeness);
     pass(alloc, reader, writer, limits, &mut account)
 }
 
@@ -66,6 +60,22 @@ pub(crate) struct FirstOffence {
     misfits: Misfits,
     refusals: Refusals,
     spellings: Spellings,
+}
+
+impl FirstOffence {
+    /// An account that was told of nothing.
+    pub(crate) fn new(alloc: Global, completeness: Completeness) -> FirstOffence
+        ensures completeness { result.completeness ≡ completeness }
+        ensures stands { (terms : Terms) → FirstStands result terms [] }
+    {
+        FirstOffence {
+            completeness,
+            trail: Trail::new(alloc),
+            misfits: Misfits::new(alloc),
+            refusals: Refusals::new(alloc),
+            spellings: Spellings::new(alloc),
+        }
+    }
 }
 
 impl Account for FirstOffence {

@@ -62,7 +62,7 @@ pub(crate) struct AllCauses {
 
 impl AllCauses {
     /// An account that was told of nothing.
-    fn new(alloc: Global, completeness: Completeness) -> AllCauses
+    pub(crate) fn new(alloc: Global, completeness: Completeness) -> AllCauses
         ensures completeness { result.completeness ≡ completeness }
         ensures stands { (terms : Terms) → AllStands result terms [] }
     {

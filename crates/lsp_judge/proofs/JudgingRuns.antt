@@ -9,7 +9,7 @@ use Rattle.lsp_frame.specs.Told.{Took}
 use Rattle.lsp_frame.specs.declared.format.Format.{Format}
 use Rattle.lsp_log.specs.Log.{Record}
 use Rattle.lsp_judge.specs.Checked.{IsCut, WritesVerdict}
-use Rattle.lsp_judge.specs.JudgingRun.{JudgingAsked, due_for, judging_run, said_by}
+use Rattle.lsp_judge.specs.JudgingRun.{Form, JudgingAsked, a_report, due_for, judging_run, said_by}
 use Rattle.lsp_replay.specs.Lines.{shown_line}
 use Rattle.lsp_judge.specs.JudgingRun.{verdict_of}
 use Rattle.lsp_judge.specs.ShownLog.{BeginsShown, IsShown, Showed}
@@ -76,7 +76,7 @@ pub record Gives (asked : JudgingAsked) (limits : Bounds) (log out : List ℕ) (
   where
     pub front : List Event
     pub ends : EndsBy asked.completeness limits log front v
-    pub is : out ≡ shown_from asked.lines [] front ++ due_for asked.name v
+    pub is : out ≡ shown_from asked.lines [] front ++ due_for asked.form v
 
 module _ (asked : JudgingAsked) where
   -- no event offends at which the run does not stop
@@ -116,25 +116,25 @@ module _ (asked : JudgingAsked) where
         → IsTold limits log format records (first ++ here ∷ later) tail
         → SaysAll (judging_run asked) terms tail.rests [] first front
         → no_of terms first here ≡ Some v
-        → Gives asked limits log (front ++ due_for asked.name v) v
+        → Gives asked limits log (front ++ due_for asked.form v) v
     gives_no first later here front v told said is = record {
       front = heard_events first;
       ends = told_no limits log format records tail first later here told
           (clean_after terms tail.rests [] first front said refl) v is asked.completeness;
-      is = ap (λ w. w ++ due_for asked.name v) (said_shown terms tail.rests [] first front said);
+      is = ap (λ w. w ++ due_for asked.form v) (said_shown terms tail.rests [] first front said);
     }
 
     -- or the log ends
     gives_end : (heard : List Heard) (front : List ℕ) → IsTold limits log format records heard tail
         → SaysAll (judging_run asked) terms tail.rests [] heard front
         → Gives asked limits log
-        (front ++ due_for asked.name (verdict_of asked.completeness terms heard tail))
+        (front ++ due_for asked.form (verdict_of asked.completeness terms heard tail))
         (verdict_of asked.completeness terms heard tail)
     gives_end heard front told said = record {
       front = heard_events heard;
       ends = told_end limits log format records tail heard told
           (clean_after terms tail.rests [] heard front said refl) asked.completeness;
-      is = ap (λ w. w ++ due_for asked.name (verdict_of asked.completeness terms heard tail))
+      is = ap (λ w. w ++ due_for asked.form (verdict_of asked.completeness terms heard tail))
           (said_shown terms tail.rests [] heard front said);
     }
 
@@ -146,7 +146,7 @@ module _ (asked : JudgingAsked) where
     goes_on first [] front told said =
         let v = verdict_of asked.completeness terms first tail in (
           v,
-          due_for asked.name v,
+          due_for asked.form v,
           gives_end first front (subst (λ (w : List Heard).
               IsTold limits log format records w tail) (append-nil first) told) said,
         )
@@ -162,7 +162,7 @@ module _ (asked : JudgingAsked) where
             × Gives asked limits log ((front ++ shown_line asked.lines first h) ++ rest) v)
             → (o : Option Verdict) → no_of terms first h ≡ o
             → (v : Verdict) × (rest : List ℕ) × Gives asked limits log (front ++ rest) v
-        by_no on (Some v) is = (v, due_for asked.name v, gives_no first later h front v told said is)
+        by_no on (Some v) is = (v, due_for asked.form v, gives_no first later h front v told said is)
         by_no on None is =
             let (v, rest, given) = on is in (
               v,
@@ -201,17 +201,17 @@ module _ (asked : JudgingAsked) where
 
 -- ---- `check`
 
-module _ (completeness : Completeness) (name : Option (List ℕ)) (limits : Bounds)
+module _ (completeness : Completeness) (form : Form) (limits : Bounds)
     (sizes : IsInRange limits) (io : Ports) where
   abbrev checks : JudgingAsked
-  checks = record { completeness = completeness; lines = None; name = name }
+  checks = record { completeness = completeness; lines = None; form = form }
 
   quiet : IsQuiet (judging_run checks)
   quiet terms rests before h said is goes =
       is ∙ ap (said_by checks before h) (no_none (no_of terms before h) goes)
 
   abbrev IsDue : List ℕ → Verdict → List ℕ → Type 0
-  IsDue log v out = IsVerdictBy completeness limits log v × (out ≡ due_for name v)
+  IsDue log v out = IsVerdictBy completeness limits log v × (out ≡ due_for form v)
 
   passed_due : (log out : List ℕ) (outcome : Outcome)
       → IsPassed (judging_run checks) limits log out outcome → IsDueOf (IsDue log) out outcome
@@ -234,7 +234,7 @@ module _ (completeness : Completeness) (name : Option (List ℕ)) (limits : Boun
   -- after a write fault a prefix of what is due for one verdict is written
   cut_short : (result : Result Outcome RunFault) → Passes (judging_run checks) limits
       io.source_before io.source_after io.sink_before io.sink_after result
-      → result ≡ Err faults.Write → IsCut completeness limits (due_for name) io
+      → result ≡ Err faults.Write → IsCut completeness limits (due_for form) io
   cut_short (Ok outcome) a e = absurd (cc e)
   cut_short (Err fault) p e =
       let same : fault ≡ faults.Write = cc e in
@@ -258,7 +258,7 @@ module _ (completeness : Completeness) (name : Option (List ℕ)) (limits : Boun
   -- **what `check` answers and writes**
   pub writes_verdict : (result : Result Outcome RunFault) → Passes (judging_run checks) limits
       io.source_before io.source_after io.sink_before io.sink_after result
-      → WritesVerdict completeness limits (due_for name) io result
+      → WritesVerdict completeness limits (due_for form) io result
   writes_verdict result passes =
       let j = judges result passes in
       record {
@@ -280,7 +280,7 @@ module _ (completeness : Completeness) (name : Option (List ℕ)) (limits : Boun
 
 module _ (lines : Lines) (limits : Bounds) (sizes : IsInRange limits) (io : Ports) where
   abbrev shows : JudgingAsked
-  shows = record { completeness = Ignored; lines = Some lines; name = None }
+  shows = record { completeness = Ignored; lines = Some lines; form = a_report }
 
   shown_of : (log out : List ℕ) (v : Verdict) → Gives shows limits log out v
       → IsShown lines limits log v out

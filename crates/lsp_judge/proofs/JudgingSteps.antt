@@ -60,13 +60,13 @@ module _ {terms : Terms} {before : List Heard} {h : Heard} {Fits : Rests → Typ
   pub offence_says : {Stands : Type 0} (rule : ℕ) (given : code.Verdict) (boxed : Boxed)
       → boxed.value ≡ Judged given → rule_of terms before h ≡ Some rule
       → verdict_view given ≡ no_by (heard_events before) h.note.event rule
-      → new ≡ old ++ due_for asked.name (verdict_view given)
+      → new ≡ old ++ due_for asked.form (verdict_view given)
       → Says (judging_run asked) terms before h Fits old new Stands (Stop boxed)
   offence_says rule given boxed in_box is named added =
       let some : no_of terms before h ≡ Some (verdict_view given) =
       ap (option_map (no_by (heard_events before) h.note.event)) is ∙ ap Some (sym named) in
       record {
-        said = due_for asked.name (verdict_view given);
+        said = due_for asked.form (verdict_view given);
         added = added;
         is = λ rests fits. ap (said_by asked before h) (sym some);
         goes = (ap is_some some, (verdict_view given, some, (given, in_box, refl)));
@@ -156,13 +156,13 @@ module _ (completeness : Completeness) (terms : Terms) (heard : List Heard) (m :
 
   pub verdict_closes : (asked : JudgingAsked) (old new : List ℕ)
       → completeness ≡ asked.completeness
-      → new ≡ old ++ due_for asked.name (verdict_view given)
+      → new ≡ old ++ due_for asked.form (verdict_view given)
       → Closes (judging_run asked) terms heard (IsEnd e end heard) old new (Judged given)
   verdict_closes asked old new wanted added = record {
-    said = due_for asked.name (verdict_view given);
+    said = due_for asked.form (verdict_view given);
     added = added;
     is = λ tail fits. (
-      ap (due_for asked.name) (same tail fits),
+      ap (due_for asked.form) (same tail fits),
       (given, refl, same tail fits),
     );
   } where

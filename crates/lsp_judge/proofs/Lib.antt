@@ -7,4 +7,5 @@ pub mod JudgingRuns
 pub mod TextRuns
 pub mod Finals
 pub mod JudgingSteps
+pub mod Quiet
 pub mod UpgradedLogs

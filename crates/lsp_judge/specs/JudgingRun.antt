@@ -2,6 +2,9 @@
 use Rattle.std.specs.Prelude.{◌≡◌, ◌||◌, ℕ, List, Option, Some, None, is_some}
 use Rattle.lsp_docs.specs.Documents.{Terms}
 use Rattle.lsp_judge.specs.Checked.{line_for}
+use Rattle.lsp_judge.specs.Objects.{object_for}
+use Rattle.lsp_judge.specs.declared.judging.Form as code
+use Rattle.lsp_judge.specs.declared.judging.Form.TheVariants as forms
 use Rattle.lsp_replay.specs.Lines.{shown_line}
 use Rattle.lsp_replay.specs.Run.{IsJudged, Run, Tail}
 use Rattle.lsp_replay.specs.Telling.{no_of}
@@ -15,24 +18,37 @@ use Rattle.lsp_verdict.specs.declared.completeness.Completeness.{Completeness}
 use Rattle.lsp_verdict.specs.declared.completeness.Completeness.TheVariants.{Ignored, Required}
 use Rattle.lsp_verdict.specs.declared.lines.Lines.{Lines}
 
+-- what is said for a verdict: its report; or for one of several logs a line with its name, or an
+-- object with it
+pub data Form : Type 0 where
+  a_report : Form
+  a_line : List ℕ → Form
+  an_object : List ℕ → Form
+
+abbrev pub form_view : code.Form → Form
+form_view forms.Report = a_report
+form_view (forms.Line name) = a_line name.now
+form_view (forms.Object file) = an_object file.now
+
 -- what is asked: whether the session must be complete; by which lines the events before the
--- verdict's place are shown, or by none; and the name of one of several logs, or none
+-- verdict's place are shown, or by none; and what is said for the verdict
 pub record JudgingAsked : Type 0 where
   pub completeness : Completeness
   pub lines : Option Lines
-  pub name : Option (List ℕ)
+  pub form : Form
 
--- what is due for a verdict: its report, or for one of several logs a line
-abbrev pub due_for : Option (List ℕ) → Verdict → List ℕ
-due_for None = report
-due_for (Some name) = line_for name
+-- what is due for a verdict
+abbrev pub due_for : Form → Verdict → List ℕ
+due_for a_report = report
+due_for (a_line name) = line_for name
+due_for (an_object file) = object_for file
 
 -- ---- an event
 
 -- what is due for this No, else its line
 abbrev pub said_by : JudgingAsked → List Heard → Heard → Option Verdict → List ℕ
 said_by asked before h None = shown_line asked.lines before h
-said_by asked before h (Some v) = due_for asked.name v
+said_by asked before h (Some v) = due_for asked.form v
 
 -- ---- the end
 
@@ -58,6 +74,16 @@ judging_run asked = record {
   ends = λ terms before h outcome.
       (v : Verdict) × (no_of terms before h ≡ Some v) × IsJudged v outcome;
   closes = λ terms heard tail out outcome.
-      (out ≡ due_for asked.name (verdict_of asked.completeness terms heard tail))
+      (out ≡ due_for asked.form (verdict_of asked.completeness terms heard tail))
       × IsJudged (verdict_of asked.completeness terms heard tail) outcome;
 }
+
+-- that of `check`, whether or not the session must be complete
+abbrev pub check_run : Completeness → Run
+check_run completeness =
+    judging_run (record { completeness = completeness; lines = None; form = a_report })
+
+-- that of `show`, with these lines
+abbrev pub show_run : Lines → Run
+show_run lines =
+    judging_run (record { completeness = Ignored; lines = Some lines; form = a_report })

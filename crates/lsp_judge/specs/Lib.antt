@@ -1,6 +1,7 @@
 pub mod Answered
 pub mod Checked
 pub mod JudgingRun
+pub mod Objects
 pub mod TextRun
 pub mod Judging
 pub mod Standing

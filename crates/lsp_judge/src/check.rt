@@ -2,7 +2,7 @@
 ghost use Rattle.lsp_judge.specs.Checked.{Checked};
 ghost use Rattle.lsp_verdict.specs.Runs.{ports};
 
-use crate::judging::Judging;
+use crate::judging::{Form, Judging};
 use lsp_frame::{Limits, Sink, Source};
 use lsp_replay::pass;
 use lsp_verdict::{Completeness, Outcome, RunFault};
@@ -61,7 +61,7 @@ fn check<R: Source, W: Sink>(
     let mut account = Judging {
         completeness,
         lines: None,
-        name: None,
+        form: Form::Report,
     };
     pass(alloc, reader, writer, limits, &mut account)
 }

@@ -4,7 +4,7 @@ ghost use Rattle.lsp_judge.specs.Checked.{CheckedLine, compared_nothing, first_l
 ghost use Rattle.lsp_verdict.specs.Given.{verdict_view};
 ghost use Rattle.lsp_verdict.specs.Runs.{ports};
 
-use crate::judging::Judging;
+use crate::judging::{Form, Judging};
 use lsp_frame::{Limits, Sink, Source};
 use lsp_replay::pass;
 use lsp_rpc::Result;
@@ -33,13 +33,13 @@ pub fn run_check_line<R: Source, W: Sink>(
     let mut account = Judging {
         completeness,
         lines: None,
-        name: Some(name),
+        form: Form::Line(name),
     };
     pass(alloc, reader, writer, limits, &mut account)
 }
 
 /// What stands before the first LF.
-fn first_line(text: &str) -> &str
+pub(crate) fn first_line(text: &str) -> &str
     ensures { result.now ≡ first_line text.now }
 {
     match text.split_once('\n') {

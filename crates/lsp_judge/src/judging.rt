@@ -1,16 +1,28 @@
 //! What is said of a log up to its verdict, and for that.
-ghost use Rattle.std.specs.Prelude.{◌≡◌, ◌++◌, None, OnOk, option_map, string_bytes};
-ghost use Rattle.lsp_judge.specs.JudgingRun.{JudgingAsked, due_for, judging_run};
+ghost use Rattle.std.specs.Prelude.{◌≡◌, ◌++◌, None, OnOk, string_bytes};
+ghost use Rattle.lsp_judge.specs.JudgingRun.{JudgingAsked, due_for, form_view, judging_run};
 ghost use Rattle.lsp_verdict.specs.Given.{verdict_view};
 ghost use Rattle.lsp_verdict.specs.Heard.{heard_events};
 ghost use Rattle.lsp_verdict.specs.Verdict.{first_no};
 
 use crate::check_line::{line_remark, push_line};
+use crate::check_object::push_object;
 use crate::ending::verdict_at;
 use lsp_replay::{Account, End, Events, Fate, Flow, LogEvents, Seen, last_offence, push_kept_line};
 use lsp_rpc::Result;
 use lsp_text::Lined;
 use lsp_verdict::{Completeness, Lines, Outcome, Verdict, verdict_report};
+
+/// What is said for a verdict.
+#[derive(Clone, Copy)]
+pub(crate) enum Form<'a> {
+    /// The report of the verdict.
+    Report,
+    /// For one of several logs a line, with its name.
+    Line(&'a str),
+    /// For one of several logs the object of that line, with the name of its file.
+    Object(&'a str),
+}
 
 /// Says the verdict on a log, at the first event that offends or at the end. It shows the events
 /// before that by lines of a kind, or by none.
@@ -19,20 +31,20 @@ pub(crate) struct Judging<'a> {
     /// Whether the session must be complete.
     pub(crate) completeness: Completeness,
     pub(crate) lines: Option<Lines>,
-    /// The name of one of several logs, for whose verdict there is one line behind it.
-    pub(crate) name: Option<&'a str>,
+    pub(crate) form: Form<'a>,
 }
 
 impl Judging<'_> {
     /// Adds what is due for a verdict.
     fn say(&self, verdict: &Verdict, text: &mut String) -> Result<()>
         ensures { OnOk result (string_bytes text.new ≡ string_bytes text.old
-            ++ due_for (option_map (λ name. name.now) self.now.name) (verdict_view verdict.now)) }
+            ++ due_for (form_view self.now.form) (verdict_view verdict.now)) }
     {
         let report = verdict_report(*text.allocator(), verdict)?;
-        match self.name {
-            Some(name) => push_line(text, name, report.as_str(), line_remark(verdict)),
-            None => Ok(text.push_str(report.as_str())?),
+        match self.form {
+            Form::Report => Ok(text.push_str(report.as_str())?),
+            Form::Line(name) => push_line(text, name, report.as_str(), line_remark(verdict)),
+            Form::Object(file) => push_object(text, file, report.as_str(), line_remark(verdict)),
         }
     }
 }
@@ -43,7 +55,7 @@ impl Account for Judging<'_> {
     ghost asked = { λ account. record {
       completeness = account.completeness;
       lines = account.lines;
-      name = option_map (λ name. name.now) account.name;
+      form = form_view account.form;
     } };
 
     ghost run = { judging_run };

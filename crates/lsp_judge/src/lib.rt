@@ -3,7 +3,8 @@
 //! `run_check` reads a log and writes the report of the verdict on it. `run_check_complete` does so
 //! for a session that must be complete, `run_check_line` writes no more than the first line of it,
 //! after a name, and `run_show` first writes a line for each event before the verdict. `run_text`
-//! writes the text that is held after a message. Each is an account (`Judging`, and `HeldText` of
+//! writes the text that is held after a message. `run_check_json`, `run_check_object` and
+//! `run_show_json` write the same as JSON. Each is an account (`Judging`, and `HeldText` of
 //! `lsp_replay`) over the one `pass` of `lsp_replay`. `run_upgrade` writes a log again in format 2,
 //! up to its verdict. `Judge` takes the records of a log one by one, and `report_of` prints a
 //! verdict.
@@ -13,8 +14,10 @@
 //! `lsp_extract`, whose runs judge nothing.
 #![tactic(auto)]
 
+mod as_json;
 mod check;
 mod check_line;
+mod check_object;
 mod contents;
 mod ending;
 mod judge;
@@ -25,8 +28,10 @@ mod show_laws;
 mod text;
 mod upgrade;
 
+pub use as_json::{run_check_json, run_show_json};
 pub use check::{run_check, run_check_complete};
 pub use check_line::{compared_nothing, run_check_line};
+pub use check_object::run_check_object;
 pub use judge::Judge;
 pub use lsp_extract::{
     EventOutcome, event_is_numbered, normal_form_keeps_events, normal_form_keeps_verdict,

@@ -2,7 +2,7 @@
 ghost use Rattle.lsp_judge.specs.ShownLog.{Showed};
 ghost use Rattle.lsp_verdict.specs.Runs.{ports};
 
-use crate::judging::Judging;
+use crate::judging::{Form, Judging};
 use lsp_frame::{Limits, Sink, Source};
 use lsp_replay::pass;
 use lsp_verdict::{Completeness, Lines, Outcome, RunFault};
@@ -60,7 +60,7 @@ fn show<R: Source, W: Sink>(
     let mut account = Judging {
         completeness: Completeness::Ignored,
         lines: Some(lines),
-        name: None,
+        form: Form::Report,
     };
     pass(alloc, reader, writer, limits, &mut account)
 }

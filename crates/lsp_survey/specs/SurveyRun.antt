@@ -15,6 +15,11 @@ use Rattle.lsp_verdict.specs.Heard.{Heard, heard_events, notes_of}
 use Rattle.lsp_verdict.specs.Offences.{Offence, offence_at, offences}
 use Rattle.lsp_verdict.specs.Survey.{by_itself}
 use Rattle.lsp_verdict.specs.Verdict.{Verdict, bad_log_of, summary}
+use Rattle.lsp_verdict.specs.declared.completeness.Completeness.{Completeness}
+use Rattle.lsp_verdict.specs.declared.completeness.Completeness.TheVariants.{Ignored}
+use Rattle.lsp_verdict.specs.declared.lines.Lines.{Lines}
+use Rattle.lsp_verdict.specs.declared.listing.Listing.{Listing}
+use Rattle.lsp_verdict.specs.declared.listing.Listing.TheVariants.{Every}
 
 -- what is asked of it
 abbrev pub SurveyAsked : Type 0
@@ -54,6 +59,16 @@ survey_run options = record {
       × IsJudged (all_verdict terms heard tail.fault
       (ends_of options.completeness terms heard tail)) outcome;
 }
+
+-- that of `check --all` and `check --every`
+abbrev pub report_run : Completeness → Listing → Run
+report_run completeness listing =
+    survey_run (record { completeness = completeness; listing = listing; lines = None })
+
+-- that of `show --all`, with these lines
+abbrev pub show_all_run : Lines → Run
+show_all_run lines =
+    survey_run (record { completeness = Ignored; listing = Every; lines = Some lines })
 
 -- **the account stands for these events**
 pub record SurveyStands (s : Survey) (terms : Terms) (heard : List Heard) : Type 0 where

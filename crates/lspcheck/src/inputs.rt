@@ -1,5 +1,5 @@
-//! What is asked is done on each input in turn. Of several, each has one line, and the status is
-//! the worst of theirs.
+//! What is asked is done on each input in turn. Of several, each has one line or object, and the
+//! status is the worst of theirs.
 use crate::shown_name::ShownName;
 use crate::wrong_words::show_slip;
 use crate::{
@@ -9,6 +9,7 @@ use crate::{
 use lsp_command::{
     Request, Slip, file_of, lacks_comparison, status_of_request, uri_alone, worse_of,
 };
+use lsp_json::push_file_json;
 use lsp_judge::RunFault;
 use std::alloc::Global;
 use std::io;
@@ -42,8 +43,46 @@ fn after_line(ended: Ended, written: io::Result<()>) -> Ended {
     }
 }
 
-/// Judges one input of several, and writes its line with this name. Where there is no verdict, the
-/// line says why, so that each input has one.
+/// The object of an input that could not be judged, where there was memory for it.
+fn fault_object(alloc: Global, file: &str, fault: RunFault) -> Option<String> {
+    let line = format!(in alloc; "{fault}\n").ok()?;
+    let mut object = String::new(alloc);
+    push_file_json(&mut object, file, line.as_str()).ok()?;
+    Some(object)
+}
+
+/// Writes the line or the object of an input that could not be judged.
+fn show_unjudged<R: Print + AllocGlobal>(
+    rt: &R,
+    request: &Request<'_>,
+    input: &str,
+    shown: &ShownName<'_>,
+    fault: RunFault,
+) -> io::Result<()> {
+    if !request.json {
+        return println!(rt; "{shown}: {fault}");
+    }
+    match fault_object(rt.alloc(), input, fault) {
+        Some(object) => rt.print(object.as_str()),
+        None => println!(rt; "{{\"is\":\"{fault}\"}}"),
+    }
+}
+
+/// What the line of one input of several calls it. An object has the name as it is given.
+fn line_name<'a>(
+    request: &Request<'_>,
+    input: &'a str,
+    shown: &'a ShownName<'_>,
+) -> Option<&'a str> {
+    if request.json {
+        Some(input)
+    } else {
+        shown.as_str()
+    }
+}
+
+/// Judges one input of several, and writes its line or its object. Where there is no verdict, that
+/// says why, so that each input has one.
 fn run_line<R: Clock + Files + io::Input + Print + Eprint + AllocGlobal>(
     rt: &R,
     request: &Request<'_>,
@@ -51,15 +90,18 @@ fn run_line<R: Clock + Files + io::Input + Print + Eprint + AllocGlobal>(
     shown: &ShownName<'_>,
     terminals: Terminals,
 ) -> Ended {
-    let ended = match shown.as_str() {
-        Some(name) => run(rt, request, request.task.for_line(name), input, terminals),
+    let ended = match line_name(request, input, shown) {
+        Some(name) => {
+            let task = request.task.for_line(name).in_form(request.json);
+            run(rt, request, task, input, terminals)
+        }
         None => Ended::by(RunFault::Memory),
     };
     let fault = match ended.answer {
         Ok(_) | Err(RunFault::Write) => return ended,
         Err(fault) => fault,
     };
-    after_line(ended, println!(rt; "{shown}: {fault}"))
+    after_line(ended, show_unjudged(rt, request, input, shown, fault))
 }
 
 /// Does what is asked on one input.
@@ -73,7 +115,10 @@ fn run_one<R: Clock + Files + io::Input + Print + Eprint + AllocGlobal>(
     let has_line = request.is_several();
     match shown {
         Some(shown) if has_line => run_line(rt, request, input, shown, terminals),
-        _ => run(rt, request, request.task, input, terminals),
+        _ => {
+            let task = request.task.in_form(request.json);
+            run(rt, request, task, input, terminals)
+        }
     }
 }
 

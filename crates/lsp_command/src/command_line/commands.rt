@@ -4,7 +4,7 @@ ghost use Rattle.clap.specs.Words.{AddsSubcommand, app_of, shape_of};
 ghost use Rattle.lsp_command.specs.CommandLine.{AreModes, IsArg, IsCommandLine, Modes, check};
 ghost use Rattle.lsp_command.specs.CommandLine.{check_options, event, text_options};
 ghost use Rattle.lsp_command.specs.CommandLine.{explain, file, files, flag, frames, mode, normal};
-ghost use Rattle.lsp_command.specs.CommandLine.{explain_options, ignore_line_ends};
+ghost use Rattle.lsp_command.specs.CommandLine.{explain_options, ignore_line_ends, json};
 ghost use Rattle.lsp_command.specs.CommandLine.{number, program, quiet, show, text, upgrade, uri};
 
 use clap::{Arg, ArgAction, Command, value_parser};
@@ -23,6 +23,7 @@ Examples:
   lspcheck check --all session.log           every independent violation
   lspcheck explain session.log               why the verdict is no
   lspcheck explain --all session.log         the same for every independent violation
+  lspcheck explain --json session.log        the same as JSON, an object for each line
   lspcheck show session.log | tail           the last events before the verdict
   lspcheck text 12 file:///a.c session.log   what the server should hold after message 12
   lspcheck event 8 session.log               the content of event 8
@@ -81,6 +82,13 @@ fn quiet<'a>(alloc: Global) -> Arg<'a>
     ensures { IsArg quiet result }
 {
     flag(alloc, "quiet", "Shows no progress on a terminal")
+}
+
+/// The option under which JSON is written.
+fn json<'a>(alloc: Global) -> Arg<'a>
+    ensures { IsArg json result }
+{
+    flag(alloc, "json", "Writes each line as a JSON object")
 }
 
 /// The option under which line ends do not count.
@@ -160,6 +168,7 @@ fn check<'a>(alloc: Global) -> Result<Command<'a>, AllocError>
 {
     check_options(alloc)?
         .arg(ignore_line_ends(alloc))?
+        .arg(json(alloc))?
         .arg(quiet(alloc))?
         .arg(log_files(alloc))
 }
@@ -197,6 +206,7 @@ fn explain<'a>(alloc: Global) -> Result<Command<'a>, AllocError>
             "in-editor",
             "Writes only the editor's own text, saved or of a snapshot (608, 702)",
         ))?
+        .arg(json(alloc))?
         .arg(quiet(alloc))?
         .arg(log_file(alloc))
 }
@@ -216,6 +226,7 @@ fn show<'a>(alloc: Global) -> Result<Command<'a>, AllocError>
             "long",
             "Adds each side's own numbers, and the URI and version of documents",
         ))?
+        .arg(json(alloc))?
         .arg(quiet(alloc))?
         .arg(log_file(alloc))
 }

@@ -2,7 +2,7 @@
 ghost use Rattle.std.specs.Prelude.{◌≡◌, IfOk, option_map, string_bytes};
 ghost use Rattle.std.specs.List.{list_any};
 ghost use Rattle.std.specs.Str.{chars};
-ghost use Rattle.lsp_command.specs.Several.{conflict_of, is_listing, quoted_name};
+ghost use Rattle.lsp_command.specs.Several.{conflict_of, is_listing, is_text, quoted_name};
 ghost use Rattle.lsp_command.specs.ShownText as shown;
 
 use crate::command_line::task::{Request, Task};
@@ -20,6 +20,8 @@ pub enum Conflict {
     InputTwice,
     /// Both of the texts that differ, since one is written.
     BothTexts,
+    /// One of them as JSON, since it is written as it is.
+    JsonText,
 }
 
 impl fmt::Display for Conflict {
@@ -33,6 +35,7 @@ impl fmt::Display for Conflict {
             Conflict::ListOfSeveral => "--all and --every list the violations of one FILE",
             Conflict::InputTwice => "standard input ('-') can be read only once",
             Conflict::BothTexts => "the argument '--by-messages' cannot be used with '--in-editor'",
+            Conflict::JsonText => "--json cannot be used with --by-messages or --in-editor",
         })
     }
 }
@@ -42,6 +45,13 @@ fn is_listing(task: Task<'_>) -> bool
     ensures { result ≡ is_listing task.entry }
 {
     matches!(task, Task::Survey(..))
+}
+
+/// Whether the task is to write one of two texts.
+fn is_text(task: Task<'_>) -> bool
+    ensures { result ≡ is_text task.entry }
+{
+    matches!(task, Task::Compared(_))
 }
 
 /// What the request asks that cannot be done.
@@ -56,6 +66,9 @@ pub fn conflict_of(request: &Request<'_>) -> Option<Conflict>
     }
     if request.both_texts {
         return Some(Conflict::BothTexts);
+    }
+    if request.json && is_text(request.task) {
+        return Some(Conflict::JsonText);
     }
     None
 }

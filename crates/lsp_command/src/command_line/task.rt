@@ -1,6 +1,6 @@
 //! What a command line can ask for.
 ghost use Rattle.std.specs.Prelude.{◌≡◌};
-ghost use Rattle.lsp_command.specs.Several.{is_several, line_task, standard_inputs};
+ghost use Rattle.lsp_command.specs.Several.{in_form, is_several, line_task, standard_inputs};
 ghost use Rattle.lsp_command.specs.Words.{limits_by};
 
 use lsp_explain::ComparedText;
@@ -53,6 +53,24 @@ pub enum Task<'a> {
     Upgrade,
     /// To read one raw stream of frames.
     Frames(Mode),
+    /// To write as JSON what another task writes: an object for each line.
+    Json(Report<'a>),
+}
+
+/// What can be written as JSON: what the task of the same name writes.
+#[derive(Clone, Copy, Debug)]
+pub enum Report<'a> {
+    Check(Completeness),
+    /// The line of one of several recorded sessions, with the name of this file.
+    CheckLine {
+        completeness: Completeness,
+        file: &'a str,
+    },
+    Survey(Completeness, Listing),
+    Explain(Completeness),
+    ExplainAll(Completeness),
+    Show(Lines),
+    ShowAll(Lines),
 }
 
 /// What the words of a command line ask for.
@@ -69,6 +87,8 @@ pub struct Request<'a> {
     pub both_texts: bool,
     /// Whether the texts of snapshots and saves are compared with their line ends.
     pub line_ends: LineEnds,
+    /// Whether what the task writes is to be JSON.
+    pub json: bool,
 }
 
 impl<'a> Request<'a> {
@@ -104,6 +124,30 @@ impl<'a> Task<'a> {
     {
         match self {
             Task::Check(completeness) => Task::CheckLine { completeness, name },
+            task => task,
+        }
+    }
+
+    /// The task that writes JSON, where that is asked for and there is one.
+    pub fn in_form(self, json: bool) -> Task<'a>
+        ensures { result ≡ in_form json self.entry }
+    {
+        if !json {
+            return self;
+        }
+        match self {
+            Task::Check(completeness) => Task::Json(Report::Check(completeness)),
+            Task::CheckLine { completeness, name } => Task::Json(Report::CheckLine {
+                completeness,
+                file: name,
+            }),
+            Task::Survey(completeness, listing) => {
+                Task::Json(Report::Survey(completeness, listing))
+            }
+            Task::Explain(completeness) => Task::Json(Report::Explain(completeness)),
+            Task::ExplainAll(completeness) => Task::Json(Report::ExplainAll(completeness)),
+            Task::Show(lines) => Task::Json(Report::Show(lines)),
+            Task::ShowAll(lines) => Task::Json(Report::ShowAll(lines)),
             task => task,
         }
     }

@@ -265,6 +265,7 @@ fn request_in<'a>(
     let compared = is_set(arguments, "compared");
     let both_texts = asks_both(arguments);
     let ignored = is_set(arguments, "ignore-line-ends");
+    let json = is_set(arguments, "json");
     Ok(Some(Request {
         task,
         inputs,
@@ -272,6 +273,7 @@ fn request_in<'a>(
         compared,
         both_texts,
         line_ends: line_ends_of(ignored),
+        json,
     }))
 }
 

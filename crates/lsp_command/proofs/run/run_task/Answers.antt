@@ -1,4 +1,4 @@
-use Rattle.lsp_command.proofs.Endings.{event_ended, run_ended}
+use Rattle.lsp_command.proofs.Endings.{event_ended, report_ended, run_ended}
 use Rattle.lsp_command.proofs.run.run_task.Goals as goal
 
 pub returns-in-Check-Ignored : goal.returns-in-Check-Ignored
@@ -102,3 +102,9 @@ returns-in-Frames g c =
     let is = c.run_frames.ensures.framed in
     let of = c.of_run-in-Frames.ensures in
     rw c.in-Frames.is (record { ran = run_ended _ _ _ _ _ of is.counts (_, of, is) })
+
+pub returns-in-Json : goal.returns-in-Json
+returns-in-Json g c =
+    let is = c.run_json.ensures.json in
+    let of = c.of_run-in-Json.ensures in
+    rw c.in-Json.is (record { ran = report_ended _ _ _ _ _ _ of is (_, of, is) })

@@ -1,4 +1,4 @@
-use Rattle.std.proofs.Common.{None}
+use Rattle.lsp_judge.specs.JudgingRun.{a_report}
 use Rattle.lsp_judge.proofs.Checking.{checked}
 use Rattle.lsp_judge.proofs.JudgingRuns.{writes_verdict}
 use Rattle.lsp_judge.proofs.check.check.Goals as goal
@@ -6,6 +6,6 @@ use Rattle.lsp_judge.proofs.check.check.Goals as goal
 pub returns : goal.returns
 returns g c = record {
   checked = checked c.args.completeness c.args.limits _ _ c.pass.ensures.range
-      (writes_verdict c.args.completeness None c.args.limits c.pass.ensures.range _ _
+      (writes_verdict c.args.completeness a_report c.args.limits c.pass.ensures.range _ _
       c.pass.ensures.passes);
 }

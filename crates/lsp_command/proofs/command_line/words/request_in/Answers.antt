@@ -18,6 +18,7 @@ returns c =
       compared = c.is_set-compared.result;
       both_texts = c.asks_both-both_texts.result;
       line_ends = c.line_ends_of.result;
+      json = c.is_set-json.result;
     } in
     let asked : AsksFor (Some (name, rows_in arguments)) request = record {
       task = c.in-Some-task_of.ensures;
@@ -26,5 +27,6 @@ returns c =
       compared = c.is_set-compared.ensures;
       both_texts = c.asks_both-both_texts.ensures;
       line_ends = (c.is_set-ignored.result, c.is_set-ignored.ensures, c.line_ends_of.ensures);
+      json = c.is_set-json.ensures;
     } in
     subst (λ (o : Option (Text × List Row)). AsksFor o request) (sym found) asked

@@ -1,0 +1,14 @@
+use Rattle.std.proofs.Common.{refl}
+use Rattle.lsp_explain.proofs.run.FirstOffence.new.Goals as goal
+
+pub returns : goal.returns
+returns c = record {
+  completeness = refl;
+  stands = λ terms. record {
+    trail = c.new.ensures terms;
+    misfits = c.new-2.ensures;
+    refusals = c.new-3.ensures terms;
+    spellings = c.new-4.ensures terms;
+    clean = refl;
+  };
+}

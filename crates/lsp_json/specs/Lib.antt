@@ -1,0 +1,5 @@
+pub mod Fields
+pub mod Lines
+pub mod Members
+pub mod Rows
+pub mod Words
