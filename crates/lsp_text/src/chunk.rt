@@ -208,7 +208,10 @@ fn replace_shared<T: SharedPart>(
 }
 
 /// Puts parts in chunks.
-pub(crate) fn chunks_of<T: SharedPart>(alloc: Global, parts: &[T]) -> Result<Vec<Chunk<T>>, AllocError>
+pub(crate) fn chunks_of<T: SharedPart>(
+    alloc: Global,
+    parts: &[T],
+) -> Result<Vec<Chunk<T>>, AllocError>
     requires { AreKept (map T.text parts.now) }
     ensures { IfOk result (λ chunks. MakeUp chunks.items (joined (map T.text parts.now))) }
 {
