@@ -22,6 +22,8 @@ pub mod Basing
 pub mod BasingShown
 pub mod BasesHeld
 pub mod Fitting
+pub mod ToldFacts
+pub mod Rearranging
 pub mod Trails
 pub mod Ending
 pub mod Comparing

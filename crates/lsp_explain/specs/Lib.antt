@@ -9,6 +9,8 @@ pub mod Conversations
 pub mod SentEdits
 pub mod Bases
 pub mod Fits
+pub mod Rearranged
+pub mod Told
 pub mod Traced
 pub mod Trails
 pub mod Compared
