@@ -27,6 +27,8 @@ pub mod BasesHeld
 pub mod Fitting
 pub mod MadeVersions
 pub mod AsciiLines
+pub mod ToldFacts
+pub mod Rearranging
 pub mod Trails
 pub mod Ending
 pub mod Comparing
