@@ -6,7 +6,7 @@ pub(crate) type Row = (&'static str, &'static str);
 
 /// The rows of the lines of a report: of a verdict, of a log that was not judged, of details, of
 /// notes, and of events.
-pub(crate) const ROWS: [Row; 100] = [
+pub(crate) const ROWS: [Row; 107] = [
     ("yes", "yes"),
     ("yes", "yes remark=nothing-compared"),
     ("read fault", "read fault"),
@@ -68,6 +68,8 @@ pub(crate) const ROWS: [Row; 100] = [
     ("uri", "uri uri=*"),
     ("held", "held version=* @"),
     ("sent", "sent version=*"),
+    ("same", "same @"),
+    ("precedes", "precedes version=* @"),
     ("version", "version version=*"),
     ("sync", "sync kind=*"),
     ("at", "at line=* column=*"),
@@ -80,8 +82,12 @@ pub(crate) const ROWS: [Row; 100] = [
     ("snapshot", "snapshot @"),
     ("equal", "equal version=* @"),
     ("suspect", "suspect version=* @"),
+    ("at-once", "at-once version=* @"),
+    ("exchanged", "exchanged version=* @"),
+    ("without", "without version=* @"),
     ("closed", "closed @"),
     ("opened", "opened never"),
+    ("saved-as", "saved-as @"),
     ("similar", "similar uri=* @"),
     ("id", "id id=*"),
     ("asked", "asked @"),
@@ -116,6 +122,7 @@ pub(crate) const ROWS: [Row; 100] = [
     ),
     ("note", "note note=range-length sent=* length length=* @"),
     ("note", "note note=refused code=* uri=* @"),
+    ("note", "note note=similar uri=* open=* @"),
     ("request", "event=* side=* request id=* method=*"),
     ("request", "event=* side=* request id=* method=* number=*"),
     ("notification", "event=* side=* notification method=*"),

@@ -10,7 +10,8 @@
 //! again from the one before the edit to the one after it, so that a CR and a LF that it joins are
 //! in one block.
 //!
-//! A text of at most 2 KB is one block, with no chunks, until an edit finds no room in it.
+//! A text of at most 2 KB is one block, with no chunks, until an edit finds no room in it. A text
+//! whose blocks have room in one chunk is that chunk. A longer one is chunks in larger chunks.
 //!
 //! Editors mostly make one edit near another. From the second of these on, they are made in a
 //! *window*: a short block apart from the chunks, which replaces some of their bytes. The chunks
@@ -25,9 +26,7 @@
 //! ```text
 //!   Lines           2 ends, 4995 bytes, and no window
 //!     |
-//!   large chunk     the sums of its chunks: 8 at first, at most 16
-//!     |
-//!   chunk           the sums of its blocks: as many
+//!   chunk           the sums of its blocks: 8 at first, at most 16
 //!     |-- block   "a" CR LF "xx..x"   1 end, up to place 3        line 0, and where line 1 begins
 //!     |-- block   "xx..x"             no end                      all of it in line 1
 //!     `-- block   "xx..x" LF "b"      1 end                       where line 1 ends, and line 2
