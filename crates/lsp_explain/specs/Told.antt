@@ -35,7 +35,8 @@ setters_until limit done = done ++ own_setter limit
 
 -- ---- what they give
 
--- which of the messages would have to be taken otherwise for them to make the other text of this one
+-- which of the messages would have to be taken otherwise for them to make the other text of this
+-- one
 abbrev pub taken_otherwise : Terms → Encoding → Text → List VersionEvent → List SentEdits → Text
     → List Fact
 taken_otherwise terms enc t setters sent other =
