@@ -206,7 +206,8 @@ saved_before = refl
 -- ---- a version that does not rise
 
 abbrev PUT : List ℕ → List ℕ → Event
-PUT version text = CHG version (REP (codes "0") (codes "0") (codes "0") (codes "1") text)
+PUT version letters =
+    CHG version (REP (codes "0") (codes "0") (codes "0") (codes "1") letters)
 
 sent_twice : with_events 603
     (START ++ OPEN (codes "1") (codes "ab") ∷ PUT (codes "2") (codes "x") ∷ [])
