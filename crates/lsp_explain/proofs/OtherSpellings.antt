@@ -307,7 +307,7 @@ module _ (terms : Terms) (before : List Heard) (h : Heard) (old : Spellings)
       → AreSpellings terms new (heard_events (before ++ h ∷ []))
   called_none same none =
       let p = place_of earlier h.note.event in
-      subst (AreSpellings terms new) (sym (earlier-push before h))
+      subst (AreSpellings terms new) (sym (events-push before h))
       (spellings_more terms earlier h.note.event kept_here old new None are
       (none_by p h.note.event says none) (ap (λ v. notes_view v.items) same))
 
@@ -332,7 +332,7 @@ module _ (terms : Terms) (before : List Heard) (h : Heard) (old : Spellings)
       ≡ with_note (notes_view old.named.items) (spelling_note terms earlier p uri)
       → AreSpellings terms new (heard_events (before ++ h ∷ []))
   called_one p uri at one noted =
-      subst (AreSpellings terms new) (sym (earlier-push before h))
+      subst (AreSpellings terms new) (sym (events-push before h))
       (spellings_more terms earlier h.note.event kept_here old new
       (spelling_note terms earlier p uri) are
       (ap (λ (q : EventPlace). option_and_then (spelling_by terms earlier q)
