@@ -223,6 +223,14 @@ unfolding value punctuate lex content word after_number number_of scan_numeral c
     escape_byte
 of_another_text = refl
 
+-- another change came after it
+not_the_last : with_events 603
+    (START ++ OPEN (codes "1") (codes "ab") ∷ PUT (codes "2") (codes "x") ∷ PUT (codes "3")
+    (codes "x") ∷ []) (PUT (codes "2") (codes "x")) ≡ []
+unfolding value punctuate lex content word after_number number_of scan_numeral chars digits
+    escape_byte
+not_the_last = refl
+
 exchanged : with_events 603
     (START ++ OPEN (codes "1") (codes "ab") ∷ PUT (codes "3") (codes "x") ∷ PUT (codes "4")
     (codes "y") ∷ []) (PUT (codes "2") (codes "x")) ≡ codes "precedes 3 event 5 editor 4\n"
