@@ -43,15 +43,14 @@ class Contents:
         self.counts = []
 
     def put(self, content):
-        self.block.append(json_of(content))
-        self.size += len(self.block[-1])
+        self.block.append(content)
+        self.size += len(content or "")
         if self.size >= BLOCK:
             self.end_block()
 
     def end_block(self):
         if self.block:
-            pieces = (b"[", b",".join(self.block), b"]")
-            write_block(self.file, f"contents-{len(self.counts)}", pieces)
+            write_block(self.file, f"contents-{len(self.counts)}", [json_of(self.block)])
             self.counts.append(len(self.block))
             self.block, self.size = [], 0
 
