@@ -5,7 +5,7 @@ import bisect
 import re
 
 from listing import EDITOR, SNAPSHOT, Listing
-from session import key_of, read_session
+from session import key_of
 
 MOST_EVENTS, MOST_BYTES = 20_000, 50_000_000
 # The first events of a session, which agree on the encoding and open documents, are always shown.
@@ -196,6 +196,12 @@ def said_about(choice, events, shown):
     return said
 
 
+def is_short(runs, listed, given):
+    """Whether the page surely shows a whole log: lspcheck writes at least a line for each event."""
+    is_small = runs.log.size <= given.most_bytes and listed.count() <= given.most_events
+    return is_small and not given.small
+
+
 def choice_of(runs, listed, listing, given):
     """Which events are shown, as the command line says."""
     if given.small:
@@ -205,21 +211,16 @@ def choice_of(runs, listed, listing, given):
     return Around(listing, runs.log.size, given.most_events, given.most_bytes)
 
 
-def session_of(runs, listed, listing, given, put):
-    """The session that the page shows, the format of the log, and what is left out, if anything."""
-    log = runs.log
-    choice = choice_of(runs, listed, listing, given)
-    shown = Listing(listed.objects())
-    session, log_format = read_session(log, shown, choice, put, runs.progress)
+def left_out(runs, listing, choice, session, given):
+    """What is left out, if anything."""
     if isinstance(choice, Everything):
-        return session, log_format, None
+        return None
     first = listing.violations[0].event if listing.violations else 0
-    left = {
+    return {
         "gaps": choice.gaps(),
         "checkpoints": [] if given.small else checkpoints_of(runs, choice, session, first),
         "said": said_about(choice, listing.events, len(session.rows)),
     }
-    return session, log_format, left
 
 
 def around_difference(texts):

@@ -12,7 +12,7 @@ from files import MARK
 from listing import KINDS, Listing, explained
 from program import Failed
 from report_lines import Report
-from session import MOST_EXPLAINED
+from session import MOST_EXPLAINED, read_session
 
 HERE = Path(__file__).resolve().parent
 # In the order in which they are run. Each defines functions for those after it.
@@ -61,16 +61,12 @@ def exit_of(log):
         return []
 
 
-def listing_of(listed, given):
-    """How many events there are, the violations, and what comes after the events."""
-    listing = Listing(listed.objects(), 2 * given.most_events + LISTED_ALWAYS).read()
+def complete(listing, said, all_explained, report):
+    """Adds what `explain --all` says to the violations that it explains, after all were listed."""
     if not listing.ending:
         raise Failed("lspcheck show: what it wrote has no end")
-    return listing
-
-
-def explain(listing, all_explained, report):
-    """Adds what `explain --all` says to the violations that it explains."""
+    if said[0]["is"] != "no":
+        return
     found = explained(all_explained.objects(), MOST_EXPLAINED)
     for violation in listing.violations:
         objects = found.get((violation.rule, violation.event, violation.who), [])
@@ -153,10 +149,13 @@ def report_of(runs):
     return said
 
 
-def index_of(said, listing, session):
+def index_of(log, said, listing, session):
     """What the page knows about a log, but for its rows and violations."""
     named = {str(it.rule) for it in listing.violations} | {said[0].get("code")}
     return {
+        "name": log.name,
+        "bytes": log.size,
+        "exit": exit_of(log),
         "said": said,
         "ending": listing.ending,
         "kinds": KINDS,
@@ -182,9 +181,11 @@ def write_page(file, runs, given):
     all_explained = runs.start("explain", "--all", "--json")
     said = report_of(runs)
     texts = texts_of(runs, said[0])
-    listing = listing_of(listed, given)
-    if said[0]["is"] == "no":
-        explain(listing, all_explained, report)
+    listing = Listing(listed.objects(), 2 * given.most_events + LISTED_ALWAYS)
+    shown, choice = listing, cuts.Everything()
+    if not cuts.is_short(runs, listed, given):
+        complete(listing.read(), said, all_explained, report)
+        shown, choice = Listing(listed.objects()), cuts.choice_of(runs, listed, listing, given)
     if given.small:
         only_first(listing, said)
         texts = texts and cuts.around_difference(texts)
@@ -192,22 +193,21 @@ def write_page(file, runs, given):
     name = plain(log.name or "standard input")
     page.write_until("DATA", NAME=name, REPORT=plain("\n".join(lines)), VERSION=plain(version))
     contents = blocks.Contents(file)
-    session, log_format, left = cuts.session_of(runs, listed, listing, given, contents.put)
-    contents.end_block()
+    session, log_format = read_session(log, shown, choice, contents.put, runs.progress)
+    contents.end()
+    if shown is listing:
+        complete(listing, said, all_explained, report)
     log.check_unchanged()
     index = {
-        **index_of(said, listing, session),
-        "name": log.name,
-        "bytes": log.size,
+        **index_of(log, said, listing, session),
         "format": log_format,
         "version": version,
         "report": lines,
-        "left": left,
+        "left": cuts.left_out(runs, listing, choice, session, given),
         "small": given.small,
-        "exit": exit_of(log),
         "texts": texts,
         "blocks": contents.counts,
     }
     pieces = blocks.index_pieces(index, session.rows, listing.violations)
-    blocks.write_block(file, "session", pieces)
+    blocks.write_block(file, "session", blocks.compressed(pieces))
     page.write_until(None)

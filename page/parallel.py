@@ -72,6 +72,11 @@ class Run:
         self.done().out.seek(0)
         return self.out.read()
 
+    def count(self):
+        """How many lines the command writes."""
+        self.done().out.seek(0)
+        return sum(1 for _ in self.out)
+
     def objects(self):
         """The objects that the command writes with --json, one on each line."""
         self.done().out.seek(0)

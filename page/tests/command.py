@@ -246,7 +246,7 @@ exec {quoted(program)} "$@\"""")
         ("show", "[" * 20000, "not an object of --json"),
         ("show", r"\033[31m", "not an object of --json"),
         ("show", "", "lspcheck show: what it wrote has no end"),
-        ("show", '{"is":"request","event":1,"side":"editor","number":1}', "what it wrote has no end"),
+        ("show", '{"is":"request","event":1,"side":"editor","id":1,"method":"initialize","number":1}', "what it wrote has no end"),
         ("show", '{"is":"request","event":1,"side":"other","number":1}', "lspcheck show: it wrote an event without its members"),
         ("show", '{"is":"request","event":1,"side":"editor"}\n{"is":"yes"}', "lspcheck show: it wrote an event without its members"),
         ("explain", "", "lspcheck explain: it wrote nothing"),
