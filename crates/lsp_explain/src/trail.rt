@@ -20,6 +20,7 @@ mod asked;
 mod base;
 mod bases;
 mod conversation;
+mod copies;
 mod exchange;
 mod last_change;
 mod last_ones;
