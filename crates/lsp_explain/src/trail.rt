@@ -121,7 +121,7 @@ impl Trail {
     }
 
     /// Adds a message that is kept and says nothing of a document.
-    #[inline(always)]
+    #[inline(never)]
     fn keep_message(
         &mut self,
         held: &Events<Lined>,
