@@ -53,6 +53,10 @@ abbrev pub other_name : Option (List ℕ) → Option Encoding → Option (List �
 other_name None agreed = None
 other_name (Some name) agreed = differing name agreed
 
+-- that of these messages
+abbrev pub name_of : List Numbered → Option (List ℕ)
+name_of said = other_name (older_encoding (sents said)) (encoding (sents said))
+
 -- of a Yes: that no snapshot was compared, or else these documents that have none
 abbrev pub uncompared : Verdict → List (List ℕ) → List Fact
 uncompared (yes s) unshown =
@@ -99,7 +103,7 @@ noticed terms events found = record {
 abbrev pub notes_by : Verdict → Noticed → List Fact
 notes_by v n =
     map misuse_line (misuses n.said) ++ exit_notes (abrupt_exit n.said)
-    ++ name_notes (other_name (older_encoding (sents n.said)) (encoding (sents n.said)))
+    ++ name_notes (name_of n.said)
     ++ old_name_notes (renamed n.said)
     ++ uncompared v n.unshown
     ++ misfit_notes n.found
