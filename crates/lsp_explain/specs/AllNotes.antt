@@ -1,29 +1,36 @@
 -- What `explain --all --notes` says: of each event the notes that are found at it.
 use Rattle.std.specs.Prelude.{◌≡◌, ℕ, List, [], ◌∷◌, ◌++◌, drop, length, map, Bool, true, false}
-use Rattle.std.specs.Prelude.{◌==◌, if◌then◌else◌, Option, Some, None, Result}
+use Rattle.std.specs.Prelude.{◌==◌, ◌&&◌, not, is_some, if◌then◌else◌, Option, Some, None, Result}
 use Rattle.std.specs.List.{cons_option}
 use Rattle.lsp_docs.specs.Documents.{Terms}
 use Rattle.lsp_facts.specs.Fact.{Fact, fact_lines}
 use Rattle.lsp_frame.specs.Bounds.{Bounds}
+use Rattle.lsp_session.specs.Handshake.{phase}
+use Rattle.lsp_session.specs.Sent.{is_shutdown}
+use Rattle.lsp_session.specs.declared.phase.Phase.TheVariants.{Exited}
 use Rattle.lsp_replay.specs.Lines.{place_of}
 use Rattle.lsp_replay.specs.Run.{IsPassed, Passes, Run, Tail}
 use Rattle.lsp_replay.specs.Telling.{kept_before, rule_of}
+use Rattle.lsp_replay.specs.declared.heard.EventPlace.{EventPlace}
 use Rattle.lsp_survey.specs.SessionEnds.{all_verdict, ends_of}
 use Rattle.lsp_types.specs.declared.rules.TheConstants as rules
+use Rattle.lsp_verdict.specs.Event.{Event, fault, message, sent_in, snapshot}
 use Rattle.lsp_verdict.specs.Heard.{Heard, Rests, heard_events}
-use Rattle.lsp_verdict.specs.LookBack.{each_of}
+use Rattle.lsp_verdict.specs.LookBack.{each_of, first_of}
 use Rattle.lsp_verdict.specs.Offences.{said_at}
 use Rattle.lsp_verdict.specs.Runs.{Ports}
 use Rattle.lsp_verdict.specs.Verdict.{Verdict}
 use Rattle.lsp_verdict.specs.declared.completeness.Completeness.{Completeness}
 use Rattle.lsp_verdict.specs.declared.outcome.Outcome.{Outcome}
 use Rattle.lsp_verdict.specs.declared.outcome.RunFault.{RunFault}
+use Rattle.lsp_explain.specs.Asking.{numbered, same_phase}
 use Rattle.lsp_explain.specs.Behind.{AreBehind, is_on_behind}
 use Rattle.lsp_explain.specs.DocumentNotes.{document_line}
 use Rattle.lsp_explain.specs.ExplainRuns.{AllStands, all_run}
 use Rattle.lsp_explain.specs.Misfits.{AreMisfits, Found, event_found, past_ends, range_lengths}
 use Rattle.lsp_explain.specs.Notes.{Noticed, count_line, exit_notes, misuse_line, name_notes}
 use Rattle.lsp_explain.specs.Notes.{name_of, noticed, notes_by, old_name_notes, uncompared}
+use Rattle.lsp_explain.specs.Notes.{with_exit}
 use Rattle.lsp_explain.specs.Refusals.{AreRefusals}
 use Rattle.lsp_explain.specs.Renames.{renamed}
 use Rattle.lsp_explain.specs.SessionNotes.{abrupt_exit, misuses}
@@ -55,9 +62,40 @@ found_more terms before h = cons_option (found_at terms before h) []
 abbrev pub found_along : Terms → List Heard → List Found
 found_along terms heard = each_of (found_at terms) heard
 
--- what the notes on all these events are on
+-- ---- `exit`
+
+-- the session has exited
+abbrev pub has_exited : Terms → List Heard → Bool
+has_exited terms before = same_phase (phase (sent_in (kept_before terms before))) Exited
+
+-- the event asks for the shutdown
+abbrev pub asks_shutdown : Event → Bool
+asks_shutdown (message m) = is_shutdown m.act
+asks_shutdown (fault side rule) = false
+asks_shutdown (snapshot uri number text) = false
+
+-- the rule that is broken by a `shutdown` before the exit
+abbrev pub refused_shutdown : Terms → List Heard → Heard → Option ℕ
+refused_shutdown terms before h =
+    if asks_shutdown h.note.event && not (has_exited terms before) then rule_of terms before h
+    else None
+
+-- the editor sent a `shutdown` before its `exit`, though it was skipped
+abbrev pub is_shutdown_refused : Terms → List Heard → Bool
+is_shutdown_refused terms heard = is_some (first_of (refused_shutdown terms) heard)
+
+-- **the `exit` without a `shutdown` before it**, also none that was skipped
+abbrev pub exit_along : Terms → List Heard → Option EventPlace
+exit_along terms heard =
+    if is_shutdown_refused terms heard then None
+    else abrupt_exit (numbered terms (heard_events heard))
+
+-- ---- what the notes on all these events are on
+
 abbrev pub noticed_along : Terms → List Heard → Noticed
-noticed_along terms heard = noticed terms (heard_events heard) (found_along terms heard)
+noticed_along terms heard =
+    with_exit (exit_along terms heard)
+    (noticed terms (heard_events heard) (found_along terms heard))
 
 -- ---- the notes of an event
 
@@ -65,7 +103,7 @@ noticed_along terms heard = noticed terms (heard_events heard) (found_along term
 abbrev pub kinds : Noticed → List (List Fact)
 kinds n =
     map misuse_line (misuses n.said)
-    ∷ exit_notes (abrupt_exit n.said)
+    ∷ exit_notes n.exit
     ∷ name_notes (name_of n.said)
     ∷ old_name_notes (renamed n.said)
     ∷ map document_line (past_ends n.found)
@@ -153,6 +191,7 @@ pub record AreAlong (terms : Terms) (n : NotesAlong) (told heard : List Heard) :
   pub refusals : AreRefusals terms n.refusals (heard_events heard)
   pub spellings : AreSpellings terms n.spellings (heard_events heard)
   pub behind : AreBehind terms n.behind heard
+  pub refused : n.shutdown_refused ≡ is_shutdown_refused terms heard
   pub told_are : told_view n.told ≡ counts (kinds (noticed_along terms told))
 
 -- **the account of `explain --all --notes` stands for these events**

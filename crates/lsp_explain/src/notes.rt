@@ -10,7 +10,7 @@ ghost use Rattle.lsp_explain.specs.Misfits.{AreMisfits, Found};
 ghost use Rattle.lsp_explain.specs.Notes as spec;
 ghost use Rattle.lsp_explain.specs.Notes.{count_line, misuse_line, name_notes, name_of, noticed};
 ghost use Rattle.lsp_explain.specs.Notes.{note_lines, notes_by, old_name_notes, uncompared};
-ghost use Rattle.lsp_explain.specs.Notes.{unshown_line};
+ghost use Rattle.lsp_explain.specs.Notes.{unshown_line, with_exit};
 ghost use Rattle.lsp_explain.specs.Refusals.{AreRefusals};
 ghost use Rattle.lsp_explain.specs.Spellings.{AreSpellings};
 ghost use Rattle.lsp_explain.specs.Trails.{StandsAfter, terms_in};
@@ -27,6 +27,7 @@ use crate::trace::push_earlier;
 use crate::trail::{DocumentEvent, Misuse, Misused, Past};
 pub(crate) use along::NotesAlong;
 use lsp_facts::{Facts, push_facts};
+use lsp_replay::EventPlace;
 use lsp_rpc::{Encoding, Result};
 use lsp_verdict::{Verdict, encoding_name};
 pub(crate) use misfits::Misfits;
@@ -58,15 +59,17 @@ pub(crate) fn push_notes(
         (notes_by (verdict_view verdict.now) (noticed (terms_in past.entry) before found))) }
 {
     let alloc = *lines.allocator();
-    let notes = notes_of(alloc, past, misfits, refusals, spellings, verdict)?;
+    let exit = past.trail.said.notes.abrupt_exit;
+    let notes = notes_of(alloc, past, exit, misfits, refusals, spellings, verdict)?;
     push_facts(lines, &notes)?;
     push_count(lines, &notes)
 }
 
-/// All notes on the messages that were heard.
+/// All notes on the messages that were heard, where this is the `exit` without a `shutdown`.
 fn notes_of(
     alloc: Global,
     past: Past<'_>,
+    exit: Option<EventPlace>,
     misfits: &Misfits,
     refusals: &Refusals,
     spellings: &Spellings,
@@ -76,13 +79,14 @@ fn notes_of(
         → StandsAfter past.entry before → AreMisfits misfits.now found
         → AreRefusals (terms_in past.entry) refusals.now before
         → AreSpellings (terms_in past.entry) spellings.now before
-        → notes ≡ notes_by (verdict_view verdict.now) (noticed (terms_in past.entry) before found)) }
+        → notes ≡ notes_by (verdict_view verdict.now)
+        (with_exit exit (noticed (terms_in past.entry) before found))) }
 {
     let said = &past.trail.said;
     let unshown = past.trail.openings.unshown()?;
     let mut notes = Facts::new(alloc);
     push_misuses(&mut notes, said.notes.misuses.as_slice())?;
-    push_earlier(&mut notes, ABRUPT_EXIT, said.notes.abrupt_exit)?;
+    push_earlier(&mut notes, ABRUPT_EXIT, exit)?;
     push_name(&mut notes, name_in(past))?;
     push_renamed(&mut notes, said.renames.renamed())?;
     push_uncompared(&mut notes, verdict, unshown.as_slice())?;

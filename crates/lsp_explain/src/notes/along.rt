@@ -1,23 +1,31 @@
 //! The notes on the events of a session, each of which is told once: when it is found.
 ghost use Rattle.std.specs.Prelude.{◌≡◌, ◌++◌, ◌∷◌, [], List, None, OnOk, drop};
-ghost use Rattle.std.specs.Prelude.{if◌then◌else◌, string_bytes};
+ghost use Rattle.std.specs.Prelude.{if◌then◌else◌, is_some, map, option_map, string_bytes};
 ghost use Rattle.lsp_docs.specs.Documents.{Terms};
 ghost use Rattle.lsp_facts.specs.Fact.{fact_lines};
-ghost use Rattle.lsp_replay.specs.Telling.{IsSeen};
+ghost use Rattle.lsp_replay.specs.Telling.{IsSeen, MaySpeak};
+ghost use Rattle.lsp_rpc.specs.View.{act_view};
+ghost use Rattle.lsp_session.specs.Handshake.{phase};
+ghost use Rattle.lsp_session.specs.Sent.{Sent, is_shutdown};
+ghost use Rattle.lsp_session.specs.State.{Stands};
+ghost use Rattle.lsp_session.specs.declared.phase.Phase.TheVariants.{Exited};
+ghost use Rattle.lsp_explain.specs.Asking.{same_phase};
 ghost use Rattle.lsp_verdict.specs.Event.{Event};
 ghost use Rattle.lsp_verdict.specs.Given.{verdict_view};
 ghost use Rattle.lsp_verdict.specs.Heard.{Heard, heard_events};
-ghost use Rattle.lsp_explain.specs.AllNotes.{AreAlong, beyond, counts, end_notes, found_more};
-ghost use Rattle.lsp_explain.specs.AllNotes.{kinds, noticed_along, notes_at, told_view};
+ghost use Rattle.lsp_explain.specs.AllNotes as spec;
+ghost use Rattle.lsp_explain.specs.AllNotes.{AreAlong, beyond, counts, end_notes, exit_along};
+ghost use Rattle.lsp_explain.specs.AllNotes.{found_more, kinds, noticed_along, notes_at};
+ghost use Rattle.lsp_explain.specs.AllNotes.{refused_shutdown, told_view};
 ghost use Rattle.lsp_explain.specs.Behind.{AreBehind};
+ghost use Rattle.lsp_explain.specs.DocumentNotes.{document_line, notes_view};
 ghost use Rattle.lsp_explain.specs.Misfits.{AreMisfits, Found};
-ghost use Rattle.lsp_explain.specs.Notes.{noticed};
 ghost use Rattle.lsp_explain.specs.Refusals.{AreRefusals};
 ghost use Rattle.lsp_explain.specs.Spellings.{AreSpellings};
 ghost use Rattle.lsp_explain.specs.Trails.{IsTrail, StandsAfter, terms_in};
 
 use crate::notes::behind::Behind;
-use crate::notes::document_notes::push_lines;
+use crate::notes::document_notes::{DocumentNote, push_lines};
 use crate::notes::{
     ABRUPT_EXIT, Misfits, Refusals, Spellings, name_in, notes_of, push_count, push_misuses,
     push_name, push_renamed, push_uncompared,
@@ -25,8 +33,9 @@ use crate::notes::{
 use crate::trace::push_earlier;
 use crate::trail::{Past, Trail};
 use lsp_facts::{Facts, push_facts};
-use lsp_replay::{Events, Fate, Seen};
-use lsp_rpc::Result;
+use lsp_replay::{EventPlace, Events, Fate, Seen};
+use lsp_rpc::{Act, Result, Spoken};
+use lsp_session::{Phase, Session};
 use lsp_text::Lined;
 use lsp_verdict::Verdict;
 use std::alloc::Global;
@@ -54,6 +63,8 @@ pub(crate) struct NotesAlong {
     refusals: Refusals,
     spellings: Spellings,
     behind: Behind,
+    /// Whether the editor sent a `shutdown` before the exit that broke a rule.
+    shutdown_refused: bool,
     told: NoteCounts,
 }
 
@@ -67,6 +78,7 @@ impl NotesAlong {
             refusals: Refusals::new(alloc),
             spellings: Spellings::new(alloc),
             behind: Behind::new(alloc),
+            shutdown_refused: false,
             told: NoteCounts {
                 misuses: 0,
                 exit: false,
@@ -98,6 +110,7 @@ impl NotesAlong {
     {
         note_messages(&mut self.refusals, &mut self.spellings, held, trail, seen)?;
         note_changes(&mut self.misfits, &self.behind, held, seen)?;
+        self.shutdown_refused |= refuses_shutdown(held, seen);
         self.behind.note(held, seen)
     }
 
@@ -142,58 +155,49 @@ impl NotesAlong {
         let unshown = past.trail.openings.unshown()?;
         let mut last = Facts::new(alloc);
         push_uncompared(&mut last, verdict, unshown.as_slice())?;
-        let (misfits, refusals, spellings) = (&self.misfits, &self.refusals, &self.spellings);
-        let all = notes_of(alloc, past, misfits, refusals, spellings, verdict)?;
+        let all = notes_of(
+            alloc,
+            past,
+            self.exit(past),
+            &self.misfits,
+            &self.refusals,
+            &self.spellings,
+            verdict,
+        )?;
         push_facts(lines, &last)?;
         push_count(lines, &all)
     }
 
     /// Adds the notes that were not told yet.
     fn push_since(&self, notes: &mut Facts, past: Past<'_>) -> Result<()>
-        ensures { OnOk result ((before : List Event) (found : List Found)
-            → StandsAfter past.entry before → AreMisfits self.now.misfits found
-            → AreRefusals (terms_in past.entry) self.now.refusals before
-            → AreSpellings (terms_in past.entry) self.now.spellings before
+        ensures { OnOk result ((before heard : List Heard)
+            → StandsAfter past.entry (heard_events heard)
+            → AreAlong (terms_in past.entry) self.now before heard
             → notes.new ≡ notes.old ++ beyond (told_view self.now.told)
-            (kinds (noticed (terms_in past.entry) before found))) }
+            (kinds (noticed_along (terms_in past.entry) heard))) }
     {
         let said = &past.trail.said;
         let told = self.told;
         push_misuses(notes, beyond(said.notes.misuses.as_slice(), told.misuses))?;
-        push_earlier(
-            notes,
-            ABRUPT_EXIT,
-            unless(told.exit, said.notes.abrupt_exit),
-        )?;
+        push_earlier(notes, ABRUPT_EXIT, unless(told.exit, self.exit(past)))?;
         push_name(notes, unless(told.name, name_in(past)))?;
         push_renamed(notes, unless(told.renamed, said.renames.renamed()))?;
-        push_lines(
-            notes,
-            beyond(self.misfits.past_ends.as_slice(), told.past_ends),
-        )?;
-        push_lines(
-            notes,
-            beyond(self.misfits.range_lengths.as_slice(), told.range_lengths),
-        )?;
-        push_lines(
-            notes,
-            beyond(self.refusals.refused.as_slice(), told.refused),
-        )?;
-        push_lines(notes, beyond(self.spellings.named.as_slice(), told.spelled))
+        push_beyond(notes, &self.misfits.past_ends, told.past_ends)?;
+        push_beyond(notes, &self.misfits.range_lengths, told.range_lengths)?;
+        push_beyond(notes, &self.refusals.refused, told.refused)?;
+        push_beyond(notes, &self.spellings.named, told.spelled)
     }
 
     /// How many notes of each kind there are.
     fn counts(&self, past: Past<'_>) -> NoteCounts
-        ensures { (before : List Event) (found : List Found) → StandsAfter past.entry before
-            → AreMisfits self.now.misfits found
-            → AreRefusals (terms_in past.entry) self.now.refusals before
-            → AreSpellings (terms_in past.entry) self.now.spellings before
-            → told_view result ≡ counts (kinds (noticed (terms_in past.entry) before found)) }
+        ensures { (before heard : List Heard) → StandsAfter past.entry (heard_events heard)
+            → AreAlong (terms_in past.entry) self.now before heard
+            → told_view result ≡ counts (kinds (noticed_along (terms_in past.entry) heard)) }
     {
         let said = &past.trail.said;
         NoteCounts {
             misuses: said.notes.misuses.len(),
-            exit: said.notes.abrupt_exit.is_some(),
+            exit: self.exit(past).is_some(),
             name: name_in(past).is_some(),
             renamed: said.renames.renamed().is_some(),
             past_ends: self.misfits.past_ends.len(),
@@ -202,6 +206,54 @@ impl NotesAlong {
             spelled: self.spellings.named.len(),
         }
     }
+
+    /// The event of the `exit` without a `shutdown` before it, also none that was skipped.
+    fn exit(&self, past: Past<'_>) -> Option<EventPlace>
+        ensures { (before heard : List Heard) → StandsAfter past.entry (heard_events heard)
+            → AreAlong (terms_in past.entry) self.now before heard
+            → result ≡ exit_along (terms_in past.entry) heard }
+    {
+        unless(self.shutdown_refused, past.trail.said.notes.abrupt_exit)
+    }
+}
+
+/// Whether an event is a `shutdown` of the editor that breaks a rule before the exit. The session
+/// is the one before it.
+fn refuses_shutdown(held: &Events<Lined>, seen: &Seen<'_>) -> bool
+    ensures { (terms : Terms) (before : List Heard) (h : Heard)
+        → IsSeen held.now.session held.now.docs held.now.counts seen.now terms before h
+        → result ≡ is_some (refused_shutdown terms before h) }
+{
+    let Fate::Offends { .. } = seen.fate else {
+        return false;
+    };
+    asks_shutdown(seen.spoken) & !has_exited(&held.session)
+}
+
+/// Whether a session has exited.
+fn has_exited(session: &Session) -> bool
+    ensures { (before : List Sent) → Stands session.now before
+        → result ≡ same_phase (phase before) Exited }
+{
+    session.phase() == Phase::Exited
+}
+
+/// Whether a message asks for the shutdown, if there is one.
+fn asks_shutdown(spoken: Option<&Spoken>) -> bool
+    ensures { (kept : List Event) (event : Event)
+        → MaySpeak kept event (option_map (λ s. s.now) spoken.entry)
+        → result ≡ spec.asks_shutdown event }
+{
+    match spoken {
+        Some(spoken) => is_shutdown(&spoken.act),
+        None => false,
+    }
+}
+
+fn is_shutdown(act: &Act) -> bool
+    ensures { result ≡ is_shutdown (act_view act.now) }
+{
+    matches!(act, Act::Shutdown)
 }
 
 /// Notes a message that is kept. The trail is of the events before it.
@@ -249,6 +301,14 @@ fn note_changes(
         Fate::Kept(_) => misfits.note_kept(held, seen),
         Fate::Offends { rule, .. } => misfits.note_refuted(held, seen, rule),
     }
+}
+
+/// Adds the lines of these notes beyond so many.
+fn push_beyond(facts: &mut Facts, notes: &Vec<DocumentNote>, count: usize) -> Result<()>
+    ensures { OnOk result (facts.new
+        ≡ facts.old ++ drop count (map document_line (notes_view notes.now.items))) }
+{
+    push_lines(facts, beyond(notes.as_slice(), count))
 }
 
 /// The items beyond so many.

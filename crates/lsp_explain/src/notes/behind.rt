@@ -90,9 +90,10 @@ fn renew(uris: &mut Uris, said: Option<Call<'_>>)
     let Some(call) = said else {
         return;
     };
-    if renews(call) {
-        forget_uri(uris, call.uri());
+    if !renews(call) {
+        return;
     }
+    forget_uri(uris, call.uri());
 }
 
 /// An event is skipped that breaks this rule, and says this of a document, if anything.
