@@ -178,10 +178,14 @@ impl NotesAlong {
     {
         let said = &past.trail.said;
         let told = self.told;
-        push_misuses(notes, beyond(said.notes.misuses.as_slice(), told.misuses))?;
-        push_earlier(notes, ABRUPT_EXIT, unless(told.exit, self.exit(past)))?;
-        push_name(notes, unless(told.name, name_in(past)))?;
-        push_renamed(notes, unless(told.renamed, said.renames.renamed()))?;
+        let misuses = beyond(said.notes.misuses.as_slice(), told.misuses);
+        let exit = unless(told.exit, self.exit(past));
+        let name = unless(told.name, name_in(past));
+        let renamed = unless(told.renamed, said.renames.renamed());
+        push_misuses(notes, misuses)?;
+        push_earlier(notes, ABRUPT_EXIT, exit)?;
+        push_name(notes, name)?;
+        push_renamed(notes, renamed)?;
         push_beyond(notes, &self.misfits.past_ends, told.past_ends)?;
         push_beyond(notes, &self.misfits.range_lengths, told.range_lengths)?;
         push_beyond(notes, &self.refusals.refused, told.refused)?;
