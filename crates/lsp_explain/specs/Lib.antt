@@ -4,7 +4,7 @@ pub mod Marking
 pub mod Openings
 pub mod Naming
 pub mod Saves
-pub mod LastChanges
+pub mod LastChange
 pub mod StandardMethods
 pub mod SessionNotes
 pub mod Renames
@@ -12,6 +12,8 @@ pub mod Conversations
 pub mod SentEdits
 pub mod Bases
 pub mod Fits
+pub mod Rearranged
+pub mod Told
 pub mod Traced
 pub mod AsciiLines
 pub mod Trails

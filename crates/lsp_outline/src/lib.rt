@@ -2,8 +2,9 @@
 //!
 //! A `MessageReader` walks over the bytes of a content once. It reads a message without its params
 //! and without the value of its result; where the params of a notification are read, it also says
-//! what they mean. It answers exactly what `lsp_rpc` would, and leaves the contents that it declines
-//! to `lsp_rpc`. `document_of` tells in the same way which document a content names in its params.
+//! what they mean. It answers exactly what `lsp_rpc` would, and leaves the contents that it
+//! declines to `lsp_rpc`. `document_of` tells in the same way which document a content names in its
+//! params.
 #![tactic(auto)]
 
 mod bytes;

@@ -56,5 +56,5 @@ returns c =
     ++ (drop told.past_ends (map document_line (are.misfits.past_ends_are i))
     ++ (drop told.range_lengths (map document_line (are.misfits.range_lengths_are i))
     ++ (drop told.refused (map document_line (are.refusals.refused_are i))
-    ++ (drop told.spelled (map document_line (are.spellings.named_are i)) ++ [])))))))))
+    ++ (drop told.spelled (map document_line (are.spellings.named_are i)) ++ []))))))))))
     c.push_beyond-4.ensures
