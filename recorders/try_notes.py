@@ -1,6 +1,6 @@
 """The notes of the alarm: in Neovim, Emacs and Vim with ALE, those that say that a server may have
 dropped a document are shown, each once, and kept in the buffer of the log; others are not shown. A
-script stands in for lspcheck, and the servers only read and write.
+script plays lspcheck, and the servers only read and write.
 """
 
 import shutil

@@ -29,7 +29,7 @@ PROMPT, TOGETHER = 150_000_000, 20_000_000
 # How many times as long the proxy of a test waits, until the machine is fast enough for the test.
 TIMES = (1, 2, 4, 8, 16, 32)
 
-# A server that answers each request, ends at `exit`, and sleeps, dies or refuses when it is asked to.
+# A server that answers each request, ends at `exit`, and sleeps, dies or refuses if it is asked to.
 SERVER = r"""
 import json, os, sys, time
 while True:

@@ -62,8 +62,8 @@ pub struct Pace<'a, V> {
 }
 
 impl<'a, V: Watch> Pace<'a, V> {
-    /// The pace of a task over an input of this supply: each offence of a list, and each note beside
-    /// them, is passed on as soon as it is found, and the line of an event before more is read.
+    /// The pace of a task over an input of this supply: each offence of a list, and each note, is
+    /// passed on as soon as it is found, and the line of an event before more is read.
     pub fn of(task: &Task<'_>, supply: &'a Supply<V>) -> Pace<'a, V> {
         let turn = match task {
             Task::Survey(..)
