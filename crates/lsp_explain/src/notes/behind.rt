@@ -1,7 +1,6 @@
 //! Documents of which a message that was to change the text was skipped.
-ghost use Rattle.std.specs.Prelude.{◌≡◌, ◌++◌, ◌∷◌, [], List, ℕ, None, Some, IfOk, OnOk, false};
-ghost use Rattle.std.specs.Prelude.{if◌then◌else◌, is_some, option_map, string_bytes, true};
-ghost use Rattle.std.specs.Str.{bytes_eq};
+ghost use Rattle.std.specs.Prelude.{◌≡◌, ◌++◌, ◌∷◌, [], List, IfOk, OnOk, false, option_map};
+ghost use Rattle.std.specs.Prelude.{string_bytes, true};
 ghost use Rattle.lsp_docs.specs.Calls.{Call as SpecCall};
 ghost use Rattle.lsp_docs.specs.Documents.{Terms};
 ghost use Rattle.lsp_docs.specs.State.{Stands};
@@ -57,7 +56,7 @@ impl Behind {
     fn has_uri(&self, uri: &str) -> bool
         ensures { result ≡ has_uri self.now.uris.entries uri.now }
     {
-        self.uris.get(uri).is_some()
+        self.uris.contains_key(uri)
     }
 
     /// Notes the next event.
@@ -112,21 +111,19 @@ fn skip(
     let Some(call) = said else {
         return skip_malformed(uris, docs.alloc(), raw, rule);
     };
-    if parts(docs, rule, call) {
+    if parts(rule, reopens(docs, call), call) {
         return add_uri(uris, call.uri());
     }
     Ok(())
 }
 
-/// Whether a call that breaks this rule was to change the text that is held of its document. One
-/// that opens it again does so if it has another version or text.
-fn parts(docs: &Docs<Lined>, rule: u16, call: Call<'_>) -> bool
-    ensures { (calls : List SpecCall) → Stands docs.now calls
-        → result ≡ spec.parts rule (is_reopened docs.now.terms calls (Some (call_view call.entry)))
-        (call_view call.entry) }
+/// Whether a call that breaks this rule was to change the text that is held of its document. An
+/// opening of an open document was only if it is `reopened` with another version or text.
+fn parts(rule: u16, reopened: bool, call: Call<'_>) -> bool
+    ensures { result ≡ spec.parts rule reopened (call_view call.entry) }
 {
     if rule == rules::DOCUMENT_ALREADY_OPEN {
-        return reopens(docs, call);
+        return reopened;
     }
     sets_text(call)
 }
