@@ -1,6 +1,7 @@
 -- The steps of the account that tells the notes along the way.
 use Rattle.std.specs.Borrow.{Bor}
-use Rattle.std.specs.Prelude.{drop, length, not, option_map, if◌then◌else◌, is_some, ◌&&◌, ◌||◌}
+use Rattle.std.specs.Prelude.{drop, length, not, option_and_then, option_map, is_some, ◌&&◌, ◌||◌}
+use Rattle.std.specs.Prelude.{if◌then◌else◌}
 use Rattle.std.specs.Prelude.{◌==◌, map}
 use Rattle.std.specs.List.{cons_option}
 use Rattle.std.specs.Option.{option_or}
@@ -21,7 +22,7 @@ use Rattle.lsp_rpc.specs.declared.act.Act as code
 use Rattle.lsp_rpc.specs.declared.act.Act.TheVariants as acts
 use Rattle.lsp_session.specs.Sent.{Sent, is_shutdown}
 use Rattle.lsp_types.specs.declared.rules.TheConstants as rules
-use Rattle.lsp_verdict.specs.Event.{Event, fault, message, snapshot}
+use Rattle.lsp_verdict.specs.Event.{Event, fault, message, sent_of, snapshot}
 use Rattle.lsp_verdict.specs.Given.{verdict_view}
 use Rattle.lsp_verdict.specs.Heard.{Heard, Rests, heard_events}
 use Rattle.lsp_verdict.specs.LookBack.{each_of, first_of}
@@ -46,7 +47,8 @@ use Rattle.lsp_explain.specs.Misfits.{Found, event_found, found_refuted, kept_fo
 use Rattle.lsp_explain.specs.Notes.{exit_notes, name_notes, old_name_notes}
 use Rattle.lsp_explain.specs.Openings.{on_view}
 use Rattle.lsp_explain.specs.Refusals.{AreRefusals, event_request, most_requests, refusal_at}
-use Rattle.lsp_explain.specs.Spellings.{AreSpellings, spelling_at}
+use Rattle.lsp_explain.specs.Refusals.{refusal_by}
+use Rattle.lsp_explain.specs.Spellings.{AreSpellings, spelling_at, spelling_by}
 use Rattle.lsp_explain.specs.declared.notes.refusals.Refusals.{Refusals}
 use Rattle.lsp_explain.specs.declared.notes.spellings.Spellings.{Spellings}
 use Rattle.lsp_explain.specs.declared.notes.document_notes.DocumentNote as code_notes
@@ -76,24 +78,22 @@ module _ (terms : Terms) (before : List Heard) (h : Heard) (rule : ℕ)
         asked_are = are.asked_are ∙ ap (last_ones most_requests)
             (sym (refused_more event_request terms events e rule offends));
         refused_are = are.refused_are ∙ ap first_notes
-            (sym (none_more (refusal_at terms) events e (left_out offends)));
+            (sym (none_more (refusal_at terms) events e
+            (ap (λ (o : Option ℕ). if is_some o then None
+            else option_and_then (refusal_by terms events (place_of events e)) (sent_of e))
+            offends)));
       })
-    where
-      left_out : (let o : Option ℕ = rule_of terms before h in o) ≡ Some rule
-          → refusal_at terms events e ≡ None
-      left_out is = rw is refl
 
   pub spellings_past : (s : Spellings) → AreSpellings terms s events
       → AreSpellings terms s (heard_events (before ++ h ∷ []))
   spellings_past s are =
       subst (AreSpellings terms s) (sym (events-push before h)) (record {
         named_are = are.named_are ∙ ap first_notes
-            (sym (none_more (spelling_at terms) events e (left_out offends)));
+            (sym (none_more (spelling_at terms) events e
+            (ap (λ (o : Option ℕ). if is_some o then None
+            else option_and_then (spelling_by terms events (place_of events e)) (sent_of e))
+            offends)));
       })
-    where
-      left_out : (let o : Option ℕ = rule_of terms before h in o) ≡ Some rule
-          → spelling_at terms events e ≡ None
-      left_out is = rw is refl
 
 -- ---- what changes find
 

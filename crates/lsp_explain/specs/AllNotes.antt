@@ -15,7 +15,7 @@ use Rattle.lsp_replay.specs.declared.heard.EventPlace.{EventPlace}
 use Rattle.lsp_survey.specs.SessionEnds.{all_verdict, ends_of}
 use Rattle.lsp_types.specs.declared.rules.TheConstants as rules
 use Rattle.lsp_verdict.specs.Event.{Event, fault, message, sent_in, snapshot}
-use Rattle.lsp_verdict.specs.Heard.{Heard, Rests, heard_events}
+use Rattle.lsp_verdict.specs.Heard.{Heard, heard_events}
 use Rattle.lsp_verdict.specs.LookBack.{each_of, first_of}
 use Rattle.lsp_verdict.specs.Offences.{said_at}
 use Rattle.lsp_verdict.specs.Runs.{Ports}

@@ -239,7 +239,13 @@ fn has_exited(session: &Session) -> bool
     ensures { (before : List Sent) → Stands session.now before
         → result ≡ same_phase (phase before) Exited }
 {
-    session.phase() == Phase::Exited
+    is_exited(session.phase())
+}
+
+fn is_exited(phase: Phase) -> bool
+    ensures { result ≡ same_phase phase Exited }
+{
+    phase == Phase::Exited
 }
 
 /// Whether a message asks for the shutdown, if there is one.
