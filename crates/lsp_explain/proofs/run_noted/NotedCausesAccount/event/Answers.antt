@@ -41,7 +41,6 @@ returns c = record {
       let told = c.in_ok-flow.ensures.says terms before h stands.causes seen in
       let goes = went_on completeness terms before h (AllStands causes terms all)
       c.in_ok-flow.flow told.goes in
-      let after = stands_at _ terms all goes.trail seen.stood in
       let along = subst (λ (t : Terms). AreAlong t noted before all) (sym seen.stood.by)
       (c.in_ok-note.ensures terms before h stands.causes.trail stands.notes seen) in
       noted_says completeness terms before h (ShowsFault c.args.seen.now.raw)
@@ -49,10 +48,12 @@ returns c = record {
       (string_bytes c.event.new.text) (string_bytes c.push_new.new.lines) told
       (subst (λ (t : Terms). string_bytes c.push_new.new.lines
       ≡ string_bytes c.event.new.text ++ fact_lines (notes_at t before h)) seen.stood.by
-      (c.in_ok-push_new.ensures.said before h after along))
+      (c.in_ok-push_new.ensures.said before h
+      (stands_at _ terms all goes.trail seen.stood) along))
       (λ causes_stand. record {
         causes = causes_stand;
         notes = subst (λ (t : Terms). AreAlong t notes all all) seen.stood.by
-            (c.in_ok-push_new.ensures.told before h after along);
+            (c.in_ok-push_new.ensures.told before h
+            (stands_at _ terms all goes.trail seen.stood) along);
       });
 }
