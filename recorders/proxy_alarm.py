@@ -19,11 +19,14 @@ BAD_WORDS = 64
 # What comes within this many seconds belongs together.
 PAUSE = 0.05
 
+# The notes that say that the server may have dropped a document.
+TOLD = ("past-end", "range-length", "refused")
+
 
 def end_in_words(status, errors):
     """Why lspcheck ended that should have read on: its own words, if it wrote any."""
     if status == BAD_WORDS:
-        return "it doesn't know 'explain --all --json'; it may be an older version"
+        return "it doesn't know --json or --notes; it may be an older version"
     said = errors.decode(errors="replace").strip().split("\n")[0].removeprefix("lspcheck: ")
     if said.isprintable() and said:
         return said
@@ -35,8 +38,8 @@ def end_in_words(status, errors):
 
 class Check(threading.Thread):
     """`lspcheck explain --all --json`, which reads the log while it is written. The objects of each
-    explanation are passed to a function as soon as they are written, and to another one the reason
-    if there are no more."""
+    explanation are passed to a function as soon as they are written, and so is each note that is
+    told; to another function, the reason if there are no more."""
 
     def __init__(self, options, tell, stop):
         super().__init__(daemon=True)
@@ -74,9 +77,11 @@ class Check(threading.Thread):
                 self.end_explanation()
 
     def take(self, it):
-        if it["is"] in ("no", "offences", "bad log"):
+        if it["is"] in ("no", "note", "notes", "offences", "bad log"):
             self.end_explanation()
-        if it["is"] == "no" or self.explanation:
+        if it["is"] == "note" and it.get("note") in TOLD:
+            self.tell([it])
+        elif it["is"] == "no" or self.explanation:
             self.explanation.append(it)
 
     def end_explanation(self):
@@ -86,13 +91,15 @@ class Check(threading.Thread):
 
 
 class Alarm:
-    """Reports each independent violation on standard error and in a file. Texts are compared
-    whatever their line ends are; a second check finds the first two that differ in these alone."""
+    """Reports each independent violation on standard error and in a file, and notes with them.
+    Texts are compared whatever their line ends are; a second check finds the first two that differ
+    in these alone."""
 
     def __init__(self, path):
         self.path, self.lock, self.report = path, threading.Lock(), Report()
         self.has_told_line_ends = self.has_stopped = False
-        self.checks = [Check(["--ignore-line-ends"], self.tell, self.stop),
+        options = ["--ignore-line-ends", "--notes"]
+        self.checks = [Check(options, self.tell, self.stop),
                        Check([], self.tell_line_ends, self.stop)]
 
     def write(self, data):

@@ -85,7 +85,7 @@ check = command (codes "check")
 -- `explain` with the first of its options alone
 abbrev pub explain_options : Shape
 explain_options = command (codes "explain")
-    (flag (codes "complete") ∷ flag (codes "all") ∷ ignore_line_ends
+    (flag (codes "complete") ∷ flag (codes "all") ∷ flag (codes "notes") ∷ ignore_line_ends
     ∷ flag (codes "by-messages") ∷ [])
 
 abbrev pub explain : Shape

@@ -24,4 +24,6 @@ pub mod Refusals
 pub mod Spellings
 pub mod Notes
 pub mod ExplainRuns
+pub mod Behind
+pub mod AllNotes
 pub mod Explained

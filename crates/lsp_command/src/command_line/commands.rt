@@ -190,6 +190,11 @@ fn explain_options<'a>(alloc: Global) -> Result<Command<'a>, AllocError>
             "all",
             "Explains every violation that check --all lists",
         ))?
+        .arg(flag(
+            alloc,
+            "notes",
+            "With --all: writes the notes too, each as soon as it is found",
+        ))?
         .arg(ignore_line_ends(alloc))?
         .arg(flag(
             alloc,

@@ -1,7 +1,7 @@
 use Rattle.std.proofs.Common.{Some, ap, ◌∙◌}
 use Rattle.std.specs.Prelude.{is_some}
 use Rattle.lsp_survey.proofs.Noting.{some_put, puts-key}
-use Rattle.lsp_survey.proofs.notes.note.add.Goals as goal
+use Rattle.lsp_survey.proofs.notes.uris.add_uri.Goals as goal
 
 pub returns : goal.returns
 returns c =

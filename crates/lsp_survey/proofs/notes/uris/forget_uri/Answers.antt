@@ -1,7 +1,7 @@
 use Rattle.std.proofs.Common.{None, ap, ◌∙◌}
 use Rattle.std.specs.Prelude.{is_some}
 use Rattle.lsp_survey.proofs.Noting.{some_put, puts}
-use Rattle.lsp_survey.proofs.notes.note.forget.Goals as goal
+use Rattle.lsp_survey.proofs.notes.uris.forget_uri.Goals as goal
 
 pub returns : goal.returns
 returns c =
