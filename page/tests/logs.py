@@ -176,7 +176,7 @@ def differs():
 
 
 def longer():
-    """The editor's text goes on where that of the messages ends."""
+    """The editor's text continues where that of the messages ends."""
     uri = "file:///longer.c"
     return handshake() + frame(b"E", opened(uri, 1, "a\nb\n")) + snapshot(uri, 1, "a\nb\nc")
 
