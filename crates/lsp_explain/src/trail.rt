@@ -20,6 +20,7 @@ mod asked;
 mod base;
 mod bases;
 mod conversation;
+mod copies;
 mod exchange;
 mod last_change;
 mod last_ones;
@@ -120,7 +121,7 @@ impl Trail {
     }
 
     /// Adds a message that is kept and says nothing of a document.
-    #[inline(always)]
+    #[inline(never)]
     fn keep_message(
         &mut self,
         held: &Events<Lined>,

@@ -1,5 +1,5 @@
 //! The last message that changed a document, with its changes.
-ghost use Rattle.std.specs.Prelude.{◌≡◌, ◌++◌, [], List, Some, OnOk, option_map, string_bytes};
+ghost use Rattle.std.specs.Prelude.{◌≡◌, [], List, Some, OnOk, option_map};
 ghost use Rattle.std.specs.Option.{option_or};
 ghost use Rattle.std.specs.Str.{bytes_eq, chars};
 ghost use Rattle.lsp_docs.specs.Documents.{Terms};
@@ -10,13 +10,13 @@ ghost use Rattle.lsp_explain.specs.LastChange.{same_edits, sent_change};
 ghost use Rattle.lsp_text.specs.Changes.{edit_of, edits_of};
 ghost use Rattle.lsp_verdict.specs.Event.{Event};
 
-use crate::trail::base::{copies_of, room_after};
+use crate::trail::base::room_after;
+use crate::trail::copies::write_over;
 use lsp_docs::Call;
 use lsp_replay::EventPlace;
 use lsp_rpc::Result;
 use lsp_types::{Change, Position, Span};
 use std::alloc::Global;
-use std::mem;
 
 /// How large the changes of the message are at most together, if they are held.
 const MOST_SIZE: u64 = 65_536;
@@ -113,52 +113,6 @@ fn are_small(changes: &[Change]) -> bool
     ensures { result ≡ spec.are_small (edits_of changes.now) }
 {
     room_after(MOST_SIZE, changes).is_some()
-}
-
-/// Writes changes over others. A message has mostly one: then no memory is asked for.
-#[inline(always)]
-fn write_over(held: &mut Vec<Change>, changes: &[Change]) -> Result<()>
-    ensures { OnOk result (edits_of held.new.items ≡ edits_of changes.now) }
-{
-    let [change] = changes else {
-        return copy_over(held, changes);
-    };
-    if held.len() != 1 {
-        return copy_over(held, changes);
-    }
-    write_change(&mut held[0], change)
-}
-
-#[cold]
-#[inline(never)]
-fn copy_over(held: &mut Vec<Change>, changes: &[Change]) -> Result<()>
-    ensures { OnOk result (edits_of held.new.items ≡ edits_of changes.now) }
-{
-    let copies = copies_of(*held.allocator(), changes)?;
-    drop(mem::replace(held, copies));
-    Ok(())
-}
-
-#[inline(always)]
-fn write_change(held: &mut Change, change: &Change) -> Result<()>
-    ensures { OnOk result (edit_of held.new ≡ edit_of change.now) }
-{
-    held.span = change.span;
-    held.range_length = change.range_length;
-    held.text.clear();
-    write_text(&mut held.text, change.text.as_str())
-}
-
-/// Writes a text behind an empty one. When someone types, it has one character or none.
-#[inline(always)]
-fn write_text(held: &mut String, text: &str) -> Result<()>
-    ensures { OnOk result (string_bytes held.new ≡ string_bytes held.old ++ text.now) }
-{
-    match text.as_bytes() {
-        [] => Ok(()),
-        [byte] if byte.is_ascii() => Ok(held.push(*byte as char)?),
-        _ => Ok(held.push_str(text)?),
-    }
 }
 
 // ---- the same changes

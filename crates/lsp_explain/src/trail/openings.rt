@@ -167,6 +167,7 @@ fn last_in<'a>(held: &'a [DocumentEvent], uri: &str) -> Option<&'a DocumentEvent
 }
 
 /// Adds a message after the others, of which the last ones stay.
+#[inline(never)]
 pub(crate) fn push(
     held: &mut VecDeque<DocumentEvent>,
     most: usize,
