@@ -255,16 +255,16 @@ def tells_pieces(place, _):
     written = "".join(f"printf %s '{piece}'; sleep 0.2\n" for piece in [*pieces, OBJECTS[:30]])
     other = place / "other"
     other.write_text(
-        f"#!/bin/sh\ncase $* in *--ignore-line-ends*)\n{written};; esac\ncat > /dev/null\nexit 1\n"
+        f"#!/bin/sh\ncase $* in *--ignore-line-ends*)\n{written}: > \"$0.done\";; esac\n"
+        "cat > /dev/null\nexit 1\n"
     )
     other.chmod(0o755)
     editor = checked(place, other, "--check")
-    heads(editor, 1)
-    until(lambda: editor.words().endswith("usually editor\n"))
-    yield "in words", editor.words() == LINES, editor.words()
+    until((place / "bin/lspcheck.done").exists)
     yield "the session", editor.quit() == 0, editor.words()
+    yield "in words", editor.words() == LINES, editor.words()
     copy, = editor.logs.glob("*.explain")
-    yield "once", copy.read_text() == editor.words() == LINES, editor.words()
+    yield "in the file", copy.read_text() == LINES, copy.read_text()
 
 
 STOPPED = "violations may not be reported from now on"
