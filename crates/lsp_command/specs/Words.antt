@@ -186,6 +186,7 @@ command_of (tasks.TextAll number uri) = codes "text"
 command_of (tasks.Event number) = codes "event"
 command_of tasks.Normal = codes "normal"
 command_of tasks.Upgrade = codes "upgrade"
+command_of tasks.Redact = codes "redact"
 command_of (tasks.Frames mode) = codes "frames"
 
 -- the arguments and options of a task
@@ -204,6 +205,7 @@ HasArguments rows (tasks.TextAll number uri) = AsksText rows number uri true
 HasArguments rows (tasks.Event number) = GivesNumber rows (non_zero_u64_get number)
 HasArguments rows tasks.Normal = Unit {0}
 HasArguments rows tasks.Upgrade = Unit {0}
+HasArguments rows tasks.Redact = Unit {0}
 HasArguments rows (tasks.Frames mode) = mode ≡ mode_of (first_of (codes "as") rows)
 
 -- **the command of this name asks for the task**, with what was found of its arguments and options

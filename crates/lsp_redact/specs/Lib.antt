@@ -1,0 +1,12 @@
+pub mod Characters
+pub mod Kept
+pub mod View
+pub mod Numbered
+pub mod Names
+pub mod Naming
+pub mod Messages
+pub mod Broken
+pub mod Records
+pub mod Redacting
+pub mod Redacted
+pub mod Laws

@@ -1,0 +1,26 @@
+-- How the numbers of names are given while a log is written, message by message.
+use Rattle.std.specs.Prelude.{◌≡◌, ℕ, ◌+◌, List, [], ◌∷◌, map, string_bytes}
+use Rattle.serde_json.specs.Data.{Data}
+use Rattle.serde_json.specs.View.{view}
+use Rattle.serde_json.specs.declared.value.Value.{Value}
+use Rattle.lsp_rpc.specs.Act.{Text}
+use Rattle.lsp_redact.specs.Names.{Names, distinct, joined}
+use Rattle.lsp_redact.specs.declared.names.Names as code
+
+-- the names that were seen so far are these, each once
+pub record Stands (seen : code.Names) (names : Names) : Type 0 where
+  pub uris : seen.uris ≡ distinct names.uris
+  pub ids : seen.ids ≡ distinct names.ids
+  pub methods : seen.methods ≡ distinct names.methods
+  pub encodings : seen.encodings ≡ distinct names.encodings
+
+-- the names of a log begin with these
+abbrev pub Begins : Names → Names → Type 0
+Begins names whole = (more : Names) × (whole ≡ joined names more)
+
+-- **this is shown of what has these names**, whatever names the log has after them
+pub record Shows {X : Type 0} (old new : code.Names) (added : Names) (shown : Names → X) (is : X)
+    : Type 0 where
+  pub stands : (before : Names) → Stands old before → Stands new (joined before added)
+  pub value : (before whole : Names) → Stands old before → Begins (joined before added) whole
+      → is ≡ shown whole

@@ -1,0 +1,45 @@
+//! What stands for a content that is no message, or whose params do not have their shape.
+use lsp_rpc::{Message, Result, RpcFault, read};
+use lsp_types::rules;
+use serde_json::{Value, json};
+use std::alloc::Global;
+
+/// A content that breaks a rule of 201 to 208 (JSON-RPC 2.0, sections 4 and 5).
+fn broken_content(rule: u16) -> &'static str {
+    match rule {
+        rules::MESSAGE_NOT_OBJECT => "[]",
+        rules::BAD_JSONRPC_VERSION => "{}",
+        rules::METHOD_NOT_STRING => "{\"jsonrpc\":\"2.0\",\"method\":null}",
+        rules::BAD_ID => "{\"id\":[],\"jsonrpc\":\"2.0\"}",
+        rules::BAD_PARAMS => "{\"jsonrpc\":\"2.0\",\"method\":\"\",\"params\":0}",
+        rules::NOT_A_MESSAGE => "{\"jsonrpc\":\"2.0\"}",
+        rules::BAD_ERROR_OBJECT => "{\"error\":null,\"id\":0,\"jsonrpc\":\"2.0\"}",
+        _ => "",
+    }
+}
+
+/// A call of a method without its params.
+fn bare_call(alloc: Global, message: &Message) -> Result<Value> {
+    match message {
+        Message::Request { method, .. } => {
+            Ok(json!(in alloc; {"id": 0u32, "jsonrpc": "2.0", "method": method})?)
+        }
+        Message::Notification { method, .. } => {
+            Ok(json!(in alloc; {"jsonrpc": "2.0", "method": method})?)
+        }
+        Message::Response { .. } => Ok(Value::Null),
+    }
+}
+
+/// What stands for a content that breaks this rule of 201 to 209: of bad params only the method
+/// stays, and of all else nothing.
+pub(crate) fn broken_text(alloc: Global, content: &[u8], rule: u16) -> Result<String> {
+    if rule != rules::BAD_METHOD_PARAMS {
+        return Ok(String::from_str(alloc, broken_content(rule))?);
+    }
+    match read(alloc, content) {
+        Ok(message) => Ok(bare_call(alloc, &message)?.to_string(alloc)?),
+        Err(RpcFault::Rule(_)) => Ok(String::new(alloc)),
+        Err(RpcFault::Memory) => Err(lsp_rpc::Memory),
+    }
+}
