@@ -27,6 +27,9 @@ QUIET = 1.0
 PROMPT = 150_000_000
 TOGETHER = 20_000_000
 
+# How many seconds what was saved or written last may take, when the session has ended.
+PATIENCE = 1
+
 VERSIONS = range(-(1 << 31), 1 << 31)
 
 BYTE_ORDER_MARK = "\ufeff".encode()
@@ -142,7 +145,7 @@ class Saves(threading.Thread):
     def finish(self):
         """Reads what the editor sent until now, and ends. No save waits for its second any more."""
         self.waiting.end()
-        self.join(1)
+        self.join(PATIENCE)
 
     def follow(self):
         frames = Frames()
@@ -273,7 +276,7 @@ class Plugin(threading.Thread):
     def finish(self):
         """Takes what was written until now, and ends."""
         self.has_ended.set()
-        self.join(1)
+        self.join(PATIENCE)
 
 
 def start(add, takes_saves):

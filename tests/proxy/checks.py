@@ -1,19 +1,24 @@
 """Tests of logs with lspcheck itself: of `--check`, and of the extension for VS Code."""
 
 import os
+import re
 import shutil
+import signal
 import subprocess
 import time
 from pathlib import Path
 
-from session import PROXY, PYTHON, SECONDS, SERVER, Editor, snapshot
+from session import PROXY, PYTHON, SECONDS, SERVER, TRACED, Editor, sent, snapshot, until
 
 HERE = Path(__file__).resolve().parent
 
 TITLE = b"file:///a"
 
+# What is reported of a text whose line ends alone differ.
+LINE_ENDS = "no 702 snapshot 1 event 5, line ends alone"
 
-def checked(place, program, *options):
+
+def checked(place, program, *options, **how):
     """A session whose log is checked, with a file for snapshots."""
     folder = place / "bin"
     folder.mkdir()
@@ -21,8 +26,8 @@ def checked(place, program, *options):
     search = f"{folder}:{os.environ['PATH']}"
     (place / "snapshots").write_bytes(b"")
     setting = {"PATH": search, "LSPCHECK_SNAPSHOTS": str(place / "snapshots")}
-    editor = Editor(place, *options, setting=setting).start()
-    editor.has_open(place / "snapshots")
+    editor = Editor(place, *options, setting=setting, **how).start()
+    editor.has_opened()
     return editor
 
 
@@ -33,40 +38,42 @@ def say_text(editor, version, text):
 
 
 def heads(editor, count, seconds=SECONDS):
-    """The first lines of this many explanations on standard error, and after how many seconds."""
-    begun = time.monotonic()
-    while True:
-        found = [line for line in editor.words().split("\n") if line.startswith("no ")]
-        waited = time.monotonic() - begun
-        if len(found) >= count or waited > seconds:
-            return found, waited
-        time.sleep(0.02)
+    """The first lines of this many explanations on standard error, or of those that come within
+    some seconds."""
+
+    def found():
+        whole = editor.words().rpartition("\n")[0]
+        return [line for line in whole.split("\n") if line.startswith("no ")]
+
+    until(lambda: len(found()) >= count, seconds)
+    return found()
 
 
 def tells_each(place, program):
-    """A file with CR LF that the editor sends with LF, and two changes that are lost after that."""
+    """A file with CR LF that the editor sends with LF, and two changes that are lost after that.
+    Each is reported before anything else happens."""
     editor = checked(place, program, "--check")
+    begun = time.monotonic()
     editor.open(TITLE.decode(), "one\ntwo\n")
     editor.has_logged(b"didOpen")
     say_text(editor, 1, b"one\r\ntwo\r\n")
-    found, seconds = heads(editor, 1)
-    is_told = found == ["no 702 snapshot 1 event 5, line ends alone"]
-    yield "line ends, and that it is these", is_told and seconds < 1, (found, seconds)
+    found = heads(editor, 1)
+    yield "line ends, and that it is these", found == [LINE_ENDS], found
     say_text(editor, 1, b"one\r\ntwo\r\n")
     editor.taken(2)
     editor.change(TITLE.decode(), 2, "three\n")
     editor.has_logged(b"didChange")
     say_text(editor, 2, b"three\r\n")
-    found, _ = heads(editor, 2, 1.5)
-    yield "once", len(found) == 1, found
+    found = heads(editor, 2, 1.5)
+    yield "once", found == [LINE_ENDS], found
     say_text(editor, 2, b"two\r\n")
-    found, seconds = heads(editor, 2)
-    is_told = found[1:] == ["no 702 snapshot 4 event 9"]
-    yield "a lost change", is_told and seconds < 1, (found, seconds)
+    found = heads(editor, 2)
+    yield "a lost change", found[1:] == ["no 702 snapshot 4 event 9"], found
     editor.tell("initialized", {})
-    found, seconds = heads(editor, 3)
-    is_told = found[2:] == ["no 404 editor 5 event 10"]
-    yield "another violation", is_told and seconds < 1, (found, seconds)
+    found = heads(editor, 3)
+    yield "another violation", found[2:] == ["no 404 editor 5 event 10"], found
+    seconds = time.monotonic() - begun
+    yield "in a moment", seconds < SECONDS / 2, seconds
     yield "the session continues", editor.quit() == 0, editor.words()
     copy, = editor.logs.glob("*.explain")
     yield "is next to the log, too", copy.read_text() == editor.words(), copy.read_text()
@@ -105,11 +112,11 @@ def finds_lost_change(place, program):
     editor = checked(place, program, "--check")
     editor.open(file.as_uri(), "one\n")
     editor.change(file.as_uri(), 3, "one\nthree\n")
-    editor.has_logged(b"didChange")
+    sent(editor)
     file.write_bytes(b"one\ntwo\nthree\n")
     editor.save(file.as_uri())
-    found, _ = heads(editor, 1)
-    yield "the save tells", found == ["no 702 snapshot 1 event 7"], (found, editor.words())
+    found = heads(editor, 1)
+    yield "the save tells", found == ["no 702 snapshot 1 event 9"], (found, editor.words())
     editor.quit()
 
 
@@ -120,16 +127,19 @@ def from_vscode(make, lost):
         snapshots, uri = place / "snapshots", "file:///a%20b.c"
         make(snapshots)
         setting = {**os.environ, "LSPCHECK_SNAPSHOTS": str(snapshots), "LOSE": str(lost or "")}
-        proxy = [PYTHON, "-B", PROXY, place / "logs", PYTHON, "-c", SERVER]
+        trace = place / "trace"
+        proxy = [PYTHON, "-B", TRACED, trace, str(SECONDS), "1", place / "logs"]
         node = shutil.which("node") or "nodejs"
-        words = [node, HERE / "vscode.js", PROXY.parent / "vscode/extension.js", uri, *proxy]
+        words = [node, HERE / "vscode.js", PROXY.parent / "vscode/extension.js", uri, trace]
+        words += [*proxy, PYTHON, "-c", SERVER]
         run = subprocess.run(words, env=setting, capture_output=True, timeout=SECONDS)
         yield "the client", run.returncode == 0, run.stderr
         log, = (place / "logs").glob("*.log")
         run = subprocess.run([program, "check", log], capture_output=True, text=True)
         if lost:
-            is_found = run.stdout.startswith("no 702 snapshot ")
-            yield "a lost change is found", is_found, run.stdout
+            # At a snapshot, or at the message with its version, if that comes later.
+            form = r"no 702 (snapshot|editor) \d+ event \d+\nsnapshot differs\n"
+            yield "a lost change is found", re.match(form, run.stdout), run.stdout
         else:
             wanted = ["yes", "messages 10 2", "snapshots 6 unmatched 0"]
             found = run.stdout.split("\n")
@@ -147,12 +157,20 @@ def without_program(script):
         if script:
             other.write_text(script)
             other.chmod(0o755)
-        editor = checked(place, other, "--check")
-        begun = time.monotonic()
+        pids = place / "bin/lspcheck.pids"
+        editor = checked(place, other, "--check", patience=10)
         goes_on = all(editor.ask("work", ["x" * 10_000]) for _ in range(100))
-        status, seconds = editor.quit(), time.monotonic() - begun
-        yield "the session continues", goes_on and status == 0, (status, editor.words())
-        yield "it ends in time", seconds < 15, seconds
+        editor.ask("shutdown")
+        editor.has_logged(b'"shutdown"')
+        editor.tell("exit")
+        status = editor.ended()
+        yield "the session continues", goes_on and status == 0, (goes_on, status, editor.words())
+        if "sleep" in script:
+            yield "it doesn't wait for lspcheck", not editor.has_recorded(), None
+            until(lambda: len(pids.read_text().split()) == 2)
+            for number in pids.read_text().split():
+                os.kill(int(number), signal.SIGKILL)
+        yield "the recorder ends", editor.wait() == 0, editor.words()
         yield "the log is whole", editor.log().endswith(b'"exit"}\n'), editor.log()[-100:]
         wanted = "" if script else "proxy: lspcheck: No such file or directory; "
         is_said = editor.words().startswith(wanted) and editor.words().count("\n") == (not script)
@@ -169,7 +187,9 @@ TESTS = {
     "check: no violation": tells_nothing,
     "check: a session": keeps_rules,
     "check: a lost change": finds_lost_change,
-    "check: no lspcheck": without_program(None),
+    "check: no lspcheck": without_program(""),
     "check: lspcheck ends": without_program("#!/bin/sh\nexit 3\n"),
-    "check: lspcheck doesn't read": without_program("#!/bin/sh\nexec sleep 5\n"),
+    "check: lspcheck doesn't read": without_program(
+        '#!/bin/sh\necho $$ >> "$0.pids"\nexec sleep 600\n'
+    ),
 }

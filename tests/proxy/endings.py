@@ -10,7 +10,7 @@ import time
 from datetime import datetime, timedelta, timezone
 from pathlib import Path
 
-from session import PROXY, PYTHON, SECONDS, SERVER, Editor
+from session import PROXY, PYTHON, SECONDS, SERVER, TRACED, Editor, until
 
 sys.path.insert(0, str(PROXY.parent))
 import proxy_log  # noqa: E402
@@ -21,17 +21,21 @@ def ends(method, number, status, line):
 
     def trial(place):
         editor = Editor(place).start()
-        begun = time.time()
+        begun, before = time.time(), time.monotonic()
         editor.tell(method, [number])
-        found = editor.wait()
+        found = editor.ended()
+        is_whole, seconds = editor.has_recorded(), time.monotonic() - before
         yield "the status", found == status, found
+        yield "the log is whole then", is_whole or seconds >= SECONDS, seconds
+        editor.wait()
+        ended = time.time()
         log, = editor.logs.glob("*.log")
         text = log.with_suffix(".exit").read_text()
         form = rf"{line}\ntime (\d{{4}}-\d\d-\d\dT\d\d:\d\d:\d\d)[+-]\d{{4}}\n"
         match = re.fullmatch(form, text)
         yield "the file", match is not None, text
         when = match and time.mktime(time.strptime(match[1], "%Y-%m-%dT%H:%M:%S"))
-        yield "the time", match and abs(when - begun) < 10, text
+        yield "the time", match and int(begun) <= when <= ended, text
         rights = {stat.S_IMODE(it.stat().st_mode) for it in editor.logs.iterdir()}
         yield "nobody else reads it", rights == {0o600}, rights
 
@@ -51,6 +55,7 @@ def told_to_end(place):
 def group_told_to_end(place):
     """A signal to the proxy and all that it started leaves the recorder its time."""
     editor = Editor(place, start_new_session=True).start()
+    editor.has_logged(b"initialized")
     os.killpg(editor.process.pid, signal.SIGTERM)
     yield "the status", editor.wait() == 128 + signal.SIGTERM, editor.words()
     ended = [it.read_text().split("\n")[0] for it in editor.logs.glob("*.exit")]
@@ -67,15 +72,14 @@ def editor_dies(place):
 
 def child_stays(place):
     """A process that the server started keeps its output open."""
-    editor = Editor(place, server=["sh", "-c", "sleep 60 & cat; echo end"])
+    editor = Editor(place, server=["sh", "-c", "sleep 600 & echo $!; cat; echo end"])
+    child = int(editor.process.stdout.readline())
     editor.write(b"begin\n")
     editor.process.stdin.close()
-    begun = time.monotonic()
-    status = editor.wait()
-    seconds = time.monotonic() - begun
-    yield "the proxy ends with the server", status == 0 and seconds < 30, (status, seconds)
+    yield "the proxy ends with the server", editor.wait() == 0, editor.words()
     got = os.read(editor.process.stdout.fileno(), 100)
     yield "all is passed on", got == b"begin\nend\n", got
+    os.kill(child, signal.SIGKILL)
 
 
 def names(place):
@@ -112,7 +116,8 @@ def same_number(place):
         words = ["unshare", "--map-root-user", "--fork", "--pid", "--mount-proc"]
     if subprocess.run([*words, "true"], capture_output=True).returncode != 0:
         words = []
-    script = f"printf x | '{PYTHON}' -B '{PROXY}' '{place}/logs' cat"
+    traced = f"'{PYTHON}' -B '{TRACED}' '{place}/trace' {SECONDS} 1"
+    script = f"printf x | {traced} '{place}/logs' cat"
     shell, pipe = [*words, "sh", "-c", script], {"stdout": subprocess.PIPE}
     many = [subprocess.Popen(shell, **pipe) for _ in range(4)]
     passed = [it.communicate(timeout=SECONDS)[0] for it in many]
@@ -144,10 +149,12 @@ def no_session(place):
         how = {"stdin": subprocess.DEVNULL, "capture_output": True, "timeout": SECONDS}
         run = subprocess.run(words, **how)
         yield "what it writes is passed on", run.stdout == b"clangd version\n", run
+        until((place / "logs").is_dir)
         yield "no log", not list((place / "logs").iterdir()), list((place / "logs").iterdir())
-    run = subprocess.run([PROXY, place / "logs", "no-such-server"], **how)
-    missing = b"proxy: no-such-server: No such file or directory\n"
-    yield "no server", (run.returncode, run.stderr) == (1, missing), run
+    editor = Editor(place, server=["no-such-server"])
+    missing = "proxy: no-such-server: No such file or directory\n"
+    found = editor.wait(), editor.words()
+    yield "no server", found == (1, missing), found
     yield "no log of none", not list((place / "logs").iterdir()), None
 
 

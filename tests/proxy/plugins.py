@@ -18,7 +18,7 @@ def by_plugin(make, write):
         make(path)
         editor = Editor(place, setting={"LSPCHECK_SNAPSHOTS": str(path)}).start()
         if path.exists():
-            editor.has_open(path)
+            editor.has_opened()
         uri = b"file:///a"
         editor.open(uri.decode(), "one\n")
         given = [(1, uri, b"one\n"), (-7, uri, b""), (2, uri, "ä\n".encode() * 50_000)]
@@ -72,7 +72,7 @@ def bad_plugin(name):
         path = place / "snapshots"
         path.write_bytes(b"")
         editor = Editor(place, setting={"LSPCHECK_SNAPSHOTS": str(path)}).start()
-        editor.has_open(path)
+        editor.has_opened()
         first, last = snapshot(b"file:///a", 1, b"one"), snapshot(b"file:///a", 2, b"two")
         append(path, [first + BAD_SNAPSHOTS[name], last])
         yield "the session continues", editor.quit() == 0, editor.words()
@@ -93,6 +93,7 @@ def written_last(place):
     plugin.start()
     append(path, [snapshot(b"file:///a", 1, b"last")])
     plugin.finish()
+    plugin.join(SECONDS)
     yield "is taken", taken == [snapshot(b"file:///a", 1, b"last")], taken
 
 

@@ -1,6 +1,8 @@
 """Tests that the proxy takes no snapshot of a saved file that has another text than the editor,
 because a formatter rewrote it, because it has another encoding, or because of the order in which
-the editor sends its messages. Each is tried in twenty saves.
+the editor sends its messages. Each is tried in twenty saves. A save doesn't count if the machine
+was too slow for what is tried: if a formatter, for example, rewrote the file only after the proxy
+had read it.
 """
 
 import os
@@ -10,14 +12,14 @@ import sys
 import threading
 import time
 
-from session import PROXY, Editor, sent
+from session import PROMPT, PROXY, QUIET, TIMES, TOGETHER, Editor, put, sent, until
 
 sys.path.insert(0, str(PROXY.parent))
 import proxy_files  # noqa: E402
 
 SAVES = 20
 
-# How many of them are taken, if they should be, even on a busy machine.
+# How many of them must count. If fewer do, there are more saves, with a proxy that waits longer.
 LEAST = 15
 
 # What a formatter makes of a text: as long as before, so that only the bytes differ.
@@ -34,6 +36,8 @@ class Document:
         editor.open(self.uri, self.text)
         # The text that each version has.
         self.texts = {1: self.text}
+        # Another program that rewrites the file, and when the file had been rewritten last.
+        self.tidying, self.done = None, 0
 
     def edit(self, text="x = 1;\n"):
         self.text += text
@@ -46,25 +50,44 @@ class Document:
     def write(self, encoding="utf-8"):
         self.file.write_bytes(self.text.encode(encoding))
 
+    def write_by_name(self):
+        put(self.file, self.text)
+
     def save(self):
         self.editor.save(self.uri)
 
     def tidy(self):
         """Rewrites the file, as a formatter does that the editor knows nothing of."""
         self.file.write_text(self.file.read_text().translate(TIDY))
+        self.done = time.monotonic()
 
     def tidy_by_name(self):
         """The same, as `sed -i` does it."""
-        other = self.file.with_suffix(".new")
-        other.write_text(self.file.read_text().translate(TIDY))
-        other.replace(self.file)
+        put(self.file, self.file.read_text().translate(TIDY))
+
+    def is_noted(self, count=1):
+        """Waits until the proxy has noted that the file was written this many times."""
+        return self.editor.notes(self.file, count)
+
+    def is_late(self, times):
+        """Whether the proxy may have read the file before all was done that is tried."""
+        if self.tidying:
+            self.tidying.join()
+        heard = [it for it in self.editor.heard() if it.uri == self.uri]
+        last = max(number for number, it in enumerate(heard) if it.method.endswith("/didSave"))
+        return max(self.done, heard[-1].begun) >= heard[last].begun + QUIET * times
+
+    def is_apart(self, times):
+        """Whether the last save came too late for a file that was written before the change."""
+        *_, change, save = (it.now for it in self.editor.heard() if it.uri == self.uri)
+        since_written = save - self.file.stat().st_mtime_ns
+        return since_written > PROMPT * times or save - change > TOGETHER * times
 
     def tidy_soon(self):
         """The same, by another program, within two milliseconds."""
         seconds = random.uniform(0, 0.002)
-        tidying = threading.Timer(seconds, self.tidy)
-        tidying.start()
-        return tidying
+        self.tidying = threading.Timer(seconds, self.tidy)
+        self.tidying.start()
 
 
 def change_first(document):
@@ -91,7 +114,16 @@ def formatter_takes_time(document):
     change_first(document)
     document.write()
     time.sleep(0.3)
+    document.is_noted()
     document.tidy()
+    document.save()
+
+
+def renames_take_time(document):
+    change_first(document)
+    document.write_by_name()
+    document.is_noted()
+    document.tidy_by_name()
     document.save()
 
 
@@ -100,6 +132,7 @@ def formatter_before_change(document):
     document.edit()
     document.write()
     time.sleep(0.2)
+    document.is_noted()
     document.tidy()
     document.send()
     document.save()
@@ -123,7 +156,8 @@ def watcher(document):
 def watcher_before_save(document):
     change_first(document)
     document.write()
-    document.tidy_soon().join()
+    document.tidy_soon()
+    document.tidying.join()
     document.save()
 
 
@@ -150,11 +184,9 @@ def change_after_save(document):
     """Kate sends what was typed half a second after `didSave`."""
     document.edit()
     document.write()
-    begun = time.monotonic()
     document.save()
     time.sleep(0.5)
     document.send()
-    return time.monotonic() - begun < 0.8
 
 
 def late_save(document):
@@ -186,6 +218,7 @@ def same_text_twice(document):
     change_first(document)
     document.write()
     time.sleep(0.05)
+    document.is_noted()
     document.write()
     document.save()
 
@@ -204,44 +237,58 @@ def rewritten_and_read_again(document):
 def by_name(document):
     """Many editors write another file, and rename it."""
     change_first(document)
-    other = document.file.with_suffix(".new")
-    other.write_text(document.text)
-    other.replace(document.file)
+    document.write_by_name()
     document.save()
 
 
-def saves(save, is_taken, link=False):
-    """A test of twenty saves of this kind: whether each is taken, or none."""
+def work(editor, place, save, link):
+    """Twenty saves of this kind: each document."""
+    documents = []
+    for number in range(SAVES):
+        file = place / f"{number}.c"
+        if link:
+            (place / "linked").mkdir(exist_ok=True)
+            file.symlink_to(place / "linked" / f"{number}.c")
+        documents.append(Document(editor, file, number))
+        sent(editor)
+        save(documents[-1])
+    editor.settles()
+    editor.quit()
+    return documents
+
+
+def saves(save, is_taken, link=False, is_prompt=False):
+    """A test of twenty saves of this kind: whether each is taken, or none; and whether `didSave`
+    has to come promptly for that."""
 
     def trial(place):
-        editor, documents = Editor(place).start(), {}
-
-        def work(number):
-            file = place / f"{number}.c"
-            if link:
-                (place / "linked").mkdir(exist_ok=True)
-                file.symlink_to(place / "linked" / f"{number}.c")
-            document = documents[file.as_uri()] = Document(editor, file, number)
-            sent(editor)
-            # A busy machine may be too late for what is tried: that save doesn't count.
-            document.is_void = save(document) is False
-
-        for number in range(SAVES):
-            work(number)
-        if is_taken:
-            editor.taken(SAVES, 3)
-        else:
-            time.sleep(1.5)
-        editor.quit()
-        found = [(documents[uri.decode()], it, text) for it, uri, text in editor.snapshots()]
-        found = [it for it in found if not it[0].is_void]
-        wrong = [it[1:] for it in found if it[2].decode() != it[0].texts[it[1]]]
-        yield f"of {SAVES} saves, none is wrong", not wrong, (len(wrong), wrong[:3])
-        is_good = len(found) >= LEAST if is_taken else not found
-        yield f"of {SAVES} saves, {'most' if is_taken else 'none'} are taken", is_good, len(found)
-        yield "nothing is said", editor.words() == "", editor.words()
+        counted, taken, wrong, words = 0, 0, [], ""
+        for times in TIMES:
+            part = place / f"times-{times}"
+            part.mkdir()
+            editor = Editor(part, times=times).start()
+            documents = work(editor, part, save, link)
+            documents = {it.uri: it for it in documents if not is_void(it, times, is_prompt)}
+            found = [it for it in editor.snapshots() if it[1].decode() in documents]
+            for version, uri, text in found:
+                document = documents[uri.decode()]
+                taken += version == document.version or not is_taken
+                if text.decode() != document.texts[version]:
+                    wrong.append((version, uri, text))
+            counted, words = counted + len(documents), words + editor.words()
+            if counted >= LEAST:
+                break
+        yield "no save is wrong", not wrong, (counted, len(wrong), wrong[:3])
+        is_good = counted and taken == (counted if is_taken else 0)
+        yield f"{'each' if is_taken else 'none'} is taken", is_good, (counted, taken)
+        yield "nothing is said", words == "", words
 
     return trial
+
+
+def is_void(document, times, is_prompt):
+    """Whether the machine was too slow for this save."""
+    return document.is_late(times) or is_prompt and document.is_apart(times)
 
 
 def characters_sent(place):
@@ -256,11 +303,10 @@ def characters_sent(place):
         sent(editor)
         file.write_text(text + change)
         editor.save(file.as_uri())
-        sent(editor)
-        time.sleep(1.2)
+        editor.settles()
         editor.close(file.as_uri())
-    found = editor.texts()
     editor.quit()
+    found = editor.texts()
     yield "are taken", found == [(2, b"a\0b\x1b"), (2, b"a\0\x1b")], found
 
 
@@ -269,13 +315,11 @@ def without_ctypes(place):
     (place / "ctypes.py").write_text("raise ImportError")
     editor = Editor(place, setting={"PYTHONPATH": str(place)}).start()
     good, bad = (Document(editor, place / f"{name}.c", 1) for name in ("good", "bad"))
-    sent(editor)
-    plain(good)
-    formatter_takes_time(bad)
-    editor.taken(1)
-    time.sleep(0.5)
-    found = [uri.decode() for _, uri, _ in editor.snapshots()]
+    by_name(good)
+    renames_take_time(bad)
+    editor.settles()
     editor.quit()
+    found = [uri.decode() for _, uri, _ in editor.snapshots()]
     yield "one snapshot", found == [good.uri], found
     yield "nothing is said", editor.words() == "", editor.words()
 
@@ -293,15 +337,14 @@ def looks_often(place):
     watch.notices = Unwatched()
     watch.start()
     file = place / "a.c"
-    file.write_text("one")
+    put(file, "one")
     written = watch.add(os.fsencode(file))
     written.hear_save()
-    time.sleep(0.1)
-    file.write_text("two")
-    time.sleep(0.1)
+    put(file, "two")
+    until(lambda: written.for_save)
     yield "a text", written.is_one_text() and len(written.for_save) == 1, written.for_save
-    file.write_text("2wo")
-    time.sleep(0.1)
+    put(file, "2wo")
+    until(lambda: not written.is_one_text())
     yield "another text", not written.is_one_text(), written.for_save
     written.hear_save()
     written.hear_save()
@@ -312,20 +355,24 @@ def looks_often(place):
 
 
 def folder_replaced(place):
-    """A file in a folder that was removed and made again, as by a version control system."""
-    watch = proxy_files.Watch()
-    watch.start()
-    folder = place / "src"
-    folder.mkdir()
-    (folder / "a.c").write_text("one")
-    written = watch.add(os.fsencode(folder / "a.c"))
-    for text, remove in (("two", shutil.rmtree), ("three", lambda it: it.rename(place / text))):
-        remove(folder)
-        time.sleep(0.1)
+    """A file in a folder that was removed or renamed, and made again, as by a version control
+    system."""
+    ways = {"removed": shutil.rmtree, "renamed": lambda it: it.rename(place / "other")}
+    for way, remove in ways.items():
+        watch = proxy_files.Watch()
+        watch.start()
+        folder = place / way
         folder.mkdir()
-        (folder / "a.c").write_text(text)
-        time.sleep(0.1)
-    yield "both texts", len(written.for_save) == 2, written.for_save
+        put(folder / "a.c", "one")
+        written = watch.add(os.fsencode(folder / "a.c"))
+        for count, text in enumerate(("two", "three"), 1):
+            remove(folder)
+            until(lambda: written in watch.others)
+            folder.mkdir()
+            put(folder / "a.c", text)
+            until(lambda: len(written.for_save) >= count)
+            shutil.rmtree(place / "other", ignore_errors=True)
+        yield f"both texts of a folder that is {way}", len(written.for_save) == 2, written.for_save
 
 
 def too_much_reported(place):
@@ -356,7 +403,6 @@ NONE = {
 }
 ALL = {
     "a plain save": plain,
-    "a save before the change": plain_before_change,
     "the same text twice": same_text_twice,
     "by another name": by_name,
     "rewritten and read again": rewritten_and_read_again,
@@ -365,6 +411,7 @@ ALL = {
 TESTS = {
     **{f"rewrites: {name}": saves(save, False) for name, save in NONE.items()},
     **{f"rewrites: {name}": saves(save, True) for name, save in ALL.items()},
+    "rewrites: a save before the change": saves(plain_before_change, True, is_prompt=True),
     "rewrites: a link, a formatter": saves(formatter, False, link=True),
     "rewrites: a link": saves(plain, True, link=True),
     "rewrites: characters sent": characters_sent,

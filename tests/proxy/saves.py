@@ -4,7 +4,7 @@ import os
 import time
 from pathlib import Path
 
-from session import Editor, saved, sent
+from session import PROMPT, QUIET, SECONDS, TOGETHER, Editor, in_time, saved, sent
 
 
 def waits_a_second(place):
@@ -14,7 +14,7 @@ def waits_a_second(place):
     editor.taken(1)
     seconds = time.monotonic() - begun
     editor.ask("wait")
-    yield "one second after the save", 1 <= seconds < 3, seconds
+    yield "one second after the save", QUIET <= seconds < SECONDS / 4, seconds
     yield "the snapshot", editor.snapshots() == [(1, uri.encode(), b"one\n")], editor.snapshots()
     yield "the status", editor.quit() == 0, None
     yield "format 2", editor.log().startswith(b"lsp-session 2\n"), editor.log()[:20]
@@ -23,30 +23,35 @@ def waits_a_second(place):
 def calls_off(step):
     """A test in which something happens to a document in the second after it was saved."""
 
-    def trial(place):
-        editor, file, uri = saved(place)
+    def attempt(place, times):
+        editor, _, uri = saved(place, times=times)
         editor.save(uri)
-        time.sleep(0.5)
+        time.sleep(QUIET / 2)
         step(editor, uri)
-        time.sleep(1.2)
-        found = editor.texts()
+        time.sleep(QUIET * times)
+        editor.settles()
         editor.quit()
-        yield "is called off", found == [], found
+        found = editor.texts()
+        *_, save, after = (it.begun for it in editor.heard() if it.uri == uri)
+        return [("is called off", found == [], found)] if after < save + QUIET * times else None
 
-    return trial
+    return in_time(attempt)
 
 
-def begins_anew(place):
-    editor, _, uri = saved(place)
+def begins_anew(place, times):
+    editor, _, uri = saved(place, times=times)
     editor.save(uri)
-    time.sleep(0.6)
-    editor.save(uri)
+    time.sleep(0.6 * QUIET)
     begun = time.monotonic()
-    editor.taken(1)
+    editor.save(uri)
+    editor.settles()
     seconds = time.monotonic() - begun
-    time.sleep(0.6)
-    yield "a second after the second save, once", seconds >= 1 and len(editor.texts()) == 1, seconds
     editor.quit()
+    first, second = (it.begun for it in editor.heard() if it.method == "textDocument/didSave")
+    if second >= first + QUIET * times:
+        return None
+    is_new = seconds >= QUIET * times and len(editor.texts()) == 1
+    return [("a second after the second save, once", is_new, (seconds, editor.texts()))]
 
 
 def others_go_on(place):
@@ -93,16 +98,23 @@ def lost_change(place):
 def written_again(write):
     """A test in which the file is written in the second after the save."""
 
-    def trial(place):
-        editor, file, uri = saved(place)
+    def attempt(place, times):
+        editor, file, uri = saved(place, times=times)
         editor.save(uri)
         sent(editor)
         write(file)
-        time.sleep(1.3)
-        yield "no snapshot", editor.texts() == [], editor.texts()
-        yield "the session continues", editor.quit() == 0, editor.words()
+        written = time.monotonic()
+        editor.settles()
+        status, found = editor.quit(), editor.texts()
+        save, = (it.begun for it in editor.heard() if it.method == "textDocument/didSave")
+        if written >= save + QUIET * times:
+            return None
+        return [
+            ("no snapshot", found == [], found),
+            ("the session continues", status == 0, editor.words()),
+        ]
 
-    return trial
+    return in_time(attempt)
 
 
 def write_same_size(file):
@@ -130,38 +142,60 @@ def become_pipe(file):
     os.mkfifo(file)
 
 
-def change_and_save(before, after, is_taken, clock=0, pause=0):
-    """A test of a change after a number of seconds since the file was written, or before that, and
-    of `didSave` after a pause. The disk's clock may differ by some seconds."""
+def times_of(editor, file, clock=0):
+    """How long after the file was written `didSave` came, and how long after the change, in
+    nanoseconds."""
+    change, save = (it.now for it in editor.heard() if it.method.endswith(("Change", "Save")))
+    return save - file.stat().st_mtime_ns + clock * 10**9, save - change
 
-    def write(file):
-        file.write_bytes(b"two\n")
-        now = time.time_ns() + clock * 10**9
-        if clock:
-            os.utime(file, ns=(now, now))
+
+def write_two(file, clock):
+    """Writes the file of a disk whose clock may differ by some seconds."""
+    file.write_bytes(b"two\n")
+    now = time.time_ns() + clock * 10**9
+    if clock:
+        os.utime(file, ns=(now, now))
+
+
+def change_then_write(seconds, clock=0):
+    """A test of a change, and of `didSave` after a number of seconds since the file was written."""
 
     def trial(place):
         editor, file, uri = saved(place)
+        editor.change(uri, 2, "two\n")
         sent(editor)
-        if after is None:
-            write(file)
-            editor.ask("wait")
-            time.sleep(before)
-            editor.change(uri, 2, "two\n")
-        else:
-            editor.change(uri, 2, "two\n")
-            sent(editor)
-            write(file)
-            editor.ask("wait")
-            time.sleep(after)
-        time.sleep(pause)
+        write_two(file, clock)
+        time.sleep(seconds)
         editor.save(uri)
-        wanted = [(2, b"two\n")] if is_taken else []
-        found = editor.taken(1, 15 if is_taken else 1.5)
-        yield "the snapshots", found == wanted, found
+        editor.settles()
         editor.quit()
+        found = editor.texts()
+        yield "is taken", found == [(2, b"two\n")], found
 
     return trial
+
+
+def write_then_change(seconds, pause, is_taken, clock=0):
+    """A test of a change after a number of seconds since the file was written, and of `didSave`
+    after a pause."""
+
+    def attempt(place, times):
+        editor, file, uri = saved(place, times=times)
+        sent(editor)
+        write_two(file, clock)
+        time.sleep(seconds * times)
+        editor.change(uri, 2, "two\n")
+        time.sleep(pause * times)
+        editor.save(uri)
+        editor.settles()
+        editor.quit()
+        found = editor.texts()
+        since_written, since_change = times_of(editor, file, clock)
+        is_prompt = since_written <= PROMPT * times and since_change <= TOGETHER * times
+        wanted = [(2, b"two\n")] if is_taken else []
+        return [("the snapshots", found == wanted, found)] if is_prompt == is_taken else None
+
+    return in_time(attempt)
 
 
 MARK = b"\xef\xbb\xbf"
@@ -197,7 +231,7 @@ def converts(place):
     for name, (data, *_) in CONVERTED.items():
         files[name].write_bytes(data)
         editor.save(uris[name])
-    editor.taken(len(uris))
+    editor.settles()
     editor.quit()
     texts = {uri.decode(): text for _, uri, text in editor.snapshots()}
     for name, (*_, wanted) in CONVERTED.items():
@@ -219,8 +253,7 @@ def spelled(place):
     for uri in [*good, *bad]:
         editor.open(uri, "text\n")
         editor.save(uri)
-    editor.taken(len(good))
-    time.sleep(0.2)
+    editor.settles()
     yield "the session continues", editor.quit() == 0, editor.words()
     found = [uri.decode() for _, uri, _ in editor.snapshots()]
     yield "the files of this machine alone", found == good, set(found) ^ set(good)
@@ -248,8 +281,7 @@ def no_plain_files(place):
     editor.open(closed.as_uri(), "x")
     editor.close(closed.as_uri())
     editor.save(closed.as_uri())
-    editor.taken(1)
-    time.sleep(0.2)
+    editor.settles()
     yield "the session continues", editor.quit() == 0, editor.words()
     found = [(uri.decode(), len(text)) for _, uri, text in editor.snapshots()]
     yield "the file of 16 MiB alone", found == [(uris[-1], 1 << 24)], found
@@ -272,7 +304,7 @@ TESTS = {
     "save: a change": calls_off(lambda editor, uri: editor.change(uri, 2, "two\n")),
     "save: closed": calls_off(lambda editor, uri: editor.close(uri)),
     "save: opened": calls_off(lambda editor, uri: editor.open(uri, "two\n", 2)),
-    "save: again": begins_anew,
+    "save: again": in_time(begins_anew),
     "save: others": others_go_on,
     "save: the version": last_version,
     "save: a lost change": lost_change,
@@ -281,15 +313,15 @@ TESTS = {
     "save: another size": written_again(write_longer),
     "save: removed": written_again(Path.unlink),
     "save: a pipe by now": written_again(become_pipe),
-    "save: change, write, at once": change_and_save(None, 0, True),
-    "save: change, write, later": change_and_save(None, 0.4, True),
-    "save: write, change, at once": change_and_save(0, None, True),
-    "save: write, change, later": change_and_save(0.4, None, False),
-    "save: write, change, pause": change_and_save(0, None, False, pause=0.05),
-    "save: a clock that is slow": change_and_save(None, 0.4, True, clock=-3600),
-    "save: a clock that is fast": change_and_save(None, 0.4, True, clock=3600),
-    "save: a fast clock, write, change": change_and_save(0.4, None, False, clock=3600),
-    "save: a slow clock, write, change": change_and_save(0.4, None, False, clock=-3600),
+    "save: change, write, at once": change_then_write(0),
+    "save: change, write, later": change_then_write(0.4),
+    "save: write, change, at once": write_then_change(0, 0, True),
+    "save: write, change, later": write_then_change(0.4, 0, False),
+    "save: write, change, pause": write_then_change(0, 0.05, False),
+    "save: a clock that is slow": change_then_write(0.4, clock=-3600),
+    "save: a clock that is fast": change_then_write(0.4, clock=3600),
+    "save: a fast clock, write, change": write_then_change(0.4, 0, False, clock=3600),
+    "save: a slow clock, write, change": write_then_change(0.4, 0, False, clock=-3600),
     "save: conversions": converts,
     "save: URIs": spelled,
     "save: no plain files": no_plain_files,

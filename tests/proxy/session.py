@@ -1,15 +1,35 @@
 """An editor and a server that the tests of the proxy put at its two ends."""
 
+import itertools
 import json
 import os
+import select
 import subprocess
 import sys
 import time
 from pathlib import Path
+from typing import NamedTuple
 
 PROXY = Path(__file__).resolve().parent.parent.parent / "recorders/proxy"
+TRACED = Path(__file__).resolve().parent / "traced.py"
 PYTHON = "/usr/bin/python3" if os.path.exists("/usr/bin/python3") else sys.executable
-SECONDS = 30
+
+# After how many seconds a test that waits for something gives up. On an idle machine it comes
+# within two, so only what never comes takes this long.
+SECONDS = 120
+
+# How long the proxy waits after a save, in seconds.
+QUIET = 1
+
+# How many seconds it waits for its recorder when the server has ended.
+PATIENCE = 2
+
+# How soon `didSave` comes after the file was written, and after the change, in nanoseconds, from an
+# editor that sends both when it has written the file.
+PROMPT, TOGETHER = 150_000_000, 20_000_000
+
+# How many times as long the proxy of a test waits, until the machine is fast enough for the test.
+TIMES = (1, 2, 4, 8, 16, 32)
 
 # A server that answers each request, ends at `exit`, and dies when it is asked to.
 SERVER = r"""
@@ -36,17 +56,46 @@ while True:
 """
 
 
+def until(condition, seconds=SECONDS):
+    """Waits until something holds; whether it does."""
+    end = time.monotonic() + seconds
+    while not condition():
+        if time.monotonic() > end:
+            return False
+        time.sleep(0.02)
+    return True
+
+
+class Heard(NamedTuple):
+    """A message of the editor that the recorder has followed: which, when it began to, the time of
+    the message's last bytes in nanoseconds, and how many documents wait for a snapshot then."""
+
+    method: str
+    uri: str
+    begun: float
+    now: int
+    due: int
+
+
 class Editor:
     """An editor whose server the proxy runs, with a folder for its logs and its files."""
 
+    traces = itertools.count(1)
+
     def __init__(self, place, *options, server=(PYTHON, "-c", SERVER), logs=None, **how):
         self.place, self.logs = place, logs or place / "logs"
-        self.said = place / "said"
+        self.said, self.trace = place / "said", place / f"trace-{next(self.traces)}"
         setting = {**os.environ, **how.pop("setting", {})}
-        words = [PYTHON, "-B", PROXY, *options, self.logs, *server]
+        waits = [str(how.pop("patience", SECONDS)), str(how.pop("times", 1))]
+        words = [PYTHON, "-B", TRACED, self.trace, *waits, *options, self.logs, *server]
         pipes = {"stdin": subprocess.PIPE, "stdout": subprocess.PIPE}
+        # The proxy and its recorder hold this pipe open for as long as they run.
+        alive, held = os.pipe()
+        self.alive = os.fdopen(alive, "rb")
         with open(self.said, "wb") as said:
-            self.process = subprocess.Popen(words, env=setting, stderr=said, **pipes, **how)
+            how = {"stderr": said, "pass_fds": [held], **pipes, **how}
+            self.process = subprocess.Popen(words, env=setting, **how)
+        os.close(held)
         self.count = 0
 
     def write(self, data):
@@ -98,33 +147,61 @@ class Editor:
         return self.wait()
 
     def wait(self):
+        """The proxy's status, once its recorder has ended, too; None if one of them doesn't end."""
+        status = self.ended()
+        return status if self.has_recorded(SECONDS) else None
+
+    def ended(self):
+        """The proxy's status, or None if it doesn't end."""
         try:
             return self.process.wait(SECONDS)
         except subprocess.TimeoutExpired:
             self.process.kill()
             return None
 
+    def has_recorded(self, seconds=0):
+        """Whether the recorder has ended, within some seconds."""
+        poll = select.poll()
+        poll.register(self.alive, 0)
+        return bool(poll.poll(seconds * 1000))
+
+    def traced(self, kind):
+        """What the recorder has done of this kind by now."""
+        whole = self.trace.read_bytes().rpartition(b"\n")[0] if self.trace.exists() else b""
+        done = map(json.loads, whole.splitlines())
+        return [rest for what, *rest in done if what in kind]
+
+    def heard(self):
+        """The messages that the recorder has followed by now."""
+        return [Heard(*it) for it in self.traced(["heard"])]
+
     def recorder(self):
         """The number of the process that records."""
-        listed = Path(f"/proc/{self.process.pid}/task/{self.process.pid}/children").read_text()
-        return next(it for it in map(int, listed.split()) if is_proxy(it))
+        until(lambda: self.traced(["recorder"]))
+        return self.traced(["recorder"])[0][0]
 
-    def has_open(self, path, seconds=10):
-        """Waits until the process that records has opened a file."""
-        end, opened = time.monotonic() + seconds, Path(f"/proc/{self.recorder()}/fd")
-        while str(path) not in map(os.readlink, opened.iterdir()) and time.monotonic() < end:
-            time.sleep(0.02)
+    def has_opened(self):
+        """Waits until the recorder has opened the file or named pipe of the plug-in."""
+        return until(lambda: self.traced(["opened"]))
+
+    def notes(self, path, count):
+        """Waits until the recorder has noted that a file was written this many times."""
+        return until(lambda: [it for it, _ in self.traced(["noted"])].count(str(path)) >= count)
+
+    def settles(self):
+        """Waits until the recorder has followed all that was sent, and no document waits for its
+        snapshot."""
+        sent(self)
+        return until(lambda: self.traced(["heard", "read"])[-1][-1] == 0)
 
     def log(self):
         """The bytes of the log, once there is one."""
         found = sorted(self.logs.glob("*.log"))
         return found[0].read_bytes() if found else b""
 
-    def has_logged(self, text, seconds=15):
+    def has_logged(self, text):
         """Waits until the log has this text."""
-        end = time.monotonic() + seconds
-        while text not in self.log() and time.monotonic() < end:
-            time.sleep(0.02)
+        return until(lambda: text in self.log())
 
     def snapshots(self):
         """The snapshots in the log by now: versions, URIs and texts."""
@@ -133,11 +210,9 @@ class Editor:
     def texts(self):
         return [(version, text) for version, _, text in self.snapshots()]
 
-    def taken(self, count, seconds=15):
+    def taken(self, count):
         """The versions and texts of the snapshots, once there are this many."""
-        end = time.monotonic() + seconds
-        while len(self.texts()) < count and time.monotonic() < end:
-            time.sleep(0.02)
+        until(lambda: len(self.texts()) >= count)
         return self.texts()
 
     def words(self):
@@ -145,20 +220,17 @@ class Editor:
         return self.said.read_text()
 
 
-def is_proxy(number):
-    return b"recorders/proxy\0" in Path(f"/proc/{number}/cmdline").read_bytes()
-
-
 def records(log):
-    """The records of a log: kind, numbers, and contents."""
+    """The whole records of a log: kind, numbers, and contents."""
     at = log.find(b"\n") + 1
-    while at < len(log):
-        end = log.index(b"\n", at)
+    while (end := log.find(b"\n", at)) >= 0:
         kind, *numbers = log[at:end].decode().split()
         at, contents = end + 1, []
         for size in map(int, numbers[-2:] if kind == "T" else numbers):
             contents.append(log[at : at + size])
             at += size + 1
+        if at > len(log):
+            return
         yield (kind, numbers, *contents)
 
 
@@ -167,17 +239,43 @@ def snapshot(uri, version, text):
     return b"T %d %d %d\n%s\n%s\n" % (version, len(uri), len(text), uri, text)
 
 
-def saved(place, name="a.c", text=b"one\n", shown=None):
+def saved(place, name="a.c", text=b"one\n", shown=None, **how):
     """A session with an open document whose file has this text."""
     file = place / name
     file.write_bytes(text)
-    editor = Editor(place).start()
+    editor = Editor(place, **how).start()
     editor.open(file.as_uri(), text.decode() if shown is None else shown)
     return editor, file, file.as_uri()
 
 
 def sent(editor):
-    """Waits until the proxy has seen all that was sent, and until a second write to a file has
-    another time."""
+    """Waits until the recorder has followed all that was sent, and until a second write to a file
+    has another time."""
+    count = len([it for it in editor.heard() if it.method == "wait"])
     editor.ask("wait")
+    until(lambda: len([it for it in editor.heard() if it.method == "wait"]) > count)
     time.sleep(0.1)
+
+
+def put(file, text):
+    """Writes another file and renames it, so that nobody sees a part of the text."""
+    other = file.with_suffix(".new")
+    other.write_text(text)
+    other.replace(file)
+
+
+def in_time(attempt):
+    """A test of what happens within a time. The attempt, which gets a folder and how many times as
+    long its proxy waits, gives what was found, or None if the machine was too slow for it. Then it
+    is tried again, with a proxy that waits longer."""
+
+    def trial(place):
+        for times in TIMES:
+            part = place / f"times-{times}"
+            part.mkdir()
+            found = attempt(part, times)
+            if found is not None:
+                return found
+        return [("the machine is fast enough to try it", False, TIMES)]
+
+    return trial

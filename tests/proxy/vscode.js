@@ -1,17 +1,19 @@
 // Runs the extension of recorders/vscode against a stand-in of VS Code's API, with a client
 // that sends the same changes to a server through the proxy.
 //
-// usage: node vscode.js EXTENSION URI COMMAND ..
+// usage: node vscode.js EXTENSION URI TRACE COMMAND ..
 //
-// With LOSE=N, the client loses its N-th change.
+// It begins when TRACE says that the proxy has opened the file for snapshots. With LOSE=N, the client
+// loses its N-th change.
 
 "use strict";
 
 const { spawn } = require("child_process");
 const { EventEmitter } = require("events");
+const fs = require("fs");
 const Module = require("module");
 
-const [extension, uri, ...command] = process.argv.slice(2);
+const [extension, uri, trace, ...command] = process.argv.slice(2);
 const server = spawn(command[0], command.slice(1), { stdio: ["pipe", "pipe", "inherit"] });
 
 function send(message) {
@@ -60,8 +62,11 @@ function change(count) {
   }
 }
 
-send({ id: 1, method: "initialize", params: { capabilities: {} } });
-server.stdout.once("data", () => {
+function begin() {
+  if (!fs.existsSync(trace) || !fs.readFileSync(trace, "utf8").includes('["opened"]\n')) {
+    setTimeout(begin, 20);
+    return;
+  }
   send({ method: "initialized", params: {} });
   events.emit("open", document);
   const item = { uri, languageId: "c", version: 1, text: document.text };
@@ -74,5 +79,8 @@ server.stdout.once("data", () => {
     send({ id: 2, method: "shutdown" });
     server.stdout.once("data", () => send({ method: "exit" }));
   }, 900);
-});
+}
+
+send({ id: 1, method: "initialize", params: { capabilities: {} } });
+server.stdout.once("data", begin);
 server.on("exit", (status) => process.exit(status));

@@ -7,8 +7,8 @@ use Rattle.std.specs.Str.{bytes_eq, chars}
 use Rattle.json.specs.Print.{quoted}
 use Rattle.clap.specs.Words.{Text}
 use Rattle.lsp_command.specs.ShownText.{is_control, shown_text}
-use Rattle.lsp_command.specs.declared.command_line.several.Misuse.{Misuse}
-use Rattle.lsp_command.specs.declared.command_line.several.Misuse.TheVariants.{Listing, InputTwice, BothTexts}
+use Rattle.lsp_command.specs.declared.command_line.several.Conflict.{Conflict}
+use Rattle.lsp_command.specs.declared.command_line.several.Conflict.TheVariants.{ListOfSeveral, InputTwice, BothTexts}
 use Rattle.lsp_command.specs.declared.command_line.task.Request.{Request}
 use Rattle.lsp_command.specs.declared.command_line.task.Task.{Task}
 use Rattle.lsp_command.specs.declared.command_line.task.Task.TheVariants as tasks
@@ -33,18 +33,18 @@ standard_inputs request =
 
 -- what is asked and has no answer: a list of the violations of several logs, standard input twice,
 -- or both of two texts
-abbrev pub misuse_of : Request → Option Misuse
-misuse_of request =
-    if is_several request && is_listing request.task then Some Listing
+abbrev pub conflict_of : Request → Option Conflict
+conflict_of request =
+    if is_several request && is_listing request.task then Some ListOfSeveral
     else if nat_lt 1 (standard_inputs request) then Some InputTwice
     else if request.both_texts then Some BothTexts
     else None
 
 -- the words that say so
-abbrev pub misuse_text : Misuse → Text
-misuse_text Listing = codes "--all and --every list the violations of one FILE"
-misuse_text InputTwice = codes "standard input ('-') can be read only once"
-misuse_text BothTexts = codes "the argument '--by-messages' cannot be used with '--in-editor'"
+abbrev pub conflict_text : Conflict → Text
+conflict_text ListOfSeveral = codes "--all and --every list the violations of one FILE"
+conflict_text InputTwice = codes "standard input ('-') can be read only once"
+conflict_text BothTexts = codes "the argument '--by-messages' cannot be used with '--in-editor'"
 
 -- a name with a control character, as JSON text in which each of these is an escape
 abbrev pub quoted_name : Text → Option Text

@@ -1,7 +1,7 @@
 //! The words of the command line, and what they ask for.
 //!
 //! `request_of` reads the words: a [`Request`] is a [`Task`] and the inputs to do it on. A [`Slip`]
-//! says what the words may have left out, and a [`Misuse`] what is asked and cannot be done.
+//! says what the words may have left out, and a [`Conflict`] what is asked and cannot be done.
 
 mod commands;
 mod several;
@@ -9,7 +9,7 @@ mod slip;
 mod task;
 mod words;
 
-pub use several::{Misuse, misuse_of, quoted_name};
+pub use several::{Conflict, conflict_of, quoted_name};
 pub use slip::{Slip, only_word, uri_alone};
 pub use task::{Request, Task};
 pub use words::{file_of, request_of};

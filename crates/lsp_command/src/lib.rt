@@ -27,7 +27,8 @@ mod writer;
 
 pub use beginning::Beginning;
 pub use command_line::{
-    Misuse, Request, Slip, Task, file_of, misuse_of, only_word, quoted_name, request_of, uri_alone,
+    Conflict, Request, Slip, Task, conflict_of, file_of, only_word, quoted_name, request_of,
+    uri_alone,
 };
 pub use hint::{Hint, hint_of};
 pub use input::BufferedInput;

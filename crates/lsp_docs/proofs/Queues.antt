@@ -19,7 +19,7 @@ use Rattle.lsp_docs.specs.Calls.{Bytes}
 use Rattle.lsp_docs.specs.Documents.{Version}
 use Rattle.lsp_docs.specs.State.{Queue, queue_of, keep_in, total, SameOrder, IsAdded, IsReleased}
 use Rattle.lsp_docs.proofs.Words.{uri_is, uri_same}
-use Rattle.lsp_docs.specs.Stored.{queues_in, lengths}
+use Rattle.lsp_docs.specs.Stored.{queues_in}
 use Rattle.lsp_docs.proofs.SameVersions.{order-length, order-of}
 
 pub queue-kept : (u : Bytes) (p : Version → Bool) (ns : List Queue)
@@ -292,6 +292,11 @@ module _ {D : Type 0} (versions : D → List Version) where
           ap length (queue_of-absent es h) in let same =
           ap (λ l. total (map queued l)) is in omega (arith, none, same);
     }
+
+-- the snapshots of all queues
+abbrev pub lengths : List (List Version) → ℕ
+lengths [] = 0
+lengths (v ∷ vs) = length v + lengths vs
 
 pub lengths-total : (es : List (String Global × List Version))
     → lengths (map (λ e. e.1) es) ≡ total (queues_in es)

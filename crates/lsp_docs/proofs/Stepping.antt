@@ -8,8 +8,8 @@ use Rattle.std.specs.Str.{bytes_eq}
 use Rattle.std.proofs.lemmas.Option.{none-some}
 use Rattle.lsp_types.specs.declared.position.Encoding.{Encoding}
 use Rattle.lsp_types.specs.declared.change.SyncKind.{SyncKind}
-use Rattle.lsp_docs.specs.declared.fault.DocFault.{DocFault}
-use Rattle.lsp_docs.specs.declared.fault.DocFault.TheVariants.{Rule}
+use Rattle.lsp_types.specs.declared.fault.Fault.{Fault}
+use Rattle.lsp_types.specs.declared.fault.Fault.TheVariants.{Rule}
 use Rattle.lsp_docs.specs.Calls.{Text, Bytes, Call, opens, changes, closes, saves, shows, uri_of}
 use Rattle.lsp_docs.specs.Calls.{is_close, is_change}
 use Rattle.lsp_docs.specs.Documents.{Terms, Version, versioned, held, Held, documents}
@@ -24,7 +24,7 @@ use Rattle.lsp_docs.specs.State.{missed_one, Queue, KeepsSame, KeepsOn, KeepsNon
 use Rattle.lsp_docs.specs.State.{rule_at, text_in, IsAdded, IsReleased, AreWaits}
 use Rattle.lsp_docs.specs.State.{capped, Allows, Accepts, Refuses}
 use Rattle.lsp_docs.specs.Stored.{IsChanged, Opened, answer_of, IsAnswer}
-use Rattle.lsp_docs.specs.Fault.{Names}
+use Rattle.lsp_types.specs.Fault.{Names}
 use Rattle.lsp_docs.specs.declared.snapshot.Match.{Match}
 use Rattle.lsp_docs.specs.declared.snapshot.Match.TheVariants as matches
 use Rattle.lsp_docs.proofs.Words.{uri_is, uri_flip, unchanged}
@@ -58,7 +58,7 @@ rule-stands s calls c h =
 pub allows : (s : State) (c : Call) → rule_at s c ≡ None → Allows s c
 allows s c e calls h = sym (rule-stands s calls c h) ∙ e
 
-pub refuses : (s : State) (c : Call) (f : DocFault) → Names (rule_at s c) f → Refuses s c f
+pub refuses : (s : State) (c : Call) (f : Fault) → Names (rule_at s c) f → Refuses s c f
 refuses s c f n calls h = subst (λ r. Names r f) (rule-stands s calls c h) n
 
 pub breaks : (s : State) (c : Call) (n : ℕ) → rule_at s c ≡ Some n → Refuses s c (Rule n)

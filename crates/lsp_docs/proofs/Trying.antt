@@ -8,14 +8,12 @@ use Rattle.lsp_types.specs.declared.position.Encoding.{Encoding}
 use Rattle.lsp_text.specs.Changes.{edit_of, edits_of}
 use Rattle.lsp_text.specs.Edits.{Edit, FailsAfter, IsFaultOf, and_then, applied, changed}
 use Rattle.lsp_text.specs.declared.changes.ChangeFault.{ChangeFault}
-use Rattle.lsp_text.specs.declared.fault.TextFault.{TextFault}
-use Rattle.lsp_text.specs.declared.fault.TextFault.TheVariants as faults
 use Rattle.lsp_text.proofs.Positions.{slice_get-past}
-use Rattle.lsp_docs.specs.Fault.{Breaks, IsRule, fault_of}
+use Rattle.lsp_types.specs.Fault.{IsRule}
 use Rattle.lsp_docs.specs.Calls.{Text}
 use Rattle.lsp_docs.specs.Tried.{IsMade, IsRejected}
-use Rattle.lsp_docs.specs.declared.fault.DocFault.{DocFault}
-use Rattle.lsp_docs.specs.declared.fault.DocFault.TheVariants.{Rule, Memory}
+use Rattle.lsp_types.specs.declared.fault.Fault.{Fault}
+use Rattle.lsp_types.specs.declared.fault.Fault.TheVariants.{Rule, Memory}
 
 there_within : (cs : List Edit) (n : ℕ) (edit : Edit) → slice_get cs n ≡ Some edit → n ≤ length cs
 there_within [] n edit h = absurd (cc)
@@ -31,17 +29,17 @@ one_edit (x ∷ y ∷ cs) c one is = absurd (omega (arith, one))
 
 -- those before the one that fails
 pub tried_before : (limit : ℕ) (enc : Encoding) (t u : Text) (cs : List Edit) (failed : ChangeFault)
-    → FailsAfter limit enc t cs u failed → IsRule (fault_of failed.fault)
+    → FailsAfter limit enc t cs u failed → IsRule failed.fault
     → IsMade limit enc t cs failed.made u
 tried_before limit enc t u cs failed h rule = record {
   within = there_within cs failed.made h.edit h.there;
   made = h.made;
   next = subst (IsRejected limit enc u) (sym h.there) (rejected failed.fault h.fails rule);
 } where
-  rejected : (fault : TextFault) → IsFaultOf (changed enc u h.edit.span h.edit.text limit) fault
-      → IsRule (fault_of fault) → IsRejected limit enc u (Some h.edit)
-  rejected (faults.Rule r) f rule = (r, f)
-  rejected faults.Memory f rule = absurd rule
+  rejected : (fault : Fault) → IsFaultOf (changed enc u h.edit.span h.edit.text limit) fault
+      → IsRule fault → IsRejected limit enc u (Some h.edit)
+  rejected (Rule r) f rule = (r, f)
+  rejected Memory f rule = absurd rule
 
 -- all of them
 pub tried_all : (limit : ℕ) (enc : Encoding) (t u : Text) (cs : List Edit)
@@ -53,8 +51,8 @@ tried_all limit enc t u cs h = record {
 }
 
 -- none, where there is one and it fails
-pub tried_none : (limit : ℕ) (enc : Encoding) (t : Text) (edit : Edit) (fault : DocFault)
-    → Breaks (applied limit enc t (edit ∷ [])) fault → IsRule fault
+pub tried_none : (limit : ℕ) (enc : Encoding) (t : Text) (edit : Edit) (fault : Fault)
+    → IsFaultOf (applied limit enc t (edit ∷ [])) fault → IsRule fault
     → IsMade limit enc t (edit ∷ []) 0 t
 tried_none limit enc t edit Memory breaks rule = absurd rule
 tried_none limit enc t edit (Rule r) breaks rule = record {

@@ -2,7 +2,6 @@ pub mod Calls
 pub mod Documents
 pub mod Snapshots
 pub mod State
-pub mod Fault
 pub mod Stored
 pub mod Laws
 pub mod Rules

@@ -31,11 +31,16 @@ abbrev pub version_rule : LineEnds → List Version → Version → Option ℕ
 version_rule ends waits v = if list_any (differs ends v) waits
     then Some rules.SNAPSHOT_DIFFERS else None
 
--- the changes are of the agreed kind: under Full none has a span, under None there is no change
+-- a change is of the kind: under Full it has no span, and under None there is no change
+abbrev pub is_of_kind : SyncKind → Edit → Bool
+is_of_kind Nothing c = false
+is_of_kind Full c = is_none c.span
+is_of_kind Incremental c = true
+
+-- changes are of the agreed kind
 abbrev pub fits_kind : SyncKind → List Edit → Bool
 fits_kind Nothing cs = false
-fits_kind Full cs = list_all (λ c. is_none c.span) cs
-fits_kind Incremental cs = true
+fits_kind kind cs = list_all (is_of_kind kind) cs
 
 -- what refuses the changes, 605 to 607, or else 702
 abbrev pub text_rule : LineEnds → List Version → ℤ → Result Text ℕ → Option ℕ

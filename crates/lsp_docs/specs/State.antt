@@ -14,8 +14,8 @@ use Rattle.lsp_text.specs.Edits.{Edit, applied}
 use Rattle.lsp_text.specs.SameText.{same_text}
 use Rattle.lsp_docs.specs.Snapshots.{kept, last_of, waiting, versions_of, missed}
 use Rattle.lsp_docs.specs.Rules.{rule_of, rule_of_change, call_rule, AreAccepted}
-use Rattle.lsp_docs.specs.Fault.{Names}
-use Rattle.lsp_docs.specs.declared.fault.DocFault.{DocFault}
+use Rattle.lsp_types.specs.Fault.{Names}
+use Rattle.lsp_types.specs.declared.fault.Fault.{Fault}
 use Rattle.lsp_types.specs.declared.rules.TheConstants as rules
 
 -- versions of one URI: those that are kept of it, or those of its snapshots that wait
@@ -178,5 +178,5 @@ pub record Accepts (old new : State) (c : Call) : Type 0 where
 
 -- the call is refused by the rule that the fault names, the least that the call breaks after any
 -- calls that the state stands for, unless memory ran out
-abbrev pub Refuses : State → Call → DocFault → Type 0
+abbrev pub Refuses : State → Call → Fault → Type 0
 Refuses s c fault = (calls : List Call) → Stands s calls → Names (call_rule s.terms calls c) fault

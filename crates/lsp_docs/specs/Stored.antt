@@ -1,5 +1,5 @@
 -- What documents and queues of snapshots hold, apart from where it lies in memory.
-use Rattle.std.specs.Prelude.{◌≡◌, ℕ, ℤ, ◌+◌, int_lt, not, Bool, false, if◌then◌else◌, List, []}
+use Rattle.std.specs.Prelude.{◌≡◌, ℕ, ℤ, int_lt, not, Bool, false, if◌then◌else◌, List, []}
 use Rattle.std.specs.Prelude.{◌∷◌, ◌++◌, map, length, string_bytes, String, Option, Some, None}
 use Rattle.std.specs.Prelude.{Result, Ok}
 use Rattle.std.specs.Global.{Global}
@@ -58,10 +58,6 @@ queue_at e = record { uri = string_bytes e.0; versions = e.1 }
 -- the map of the snapshots, as queues
 abbrev pub queues_in : List (String Global × List Version) → List Queue
 queues_in es = map queue_at es
-
-abbrev pub lengths : List (List Version) → ℕ
-lengths [] = 0
-lengths (v ∷ vs) = length v + lengths vs
 
 -- ---- open documents, each under its URI
 

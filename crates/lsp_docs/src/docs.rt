@@ -14,14 +14,13 @@ ghost use Rattle.lsp_docs.specs.Rules.{text_at, differs};
 ghost use Rattle.lsp_docs.specs.Stored.{texts_of, answer_of, IsAnswer};
 ghost use Rattle.lsp_docs.specs.State.{capped, held_in, queue_of, early_rule, rule_at};
 ghost use Rattle.lsp_docs.specs.State.{Stands, Allows, Accepts, Refuses};
-ghost use Rattle.lsp_docs.specs.Fault.{Names, IsRule};
+ghost use Rattle.lsp_types.specs.Fault.{Names, IsRule};
 ghost use Rattle.lsp_docs.specs.Taken.{call_view, IsTook, MayLackMemory};
 ghost use Rattle.lsp_docs.specs.Tried.{IsTried, tried_in};
 ghost use Rattle.lsp_text.specs.Changes.{edits_of};
 
 use crate::call::{Call, Took};
 use crate::document::Document;
-use crate::fault::DocFault;
 use crate::open_uris::OpenUris;
 use crate::opened::OpenDocuments;
 use crate::revision::has_text;
@@ -31,7 +30,7 @@ use crate::tried::Tried;
 use crate::waiting::Waiting;
 use lsp_frame::{Format, Limits};
 use lsp_text::{Findings, TextStore};
-use lsp_types::{Change, Encoding, LineEnds, Memory, SyncKind, rules};
+use lsp_types::{Change, Encoding, Fault, LineEnds, Memory, SyncKind, rules};
 use std::alloc::Global;
 use std::marker::Model;
 
@@ -230,11 +229,11 @@ impl<S: TextStore> Docs<S> {
     /// [`did_close`](Docs::did_close), [`did_save`](Docs::did_save) or
     /// [`snapshot`](Docs::snapshot).
     #[inline(always)]
-    pub fn take(&mut self, call: Call<'_>, tried: &mut Option<Tried<S>>) -> Result<Took, DocFault>
+    pub fn take(&mut self, call: Call<'_>, tried: &mut Option<Tried<S>>) -> Result<Took, Fault>
         ensures accepts { OnOk result (Accepts self.old self.new (call_view call.entry)) }
         ensures took { IfOk result (IsTook self.old (call_view call.entry)) }
         ensures refuses { IfErr result (Refuses self.old (call_view call.entry)) }
-        ensures memory { result ≡ Err DocFault.Memory
+        ensures memory { result ≡ Err Fault.Memory
             → MayLackMemory self.old (call_view call.entry) }
         ensures tried { IfErr result (λ fault. (calls : List SpecCall)
             → Stands self.old calls → IsRule fault → IsTried self.old.terms calls
@@ -273,16 +272,16 @@ impl<S: TextStore> Docs<S> {
     /// Refused by 601 where the URI is open, 607 where the text has more bytes of UTF-8 than the
     /// limit, 702 where a snapshot that waits for this version has another text; by the least of
     /// them. Memory is requested only where none of them applies.
-    pub fn did_open(&mut self, uri: &str, version: i32, text: &str) -> Result<(), DocFault>
+    pub fn did_open(&mut self, uri: &str, version: i32, text: &str) -> Result<(), Fault>
         ensures accepts { OnOk result (Accepts self.old self.new
             (opens uri.now version (chars text.now))) }
         ensures refuses { IfErr result (Refuses self.old (opens uri.now version (chars text.now))) }
-        ensures memory { result ≡ Err DocFault.Memory
+        ensures memory { result ≡ Err Fault.Memory
             → Allows self.old (opens uri.now version (chars text.now)) }
         ensures err { OnErr result (self.new ≡ self.old) }
     {
         if let Some(rule) = self.open_rule(uri, version, text) {
-            return Err(DocFault::Rule(rule));
+            return Err(Fault::Rule(rule));
         }
         let store = S::from_text(self.documents.alloc(), text)?;
         self.documents.insert(uri, version, store)?;
@@ -306,12 +305,13 @@ impl<S: TextStore> Docs<S> {
         uri: &str,
         version: i32,
         changes: &[Change],
-    ) -> Result<(), DocFault>
+    ) -> Result<(), Fault>
         ensures accepts { OnOk result (Accepts self.old self.new
             (changes_by encoding kind uri.now version (edits_of changes.now))) }
         ensures refuses { IfErr result (Refuses self.old
             (changes_by encoding kind uri.now version (edits_of changes.now))) }
-        ensures memory { result ≡ Err DocFault.Memory → ((calls : List SpecCall) → Stands self.old calls
+        ensures memory { result ≡ Err Fault.Memory
+            → ((calls : List SpecCall) → Stands self.old calls
             → early_rule kind version (edits_of changes.now) (held self.old.terms uri.now calls)
             ≡ None) }
         ensures err { OnErr result (self.new ≡ self.old) }
@@ -330,14 +330,15 @@ impl<S: TextStore> Docs<S> {
         version: i32,
         changes: &[Change],
         tried: &mut Option<Tried<S>>,
-    ) -> Result<Took, DocFault>
+    ) -> Result<Took, Fault>
         ensures took { IfOk result (IsTook self.old
             (changes_by encoding kind uri.now version (edits_of changes.now))) }
         ensures accepts { OnOk result (Accepts self.old self.new
             (changes_by encoding kind uri.now version (edits_of changes.now))) }
         ensures refuses { IfErr result (Refuses self.old
             (changes_by encoding kind uri.now version (edits_of changes.now))) }
-        ensures memory { result ≡ Err DocFault.Memory → ((calls : List SpecCall) → Stands self.old calls
+        ensures memory { result ≡ Err Fault.Memory
+            → ((calls : List SpecCall) → Stands self.old calls
             → early_rule kind version (edits_of changes.now) (held self.old.terms uri.now calls)
             ≡ None) }
         ensures tried { IfErr result (λ fault. (calls : List SpecCall)
@@ -359,14 +360,14 @@ impl<S: TextStore> Docs<S> {
     /// Notification").
     ///
     /// Refused by 602 where the URI is not open.
-    pub fn did_close(&mut self, uri: &str) -> Result<(), DocFault>
+    pub fn did_close(&mut self, uri: &str) -> Result<(), Fault>
         ensures accepts { OnOk result (Accepts self.old self.new (closes uri.now)) }
         ensures refuses { IfErr result (Refuses self.old (closes uri.now)) }
         ensures rule_only { IfErr result IsRule }
         ensures err { OnErr result (self.new ≡ self.old) }
     {
         if !self.documents.remove(uri) {
-            return Err(DocFault::Rule(rules::DOCUMENT_NOT_OPEN));
+            return Err(Fault::Rule(rules::DOCUMENT_NOT_OPEN));
         }
         self.waiting.release(uri);
         Ok(())
@@ -376,7 +377,7 @@ impl<S: TextStore> Docs<S> {
     ///
     /// Refused by 608 where the document is open, and a text is given that differs from the held
     /// one.
-    pub fn did_save(&self, uri: &str, text: Option<&str>) -> Result<(), DocFault>
+    pub fn did_save(&self, uri: &str, text: Option<&str>) -> Result<(), Fault>
         ensures accepts { OnOk result (Accepts self.now self.now
             (saves uri.now (option_map (λ t. chars t.now) text.entry))) }
         ensures refuses { IfErr result (Refuses self.now
@@ -392,7 +393,7 @@ impl<S: TextStore> Docs<S> {
         if has_text(self.terms.line_ends, &document.held.store, text) {
             Ok(())
         } else {
-            Err(DocFault::Rule(rules::SAVED_TEXT_DIFFERS))
+            Err(Fault::Rule(rules::SAVED_TEXT_DIFFERS))
         }
     }
 
@@ -401,14 +402,14 @@ impl<S: TextStore> Docs<S> {
     ///
     /// Refused by 701 where its version is below the held one and each kept one, and by 702 where
     /// its version is held or kept with another text. Memory is requested only where it must wait.
-    pub fn snapshot(&mut self, uri: &str, version: i32, text: &str) -> Result<Match, DocFault>
+    pub fn snapshot(&mut self, uri: &str, version: i32, text: &str) -> Result<Match, Fault>
         ensures accepts { OnOk result (Accepts self.old self.new
             (shows uri.now version (chars text.now))) }
         ensures answer { IfOk result (IsAnswer self.old uri.now version) }
         ensures refuses { IfErr result (Refuses self.old (shows uri.now version (chars text.now))) }
-        ensures memory { result ≡ Err DocFault.Memory
+        ensures memory { result ≡ Err Fault.Memory
             → Allows self.old (shows uri.now version (chars text.now)) }
-        ensures memory_waits { result ≡ Err DocFault.Memory
+        ensures memory_waits { result ≡ Err Fault.Memory
             → IsAnswer self.old uri.now version Match.Waits }
         ensures err { OnErr result (self.new ≡ self.old) }
     {
@@ -426,7 +427,7 @@ impl<S: TextStore> Docs<S> {
     }
 
     /// Judges a snapshot by what is held and kept of its URI.
-    fn judge(&self, uri: &str, version: i32, text: &str) -> Result<Match, DocFault>
+    fn judge(&self, uri: &str, version: i32, text: &str) -> Result<Match, Fault>
         ensures answer { IfOk result
             (λ answer. answer ≡ answer_of version (queue_of uri.now self.now.kept)
             (held_in uri.now self.now.documents)) }

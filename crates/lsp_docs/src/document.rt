@@ -11,11 +11,10 @@ ghost use Rattle.lsp_docs.specs.Documents.{versioned};
 ghost use Rattle.lsp_docs.specs.Snapshots.{last_of};
 ghost use Rattle.lsp_docs.specs.Rules.{show_rule, text_at};
 ghost use Rattle.lsp_docs.specs.Stored.{answer_of};
-ghost use Rattle.lsp_docs.specs.Fault.{IsRule, Names};
+ghost use Rattle.lsp_types.specs.Fault.{IsRule, Names};
 ghost use Rattle.lsp_docs.specs.State.{early_rule, rule_with};
 ghost use Rattle.lsp_docs.specs.Tried.{AreTried, tried_in};
 
-use crate::fault::DocFault;
 use crate::history::History;
 use crate::kind::fits_kind;
 use crate::revision::Revision;
@@ -23,7 +22,7 @@ use crate::snapshot::{Match, Texts, refutes};
 use crate::terms::Terms;
 use crate::tried::Tried;
 use lsp_text::{Findings, TextStore};
-use lsp_types::{Change, Encoding, LineEnds, SyncKind, rules};
+use lsp_types::{Change, Encoding, Fault, LineEnds, SyncKind, rules};
 use std::alloc::{AllocError, Global};
 
 /// The version that is held of a document, and those that are kept of what was held before.
@@ -80,7 +79,7 @@ impl<S: TextStore> Document<S> {
         due: Option<&Texts>,
         tried: &mut Option<Tried<S>>,
         found: &mut Findings,
-    ) -> Result<(), DocFault>
+    ) -> Result<(), Fault>
         requires { found.old ≡ nothing }
         ensures found { OnOk result (found.new
             ≡ findings terms.limit encoding (S.content self.old.held.store)
@@ -100,7 +99,7 @@ impl<S: TextStore> Document<S> {
             (Names (rule_with terms.limit terms.line_ends (unwrap_or (option_copied due.entry) [])
             encoding kind version (edits_of changes.now)
             (Some (versioned self.old.held.version (S.content self.old.held.store))))) }
-        ensures memory { result ≡ Err DocFault.Memory
+        ensures memory { result ≡ Err Fault.Memory
             → early_rule kind version (edits_of changes.now)
             (Some (versioned self.old.held.version (S.content self.old.held.store))) ≡ None }
         ensures tried { IfErr result (λ fault. IsRule fault
@@ -113,7 +112,7 @@ impl<S: TextStore> Document<S> {
             ≡ versioned self.old.held.version (S.content self.old.held.store))) }
     {
         if let Some(rule) = self.change_rule(kind, version, changes) {
-            return Err(DocFault::Rule(rule));
+            return Err(Fault::Rule(rule));
         }
         if terms.kept == 0 && changes.len() == 1 && due.is_none() {
             let change = &changes[0];
@@ -134,7 +133,7 @@ impl<S: TextStore> Document<S> {
                 store: changed,
                 count: changes.len(),
             });
-            return Err(DocFault::Rule(rules::SNAPSHOT_DIFFERS));
+            return Err(Fault::Rule(rules::SNAPSHOT_DIFFERS));
         }
         self.revise(terms.kept, version, changed)?;
         Ok(())
@@ -160,7 +159,7 @@ impl<S: TextStore> Document<S> {
         line_ends: LineEnds,
         version: i32,
         text: &str,
-    ) -> Result<Match, DocFault>
+    ) -> Result<Match, Fault>
         ensures answer { IfOk result
             (λ answer. answer ≡ answer_of version self.now.kept
             (Some (versioned self.now.held.version (S.content self.now.held.store)))) }
@@ -173,7 +172,7 @@ impl<S: TextStore> Document<S> {
         ensures rule_only { IfErr result IsRule }
     {
         match self.rule(line_ends, version, text) {
-            Some(rule) => Err(DocFault::Rule(rule)),
+            Some(rule) => Err(Fault::Rule(rule)),
             None => Ok(self.answer(version)),
         }
     }

@@ -11,7 +11,6 @@
 mod call;
 mod docs;
 mod document;
-mod fault;
 mod history;
 mod kind;
 mod laws;
@@ -26,7 +25,7 @@ mod waiting;
 
 pub use call::{Call, Took};
 pub use docs::Docs;
-pub use fault::DocFault;
+pub use kind::is_of_kind;
 pub use laws::{
     documents_are_held, held_is_shown, kept_versions_rise, nothing_kept, setters_compare,
     snapshots_agree, versions_rise,
@@ -35,3 +34,6 @@ pub use open_uris::OpenUris;
 pub use revision::has_text;
 pub use snapshot::{Match, is_other_text};
 pub use tried::Tried;
+
+/// Why a call is refused: the lowest of the rules 601 to 608, 701 and 702 that it breaks.
+pub type DocFault = lsp_types::Fault;

@@ -7,7 +7,7 @@ ghost use Rattle.lsp_text.specs.Changes.{edits_of};
 ghost use Rattle.lsp_text.specs.Edits.{applied};
 ghost use Rattle.lsp_text.specs.Findings.{nothing};
 ghost use Rattle.lsp_docs.specs.Documents.{versioned};
-ghost use Rattle.lsp_docs.specs.Fault.{IsRule, Names};
+ghost use Rattle.lsp_types.specs.Fault.{IsRule, Names};
 ghost use Rattle.lsp_docs.specs.Stored.{IsChanged};
 ghost use Rattle.lsp_docs.specs.State.{KeepsNone, KeepsSame, held_in, queue_of};
 ghost use Rattle.lsp_docs.specs.State.{early_rule, rule_with, text_in, without};
@@ -15,13 +15,12 @@ ghost use Rattle.lsp_docs.specs.Taken.{found_on};
 ghost use Rattle.lsp_docs.specs.Tried.{AreTriedOn, tried_in};
 
 use crate::document::Document;
-use crate::fault::DocFault;
 use crate::open_uris::OpenUris;
 use crate::snapshot::Texts;
 use crate::terms::Terms;
 use crate::tried::Tried;
 use lsp_text::{Findings, TextStore};
-use lsp_types::{Change, Encoding, OrderedMap, SyncKind, rules};
+use lsp_types::{Change, Encoding, Fault, OrderedMap, SyncKind, rules};
 use std::alloc::{AllocError, Global};
 use std::marker::Model;
 
@@ -134,7 +133,7 @@ impl<S: TextStore> OpenDocuments<S> {
         due: Option<&Texts>,
         tried: &mut Option<Tried<S>>,
         found: &mut Findings,
-    ) -> Result<(), DocFault>
+    ) -> Result<(), Fault>
         requires { found.old ≡ nothing }
         ensures found { OnOk result (found.new
             ≡ found_on terms.limit encoding (held_in uri.now self.old.held)
@@ -147,7 +146,7 @@ impl<S: TextStore> OpenDocuments<S> {
         ensures rule { IfErr result
             (Names (rule_with terms.limit terms.line_ends (unwrap_or (option_copied due.entry) [])
             encoding kind version (edits_of changes.now) (held_in uri.now self.old.held))) }
-        ensures memory { result ≡ Err DocFault.Memory
+        ensures memory { result ≡ Err Fault.Memory
             → early_rule kind version (edits_of changes.now) (held_in uri.now self.old.held)
             ≡ None }
         ensures tried { IfErr result (λ fault. IsRule fault
@@ -158,7 +157,7 @@ impl<S: TextStore> OpenDocuments<S> {
         ensures err { OnErr result (self.new ≡ self.old) }
     {
         let Some(document) = self.documents.get_str_mut(uri) else {
-            return Err(DocFault::Rule(rules::DOCUMENT_NOT_OPEN));
+            return Err(Fault::Rule(rules::DOCUMENT_NOT_OPEN));
         };
         document.change(terms, encoding, kind, version, changes, due, tried, found)
     }

@@ -2,19 +2,18 @@
 
 ghost use Rattle.std.specs.Prelude.{◌≡◌, Ok, [], ◌∷◌, option_map, IfErr, IfOk, OnOk, OnErr};
 ghost use Rattle.std.specs.Str.{chars};
-ghost use Rattle.lsp_text.specs.Edits.{applied};
+ghost use Rattle.lsp_text.specs.Edits.{IsFaultOf, applied};
 ghost use Rattle.lsp_text.specs.SameText.{same_text};
 ghost use Rattle.lsp_text.specs.Changes.{edit_of, edits_of};
 ghost use Rattle.lsp_text.specs.Findings.{nothing, findings};
 ghost use Rattle.lsp_docs.specs.Documents.{versioned};
 ghost use Rattle.lsp_docs.specs.Rules.{differs, text_in};
-ghost use Rattle.lsp_docs.specs.Fault.{Breaks, IsRule};
+ghost use Rattle.lsp_types.specs.Fault.{IsRule};
 ghost use Rattle.lsp_docs.specs.Tried.{AreTried, tried_in};
 
-use crate::fault::DocFault;
 use crate::tried::Tried;
 use lsp_text::{Findings, TextStore, change_all, change_noting};
-use lsp_types::{Change, Encoding, LineEnds};
+use lsp_types::{Change, Encoding, Fault, LineEnds};
 use std::alloc::Global;
 
 /// A text at its version.
@@ -33,7 +32,7 @@ impl<S: TextStore> Revision<S> {
         version: i32,
         edit: &Change,
         found: &mut Findings,
-    ) -> Result<(), DocFault>
+    ) -> Result<(), Fault>
         requires { found.old ≡ nothing }
         ensures found { OnOk result (found.new
             ≡ findings limit encoding (S.content self.old.store) (edit_of edit.now ∷ [])) }
@@ -42,7 +41,7 @@ impl<S: TextStore> Revision<S> {
             ≡ Ok (S.content self.new.store)) }
         ensures version { OnOk result (self.new.version ≡ version) }
         ensures fault { IfErr result
-            (Breaks (applied limit encoding (S.content self.old.store)
+            (IsFaultOf (applied limit encoding (S.content self.old.store)
             (edit_of edit.now ∷ []))) }
         ensures err { OnErr result ((self.new.version ≡ self.old.version)
             × (S.content self.new.store ≡ S.content self.old.store)) }
@@ -70,14 +69,14 @@ impl<S: TextStore> Revision<S> {
         changes: &[Change],
         tried: &mut Option<Tried<S>>,
         found: &mut Findings,
-    ) -> Result<S, DocFault>
+    ) -> Result<S, Fault>
         ensures found { OnOk result (found.new
             ≡ findings limit encoding (S.content self.now.store) (edits_of changes.now)) }
         ensures ok { IfOk result
             (λ store. applied limit encoding (S.content self.now.store) (edits_of changes.now)
             ≡ Ok (S.content store)) }
         ensures fault { IfErr result
-            (Breaks (applied limit encoding (S.content self.now.store) (edits_of changes.now))) }
+            (IsFaultOf (applied limit encoding (S.content self.now.store) (edits_of changes.now))) }
         ensures tried { IfErr result (λ fault. IsRule fault
             → AreTried limit encoding (S.content self.now.store) (edits_of changes.now)
             (tried_in S.content tried.new)) }
@@ -91,7 +90,7 @@ impl<S: TextStore> Revision<S> {
             Err(failed) => {
                 let count = failed.made;
                 *tried = Some(Tried { store, count });
-                Err(DocFault::from(failed.fault))
+                Err(failed.fault)
             }
         }
     }

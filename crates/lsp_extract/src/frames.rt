@@ -16,7 +16,6 @@ ghost use Rattle.lsp_verdict.specs.declared.outcome.Mode.TheVariants.{Lengths};
 use itoa::write_digits;
 use lsp_frame::{Decoder, Limits, Missing, Sink, Source, WriteFault, put_all, write_frame};
 use lsp_outline::MessageReader;
-use lsp_rpc::RpcFault;
 use lsp_verdict::{Mode, Outcome, RunFault, StreamFault, stream_report};
 use std::alloc::Global;
 
@@ -82,8 +81,7 @@ fn write_kind<W: Sink>(
 {
     let words = match messages.words(content) {
         Ok(words) => words,
-        Err(RpcFault::Rule(rule)) => return Ok(Some(rule)),
-        Err(RpcFault::Memory) => return Err(RunFault::Memory),
+        Err(fault) => return Ok(Some(fault.rule()?)),
     };
     write_kind_line(writer, frame, content, words.as_bytes())?;
     Ok(None)

@@ -21,7 +21,8 @@ use Rattle.lsp_text.proofs.Positions.{slice_get-past}
 use Rattle.lsp_docs.specs.Calls.{Text}
 use Rattle.lsp_docs.specs.Tried.{AreTried, AreTriedOn, IsMade, IsRejected, Made, made_of}
 use Rattle.lsp_docs.specs.Documents.{Version}
-use Rattle.lsp_facts.specs.DocumentFacts.{stray, fits, fitting, made_length, misfit_facts}
+use Rattle.lsp_docs.specs.Rules.{is_of_kind}
+use Rattle.lsp_facts.specs.DocumentFacts.{stray, fitting, made_length, misfit_facts}
 use Rattle.lsp_facts.specs.Fact.{Fact, counts_in, fails}
 
 pub first_stray : (enc : Encoding) (t : Text) (span : Span) (char : ℕ) → LiesInside enc t span.first char → span.first ≡ stray enc t span
@@ -87,9 +88,9 @@ fails_some limit enc t cs n u h lt = by_next (slice_get cs n) refl
 
 -- ---- the first that is not of a kind
 
-pub fitting_seen : (kind : SyncKind) (cs : List Change) → prefix_len (λ c. fits kind (edit_of c)) cs ≡ fitting kind (edits_of cs)
+pub fitting_seen : (kind : SyncKind) (cs : List Change) → prefix_len (λ c. is_of_kind kind (edit_of c)) cs ≡ fitting kind (edits_of cs)
 fitting_seen kind [] = refl
-fitting_seen kind (c ∷ cs) = ap (λ n. cond (fits kind (edit_of c)) (1 + n) 0) (fitting_seen kind cs)
+fitting_seen kind (c ∷ cs) = ap (λ n. cond (is_of_kind kind (edit_of c)) (1 + n) 0) (fitting_seen kind cs)
 
 -- there is none
 pub no_misfit : (limit : ℕ) (enc : Encoding) (t : Text) (cs : List Change) (n : ℕ) → length cs ≤ n → misfit_facts limit enc t (edits_of cs) n (slice_get (edits_of cs) n) ≡ []

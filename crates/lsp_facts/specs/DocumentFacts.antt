@@ -2,7 +2,7 @@
 use Rattle.std.specs.Prelude.{List, [], ◌∷◌, ◌++◌, slice_get, nat_lt, Bool, true, false, is_some}
 use Rattle.std.specs.Prelude.{◌==◌}
 use Rattle.std.specs.Prelude.{if◌then◌else◌, option_map, unwrap_or, ◌≡◌, ◌⊎◌, ◌+◌, ℕ, ℤ, length}
-use Rattle.std.specs.Prelude.{take, map, is_none, Option, Some, None, option_to_list, Result, Ok}
+use Rattle.std.specs.Prelude.{take, map, Option, Some, None, option_to_list, Result, Ok}
 use Rattle.std.specs.Prelude.{Err, codes, decimal}
 use Rattle.std.specs.Fmt.{signed_decimal}
 use Rattle.std.specs.List.{flat_map, prefix_len}
@@ -11,7 +11,7 @@ use Rattle.lsp_types.specs.declared.position.Encoding.TheVariants.{Utf8, Utf16, 
 use Rattle.lsp_types.specs.declared.position.Position.{Position}
 use Rattle.lsp_types.specs.declared.position.Span.{Span}
 use Rattle.lsp_types.specs.declared.change.SyncKind.{SyncKind}
-use Rattle.lsp_types.specs.declared.change.SyncKind.TheVariants.{Nothing, Full, Incremental}
+use Rattle.lsp_docs.specs.Rules.{is_of_kind}
 use Rattle.lsp_types.specs.declared.line_ends.LineEnds.{LineEnds}
 use Rattle.lsp_types.specs.declared.line_ends.LineEnds.TheVariants.{Ignored}
 use Rattle.lsp_types.specs.declared.rules.TheConstants as rules
@@ -87,15 +87,9 @@ first_length enc t (Some span) = line_length enc t span.first
 
 -- ---- 604: changes of another kind than agreed
 
--- under Full no change has a span, and under None there is no change
-abbrev pub fits : SyncKind → Edit → Bool
-fits Nothing edit = false
-fits Full edit = is_none edit.span
-fits Incremental edit = true
-
 -- how many changes come before the first that is not of the kind
 abbrev pub fitting : SyncKind → List Edit → ℕ
-fitting kind cs = prefix_len (fits kind) cs
+fitting kind cs = prefix_len (is_of_kind kind) cs
 
 -- the length of the line in the text that the changes before it make, unless one of them is refused
 abbrev pub made_length : Encoding → Option Span → Result Text ℕ → List Fact

@@ -4,13 +4,15 @@ ghost use Rattle.std.specs.Prelude.{◌≡◌, ◌<◌, ◌^◌, ◌+◌, length
 ghost use Rattle.std.specs.List.{prefix_len};
 ghost use Rattle.std.specs.Str.{chars};
 ghost use Rattle.std.specs.String.{string_bytes};
+ghost use Rattle.lsp_docs.specs.Rules.{is_of_kind};
 ghost use Rattle.lsp_text.specs.Edits.{changed};
 ghost use Rattle.lsp_text.specs.Changes.{edit_of, edits_of};
-ghost use Rattle.lsp_facts.specs.DocumentFacts.{fits, misfit_facts, kind_facts, stray, IsStray};
+ghost use Rattle.lsp_facts.specs.DocumentFacts.{misfit_facts, kind_facts, stray, IsStray};
 ghost use Rattle.lsp_facts.specs.DocumentFacts.{HasStray, IsTooLong, IsReason, IsRefused};
 ghost use Rattle.lsp_types.specs.declared.rules.TheConstants as rules;
 
 use crate::facts::Facts;
+use lsp_docs::is_of_kind;
 use lsp_rpc::Result;
 use lsp_text::{TextFault, TextStore, change_all, char_inside, size_with};
 use lsp_types::{Change, Encoding, Memory, Position, Span, SyncKind, rules};
@@ -73,23 +75,12 @@ fn misfit_at<S: TextStore>(
 
 /// How many changes come before the first that is not of the kind.
 fn count_fitting(kind: SyncKind, changes: &[Change]) -> usize
-    ensures { result ≡ prefix_len (λ change. fits kind (edit_of change)) changes.now }
+    ensures { result ≡ prefix_len (λ change. is_of_kind kind (edit_of change)) changes.now }
 {
     changes
         .iter()
-        .take_while(|change| fits_kind(kind, change))
+        .take_while(|change| is_of_kind(kind, change))
         .count()
-}
-
-/// Whether a change is of the kind.
-fn fits_kind(kind: SyncKind, change: &Change) -> bool
-    ensures { result ≡ fits kind (edit_of change.now) }
-{
-    match kind {
-        SyncKind::Nothing => false,
-        SyncKind::Full => change.span.is_none(),
-        SyncKind::Incremental => true,
-    }
 }
 
 /// The facts on the change that this rule refuses after this many others, on the text they made.

@@ -255,7 +255,7 @@ taken_no limits format records answer rule number event who says e =
 
 -- no ruling is Yes
 pub no_yes : (ruling : Ruling) (s : Summary) → verdict_in ruling ≡ Some (yes s) → ⊥
-no_yes (rulings.No rule by number event) s e = absurd cc
+no_yes (rulings.No o) s e = absurd cc
 no_yes (rulings.BadLog number fault) s e = absurd cc
 no_yes rulings.Memory s e = absurd cc
 

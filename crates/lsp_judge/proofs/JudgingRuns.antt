@@ -9,7 +9,8 @@ use Rattle.lsp_frame.specs.Told.{Took}
 use Rattle.lsp_frame.specs.declared.format.Format.{Format}
 use Rattle.lsp_log.specs.Log.{Record}
 use Rattle.lsp_judge.specs.Checked.{IsCut, WritesVerdict}
-use Rattle.lsp_judge.specs.JudgingRun.{JudgingAsked, due_for, judging_run, said_by, shown_by}
+use Rattle.lsp_judge.specs.JudgingRun.{JudgingAsked, due_for, judging_run, said_by}
+use Rattle.lsp_replay.specs.Lines.{shown_line}
 use Rattle.lsp_judge.specs.JudgingRun.{verdict_of}
 use Rattle.lsp_judge.specs.ShownLog.{BeginsShown, IsShown, Showed}
 use Rattle.lsp_judge.proofs.Told.{EndsBy, ends_verdict, told_end, told_no}
@@ -54,11 +55,11 @@ nothing_shown None before = refl
 nothing_shown (Some lines) before = refl
 
 one_shown : (o : Option Lines) (before hs : List Heard) (h : Heard)
-    → shown_by o before h ++ shown_from o (heard_events (before ++ h ∷ [])) (heard_events hs)
+    → shown_line o before h ++ shown_from o (heard_events (before ++ h ∷ [])) (heard_events hs)
     ≡ shown_from o (heard_events before) (heard_events (h ∷ hs))
 one_shown None before hs h = refl
 one_shown (Some lines) before hs h =
-    ap (λ es. shown_by (Some lines) before h
+    ap (λ es. shown_line (Some lines) before h
     ++ flat_map (λ shown. shown) (each_from (line_at lines) es (heard_events hs)))
     (events-push before h)
     ∙ by_line (line_at lines (heard_events before) h.note.event)
@@ -99,7 +100,7 @@ module _ (asked : JudgingAsked) where
   said_shown terms rests before (h ∷ hs) out (said, left, is, own, goes, later) =
       is ∙ ap (λ w. w ++ left)
       (own ∙ ap (said_by asked before h) (no_none (no_of terms before h) goes))
-      ∙ ap (λ w. shown_by asked.lines before h ++ w)
+      ∙ ap (λ w. shown_line asked.lines before h ++ w)
       (said_shown terms rests (before ++ h ∷ []) hs left later)
       ∙ one_shown asked.lines before hs h
 
@@ -150,24 +151,24 @@ module _ (asked : JudgingAsked) where
               IsTold limits log format records w tail) (append-nil first) told) said,
         )
     goes_on first (h ∷ later) front told said =
-        by_no (λ none. goes_on (first ++ h ∷ []) later (front ++ shown_by asked.lines first h)
+        by_no (λ none. goes_on (first ++ h ∷ []) later (front ++ shown_line asked.lines first h)
         (subst (λ (w : List Heard). IsTold limits log format records w tail)
         (sym (append_assoc first (h ∷ []) later)) told)
         (says_more (judging_run asked) terms tail.rests [] first front h
-        (shown_by asked.lines first h) said (sym (ap (said_by asked first h) none))
+        (shown_line asked.lines first h) said (sym (ap (said_by asked first h) none))
         (ap is_some none))) (no_of terms first h) refl
       where
         by_no : (no_of terms first h ≡ None → (v : Verdict) × (rest : List ℕ)
-            × Gives asked limits log ((front ++ shown_by asked.lines first h) ++ rest) v)
+            × Gives asked limits log ((front ++ shown_line asked.lines first h) ++ rest) v)
             → (o : Option Verdict) → no_of terms first h ≡ o
             → (v : Verdict) × (rest : List ℕ) × Gives asked limits log (front ++ rest) v
         by_no on (Some v) is = (v, due_for asked.name v, gives_no first later h front v told said is)
         by_no on None is =
             let (v, rest, given) = on is in (
               v,
-              shown_by asked.lines first h ++ rest,
+              shown_line asked.lines first h ++ rest,
               subst (λ out. Gives asked limits log out v)
-                  (append_assoc front (shown_by asked.lines first h) rest) given,
+                  (append_assoc front (shown_line asked.lines first h) rest) given,
             )
 
   gives : (limits : Bounds) (log out : List ℕ) (outcome : Outcome)

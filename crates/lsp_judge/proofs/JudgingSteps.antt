@@ -11,7 +11,8 @@ use Rattle.lsp_types.specs.declared.side.Side.{Side}
 use Rattle.lsp_types.specs.declared.side.Side.TheVariants.{Editor, Server}
 use Rattle.lsp_judge.specs.Standing.{closed_by, end_by, end_rule, ends_with}
 use Rattle.lsp_judge.specs.JudgingRun.{JudgingAsked, completed_by, due_for, judging_run, said_by}
-use Rattle.lsp_judge.specs.JudgingRun.{shown_by, verdict_of}
+use Rattle.lsp_judge.specs.JudgingRun.{verdict_of}
+use Rattle.lsp_replay.specs.Lines.{shown_line}
 use Rattle.lsp_judge.proofs.Finals.{by_end, by_log}
 use Rattle.lsp_replay.specs.Run.{Tail}
 use Rattle.lsp_replay.specs.Standing.{Follows}
@@ -43,13 +44,13 @@ module _ {terms : Terms} {before : List Heard} {h : Heard} {Fits : Rests → Typ
     {old new : List ℕ} (asked : JudgingAsked) where
   -- it is kept
   pub kept_says : first_no terms (heard_events before) ≡ None → rule_of terms before h ≡ None
-      → new ≡ old ++ shown_by asked.lines before h
+      → new ≡ old ++ shown_line asked.lines before h
       → Says (judging_run asked) terms before h Fits old new
       (first_no terms (heard_events (before ++ h ∷ [])) ≡ None) GoOn
   kept_says clean is added =
       let none = none_is terms before h is in
       record {
-        said = shown_by asked.lines before h;
+        said = shown_line asked.lines before h;
         added = added;
         is = λ rests fits. ap (said_by asked before h) (sym none);
         goes = (ap is_some none, first_after terms before h clean ∙ none);

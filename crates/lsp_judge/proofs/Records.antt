@@ -12,10 +12,10 @@ use Rattle.lsp_replay.specs.Standing.{Keeps as KeepsOne, Follows}
 use Rattle.lsp_replay.specs.Streams as frames
 use Rattle.lsp_replay.proofs.Following.{follows_on}
 use Rattle.lsp_verdict.specs.Event.{Event}
-use Rattle.lsp_verdict.specs.Given.{as_given}
+use Rattle.lsp_verdict.specs.Given.{as_given, offence_view}
 use Rattle.lsp_verdict.specs.Outcome.{Offends}
 use Rattle.lsp_verdict.specs.Placed.{Raw, Placed, Reads, IsSession}
-use Rattle.lsp_verdict.specs.Verdict.{Verdict, no, first_no, no_at}
+use Rattle.lsp_verdict.specs.Verdict.{Verdict, first_no, no_at}
 use Rattle.lsp_verdict.specs.declared.counts.Counts.{Counts}
 use Rattle.lsp_verdict.proofs.OneEvent.{some_list, lists_join}
 use Rattle.lsp_verdict.proofs.Verdicts.{no_found, nothing_offends}
@@ -59,8 +59,8 @@ pub record OffendsAfter (limits : Bounds) (format : Format) (records : List Reco
   pub is : given ≡ as_given verdict
 
 abbrev pub Stops : Bounds → Format → List Record → List Event → Ruling → Type 0
-Stops limits format records before (No rule who number event) =
-    OffendsAfter limits format records before (no rule who number event)
+Stops limits format records before (No o) =
+    OffendsAfter limits format records before (offence_view o).no
 Stops limits format records before (BadLog number code) = ⊥
 Stops limits format records before Memory = Unit {0}
 
@@ -70,7 +70,7 @@ module _ (limits : Bounds) (format : Format) (m : session.State) (d : docs.State
     (has : HasHeard (terms_of limits format) m d c past before) where
   pub stops : (raw : Raw) (ruling : Ruling) → Placed limits records (past ++ raw ∷ later)
       → IsNoAt d.terms before (Reads raw) ruling → Stops limits format records before ruling
-  stops raw (No rule who number at) placed (event, reads, named) =
+  stops raw (No o) placed (event, reads, named) =
       let extra = some_list later in
       record {
         event = event;
@@ -103,8 +103,8 @@ offends_in limits format records before given o =
 stops_rules : (limits : Bounds) (format : Format) (records : List Record) (before : List Event)
     (ruling : Ruling) → Stops limits format records before ruling
     → Rules limits format records ruling
-stops_rules limits format records before (No rule who number at) o =
-    (o.verdict, offends_in limits format records before (no rule who number at) o, o.is)
+stops_rules limits format records before (No given) o =
+    (o.verdict, offends_in limits format records before (offence_view given).no o, o.is)
 stops_rules limits format records before (BadLog number code) o = o
 stops_rules limits format records before Memory o = tt
 
@@ -200,8 +200,8 @@ new_stands s stands terms follows given = open_stands s [] stands.range given (
 pub offence_in : (s : State) (rs : List Record) (ruling : Ruling) (v : Verdict)
     → s.given ≡ Some ruling → verdict_in ruling ≡ Some v → Stands s rs
     → HasOffence s.limits s.format rs v
-offence_in s rs (No rule by number at) v e is p =
-    let same : no rule by number at ≡ v = cc is in
+offence_in s rs (No o) v e is p =
+    let same : (offence_view o).no ≡ v = cc is in
     subst (HasOffence s.limits s.format rs) same
     (subst (λ (o : Option Ruling). StandsBy o s rs) e p.given)
 offence_in s rs (BadLog number code) v e is p =
@@ -210,10 +210,10 @@ offence_in s rs Memory v e is p = absurd (subst (λ (o : Option Ruling). StandsB
 
 pub given_stays : (s : State) (rs more : List Record) (ruling : Ruling) → s.given ≡ Some ruling
     → Stands s rs → Stands s (rs ++ more)
-given_stays s rs more (No rule by number at) e p = record {
+given_stays s rs more (No o) e p = record {
   range = p.range;
   given = subst (λ (o : Option Ruling). StandsBy o s (rs ++ more)) (sym e)
-      (offence_stays s.limits s.format rs more (no rule by number at)
+      (offence_stays s.limits s.format rs more (offence_view o).no
       (subst (λ (o : Option Ruling). StandsBy o s rs) e p.given));
 }
 given_stays s rs more (BadLog number code) e p =
@@ -245,8 +245,8 @@ none_verdict old rs more events s m d c e next p session =
 pub rules_offence : (limits : Bounds) (format : Format) (rs : List Record) (ruling : Ruling)
     (v : Verdict) → verdict_in ruling ≡ Some v → Rules limits format rs ruling
     → HasOffence limits format rs v
-rules_offence limits format rs (No rule by number at) v is o =
-    let same : no rule by number at ≡ v = cc is in subst (HasOffence limits format rs) same o
+rules_offence limits format rs (No given) v is o =
+    let same : (offence_view given).no ≡ v = cc is in subst (HasOffence limits format rs) same o
 rules_offence limits format rs (BadLog number code) v is o = absurd o
 rules_offence limits format rs Memory v is o = let same : None ≡ Some v = is in absurd cc
 
@@ -274,9 +274,9 @@ ruled_stands old new rs more ruling v none is limits format given rules p = reco
   where
     by_ruling : (r : Ruling) → verdict_in r ≡ Some v → Rules old.limits old.format (rs ++ more) r
         → StandsBy (Some r) new (rs ++ more)
-    by_ruling (No rule by number at) named o =
-        subst (λ (f : Format). HasOffence new.limits f (rs ++ more) (no rule by number at))
+    by_ruling (No given) named o =
+        subst (λ (f : Format). HasOffence new.limits f (rs ++ more) (offence_view given).no)
         (sym format) (subst (λ (b : Bounds). HasOffence b old.format (rs ++ more)
-        (no rule by number at)) (sym limits) o)
+        (offence_view given).no) (sym limits) o)
     by_ruling (BadLog number code) named o = absurd o
     by_ruling Memory named o = let same : None ≡ Some v = named in absurd cc

@@ -83,7 +83,7 @@ kept_all terms events None false false = take-length events
 pub ruled : (terms : Terms) (events : List Event) (IsSuch : Event → Type 0) (e : Event) (rule : ℕ)
     (by : Who) (r : Ruling) → IsSuch e → offence terms events e ≡ Some rule → whose e ≡ by
     → verdict_in r ≡ Some (as_given (no_next rule by events)) → IsNoAt terms events IsSuch r
-ruled terms events IsSuch e rule by (No n w k at) such breaks is told = (
+ruled terms events IsSuch e rule by (No o) such breaks is told = (
   e,
   such,
   (

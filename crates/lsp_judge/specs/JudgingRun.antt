@@ -1,8 +1,8 @@
 -- What is said of a log up to its verdict, and for that.
-use Rattle.std.specs.Prelude.{◌≡◌, ◌||◌, ℕ, List, [], Option, Some, None, is_some}
+use Rattle.std.specs.Prelude.{◌≡◌, ◌||◌, ℕ, List, Option, Some, None, is_some}
 use Rattle.lsp_docs.specs.Documents.{Terms}
 use Rattle.lsp_judge.specs.Checked.{line_for}
-use Rattle.lsp_replay.specs.Lines.{heard_line}
+use Rattle.lsp_replay.specs.Lines.{shown_line}
 use Rattle.lsp_replay.specs.Run.{IsJudged, Run, Tail}
 use Rattle.lsp_replay.specs.Telling.{no_of}
 use Rattle.lsp_verdict.specs.Complete.{completed}
@@ -29,14 +29,9 @@ due_for (Some name) = line_for name
 
 -- ---- an event
 
--- the line of an event after these, where events are shown
-abbrev pub shown_by : Option Lines → List Heard → Heard → List ℕ
-shown_by None before h = []
-shown_by (Some lines) before h = heard_line lines before h
-
 -- what is due for this No, else its line
 abbrev pub said_by : JudgingAsked → List Heard → Heard → Option Verdict → List ℕ
-said_by asked before h None = shown_by asked.lines before h
+said_by asked before h None = shown_line asked.lines before h
 said_by asked before h (Some v) = due_for asked.name v
 
 -- ---- the end

@@ -18,7 +18,7 @@ use Rattle.lsp_replay.specs.declared.log_events.LogEvents.{LogEvents}
 use Rattle.lsp_verdict.specs.Event.{Event, sent_in}
 use Rattle.lsp_verdict.specs.Placed.{Raw, Reads}
 use Rattle.lsp_verdict.specs.declared.counts.Counts.{Counts}
-use Rattle.lsp_verdict.specs.Given.{as_given, summary_view}
+use Rattle.lsp_verdict.specs.Given.{as_given, offence_view, summary_view}
 use Rattle.lsp_verdict.specs.Verdict.{Verdict, yes, no, bad_log, no_at, bad_log_of, no_next}
 use Rattle.lsp_verdict.specs.Verdict.{summary}
 use Rattle.lsp_verdict.specs.Outcome.{Offends}
@@ -69,15 +69,15 @@ AreHeard limits format streams messages documents counts records =
 
 -- the verdict that it is, if any
 abbrev pub verdict_in : Ruling → Option Verdict
-verdict_in (No rule who number event) = Some (no rule who number event)
+verdict_in (No o) = Some (offence_view o).no
 verdict_in (BadLog number code) = Some (bad_log number code)
 verdict_in Memory = None
 
 -- the ruling is the No at an event of this kind, unless memory ran out
 abbrev pub IsNoAt : Terms → List Event → (Event → Type 0) → Ruling → Type 0
-IsNoAt terms before IsSuch (No rule who number at) =
+IsNoAt terms before IsSuch (No o) =
     (event : Event) × IsSuch event
-    × ((v : Verdict) × (no_at terms before event ≡ Some v) × (no rule who number at ≡ as_given v))
+    × ((v : Verdict) × (no_at terms before event ≡ Some v) × ((offence_view o).no ≡ as_given v))
 IsNoAt terms before IsSuch (BadLog number code) = ⊥
 IsNoAt terms before IsSuch Memory = Unit {0}
 
@@ -111,8 +111,7 @@ HasOffence limits format records given =
 
 -- a ruling at the last of these records, unless memory ran out
 abbrev pub Rules : Bounds → Format → List Record → Ruling → Type 0
-Rules limits format records (No rule by number event) =
-    HasOffence limits format records (no rule by number event)
+Rules limits format records (No o) = HasOffence limits format records (offence_view o).no
 Rules limits format records (BadLog number code) = ⊥
 Rules limits format records Memory = Unit {0}
 
@@ -128,8 +127,7 @@ is_given given = option_and_then verdict_in given
 -- memory, it stands for none
 abbrev pub StandsBy : Option Ruling → State → List Record → Type 0
 StandsBy None s records = IsOpen s records
-StandsBy (Some (No rule by number event)) s records =
-    HasOffence s.limits s.format records (no rule by number event)
+StandsBy (Some (No o)) s records = HasOffence s.limits s.format records (offence_view o).no
 StandsBy (Some (BadLog number code)) s records = ⊥
 StandsBy (Some Memory) s records = ⊥
 

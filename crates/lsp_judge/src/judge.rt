@@ -74,6 +74,7 @@ impl<S: TextStore> Judge<S> {
         ensures stands { Stands result [] }
         ensures ungiven { result.given ≡ None }
     {
+        // A proof knows that limits are in range once one of them is asked for.
         let _document = limits.document();
         Judge {
             limits,

@@ -1,11 +1,8 @@
 //! What is said of a log up to its verdict, and for that.
-ghost use Rattle.std.specs.Prelude.{◌≡◌, ◌++◌, List, None, OnErr, OnOk, is_some, option_map, true};
-ghost use Rattle.std.specs.Prelude.{string_bytes};
-ghost use Rattle.lsp_docs.specs.Documents.{Terms};
-ghost use Rattle.lsp_judge.specs.JudgingRun.{JudgingAsked, due_for, judging_run, shown_by};
-ghost use Rattle.lsp_replay.specs.Telling.{IsSeen, rule_of};
+ghost use Rattle.std.specs.Prelude.{◌≡◌, ◌++◌, None, OnOk, option_map, string_bytes};
+ghost use Rattle.lsp_judge.specs.JudgingRun.{JudgingAsked, due_for, judging_run};
 ghost use Rattle.lsp_verdict.specs.Given.{verdict_view};
-ghost use Rattle.lsp_verdict.specs.Heard.{Heard, heard_events};
+ghost use Rattle.lsp_verdict.specs.Heard.{heard_events};
 ghost use Rattle.lsp_verdict.specs.Verdict.{first_no};
 
 use crate::check_line::{line_remark, push_line};
@@ -27,20 +24,6 @@ pub(crate) struct Judging<'a> {
 }
 
 impl Judging<'_> {
-    /// Adds the line of an event that is kept, where such are shown.
-    fn show(&self, held: &Events<Lined>, seen: &Seen<'_>, text: &mut String) -> Result<()>
-        ensures shown { OnOk result ((terms : Terms) (before : List Heard) (h : Heard)
-            → IsSeen held.now.session held.now.docs held.now.counts seen.now terms before h
-            → rule_of terms before h ≡ None
-            → string_bytes text.new ≡ string_bytes text.old ++ shown_by self.now.lines before h) }
-        ensures memory { OnErr result (is_some self.now.lines ≡ true) }
-    {
-        match self.lines {
-            Some(lines) => push_kept_line(text, lines, held, seen),
-            None => Ok(()),
-        }
-    }
-
     /// Adds what is due for a verdict.
     fn say(&self, verdict: &Verdict, text: &mut String) -> Result<()>
         ensures { OnOk result (string_bytes text.new ≡ string_bytes text.old
@@ -75,7 +58,7 @@ impl Account for Judging<'_> {
             let boxed = Box::new(*text.allocator(), Outcome::Judged(verdict))?;
             return Ok(Flow::Stop(boxed));
         }
-        self.show(held, seen, text)?;
+        push_kept_line(text, self.lines, held, seen)?;
         Ok(Flow::GoOn)
     }
 

@@ -7,22 +7,14 @@ ghost use Rattle.lsp_judge.specs.Standing.{verdict_in};
 
 use lsp_log::LogCode;
 use lsp_rpc::{Memory, Result};
-use lsp_verdict::{Counts, Verdict, Who};
+use lsp_verdict::{Counts, Offence, Verdict, Who};
 
 /// What a judge gives from some record on: a verdict that no later record changes, or that memory
 /// was refused.
 #[derive(Clone, Copy, Debug, PartialEq, Eq)]
 pub(crate) enum Ruling {
-    No {
-        rule: u16,
-        who: Who,
-        number: u64,
-        event: u64,
-    },
-    BadLog {
-        number: u64,
-        fault: LogCode,
-    },
+    No(Offence),
+    BadLog { number: u64, fault: LogCode },
     Memory,
 }
 
@@ -33,13 +25,7 @@ impl Ruling {
             → verdict_in result ≡ Some (as_given (no_next rule who events)) }
         ensures decided { result ≡ Ruling.Memory → ⊥ }
     {
-        let (number, event) = counts.next(who);
-        Ruling::No {
-            rule,
-            who,
-            number,
-            event,
-        }
+        Ruling::No(Offence::next(counts, rule, who, false))
     }
 
     pub(crate) fn answer(self) -> Result<Verdict>
@@ -47,17 +33,7 @@ impl Ruling {
         ensures err { OnErr result (self ≡ Ruling.Memory) }
     {
         match self {
-            Ruling::No {
-                rule,
-                who,
-                number,
-                event,
-            } => Ok(Verdict::No {
-                rule,
-                who,
-                number,
-                event,
-            }),
+            Ruling::No(offence) => Ok(offence.verdict()),
             Ruling::BadLog { number, fault } => Ok(Verdict::BadLog { number, fault }),
             Ruling::Memory => Err(Memory),
         }

@@ -14,15 +14,15 @@ use lsp_text::Lined;
 use lsp_verdict::{Completeness, Outcome, RunFault};
 use std::alloc::Global;
 
-/// A log that is read, and what is held of its events.
-struct Reading {
+/// A log that is written again as it is read, and what is held of its events.
+struct Upgrade {
     log: LogEvents,
     events: Events<Lined>,
 }
 
-impl Drop for Reading {
+impl Drop for Upgrade {
     fn drop(self) {
-        let Reading { log: _, events: _ } = self;
+        let Upgrade { log: _, events: _ } = self;
     }
 }
 
@@ -49,7 +49,7 @@ pub fn run_upgrade<R: Source, W: Sink>(
     let mut next = log.read(reader)?;
     let format = log.format().unwrap_or(Format::One);
     let events = Events::new(alloc, limits, format);
-    let mut reading = Reading { log, events };
+    let mut reading = Upgrade { log, events };
     loop {
         match next {
             Entry::End(end) => {

@@ -7,12 +7,10 @@ use Rattle.lsp_frame.specs.Told.{Told}
 use Rattle.lsp_log.specs.Log as log
 use Rattle.lsp_log.specs.Log.{Flaw, bad_line, bad_number, cut_short, bad_end, not_utf8, EndsWith, HasLine, HasHead, head_line, in_range, lengths_of, with_feed, holds_feed, head_of, parts_of, spelling}
 use Rattle.lsp_log.specs.Words.{head_view, IsHead, IsHeadFault}
-use Rattle.lsp_log.specs.declared.head.HeadFault.{HeadFault}
-use Rattle.lsp_log.specs.declared.head.HeadFault.TheVariants as heads
 use Rattle.lsp_log.specs.Tape.{Held, Pulled, Filled, Taken}
 use Rattle.lsp_log.specs.Room.{AwaitsPart, AwaitsRecord}
 use Rattle.lsp_log.specs.Place.{line_of}
-use Rattle.lsp_log.specs.Stops.{Ends, EndsAt, HoldsLine, Refused, ReadsFew, StopAnswer, PartsBreak, HasParts, Found, is_flaw, IsHeadStop}
+use Rattle.lsp_log.specs.Stops.{Ends, EndsAt, HoldsLine, Refused, ReadsFew, StopAnswer, PartsBreak, HasParts, Found, is_flaw}
 use Rattle.lsp_log.specs.declared.head.Head.{Head}
 use Rattle.lsp_log.specs.declared.stop.Stop.{Stop}
 use Rattle.lsp_log.specs.declared.stop.Stop.TheVariants.{FirstLine, Nothing, Form, Number, Short, End, Text, Read, Memory}
@@ -43,25 +41,22 @@ line_kept old new before after piece line rest flaw f h more _ =
 has_line : (old new : Held) (before after : Told) (piece line rest : List ℕ) → Filled old new before after piece → HasLine new.rest line rest → HasLine (old.rest ++ piece) line rest
 has_line old new before after piece line rest f h = record { whole = sym f.rest ∙ h.whole; short = h.short; one = h.one }
 
-pub head_stops : (limits : Bounds) (old new : Held) (before after : Told) (piece near : List ℕ) (end : ℕ) (fault : HeadFault) (stop : Stop) → Filled old new before after piece → HasLine new.rest (take end new.rest) (drop (end + 1) new.rest) → near ≡ new.rest
-    → length new.rest ≤ 64 → IsHeadFault limits (take end near) fault → IsHeadStop fault stop → StopAnswer (EndsAt limits new.rest) (AwaitsRecord limits) old new before after stop
-head_stops limits old new before after piece near end heads.Form stop f h same short bad is =
-    subst (λ (x : Stop). StopAnswer (EndsAt limits new.rest) (AwaitsRecord limits) old new before after x) (sym is)
-    (record {
-      piece = piece;
-      pulled = f.pulled;
-      holds = (
-        inr (take end new.rest, drop (end + 1) new.rest, has_line old new before after piece (take end new.rest) (drop (end + 1) new.rest) f h, λ head writable e. bad head writable (ap (take end) same ∙ e)),
-        line_kept old new before after piece (take end new.rest) (drop (end + 1) new.rest) (Some bad_line) f h,
-        omega (arith, ap length f.rest, short),
-      );
-      over = λ w. absurd cc;
-    })
-head_stops limits old new before after piece near end heads.Number stop f h same short bad is =
+pub head_stops : (limits : Bounds) (old new : Held) (before after : Told) (piece near : List ℕ) (end : ℕ) (stop : Stop) → Filled old new before after piece → HasLine new.rest (take end new.rest) (drop (end + 1) new.rest) → near ≡ new.rest → length new.rest ≤ 64
+    → IsHeadFault limits (take end near) stop → StopAnswer (EndsAt limits new.rest) (AwaitsRecord limits) old new before after stop
+head_stops limits old new before after piece near end Form f h same short bad = record {
+  piece = piece;
+  pulled = f.pulled;
+  holds = (
+    inr (take end new.rest, drop (end + 1) new.rest, has_line old new before after piece (take end new.rest) (drop (end + 1) new.rest) f h, λ head writable e. bad head writable (ap (take end) same ∙ e)),
+    line_kept old new before after piece (take end new.rest) (drop (end + 1) new.rest) (Some bad_line) f h,
+    omega (arith, ap length f.rest, short),
+  );
+  over = λ w. absurd cc;
+}
+head_stops limits old new before after piece near end Number f h same short bad =
     let line : take end new.rest ≡ head_line bad.0 = ap (take end) (sym same) ∙ bad.1 in
     let here : HasLine new.rest (head_line bad.0) (drop (end + 1) new.rest) = subst (λ (w : List ℕ). HasLine new.rest w (drop (end + 1) new.rest)) line h in
-    subst (λ (x : Stop). StopAnswer (EndsAt limits new.rest) (AwaitsRecord limits) old new before after x) (sym is)
-    (record {
+    record {
       piece = piece;
       pulled = f.pulled;
       holds = (
@@ -70,7 +65,8 @@ head_stops limits old new before after piece near end heads.Number stop f h same
         omega (arith, ap length f.rest, short),
       );
       over = λ w. absurd cc;
-    })
+    }
+head_stops limits old new before after piece near end stop f h same short bad = absurd bad
 
 -- a head was found, and the tape went past its line
 pub record AtParts (limits : Bounds) (old mid : Held) (before now : Told) (h : log.Head) : Type 0 where

@@ -2,19 +2,16 @@
 use Rattle.std.proofs.Common.{◌≡◌, ℕ, ℤ, ◌<◌, ◌≤◌, true, List, [], ◌∷◌, ◌++◌, length, Option, Some, Result, Ok, Err, refl, sym, ap, subst, ◌∙◌, append_assoc, append-nil}
 use Rattle.std.specs.Prelude.{IsUtf8, IfErr}
 use Rattle.std.specs.List.{flat_map}
-use Rattle.lsp_types.specs.declared.side.Side.{Side}
 use Rattle.lsp_frame.specs.Bounds.{Bounds}
 use Rattle.lsp_frame.specs.Told.{Told}
 use Rattle.lsp_log.specs.Log as log
-use Rattle.lsp_log.specs.Log.{Flaw, cut_short, bad_end, not_utf8, parts_flaw, with_feed, head_line, shown, chunk_head, shown_head}
+use Rattle.lsp_log.specs.Log.{Flaw, cut_short, bad_end, not_utf8, parts_flaw, with_feed, head_line, shown, shown_head}
 use Rattle.lsp_log.specs.Tape.{Held, Taken, Wants, Misses, PartAnswer}
 use Rattle.lsp_log.specs.Room.{AwaitsPart}
-use Rattle.lsp_log.specs.Stops.{Ends, Refused, StopAnswer, IsPartStop, PartsLack, PartsBreak, HasParts, TwoParts, TwoPartsAnswer, TextAnswer, PartsAnswer, FoundAnswer, is_flaw}
+use Rattle.lsp_log.specs.Stops.{Ends, Refused, StopAnswer, PartsLack, PartsBreak, HasParts, TwoParts, TextAnswer, PartsAnswer, FoundAnswer, is_flaw}
 use Rattle.lsp_log.specs.declared.record.Record.{Record}
 use Rattle.lsp_log.specs.declared.stop.Stop.{Stop}
-use Rattle.lsp_log.specs.declared.stop.Stop.TheVariants.{Text}
-use Rattle.lsp_log.specs.declared.tape.PartFault.{PartFault}
-use Rattle.lsp_log.specs.declared.tape.PartFault.TheVariants as faults
+use Rattle.lsp_log.specs.declared.stop.Stop.TheVariants.{End, Memory, Read, Short, Text}
 use Rattle.lsp_log.proofs.LogLemmas.{one_part}
 use Rattle.lsp_log.proofs.PartTests.{part_lacks, part_ends_badly, little_first, little_second}
 use Rattle.lsp_log.proofs.Tapes.{pulled_then, failed_then, taken_both}
@@ -58,28 +55,24 @@ refused_second old mid new before now after front first second t len u some = re
 
 -- ---- one part, and two
 
-pub part_stops : (old new : Held) (before after : Told) (side : Side) (len : ℕ) (fault : PartFault) (stop : Stop) → IsPartStop fault stop → PartAnswer old new before after len (Err fault)
-    → StopAnswer (PartsBreak (chunk_head side len)) (AwaitsPart (len ∷ [])) old new before after stop
-part_stops old new before after side len faults.Short stop is w = subst (StopAnswer (PartsBreak (chunk_head side len)) (AwaitsPart (len ∷ [])) old new before after) (sym is) (first_short old new before after (PartsBreak (chunk_head side len)) len w (part_lacks len [] (old.rest ++ w.piece) w.less))
-part_stops old new before after side len faults.End stop is m = subst (StopAnswer (PartsBreak (chunk_head side len)) (AwaitsPart (len ∷ [])) old new before after) (sym is) (first_misses old new before after (PartsBreak (chunk_head side len)) len m (part_ends_badly len [] (old.rest ++ m.piece) m.more m.other, little_first len [] (old.rest ++ m.piece) m.near))
-part_stops old new before after side len faults.Read stop is f = subst (StopAnswer (PartsBreak (chunk_head side len)) (AwaitsPart (len ∷ [])) old new before after) (sym is) f
-part_stops old new before after side len faults.Memory stop is r = subst (StopAnswer (PartsBreak (chunk_head side len)) (AwaitsPart (len ∷ [])) old new before after) (sym is) (refused_first old new before after len [] r.0 r.1)
+-- the first of the parts of these lengths, where this is said of what is missing
+pub part_stops : (old new : Held) (before after : Told) (P : List ℕ → Option Flaw → Type 0) (n : ℕ) (ns : List ℕ) → ((bytes : List ℕ) → PartsLack (n ∷ ns) bytes (Some cut_short) → P bytes (Some cut_short))
+    → ((bytes : List ℕ) → PartsLack (n ∷ ns) bytes (Some bad_end) → P bytes (Some bad_end)) → (stop : Stop) → PartAnswer old new before after n (Err stop) → StopAnswer P (AwaitsPart (n ∷ ns)) old new before after stop
+part_stops old new before after P n ns short other Short w = first_short old new before after P n w (short (old.rest ++ w.piece) (part_lacks n ns (old.rest ++ w.piece) w.less))
+part_stops old new before after P n ns short other End m = first_misses old new before after P n m (other (old.rest ++ m.piece) (part_ends_badly n ns (old.rest ++ m.piece) m.more m.other, little_first n ns (old.rest ++ m.piece) m.near))
+part_stops old new before after P n ns short other Read f = f
+part_stops old new before after P n ns short other Memory r = refused_first old new before after n ns r.0 r.1
+part_stops old new before after P n ns short other stop none = absurd none
 
-pub first_fails : (old new : Held) (before after : Told) (first second : ℕ) (fault : PartFault) → PartAnswer old new before after first (Err fault) → TwoPartsAnswer old new before after first second (Err fault)
-first_fails old new before after first second faults.Short w = first_short old new before after (PartsLack (first ∷ second ∷ [])) first w (part_lacks first (second ∷ []) (old.rest ++ w.piece) w.less)
-first_fails old new before after first second faults.End m = first_misses old new before after (PartsLack (first ∷ second ∷ [])) first m (part_ends_badly first (second ∷ []) (old.rest ++ m.piece) m.more m.other, little_first first (second ∷ []) (old.rest ++ m.piece) m.near)
-first_fails old new before after first second faults.Read f = f
-first_fails old new before after first second faults.Memory r = refused_first old new before after first (second ∷ []) r.0 r.1
-
-pub second_fails : (old mid new : Held) (before now after : Told) (front : List ℕ) (first second : ℕ) (fault : PartFault) → Taken old mid before now (with_feed front) → length front ≡ first → PartAnswer mid new now after second (Err fault)
-    → TwoPartsAnswer old new before after first second (Err fault)
-second_fails old mid new before now after front first second faults.Short t len w = record {
+pub second_stops : (old mid new : Held) (before now after : Told) (front : List ℕ) (first second : ℕ) (v : ℤ) (stop : Stop) → Taken old mid before now (with_feed front) → length front ≡ first → PartAnswer mid new now after second (Err stop)
+    → StopAnswer (PartsBreak (shown_head v first second)) (AwaitsPart (first ∷ second ∷ [])) old new before after stop
+second_stops old mid new before now after front first second v Short t len w = record {
   piece = t.piece ++ w.piece;
   pulled = pulled_then old.left mid.left new.left before now after t.piece w.piece t.pulled w.pulled;
   holds = flaw_behind old mid before now front w.piece first second cut_short t len (part_lacks second [] (mid.rest ++ w.piece) w.less);
   over = λ _. w.over;
 }
-second_fails old mid new before now after front first second faults.End t len m = record {
+second_stops old mid new before now after front first second v End t len m = record {
   piece = t.piece ++ m.piece;
   pulled = pulled_then old.left mid.left new.left before now after t.piece m.piece t.pulled m.pulled;
   holds = (
@@ -88,8 +81,9 @@ second_fails old mid new before now after front first second faults.End t len m 
   );
   over = λ h. absurd cc;
 }
-second_fails old mid new before now after front first second faults.Read t len f = failed_then old.left mid.left before now after t.piece t.pulled f
-second_fails old mid new before now after front first second faults.Memory t len r = refused_second old mid new before now after front first second t len r.0 r.1
+second_stops old mid new before now after front first second v Read t len f = failed_then old.left mid.left before now after t.piece t.pulled f
+second_stops old mid new before now after front first second v Memory t len r = refused_second old mid new before now after front first second t len r.0 r.1
+second_stops old mid new before now after front first second v stop t len none = absurd none
 
 pub two_taken : (old mid new : Held) (before now after : Told) (front back : List ℕ) (first second : ℕ) → Taken old mid before now (with_feed front) → length front ≡ first → Taken mid new now after (with_feed back) → length back ≡ second
     → TwoParts old new before after first second front back

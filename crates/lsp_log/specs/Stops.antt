@@ -1,5 +1,5 @@
 -- Why a tape begins with no record, as the code says it.
-use Rattle.std.specs.Prelude.{◌≡◌, ℕ, ◌<◌, ◌≤◌, List, [], ◌∷◌, ◌++◌, length, take, Option, Some, None, Bool, true, false, Result, Ok, Err, IsUtf8, string_bytes, String, Vec}
+use Rattle.std.specs.Prelude.{◌≡◌, ℕ, ℤ, ◌<◌, ◌≤◌, List, [], ◌∷◌, ◌++◌, length, take, Option, Some, None, Bool, true, false, Result, Ok, Err, IsUtf8, string_bytes, String, Vec}
 use Rattle.std.specs.List.{flat_map}
 use Rattle.std.specs.Global.{Global}
 use Rattle.lsp_frame.specs.Bounds.{Bounds}
@@ -11,23 +11,9 @@ use Rattle.lsp_log.specs.Place.{line_of}
 use Rattle.lsp_log.specs.Tape.{Held, Pulled, IsOver, ReadFailed, FailsShort, Taken}
 use Rattle.lsp_log.specs.Room.{AwaitsPart, AwaitsRecord}
 use Rattle.lsp_log.specs.Records.{record_view}
-use Rattle.lsp_log.specs.declared.head.HeadFault.{HeadFault}
-use Rattle.lsp_log.specs.declared.head.HeadFault.TheVariants as heads
-use Rattle.lsp_log.specs.declared.tape.PartFault.{PartFault}
-use Rattle.lsp_log.specs.declared.tape.PartFault.TheVariants as faults
 use Rattle.lsp_log.specs.declared.record.Record.{Record}
 use Rattle.lsp_log.specs.declared.stop.Stop.{Stop}
 use Rattle.lsp_log.specs.declared.stop.Stop.TheVariants.{FirstLine, Nothing, Form, Number, Short, End, Text, Read, Memory}
-
-abbrev pub IsHeadStop : HeadFault → Stop → Type 0
-IsHeadStop heads.Form stop = stop ≡ Form
-IsHeadStop heads.Number stop = stop ≡ Number
-
-abbrev pub IsPartStop : PartFault → Stop → Type 0
-IsPartStop faults.Short stop = stop ≡ Short
-IsPartStop faults.End stop = stop ≡ End
-IsPartStop faults.Read stop = stop ≡ Read
-IsPartStop faults.Memory stop = stop ≡ Memory
 
 abbrev pub TextAnswer : List ℕ → Result (String Global) Stop → Type 0
 TextAnswer bytes (Ok text) = string_bytes text ≡ bytes
@@ -118,13 +104,6 @@ pub record TwoParts (old new : Held) (before after : Told) (first second : ℕ) 
   pub front_len : length front ≡ first
   pub back_len : length back ≡ second
 
-abbrev pub TwoPartsAnswer : Held → Held → Told → Told → ℕ → ℕ → Result (Vec ℕ Global × Vec ℕ Global) PartFault → Type 0
-TwoPartsAnswer old new before after first second (Ok parts) = TwoParts old new before after first second (parts.0).items (parts.1).items
-TwoPartsAnswer old new before after first second (Err faults.Short) = Ends (PartsLack (first ∷ second ∷ [])) old new before after (Some cut_short)
-TwoPartsAnswer old new before after first second (Err faults.End) = Ends (PartsLack (first ∷ second ∷ [])) old new before after (Some bad_end)
-TwoPartsAnswer old new before after first second (Err faults.Read) = ReadFailed old.left before after
-TwoPartsAnswer old new before after first second (Err faults.Memory) = Refused (AwaitsPart (first ∷ second ∷ [])) old new before after
-
 -- the parts after a head are flawed
 abbrev pub PartsBreak : log.Head → List ℕ → Option Flaw → Type 0
 PartsBreak head bytes (Some not_utf8) = (r : log.Record) × (after : List ℕ) × (head_of r ≡ head) × (bytes ≡ flat_map with_feed (parts_of r) ++ after) × (IsText r → ⊥) × (length after ≤ 64)
@@ -139,6 +118,12 @@ pub record HasParts (old new : Held) (before after : Told) (head : log.Head) (r 
 abbrev pub PartsAnswer : Held → Held → Told → Told → log.Head → Result Record Stop → Type 0
 PartsAnswer old new before after head (Ok r) = HasParts old new before after head (record_view r)
 PartsAnswer old new before after head (Err stop) = StopAnswer (PartsBreak head) (AwaitsPart (lengths_of head)) old new before after stop
+
+-- two parts, or why the parts of a snapshot with these lengths don't stand there
+abbrev pub TwoPartsAnswer : Held → Held → Told → Told → ℕ → ℕ → Result (Vec ℕ Global × Vec ℕ Global) Stop → Type 0
+TwoPartsAnswer old new before after first second (Ok parts) = TwoParts old new before after first second (parts.0).items (parts.1).items
+TwoPartsAnswer old new before after first second (Err stop) =
+    (version : ℤ) → StopAnswer (PartsBreak (log.shown_head version first second)) (AwaitsPart (first ∷ second ∷ [])) old new before after stop
 
 pub record Found (limits : Bounds) (old new : Held) (before after : Told) (r : log.Record) : Type 0 where
   pub taken : Taken old new before after (spelling r)

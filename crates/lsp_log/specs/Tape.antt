@@ -5,8 +5,8 @@ use Rattle.std.specs.Prelude.{Vec}
 use Rattle.std.specs.Global.{Global}
 use Rattle.lsp_frame.specs.Told.{Told, Gave, KeepsBytes, after_failure}
 use Rattle.lsp_log.specs.Log.{HasLine, holds_feed, with_feed}
-use Rattle.lsp_log.specs.declared.tape.PartFault.{PartFault}
-use Rattle.lsp_log.specs.declared.tape.PartFault.TheVariants.{Short, End, Read, Memory}
+use Rattle.lsp_log.specs.declared.stop.Stop.{Stop}
+use Rattle.lsp_log.specs.declared.stop.Stop.TheVariants.{Short, End, Read, Memory}
 
 -- the bytes that were read and not given, and how many more may be read
 pub record Held : Type 0 where
@@ -89,19 +89,20 @@ pub record Misses (old new : Held) (before after : Told) (len : ℕ) : Type 0 wh
   pub near : length (old.rest ++ piece) ≤ len + 64
   pub other : (slice_index (old.rest ++ piece) len == 10) ≡ false
 
-abbrev pub TakeAnswer : Held → Held → Told → Told → ℕ → Result (Vec ℕ Global) PartFault → Type 0
+abbrev pub TakeAnswer : Held → Held → Told → Told → ℕ → Result (Vec ℕ Global) Stop → Type 0
 TakeAnswer old new before after len (Ok bytes) = Taken old new before after bytes.items × (length bytes.items ≡ len)
 TakeAnswer old new before after len (Err Short) = Wants old new before after len
-TakeAnswer old new before after len (Err End) = ⊥
 TakeAnswer old new before after len (Err Read) = ReadFailed old.left before after
 TakeAnswer old new before after len (Err Memory) = Taken old new before after [] × (0 < len)
+TakeAnswer old new before after len (Err stop) = ⊥
 
-abbrev pub PartAnswer : Held → Held → Told → Told → ℕ → Result (Vec ℕ Global) PartFault → Type 0
+abbrev pub PartAnswer : Held → Held → Told → Told → ℕ → Result (Vec ℕ Global) Stop → Type 0
 PartAnswer old new before after len (Ok bytes) = Taken old new before after (with_feed bytes.items) × (length bytes.items ≡ len)
 PartAnswer old new before after len (Err Short) = Wants old new before after len
 PartAnswer old new before after len (Err End) = Misses old new before after len
 PartAnswer old new before after len (Err Read) = ReadFailed old.left before after
 PartAnswer old new before after len (Err Memory) = Taken old new before after [] × (0 < len)
+PartAnswer old new before after len (Err stop) = ⊥
 
 -- one byte past all that may be read was there; or nothing was read, and where nothing more may be
 -- read the reader is at its end

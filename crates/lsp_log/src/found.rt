@@ -9,7 +9,7 @@ use crate::format::{LINE_LEN, format_of};
 use crate::head::{Head, read_head};
 use crate::record::Record;
 use crate::stop::Stop;
-use crate::tape::{PartFault, Tape, WINDOW};
+use crate::tape::{Tape, WINDOW};
 use lsp_frame::{Format, Limits, Source};
 use std::alloc::Global;
 
@@ -43,7 +43,7 @@ fn two_parts<R: Source>(
     reader: &mut R,
     first: usize,
     second: usize,
-) -> Result<(Vec<u8>, Vec<u8>), PartFault>
+) -> Result<(Vec<u8>, Vec<u8>), Stop>
     ensures short { length tape.new.rest ≤ 64 }
     ensures answer { TwoPartsAnswer tape.old tape.new
         (R.told reader.old) (R.told reader.new) first second result }

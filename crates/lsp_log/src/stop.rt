@@ -1,7 +1,6 @@
 //! Why no record was found.
-use crate::head::HeadFault;
-use crate::tape::PartFault;
 use lsp_frame::Failed;
+use std::alloc::AllocError;
 
 /// Why no record was found where one may stand.
 #[derive(Clone, Copy)]
@@ -37,30 +36,13 @@ impl From<Failed> for Stop {
     }
 }
 
-impl From<HeadFault> for Stop {
-    ghost use Rattle.lsp_log.specs.Stops.{IsHeadStop};
+impl From<AllocError> for Stop {
+    ghost use Rattle.std.specs.Prelude.{◌≡◌};
+    ghost use Rattle.lsp_log.specs.declared.stop.Stop.TheVariants.{Memory};
 
-    ghost from_gives = { IsHeadStop };
+    ghost from_gives = { λ _ stop. stop ≡ Memory };
 
-    fn from(fault: HeadFault) -> Stop {
-        match fault {
-            HeadFault::Form => Stop::Form,
-            HeadFault::Number => Stop::Number,
-        }
-    }
-}
-
-impl From<PartFault> for Stop {
-    ghost use Rattle.lsp_log.specs.Stops.{IsPartStop};
-
-    ghost from_gives = { IsPartStop };
-
-    fn from(fault: PartFault) -> Stop {
-        match fault {
-            PartFault::Short => Stop::Short,
-            PartFault::End => Stop::End,
-            PartFault::Read => Stop::Read,
-            PartFault::Memory => Stop::Memory,
-        }
+    fn from(_error: AllocError) -> Stop {
+        Stop::Memory
     }
 }

@@ -4,44 +4,14 @@ ghost use Rattle.std.specs.Prelude.{vec_len, vec_capacity};
 ghost use Rattle.lsp_log.specs.Tape.{PullAnswer, UpAnswer, FillAnswer, ReachAnswer, LineAnswer};
 ghost use Rattle.lsp_log.specs.Tape.{TakeAnswer, PartAnswer, CutAnswer};
 
+use crate::stop::Stop;
 use lsp_frame::{Failed, Source};
 use memchr::memchr;
-use std::alloc::{AllocError, Global};
+use std::alloc::Global;
 use std::marker::Model;
 
 /// How many bytes are looked at before they are given.
 pub(crate) const WINDOW: usize = 64;
-
-/// Why no part stands where one is due.
-#[derive(Clone, Copy)]
-pub(crate) enum PartFault {
-    Short,
-    End,
-    Read,
-    Memory,
-}
-
-impl From<AllocError> for PartFault {
-    ghost use Rattle.std.specs.Prelude.{◌≡◌};
-    ghost use Rattle.lsp_log.specs.declared.tape.PartFault.TheVariants.{Memory};
-
-    ghost from_gives = { λ _ fault. fault ≡ Memory };
-
-    fn from(_error: AllocError) -> PartFault {
-        PartFault::Memory
-    }
-}
-
-impl From<Failed> for PartFault {
-    ghost use Rattle.std.specs.Prelude.{◌≡◌};
-    ghost use Rattle.lsp_log.specs.declared.tape.PartFault.TheVariants.{Read};
-
-    ghost from_gives = { λ _ fault. fault ≡ Read };
-
-    fn from(_failed: Failed) -> PartFault {
-        PartFault::Read
-    }
-}
 
 /// The bytes that were read and not given, at most a window of them. They move to the window's
 /// front where more is read.
@@ -224,7 +194,7 @@ impl Tape {
         alloc: Global,
         reader: &mut R,
         len: usize,
-    ) -> Result<Vec<u8>, PartFault>
+    ) -> Result<Vec<u8>, Stop>
         ensures short { length self.new.rest ≤ 64 }
         ensures answer { TakeAnswer self.old self.new
             (R.told reader.old) (R.told reader.new) len result }
@@ -236,7 +206,7 @@ impl Tape {
         self.skip(held);
         fill_up(reader, &mut self.left, &mut bytes, len)?;
         if bytes.len() < len {
-            return Err(PartFault::Short);
+            return Err(Stop::Short);
         }
         Ok(bytes)
     }
@@ -247,7 +217,7 @@ impl Tape {
         alloc: Global,
         reader: &mut R,
         len: usize,
-    ) -> Result<Vec<u8>, PartFault>
+    ) -> Result<Vec<u8>, Stop>
         ensures short { length self.new.rest ≤ 64 }
         ensures answer { PartAnswer self.old self.new
             (R.told reader.old) (R.told reader.new) len result }
@@ -256,10 +226,10 @@ impl Tape {
         self.reach(reader, 1)?;
         let near = self.near();
         if near.is_empty() {
-            return Err(PartFault::Short);
+            return Err(Stop::Short);
         }
         if near[0] != b'\n' {
-            return Err(PartFault::End);
+            return Err(Stop::End);
         }
         self.skip(1);
         Ok(bytes)

@@ -1,16 +1,13 @@
 -- What a content says on its side.
-use Rattle.std.specs.Prelude.{◌≡◌, ◌⊎◌, ℕ, List, Some, None}
+use Rattle.std.specs.Prelude.{◌≡◌, ◌⊎◌, ℕ, List, Some}
 use Rattle.lsp_rpc.specs.Act.{Act}
 use Rattle.lsp_rpc.specs.Message.{Message}
 use Rattle.lsp_rpc.specs.Outline.{outline, without_params}
 use Rattle.lsp_rpc.specs.Params.{act_at}
-use Rattle.lsp_rpc.specs.Reading.{Reads, BreaksRule}
-use Rattle.lsp_rpc.specs.declared.fault.RpcFault.{RpcFault}
-use Rattle.lsp_rpc.specs.declared.fault.RpcFault.TheVariants.{Rule, Memory}
+use Rattle.lsp_rpc.specs.Reading.{Reads}
 use Rattle.lsp_outline.specs.declared.outline.Results.{Results}
 use Rattle.lsp_outline.specs.declared.outline.Results.TheVariants.{LeftOut}
 use Rattle.lsp_types.specs.declared.side.Side.{Side}
-use Rattle.lsp_types.specs.declared.rules.TheConstants as rules
 
 -- the content is a message that means this on its side, and this is left of it: the message without
 -- its params, and without the value of its result where that may be left out
@@ -20,14 +17,3 @@ pub record Says (results : Results) (side : Side) (content : List ℕ) (left : M
   pub reads : Reads content whole
   pub means : act_at side whole ≡ Some act
   pub rest : (left ≡ without_params whole) ⊎ ((results ≡ LeftOut) × (left ≡ outline whole))
-
--- the content is a message with params that its side can't read
-abbrev pub HasBadParams : Side → List ℕ → Type 0
-HasBadParams side content =
-    (whole : Message) × Reads content whole × (act_at side whole ≡ None)
-
--- why the content says nothing on its side, unless memory ran out
-abbrev pub IsUnspoken : Side → List ℕ → RpcFault → Type 0
-IsUnspoken side content (Rule rule) =
-    BreaksRule content rule ⊎ ((rule ≡ rules.BAD_METHOD_PARAMS) × HasBadParams side content)
-IsUnspoken side content Memory = Unit {0}

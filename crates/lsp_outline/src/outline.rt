@@ -7,21 +7,19 @@ ghost use Rattle.lsp_outline.specs.Outlined.{Means, Tells, SaysSo, lacks_result}
 ghost use Rattle.lsp_outline.specs.Spoken as spec;
 ghost use Rattle.lsp_outline.specs.declared.outline.Results.TheVariants.{LeftOut};
 ghost use Rattle.lsp_rpc.specs.Message.{Message as SpecMessage, notification};
-ghost use Rattle.lsp_rpc.specs.Fault.{Names, rule_unless_read};
+ghost use Rattle.lsp_rpc.specs.Fault.{IsUnspoken, rule_unless_read};
 ghost use Rattle.lsp_rpc.specs.Outline.{outline, without_params, IsOrIsOutline};
 ghost use Rattle.lsp_rpc.specs.Params as params;
 ghost use Rattle.lsp_rpc.specs.Reading as reading;
 ghost use Rattle.lsp_rpc.specs.View.{act_view, message_view};
 ghost use Rattle.lsp_rpc.specs.Words.{words_of as spec_words_of};
-ghost use Rattle.lsp_rpc.specs.declared.fault.RpcFault.TheVariants.{Memory};
+ghost use Rattle.lsp_types.specs.Fault.{Names};
 ghost use Rattle.lsp_types.specs.declared.rules.TheConstants as rules;
 
 use crate::message::{MessageParts, Reads, parts_of_text, put_message};
 use crate::params::{Told, act_by, put_by};
-use lsp_rpc::{
-    Act, Answer, Message, Method, RpcFault, Spoken, method_of, read, take_act, words_of,
-};
-use lsp_types::Side;
+use lsp_rpc::{Act, Answer, Message, Method, Spoken, method_of, read, take_act, words_of};
+use lsp_types::{Fault, Side};
 use std::alloc::Global;
 
 /// Whether the value of a result is wanted, or null may stand for it.
@@ -168,7 +166,7 @@ fn outline_of(alloc: Global, content: &[u8]) -> Option<Message>
 }
 
 /// What a message of the side means, which is left without its params.
-fn meant(alloc: Global, side: Side, message: Message) -> Result<Spoken, RpcFault>
+fn meant(alloc: Global, side: Side, message: Message) -> Result<Spoken, Fault>
     ensures ok { IfOk result (λ spoken.
         (params.act_at side (message_view message) ≡ Some (act_view spoken.act))
         × (message_view spoken.message ≡ without_params (message_view message))) }
@@ -182,11 +180,11 @@ fn meant(alloc: Global, side: Side, message: Message) -> Result<Spoken, RpcFault
 
 /// What a content of the side says, of whatever form.
 #[inline(never)]
-fn spoken_whole(alloc: Global, side: Side, content: &[u8]) -> Result<Spoken, RpcFault>
+fn spoken_whole(alloc: Global, side: Side, content: &[u8]) -> Result<Spoken, Fault>
     ensures ok { (results : Results) → IfOk result (λ spoken. spec.Says results side content.now
         (message_view spoken.message) (act_view spoken.act)) }
-    ensures rule { IfErr result (spec.IsUnspoken side content.now) }
-    ensures memory { result ≡ Err Memory → 0 < length content.now }
+    ensures rule { IfErr result (IsUnspoken side content.now) }
+    ensures memory { result ≡ Err Fault.Memory → 0 < length content.now }
 {
     match read(alloc, content) {
         Ok(message) => meant(alloc, side, message),
@@ -196,11 +194,11 @@ fn spoken_whole(alloc: Global, side: Side, content: &[u8]) -> Result<Spoken, Rpc
 
 /// Puts what a content of the side says, of whatever form, in the place of another message.
 #[inline(never)]
-fn put_whole(alloc: Global, side: Side, content: &[u8], spoken: &mut Spoken) -> Result<(), RpcFault>
+fn put_whole(alloc: Global, side: Side, content: &[u8], spoken: &mut Spoken) -> Result<(), Fault>
     ensures ok { (results : Results) → OnOk result (spec.Says results side content.now
         (message_view spoken.new.message) (act_view spoken.new.act)) }
-    ensures rule { IfErr result (spec.IsUnspoken side content.now) }
-    ensures memory { result ≡ Err Memory → 0 < length content.now }
+    ensures rule { IfErr result (IsUnspoken side content.now) }
+    ensures memory { result ≡ Err Fault.Memory → 0 < length content.now }
 {
     // What the walk put there before it declined the content is dropped first.
     spoken.message = blank_message(alloc);
@@ -227,11 +225,11 @@ impl MessageReader {
     /// # Errors
     /// The least of the rules 201 to 208 that the content breaks, else 209 where its params don't
     /// have the shape of its method; or `Memory`.
-    pub fn hear(&mut self, side: Side, content: &[u8], results: Results) -> Result<Spoken, RpcFault>
+    pub fn hear(&mut self, side: Side, content: &[u8], results: Results) -> Result<Spoken, Fault>
         ensures ok { IfOk result (λ spoken. spec.Says results side content.now
             (message_view spoken.message) (act_view spoken.act)) }
-        ensures rule { IfErr result (spec.IsUnspoken side content.now) }
-        ensures memory { result ≡ Err Memory → 0 < length content.now }
+        ensures rule { IfErr result (IsUnspoken side content.now) }
+        ensures memory { result ≡ Err Fault.Memory → 0 < length content.now }
     {
         let mut spoken = self.blank();
         self.hear_into(side, content, results, &mut spoken)?;
@@ -260,11 +258,11 @@ impl MessageReader {
         content: &[u8],
         results: Results,
         spoken: &mut Spoken,
-    ) -> Result<(), RpcFault>
+    ) -> Result<(), Fault>
         ensures ok { OnOk result (spec.Says results side content.now
             (message_view spoken.new.message) (act_view spoken.new.act)) }
-        ensures rule { IfErr result (spec.IsUnspoken side content.now) }
-        ensures memory { result ≡ Err Memory → 0 < length content.now }
+        ensures rule { IfErr result (IsUnspoken side content.now) }
+        ensures memory { result ≡ Err Fault.Memory → 0 < length content.now }
     {
         match put_spoken(self.alloc, side, content, results, spoken) {
             Some(()) => Ok(()),
@@ -275,12 +273,12 @@ impl MessageReader {
     /// Reads a content as [`read`] does (JSON-RPC 2.0, sections 4 and 5), whole or without the
     /// values of its params and of its result: the params are `None` then, the result is null. The
     /// refusal is the least rule that it breaks.
-    pub fn read(&mut self, content: &[u8]) -> Result<Message, RpcFault>
+    pub fn read(&mut self, content: &[u8]) -> Result<Message, Fault>
         ensures ok { IfOk result (λ message. (whole : SpecMessage)
             × reading.Reads content.now whole
             × IsOrIsOutline (message_view message) whole) }
         ensures rule { IfErr result (reading.IsRefusal content.now) }
-        ensures memory { result ≡ Err Memory → 0 < length content.now }
+        ensures memory { result ≡ Err Fault.Memory → 0 < length content.now }
     {
         match outline_of(self.alloc, content) {
             Some(message) => Ok(message),
@@ -290,17 +288,14 @@ impl MessageReader {
 
     /// The words that name the message of a content, as [`words_of`] gives them. The refusal is the
     /// least rule that it breaks.
-    pub fn words(&mut self, content: &[u8]) -> Result<String, RpcFault>
+    pub fn words(&mut self, content: &[u8]) -> Result<String, Fault>
         ensures ok { IfOk result (λ words. (message : SpecMessage)
             × reading.Reads content.now message
             × (string_bytes words ≡ spec_words_of message)) }
         ensures rule { IfErr result (reading.IsRefusal content.now) }
-        ensures memory { result ≡ Err Memory → 0 < length content.now }
+        ensures memory { result ≡ Err Fault.Memory → 0 < length content.now }
     {
         let message = self.read(content)?;
-        match words_of(self.alloc, &message) {
-            Ok(words) => Ok(words),
-            Err(_) => Err(RpcFault::Memory),
-        }
+        Ok(words_of(self.alloc, &message)?)
     }
 }

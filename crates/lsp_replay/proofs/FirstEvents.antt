@@ -14,7 +14,7 @@ use Rattle.lsp_types.specs.declared.side.Side.TheVariants.{Editor, Server}
 use Rattle.lsp_replay.specs.LogEvents.{GoesBehind, HasGiven}
 use Rattle.lsp_replay.specs.Run.{HasSaid, IsPassed, IsTold, RanOut, Run, SaysAll, Tail}
 use Rattle.lsp_replay.specs.Run.{WantsAt, WantsNext}
-use Rattle.lsp_verdict.specs.Heard.{AreRests, Heard, Rests, RestsBehind, notes_of, raws_of}
+use Rattle.lsp_verdict.specs.Heard.{AreRests, Heard, Rests, notes_of, raws_of}
 use Rattle.lsp_verdict.specs.Offences.{IsNoted}
 use Rattle.lsp_verdict.specs.Outcome.{log_terms}
 use Rattle.lsp_verdict.specs.Placed.{Raw, Placed, joined}
@@ -95,6 +95,11 @@ some_rests limits records =
         server = (server.0, server.2, server.3);
       },
     )
+
+-- of records that begin with these
+abbrev pub RestsBehind : Bounds → List Record → Rests → Type 0
+RestsBehind limits records rests =
+    (more : List Record) × AreRests limits (records ++ more) rests
 
 -- records that go on have these first
 pub rests_behind : (limits : Bounds) (front records : List Record) (rests : Rests)

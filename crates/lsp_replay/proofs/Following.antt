@@ -15,8 +15,8 @@ use Rattle.lsp_verdict.specs.declared.counts.Counts.{Counts}
 use Rattle.lsp_verdict.proofs.LookBackLemmas.{first_of-snoc}
 use Rattle.lsp_replay.specs.Keeping.{IsKept, RefusesEvent}
 use Rattle.lsp_replay.specs.Standing.{Follows, Keeps, RefusesFor}
-use Rattle.lsp_replay.specs.declared.fault.Fault.{Fault}
-use Rattle.lsp_replay.specs.declared.fault.Fault.TheVariants as own
+use Rattle.lsp_types.specs.declared.fault.Fault.{Fault}
+use Rattle.lsp_types.specs.declared.fault.Fault.TheVariants as own
 
 -- an event that a content is read as is its side's
 pub whose_content : (side : Side) (bytes : List ℕ) (e : Event) → ReadsAs side bytes e

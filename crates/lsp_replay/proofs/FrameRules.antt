@@ -8,6 +8,7 @@ use Rattle.lsp_frame.specs.Bounds.{Bounds}
 use Rattle.lsp_frame.specs.Frame.{Breaks}
 use Rattle.lsp_frame.proofs.FrameRules.{breaks_rule}
 use Rattle.lsp_log.specs.Log.{Record}
+use Rattle.lsp_rpc.specs.Params.{IsRefused}
 use Rattle.lsp_rpc.specs.Reading.{least_broken, rules_on, parts_of}
 use Rattle.lsp_rpc.specs.Shape.{is_object}
 use Rattle.lsp_types.specs.declared.side.Side.{Side}
@@ -15,7 +16,7 @@ use Rattle.lsp_session.specs.Sent.{same_side}
 use Rattle.lsp_session.proofs.LawLemmas.{same_side-refl}
 use Rattle.lsp_replay.specs.Streams.{State, Stands, decoder_of}
 use Rattle.lsp_replay.proofs.Owning.{given_own, side_broken}
-use Rattle.lsp_verdict.specs.Placed.{IsRefused, ReadsAs, Raw, content, broken, show, new_fault}
+use Rattle.lsp_verdict.specs.Placed.{ReadsAs, Raw, content, broken, show, new_fault}
 use Rattle.lsp_verdict.specs.Placed.{Reads}
 use Rattle.lsp_verdict.specs.Event.{Event, message, fault, snapshot}
 use Rattle.lsp_verdict.specs.Offences.{Noted, IsNoted, events_of}

@@ -1,33 +1,28 @@
 -- How an event that was read is kept: admitted, and taken over.
-use Rattle.std.proofs.Common.{◌≡◌, ℕ, List, [], ◌∷◌, ◌++◌, Option, Some, None, inl, inr, refl, sym, ap}
+use Rattle.std.proofs.Common.{◌≡◌, ℕ, List, [], ◌∷◌, ◌++◌, Option, Some, None, refl, sym, ap}
 use Rattle.std.proofs.Common.{append-nil, arith, subst, ◌∙◌}
 use Rattle.std.specs.Prelude.{option_and_then}
 use Rattle.std.specs.List.{cons_option}
 use Rattle.std.specs.Option.{option_or}
+use Rattle.lsp_rpc.specs.Fault.{IsUnspoken}
 use Rattle.lsp_rpc.specs.Params.{act_at}
 use Rattle.lsp_rpc.specs.View.{act_view, message_view}
 use Rattle.lsp_rpc.specs.declared.act.Spoken.{Spoken}
-use Rattle.lsp_rpc.specs.declared.fault.RpcFault.{RpcFault}
-use Rattle.lsp_rpc.specs.declared.fault.RpcFault.TheVariants as contents
-use Rattle.lsp_outline.specs.Spoken.{IsUnspoken}
+use Rattle.lsp_types.specs.Fault.{IsRule, Names}
+use Rattle.lsp_types.specs.declared.fault.Fault.{Fault}
+use Rattle.lsp_types.specs.declared.fault.Fault.TheVariants.{Rule, Memory}
 use Rattle.lsp_types.specs.declared.side.Side.{Side}
 use Rattle.lsp_session.proofs.LeastRuleLemmas.{rules_end}
 use Rattle.lsp_session.specs.Laws.{sent_by}
-use Rattle.lsp_session.specs.Refusal as refusal
 use Rattle.lsp_session.specs.Rules.{rule_after}
 use Rattle.lsp_session.specs.Sent.{Sent}
 use Rattle.lsp_session.specs.State as session
-use Rattle.lsp_session.specs.declared.refusal.Refusal.{Refusal}
-use Rattle.lsp_session.specs.declared.refusal.Refusal.TheVariants as refusals
 use Rattle.lsp_docs.specs.Calls.{Call}
 use Rattle.lsp_docs.specs.Documents.{Terms}
-use Rattle.lsp_docs.specs.Fault as docs_fault
 use Rattle.lsp_docs.specs.Rules.{call_rule}
 use Rattle.lsp_docs.specs.State as docs
 use Rattle.lsp_docs.specs.Tried.{Made}
 use Rattle.lsp_docs.specs.declared.call.Took.{Took}
-use Rattle.lsp_docs.specs.declared.fault.DocFault.{DocFault}
-use Rattle.lsp_docs.specs.declared.fault.DocFault.TheVariants as faults
 use Rattle.lsp_verdict.specs.Event.{call_at, calls, Event, message, fault as broken_rule}
 use Rattle.lsp_verdict.specs.Event.{snapshot, sent_in}
 use Rattle.lsp_verdict.specs.Given.{raw_view}
@@ -40,26 +35,17 @@ use Rattle.lsp_verdict.proofs.Messages.{sent_in-append}
 use Rattle.lsp_verdict.proofs.Offences.Quiet.{leaves_session}
 use Rattle.lsp_replay.proofs.Apart.{carried}
 use Rattle.lsp_replay.specs.Keeping.{IsAdmitted, IsSound, RefusesEvent, Tries, message_rule}
-use Rattle.lsp_replay.specs.Standing.{CanWantMemory, Holds, IsUnread, MayLackFor, RefusesCall}
-use Rattle.lsp_replay.specs.Standing.{RefusesFor, TakesCall, of_call, of_message, of_reading}
+use Rattle.lsp_replay.specs.Standing.{CanWantMemory, Holds, MayLackFor, RefusesCall}
+use Rattle.lsp_replay.specs.Standing.{RefusesFor, TakesCall}
 use Rattle.lsp_replay.specs.Telling.{MaySpeak, took_of}
 use Rattle.lsp_replay.specs.Tries.{IsTriedOf}
-use Rattle.lsp_replay.specs.declared.fault.Fault.{Fault}
-use Rattle.lsp_replay.specs.declared.fault.Fault.TheVariants as own
 
 -- ---- a content that says nothing
 
-pub unread : (side : Side) (bytes : List ℕ) (f : RpcFault) → IsUnspoken side bytes f
-    → IsUnread side bytes (of_reading f)
-unread side bytes (contents.Rule rule) (inl breaks) = (refl, inl breaks)
-unread side bytes (contents.Rule rule) (inr (is, params)) =
-    (refl, inr (is, record { of = params.0; reads = params.1; unread = params.2 }))
-unread side bytes contents.Memory e = tt
-
 pub unread_for : (side : Side) (bytes : List ℕ) (terms : Terms) (events : List Event) (f : Fault)
-    → IsUnread side bytes f → RefusesFor (content side bytes) terms events f
-unread_for side bytes terms events (own.Rule rule) is = (broken_rule side rule, is, refl)
-unread_for side bytes terms events own.Memory is = tt
+    → IsUnspoken side bytes f → RefusesFor (content side bytes) terms events f
+unread_for side bytes terms events (Rule rule) is = (broken_rule side rule, (refl, is), refl)
+unread_for side bytes terms events Memory is = tt
 
 -- ---- admitting
 
@@ -122,13 +108,13 @@ module _ (side : Side) (bytes : List ℕ) (s : Spoken) (events : List Event) whe
             (sym (sent_in-append events (message whole.0 ∷ []))) (stands ∙ whole.2.1),
       )
 
-  pub said_refused : (event : Event) (f : Refusal) → ReadsAs side bytes event
-      → MaySpeak events event (Some s) → refusal.Names (rule_after (sent_in events) left) f
-      → refusal.Names (message_rule events event) f
+  pub said_refused : (event : Event) (f : Fault) → ReadsAs side bytes event
+      → MaySpeak events event (Some s) → Names (rule_after (sent_in events) left) f
+      → Names (message_rule events event) f
   said_refused event f reads speaks named =
       let whole = rule_left event reads speaks in
-      subst (λ (e : Event). refusal.Names (message_rule events e) f) (sym whole.1)
-      (subst (λ rule. refusal.Names rule f) whole.2.0 named)
+      subst (λ (e : Event). Names (message_rule events e) f) (sym whole.1)
+      (subst (λ rule. Names rule f) whole.2.0 named)
 
 -- ---- an event, by the rule on messages and the rule on documents
 
@@ -141,11 +127,11 @@ module _ (terms : Terms) (events : List Event) where
 
   module _ (event : Event) (sound : IsSound event) where
     -- it is not admitted
-    pub refused_as_message : (raw : Raw) (f : Refusal) → refusal.Names (message_rule events event) f
-        → CanWantMemory terms events raw → RefusesEvent raw terms events event (of_message f)
-    refused_as_message raw (refusals.Rule rule) named wants =
+    pub refused_as_message : (raw : Raw) (f : Fault) → Names (message_rule events event) f
+        → CanWantMemory terms events raw → RefusesEvent raw terms events event f
+    refused_as_message raw (Rule rule) named wants =
         rule_split event sound ∙ ap (λ o. option_or o (document_rule terms events event)) named
-    refused_as_message raw refusals.Memory named wants = wants
+    refused_as_message raw Memory named wants = wants
 
     pub document_offence : message_rule events event ≡ None
         → offence terms events event ≡ document_rule terms events event
@@ -153,14 +139,14 @@ module _ (terms : Terms) (events : List Event) where
         rule_split event sound ∙ ap (λ o. option_or o (document_rule terms events event)) none
 
 -- a rule on messages is none on documents
-pub not_tried : (terms : Terms) (events : List Event) (event : Event) (f : Refusal)
-    (tried : Option Made) → refusal.Names (message_rule events event) f
-    → Tries terms events event (of_message f) tried
-not_tried terms events (message m) (refusals.Rule rule) tried named = λ least.
+pub not_tried : (terms : Terms) (events : List Event) (event : Event) (f : Fault)
+    (tried : Option Made) → Names (message_rule events event) f
+    → Tries terms events event f tried
+not_tried terms events (message m) (Rule rule) tried named = λ least.
     absurd (omega (arith, rules_end (sent_in events) m rule named, least))
-not_tried terms events (broken_rule side code) (refusals.Rule rule) tried named = absurd (cc named)
-not_tried terms events (snapshot uri n t) (refusals.Rule rule) tried named = absurd (cc named)
-not_tried terms events event refusals.Memory tried named = tt
+not_tried terms events (broken_rule side code) (Rule rule) tried named = absurd (cc named)
+not_tried terms events (snapshot uri n t) (Rule rule) tried named = absurd (cc named)
+not_tried terms events event Memory tried named = tt
 
 -- ---- its call
 
@@ -168,26 +154,26 @@ module _ (old : docs.State) (events : List Event) (h : docs.Stands old (calls ev
     (event : Event) (sound : IsSound event) (none : message_rule events event ≡ None)
     (said : Option Call) (says : said ≡ call_at events event) where
   -- it is refused
-  pub refused_as_call : (raw : Raw) (f : DocFault) → Reads raw event → RefusesCall old said f
-      → (f ≡ faults.Memory → MayLackFor old said)
-      → RefusesEvent raw old.terms events event (of_call f)
-  refused_as_call raw (faults.Rule rule) reads refuses lacks =
+  pub refused_as_call : (raw : Raw) (f : Fault) → Reads raw event → RefusesCall old said f
+      → (f ≡ Memory → MayLackFor old said)
+      → RefusesEvent raw old.terms events event f
+  refused_as_call raw (Rule rule) reads refuses lacks =
       document_offence old.terms events event sound none
       ∙ ap (option_and_then (call_rule old.terms (calls events))) (sym says) ∙ named said refuses
     where
-      named : (o : Option Call) → RefusesCall old o (faults.Rule rule)
+      named : (o : Option Call) → RefusesCall old o (Rule rule)
           → option_and_then (call_rule old.terms (calls events)) o ≡ Some rule
       named None refused = absurd refused
       named (Some call) refused = refused (calls events) h
-  refused_as_call (content side bytes) faults.Memory reads refuses lacks = tt
-  refused_as_call (broken side rule) faults.Memory reads refuses lacks =
+  refused_as_call (content side bytes) Memory reads refuses lacks = tt
+  refused_as_call (broken side rule) Memory reads refuses lacks =
       absurd (subst IsSound reads sound)
-  refused_as_call (show n uri t) faults.Memory reads refuses lacks =
+  refused_as_call (show n uri t) Memory reads refuses lacks =
       let lacking = subst (MayLackFor old) (says ∙ ap (call_at events) reads) (lacks refl) in
       sym (lacking.1 (calls events) h)
 
   -- and the messages stay
-  pub refused_leaves : (raw : Raw) (messages : session.State) (f : DocFault) → Reads raw event
+  pub refused_leaves : (raw : Raw) (messages : session.State) (f : Fault) → Reads raw event
       → RefusesCall old said f → IsAdmitted messages events event
       → session.Stands messages (sent_in events)
   refused_leaves raw messages f reads refuses admitted =
@@ -249,9 +235,9 @@ module _ (old : docs.State) (events : List Event) (h : docs.Stands old (calls ev
 
 -- what was tried of it
 pub tried_as_call : (terms : Terms) (events : List Event) (event : Event) (said : Option Call)
-    → said ≡ call_at events event → (f : DocFault) (tried : Option Made)
-    → (docs_fault.IsRule f → IsTriedOf terms (calls events) said tried)
-    → Tries terms events event (of_call f) tried
-tried_as_call terms events event said says (faults.Rule rule) tried told = λ least.
+    → said ≡ call_at events event → (f : Fault) (tried : Option Made)
+    → (IsRule f → IsTriedOf terms (calls events) said tried)
+    → Tries terms events event f tried
+tried_as_call terms events event said says (Rule rule) tried told = λ least.
     subst (λ (o : Option Call). IsTriedOf terms (calls events) o tried) says (told tt)
-tried_as_call terms events event said says faults.Memory tried told = tt
+tried_as_call terms events event said says Memory tried told = tt

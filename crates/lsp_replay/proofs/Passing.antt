@@ -25,14 +25,14 @@ use Rattle.lsp_replay.specs.declared.log_events.LogEvents.{LogEvents}
 use Rattle.lsp_replay.specs.declared.log_events.Next.TheVariants as next
 use Rattle.lsp_replay.specs.declared.seen.Flow.{Flow}
 use Rattle.lsp_replay.specs.declared.seen.Flow.TheVariants.{GoOn, Stop}
-use Rattle.lsp_replay.proofs.FirstEvents.{AreNoted, few_read, join_heard, ran_at, ran_idle}
-use Rattle.lsp_replay.proofs.FirstEvents.{raws-push, rests_before, said_read, says_more}
-use Rattle.lsp_replay.proofs.FirstEvents.{stops_given}
+use Rattle.lsp_replay.proofs.FirstEvents.{AreNoted, RestsBehind, few_read, join_heard, ran_at}
+use Rattle.lsp_replay.proofs.FirstEvents.{ran_idle, raws-push, rests_before, said_read}
+use Rattle.lsp_replay.proofs.FirstEvents.{says_more, stops_given}
 use Rattle.lsp_replay.proofs.Fronts.{front_shown}
 use Rattle.lsp_replay.proofs.Owning.{given_fault}
 use Rattle.lsp_replay.proofs.PassEnds.{Boxed}
 use Rattle.lsp_replay.proofs.Pulling.{reads_failures, reads_given}
-use Rattle.lsp_verdict.specs.Heard.{Heard, Rests, RestsBehind, notes_of, raws_of, rest_of}
+use Rattle.lsp_verdict.specs.Heard.{Heard, Rests, notes_of, raws_of, rest_of}
 use Rattle.lsp_verdict.specs.Given.{raw_view}
 use Rattle.lsp_verdict.specs.Offences.{Noted}
 use Rattle.lsp_verdict.specs.Outcome.{HasRest, log_terms}

@@ -16,8 +16,8 @@ use Rattle.lsp_replay.specs.Keeping.{IsKept, IsSound, RefusesEvent, Tries}
 use Rattle.lsp_replay.specs.Standing.{CanWantMemory, Holds}
 use Rattle.lsp_replay.specs.Telling.{Comes, HasFate, IsSeen, MaySpeak, Saw, ShowsFault, Stood, kept_before, rule_of, took_of}
 use Rattle.lsp_replay.specs.Tries.{TriesCall}
-use Rattle.lsp_replay.specs.declared.fault.Fault.{Fault}
-use Rattle.lsp_replay.specs.declared.fault.Fault.TheVariants as own
+use Rattle.lsp_types.specs.declared.fault.Fault.{Fault}
+use Rattle.lsp_types.specs.declared.fault.Fault.TheVariants as own
 use Rattle.lsp_replay.specs.declared.seen.Fate.{Fate}
 use Rattle.lsp_replay.specs.declared.seen.Fate.TheVariants as fates
 use Rattle.lsp_replay.specs.declared.seen.Flow.{Flow}

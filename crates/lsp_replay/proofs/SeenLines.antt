@@ -28,7 +28,7 @@ use Rattle.lsp_rpc.proofs.OutlineWords.{words_by_outline}
 use Rattle.lsp_session.specs.Sent.{Sent}
 use Rattle.lsp_session.specs.View as lent
 use Rattle.lsp_replay.proofs.TextRuns.{count-append}
-use Rattle.lsp_replay.specs.Lines.{line_of, heard_line, place_of}
+use Rattle.lsp_replay.specs.Lines.{heard_line, place_of}
 use Rattle.lsp_replay.specs.declared.heard.EventPlace.{EventPlace}
 use Rattle.lsp_replay.specs.Telling.{IsSpoken, MaySpeak, kept_before, rule_of}
 use Rattle.lsp_replay.proofs.Seeing.{events-push}
@@ -92,8 +92,12 @@ placed before event place few is =
       ),
     )
 
+-- the line of the event at this place, empty for a fault
+abbrev line_of : Lines → EventPlace → Event → List ℕ
+line_of lines place event = unwrap_or (event_line lines place.event place.number event) []
+
 -- the line at this place is that of the event
-pub line_placed : (lines : Lines) (before : List Event) (event : Event) (place : EventPlace)
+line_placed : (lines : Lines) (before : List Event) (event : Event) (place : EventPlace)
     → IsPlaceAfter before event place
     → unwrap_or (line_at lines before event) [] ≡ line_of lines place event
 line_placed lines before event place is =
@@ -138,11 +142,6 @@ module _ (terms : Terms) (before : List Heard) (h : Heard) where
       by_event (message m) is read = silent m is
       by_event (broken by rule) is read = broken_offends by rule is none
       by_event (snapshot uri n t) is read = read
-
--- a message is its side's
-pub spoken_whose : (kept : List Event) (event : Event) (side : Side) (s : Spoken)
-    → IsSpoken kept event side s → who_of side ≡ whose event
-spoken_whose kept event side s spoken = ap who_of (sym spoken.by) ∙ ap whose (sym spoken.is)
 
 module _ (before : List Heard) (h : Heard) (counts : Counts) (few : length before + 1 < 2 ^ 64)
     (counted : AreCounts counts (heard_events (before ++ h ∷ []))) where

@@ -20,8 +20,8 @@ use Rattle.lsp_replay.specs.Standing.{CanWantMemory, Holds}
 use Rattle.lsp_replay.specs.Telling.{IsSpoken, MaySpeak, took_of}
 use Rattle.lsp_replay.specs.Tries.{TriesCall}
 use Rattle.lsp_replay.specs.declared.events.ReadEvent.{ReadEvent}
-use Rattle.lsp_replay.specs.declared.fault.Fault.{Fault}
-use Rattle.lsp_replay.specs.declared.fault.Fault.TheVariants as faults
+use Rattle.lsp_types.specs.declared.fault.Fault.{Fault}
+use Rattle.lsp_types.specs.declared.fault.Fault.TheVariants as faults
 
 -- ---- reading
 

@@ -1,5 +1,5 @@
 -- The places of events, and the lines that show them.
-use Rattle.std.specs.Prelude.{List, ◌+◌, length, ℕ, [], ◌∷◌, ◌++◌, unwrap_or}
+use Rattle.std.specs.Prelude.{List, ◌+◌, length, ℕ, [], ◌∷◌, ◌++◌, Option, Some, None, unwrap_or}
 use Rattle.std.specs.List.{flat_map}
 use Rattle.lsp_docs.specs.State.{capped}
 use Rattle.lsp_verdict.specs.Event.{Event}
@@ -7,7 +7,7 @@ use Rattle.lsp_verdict.specs.Verdict.{belongs_to, count_of, whose}
 use Rattle.lsp_verdict.specs.declared.verdict.Who.{Who}
 use Rattle.lsp_verdict.specs.declared.lines.Lines.{Lines}
 use Rattle.lsp_verdict.specs.Heard.{Heard, heard_events}
-use Rattle.lsp_verdict.specs.Shown.{event_line, line_at}
+use Rattle.lsp_verdict.specs.Shown.{line_at}
 use Rattle.lsp_replay.specs.declared.heard.EventPlace.{EventPlace}
 
 -- ---- the places of events
@@ -27,13 +27,14 @@ place_of before event = place_next before (whose event)
 
 -- ---- the lines that show events, and their words
 
--- the line of the event at this place, empty for a fault
-abbrev pub line_of : Lines → EventPlace → Event → List ℕ
-line_of lines place event = unwrap_or (event_line lines place.event place.number event) []
-
 -- the line of an event after these, empty for a fault
 abbrev pub heard_line : Lines → List Heard → Heard → List ℕ
 heard_line lines before h = unwrap_or (line_at lines (heard_events before) h.note.event) []
+
+-- the same, where such lines are shown
+abbrev pub shown_line : Option Lines → List Heard → Heard → List ℕ
+shown_line None before h = []
+shown_line (Some lines) before h = heard_line lines before h
 
 -- each word after a space
 abbrev pub spaced : List (List ℕ) → List ℕ

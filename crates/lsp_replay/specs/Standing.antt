@@ -1,15 +1,9 @@
 -- For which events the parts that hear them stand, and what the next one makes of them.
-use Rattle.std.specs.Prelude.{◌≡◌, ◌⊎◌, ℕ, List, [], ◌∷◌, ◌++◌, Option, Some, None}
-use Rattle.lsp_rpc.specs.declared.fault.RpcFault.{RpcFault}
-use Rattle.lsp_rpc.specs.declared.fault.RpcFault.TheVariants as contents
+use Rattle.std.specs.Prelude.{◌≡◌, ◌⊎◌, List, [], ◌∷◌, ◌++◌, Option, Some, None}
 use Rattle.lsp_rpc.specs.Message as rpc
 use Rattle.lsp_rpc.specs.Outline.{without_params}
-use Rattle.lsp_session.specs.declared.refusal.Refusal.{Refusal}
-use Rattle.lsp_session.specs.declared.refusal.Refusal.TheVariants as messages
 use Rattle.lsp_session.specs.Handshake.{open_initializes}
 use Rattle.lsp_session.specs.State as session
-use Rattle.lsp_docs.specs.declared.fault.DocFault.{DocFault}
-use Rattle.lsp_docs.specs.declared.fault.DocFault.TheVariants as refused
 use Rattle.lsp_docs.specs.declared.call.Took.{Took}
 use Rattle.lsp_docs.specs.declared.call.Took.TheVariants.{Done}
 use Rattle.lsp_docs.specs.declared.snapshot.Match.TheVariants.{Waits}
@@ -19,28 +13,13 @@ use Rattle.lsp_docs.specs.Stored.{answer_of}
 use Rattle.lsp_docs.specs.Documents.{held, Terms}
 use Rattle.lsp_docs.specs.Snapshots.{kept}
 use Rattle.lsp_docs.specs.Taken.{IsTook, MayLackMemory}
-use Rattle.lsp_types.specs.declared.side.Side.{Side}
 use Rattle.lsp_verdict.specs.declared.counts.Counts.{Counts}
-use Rattle.lsp_verdict.specs.Event.{calls, Event, fault, sent_in}
-use Rattle.lsp_verdict.specs.Placed.{ReadsAs, Raw, content, broken, show, Reads}
+use Rattle.lsp_verdict.specs.Event.{calls, Event, sent_in}
+use Rattle.lsp_verdict.specs.Placed.{Raw, content, broken, show, Reads}
 use Rattle.lsp_verdict.specs.Given.{AreCounts}
 use Rattle.lsp_verdict.specs.Verdict.{offence, first_no}
-use Rattle.lsp_replay.specs.declared.fault.Fault.{Fault}
-use Rattle.lsp_replay.specs.declared.fault.Fault.TheVariants as faults
-
--- ---- the faults of the layers below, as those of an event
-
-abbrev pub of_reading : RpcFault → Fault
-of_reading (contents.Rule rule) = faults.Rule rule
-of_reading contents.Memory = faults.Memory
-
-abbrev pub of_message : Refusal → Fault
-of_message (messages.Rule rule) = faults.Rule rule
-of_message messages.Memory = faults.Memory
-
-abbrev pub of_call : DocFault → Fault
-of_call (refused.Rule rule) = faults.Rule rule
-of_call refused.Memory = faults.Memory
+use Rattle.lsp_types.specs.declared.fault.Fault.{Fault}
+use Rattle.lsp_types.specs.declared.fault.Fault.TheVariants as faults
 
 -- ---- what is held
 
@@ -65,7 +44,7 @@ TakesCall old new None took = (new ≡ old) × (took ≡ Done)
 TakesCall old new (Some call) took = docs.Accepts old new call × IsTook old call took
 
 -- something is said about a document, which is refused
-abbrev pub RefusesCall : docs.State → Option Call → DocFault → Type 0
+abbrev pub RefusesCall : docs.State → Option Call → Fault → Type 0
 RefusesCall old None why = ⊥
 RefusesCall old (Some call) why = docs.Refuses old call why
 
@@ -81,12 +60,6 @@ MayLackFor old (Some call) = MayLackMemory old call
 abbrev pub HasValue : List Event → rpc.Message → rpc.Message → Type 0
 HasValue events said whole =
     (open_initializes (sent_in events) ≡ []) ⊎ (said ≡ without_params whole)
-
--- the content is no message that means something: it breaks the rule of this fault, unless memory
--- ran out
-abbrev pub IsUnread : Side → List ℕ → Fault → Type 0
-IsUnread side bytes (faults.Rule rule) = ReadsAs side bytes (fault side rule)
-IsUnread side bytes faults.Memory = Unit {0}
 
 -- ---- an event
 

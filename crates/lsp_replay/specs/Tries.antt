@@ -1,6 +1,5 @@
 -- What was tried of the changes of a call that is refused.
-use Rattle.std.specs.Prelude.{◌≡◌, ◌≤◌, ℕ, List, Option, Some, None}
-use Rattle.lsp_docs.specs.Rules.{call_rule}
+use Rattle.std.specs.Prelude.{◌≤◌, ℕ, List, Option, Some, None}
 use Rattle.lsp_docs.specs.Documents.{Terms}
 use Rattle.lsp_docs.specs.Calls.{Call}
 use Rattle.lsp_docs.specs.Tried.{IsTried, Made, tried_in}
@@ -18,12 +17,6 @@ IsTriedOf terms before (Some call) tried = IsTried terms before call tried
 abbrev pub TriesCall : Terms → List Event → Option Call → ℕ → Option Made → Type 0
 TriesCall terms events said rule tried =
     rules.FIRST_ON_DOCUMENTS ≤ rule → IsTriedOf terms (calls events) said tried
-
--- what is said breaks that rule, if anything is said
-abbrev pub Breaks : Terms → List Call → Option Call → ℕ → Option Made → Type 0
-Breaks terms before None rule tried = Unit {0}
-Breaks terms before (Some call) rule tried =
-    (call_rule terms before call ≡ Some rule) × IsTried terms before call tried
 
 -- what was tried in a text with its lines
 abbrev pub made_in : Option (Tried Counted) → Option Made

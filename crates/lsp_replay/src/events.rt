@@ -1,16 +1,16 @@
 //! The events of a session, heard one after another.
 ghost use Rattle.std.specs.Prelude.{◌≡◌, [], List, IfErr, IfOk, None, OnErr, OnOk};
 ghost use Rattle.std.specs.Prelude.{Err, option_map};
+ghost use Rattle.lsp_rpc.specs.Fault.{IsUnspoken};
 ghost use Rattle.lsp_rpc.specs.View.{act_view};
 ghost use Rattle.lsp_docs.specs.Calls as spec;
 ghost use Rattle.lsp_docs.specs.Documents.{Terms, terms_of};
-ghost use Rattle.lsp_docs.specs.Fault.{IsRule};
+ghost use Rattle.lsp_types.specs.Fault.{IsRule, Names};
 ghost use Rattle.lsp_docs.specs.State as documents;
 ghost use Rattle.lsp_docs.specs.Taken.{call_view};
 ghost use Rattle.lsp_docs.specs.Tried.{tried_in};
 ghost use Rattle.lsp_outline.specs.declared.outline.Results.TheVariants.{LeftOut};
 ghost use Rattle.lsp_session.specs.Handshake.{open_initializes};
-ghost use Rattle.lsp_session.specs.Refusal.{Names};
 ghost use Rattle.lsp_session.specs.Sent.{Sent};
 ghost use Rattle.lsp_session.specs.State.{Stands};
 ghost use Rattle.lsp_verdict.specs.Event as event;
@@ -19,18 +19,18 @@ ghost use Rattle.lsp_verdict.specs.Given.{raw_view};
 ghost use Rattle.lsp_verdict.specs.Placed.{Reads};
 ghost use Rattle.lsp_replay.specs.Keeping.{IsAdmitted, IsKept, IsMessageOf, IsRead, IsSound};
 ghost use Rattle.lsp_replay.specs.Keeping.{RefusesEvent, Tries, message_rule};
-ghost use Rattle.lsp_replay.specs.Standing.{CanWantMemory, Follows, Holds, IsUnread, MayLackFor};
+ghost use Rattle.lsp_replay.specs.Standing.{CanWantMemory, Follows, Holds, MayLackFor};
 ghost use Rattle.lsp_replay.specs.Standing.{RefusesCall, RefusesFor, Takes, TakesCall};
 ghost use Rattle.lsp_replay.specs.Telling.{MaySpeak};
 ghost use Rattle.lsp_replay.specs.Tries.{IsTriedOf};
 
-use crate::fault::Fault;
-use lsp_docs::{Call, DocFault, Docs, Took, Tried};
+use lsp_docs::{Call, Docs, Took, Tried};
 use lsp_frame::{Format, Limits};
 use lsp_outline::{MessageReader, Results};
 use lsp_rpc::{Act, Encoding, Side, Spoken, SyncKind};
-use lsp_session::{Refusal, Session};
+use lsp_session::Session;
 use lsp_text::TextStore;
+use lsp_types::Fault;
 use lsp_verdict::{Counts, Raw};
 use std::alloc::Global;
 
@@ -186,7 +186,7 @@ impl<S: TextStore> Events<S> {
 
 /// Admits the message that an event is, if it is one.
 #[inline(always)]
-fn admit(session: &mut Session, read: &ReadEvent<'_>) -> Result<(), Refusal>
+fn admit(session: &mut Session, read: &ReadEvent<'_>) -> Result<(), Fault>
     ensures ok { OnOk result ((events : List Event) (event : Event)
         → Stands session.old (sent_in events) → IsSound event → IsRead events event read.now
         → IsAdmitted session.new events event) }
@@ -211,11 +211,11 @@ fn take_call<S: TextStore>(
     docs: &mut Docs<S>,
     call: Option<Call<'_>>,
     tried: &mut Option<Tried<S>>,
-) -> Result<Took, DocFault>
+) -> Result<Took, Fault>
     ensures takes { IfOk result
         (TakesCall docs.old docs.new (option_map call_view call.entry)) }
     ensures refuses { IfErr result (RefusesCall docs.old (option_map call_view call.entry)) }
-    ensures memory { result ≡ Err DocFault.Memory
+    ensures memory { result ≡ Err Fault.Memory
         → MayLackFor docs.old (option_map call_view call.entry) }
     ensures tried { IfErr result (λ fault. (calls : List spec.Call)
         → documents.Stands docs.old calls → IsRule fault
@@ -242,7 +242,7 @@ fn wanted_results(session: &Session) -> Results
 }
 
 /// Reads a content of a side with what it means, in the place of another message. It is heard once
-/// it is followed.
+/// it is kept.
 ///
 /// # Errors
 /// `Rule` by the least of 201 to 209 that the content breaks, and `Memory` where memory was
@@ -256,7 +256,7 @@ pub(crate) fn read_into(
 ) -> Result<(), Fault>
     ensures ok { OnOk result ((events : List Event) → Stands session.now (sent_in events)
         → IsMessageOf events side content.now spoken.new) }
-    ensures rule { IfErr result (IsUnread side content.now) }
+    ensures rule { IfErr result (IsUnspoken side content.now) }
 {
     messages.hear_into(side, content, wanted_results(session), spoken)?;
     Ok(())

@@ -9,7 +9,6 @@
 
 mod account;
 mod events;
-mod fault;
 mod heard;
 mod held_text;
 mod lines;
@@ -22,10 +21,10 @@ mod text_answer;
 
 pub use account::Account;
 pub use events::Events;
-pub use fault::Fault;
 pub use heard::EventPlace;
 pub use held_text::HeldText;
 pub use log_events::{End, Entry, LogEvents, Next};
+pub use lsp_types::Fault;
 pub use one_pass::pass;
 pub use seen::{Fate, Flow, Seen, last_offence, push_kept_line};
 pub use streams::Streams;

@@ -1,8 +1,8 @@
 //! What happened at an event, as an account is told it.
 ghost use Rattle.std.specs.Prelude.{◌≡◌, ◌++◌, ◌∷◌, ◌+◌, ◌<◌, ◌^◌, [], List, None, OnOk, length};
-ghost use Rattle.std.specs.Prelude.{string_bytes};
+ghost use Rattle.std.specs.Prelude.{OnErr, is_some, string_bytes, true};
 ghost use Rattle.lsp_docs.specs.Documents.{Terms};
-ghost use Rattle.lsp_replay.specs.Lines.{heard_line};
+ghost use Rattle.lsp_replay.specs.Lines.{heard_line, shown_line};
 ghost use Rattle.lsp_replay.specs.Telling.{IsSeen, rule_of};
 ghost use Rattle.lsp_verdict.specs.Given.{AreCounts, offence_view, raw_view};
 ghost use Rattle.lsp_verdict.specs.Heard.{Heard, heard_events};
@@ -52,17 +52,30 @@ pub enum Flow {
     Stop(Box<Outcome>),
 }
 
-/// Adds the line of an event that is kept to a text, short or long.
+/// Adds the line of an event that is kept to a text, short or long, where such lines are shown.
 ///
 /// # Errors
 /// `Memory` where memory was refused.
-#[inline(always)]
 pub fn push_kept_line(
     text: &mut String,
-    lines: Lines,
+    lines: Option<Lines>,
     held: &Events<Lined>,
     seen: &Seen<'_>,
 ) -> Result<()>
+    ensures shown { OnOk result ((terms : Terms) (before : List Heard) (h : Heard)
+        → IsSeen held.now.session held.now.docs held.now.counts seen.now terms before h
+        → rule_of terms before h ≡ None
+        → string_bytes text.new ≡ string_bytes text.old ++ shown_line lines before h) }
+    ensures memory { OnErr result (is_some lines ≡ true) }
+{
+    match lines {
+        Some(lines) => push_line(text, lines, held, seen),
+        None => Ok(()),
+    }
+}
+
+#[inline(always)]
+fn push_line(text: &mut String, lines: Lines, held: &Events<Lined>, seen: &Seen<'_>) -> Result<()>
     ensures { OnOk result ((terms : Terms) (before : List Heard) (h : Heard)
         → IsSeen held.now.session held.now.docs held.now.counts seen.now terms before h
         → rule_of terms before h ≡ None

@@ -78,6 +78,7 @@ impl Streams {
     pub fn new(alloc: Global, limits: Limits) -> Streams
         ensures { Stands limits result [] [] [] }
     {
+        // A proof knows that limits are in range once one of them is asked for.
         let _header = limits.header();
         Streams {
             editor: Decoder::new(alloc, limits),

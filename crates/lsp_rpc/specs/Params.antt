@@ -1,12 +1,14 @@
 -- The methods whose params are read, and what is read of them. A shape answers `None` where the
 -- value does not have it.
-use Rattle.std.specs.Prelude.{ℕ, ℤ, pos, negsuc, List, [], ◌∷◌, if◌then◌else◌, Option, Some, None, option_map, option_and_then, codes}
+use Rattle.std.specs.Prelude.{◌≡◌, ◌⊎◌, ℕ, ℤ, pos, negsuc, List, [], ◌∷◌, if◌then◌else◌, Option, Some, None, option_map, option_and_then, codes}
 use Rattle.std.specs.Str.{bytes_eq}
 use Rattle.serde_json.specs.Data.{Data, Items, no_items, item}
 use Rattle.serde_json.specs.Find.{as_str, as_array}
 use Rattle.lsp_rpc.specs.Shape.{member, unless_null, is_object, as_integer, as_id}
 use Rattle.lsp_rpc.specs.Message.{Message, request, notification, response}
 use Rattle.lsp_rpc.specs.Act.{Text, Act, Offer, Change, initialize, initialized, shutdown, exit, did_open, did_change, did_close, did_save, cancel, progress, early, register, other}
+use Rattle.lsp_rpc.specs.Reading.{BreaksRule, Reads}
+use Rattle.lsp_types.specs.declared.rules.TheConstants as rules
 use Rattle.lsp_types.specs.declared.side.Side.{Side}
 use Rattle.lsp_types.specs.declared.side.Side.TheVariants.{Editor, Server}
 use Rattle.lsp_types.specs.declared.position.Position.{Position}
@@ -194,3 +196,14 @@ abbrev pub act_at : Side → Message → Option Act
 act_at side (request id method params) = act_by (requests side) method params
 act_at side (notification method params) = act_by (notifications side) method params
 act_at side (response id reply) = Some other
+
+-- the params of the message that the content is don't have the shape that its method asks for
+pub record HasBadParams (side : Side) (content : List ℕ) : Type 0 where
+  pub of : Message
+  pub reads : Reads content of
+  pub unread : act_at side of ≡ None
+
+-- the least rule that the content breaks as a message of the side: 201 to 208, then 209
+abbrev pub IsRefused : Side → List ℕ → ℕ → Type 0
+IsRefused side content rule =
+    BreaksRule content rule ⊎ ((rule ≡ rules.BAD_METHOD_PARAMS) × HasBadParams side content)

@@ -3,8 +3,8 @@ use Rattle.std.specs.Prelude.{◌≡◌, ◌⊎◌, IsUtf8, ℕ, ℤ, List, [], 
 use Rattle.serde_json.specs.Data.{Data}
 use Rattle.serde_json.specs.Read.{read}
 use Rattle.serde_json.specs.Find.{as_str}
-use Rattle.lsp_rpc.specs.declared.fault.RpcFault.{RpcFault}
-use Rattle.lsp_rpc.specs.declared.fault.RpcFault.TheVariants.{Rule, Memory}
+use Rattle.lsp_types.specs.declared.fault.Fault.{Fault}
+use Rattle.lsp_types.specs.declared.fault.Fault.TheVariants.{Rule, Memory}
 use Rattle.lsp_rpc.specs.Ident.{Ident}
 use Rattle.lsp_rpc.specs.Message.{Message, request, notification, response, Reply, result, error}
 use Rattle.lsp_rpc.specs.Shape.{member, is_object, is_string, unless_null, is_structure_or_null, is_text, is_id, is_id_or_null, as_id, as_integer, holds_of, holds_unless_absent}
@@ -119,6 +119,6 @@ BreaksRule content rule =
     ⊎ ((rule ≡ rules.CONTENT_NOT_JSON) × ((d : Data) → IsJson content d → ⊥))
 
 -- why there is no message, unless memory ran out
-abbrev pub IsRefusal : List ℕ → RpcFault → Type 0
+abbrev pub IsRefusal : List ℕ → Fault → Type 0
 IsRefusal content (Rule rule) = BreaksRule content rule
 IsRefusal content Memory = Unit {0}

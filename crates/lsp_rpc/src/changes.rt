@@ -7,10 +7,9 @@ ghost use Rattle.lsp_rpc.specs.Params as spec;
 ghost use Rattle.lsp_rpc.specs.View.{change_view, changes_view};
 ghost use Rattle.lsp_types.specs.declared.rules.TheConstants as rules;
 
-use crate::fault::RpcFault;
 use crate::params::{PARAMS_FAULT, into_text, items_of, uinteger_of};
 use crate::shape::{given, integer_of};
-use lsp_types::{Change, Position, Span};
+use lsp_types::{Change, Fault, Position, Span};
 use serde_json::Value;
 use std::alloc::Global;
 
@@ -64,7 +63,7 @@ fn change_of(value: Value) -> Option<Change>
 ///
 /// # Errors
 /// 209 where the value is not an array, or an item has another shape; `Memory`.
-pub(crate) fn changes_of(alloc: Global, value: Value) -> Result<Vec<Change>, RpcFault>
+pub(crate) fn changes_of(alloc: Global, value: Value) -> Result<Vec<Change>, Fault>
     ensures { Gives (λ v. changes_view v.items) rules.BAD_METHOD_PARAMS result
         (spec.array_of spec.change_at (view value)) }
 {

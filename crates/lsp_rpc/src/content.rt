@@ -12,14 +12,13 @@ ghost use Rattle.lsp_rpc.specs.Shape.{as_id, is_id, unless_null, holds_unless_ab
 ghost use Rattle.lsp_rpc.specs.Reading as reading;
 ghost use Rattle.lsp_rpc.specs.Reading.{least_broken};
 ghost use Rattle.lsp_rpc.specs.Fault.{IsLeast, rule_unless_read};
-ghost use Rattle.lsp_rpc.specs.declared.fault.RpcFault.TheVariants.{Rule, Memory};
 ghost use Rattle.lsp_types.specs.declared.rules.TheConstants as rules;
 
-use crate::fault::{BrokenRule, RpcFault};
+use crate::fault::BrokenRule;
 use crate::message::{Answer, Id, Message};
 use crate::parts::{Parts, parts_of};
 use crate::shape::{id_in, integer_of, is_structure, is_text};
-use lsp_types::rules;
+use lsp_types::{Fault, rules};
 use serde_json::{Error, Value};
 use std::alloc::Global;
 
@@ -224,22 +223,22 @@ fn message_of(value: Value) -> Result<Message, BrokenRule>
 }
 
 /// Why no value was read: memory was refused, or the content is not a JSON text (rule 201).
-fn unread(error: &Error) -> RpcFault
-    ensures memory { IsMemory error.now → result ≡ Memory }
-    ensures rule { ¬ IsMemory error.now → result ≡ Rule rules.CONTENT_NOT_JSON }
+fn unread(error: &Error) -> Fault
+    ensures memory { IsMemory error.now → result ≡ Fault.Memory }
+    ensures rule { ¬ IsMemory error.now → result ≡ Fault.Rule rules.CONTENT_NOT_JSON }
 {
     if error.is_memory() {
-        RpcFault::Memory
+        Fault::Memory
     } else {
-        RpcFault::Rule(rules::CONTENT_NOT_JSON)
+        Fault::Rule(rules::CONTENT_NOT_JSON)
     }
 }
 
 /// The value of a JSON text. Rule 201: the content is none.
-fn value_of(alloc: Global, content: &[u8]) -> Result<Value, RpcFault>
+fn value_of(alloc: Global, content: &[u8]) -> Result<Value, Fault>
     ensures ok { IfOk result (λ value. reading.IsJson content.now (view value)) }
     ensures rule { IfErr result (reading.IsRefusal content.now) }
-    ensures memory { result ≡ Err Memory → 0 < length content.now }
+    ensures memory { result ≡ Err Fault.Memory → 0 < length content.now }
 {
     match Value::from_slice(alloc, content) {
         Ok(value) => Ok(value),
@@ -253,10 +252,10 @@ fn value_of(alloc: Global, content: &[u8]) -> Result<Value, RpcFault>
 /// # Errors
 /// The lowest rule that the content breaks: 201 if it is not JSON, 202 to 208 if its value is not a
 /// message; or `Memory`.
-pub fn read(alloc: Global, content: &[u8]) -> Result<Message, RpcFault>
+pub fn read(alloc: Global, content: &[u8]) -> Result<Message, Fault>
     ensures ok { IfOk result (λ message. reading.Reads content.now (message_view message)) }
     ensures rule { IfErr result (reading.IsRefusal content.now) }
-    ensures memory { result ≡ Err Memory → 0 < length content.now }
+    ensures memory { result ≡ Err Fault.Memory → 0 < length content.now }
 {
     let value = value_of(alloc, content)?;
     Ok(message_of(value)?)

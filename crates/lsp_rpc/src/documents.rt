@@ -8,13 +8,13 @@ ghost use Rattle.lsp_types.specs.declared.rules.TheConstants as rules;
 
 use crate::act::Act;
 use crate::changes::changes_of;
-use crate::fault::RpcFault;
 use crate::params::{PARAMS_FAULT, copied_text, into_given, into_member, into_text, text_of};
 use crate::shape::integer_of;
+use lsp_types::Fault;
 use serde_json::Value;
 use std::alloc::Global;
 
-fn uri_of(document: &Value) -> Result<String, RpcFault>
+fn uri_of(document: &Value) -> Result<String, Fault>
     ensures { Gives (λ s. string_bytes s)
         rules.BAD_METHOD_PARAMS result (spec.uri_at (view document.now)) }
 {
@@ -31,7 +31,7 @@ fn version_of(document: &Value) -> Option<i32>
 ///
 /// # Errors
 /// 209 where the params have another shape; `Memory`.
-pub(crate) fn did_open_of(params: Value) -> Result<Act, RpcFault>
+pub(crate) fn did_open_of(params: Value) -> Result<Act, Fault>
     ensures { Gives act_view rules.BAD_METHOD_PARAMS result (spec.did_open_at (view params)) }
 {
     let document = into_member(params, "textDocument").ok_or(PARAMS_FAULT)?;
@@ -45,7 +45,7 @@ pub(crate) fn did_open_of(params: Value) -> Result<Act, RpcFault>
 ///
 /// # Errors
 /// 209 where the params have another shape; `Memory`.
-pub(crate) fn did_change_of(alloc: Global, params: Value) -> Result<Act, RpcFault>
+pub(crate) fn did_change_of(alloc: Global, params: Value) -> Result<Act, Fault>
     ensures { Gives act_view rules.BAD_METHOD_PARAMS result (spec.did_change_at (view params)) }
 {
     let document = params.get("textDocument").ok_or(PARAMS_FAULT)?;
@@ -63,7 +63,7 @@ pub(crate) fn did_change_of(alloc: Global, params: Value) -> Result<Act, RpcFaul
 ///
 /// # Errors
 /// 209 where the params have another shape; `Memory`.
-pub(crate) fn did_close_of(params: Value) -> Result<Act, RpcFault>
+pub(crate) fn did_close_of(params: Value) -> Result<Act, Fault>
     ensures { Gives act_view rules.BAD_METHOD_PARAMS result (spec.did_close_at (view params)) }
 {
     let uri = uri_of(params.get("textDocument").ok_or(PARAMS_FAULT)?)?;
@@ -74,7 +74,7 @@ pub(crate) fn did_close_of(params: Value) -> Result<Act, RpcFault>
 ///
 /// # Errors
 /// 209 where the params have another shape; `Memory`.
-pub(crate) fn did_save_of(params: Value) -> Result<Act, RpcFault>
+pub(crate) fn did_save_of(params: Value) -> Result<Act, Fault>
     ensures { Gives act_view rules.BAD_METHOD_PARAMS result (spec.did_save_at (view params)) }
 {
     let uri = uri_of(params.get("textDocument").ok_or(PARAMS_FAULT)?)?;

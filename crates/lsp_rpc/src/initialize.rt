@@ -9,14 +9,14 @@ ghost use Rattle.lsp_rpc.specs.View.{act_view, offer_view, texts_view};
 ghost use Rattle.lsp_types.specs.declared.rules.TheConstants as rules;
 
 use crate::act::{Act, Offer};
-use crate::fault::RpcFault;
 use crate::message::Id;
 use crate::params::{PARAMS_FAULT, into_given, into_member, strings_of};
 use crate::shape::{given, id_in};
+use lsp_types::Fault;
 use serde_json::Value;
 use std::alloc::Global;
 
-fn general_encodings(alloc: Global, general: Value) -> Result<Option<Vec<String>>, RpcFault>
+fn general_encodings(alloc: Global, general: Value) -> Result<Option<Vec<String>>, Fault>
     ensures { Gives (λ o. option_map (λ v. texts_view v.items) o) rules.BAD_METHOD_PARAMS result
         (spec.general_encodings (view general)) }
 {
@@ -29,7 +29,7 @@ fn general_encodings(alloc: Global, general: Value) -> Result<Option<Vec<String>
     }
 }
 
-fn offered_encodings(alloc: Global, capabilities: Value) -> Result<Option<Vec<String>>, RpcFault>
+fn offered_encodings(alloc: Global, capabilities: Value) -> Result<Option<Vec<String>>, Fault>
     ensures { Gives (λ o. option_map (λ v. texts_view v.items) o) rules.BAD_METHOD_PARAMS result
         (spec.offered_encodings (view capabilities)) }
 {
@@ -42,7 +42,7 @@ fn offered_encodings(alloc: Global, capabilities: Value) -> Result<Option<Vec<St
     }
 }
 
-fn token_of(params: &Value) -> Result<Option<Id>, RpcFault>
+fn token_of(params: &Value) -> Result<Option<Id>, Fault>
     ensures { Gives (λ o. option_map id_view o) rules.BAD_METHOD_PARAMS result
         (spec.allowed (codes "workDoneToken") shape.as_id (view params.now)) }
 {
@@ -52,7 +52,7 @@ fn token_of(params: &Value) -> Result<Option<Id>, RpcFault>
     }
 }
 
-fn offer_of(alloc: Global, params: Value) -> Result<Offer, RpcFault>
+fn offer_of(alloc: Global, params: Value) -> Result<Offer, Fault>
     ensures { Gives offer_view rules.BAD_METHOD_PARAMS result (spec.offer_at (view params)) }
 {
     let token = token_of(&params)?;
@@ -66,7 +66,7 @@ fn offer_of(alloc: Global, params: Value) -> Result<Offer, RpcFault>
 ///
 /// # Errors
 /// 209 where the params have another shape; `Memory`.
-pub(crate) fn initialize_of(alloc: Global, params: Value) -> Result<Act, RpcFault>
+pub(crate) fn initialize_of(alloc: Global, params: Value) -> Result<Act, Fault>
     ensures { Gives act_view rules.BAD_METHOD_PARAMS result (spec.initialize_at (view params)) }
 {
     Ok(Act::Initialize(offer_of(alloc, params)?))

@@ -24,7 +24,7 @@ mod words;
 
 pub use act::{Act, Offer, Picked, Spoken};
 pub use content::read;
-pub use fault::{BrokenRule, RpcFault};
+pub use fault::BrokenRule;
 pub use ids::{copy_id, same_id};
 pub use laws::{
     message_breaks_no_rule, message_or_rule, one_message, one_rule, same_id_is_equality,
@@ -34,6 +34,10 @@ pub use message::{Answer, Id, Message};
 pub use methods::{Method, act_of, method_of, notification_method, request_method, take_act};
 pub use results::picked_of;
 pub use words::{push_id, push_quoted, words_of};
+
+/// Why a content is no message, or means nothing on its side: the lowest of the rules 201 to 209
+/// that it breaks. A result of `initialize` breaks 501.
+pub type RpcFault = lsp_types::Fault;
 
 /// What takes memory gives a value, or was refused it.
 pub type Result<T, E = Memory> = std::result::Result<T, E>;

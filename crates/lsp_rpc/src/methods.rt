@@ -14,12 +14,11 @@ ghost use Rattle.lsp_types.specs.declared.rules.TheConstants as rules;
 
 use crate::act::Act;
 use crate::documents::{did_change_of, did_close_of, did_open_of, did_save_of};
-use crate::fault::RpcFault;
 use crate::initialize::initialize_of;
 use crate::message::{Id, Message};
 use crate::params::{PARAMS_FAULT, into_member, into_text, items_of, required_params};
 use crate::shape::id_in;
-use lsp_types::Side;
+use lsp_types::{Fault, Side};
 use serde_json::Value;
 use std::alloc::Global;
 use std::borrow::Cow;
@@ -157,21 +156,21 @@ fn id_at(value: Value, name: &str) -> Option<Id>
     id_in(into_member(value, name)?)
 }
 
-fn cancel_of(params: Value) -> Result<Act, RpcFault>
+fn cancel_of(params: Value) -> Result<Act, Fault>
     ensures { Gives act_view rules.BAD_METHOD_PARAMS result (spec.cancel_at (view params)) }
 {
     let id = id_at(params, "id").ok_or(PARAMS_FAULT)?;
     Ok(Act::Cancel { id })
 }
 
-fn progress_of(params: Value) -> Result<Act, RpcFault>
+fn progress_of(params: Value) -> Result<Act, Fault>
     ensures { Gives act_view rules.BAD_METHOD_PARAMS result (spec.progress_at (view params)) }
 {
     let token = id_at(params, "token").ok_or(PARAMS_FAULT)?;
     Ok(Act::Progress { token })
 }
 
-fn methods_of(alloc: Global, value: Value) -> Result<Vec<String>, RpcFault>
+fn methods_of(alloc: Global, value: Value) -> Result<Vec<String>, Fault>
     ensures { Gives (λ v. texts_view v.items) rules.BAD_METHOD_PARAMS result
         (spec.array_of (spec.required (codes "method") as_str) (view value)) }
 {
@@ -182,7 +181,7 @@ fn methods_of(alloc: Global, value: Value) -> Result<Vec<String>, RpcFault>
     Ok(found)
 }
 
-fn register_of(alloc: Global, params: Value) -> Result<Act, RpcFault>
+fn register_of(alloc: Global, params: Value) -> Result<Act, Fault>
     ensures { Gives act_view rules.BAD_METHOD_PARAMS result (spec.register_at (view params)) }
 {
     let registrations = into_member(params, "registrations").ok_or(PARAMS_FAULT)?;
@@ -191,7 +190,7 @@ fn register_of(alloc: Global, params: Value) -> Result<Act, RpcFault>
 }
 
 /// What a call of this method means by its params.
-fn act_by(alloc: Global, method: Method, params: Option<Cow<'_, Value>>) -> Result<Act, RpcFault>
+fn act_by(alloc: Global, method: Method, params: Option<Cow<'_, Value>>) -> Result<Act, Fault>
     ensures { Gives act_view
         rules.BAD_METHOD_PARAMS result (meaning method (option_map lent_view params.entry)) }
 {
@@ -218,7 +217,7 @@ fn request_act(
     side: Side,
     name: &str,
     params: Option<Cow<'_, Value>>,
-) -> Result<Act, RpcFault>
+) -> Result<Act, Fault>
     ensures { Gives act_view rules.BAD_METHOD_PARAMS result
         (spec.act_by (spec.requests side) name.now (option_map lent_view params.entry)) }
 {
@@ -231,7 +230,7 @@ fn notification_act(
     side: Side,
     name: &str,
     params: Option<Cow<'_, Value>>,
-) -> Result<Act, RpcFault>
+) -> Result<Act, Fault>
     ensures { Gives act_view rules.BAD_METHOD_PARAMS result
         (spec.act_by (spec.notifications side) name.now (option_map lent_view params.entry)) }
 {
@@ -256,7 +255,7 @@ fn take_params(params: &mut Option<Value>) -> Option<Cow<'static, Value>>
 /// # Errors
 /// Rule 209 if the method is read on that side and in that kind, and the params do not have its
 /// shape; or `Memory`.
-pub fn act_of(alloc: Global, message: &Message, side: Side) -> Result<Act, RpcFault>
+pub fn act_of(alloc: Global, message: &Message, side: Side) -> Result<Act, Fault>
     ensures { Gives act_view
         rules.BAD_METHOD_PARAMS result (spec.act_at side (message_view message.now)) }
 {
@@ -275,7 +274,7 @@ pub fn act_of(alloc: Global, message: &Message, side: Side) -> Result<Act, RpcFa
 
 /// What [`act_of`] gives, with the texts moved out of the message. The message loses its params,
 /// even if there is an error.
-pub fn take_act(alloc: Global, message: &mut Message, side: Side) -> Result<Act, RpcFault>
+pub fn take_act(alloc: Global, message: &mut Message, side: Side) -> Result<Act, Fault>
     ensures gives { Gives act_view
         rules.BAD_METHOD_PARAMS result (spec.act_at side (message_view message.old)) }
     ensures rest { message_view message.new ≡ without_params (message_view message.old) }

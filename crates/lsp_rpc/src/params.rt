@@ -9,19 +9,18 @@ ghost use Rattle.lsp_rpc.specs.Shape as shape;
 ghost use Rattle.lsp_rpc.specs.View.{lent_view, texts_view};
 ghost use Rattle.lsp_types.specs.declared.rules.TheConstants as rules;
 
-use crate::fault::RpcFault;
 use crate::shape::integer_of;
-use lsp_types::rules;
+use lsp_types::{Fault, rules};
 use serde_json::Value;
 use std::alloc::Global;
 use std::borrow::Cow;
 use std::mem;
 
 /// The params do not have the shape of their method.
-pub(crate) const PARAMS_FAULT: RpcFault = RpcFault::Rule(rules::BAD_METHOD_PARAMS);
+pub(crate) const PARAMS_FAULT: Fault = Fault::Rule(rules::BAD_METHOD_PARAMS);
 
 /// The params, which must be there. They are copied where they are only lent.
-pub(crate) fn required_params(params: Option<Cow<'_, Value>>) -> Result<Value, RpcFault>
+pub(crate) fn required_params(params: Option<Cow<'_, Value>>) -> Result<Value, Fault>
     ensures { Gives view rules.BAD_METHOD_PARAMS result (option_map lent_view params.entry) }
 {
     match params {
@@ -59,7 +58,7 @@ pub(crate) fn text_of(value: Value) -> Option<String>
 }
 
 /// The string that the value is, copied.
-pub(crate) fn copied_text(value: &Value) -> Result<String, RpcFault>
+pub(crate) fn copied_text(value: &Value) -> Result<String, Fault>
     ensures { Gives (λ s. string_bytes s) rules.BAD_METHOD_PARAMS result (as_str (view value.now)) }
 {
     match value {
@@ -99,7 +98,7 @@ pub(crate) fn items_of(value: Value) -> Option<Vec<Value>>
 ///
 /// # Errors
 /// 209 where the value is not an array of strings; `Memory`.
-pub(crate) fn strings_of(alloc: Global, value: Value) -> Result<Vec<String>, RpcFault>
+pub(crate) fn strings_of(alloc: Global, value: Value) -> Result<Vec<String>, Fault>
     ensures { Gives (λ v. texts_view v.items)
         rules.BAD_METHOD_PARAMS result (spec.array_of as_str (view value)) }
 {

@@ -4,13 +4,11 @@ ghost use Rattle.serde_json.specs.View.{view};
 ghost use Rattle.lsp_rpc.specs.View.{picked_view};
 ghost use Rattle.lsp_rpc.specs.Results as spec;
 ghost use Rattle.lsp_rpc.specs.Fault.{Gives};
-ghost use Rattle.lsp_rpc.specs.declared.fault.RpcFault.TheVariants.{Memory};
 ghost use Rattle.lsp_types.specs.declared.rules.TheConstants as rules;
 
 use crate::act::Picked;
-use crate::fault::RpcFault;
 use crate::shape::{given, integer_of};
-use lsp_types::{SyncKind, rules};
+use lsp_types::{Fault, SyncKind, rules};
 use serde_json::Value;
 use std::alloc::Global;
 
@@ -60,12 +58,12 @@ fn encoding_in(capabilities: &Value) -> Option<&str>
 ///
 /// # Errors
 /// Rule 501 if the result does not have the required shape. `Memory` only if it has.
-pub fn picked_of(alloc: Global, answer: &Value) -> Result<Picked, RpcFault>
+pub fn picked_of(alloc: Global, answer: &Value) -> Result<Picked, Fault>
     ensures gives { Gives picked_view
         rules.BAD_INITIALIZE_RESULT result (spec.picked_at (view answer.now)) }
-    ensures memory { result ≡ Err Memory → is_some (spec.picked_at (view answer.now)) ≡ true }
+    ensures memory { result ≡ Err Fault.Memory → is_some (spec.picked_at (view answer.now)) ≡ true }
 {
-    let bad_shape = RpcFault::Rule(rules::BAD_INITIALIZE_RESULT);
+    let bad_shape = Fault::Rule(rules::BAD_INITIALIZE_RESULT);
     let capabilities = answer.get("capabilities").ok_or(bad_shape)?;
     if !capabilities.is_object() {
         return Err(bad_shape);

@@ -11,4 +11,3 @@ pub mod Incomplete
 pub mod State
 pub mod ByState
 pub mod View
-pub mod Refusal

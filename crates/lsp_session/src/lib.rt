@@ -11,7 +11,6 @@ mod negotiation;
 mod open_requests;
 mod pending;
 mod phase;
-mod refusal;
 mod session;
 
 pub use laws::{
@@ -22,5 +21,7 @@ pub use negotiation::is_synchronisation;
 pub use open_requests::OpenRequests;
 pub use pending::{OpenRequest, Pending};
 pub use phase::Phase;
-pub use refusal::Refusal;
 pub use session::Session;
+
+/// Why a message is not admitted: the lowest of the rules 301 to 504 that it breaks.
+pub type Refusal = lsp_types::Fault;

@@ -6,11 +6,10 @@ ghost use Rattle.serde_json.specs.View.{view};
 ghost use Rattle.lsp_rpc.specs.View.{offer_view, picked_view, texts_view, act_view};
 ghost use Rattle.lsp_rpc.specs.Results.{picked_at};
 ghost use Rattle.lsp_session.specs.Negotiation as spec;
-ghost use Rattle.lsp_session.specs.Refusal.{Names};
+ghost use Rattle.lsp_types.specs.Fault.{Names};
 
-use crate::refusal::Refusal;
-use lsp_rpc::{Act, Encoding, Offer, Picked, RpcFault, SyncKind, picked_of};
-use lsp_types::rules;
+use lsp_rpc::{Act, Encoding, Offer, Picked, SyncKind, picked_of};
+use lsp_types::{Fault, rules};
 use serde_json::Value;
 use std::alloc::Global;
 
@@ -55,7 +54,7 @@ fn offers(offer: &Offer, name: &str) -> bool
     }
 }
 
-fn check_picked(offer: &Offer, picked: &Picked) -> Result<Agreed, Refusal>
+fn check_picked(offer: &Offer, picked: &Picked) -> Result<Agreed, Fault>
     ensures ok { IfOk result (λ agreed. spec.agreed_by (picked_view picked.now) ≡ Some agreed) }
     ensures accepted { OnOk result
         (spec.pick_rule (offer_view offer.now) (Some (picked_view picked.now)) ≡ None) }
@@ -63,31 +62,28 @@ fn check_picked(offer: &Offer, picked: &Picked) -> Result<Agreed, Refusal>
         (Names (spec.pick_rule (offer_view offer.now) (Some (picked_view picked.now)))) }
 {
     if !offers(offer, picked.encoding.as_str()) {
-        return Err(Refusal::Rule(rules::ENCODING_NOT_OFFERED));
+        return Err(Fault::Rule(rules::ENCODING_NOT_OFFERED));
     }
     match encoding_named(picked.encoding.as_str()) {
         Some(encoding) => Ok(Agreed {
             encoding,
             kind: picked.kind,
         }),
-        None => Err(Refusal::Rule(rules::ENCODING_OUTSIDE_PROFILE)),
+        None => Err(Fault::Rule(rules::ENCODING_OUTSIDE_PROFILE)),
     }
 }
 
 /// What a result agrees on that answers this offer. Memory is taken only where it has the shape.
-pub(crate) fn agree(alloc: Global, offer: &Offer, value: &Value) -> Result<Agreed, Refusal>
+pub(crate) fn agree(alloc: Global, offer: &Offer, value: &Value) -> Result<Agreed, Fault>
     ensures ok { IfOk result (λ agreed. spec.agreed_at (view value.now) ≡ Some agreed) }
     ensures accepted { OnOk result
         (spec.pick_rule (offer_view offer.now) (picked_at (view value.now)) ≡ None) }
     ensures rule { IfErr result
         (Names (spec.pick_rule (offer_view offer.now) (picked_at (view value.now)))) }
-    ensures memory { result ≡ Err Refusal.Memory → is_some (picked_at (view value.now)) ≡ true }
+    ensures memory { result ≡ Err Fault.Memory → is_some (picked_at (view value.now)) ≡ true }
 {
-    match picked_of(alloc, value) {
-        Ok(picked) => check_picked(offer, &picked),
-        Err(RpcFault::Rule(rule)) => Err(Refusal::Rule(rule)),
-        Err(RpcFault::Memory) => Err(Refusal::Memory),
-    }
+    let picked = picked_of(alloc, value)?;
+    check_picked(offer, &picked)
 }
 
 /// Whether a method is one of text synchronisation: opens, changes or closes of documents.

@@ -4,12 +4,11 @@ ghost use Rattle.std.specs.Prelude.{option_map, slice_get};
 ghost use Rattle.lsp_rpc.specs.Ident.{id_view};
 ghost use Rattle.lsp_session.specs.Entry.{request_view, has_id, IdsDiffer, entry_of, without};
 ghost use Rattle.lsp_session.specs.Entry.{cancel, ask_rule, new_entry};
-ghost use Rattle.lsp_session.specs.Refusal.{Names};
+ghost use Rattle.lsp_types.specs.Fault.{Names};
 
 use crate::open_requests::OpenRequests;
-use crate::refusal::Refusal;
 use lsp_rpc::{Id, Memory, Result, copy_id};
-use lsp_types::{OrderedMap, rules};
+use lsp_types::{Fault, OrderedMap, rules};
 use std::alloc::Global;
 use std::marker::Model;
 
@@ -98,16 +97,16 @@ impl Pending {
 
     /// Adds a request at the end. Rule 302: one with this id is open. A refusal changes nothing,
     /// and memory is requested only where no request has the id.
-    pub fn ask(&mut self, id: &Id, method: &str) -> Result<(), Refusal>
+    pub fn ask(&mut self, id: &Id, method: &str) -> Result<(), Fault>
         ensures added { OnOk result
             (self.new ≡ self.old ++ new_entry (id_view id.now) method.now ∷ []) }
         ensures accepted { OnOk result (ask_rule (id_view id.now) self.old ≡ None) }
         ensures rule { IfErr result (Names (ask_rule (id_view id.now) self.old)) }
-        ensures memory { result ≡ Err Refusal.Memory → ask_rule (id_view id.now) self.old ≡ None }
+        ensures memory { result ≡ Err Fault.Memory → ask_rule (id_view id.now) self.old ≡ None }
         ensures unchanged { OnErr result (self.new ≡ self.old) }
     {
         if self.contains(id) {
-            return Err(Refusal::Rule(rules::ID_ALREADY_OPEN));
+            return Err(Fault::Rule(rules::ID_ALREADY_OPEN));
         }
         let key = copy_id(id)?;
         let request = new_request(self.requests.allocator(), id, method)?;

@@ -10,7 +10,7 @@ ghost use Rattle.lsp_session.specs.Handshake as handshake;
 ghost use Rattle.lsp_session.specs.Incomplete as complete;
 ghost use Rattle.lsp_session.specs.Negotiation as negotiation;
 ghost use Rattle.lsp_session.specs.Negotiation.{shape_rule};
-ghost use Rattle.lsp_session.specs.Refusal.{Names};
+ghost use Rattle.lsp_types.specs.Fault.{Names};
 ghost use Rattle.lsp_session.specs.Requests.{open_requests};
 ghost use Rattle.lsp_session.specs.Rules.{early_rule, rule_after};
 ghost use Rattle.lsp_session.specs.Sent.{Sent, other_side};
@@ -22,9 +22,8 @@ use crate::handshake::{OpenInitialize, comes_early, open_initialize};
 use crate::negotiation::{Agreed, agree, registers_synchronisation};
 use crate::pending::Pending;
 use crate::phase::Phase;
-use crate::refusal::Refusal;
 use lsp_rpc::{Act, Answer, Encoding, Id, Memory, Message, Offer, Result, Side, SyncKind, same_id};
-use lsp_types::rules;
+use lsp_types::{Fault, rules};
 use serde_json::Value;
 use std::alloc::Global;
 use std::marker::Model;
@@ -83,27 +82,27 @@ impl Session {
     /// "Base Protocol" and "Server lifecycle"). A refusal changes nothing. The act is what the
     /// message means on its side. Memory is requested only where the message breaks no rule except,
     /// perhaps, 502 or 503.
-    pub fn admit(&mut self, side: Side, message: &Message, act: &Act) -> Result<(), Refusal>
+    pub fn admit(&mut self, side: Side, message: &Message, act: &Act) -> Result<(), Fault>
         ensures admitted { OnOk result ((before : List Sent) → Stands self.old before
             → Stands self.new (before ++ sent side message.now act.now ∷ [])) }
         ensures accepted { OnOk result ((before : List Sent) → Stands self.old before
             → rule_after before (sent side message.now act.now) ≡ None) }
         ensures rule { IfErr result (λ refusal. (before : List Sent) → Stands self.old before
             → Names (rule_after before (sent side message.now act.now)) refusal) }
-        ensures memory { result ≡ Err Refusal.Memory
+        ensures memory { result ≡ Err Fault.Memory
             → ((before : List Sent) → Stands self.old before
             → early_rule before (sent side message.now act.now) ≡ None) }
         ensures unchanged { OnErr result (self.new ≡ self.old) }
     {
         if let Some(rule) = self.request_rule(side, message) {
-            return Err(Refusal::Rule(rule));
+            return Err(Fault::Rule(rule));
         }
         if let Some(rule) = self.lifecycle_rule(side, message, act) {
-            return Err(Refusal::Rule(rule));
+            return Err(Fault::Rule(rule));
         }
         let agreed = self.settle(side, message)?;
         if side == Side::Server && registers_synchronisation(act) {
-            return Err(Refusal::Rule(rules::DYNAMIC_REGISTRATION));
+            return Err(Fault::Rule(rules::DYNAMIC_REGISTRATION));
         }
         self.take(side, message, act, agreed)?;
         Ok(())
@@ -335,14 +334,14 @@ impl Session {
     }
 
     /// What a result agrees on that answers the open `initialize`; `None` for other messages.
-    fn settle(&self, side: Side, message: &Message) -> Result<Option<Agreed>, Refusal>
+    fn settle(&self, side: Side, message: &Message) -> Result<Option<Agreed>, Fault>
         ensures ok { IfOk result (λ agreed. option_map (λ a. Some a) agreed
             ≡ by_state.agreed_by self.now side (message_view message.now)) }
         ensures accepted { OnOk result
             (by_state.result_rule self.now side (message_view message.now) ≡ None) }
         ensures rule { IfErr result
             (Names (by_state.result_rule self.now side (message_view message.now))) }
-        ensures memory { result ≡ Err Refusal.Memory → ((other : Option ℕ) → shape_rule
+        ensures memory { result ≡ Err Fault.Memory → ((other : Option ℕ) → shape_rule
             (handshake.settled_among self.now.initializes side (message_view message.now)) other
             ≡ None) }
     {

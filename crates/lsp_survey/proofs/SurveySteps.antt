@@ -34,7 +34,8 @@ use Rattle.lsp_survey.specs.Lost.{follows_at, may_lose}
 use Rattle.lsp_survey.specs.Reported.{IsTally, closing, count_line, is_every, lines_of}
 use Rattle.lsp_survey.specs.Reported.{verdict_lines}
 use Rattle.lsp_survey.specs.SessionEnds.{ends_held, ends_of}
-use Rattle.lsp_survey.specs.SurveyRun.{event_said, has_lines, kept_line, said_by, survey_run}
+use Rattle.lsp_replay.specs.Lines.{shown_line}
+use Rattle.lsp_survey.specs.SurveyRun.{event_said, has_lines, said_by, survey_run}
 use Rattle.lsp_survey.specs.declared.offence_count.OffenceCount.{OffenceCount}
 use Rattle.lsp_survey.specs.declared.survey.Options.{Options}
 use Rattle.lsp_survey.proofs.SessionEnds.{ends_few, given_few, ends_fit}
@@ -81,15 +82,14 @@ module _ (terms : Terms) (before : List Heard) (h : Heard) where
 
   -- what is said of it
   said_on : (options : Options) (rule : Option ℕ) → rule_of terms before h ≡ rule
-      → said_by options (heard_events before) h.note.event
-      (option_map (offence_by terms notes h.note) rule) ≡ event_said options terms before h
+      → said_by options before h (option_map (offence_by terms notes h.note) rule)
+      ≡ event_said options terms before h
   said_on options rule is =
-      ap (λ (o : Option ℕ). said_by options (heard_events before) h.note.event
+      ap (λ (o : Option ℕ). said_by options before h
       (option_map (offence_by terms notes h.note) o)) (sym is)
 
   pub kept_said : (options : Options) → rule_of terms before h ≡ None
-      → kept_line options.lines (heard_events before) h.note.event
-      ≡ event_said options terms before h
+      → shown_line options.lines before h ≡ event_said options terms before h
   kept_said options is = said_on options None is
 
   pub offence_said : (options : Options) (rule : ℕ) → rule_of terms before h ≡ Some rule

@@ -1,8 +1,9 @@
 -- What is said where all that is wrong with a log is listed.
 use Rattle.std.specs.Prelude.{◌≡◌, ◌||◌, List, [], ◌∷◌, ◌++◌, ℕ, map, Bool, false, Option, Some}
-use Rattle.std.specs.Prelude.{None, is_some, not, unwrap_or}
+use Rattle.std.specs.Prelude.{None, is_some, not}
 use Rattle.lsp_docs.specs.Documents.{Terms}
 use Rattle.lsp_log.specs.declared.fault.LogCode.{LogCode}
+use Rattle.lsp_replay.specs.Lines.{shown_line}
 use Rattle.lsp_replay.specs.Run.{IsJudged, Run}
 use Rattle.lsp_replay.specs.Telling.{rule_of}
 use Rattle.lsp_survey.specs.Lost.{AreLosses, may_lose}
@@ -10,32 +11,23 @@ use Rattle.lsp_survey.specs.Reported.{IsTally, closing, is_every, lines_of}
 use Rattle.lsp_survey.specs.SessionEnds.{all_found, all_verdict, ends_of}
 use Rattle.lsp_survey.specs.declared.survey.Options.{Options}
 use Rattle.lsp_survey.specs.declared.survey.Survey.{Survey}
-use Rattle.lsp_verdict.specs.Event.{Event}
 use Rattle.lsp_verdict.specs.Heard.{Heard, heard_events, notes_of}
 use Rattle.lsp_verdict.specs.Offences.{Offence, offence_at, offences}
-use Rattle.lsp_verdict.specs.Shown.{line_at}
 use Rattle.lsp_verdict.specs.Survey.{by_itself}
 use Rattle.lsp_verdict.specs.Verdict.{Verdict, bad_log_of, summary}
-use Rattle.lsp_verdict.specs.declared.lines.Lines.{Lines}
 
 -- what is asked of it
 abbrev pub SurveyAsked : Type 0
 SurveyAsked = Options
 
--- the line of an event after these that is kept, where those are shown
-abbrev pub kept_line : Option Lines → List Event → Event → List ℕ
-kept_line None before event = []
-kept_line (Some lines) before event = unwrap_or (line_at lines before event) []
-
--- the lines of its offence, as far as that is listed, else its own
-abbrev pub said_by : Options → List Event → Event → Option Offence → List ℕ
-said_by options before event None = kept_line options.lines before event
-said_by options before event (Some o) = lines_of options.listing (o ∷ [])
+-- the lines of the offence of an event after these, as far as that is listed, else its own
+abbrev pub said_by : Options → List Heard → Heard → Option Offence → List ℕ
+said_by options before h None = shown_line options.lines before h
+said_by options before h (Some o) = lines_of options.listing (o ∷ [])
 
 abbrev pub event_said : Options → Terms → List Heard → Heard → List ℕ
 event_said options terms before h =
-    said_by options (heard_events before) h.note.event
-    (offence_at terms (notes_of before) h.note)
+    said_by options before h (offence_at terms (notes_of before) h.note)
 
 -- there are such lines
 abbrev pub has_lines : Options → Option Offence → Bool

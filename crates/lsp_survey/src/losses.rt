@@ -131,12 +131,11 @@ impl Losses {
             × IsNotedIn terms before event None (option_map call_view said.entry)
             (Some rule) self.old self.new) }
     {
-        let unheard = self.unheard_after(side, message);
         let late = self.message_follows(side, rule, message);
         let follows = self.offend_call(held, rule, said, late)?;
         self.sides = self.sides.after_message(side);
         self.passed.note(side, rule, message)?;
-        self.unheard = unheard;
+        self.unheard |= is_initialized(side, message);
         Ok(follows)
     }
 
@@ -166,8 +165,7 @@ impl Losses {
     {
         let on_lost = self.documents.is_lost(said)?;
         let follows = self.follows(&held.session, rule, on_lost, late);
-        let breaks = breaks_handshake(false, rule);
-        self.handshake = self.handshake_after(breaks);
+        self.handshake |= breaks_handshake(false, rule);
         note_refused(&mut self.documents, &held.docs, rule, said)?;
         Ok(follows)
     }
@@ -213,59 +211,25 @@ impl Losses {
             → HoldsSent session.now terms before → result ≡ follows_of terms before rule false
             (follows_bytes rule (events_of before) (fault side rule)) }
     {
-        let breaks = breaks(session, side, rule, asks);
         let late = self.sides.fault_follows(side, rule);
         let follows = self.follows(session, rule, false, late);
-        self.handshake = self.handshake_after(breaks);
+        self.handshake |= breaks(session, side, rule, asks);
         self.sides = self.sides.after_fault(side, rule);
         follows
     }
 
-    /// Whether an event of the handshake was refused, or the next event `breaks` it.
-    fn handshake_after(&self, breaks: bool) -> bool
-        ensures { result ≡ (self.now.handshake || breaks) }
-    {
-        self.handshake || breaks
-    }
-
     /// Whether an offence of this message by this rule follows from a message that was passed over,
-    /// or from the broken frames of the other side.
+    /// since it answers a request or wants `initialized` before it, or from the broken frames of the
+    /// other side.
     fn message_follows(&self, side: Side, rule: u16, message: &Message) -> bool
         ensures { (terms : Terms) (before : List Noted) (event : Event)
             → AreLosses terms self.now before → IsMessageOf side (message_view message.now) event
             → result ≡ (follows_passed terms rule before event
             || follows_bytes rule (events_of before) event) }
     {
-        let passed = self.follows_passed(side, rule, message);
-        let late = self.sides.message_follows(side, rule);
-        passed || late
-    }
-
-    /// Whether it follows from a message that was passed over: it answers a request, or wants
-    /// `initialized` before it.
-    fn follows_passed(&self, side: Side, rule: u16, message: &Message) -> bool
-        ensures { (terms : Terms) (before : List Noted) (event : Event)
-            → AreLosses terms self.now before → IsMessageOf side (message_view message.now) event
-            → result ≡ follows_passed terms rule before event }
-    {
         let answers = self.answers_passed(side, rule, message);
-        let wants = self.wants_initialized(rule);
-        answers || wants
-    }
-
-    /// Whether the rule is broken since `initialized` was passed over.
-    fn wants_initialized(&self, rule: u16) -> bool
-        ensures { result ≡ (rule == rules.INITIALIZED_NOT_FIRST && self.now.unheard) }
-    {
-        rule == rules::INITIALIZED_NOT_FIRST && self.unheard
-    }
-
-    /// Whether an `initialized` is passed over once this message of this side is.
-    fn unheard_after(&self, side: Side, message: &Message) -> bool
-        ensures { result ≡ (self.now.unheard
-            || (same_side Editor side && tells_initialized (message_view message.now))) }
-    {
-        self.unheard || is_initialized(side, message)
+        let wants = (rule == rules::INITIALIZED_NOT_FIRST) & self.unheard;
+        answers | wants | self.sides.message_follows(side, rule)
     }
 
     /// Whether a message of this side that breaks this rule answers a request that was passed over.

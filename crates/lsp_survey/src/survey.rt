@@ -1,11 +1,8 @@
 //! What is said where all that is wrong with a log is listed, and its kept events are shown or
 //! aren't.
-ghost use Rattle.std.specs.Prelude.{◌≡◌, ◌++◌, [], List, None, OnErr, OnOk, is_some, string_bytes};
-ghost use Rattle.std.specs.Prelude.{true};
+ghost use Rattle.std.specs.Prelude.{◌≡◌, []};
 ghost use Rattle.lsp_docs.specs.Documents.{Terms};
-ghost use Rattle.lsp_replay.specs.Telling.{IsSeen, rule_of};
-ghost use Rattle.lsp_survey.specs.SurveyRun.{SurveyAsked, SurveyStands, kept_line, survey_run};
-ghost use Rattle.lsp_verdict.specs.Heard.{Heard, heard_events};
+ghost use Rattle.lsp_survey.specs.SurveyRun.{SurveyAsked, SurveyStands, survey_run};
 
 use crate::end_of_session::{SessionEnd, session_end};
 use crate::losses::Losses;
@@ -48,21 +45,6 @@ impl Survey {
             tally: OffenceCount::new(),
         }
     }
-
-    /// Adds the line of an event that is kept to a text, where those are shown.
-    fn show(&self, held: &Events<Lined>, seen: &Seen<'_>, text: &mut String) -> Result<()>
-        ensures shown { OnOk result ((terms : Terms) (before : List Heard) (h : Heard)
-            → IsSeen held.now.session held.now.docs held.now.counts seen.now terms before h
-            → rule_of terms before h ≡ None
-            → string_bytes text.new ≡ string_bytes text.old
-            ++ kept_line self.now.options.lines (heard_events before) h.note.event) }
-        ensures memory { OnErr result (is_some self.now.options.lines ≡ true) }
-    {
-        match self.options.lines {
-            Some(lines) => push_kept_line(text, lines, held, seen),
-            None => Ok(()),
-        }
-    }
 }
 
 impl Account for Survey {
@@ -78,7 +60,7 @@ impl Account for Survey {
     fn event(&mut self, held: &Events<Lined>, seen: &Seen<'_>, text: &mut String) -> Result<Flow> {
         let follows = self.losses.tell(held, seen)?;
         let Fate::Offends { rule, .. } = seen.fate else {
-            self.show(held, seen, text)?;
+            push_kept_line(text, self.options.lines, held, seen)?;
             return Ok(Flow::GoOn);
         };
         let offence = last_offence(&held.counts, seen.raw, rule, follows);

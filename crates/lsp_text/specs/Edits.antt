@@ -8,8 +8,8 @@ use Rattle.lsp_types.specs.declared.position.Encoding.{Encoding}
 use Rattle.lsp_types.specs.declared.position.Encoding.TheVariants.{Utf8}
 use Rattle.lsp_types.specs.declared.position.Span.{Span}
 use Rattle.lsp_text.specs.declared.changes.ChangeFault.{ChangeFault}
-use Rattle.lsp_text.specs.declared.fault.TextFault.{TextFault}
-use Rattle.lsp_text.specs.declared.fault.TextFault.TheVariants.{Rule, Memory}
+use Rattle.lsp_types.specs.declared.fault.Fault.{Fault}
+use Rattle.lsp_types.specs.declared.fault.Fault.TheVariants.{Rule, Memory}
 use Rattle.lsp_text.specs.declared.store.Place.{Place}
 use Rattle.lsp_text.specs.Places.{units, place_of}
 use Rattle.lsp_types.specs.declared.rules.TheConstants as rules
@@ -57,7 +57,7 @@ applied limit enc t [] = Ok t
 applied limit enc t (c ∷ cs) = and_then (changed enc t c.span c.text limit) (λ u. applied limit enc u cs)
 
 -- the fault is that rule, or that memory was refused
-abbrev pub IsFaultOf : Result (List ℕ) ℕ → TextFault → Type 0
+abbrev pub IsFaultOf : Result (List ℕ) ℕ → Fault → Type 0
 IsFaultOf r (Rule rule) = r ≡ Err rule
 IsFaultOf r Memory = Unit {0}
 
@@ -70,6 +70,6 @@ pub record FailsAfter (limit : ℕ) (enc : Encoding) (t : List ℕ) (cs : List E
   pub fails : IsFaultOf (changed enc u edit.span edit.text limit) failed.fault
 
 -- the place, or 605 where there is none
-abbrev pub IsPlaceOr605 : Option ℕ → Result Place TextFault → Type 0
+abbrev pub IsPlaceOr605 : Option ℕ → Result Place Fault → Type 0
 IsPlaceOr605 None r = r ≡ Err (Rule rules.POSITION_INSIDE_CHARACTER)
 IsPlaceOr605 (Some k) r = r ≡ Ok (record { chars = k })

@@ -6,10 +6,9 @@ ghost use Rattle.lsp_text.specs.Edits.{changed, applied, IsFaultOf, FailsAfter};
 ghost use Rattle.lsp_text.specs.Changes.{edits_of};
 ghost use Rattle.lsp_text.specs.Findings.{noted, found_of, findings};
 
-use crate::fault::TextFault;
 use crate::findings::Findings;
 use crate::store::TextStore;
-use lsp_types::{Change, Encoding, Span};
+use lsp_types::{Change, Encoding, Fault, Span};
 
 /// Makes a change: of the characters of a span where there is one, and else of the whole text (LSP
 /// 3.17, "TextDocumentContentChangeEvent"). The limit is in bytes of UTF-8. A refused change leaves
@@ -20,7 +19,7 @@ pub fn change<S: TextStore>(
     span: Option<Span>,
     text: &str,
     limit: u64,
-) -> Result<(), TextFault>
+) -> Result<(), Fault>
     ensures ok { OnOk result (changed encoding (S.content store.old) span (chars text.now) limit
         ≡ Ok (S.content store.new)) }
     ensures fault { IfErr result
@@ -40,7 +39,7 @@ pub fn change_noting<S: TextStore>(
     text: &str,
     limit: u64,
     found: &mut Findings,
-) -> Result<(), TextFault>
+) -> Result<(), Fault>
     ensures found { OnOk result (found.new
         ≡ noted found.old (found_of encoding (S.content store.old) span range_length)) }
     ensures ok { OnOk result (changed encoding (S.content store.old) span (chars text.now) limit
@@ -61,7 +60,7 @@ pub struct ChangeFault {
     /// How many are made before the one that fails.
     pub made: usize,
     /// Why that one is refused.
-    pub fault: TextFault,
+    pub fault: Fault,
 }
 
 /// Makes changes in order, each of the text that the one before left (LSP 3.17,

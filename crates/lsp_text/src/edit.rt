@@ -12,10 +12,9 @@ ghost use Rattle.lsp_text.specs.Findings.{noted, found_in, text_extent, length_o
 ghost use Rattle.lsp_text.specs.Findings.{FitsLine};
 ghost use Rattle.lsp_text.specs.Steps.{raised, RisesWithin, line_bytes, line_number, touched};
 
-use crate::fault::TextFault;
 use crate::findings::{Extent, Findings, OtherLength, is_length, past_end_of};
 use crate::lined::lines::{LentLine, Lines, Steps};
-use lsp_types::{Encoding, Position, Span, rules};
+use lsp_types::{Encoding, Fault, Position, Span, rules};
 
 /// Replaces what the span holds: 605, then 606, then 607 where the result is over the limit.
 pub(crate) fn edit(
@@ -27,7 +26,7 @@ pub(crate) fn edit(
     text: &str,
     limit: u64,
     found: &mut Findings,
-) -> Result<(), TextFault>
+) -> Result<(), Fault>
     ensures found { OnOk result (found.new
         ≡ noted found.old (found_in encoding (chars lines.old) span range_length)) }
     ensures ok { OnOk result (replaced encoding (chars lines.old) span (chars text.now) limit
@@ -46,21 +45,21 @@ pub(crate) fn edit(
 {
     let line = read_at(lines, span.first, steps);
     let Some(first) = find_in(lines, &line, encoding, span.first) else {
-        return Err(TextFault::Rule(rules::POSITION_INSIDE_CHARACTER));
+        return Err(Fault::Rule(rules::POSITION_INSIDE_CHARACTER));
     };
     let Some(second) = find_second(lines, &line, encoding, span, first, steps) else {
-        return Err(TextFault::Rule(rules::POSITION_INSIDE_CHARACTER));
+        return Err(Fault::Rule(rules::POSITION_INSIDE_CHARACTER));
     };
     let bytes = lines.byte_len();
     if second.offset < first.offset {
-        return Err(TextFault::Rule(rules::RANGE_REVERSED));
+        return Err(Fault::Rule(rules::RANGE_REVERSED));
     }
     if is_over(
         bytes - (second.offset - first.offset) as u64,
         text.len(),
         limit,
     ) {
-        return Err(TextFault::Rule(rules::DOCUMENT_OVER_LIMIT));
+        return Err(Fault::Rule(rules::DOCUMENT_OVER_LIMIT));
     }
     note(lines, encoding, span, first, second, range_length, found);
     lines.replace(first.offset, second.offset, text)?;

@@ -19,7 +19,6 @@ mod cut;
 mod difference;
 mod edit;
 mod ends;
-mod fault;
 mod findings;
 mod lanes;
 mod laws;
@@ -39,7 +38,6 @@ pub use columns::offset_in_line;
 pub use counts::{TextCounts, measure};
 pub use cut::FirstLine;
 pub use difference::{Difference, first_difference};
-pub use fault::TextFault;
 pub use findings::{Extent, Findings, OtherLength, PastEnd};
 pub use laws::{
     characters_denote, exact_texts_are_equal, feeds_end_lines, line_ends_are_whole,
@@ -51,3 +49,7 @@ pub use plain::Plain;
 pub use reading::{char_inside, line_at, size_with, width_of};
 pub use same::{compared_lines, same_lines};
 pub use store::{Place, TextStore};
+
+/// Why a change is refused: 605 a position inside a character, 606 a reversed span, 607 a text over
+/// the limit.
+pub type TextFault = lsp_types::Fault;

@@ -48,11 +48,10 @@ ghost use Rattle.lsp_text.specs.Offsets.{IsTextOffset};
 ghost use Rattle.lsp_text.specs.Findings.{noted, found_in};
 
 use crate::edit::edit;
-use crate::fault::TextFault;
 use crate::findings::Findings;
 use crate::store::{Place, TextStore};
 use lines::{Lines, Steps};
-use lsp_types::{Encoding, Memory, Position, Span, rules};
+use lsp_types::{Encoding, Fault, Memory, Position, Span, rules};
 use std::alloc::Global;
 use std::marker::Model;
 
@@ -96,9 +95,9 @@ impl TextStore for Lined {
         })
     }
 
-    fn resolve(&self, encoding: Encoding, position: Position) -> Result<Place, TextFault> {
+    fn resolve(&self, encoding: Encoding, position: Position) -> Result<Place, Fault> {
         match offset_of(&self.lines, encoding, position) {
-            None => Err(TextFault::Rule(rules::POSITION_INSIDE_CHARACTER)),
+            None => Err(Fault::Rule(rules::POSITION_INSIDE_CHARACTER)),
             Some(offset) => Ok(Place {
                 chars: self.lines.chars_before(offset),
             }),
@@ -111,7 +110,7 @@ impl TextStore for Lined {
         span: Span,
         text: &str,
         limit: u64,
-    ) -> Result<(), TextFault>
+    ) -> Result<(), Fault>
         ensures ok { OnOk result (replaced encoding self.old.content span (chars text.now) limit
             ≡ Ok self.new.content) }
         ensures fault { IfErr result
@@ -137,7 +136,7 @@ impl TextStore for Lined {
         text: &str,
         limit: u64,
         found: &mut Findings,
-    ) -> Result<(), TextFault>
+    ) -> Result<(), Fault>
         ensures found { OnOk result (found.new
             ≡ noted found.old (found_in encoding self.old.content span range_length)) }
         ensures ok { OnOk result (replaced encoding self.old.content span (chars text.now) limit
@@ -166,14 +165,14 @@ impl TextStore for Lined {
         )
     }
 
-    fn replace_all(&mut self, text: &str, limit: u64) -> Result<(), TextFault>
+    fn replace_all(&mut self, text: &str, limit: u64) -> Result<(), Fault>
         ensures ok { OnOk result (limited limit (chars text.now) ≡ Ok self.new.content) }
         ensures fault { IfErr result (IsFaultOf (limited limit (chars text.now))) }
         ensures err { OnErr result (self.new.content ≡ self.old.content) }
         ensures steps { self.new.steps ≡ self.old.steps }
     {
         if limit < text.len() as u64 {
-            return Err(TextFault::Rule(rules::DOCUMENT_OVER_LIMIT));
+            return Err(Fault::Rule(rules::DOCUMENT_OVER_LIMIT));
         }
         self.lines.renew(text)?;
         Ok(())

@@ -9,11 +9,10 @@ ghost use Rattle.lsp_text.specs.Offsets.{IsTextOffset};
 use crate::columns::offset_in_line;
 use crate::counts::measure;
 use crate::cut::FirstLine;
-use crate::fault::TextFault;
 use crate::findings::{Findings, found_in_text};
 use crate::same::same_lines;
 use crate::store::{Place, TextStore};
-use lsp_types::{Encoding, Memory, Position, Span, rules};
+use lsp_types::{Encoding, Fault, Memory, Position, Span, rules};
 use std::alloc::Global;
 use std::marker::Model;
 
@@ -42,10 +41,10 @@ impl TextStore for Plain {
         Ok(Plain { text })
     }
 
-    fn resolve(&self, encoding: Encoding, position: Position) -> Result<Place, TextFault> {
+    fn resolve(&self, encoding: Encoding, position: Position) -> Result<Place, Fault> {
         let text = self.text.as_str();
         match offset_of(text, encoding, position) {
-            None => Err(TextFault::Rule(rules::POSITION_INSIDE_CHARACTER)),
+            None => Err(Fault::Rule(rules::POSITION_INSIDE_CHARACTER)),
             Some(offset) => {
                 let (front, _) = text.split_at(offset);
                 Ok(Place {
@@ -63,19 +62,19 @@ impl TextStore for Plain {
         text: &str,
         limit: u64,
         found: &mut Findings,
-    ) -> Result<(), TextFault> {
+    ) -> Result<(), Fault> {
         let held = self.text.as_str();
         let Some(first) = offset_of(held, encoding, span.first) else {
-            return Err(TextFault::Rule(rules::POSITION_INSIDE_CHARACTER));
+            return Err(Fault::Rule(rules::POSITION_INSIDE_CHARACTER));
         };
         let Some(second) = offset_of(held, encoding, span.second) else {
-            return Err(TextFault::Rule(rules::POSITION_INSIDE_CHARACTER));
+            return Err(Fault::Rule(rules::POSITION_INSIDE_CHARACTER));
         };
         if second < first {
-            return Err(TextFault::Rule(rules::RANGE_REVERSED));
+            return Err(Fault::Rule(rules::RANGE_REVERSED));
         }
         if limit < (first + text.len() + (held.len() - second)) as u64 {
-            return Err(TextFault::Rule(rules::DOCUMENT_OVER_LIMIT));
+            return Err(Fault::Rule(rules::DOCUMENT_OVER_LIMIT));
         }
         let (front, _) = held.split_at(second);
         let (_, range) = front.split_at(first);
@@ -84,9 +83,9 @@ impl TextStore for Plain {
         Ok(())
     }
 
-    fn replace_all(&mut self, text: &str, limit: u64) -> Result<(), TextFault> {
+    fn replace_all(&mut self, text: &str, limit: u64) -> Result<(), Fault> {
         if limit < text.len() as u64 {
-            return Err(TextFault::Rule(rules::DOCUMENT_OVER_LIMIT));
+            return Err(Fault::Rule(rules::DOCUMENT_OVER_LIMIT));
         }
         let len = self.text.as_str().len();
         self.text.replace_range(0..len, text)?;

@@ -9,9 +9,8 @@ ghost use Rattle.lsp_text.specs.Edits.{replaced, limited, IsFaultOf, IsPlaceOr60
 ghost use Rattle.lsp_text.specs.SameText.{SameText};
 ghost use Rattle.lsp_text.specs.Findings.{noted, found_in};
 
-use crate::fault::TextFault;
 use crate::findings::Findings;
-use lsp_types::{Encoding, LineEnds, Memory, Position, Span};
+use lsp_types::{Encoding, Fault, LineEnds, Memory, Position, Span};
 use std::alloc::Global;
 
 /// A place in a text, between two characters or at its ends: the characters (Unicode scalar values)
@@ -37,7 +36,7 @@ pub trait TextStore: Drop {
     /// column counts units of the encoding: bytes of UTF-8, units of UTF-16, or characters. A
     /// column past its line denotes the line's end, before its line end, and a line past the last
     /// one the end of the text. A column inside a character is refused by rule 605.
-    fn resolve(&self, encoding: Encoding, position: Position) -> Result<Place, TextFault>
+    fn resolve(&self, encoding: Encoding, position: Position) -> Result<Place, Fault>
         ensures { IsPlaceOr605 (place_of encoding (content self.now) position) result };
 
     /// Replaces the characters of a span by a text. Rule 605 refuses a position inside a
@@ -49,7 +48,7 @@ pub trait TextStore: Drop {
         span: Span,
         text: &str,
         limit: u64,
-    ) -> Result<(), TextFault>
+    ) -> Result<(), Fault>
         ensures ok { OnOk result (replaced encoding (content self.old) span (chars text.now) limit
             ≡ Ok (content self.new)) }
         ensures fault { IfErr result
@@ -69,7 +68,7 @@ pub trait TextStore: Drop {
         text: &str,
         limit: u64,
         found: &mut Findings,
-    ) -> Result<(), TextFault>
+    ) -> Result<(), Fault>
         ensures found { OnOk result (found.new
             ≡ noted found.old (found_in encoding (content self.old) span range_length)) }
         ensures ok { OnOk result (replaced encoding (content self.old) span (chars text.now) limit
@@ -80,7 +79,7 @@ pub trait TextStore: Drop {
 
     /// Replaces the whole text. Rule 607 refuses one of more bytes of UTF-8 than
     /// the limit.
-    fn replace_all(&mut self, text: &str, limit: u64) -> Result<(), TextFault>
+    fn replace_all(&mut self, text: &str, limit: u64) -> Result<(), Fault>
         ensures ok { OnOk result (limited limit (chars text.now) ≡ Ok (content self.new)) }
         ensures fault { IfErr result (IsFaultOf (limited limit (chars text.now))) }
         ensures err { OnErr result (content self.new ≡ content self.old) };

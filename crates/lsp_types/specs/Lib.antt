@@ -1,4 +1,5 @@
 pub mod Numbers
+pub mod Fault
 pub mod Lends
 pub mod Places
 pub mod Texts

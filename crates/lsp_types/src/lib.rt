@@ -1,8 +1,9 @@
 //! What several layers share: plain types of the Language Server Protocol 3.17, the numbers of the
-//! rules, the error for refused memory, and a map that keeps its keys in insertion order.
+//! rules, why a call is refused, and a map that keeps its keys in insertion order.
 #![tactic(auto)]
 
 mod change;
+mod fault;
 mod laws;
 mod line_ends;
 mod memory;
@@ -12,6 +13,7 @@ pub mod rules;
 mod side;
 
 pub use change::{Change, SyncKind};
+pub use fault::Fault;
 pub use laws::{documents_begin_at_601, rules_are_numbered};
 pub use line_ends::LineEnds;
 pub use memory::Memory;

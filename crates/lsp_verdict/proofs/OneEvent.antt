@@ -6,11 +6,11 @@ use Rattle.lsp_rpc.specs.Message.{Message}
 use Rattle.lsp_rpc.specs.Reading as reading
 use Rattle.lsp_rpc.specs.Reading.{BreaksRule}
 use Rattle.lsp_rpc.specs.Act.{Act}
-use Rattle.lsp_rpc.specs.Params.{act_at}
+use Rattle.lsp_rpc.specs.Params.{IsRefused, act_at}
 use Rattle.lsp_types.specs.declared.side.Side.{Side}
 use Rattle.lsp_session.specs.Sent.{Sent}
 use Rattle.lsp_verdict.specs.Event.{Event, message, fault, snapshot}
-use Rattle.lsp_verdict.specs.Placed.{IsSent, IsRefused, ReadsAs, Raw, content, broken, show, Reads}
+use Rattle.lsp_verdict.specs.Placed.{IsSent, ReadsAs, Raw, content, broken, show, Reads}
 use Rattle.lsp_verdict.proofs.Below.{one_message, one_rule, not_both, message_or_rule}
 
 same_sent : (m n : Sent) → m.side ≡ n.side → m.message ≡ n.message → m.act ≡ n.act → m ≡ n

@@ -1,6 +1,6 @@
 -- The events of a log with what they were before their contents were read, and what its sides leave
 -- after their last whole frames.
-use Rattle.std.specs.Prelude.{List, ℕ, ◌++◌, map}
+use Rattle.std.specs.Prelude.{List, ℕ, map}
 use Rattle.std.specs.List.{AllZip}
 use Rattle.lsp_frame.specs.Bounds.{Bounds}
 use Rattle.lsp_types.specs.declared.side.Side.{Side}
@@ -44,8 +44,3 @@ rest_of rests Server = rests.server
 pub record AreRests (limits : Bounds) (records : List Record) (rests : Rests) : Type 0 where
   pub editor : HasRest limits (joined Editor records) rests.editor
   pub server : HasRest limits (joined Server records) rests.server
-
--- of records that begin with these
-abbrev pub RestsBehind : Bounds → List Record → Rests → Type 0
-RestsBehind limits records rests =
-    (more : List Record) × AreRests limits (records ++ more) rests

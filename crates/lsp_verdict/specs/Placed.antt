@@ -1,13 +1,10 @@
 -- The events of a session in order: what the records' bytes bring.
-use Rattle.std.specs.Prelude.{◌≡◌, ◌⊎◌, List, ℕ, Some, None, ℤ, [], ◌∷◌, ◌++◌, map, Option}
+use Rattle.std.specs.Prelude.{◌≡◌, List, ℕ, Some, None, ℤ, [], ◌∷◌, ◌++◌, map, Option}
 use Rattle.std.specs.Prelude.{if◌then◌else◌, chars}
 use Rattle.std.specs.List.{AllZip}
-use Rattle.lsp_rpc.specs.Message.{Message}
 use Rattle.lsp_rpc.specs.Reading as reading
-use Rattle.lsp_rpc.specs.Reading.{BreaksRule}
-use Rattle.lsp_rpc.specs.Params.{act_at}
+use Rattle.lsp_rpc.specs.Params.{IsRefused, act_at}
 use Rattle.lsp_types.specs.declared.side.Side.{Side}
-use Rattle.lsp_types.specs.declared.rules.TheConstants as rules
 use Rattle.lsp_types.specs.declared.side.Side.TheVariants.{Editor, Server}
 use Rattle.lsp_session.specs.Sent.{Sent, same_side}
 use Rattle.lsp_frame.specs.Bounds.{Bounds}
@@ -22,17 +19,6 @@ pub record IsSent (side : Side) (bytes : List ℕ) (m : Sent) : Type 0 where
   pub by : m.side ≡ side
   pub reads : reading.Reads bytes m.message
   pub means : act_at side m.message ≡ Some m.act
-
--- the params of the message that the content is don't have the shape that its method asks for
-pub record HasBadParams (side : Side) (bytes : List ℕ) : Type 0 where
-  pub of : Message
-  pub reads : reading.Reads bytes of
-  pub unread : act_at side of ≡ None
-
--- the least rule that the content breaks as a message of the side: 201 to 208, then 209
-abbrev pub IsRefused : Side → List ℕ → ℕ → Type 0
-IsRefused side bytes rule =
-    BreaksRule bytes rule ⊎ ((rule ≡ rules.BAD_METHOD_PARAMS) × HasBadParams side bytes)
 
 -- the event that the content is
 abbrev pub ReadsAs : Side → List ℕ → Event → Type 0

@@ -64,12 +64,17 @@ count_lines s =
     ++ line (codes "snapshots" ∷ decimal s.snapshots ∷ codes "unmatched" ∷ decimal s.unmatched ∷ [])
     ++ line (codes "encoding" ∷ encoding_name s.encoding ∷ codes "sync" ∷ kind_name s.sync ∷ [])
 
+-- the two lines of a No, with these words behind the number of its event
+abbrev pub no_lines : ℕ → Who → ℕ → ℕ → List (List ℕ) → List ℕ
+no_lines rule who count event words =
+    line (codes "no" ∷ decimal rule ∷ who_name who ∷ decimal count ∷ codes "event" ∷ decimal event ∷ words)
+    ++ line (text_of rule ∷ [])
+
 -- the report of a verdict
 abbrev pub report : Verdict → List ℕ
 report (yes s) =
     line (codes "yes" ∷ []) ++ count_lines s ++ flat_map document_line s.documents ++ flat_map request_line s.requests
-report (no rule who count event) =
-    line (codes "no" ∷ decimal rule ∷ who_name who ∷ decimal count ∷ codes "event" ∷ decimal event ∷ []) ++ line (text_of rule ∷ [])
+report (no rule who count event) = no_lines rule who count event []
 report (bad_log at code) = line (codes "bad" ∷ codes "log" ∷ code_name code ∷ codes "record" ∷ decimal at ∷ []) ++ line (code_text code ∷ [])
 
 -- ---- a fault of a stream

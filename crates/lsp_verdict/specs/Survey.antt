@@ -17,8 +17,7 @@ use Rattle.lsp_verdict.specs.Offences.{Noted, Offence, events_of, has_broken, ke
 use Rattle.lsp_verdict.specs.Offences.{IsNotedSession}
 use Rattle.lsp_verdict.specs.Outcome.{HasRest, ending, log_terms}
 use Rattle.lsp_verdict.specs.Placed.{joined}
-use Rattle.lsp_verdict.specs.Report.{line, who_name, report}
-use Rattle.lsp_verdict.specs.Texts.{text_of}
+use Rattle.lsp_verdict.specs.Report.{line, no_lines, report}
 use Rattle.lsp_verdict.specs.Verdict.{Verdict, yes, no, bad_log, Summary, summary, Ending, bad_log_of, no_next}
 use Rattle.lsp_types.specs.declared.rules.TheConstants as rules
 
@@ -74,14 +73,13 @@ abbrev pub follow_words : Bool → List (List ℕ)
 follow_words true = codes "follows" ∷ []
 follow_words false = []
 
--- the two lines of a No, with these words after the event's number
-abbrev pub no_lines : List (List ℕ) → Verdict → List ℕ
-no_lines words (no rule by count event) = line (codes "no" ∷ decimal rule ∷ who_name by ∷ decimal count ∷ codes "event" ∷ decimal event ∷ words) ++ line (text_of rule ∷ [])
-no_lines words (yes s) = report (yes s)
-no_lines words (bad_log at code) = report (bad_log at code)
+-- the report of a No, with these words after the event's number
+abbrev pub listed : List (List ℕ) → Verdict → List ℕ
+listed words (no rule by count event) = no_lines rule by count event words
+listed words v = report v
 
 abbrev pub offence_lines : Offence → List ℕ
-offence_lines o = no_lines (follow_words o.follows) o.no
+offence_lines o = listed (follow_words o.follows) o.no
 
 -- those that follow from none, or every one
 abbrev pub shown_of : Bool → List Offence → List Offence

@@ -1,14 +1,14 @@
 //! An offence of a session, as it is listed and reported.
 ghost use Rattle.std.specs.Prelude.{◌≡◌, ◌∷◌, [], List, IfOk, string_bytes, codes, decimal};
+ghost use Rattle.std.specs.Prelude.{◌++◌, ℕ};
 ghost use Rattle.lsp_verdict.specs.Given.{AreCounts, given_offence, offence_view, verdict_view};
 ghost use Rattle.lsp_verdict.specs.Event.{Event};
 ghost use Rattle.lsp_verdict.specs.Report.{line};
-ghost use Rattle.lsp_verdict.specs.Survey.{no_lines, offence_lines};
-ghost use Rattle.lsp_verdict.specs.Verdict.{no, no_next};
+ghost use Rattle.lsp_verdict.specs.Survey.{follow_words, offence_lines};
+ghost use Rattle.lsp_verdict.specs.Verdict.{no_next};
 
 use crate::counts::Counts;
 use crate::names::who_name;
-use crate::report::no_report;
 use crate::texts::text_of;
 use crate::verdict::{Verdict, Who};
 use lsp_rpc::Result;
@@ -57,19 +57,20 @@ impl Offence {
     }
 }
 
-/// The lines of an offence that follows from an earlier one.
-fn follow_report(alloc: Global, rule: u16, who: Who, number: u64, event: u64) -> Result<String>
-    ensures { IfOk result (λ written. string_bytes written
-        ≡ no_lines (codes "follows" ∷ []) (no rule who number event)) }
+/// What is put behind the last word of a line: the word `follows`, where an offence does.
+fn follow_end(follows: bool) -> &'static str
+    ensures { (word : List ℕ) →
+        line ((word ++ result.now) ∷ []) ≡ line (word ∷ follow_words follows) }
 {
-    let name = who_name(who);
-    let text = text_of(rule);
-    let report = format!(in alloc; "no {rule} {name} {number} event {event} follows\n{text}\n")?;
-    Ok(report)
+    if follows { " follows" } else { "" }
 }
 
-/// The two lines that list an offence: those of its No, and the word `follows` after the number of
-/// the event if it follows from an earlier one.
+/// The two lines that list an offence: the rule, whose event it is, its number among theirs, its
+/// number among all events, both from 1, the word `follows` if it follows from an earlier one; and
+/// the rule's fixed text.
+///
+/// # Errors
+/// `Memory` where memory was refused.
 pub fn offence_report(alloc: Global, offence: &Offence) -> Result<String>
     ensures { IfOk result (λ written. string_bytes written
         ≡ offence_lines (offence_view offence.now)) }
@@ -81,11 +82,11 @@ pub fn offence_report(alloc: Global, offence: &Offence) -> Result<String>
         event,
         follows,
     } = *offence;
-    if follows {
-        follow_report(alloc, rule, who, number, event)
-    } else {
-        no_report(alloc, rule, who, number, event)
-    }
+    let name = who_name(who);
+    let end = follow_end(follows);
+    let text = text_of(rule);
+    let report = format!(in alloc; "no {rule} {name} {number} event {event}{end}\n{text}\n")?;
+    Ok(report)
 }
 
 /// The line with the number of offences found, and how many of them follow from earlier ones.

@@ -5,12 +5,13 @@ ghost use Rattle.lsp_session.specs.Entry.{request_view};
 ghost use Rattle.lsp_verdict.specs.Given.{document_view, summary_view, verdict_view};
 ghost use Rattle.lsp_verdict.specs.Report.{count_lines, document_line, request_line, report};
 ghost use Rattle.lsp_verdict.specs.Report.{two_lines, stream_report};
-ghost use Rattle.lsp_verdict.specs.Verdict.{yes, no, bad_log};
+ghost use Rattle.lsp_verdict.specs.Verdict.{yes, bad_log};
 
-use crate::names::{encoding_name, kind_name, side_name, who_name};
+use crate::names::{encoding_name, kind_name, side_name};
+use crate::offence::{Offence, offence_report};
 use crate::outcome::StreamFault;
 use crate::texts::{code_name, code_text, text_of};
-use crate::verdict::{OpenDocument, Summary, Verdict, Who};
+use crate::verdict::{OpenDocument, Summary, Verdict};
 use itoa::Buffer;
 use lsp_log::LogCode;
 use lsp_rpc::{Result, Side, push_id, push_quoted};
@@ -130,26 +131,6 @@ fn summary_report(alloc: Global, summary: &Summary) -> Result<String>
     Ok(report)
 }
 
-/// The report of a No: the rule, whose event it is, its number among theirs, its number among all
-/// events, both from 1, and the rule's fixed text.
-///
-/// # Errors
-/// `Memory` where memory was refused.
-pub(crate) fn no_report(
-    alloc: Global,
-    rule: u16,
-    who: Who,
-    number: u64,
-    event: u64,
-) -> Result<String>
-    ensures { IfOk result (λ written. string_bytes written ≡ report (no rule who number event)) }
-{
-    let name = who_name(who);
-    let text = text_of(rule);
-    let report = format!(in alloc; "no {rule} {name} {number} event {event}\n{text}\n")?;
-    Ok(report)
-}
-
 fn bad_log_report(alloc: Global, number: u64, fault: LogCode) -> Result<String>
     ensures { IfOk result (λ written. string_bytes written ≡ report (bad_log number fault)) }
 {
@@ -176,7 +157,16 @@ pub fn verdict_report(alloc: Global, verdict: &Verdict) -> Result<String>
             who,
             number,
             event,
-        } => no_report(alloc, *rule, *who, *number, *event),
+        } => {
+            let offence = Offence {
+                rule: *rule,
+                who: *who,
+                number: *number,
+                event: *event,
+                follows: false,
+            };
+            offence_report(alloc, &offence)
+        }
         Verdict::BadLog { number, fault } => bad_log_report(alloc, *number, *fault),
     }
 }

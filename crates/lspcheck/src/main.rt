@@ -22,8 +22,8 @@ use explaining::show_explaining;
 use inputs::status_of_inputs;
 pub use lsp_command::status_of;
 use lsp_command::{
-    BufferedInput, BufferedOutput, Hint, Pace, Request, Supply, Task, TaskOutcome, file_of,
-    hint_of, misuse_of, remark_of, report_apart, request_of, run_through, status_of_task,
+    BufferedInput, BufferedOutput, Hint, Pace, Request, Supply, Task, TaskOutcome, conflict_of,
+    file_of, hint_of, remark_of, report_apart, request_of, run_through, status_of_task,
     status_of_words,
 };
 use lsp_judge::RunFault;
@@ -35,7 +35,7 @@ use std::io::{IsTerminal, Read};
 use std::process::ExitCode;
 use std::rt::{Clock, Env, Files};
 use std::{env, fs, io};
-use wrong_words::{status_of_misuse, status_of_wrong_words};
+use wrong_words::{status_of_conflict, status_of_wrong_words};
 
 /// The status where the verdict is a No.
 const NO: u8 = 1;
@@ -239,8 +239,8 @@ fn status_of_what_is_asked<R: Clock + Files + io::Input + Print + Eprint + Alloc
     request: &Request<'_>,
     terminals: Terminals,
 ) -> u8 {
-    if let Some(misuse) = misuse_of(request) {
-        return status_of_misuse(rt, misuse);
+    if let Some(conflict) = conflict_of(request) {
+        return status_of_conflict(rt, conflict);
     }
     status_of_inputs(rt, request, terminals)
 }

@@ -2,7 +2,7 @@
 use crate::{status_of_task, status_shown};
 use clap::Error;
 use clap::error::ErrorKind;
-use lsp_command::{Misuse, Slip, only_word, shown_text, status_of_words};
+use lsp_command::{Conflict, Slip, only_word, shown_text, status_of_words};
 use lsp_judge::RunFault;
 use std::alloc::Global;
 use std::rt::Files;
@@ -66,8 +66,8 @@ fn status_without_run<R: Print + Eprint + AllocGlobal>(rt: &R, error: &Error) ->
 }
 
 /// Says why the words cannot be obeyed.
-pub(crate) fn status_of_misuse<R: Eprint>(rt: &R, misuse: Misuse) -> u8 {
-    let _ = eprintln!(rt; "lspcheck: error: {misuse}\n\nFor more information, try '--help'.");
+pub(crate) fn status_of_conflict<R: Eprint>(rt: &R, conflict: Conflict) -> u8 {
+    let _ = eprintln!(rt; "lspcheck: error: {conflict}\n\nFor more information, try '--help'.");
     status_of_words(ErrorKind::ArgumentConflict)
 }
 

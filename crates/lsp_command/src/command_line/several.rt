@@ -2,7 +2,7 @@
 ghost use Rattle.std.specs.Prelude.{◌≡◌, IfOk, option_map, string_bytes};
 ghost use Rattle.std.specs.List.{list_any};
 ghost use Rattle.std.specs.Str.{chars};
-ghost use Rattle.lsp_command.specs.Several.{is_listing, misuse_of, quoted_name};
+ghost use Rattle.lsp_command.specs.Several.{conflict_of, is_listing, quoted_name};
 ghost use Rattle.lsp_command.specs.ShownText as shown;
 
 use crate::command_line::task::{Request, Task};
@@ -13,26 +13,26 @@ use std::fmt;
 
 /// What is asked and cannot be done.
 #[derive(Clone, Copy, Debug, PartialEq, Eq)]
-pub enum Misuse {
+pub enum Conflict {
     /// A list of the violations of several logs, each of which has one line.
-    Listing,
+    ListOfSeveral,
     /// Standard input twice, since it can be read only once.
     InputTwice,
     /// Both of the texts that differ, since one is written.
     BothTexts,
 }
 
-impl fmt::Display for Misuse {
+impl fmt::Display for Conflict {
     ghost use Rattle.std.specs.Prelude.{Some};
-    ghost use Rattle.lsp_command.specs.Several.{misuse_text};
+    ghost use Rattle.lsp_command.specs.Several.{conflict_text};
 
-    ghost output = { λ misuse. Some (misuse_text misuse) };
+    ghost output = { λ conflict. Some (conflict_text conflict) };
 
     fn fmt<W: fmt::Write>(&self, f: &mut fmt::Formatter<W>) -> fmt::Result {
         f.write_str(match self {
-            Misuse::Listing => "--all and --every list the violations of one FILE",
-            Misuse::InputTwice => "standard input ('-') can be read only once",
-            Misuse::BothTexts => "the argument '--by-messages' cannot be used with '--in-editor'",
+            Conflict::ListOfSeveral => "--all and --every list the violations of one FILE",
+            Conflict::InputTwice => "standard input ('-') can be read only once",
+            Conflict::BothTexts => "the argument '--by-messages' cannot be used with '--in-editor'",
         })
     }
 }
@@ -45,17 +45,17 @@ fn is_listing(task: Task<'_>) -> bool
 }
 
 /// What the request asks that cannot be done.
-pub fn misuse_of(request: &Request<'_>) -> Option<Misuse>
-    ensures { result ≡ misuse_of request.now }
+pub fn conflict_of(request: &Request<'_>) -> Option<Conflict>
+    ensures { result ≡ conflict_of request.now }
 {
     if request.is_several() && is_listing(request.task) {
-        return Some(Misuse::Listing);
+        return Some(Conflict::ListOfSeveral);
     }
     if request.standard_inputs() > 1 {
-        return Some(Misuse::InputTwice);
+        return Some(Conflict::InputTwice);
     }
     if request.both_texts {
-        return Some(Misuse::BothTexts);
+        return Some(Conflict::BothTexts);
     }
     None
 }

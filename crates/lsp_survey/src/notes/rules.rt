@@ -2,36 +2,21 @@
 //! leaves the handshake or a document lost.
 ghost use Rattle.std.specs.Prelude.{◌≡◌};
 ghost use Rattle.lsp_docs.specs.Taken.{call_view};
-ghost use Rattle.lsp_verdict.specs.Offences.{breaks_handshake, is_within, loses, sets_text};
+ghost use Rattle.lsp_verdict.specs.Offences.{breaks_handshake, loses, sets_text};
 ghost use Rattle.lsp_verdict.specs.Offences.{wants_handshake, wants_other, wants_text};
 
 use lsp_docs::Call;
 use lsp_types::rules;
 
-fn is_within(least: u16, most: u16, rule: u16) -> bool
-    ensures { result ≡ is_within least most rule }
-{
-    least <= rule && rule <= most
-}
-
 /// Whether the rule is broken where there was no handshake.
 pub(crate) fn wants_handshake(rule: u16) -> bool
     ensures { result ≡ wants_handshake rule }
 {
-    if rule == rules::RESPONSE_TO_NO_OPEN_REQUEST {
-        return true;
-    }
-    if is_within(
-        rules::EDITOR_BEFORE_INITIALIZE,
-        rules::EDITOR_WHILE_INITIALIZE_OPEN,
+    matches!(
         rule,
-    ) {
-        return true;
-    }
-    is_within(
-        rules::SERVER_BEFORE_INITIALIZE,
-        rules::SERVER_WHILE_INITIALIZE_OPEN,
-        rule,
+        rules::RESPONSE_TO_NO_OPEN_REQUEST
+            | rules::EDITOR_BEFORE_INITIALIZE..=rules::EDITOR_WHILE_INITIALIZE_OPEN
+            | rules::SERVER_BEFORE_INITIALIZE..=rules::SERVER_WHILE_INITIALIZE_OPEN
     )
 }
 
@@ -39,16 +24,11 @@ pub(crate) fn wants_handshake(rule: u16) -> bool
 pub(crate) fn wants_other(rule: u16) -> bool
     ensures { result ≡ wants_other rule }
 {
-    if rule == rules::RESPONSE_TO_NO_OPEN_REQUEST {
-        return true;
-    }
-    if rule == rules::EDITOR_WHILE_INITIALIZE_OPEN {
-        return true;
-    }
-    is_within(
-        rules::SERVER_BEFORE_INITIALIZE,
-        rules::SERVER_WHILE_INITIALIZE_OPEN,
+    matches!(
         rule,
+        rules::RESPONSE_TO_NO_OPEN_REQUEST
+            | rules::EDITOR_WHILE_INITIALIZE_OPEN
+            | rules::SERVER_BEFORE_INITIALIZE..=rules::SERVER_WHILE_INITIALIZE_OPEN
     )
 }
 
@@ -56,10 +36,10 @@ pub(crate) fn wants_other(rule: u16) -> bool
 pub(crate) fn wants_text(rule: u16) -> bool
     ensures { result ≡ wants_text rule }
 {
-    if is_within(rules::DOCUMENT_NOT_OPEN, rules::SAVED_TEXT_DIFFERS, rule) {
-        return true;
-    }
-    rule == rules::SNAPSHOT_DIFFERS
+    matches!(
+        rule,
+        rules::DOCUMENT_NOT_OPEN..=rules::SAVED_TEXT_DIFFERS | rules::SNAPSHOT_DIFFERS
+    )
 }
 
 /// Whether an event that breaks the rule leaves the handshake lost: an `initialize` that doesn't
@@ -67,14 +47,11 @@ pub(crate) fn wants_text(rule: u16) -> bool
 pub(crate) fn breaks_handshake(asks: bool, rule: u16) -> bool
     ensures { result ≡ breaks_handshake asks rule }
 {
-    if rule == rules::BAD_METHOD_PARAMS && asks {
-        return true;
+    match rule {
+        rules::BAD_METHOD_PARAMS => asks,
+        rules::BAD_INITIALIZE_RESULT..=rules::ENCODING_OUTSIDE_PROFILE => true,
+        _ => false,
     }
-    is_within(
-        rules::BAD_INITIALIZE_RESULT,
-        rules::ENCODING_OUTSIDE_PROFILE,
-        rule,
-    )
 }
 
 /// Whether a call opens its document or changes it, so that its sender has another text.
@@ -98,14 +75,9 @@ pub(crate) fn loses(rule: u16, reopened: bool, call: Call<'_>) -> bool
     if rule == rules::DOCUMENT_ALREADY_OPEN {
         return reopened;
     }
-    if sets_text(call) {
-        return true;
-    }
-    if rule == rules::DOCUMENT_NOT_OPEN {
-        return true;
-    }
-    if rule == rules::SAVED_TEXT_DIFFERS {
-        return true;
-    }
-    rule == rules::SNAPSHOT_DIFFERS
+    sets_text(call)
+        || matches!(
+            rule,
+            rules::DOCUMENT_NOT_OPEN | rules::SAVED_TEXT_DIFFERS | rules::SNAPSHOT_DIFFERS
+        )
 }

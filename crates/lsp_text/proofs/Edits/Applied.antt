@@ -6,8 +6,8 @@ use Rattle.std.specs.Option.{option_map}
 use Rattle.std.specs.Result.{OnOk}
 use Rattle.lsp_types.specs.declared.position.Encoding.{Encoding}
 use Rattle.lsp_types.specs.declared.change.Change.{Change}
-use Rattle.lsp_text.specs.declared.fault.TextFault.{TextFault}
-use Rattle.lsp_text.specs.declared.fault.TextFault.TheVariants.{Rule, Memory}
+use Rattle.lsp_types.specs.declared.fault.Fault.{Fault}
+use Rattle.lsp_types.specs.declared.fault.Fault.TheVariants.{Rule, Memory}
 use Rattle.lsp_text.specs.Edits.{Edit, changed, and_then, applied, IsFaultOf, FailsAfter}
 use Rattle.lsp_text.specs.Changes.{edit_of, edits_of}
 
@@ -52,14 +52,14 @@ on_ok_always (Ok u) P h = h
 on_ok_always (Err fault) P h = tt
 
 -- what holds of a success, where there is no fault
-pub on_success : (made : Result (Unit {0}) TextFault) (P : Type 0) → OnOk made P
-    → ((fault : TextFault) → made ≡ Err fault → ⊥) → P
+pub on_success : (made : Result (Unit {0}) Fault) (P : Type 0) → OnOk made P
+    → ((fault : Fault) → made ≡ Err fault → ⊥) → P
 on_success (Ok u) P h none = h
 on_success (Err fault) P h none = absurd (none fault refl)
 
 -- the change that fails, on what those before it made
 pub fails_after : (limit : ℕ) (enc : Encoding) (t u v : List ℕ) (cs : List Change) (n : ℕ) (c : Change)
-    (fault : TextFault) → AreMade limit enc t cs n u → n < length cs → c ≡ get_or cs n c → v ≡ u
+    (fault : Fault) → AreMade limit enc t cs n u → n < length cs → c ≡ get_or cs n c → v ≡ u
     → IsFaultOf (changed enc u (edit_of c).span (edit_of c).text limit) fault
     → FailsAfter limit enc t (edits_of cs) v (record { made = n; fault = fault })
 fails_after limit enc t u v cs n c fault h lt is same f =
@@ -75,7 +75,7 @@ fails_after limit enc t u v cs n c fault h lt is same f =
 
 -- so do all
 pub fails_all : (limit : ℕ) (enc : Encoding) (t u : List ℕ) (cs : List Change) (n : ℕ) (c : Change)
-    (fault : TextFault) → AreMade limit enc t cs n u → n < length cs → c ≡ get_or cs n c
+    (fault : Fault) → AreMade limit enc t cs n u → n < length cs → c ≡ get_or cs n c
     → IsFaultOf (changed enc u (edit_of c).span (edit_of c).text limit) fault
     → IsFaultOf (applied limit enc t (edits_of cs)) fault
 fails_all limit enc t u cs n c Memory h lt is f = tt

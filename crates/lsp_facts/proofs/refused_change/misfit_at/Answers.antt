@@ -3,7 +3,7 @@ use Rattle.std.specs.Str.{chars}
 use Rattle.lsp_docs.specs.Calls.{Text}
 use Rattle.lsp_text.specs.Changes.{edits_of}
 use Rattle.lsp_text.specs.Edits.{IsFaultOf, applied}
-use Rattle.lsp_text.specs.declared.fault.TextFault.{TextFault}
+use Rattle.lsp_types.specs.declared.fault.Fault.{Fault}
 use Rattle.lsp_facts.specs.Fact.{counts_in, fails}
 use Rattle.lsp_facts.specs.DocumentFacts.{first_length}
 use Rattle.lsp_facts.proofs.MadeChanges.{length_made, misfit_here}
@@ -40,7 +40,7 @@ returns-in-Rule g c =
     let is : edit ≡ get_or cs n edit = ap (get_or cs n) c.index-changes-count.is in
     let failed = subst (λ (x : Text). IsFaultOf (applied c.args.limit enc x (edits_of (take n cs)))
     c.in-Err.failed.fault) c.in_ok-copy.ensures c.in-Err.ensures.fault in
-    let broken = subst (λ (f : TextFault). IsFaultOf (applied c.args.limit enc t
+    let broken = subst (λ (f : Fault). IsFaultOf (applied c.args.limit enc t
     (edits_of (take n cs))) f) c.in-Rule.is failed in
     c.in_ok-change.ensures
     ∙ (ap (λ l. l ++ counts_in enc ∷ fails (n + 1) edit.span ∷ []) c.new-facts.ensures

@@ -13,7 +13,7 @@ pub returns-in_err-head-clause-answer : goal.returns-in_err-head-clause-answer
 returns-in_err-head-clause-answer g c =
     let p = err_from_is_err_and c.from_residual-in_err-head.result c.from_residual-in_err-head.ensures.1 in
     let line = rw c.in-Some.is at c.in_ok-end.ensures.answer in
-    rw p.1 (head_stops _ _ _ _ _ line.0 c.near-2.result.now c.in-Some.end _ p.0 line.1 line.3 c.near-2.ensures.value c.in_ok-end.ensures.short c.in_err-head.ensures p.2)
+    rw (p.1, p.2) (head_stops _ _ _ _ _ line.0 c.near-2.result.now c.in-Some.end _ line.1 line.3 c.near-2.ensures.value c.in_ok-end.ensures.short c.in_err-head.ensures)
 
 pub returns-clause-answer : goal.returns-clause-answer
 returns-clause-answer g c =

@@ -5,6 +5,11 @@ use Rattle.std.proofs.lemmas.Str.{IsUtf8-string_bytes}
 use Rattle.lsp_log.proofs.Parts.{uri_stops, text_stops, snapshot_found}
 use Rattle.lsp_log.proofs.found.snapshot.Goals as goal
 
+pub returns-in_err-uri-clause-answer : goal.returns-in_err-uri-clause-answer
+returns-in_err-uri-clause-answer g c =
+    let p = err_from_is_err_and c.from_residual.result c.from_residual.ensures.1 in
+    rw (p.1, p.2) (c.in_err-uri.ensures.answer c.args.version)
+
 pub returns-in_err-uri-2-clause-answer : goal.returns-in_err-uri-2-clause-answer
 returns-in_err-uri-2-clause-answer g c =
     let p = err_from_is_err_and c.from_residual-in_err-uri-2.result c.from_residual-in_err-uri-2.ensures.1 in

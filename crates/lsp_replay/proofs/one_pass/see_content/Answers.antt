@@ -1,8 +1,10 @@
-use Rattle.std.proofs.Common.{Some, subst, sym}
+use Rattle.std.proofs.Common.{Some, refl, subst, sym}
 use Rattle.std.proofs.lemmas.Result.{IfOk-weaker}
-use Rattle.lsp_replay.specs.Standing.{IsUnread}
+use Rattle.lsp_rpc.specs.Fault.{IsUnspoken}
+use Rattle.lsp_verdict.specs.Event.{fault}
+use Rattle.lsp_verdict.specs.Placed.{ReadsAs}
 use Rattle.lsp_replay.specs.Telling.{kept_before}
-use Rattle.lsp_replay.specs.declared.fault.Fault.{Fault}
+use Rattle.lsp_types.specs.declared.fault.Fault.{Fault}
 use Rattle.lsp_replay.proofs.Reading.{content_sound}
 use Rattle.lsp_replay.proofs.Seeing.{comes_of, fault_rule, fault_silent, fault_tries, saw_of}
 use Rattle.lsp_replay.proofs.Seeing.{sound_here, speaks_here}
@@ -25,8 +27,11 @@ pub returns-in_ok-rule-in-Err-clause-saw : goal.returns-in_ok-rule-in-Err-clause
 returns-in_ok-rule-in-Err-clause-saw g c =
     let side = c.args.side in
     let rule = c.in_ok-rule-in-Err.rule in
-    let reads = subst (λ (f : Fault). IsUnread side c.args.content.now f)
-    c.in_ok-rule-in-Err.ensures.rule c.in-Err.ensures.rule in
+    let reads : ReadsAs side c.args.content.now (fault side rule) = (
+      refl,
+      subst (λ (f : Fault). IsUnspoken side c.args.content.now f)
+          c.in_ok-rule-in-Err.ensures.rule c.in-Err.ensures.rule,
+    ) in
     IfOk-weaker c.skip.result _ _ (λ flow saw terms before h comes.
     saw terms before h comes (fault_rule side rule comes reads) (fault_silent side rule comes reads)
     (fault_tries side rule comes reads _)) c.skip.ensures.saw

@@ -7,7 +7,7 @@ use Rattle.lsp_docs.specs.State.{Refuses, Stands, early_rule, held_in, queue_of}
 use Rattle.lsp_docs.specs.Taken.{found_on, took_found}
 use Rattle.lsp_docs.specs.Tried.{AreTriedOn, IsTried, tried_in}
 use Rattle.lsp_text.specs.Changes.{edits_of}
-use Rattle.lsp_docs.specs.Fault.{IsRule, Names}
+use Rattle.lsp_types.specs.Fault.{IsRule, Names}
 use Rattle.lsp_docs.proofs.SameVersions.{change-due}
 use Rattle.lsp_docs.proofs.Stepping.{accepts-changed, held-stands, refuses, stated, terms_in}
 use Rattle.lsp_docs.proofs.docs.Docs.change.Goals as goal

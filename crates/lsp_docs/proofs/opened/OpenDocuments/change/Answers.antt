@@ -11,7 +11,7 @@ use Rattle.lsp_text.specs.Changes.{edits_of}
 use Rattle.lsp_text.specs.Edits.{applied}
 use Rattle.lsp_docs.specs.declared.document.Document.{Document}
 use Rattle.lsp_docs.specs.Documents.{Version, versioned}
-use Rattle.lsp_docs.specs.Fault.{Names}
+use Rattle.lsp_types.specs.Fault.{Names}
 use Rattle.lsp_docs.specs.Stored.{kept_of}
 use Rattle.lsp_docs.specs.Taken.{found_on}
 use Rattle.lsp_docs.specs.Tried.{AreTriedOn, tried_in}

@@ -1,7 +1,6 @@
 use Rattle.std.proofs.Common.{List, ℕ, subst}
 use Rattle.lsp_text.specs.Changes.{edits_of}
 use Rattle.lsp_text.specs.Edits.{FailsAfter}
-use Rattle.lsp_docs.specs.Fault.{IsRule}
 use Rattle.lsp_docs.proofs.Trying.{tried_before}
 use Rattle.lsp_docs.proofs.revision.Revision.changed.Goals as goal
 
@@ -12,4 +11,4 @@ returns-in-Err-clause-tried g c = λ rule.
     let made = content c.change_all.new.store in
     tried_before c.args.limit c.args.encoding (content c.args.self.now.store) made cs c.in-Err.failed
     (subst (λ (t : List ℕ). FailsAfter c.args.limit c.args.encoding t cs made c.in-Err.failed)
-    c.in_ok-store.ensures c.in-Err.ensures.err) (subst IsRule c.from.ensures rule)
+    c.in_ok-store.ensures c.in-Err.ensures.err) rule

@@ -1,7 +1,7 @@
 use Rattle.std.proofs.Common.{◌≡◌, refl, sym, ap, ◌∙◌, arith, ◌+◌}
 use Rattle.lsp_docs.specs.State.{capped, total}
-use Rattle.lsp_docs.specs.Stored.{lengths, queues_in}
-use Rattle.lsp_docs.proofs.Queues.{lengths-total}
+use Rattle.lsp_docs.specs.Stored.{queues_in}
+use Rattle.lsp_docs.proofs.Queues.{lengths, lengths-total}
 use Rattle.lsp_docs.proofs.waiting.Waiting.len.Goals as goal
 
 pub loop-snapshots-init : goal.loop-snapshots-init

@@ -1,6 +1,6 @@
 use Rattle.std.proofs.Common.{◌≡◌, ◌+◌}
 use Rattle.lsp_docs.specs.State.{capped, total}
-use Rattle.lsp_docs.specs.Stored.{lengths}
+use Rattle.lsp_docs.proofs.Queues.{lengths}
 use Rattle.lsp_docs.proofs.waiting.Waiting.len.Given as goal
 
 abbrev pub invariant-loop-snapshots : goal.invariant-loop-snapshots

@@ -26,12 +26,12 @@ returns-in_err-boxed-clause-memory c =
     let own = rw c.in-Offends.is at seen.fate in
     offence_wants c.args.self.now.lines terms before h c.in-Offends.rule own.0)
 
-pub returns-in_err-show-clause-memory : goal.returns-in_err-show-clause-memory
-returns-in_err-show-clause-memory c =
-    on_err c.from_residual-in_err-show.result (λ terms before h clean seen.
-    ap (λ b. b || is_some (no_of terms before h)) c.in_err-show.ensures.memory)
+pub returns-in_err-push_kept_line-clause-memory : goal.returns-in_err-push_kept_line-clause-memory
+returns-in_err-push_kept_line-clause-memory c =
+    on_err c.from_residual-in_err-push_kept_line.result (λ terms before h clean seen.
+    ap (λ b. b || is_some (no_of terms before h)) c.in_err-push_kept_line.ensures.memory)
 
 pub returns-clause-says : goal.returns-clause-says
 returns-clause-says c = λ terms before h clean seen.
     let rule = kept_seen terms before h c.args.seen.now.fate c.in_default.not-Offends seen.fate in
-    kept_says _ clean rule (c.in_ok-show.ensures.shown terms before h seen rule)
+    kept_says _ clean rule (c.in_ok-push_kept_line.ensures.shown terms before h seen rule)

@@ -1,7 +1,7 @@
 use Rattle.std.proofs.Common.{◌≡◌, ◌∙◌, subst, sym}
 use Rattle.std.proofs.lemmas.Result.{err_from_is_err_and}
 use Rattle.lsp_docs.specs.State as docs
-use Rattle.lsp_docs.specs.declared.fault.DocFault.TheVariants.{Memory}
+use Rattle.lsp_types.specs.declared.fault.Fault.TheVariants.{Memory}
 use Rattle.lsp_session.specs.State as session
 use Rattle.lsp_verdict.specs.Event.{calls, sent_in}
 use Rattle.lsp_replay.proofs.Following.{whose_read}

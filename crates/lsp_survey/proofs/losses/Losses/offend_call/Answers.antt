@@ -6,8 +6,7 @@ use Rattle.lsp_survey.proofs.losses.Losses.offend_call.Goals as goal
 pub returns-clause-stays : goal.returns-clause-stays
 returns-clause-stays c = λ i. record c.args.self.now {
   documents = c.note_refused.new.notes;
-  handshake = (c.handshake_after-self.ensures
-      ∙ ap (λ b. c.args.self.now.handshake || b) c.breaks_handshake-breaks.ensures) i;
+  handshake = c.args.self.now.handshake || c.breaks_handshake.ensures i;
 }
 
 pub returns-clause-noted : goal.returns-clause-noted

@@ -7,8 +7,7 @@ use Rattle.lsp_survey.proofs.losses.Losses.offend_fault.Goals as goal
 
 pub returns-clause-broken : goal.returns-clause-broken
 returns-clause-broken c = λ kept stands.
-    c.handshake_after-self.ensures
-    ∙ ap (λ b. c.args.self.now.handshake || b) (c.breaks-breaks.ensures kept stands)
+    ap (λ b. c.args.self.now.handshake || b) (c.breaks.ensures kept stands)
 
 pub returns-clause-follows : goal.returns-clause-follows
 returns-clause-follows c = λ terms before losses stands.
@@ -19,6 +18,6 @@ returns-clause-follows c = λ terms before losses stands.
 
 pub returns-clause-stays : goal.returns-clause-stays
 returns-clause-stays c = λ i. record c.args.self.now {
-  handshake = c.handshake_after-self.result;
+  handshake = c.args.self.now.handshake || c.breaks.result;
   sides = c.after_fault-self.ensures i;
 }

@@ -36,8 +36,9 @@ returns c = λ terms before event losses same holds is.
         passed = message_passes side message event is rule old.passed c.note.new.self
             (subst (λ (p : Passed). Passes rule side message p c.note.new.self)
             (ap (λ (l : Losses). l.passed) told.stays) c.in_ok-note.ensures);
-        unheard = c.unheard_after-unheard.ensures
-            ∙ ap (λ b. old.unheard || b) (message_initialized side message event is);
+        unheard = ap (λ (l : Losses). l.unheard || c.is_initialized.result) told.stays
+            ∙ ap (λ b. old.unheard || b)
+            (c.is_initialized.ensures ∙ message_initialized side message event is);
         noted = subst (λ (t : Terms). Leaves (Some rule) None (is_reopened t (calls kept) said) said
             old.documents.map.entries c.offend_call.new.self.documents.map.entries) same
             (told.noted (calls kept) holds.called);

@@ -22,7 +22,7 @@ returns-in_default c = record {
       let rule = kept_seen terms before h c.args.seen.now.fate c.in_default.not-Offends seen.fate in
       record {
         said = event_said old.options terms before h;
-        added = c.in_ok-show.ensures.shown terms before h seen rule
+        added = c.in_ok-push_kept_line.ensures.shown terms before h seen rule
             ∙ ap (λ w. string_bytes c.args.text.now ++ w) (kept_said terms before h old.options rule);
         is = λ rests fits. refl;
         goes = (
@@ -42,12 +42,12 @@ returns-in_err-follows-clause-memory c =
     ap (λ b. b || has_lines c.args.self.now.options (offence_at terms (notes_of before) h.note))
     (c.in_err-follows.ensures.memory terms before h seen))
 
-pub returns-in_err-show-clause-memory : goal.returns-in_err-show-clause-memory
-returns-in_err-show-clause-memory c =
-    on_err c.from_residual-in_err-show.result (λ terms before h stands seen.
+pub returns-in_err-push_kept_line-clause-memory : goal.returns-in_err-push_kept_line-clause-memory
+returns-in_err-push_kept_line-clause-memory c =
+    on_err c.from_residual-in_err-push_kept_line.result (λ terms before h stands seen.
     kept_wants terms before h c.args.self.now.options
     (kept_seen terms before h c.args.seen.now.fate c.in_default.not-Offends seen.fate)
-    c.in_err-show.ensures.memory)
+    c.in_err-push_kept_line.ensures.memory)
 
 pub returns-in_err-list-clause-memory : goal.returns-in_err-list-clause-memory
 returns-in_err-list-clause-memory c =

@@ -14,7 +14,7 @@ use Rattle.lsp_verdict.specs.Given.{raw_view}
 use Rattle.lsp_verdict.specs.Offences.{IsNoted}
 use Rattle.lsp_verdict.specs.Placed.{Raw}
 use Rattle.lsp_verdict.specs.declared.raw.Raw as code
-use Rattle.lsp_replay.proofs.seen.push_kept_line.Goals as goal
+use Rattle.lsp_replay.proofs.seen.push_line.Goals as goal
 
 pub returns-in-Some : goal.returns-in-Some
 returns-in-Some c =

@@ -1,0 +1,98 @@
+#!/usr/bin/env python3
+"""Runs the proxy for its tests. It is the proxy itself, with three changes: it writes to a file
+what it has done by now, so that a test waits for that instead of for a time; at the end it waits as
+long as it is told; and whatever it waits for in a session can take a number of times as long, for
+a machine that is too slow otherwise.
+
+usage: traced.py TRACE PATIENCE TIMES [ARGUMENT OF THE PROXY ..]
+
+Each line of TRACE is a list in JSON, whose first word says what was done:
+
+    recorder NUMBER                  the number of the process that records
+    opened                           the file or named pipe of the plug-in is open
+    heard METHOD URI BEGUN NOW DUE   a message of the editor: when that began, the time of its bytes
+                                     in nanoseconds, and how many documents wait for a snapshot
+    read URI DUE                     a saved file was read, and its snapshot recorded or dropped
+    noted PATH TEXT                  something was written to a file: the hash of its text, or null
+"""
+
+import importlib.machinery
+import importlib.util
+import json
+import os
+import sys
+import time
+from pathlib import Path
+
+sys.dont_write_bytecode = True
+
+PROXY = Path(__file__).resolve().parent.parent.parent / "recorders/proxy"
+sys.path.insert(0, str(PROXY.parent))
+
+import outputs  # noqa: E402
+import proxy_files  # noqa: E402
+import proxy_log  # noqa: E402
+import proxy_snapshots  # noqa: E402
+
+
+def load():
+    """The proxy, which is a script without an ending, as a module."""
+    loader = importlib.machinery.SourceFileLoader("proxy", str(PROXY))
+    proxy = importlib.util.module_from_spec(importlib.util.spec_from_loader("proxy", loader))
+    loader.exec_module(proxy)
+    return proxy
+
+
+def trace_all(tell):
+    """Tells what each part of the recorder does, after it has done it."""
+    record, hear = proxy_log.record, proxy_snapshots.Saves.hear
+    read_next, add = proxy_snapshots.Saves.read_next, proxy_files.Written.add
+    run = proxy_snapshots.Plugin.run
+
+    def traced_record(*given):
+        tell("recorder", os.getpid())
+        record(*given)
+
+    def traced_hear(saves, message):
+        begun = time.monotonic()
+        hear(saves, message)
+        if isinstance(message, dict):
+            params = message.get("params")
+            document = params.get("textDocument") if isinstance(params, dict) else None
+            uri = document.get("uri") if isinstance(document, dict) else None
+            tell("heard", message.get("method"), uri, begun, saves.now, len(saves.due))
+
+    def traced_read_next(saves):
+        uri = next(iter(saves.due))
+        read_next(saves)
+        tell("read", uri, len(saves.due))
+
+    def traced_add(written, text):
+        add(written, text)
+        tell("noted", os.fsdecode(written.path), text)
+
+    def traced_run(plugin):
+        if plugin.file is not None:
+            tell("opened")
+        run(plugin)
+
+    proxy_log.record = traced_record
+    proxy_snapshots.Saves.hear, proxy_snapshots.Saves.read_next = traced_hear, traced_read_next
+    proxy_files.Written.add, proxy_snapshots.Plugin.run = traced_add, traced_run
+
+
+def main(trace, patience, times, *words):
+    proxy = load()
+    proxy.PATIENCE = proxy_snapshots.PATIENCE = float(patience)
+    proxy_snapshots.QUIET *= float(times)
+    proxy_snapshots.PROMPT *= float(times)
+    proxy_snapshots.TOGETHER *= float(times)
+    # The server does not get this file, since no program that is started does.
+    file = os.open(trace, os.O_WRONLY | os.O_CREAT | os.O_APPEND, 0o600)
+    trace_all(lambda *done: os.write(file, json.dumps(done).encode() + b"\n"))
+    sys.argv[1:] = words
+    return proxy.main()
+
+
+if __name__ == "__main__":
+    sys.exit(outputs.ended("proxy", main, *sys.argv[1:]))
