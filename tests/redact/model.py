@@ -375,7 +375,7 @@ class Redaction:
         value = json.loads(content)
         kept = {"jsonrpc": "2.0"}
         if "id" in value:
-            kept["id"] = self.name(value["id"])
+            kept["id"] = 0 if rule == 209 else self.name(value["id"])
         if "method" not in value:
             return shown({**kept, **self.answer(value, awaits)})
         method = value["method"]

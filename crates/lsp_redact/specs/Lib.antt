@@ -1,6 +1,7 @@
 pub mod Characters
 pub mod Kept
 pub mod View
+pub mod Copies
 pub mod Numbered
 pub mod Names
 pub mod Naming

@@ -2,7 +2,7 @@
 -- their names. (JSON-RPC 2.0, sections 4 and 5; LSP 3.17.)
 use Rattle.std.specs.Prelude.{ℕ, ℤ, List, [], ◌∷◌, map, Option, Some, None, option_map, codes}
 use Rattle.serde_json.specs.Data.{Data, null, number, string, array, object, unsigned}
-use Rattle.serde_json.specs.Data.{Members, no_members, member}
+use Rattle.serde_json.specs.Data.{Members, no_members, member, put}
 use Rattle.serde_json.specs.Find.{of_integer}
 use Rattle.serde_json.specs.View.{items_of}
 use Rattle.serde_json.specs.Written.{compact_text}
@@ -145,12 +145,16 @@ params_of names apart act.other = None
 abbrev pub version_data : Data
 version_data = string (codes "2.0")
 
--- the members of a call but for its id
-abbrev pub call_members : Names → Option ℕ → Text → Act → Members
-call_members names apart method act =
-    member (codes "jsonrpc") version_data
+abbrev pub version_member : Members
+version_member = member (codes "jsonrpc") version_data no_members
+
+-- the members of a call of this method that means this, with this id if it is a request
+abbrev pub called_members : Names → Option ℕ → Option Ident → Text → Act → Members
+called_members names apart id method act =
+    member_if (codes "id") (option_map (named_data names) id)
+    (member (codes "jsonrpc") version_data
     (member (codes "method") (method_data names method)
-    (member_if (codes "params") (params_of names apart act) no_members))
+    (member_if (codes "params") (params_of names apart act) no_members)))
 
 abbrev pub answered_data : Names → Option Ident → Data
 answered_data names None = null
@@ -160,27 +164,24 @@ abbrev pub error_data : ℤ → Data
 error_data code = object (member (codes "code") (integer code)
     (member (codes "message") (string []) no_members))
 
--- a response whose member of this name is an error, or whose result is this value
-abbrev pub error_members : Data → ℤ → Members
-error_members id code = member (codes "error") (error_data code)
-    (member (codes "id") id (member (codes "jsonrpc") version_data no_members))
+-- the member that says what is answered: its name and its value
+abbrev pub reply_member : Names → Reply → Text × Data
+reply_member names (picks picked) = (codes "result", picked_data names picked)
+reply_member names nothing = (codes "result", null)
+reply_member names (failed code) = (codes "error", error_data code)
 
-abbrev pub result_members : Data → Data → Members
-result_members id value = member (codes "id") id
-    (member (codes "jsonrpc") version_data (member (codes "result") value no_members))
-
-abbrev pub reply_members : Names → Data → Reply → Members
-reply_members names id (picks picked) = result_members id (picked_data names picked)
-reply_members names id nothing = result_members id null
-reply_members names id (failed code) = error_members id code
+-- the members of a response to this id
+abbrev pub response_members : Names → Option Ident → Reply → Members
+response_members names id reply =
+    put (reply_member names reply).0 (reply_member names reply).1
+    (member (codes "id") (answered_data names id) version_member)
 
 -- the members of a message that means this
 abbrev pub members_of : Names → Option ℕ → Head → Act → Members
 members_of names apart (request id method) act =
-    member (codes "id") (named_data names id) (call_members names apart method act)
-members_of names apart (notification method) act = call_members names apart method act
-members_of names apart (response id reply) act =
-    reply_members names (answered_data names id) reply
+    called_members names apart (Some id) method act
+members_of names apart (notification method) act = called_members names apart None method act
+members_of names apart (response id reply) act = response_members names id reply
 
 -- **the content of a message that means this**
 abbrev pub content_of : Names → Option ℕ → Head → Act → List ℕ

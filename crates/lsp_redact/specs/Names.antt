@@ -101,9 +101,13 @@ reply_names (picks picked) = encoding_names (picked.encoding ∷ [])
 reply_names nothing = no_names
 reply_names (failed code) = no_names
 
+-- of a call of this method, with this id if it is a request
+abbrev pub call_names : Option Ident → Text → Names
+call_names id method = joined (given_names id) (method_names (method ∷ []))
+
 abbrev pub head_names : Head → Names
-head_names (request id method) = joined (id_names id) (method_names (method ∷ []))
-head_names (notification method) = method_names (method ∷ [])
+head_names (request id method) = call_names (Some id) method
+head_names (notification method) = call_names None method
 head_names (response id reply) = joined (given_names id) (reply_names reply)
 
 abbrev pub names_of : Kept → Names

@@ -1,11 +1,8 @@
 -- How the numbers of names are given while a log is written, message by message.
-use Rattle.std.specs.Prelude.{◌≡◌, ℕ, ◌+◌, List, [], ◌∷◌, map, string_bytes}
-use Rattle.serde_json.specs.Data.{Data}
-use Rattle.serde_json.specs.View.{view}
-use Rattle.serde_json.specs.declared.value.Value.{Value}
-use Rattle.lsp_rpc.specs.Act.{Text}
+use Rattle.std.specs.Prelude.{◌≡◌}
 use Rattle.lsp_redact.specs.Names.{Names, distinct, joined}
 use Rattle.lsp_redact.specs.declared.names.Names as code
+use Rattle.lsp_redact.specs.declared.redaction.Redaction.{Redaction}
 
 -- the names that were seen so far are these, each once
 pub record Stands (seen : code.Names) (names : Names) : Type 0 where
@@ -24,3 +21,9 @@ pub record Shows {X : Type 0} (old new : code.Names) (added : Names) (shown : Na
   pub stands : (before : Names) → Stands old before → Stands new (joined before added)
   pub value : (before whole : Names) → Stands old before → Begins (joined before added) whole
       → is ≡ shown whole
+
+-- the same while the character that must stay apart is one and the same
+pub record Writes {X : Type 0} (old new : Redaction) (added : Names) (shown : Names → X) (is : X)
+    : Type 0 where
+  pub same : new.apart ≡ old.apart
+  pub shows : Shows old.names new.names added shown is

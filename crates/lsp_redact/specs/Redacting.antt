@@ -20,19 +20,25 @@ use Rattle.lsp_verdict.specs.declared.outcome.Outcome.{Outcome}
 use Rattle.lsp_verdict.specs.declared.outcome.Outcome.TheVariants.{Done}
 use Rattle.lsp_redact.specs.Characters.{apart_in}
 use Rattle.lsp_redact.specs.Kept.{Kept, kept_in, kept_of}
-use Rattle.lsp_redact.specs.Names.{Names, names_in}
+use Rattle.lsp_redact.specs.Names.{Names, joined, names_in, names_of, no_names}
+use Rattle.lsp_redact.specs.Naming.{Begins, Stands}
 use Rattle.lsp_redact.specs.Records.{AreRecordsBy, records_of}
+use Rattle.lsp_redact.specs.declared.redaction.Redaction.{Redaction}
 
 -- ---- a log
 
--- the format of a log that is judged by these terms
-abbrev pub format_of : Terms → Format
-format_of terms = if terms.kept == 0 then One else Two
+-- the format of a log of which so many versions are kept
+abbrev pub format_by : ℕ → Format
+format_by kept = if kept == 0 then One else Two
 
 -- the first line, and what is kept of events as records
+abbrev pub log_by : ℕ → Format → Names → Option ℕ → List Kept → List ℕ
+log_by most format names apart kept =
+    first_line format ++ flat_map spelling (flat_map (records_of most names apart) kept)
+
+-- the same of a log that is judged by these terms
 abbrev pub log_of : ℕ → Terms → Names → Option ℕ → List Kept → List ℕ
-log_of most terms names apart kept =
-    first_line (format_of terms) ++ flat_map spelling (flat_map (records_of most names apart) kept)
+log_of most terms names apart kept = log_by most (format_by terms.kept) names apart kept
 
 -- ---- an event that offends
 
@@ -99,3 +105,19 @@ redact_run most = record {
       (out ≡ whole_log most terms (heard_events heard))
       × EndsAs (fault_at (heard_events heard) tail) outcome;
 }
+
+-- ---- a step
+
+-- the names in what is kept of an event
+abbrev pub names_by : Option Kept → Names
+names_by None = no_names
+names_by (Some kept) = names_of kept
+
+-- the event that offends by this rule, of which this is kept, is added as records, whatever names
+-- the log has
+pub record AddsLast (most : ℕ) (old new : Redaction) (raw : Raw) (rule : ℕ) (kept : Option Kept)
+    (text_before text_after : List ℕ) : Type 0 where
+  pub added : (before whole : Names) → Stands old.names before
+      → Begins (joined before (names_by kept)) whole
+      → (last : List Record) × AreRecordsBy most whole old.apart raw rule kept last
+      × (text_after ≡ text_before ++ flat_map spelling last)

@@ -1,9 +1,16 @@
 //! Copies of what a message means.
+ghost use Rattle.std.specs.Prelude.{◌≡◌, IfOk, option_map, string_bytes};
+ghost use Rattle.lsp_rpc.specs.Ident.{id_view};
+ghost use Rattle.lsp_rpc.specs.View.{act_view, changes_view, offer_view, texts_view};
+ghost use Rattle.lsp_redact.specs.Copies.{call_of};
+
 use lsp_rpc::{Act, Change, Id, Offer, Result, copy_id};
 use std::alloc::Global;
 
 /// A copy of texts.
-fn copy_texts(alloc: Global, texts: &[String]) -> Result<Vec<String>> {
+fn copy_texts(alloc: Global, texts: &[String]) -> Result<Vec<String>>
+    ensures { IfOk result (λ copies. texts_view copies.items ≡ texts_view texts.now) }
+{
     let mut copies = Vec::new(alloc);
     for text in texts {
         copies.push(text.clone()?)?;
@@ -12,7 +19,10 @@ fn copy_texts(alloc: Global, texts: &[String]) -> Result<Vec<String>> {
 }
 
 /// A copy of an id, where there is one.
-pub(crate) fn copy_given_id(id: Option<&Id>) -> Result<Option<Id>> {
+pub(crate) fn copy_given_id(id: Option<&Id>) -> Result<Option<Id>>
+    ensures { IfOk result (λ copy. option_map id_view copy
+        ≡ option_map (λ i. id_view i.now) id.entry) }
+{
     match id {
         Some(id) => Ok(Some(copy_id(id)?)),
         None => Ok(None),
@@ -20,21 +30,28 @@ pub(crate) fn copy_given_id(id: Option<&Id>) -> Result<Option<Id>> {
 }
 
 /// A copy of the encodings that are offered.
-fn copy_encodings(alloc: Global, encodings: Option<&Vec<String>>) -> Result<Option<Vec<String>>> {
+fn copy_encodings(alloc: Global, encodings: Option<&Vec<String>>) -> Result<Option<Vec<String>>>
+    ensures { IfOk result (λ copy. option_map (λ v. texts_view v.items) copy
+        ≡ option_map (λ v. texts_view v.now.items) encodings.entry) }
+{
     match encodings {
         Some(names) => Ok(Some(copy_texts(alloc, names.as_slice())?)),
         None => Ok(None),
     }
 }
 
-fn copy_offer(alloc: Global, offer: &Offer) -> Result<Offer> {
+fn copy_offer(alloc: Global, offer: &Offer) -> Result<Offer>
+    ensures { IfOk result (λ copy. offer_view copy ≡ offer_view offer.now) }
+{
     Ok(Offer {
         encodings: copy_encodings(alloc, offer.encodings.as_ref())?,
         token: copy_given_id(offer.token.as_ref())?,
     })
 }
 
-fn copy_changes(alloc: Global, changes: &[Change]) -> Result<Vec<Change>> {
+fn copy_changes(alloc: Global, changes: &[Change]) -> Result<Vec<Change>>
+    ensures { IfOk result (λ copies. changes_view copies.items ≡ changes_view changes.now) }
+{
     let mut copies = Vec::new(alloc);
     for change in changes {
         copies.push(Change {
@@ -47,7 +64,10 @@ fn copy_changes(alloc: Global, changes: &[Change]) -> Result<Vec<Change>> {
 }
 
 /// A copy of the text of a save, where it includes one.
-fn copy_saved(text: Option<&String>) -> Result<Option<String>> {
+fn copy_saved(text: Option<&String>) -> Result<Option<String>>
+    ensures { IfOk result (λ copy. option_map (λ t. string_bytes t) copy
+        ≡ option_map (λ t. string_bytes t.now) text.entry) }
+{
     match text {
         Some(text) => Ok(Some(text.clone()?)),
         None => Ok(None),
@@ -55,7 +75,9 @@ fn copy_saved(text: Option<&String>) -> Result<Option<String>> {
 }
 
 /// A copy of what a message says about a document, or `Other` where it says nothing.
-fn copy_call(alloc: Global, act: &Act) -> Result<Act> {
+fn copy_call(alloc: Global, act: &Act) -> Result<Act>
+    ensures { IfOk result (λ copy. act_view copy ≡ call_of (act_view act.now)) }
+{
     match act {
         Act::DidOpen { uri, version, text } => Ok(Act::DidOpen {
             uri: uri.clone()?,
@@ -81,7 +103,9 @@ fn copy_call(alloc: Global, act: &Act) -> Result<Act> {
 }
 
 /// A copy of what a message means.
-pub(crate) fn copy_act(alloc: Global, act: &Act) -> Result<Act> {
+pub(crate) fn copy_act(alloc: Global, act: &Act) -> Result<Act>
+    ensures { IfOk result (λ copy. act_view copy ≡ act_view act.now) }
+{
     match act {
         Act::Initialize(offer) => Ok(Act::Initialize(copy_offer(alloc, offer)?)),
         Act::Initialized => Ok(Act::Initialized),

@@ -1,15 +1,27 @@
 //! What stays of the messages about documents, as JSON (LSP 3.17, "Text Document Synchronization").
+ghost use Rattle.std.specs.Prelude.{◌≡◌, IfOk, option_map, string_bytes};
+ghost use Rattle.lsp_redact.specs.Messages.{change_data, changed_data, closed_data, opened_data};
+ghost use Rattle.lsp_redact.specs.Messages.{position_data, saved_data, span_data};
+ghost use Rattle.lsp_redact.specs.Names.{uri_names};
+ghost use Rattle.lsp_redact.specs.Naming.{Writes};
+ghost use Rattle.lsp_rpc.specs.View.{change_view, changes_view};
+ghost use Rattle.serde_json.specs.View.{view};
+
 use crate::redaction::Redaction;
 use lsp_rpc::{Change, Position, Result, Span};
 use serde_json::{Map, Value, json, push, put};
 use std::alloc::Global;
 
-fn position(alloc: Global, position: Position) -> Result<Value> {
+fn position(alloc: Global, position: Position) -> Result<Value>
+    ensures { IfOk result (λ shown. view shown ≡ position_data position) }
+{
     let Position { line, column } = position;
     Ok(json!(in alloc; {"character": column, "line": line})?)
 }
 
-fn span(alloc: Global, span: Span) -> Result<Value> {
+fn span(alloc: Global, span: Span) -> Result<Value>
+    ensures { IfOk result (λ shown. view shown ≡ span_data span) }
+{
     let end = position(alloc, span.second)?;
     let start = position(alloc, span.first)?;
     Ok(json!(in alloc; {"end": end, "start": start})?)
@@ -17,7 +29,10 @@ fn span(alloc: Global, span: Span) -> Result<Value> {
 
 impl Redaction {
     /// The params of a `didOpen`.
-    pub(crate) fn opened(&mut self, uri: &str, version: i32, text: &str) -> Result<Value> {
+    pub(crate) fn opened(&mut self, uri: &str, version: i32, text: &str) -> Result<Value>
+        ensures { IfOk result (λ shown. Writes self.old self.new (uri_names uri.now)
+            (λ n. opened_data n self.old.apart uri.now version text.now) (view shown)) }
+    {
         let uri = self.names.uri(uri)?;
         let text = self.text(text)?;
         Ok(json!(in self.alloc; {"textDocument": {
@@ -27,7 +42,10 @@ impl Redaction {
         }})?)
     }
 
-    fn change(&self, change: &Change) -> Result<Value> {
+    fn change(&self, change: &Change) -> Result<Value>
+        ensures { IfOk result (λ shown. view shown
+            ≡ change_data self.now.apart (change_view change.now)) }
+    {
         let mut members = Map::new(self.alloc);
         if let Some(place) = change.span {
             let range = span(self.alloc, place)?;
@@ -48,7 +66,11 @@ impl Redaction {
         uri: &str,
         version: i32,
         changes: &[Change],
-    ) -> Result<Value> {
+    ) -> Result<Value>
+        ensures { IfOk result (λ shown. Writes self.old self.new (uri_names uri.now)
+            (λ n. changed_data n self.old.apart uri.now version (changes_view changes.now))
+            (view shown)) }
+    {
         let uri = self.names.uri(uri)?;
         let mut shown = Vec::new(self.alloc);
         for change in changes {
@@ -61,13 +83,20 @@ impl Redaction {
     }
 
     /// The params of a `didClose`.
-    pub(crate) fn closed(&mut self, uri: &str) -> Result<Value> {
+    pub(crate) fn closed(&mut self, uri: &str) -> Result<Value>
+        ensures { IfOk result (λ shown. Writes self.old self.new (uri_names uri.now)
+            (λ n. closed_data n uri.now) (view shown)) }
+    {
         let uri = self.names.uri(uri)?;
         Ok(json!(in self.alloc; {"textDocument": {"uri": uri}})?)
     }
 
     /// The params of a `didSave`.
-    pub(crate) fn saved(&mut self, uri: &str, text: Option<&String>) -> Result<Value> {
+    pub(crate) fn saved(&mut self, uri: &str, text: Option<&String>) -> Result<Value>
+        ensures { IfOk result (λ shown. Writes self.old self.new (uri_names uri.now)
+            (λ n. saved_data n self.old.apart uri.now
+            (option_map (λ t. string_bytes t.now) text.entry)) (view shown)) }
+    {
         let mut members = Map::new(self.alloc);
         if let Some(text) = text {
             let text = Value::String(self.text(text.as_str())?);

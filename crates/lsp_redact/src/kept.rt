@@ -1,4 +1,16 @@
 //! What is kept of an event: what the rules read.
+ghost use Rattle.std.specs.Prelude.{◌≡◌, IfOk, List, option_map};
+ghost use Rattle.lsp_redact.specs.Kept as spec;
+ghost use Rattle.lsp_redact.specs.Kept.{awaits};
+ghost use Rattle.lsp_redact.specs.View.{head_view, kept_view, reply_view};
+ghost use Rattle.lsp_replay.specs.Telling.{MaySpeak};
+ghost use Rattle.lsp_rpc.specs.View.{act_view, answer_view, message_view};
+ghost use Rattle.lsp_verdict.specs.Event.{Event};
+ghost use Rattle.lsp_verdict.specs.Given.{raw_view};
+ghost use Rattle.lsp_verdict.specs.Placed.{Reads};
+ghost use Rattle.lsp_rpc.specs.Message as message;
+ghost use Rattle.serde_json.specs.View.{view};
+
 use crate::copies::{copy_act, copy_given_id};
 use lsp_replay::Seen;
 use lsp_rpc::{Act, Answer, Id, Message, Picked, Result, RpcFault, Side, Spoken, copy_id, picked_of};
@@ -50,7 +62,10 @@ pub(crate) enum Kept {
 }
 
 /// What is kept of a result, where an `initialize` is open or not.
-fn reply_of(alloc: Global, value: &Value, awaited: bool) -> Result<Reply> {
+fn reply_of(alloc: Global, value: &Value, awaited: bool) -> Result<Reply>
+    ensures { IfOk result (λ reply. reply_view reply
+        ≡ spec.reply_of awaited (message.result (view value.now))) }
+{
     if !awaited {
         return Ok(Reply::Nothing);
     }
@@ -62,7 +77,10 @@ fn reply_of(alloc: Global, value: &Value, awaited: bool) -> Result<Reply> {
 }
 
 /// What is kept of an answer.
-fn answer_of(alloc: Global, answer: &Answer, awaited: bool) -> Result<Reply> {
+fn answer_of(alloc: Global, answer: &Answer, awaited: bool) -> Result<Reply>
+    ensures { IfOk result (λ reply. reply_view reply
+        ≡ spec.reply_of awaited (answer_view answer.now)) }
+{
     match answer {
         Answer::Result(value) => reply_of(alloc, value, awaited),
         Answer::Error { code } => Ok(Reply::Error { code: *code }),
@@ -70,7 +88,10 @@ fn answer_of(alloc: Global, answer: &Answer, awaited: bool) -> Result<Reply> {
 }
 
 /// What is kept of a message, where an `initialize` is open or not.
-fn head_of(alloc: Global, message: &Message, awaited: bool) -> Result<Head> {
+fn head_of(alloc: Global, message: &Message, awaited: bool) -> Result<Head>
+    ensures { IfOk result (λ head. head_view head
+        ≡ spec.head_of awaited (message_view message.now)) }
+{
     match message {
         Message::Request { id, method, .. } => Ok(Head::Request {
             id: copy_id(id)?,
@@ -87,7 +108,10 @@ fn head_of(alloc: Global, message: &Message, awaited: bool) -> Result<Head> {
 }
 
 /// What is kept of a message of a side, where an `initialize` is open or not.
-fn message_of(alloc: Global, side: Side, spoken: &Spoken, awaited: bool) -> Result<Kept> {
+fn message_of(alloc: Global, side: Side, spoken: &Spoken, awaited: bool) -> Result<Kept>
+    ensures { IfOk result (λ kept. kept_view kept ≡ spec.message side
+        (spec.head_of awaited (message_view spoken.now.message)) (act_view spoken.now.act)) }
+{
     Ok(Kept::Message {
         side,
         head: head_of(alloc, &spoken.message, awaited)?,
@@ -97,7 +121,12 @@ fn message_of(alloc: Global, side: Side, spoken: &Spoken, awaited: bool) -> Resu
 
 /// What is kept of an event, where an `initialize` was open before it or not. Nothing is of a fault
 /// of a side's frames, and of a content that is no message.
-pub(crate) fn kept_of(alloc: Global, seen: &Seen<'_>, awaited: bool) -> Result<Option<Kept>> {
+pub(crate) fn kept_of(alloc: Global, seen: &Seen<'_>, awaited: bool) -> Result<Option<Kept>>
+    ensures { IfOk result (λ kept. (before : List Event) (event : Event)
+        → awaited ≡ awaits before → Reads (raw_view seen.now.raw) event
+        → MaySpeak before event (option_map (λ s. s.now) seen.now.spoken)
+        → option_map kept_view kept ≡ spec.kept_of before event) }
+{
     match seen.raw {
         Raw::Content { side, .. } => match seen.spoken {
             Some(spoken) => Ok(Some(message_of(alloc, side, spoken, awaited)?)),

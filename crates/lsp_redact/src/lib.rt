@@ -14,6 +14,7 @@ mod copies;
 mod documents;
 mod handshake;
 mod kept;
+mod laws;
 mod messages;
 mod names;
 mod records;
@@ -21,4 +22,5 @@ mod redacting;
 mod redaction;
 mod run;
 
+pub use laws::{kinds_decide, one_redacted, redacted_keeps_verdict, some_redacted};
 pub use run::run_redact;

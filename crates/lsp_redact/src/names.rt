@@ -4,7 +4,8 @@ ghost use Rattle.lsp_redact.specs.Names as spec;
 ghost use Rattle.lsp_redact.specs.Names.{Names as Named, distinct, encoding_names, id_names};
 ghost use Rattle.lsp_redact.specs.Names.{method_names, number_of, shown_encoding, shown_method};
 ghost use Rattle.lsp_redact.specs.Names.{shown_uri, uri_names};
-ghost use Rattle.lsp_redact.specs.Naming.{Shows};
+ghost use Rattle.lsp_redact.specs.Names.{no_names};
+ghost use Rattle.lsp_redact.specs.Naming.{Shows, Stands};
 ghost use Rattle.lsp_redact.specs.Messages.{named_data};
 ghost use Rattle.lsp_rpc.specs.Act.{Text};
 ghost use Rattle.lsp_rpc.specs.Ident.{id_view};
@@ -89,7 +90,9 @@ pub(crate) struct Names {
 }
 
 impl Names {
-    pub(crate) fn new(alloc: Global) -> Self {
+    pub(crate) fn new(alloc: Global) -> Self
+        ensures { Stands result no_names }
+    {
         Names {
             alloc,
             uris: Numbers::new(alloc),

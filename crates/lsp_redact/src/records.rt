@@ -1,9 +1,16 @@
 //! Contents and snapshots as the records of a log.
+ghost use Rattle.std.specs.Prelude.{◌≡◌, ◌++◌, ◌<◌, OnOk, string_bytes};
+ghost use Rattle.std.specs.List.{flat_map};
+ghost use Rattle.lsp_log.specs.Log.{chunk, first_line, shown, spelling};
+ghost use Rattle.lsp_redact.specs.Records.{content_records};
+
 use lsp_frame::Format;
 use lsp_rpc::{Result, Side};
 
 /// Adds the first line of a log of this format.
-pub(crate) fn push_first_line(text: &mut String, format: Format) -> Result<()> {
+pub(crate) fn push_first_line(text: &mut String, format: Format) -> Result<()>
+    ensures { OnOk result (string_bytes text.new ≡ string_bytes text.old ++ first_line format) }
+{
     Ok(text.push_str(match format {
         Format::One => "lsp-session 1\n",
         Format::Two => "lsp-session 2\n",
@@ -28,7 +35,10 @@ fn letter_of(side: Side) -> char {
 }
 
 /// Adds one record of a side.
-fn push_piece(text: &mut String, side: Side, piece: &str) -> Result<()> {
+fn push_piece(text: &mut String, side: Side, piece: &str) -> Result<()>
+    ensures { OnOk result (string_bytes text.new
+        ≡ string_bytes text.old ++ spelling (chunk side piece.now)) }
+{
     let letter = letter_of(side);
     let len = piece.len();
     write!(text, "{letter} {len}\n")?;
@@ -43,7 +53,11 @@ pub(crate) fn push_content(
     side: Side,
     content: &str,
     most: usize,
-) -> Result<()> {
+) -> Result<()>
+    requires { 0 < most }
+    ensures { OnOk result (string_bytes text.new ≡ string_bytes text.old
+        ++ flat_map spelling (content_records most side content.now)) }
+{
     let len = content.len();
     let frame = format!(in *text.allocator(); "Content-Length: {len}\r\n\r\n{content}")?;
     let mut rest = frame.as_str();
@@ -56,10 +70,13 @@ pub(crate) fn push_content(
 }
 
 /// Adds a snapshot.
-pub(crate) fn push_snapshot(text: &mut String, version: i32, uri: &str, shown: &str) -> Result<()> {
+pub(crate) fn push_snapshot(text: &mut String, version: i32, uri: &str, body: &str) -> Result<()>
+    ensures { OnOk result (string_bytes text.new
+        ≡ string_bytes text.old ++ spelling (shown version uri.now body.now)) }
+{
     let uri_len = uri.len();
-    let len = shown.len();
+    let len = body.len();
     write!(text, "T {version} {uri_len} {len}\n{uri}\n")?;
-    text.push_str(shown)?;
+    text.push_str(body)?;
     Ok(text.push_str("\n")?)
 }

@@ -1,9 +1,23 @@
 //! What is kept of a log on the way, and what is written of it once its verdict is known.
-ghost use Rattle.std.specs.Prelude.{◌≡◌, ℕ, None, map};
+ghost use Rattle.std.specs.Prelude.{◌≡◌, ◌++◌, ◌∷◌, ◌+◌, ◌<◌, ◌^◌, [], ℕ, List, None, OnOk, Some};
+ghost use Rattle.std.specs.Prelude.{length, map, option_map, string_bytes};
+ghost use Rattle.std.specs.List.{flat_map};
+ghost use Rattle.lsp_docs.specs.Documents.{Terms};
+ghost use Rattle.lsp_log.specs.Log.{spelling};
 ghost use Rattle.lsp_redact.specs.Kept.{awaits, kept_in};
+ghost use Rattle.lsp_redact.specs.Kept as spec;
+ghost use Rattle.lsp_redact.specs.Names.{names_in, names_of};
+ghost use Rattle.lsp_redact.specs.Naming.{Writes};
+ghost use Rattle.lsp_redact.specs.Records.{records_of};
+ghost use Rattle.lsp_redact.specs.Redacting.{AddsLast, EndsAs, EndsBy, fault_at, format_by, log_by};
 ghost use Rattle.lsp_redact.specs.Redacting.{redact_run};
 ghost use Rattle.lsp_redact.specs.View.{kept_view};
-ghost use Rattle.lsp_verdict.specs.Heard.{heard_events};
+ghost use Rattle.lsp_replay.specs.Run.{Tail};
+ghost use Rattle.lsp_replay.specs.Telling.{IsEnd, MaySpeak, Stood, no_of, rule_of};
+ghost use Rattle.lsp_verdict.specs.Event.{Event};
+ghost use Rattle.lsp_verdict.specs.Given.{raw_view};
+ghost use Rattle.lsp_verdict.specs.Heard.{Heard, heard_events};
+ghost use Rattle.lsp_verdict.specs.Placed.{Reads};
 ghost use Rattle.lsp_verdict.specs.Verdict.{first_no};
 
 use crate::apart::apart_of;
@@ -50,7 +64,13 @@ impl Redacting {
     }
 
     /// Adds the log of what is kept.
-    fn say(&self, text: &mut String, format: Format, redaction: &mut Redaction) -> Result<()> {
+    fn say(&self, text: &mut String, format: Format, redaction: &mut Redaction) -> Result<()>
+        requires { 0 < self.now.most }
+        ensures { OnOk result (Writes redaction.old redaction.new
+            (names_in (map kept_view self.now.kept.items))
+            (λ n. string_bytes text.old ++ log_by self.now.most format n redaction.old.apart
+            (map kept_view self.now.kept.items)) (string_bytes text.new)) }
+    {
         push_first_line(text, format)?;
         for kept in &self.kept {
             push_kept(text, redaction, kept, self.most)?;
@@ -65,7 +85,14 @@ impl Redacting {
         redaction: &mut Redaction,
         seen: &Seen<'_>,
         rule: u16,
-    ) -> Result<()> {
+    ) -> Result<()>
+        requires { 0 < self.now.most }
+        ensures { OnOk result ((before : List Event) (event : Event)
+            → self.now.awaits ≡ awaits before → Reads (raw_view seen.now.raw) event
+            → MaySpeak before event (option_map (λ s. s.now) seen.now.spoken)
+            → AddsLast self.now.most redaction.old redaction.new (raw_view seen.now.raw) rule
+            (spec.kept_of before event) (string_bytes text.old) (string_bytes text.new)) }
+    {
         let alloc = redaction.alloc;
         if let Some(kept) = kept_of(alloc, seen, self.awaits)? {
             return push_kept(text, redaction, &kept, self.most);
@@ -79,7 +106,13 @@ impl Redacting {
 }
 
 /// Adds what is kept of one event.
-fn push_kept(text: &mut String, redaction: &mut Redaction, kept: &Kept, most: usize) -> Result<()> {
+fn push_kept(text: &mut String, redaction: &mut Redaction, kept: &Kept, most: usize) -> Result<()>
+    requires { 0 < most }
+    ensures { OnOk result (Writes redaction.old redaction.new (names_of (kept_view kept.now))
+        (λ n. string_bytes text.old
+        ++ flat_map spelling (records_of most n redaction.old.apart (kept_view kept.now)))
+        (string_bytes text.new)) }
+{
     match kept {
         Kept::Message { side, head, act } => {
             let content = redaction.content(head, act)?;
@@ -98,12 +131,19 @@ fn push_kept(text: &mut String, redaction: &mut Redaction, kept: &Kept, most: us
 }
 
 /// The format of a log in which this many versions are kept.
-fn format_of(kept: usize) -> Format {
+fn format_of(kept: usize) -> Format
+    ensures { result ≡ format_by kept }
+{
     if kept == 0 { Format::One } else { Format::Two }
 }
 
 /// How the run ends at an event that offends: a fault of the frames is not written.
-fn outcome_of(held: &Events<Lined>, raw: Raw<'_>, rule: u16) -> Outcome {
+fn outcome_of(held: &Events<Lined>, raw: Raw<'_>, rule: u16) -> Outcome
+    ensures { (terms : Terms) (before : List Heard) (h : Heard)
+        → Stood terms held.now.session held.now.docs held.now.counts (before ++ h ∷ [])
+        → length before + 1 < 2 ^ 64 → h.raw ≡ raw_view raw.entry
+        → rule_of terms before h ≡ Some rule → EndsBy h.raw (no_of terms before h) result }
+{
     match raw {
         Raw::Broken { .. } => {
             Outcome::Judged(last_offence(&held.counts, raw, rule, false).verdict())
@@ -124,7 +164,12 @@ fn inside_frame(counts: &Counts, who: Who) -> Outcome {
 }
 
 /// How the run ends where the log ends so, none of whose events offends.
-fn outcome_at(held: &Events<Lined>, log: &LogEvents, end: End) -> Outcome {
+fn outcome_at(held: &Events<Lined>, log: &LogEvents, end: End) -> Outcome
+    ensures { (terms : Terms) (heard : List Heard) (tail : Tail)
+        → Stood terms held.now.session held.now.docs held.now.counts heard
+        → length heard < 2 ^ 63 → first_no terms (heard_events heard) ≡ None
+        → IsEnd log.now end heard tail → EndsAs (fault_at (heard_events heard) tail) result }
+{
     if let End::Bad { number, fault } = end {
         return Outcome::Judged(Verdict::BadLog { number, fault });
     }
@@ -144,9 +189,9 @@ impl Account for Redacting {
 
     ghost run = { redact_run };
 
-    ghost stands = { λ account terms heard. first_no terms (heard_events heard) ≡ None
+    ghost stands = { λ account terms heard. (first_no terms (heard_events heard) ≡ None)
         × (map kept_view account.kept.items ≡ kept_in (heard_events heard))
-        × (account.awaits ≡ awaits (heard_events heard)) };
+        × (account.awaits ≡ awaits (heard_events heard)) × (0 < account.most) };
 
     fn event(&mut self, held: &Events<Lined>, seen: &Seen<'_>, text: &mut String) -> Result<Flow> {
         let alloc = *text.allocator();

@@ -1,4 +1,9 @@
 //! How the names and the characters of one log are shown.
+ghost use Rattle.std.specs.Prelude.{◌≡◌, IfOk, string_bytes};
+ghost use Rattle.lsp_redact.specs.Characters.{shown_bytes};
+ghost use Rattle.lsp_redact.specs.Names.{no_names};
+ghost use Rattle.lsp_redact.specs.Naming.{Stands};
+
 use crate::characters::shown_text;
 use crate::names::Names;
 use lsp_rpc::Result;
@@ -14,7 +19,10 @@ pub(crate) struct Redaction {
 }
 
 impl Redaction {
-    pub(crate) fn new(alloc: Global, apart: Option<char>) -> Self {
+    pub(crate) fn new(alloc: Global, apart: Option<char>) -> Self
+        ensures names { Stands result.names no_names }
+        ensures apart { result.apart ≡ apart }
+    {
         Redaction {
             alloc,
             names: Names::new(alloc),
@@ -23,7 +31,10 @@ impl Redaction {
     }
 
     /// What a text is shown by.
-    pub(crate) fn text(&self, text: &str) -> Result<String> {
+    pub(crate) fn text(&self, text: &str) -> Result<String>
+        ensures { IfOk result (λ shown. string_bytes shown
+            ≡ shown_bytes self.now.apart text.now) }
+    {
         shown_text(self.alloc, text, self.apart)
     }
 }

@@ -27,6 +27,7 @@ Examples:
   lspcheck show session.log | tail           the last events before the verdict
   lspcheck text 12 file:///a.c session.log   what the server should hold after message 12
   lspcheck event 8 session.log               the content of event 8
+  lspcheck redact session.log                the session without its words
   lspcheck frames --as kinds server.bin      what each message of a raw stream is
 
 Exit status:
