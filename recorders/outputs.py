@@ -1,6 +1,7 @@
 """How scripts end if their standard output can't be written: without a word and with status 141 if
 its reader is gone, as in `| head -1`, and otherwise with a line that says why, and status 3. If
-nobody reads what they say on standard error, they continue."""
+nobody reads what they say on standard error, they continue; and if standard input was closed, it is
+empty."""
 
 import errno
 import io
@@ -51,9 +52,20 @@ def guard(script):
     sys.stdout = io.TextIOWrapper(io.BufferedWriter(Guarded(script)), **how)
 
 
+def open_input():
+    """Standard input that was closed is empty, so that no other file takes its number."""
+    if sys.stdin is None:
+        file = os.open(os.devnull, os.O_RDONLY)
+        if file == 0:
+            os.set_inheritable(file, True)
+        else:
+            os.close(file)
+
+
 def ended(script, main, *words):
     """Runs the main function of a script, and gives its status, once all that it wrote is
     written."""
+    open_input()
     if sys.stdout is None:
         say(f"{script}: standard output: {os.strerror(errno.EBADF)}")
         return 3

@@ -11,7 +11,7 @@ CHECKED = "(checked, not proved)"
 def version_of(program):
     """The version that a program prints, and how it was made; None if it is not lspcheck."""
     try:
-        run = subprocess.run([program, "--version"], stdin=subprocess.DEVNULL, capture_output=True, timeout=60)
+        run = subprocess.run([program, "--version"], stdin=subprocess.DEVNULL, capture_output=True, timeout=600)
     except (OSError, subprocess.TimeoutExpired):
         return None
     found = re.fullmatch(r"lspcheck (\d[\w.]*)( .*)?\n", run.stdout.decode(errors="replace"))

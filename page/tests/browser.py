@@ -23,6 +23,7 @@ import hands  # noqa: E402
 import logs  # noqa: E402
 import programs  # noqa: E402
 import truth  # noqa: E402
+from processes import quoted  # noqa: E402
 from data import EXAMPLES, lines_of, output, written  # noqa: E402
 from window import THEMES, WIDTHS, Page, make, start  # noqa: E402
 
@@ -227,8 +228,8 @@ def later(program, place):
     path = place / "later"
     added = 'other 5 "a<b>" event 3 editor 2'
     path.write_text(f"""#!/bin/sh
-[ "$1" = explain ] || exec {program} "$@"
-{program} "$@" | sed '/^usually/{{p;s/.*/{added}/;p;s/.*/note other/}}'""")
+[ "$1" = explain ] || exec {quoted(program)} "$@"
+{quoted(program)} "$@" | sed '/^usually/{{p;s/.*/{added}/;p;s/.*/note other/}}'""")
     path.chmod(0o755)
     return path
 

@@ -1,17 +1,19 @@
 """The command: what it answers, and what it does to files."""
 
+import contextlib
 import os
 import re
+import shlex
 import shutil
 import signal
 import stat
 import subprocess
 import sys
-import time
 from pathlib import Path
 
 import logs
 import programs
+from processes import SECONDS, SIGNALS, is_running, quoted, until, with_signals
 
 TOP = Path(__file__).resolve().parent.parent.parent
 COMMAND = TOP / "page/lspcheck-page"
@@ -20,7 +22,7 @@ EXAMPLE = TOP / "examples/wrong-column.log"
 
 def run(*words, **how):
     """Runs the command as a user does."""
-    how = {"capture_output": True, "text": True, "timeout": 60, **how}
+    how = {"capture_output": True, "text": True, "timeout": SECONDS, **how}
     return subprocess.run([sys.executable, COMMAND, *map(str, words)], **how)
 
 
@@ -51,7 +53,7 @@ def writes_odd_names(program, place):
         path = os.path.join(os.fsencode(place), name)
         shutil.copy(EXAMPLE, path)
         words = [os.fsencode(it) for it in (sys.executable, COMMAND, "--program", program)]
-        done = subprocess.run([*words, "--", name], cwd=place, capture_output=True, timeout=60)
+        done = subprocess.run([*words, "--", name], cwd=place, capture_output=True, timeout=SECONDS)
         assert done.returncode == 0 and done.stdout == name[:-4] + b".html\n", done
 
 
@@ -59,7 +61,7 @@ def says_what_standard_output_refuses(program, place):
     with open("/dev/full", "wb") as full:
         for words in ([EXAMPLE, "-o", "-"], [EXAMPLE, "-o", place / "x.html"], ["--help"], ["--version"]):
             done = subprocess.run([sys.executable, COMMAND, *words, "--program", program],
-                                  stdout=full, stderr=subprocess.PIPE, text=True, timeout=60)
+                                  stdout=full, stderr=subprocess.PIPE, text=True, timeout=SECONDS)
             answers(done, 3, "standard output: No space left on device")
 
 
@@ -105,7 +107,7 @@ def writes_to_what_is_no_plain_file(program, place):
     words = [sys.executable, COMMAND, EXAMPLE, "--program", program, "-o", place / "pipe"]
     with subprocess.Popen(words, stdout=subprocess.DEVNULL) as running:
         page = (place / "pipe").read_bytes()
-        assert running.wait(60) == 0 and stat.S_ISFIFO(os.stat(place / "pipe").st_mode)
+        assert running.wait(SECONDS) == 0 and stat.S_ISFIFO(os.stat(place / "pipe").st_mode)
     (place / "link").symlink_to("target.html")
     assert run(EXAMPLE, "--program", program, "-o", place / "link").returncode == 0
     assert (place / "link").is_symlink() and (place / "target.html").read_bytes() == page
@@ -116,18 +118,18 @@ def reads_standard_input(program, place):
     """From a pipe, a file or a named pipe; the page has no name of a log then."""
     words = [sys.executable, COMMAND, "--program", program]
     given = EXAMPLE.read_bytes()
-    piped = subprocess.run([*words, "-"], input=given, capture_output=True, timeout=60)
+    piped = subprocess.run([*words, "-"], input=given, capture_output=True, timeout=SECONDS)
     assert piped.returncode == 0 and piped.stdout.startswith(b"<!doctype html>"), piped.stderr
     with EXAMPLE.open("rb") as file:
-        redirected = subprocess.run([*words, "-"], stdin=file, capture_output=True, timeout=60)
+        redirected = subprocess.run([*words, "-"], stdin=file, capture_output=True, timeout=SECONDS)
     assert redirected.stdout == piped.stdout
-    named = subprocess.run([*words, "-", "-o", place / "x.html"], input=given, capture_output=True, timeout=60)
+    named = subprocess.run([*words, "-", "-o", place / "x.html"], input=given, capture_output=True, timeout=SECONDS)
     assert named.returncode == 0 and (place / "x.html").read_bytes() == piped.stdout
     os.mkfifo(place / "pipe.log")
     with subprocess.Popen([*words, place / "pipe.log"], stdout=subprocess.DEVNULL) as running:
         (place / "pipe.log").write_bytes(given)
-        assert running.wait(60) == 0 and (place / "pipe.html").is_file()
-    empty = subprocess.run([*words, "-"], input=b"", capture_output=True, text=False, timeout=60)
+        assert running.wait(SECONDS) == 0 and (place / "pipe.html").is_file()
+    empty = subprocess.run([*words, "-"], input=b"", capture_output=True, text=False, timeout=SECONDS)
     assert empty.returncode == 2 and b"standard input: not a log" in empty.stderr, empty
 
 
@@ -140,19 +142,21 @@ def says_its_version(program, place):
 
 
 def ends_quietly_where_its_reader_is_gone(program, place):
-    for words in ("--help", "--version", f"{EXAMPLE} --program {program} -o -", f"{EXAMPLE} --program {program} -o x.html"):
-        piped = f"{{ sleep 0.5; {sys.executable} {COMMAND} {words}; echo $? >&2; }} | true"
-        done = subprocess.run(["bash", "-c", piped], cwd=place, capture_output=True, text=True, timeout=60)
-        assert done.stderr == "141\n", (words, done)
+    for words in (["--help"], ["--version"], [EXAMPLE, "-o", "-"], [EXAMPLE, "-o", place / "x.html"]):
+        reader, writer = os.pipe()
+        os.close(reader)
+        done = run(*words, "--program", program, capture_output=False, stdout=writer, stderr=subprocess.PIPE)
+        os.close(writer)
+        assert (done.returncode, done.stderr) == (141, ""), (words, done)
 
 
 def needs_no_terminal(program, place):
     """Standard output or standard error that was closed before."""
-    words = f"{sys.executable} {COMMAND} {EXAMPLE} --program {program} -o x.html"
+    words = shlex.join(map(str, (sys.executable, COMMAND, EXAMPLE, "--program", program, "-o", "x.html")))
     for closed, status, errors in ((">&-", 3, "lspcheck-page: standard output: Bad file descriptor\n"), ("2>&-", 0, "")):
-        done = subprocess.run(["bash", "-c", f"{words} {closed}"], cwd=place, capture_output=True, text=True, timeout=60)
+        done = subprocess.run(["bash", "-c", f"{words} {closed}"], cwd=place, capture_output=True, text=True, timeout=SECONDS)
         assert (done.returncode, done.stderr) == (status, errors), done
-    done = subprocess.run(["bash", "-c", f"{words} --bogus 2>&-"], cwd=place, capture_output=True, text=True, timeout=60)
+    done = subprocess.run(["bash", "-c", f"{words} --bogus 2>&-"], cwd=place, capture_output=True, text=True, timeout=SECONDS)
     assert (done.returncode, done.stdout) == (64, ""), done
 
 
@@ -200,21 +204,26 @@ def script(path, text):
     return path
 
 
+def wait_for(path):
+    """What a script does until a file exists."""
+    return f"for it in $(seq {10 * SECONDS}); do [ -e {quoted(path)} ] && break; sleep 0.1; done"
+
+
 def says_what_is_wrong_with_the_program(program, place):
     words = ["-o", place / "x.html"]
     path = {"PATH": str(place / "empty")}
     answers(run(EXAMPLE, *words, env=path), 1, "there is no lspcheck")
     answers(run(EXAMPLE, *words, "--program", place / "none"), 1, "there is no such program")
     answers(run(EXAMPLE, *words, "--program", "true"), 1, "is not lspcheck")
-    ends = script(place / "ends", f'[ "$1" = show ] && {{ echo "lspcheck: out of memory" >&2; exit 4; }}\nexec {program} "$@"')
+    ends = script(place / "ends", f'[ "$1" = show ] && {{ echo "lspcheck: out of memory" >&2; exit 4; }}\nexec {quoted(program)} "$@"')
     answers(run(EXAMPLE, *words, "--program", ends), 4, "lspcheck show: lspcheck: out of memory")
-    dies = script(place / "dies", f'[ "$1" = explain ] && kill -9 $$\nexec {program} "$@"')
+    dies = script(place / "dies", f'[ "$1" = explain ] && kill -9 $$\nexec {quoted(program)} "$@"')
     answers(run(EXAMPLE, *words, "--program", dies), 1, "it ended with status -9")
-    other = script(place / "other", f'[ "$1" = show ] && exec {program} show --all --long {TOP}/examples/clangd-session.log\nexec {program} "$@"')
+    other = script(place / "other", f'[ "$1" = show ] && exec {quoted(program)} show --all --long {quoted(TOP / "examples/clangd-session.log")}\nexec {quoted(program)} "$@"')
     answers(run(EXAMPLE, *words, "--program", other), 1, "differ")
     log = place / "x.log"
     shutil.copy(EXAMPLE, log)
-    writes = script(place / "writes", f'[ "$1" = show ] && touch {log}\nexec {program} "$@"')
+    writes = script(place / "writes", f'[ "$1" = show ] && touch {quoted(log)}\nexec {quoted(program)} "$@"')
     answers(run(log, *words, "--program", writes), 1, "it changed while it was read")
     fails = script(place / "fails", "echo compiling >&2; exit 5")
     done = run(EXAMPLE, *words, "--program", fails)
@@ -224,64 +233,56 @@ def says_what_is_wrong_with_the_program(program, place):
 
 def passes_through_what_the_program_says_first(program, place):
     """A script like ./run says that it compiles while it does, and not only at the end."""
-    slow = script(place / "slow", f'[ "$1" = --version ] && {{ echo compiling >&2; sleep 2; }}\nexec {program} "$@"')
+    go = place / "go"
+    slow = script(place / "slow", f'[ "$1" = --version ] && {{ echo compiling >&2; {wait_for(go)}; }}\nexec {quoted(program)} "$@"')
     words = [sys.executable, COMMAND, EXAMPLE, "--program", slow, "-o", place / "x.html"]
     with subprocess.Popen(words, stdout=subprocess.PIPE, stderr=subprocess.PIPE, text=True) as running:
         assert running.stderr.readline() == "compiling\n"
         assert running.poll() is None and not (place / "x.html").exists()
-        assert running.wait(60) == 0 and running.stderr.read() == ""
-
-
-def with_signals():
-    """Signals end this process, even if the caller of the tests ignores them."""
-    for number in (signal.SIGINT, signal.SIGTERM, signal.SIGHUP):
-        signal.signal(number, signal.SIG_DFL)
+        go.touch()
+        assert running.wait(SECONDS) == 0 and running.stderr.read() == ""
 
 
 def leaves_no_file_when_it_is_stopped(program, place):
     """One line, the status of the signal, no page, and no run of lspcheck that continues."""
     temporary = place / "temporary"
     temporary.mkdir()
-    waits = script(place / "waits", f'[ "$1" = --version ] && exec {program} "$@"\necho $$ >> {place}/pids\nexec sleep 60')
-    for number in (signal.SIGINT, signal.SIGTERM, signal.SIGHUP):
+    waits = script(place / "waits", f'[ "$1" = --version ] && exec {quoted(program)} "$@"\necho $$ >> {quoted(place / "pids")}\nexec sleep 600')
+    for number in SIGNALS:
         (place / "pids").unlink(missing_ok=True)
         words = [sys.executable, COMMAND, EXAMPLE, "--program", waits, "-o", place / "x.html"]
         how = {"stdout": subprocess.PIPE, "stderr": subprocess.PIPE, "text": True, "preexec_fn": with_signals}
         with subprocess.Popen(words, env={**os.environ, "TMPDIR": str(temporary)}, **how) as running:
-            until(lambda: (place / "pids").exists() and len((place / "pids").read_text().split()) == 3)
+            assert until(lambda: (place / "pids").exists() and len((place / "pids").read_text().split()) == 3)
             running.send_signal(number)
-            said, errors = running.communicate(timeout=60)
+            said, errors = running.communicate(timeout=SECONDS)
         assert running.returncode == -number and said == "", (running.returncode, said)
         assert errors == f"lspcheck-page: stopped by {number.name}: no page is written\n", errors
-        assert not [pid for pid in (place / "pids").read_text().split() if Path(f"/proc/{pid}").exists()]
+        left = [int(it) for it in (place / "pids").read_text().split() if is_running(it)]
+        for it in left:
+            os.kill(it, signal.SIGKILL)
+        assert not left
         assert sorted(it.name for it in place.iterdir()) == ["pids", "temporary", "waits"]
         assert not [*temporary.iterdir()]
 
 
-def until(is_so):
-    for _ in range(600):
-        if is_so():
-            return
-        time.sleep(0.1)
-    raise AssertionError("it never was so")
-
-
 def ends_what_the_program_started(program, place):
     """A signal while ./run compiles: it is asked to end, and has the time to."""
-    slow = script(place / "slow", f"trap 'echo ended > {place}/ended; kill $!; exit 1' TERM\necho compiling >&2\nsleep 60 &\nwait")
+    slow = script(place / "slow", f"ends() {{ echo ended > {quoted(place / 'ended')}; kill $!; exit 1; }}\ntrap ends TERM\necho compiling >&2\nsleep 600 &\nwait")
     words = [sys.executable, COMMAND, EXAMPLE, "--program", slow, "-o", place / "x.html"]
-    with subprocess.Popen(words, stderr=subprocess.PIPE, text=True) as running:
+    with subprocess.Popen(words, stderr=subprocess.PIPE, text=True, preexec_fn=with_signals) as running:
         assert running.stderr.readline() == "compiling\n"
         running.terminate()
-        assert running.wait(60) == -signal.SIGTERM
+        assert running.wait(SECONDS) == -signal.SIGTERM
     assert (place / "ended").read_text() == "ended\n" and not (place / "x.html").exists()
 
 
 def reads_a_log_as_often_as_needed(program, place):
     """The list of events once, and the explanations at the same time: a program with checks is slow."""
-    waits = script(place / "waits", f"""[ "$1" = --version ] && exec {program} "$@"
-echo "$*" >> {place}/started
-for it in $(seq 600); do [ $(wc -l < {place}/started) -ge 3 ] && exec {program} "$@"; sleep 0.1; done
+    started = quoted(place / "started")
+    waits = script(place / "waits", f"""[ "$1" = --version ] && exec {quoted(program)} "$@"
+echo "$*" >> {started}
+for it in $(seq 6000); do [ $(wc -l < {started}) -ge 3 ] && exec {quoted(program)} "$@"; sleep 0.1; done
 exit 9""")
     done = run(EXAMPLE, "--program", waits, "-o", place / "x.html")
     started = (place / "started").read_text().split("\n")[:-1]
@@ -293,17 +294,28 @@ def shows_progress_on_a_terminal(program, place):
     """How far the log was read, each second, and nothing of it is left."""
     log = place / "x.log"
     log.write_bytes(logs.long(2000))
-    slow = script(place / "slow", f'[ "$1" = show ] && {{ head -c 1000000 > /dev/null; sleep 2.5; exec {program} "$@" < {log}; }}\nexec {program} "$@"')
+    go = place / "go"
+    reads = f"head -c 1000000 > /dev/null; {wait_for(go)}; exec {quoted(program)} \"$@\" < {quoted(log)}"
+    slow = script(place / "slow", f'[ "$1" = show ] && {{ {reads}; }}\nexec {quoted(program)} "$@"')
     ours, theirs = os.openpty()
     words = [sys.executable, COMMAND, log, "--program", slow, "-o", place / "x.html"]
-    done = subprocess.run(words, stdout=subprocess.DEVNULL, stderr=theirs, timeout=60)
-    os.close(theirs)
-    said = os.read(ours, 100000).decode()
+    said = ""
+    with subprocess.Popen(words, stdout=subprocess.DEVNULL, stderr=theirs) as running:
+        os.close(theirs)
+        # The terminal is closed when the command has ended.
+        with contextlib.suppress(OSError):
+            while piece := os.read(ours, 100000).decode():
+                said += piece
+                if "show read 1 of" in said:
+                    go.touch()
+        assert running.wait(SECONDS) == 0, said
     os.close(ours)
     lines = [it.strip() for it in said.split("\r") if it.strip()]
-    assert done.returncode == 0 and lines, said
-    read = re.fullmatch(r"lspcheck-page: lspcheck show read (\d+) of (\d+) MB, (\d+) %", lines[0])
-    assert read and int(read[1]) == 1 and int(read[2]) == log.stat().st_size // 10**6, lines
+    for line in lines:
+        read = re.fullmatch(r"lspcheck-page: (?:lspcheck \w+|it) read (\d+) of (\d+) MB, (\d+) %", line)
+        assert read and int(read[2]) == log.stat().st_size // 10**6, lines
+        assert int(read[3]) == 100 * int(read[1]) // int(read[2]), lines
+    assert any("show read 1 of" in it for it in lines), lines
     assert said.endswith("\r") and not said.split("\r")[-2].strip(), said
 
 
@@ -315,7 +327,7 @@ def takes_little_memory(program, place):
         log.write_bytes(content)
         words = [sys.executable, COMMAND, log, "--program", program, "--most-events", "100000"]
         code = "import resource, subprocess, sys; done = subprocess.run(sys.argv[1:], stdout=subprocess.DEVNULL); print(resource.getrusage(resource.RUSAGE_CHILDREN).ru_maxrss, done.returncode)"
-        done = subprocess.run([sys.executable, "-c", code, *words], capture_output=True, text=True, timeout=600)
+        done = subprocess.run([sys.executable, "-c", code, *words], capture_output=True, text=True, timeout=SECONDS)
         kilobytes, status = map(int, done.stdout.split())
         # What any Python script takes before it does anything.
         assert status == 0 and 1024 * (kilobytes - 20000) < 3 * len(content), (kilobytes, len(content))

@@ -13,6 +13,7 @@ import logs
 import programs
 import truth
 from data import EXAMPLES, lines_of, output, written
+from processes import SECONDS
 
 FOCUS = "return document.activeElement.getAttribute('aria-label') || document.activeElement.tagName"
 
@@ -54,7 +55,7 @@ def prints_from_the_command_line(page, log, program):
     words = ["/usr/bin/chromium", "--headless=new", "--no-sandbox", "--disable-gpu", "--disable-dev-shm-usage",
              "--window-size=1600,900", f"--user-data-dir={page.path.parent}/profile",
              "--virtual-time-budget=20000", f"--print-to-pdf={target}", page.path.as_uri()]
-    subprocess.run(words, capture_output=True, timeout=120)
+    subprocess.run(words, capture_output=True, timeout=SECONDS)
     text = subprocess.run(["pdftotext", "-layout", target, "-"], capture_output=True, text=True).stdout
     events = [int(it.split()[0]) for it in lines_of(program, "show", "--all", "--long", log) if it[0].isdigit()]
     missing = set(events) - rows_in(text, events)

@@ -7,6 +7,7 @@ from pathlib import Path
 
 import logs
 from data import EXAMPLES, output, page_of, written
+from processes import SECONDS
 
 HERE = Path(__file__).resolve().parent
 
@@ -15,7 +16,7 @@ def node(script, given):
     """What a script writes for a value that it is given, both in JSON."""
     assert shutil.which("node"), "there is no node"
     words = ["node", HERE / script]
-    done = subprocess.run(words, input=json.dumps(given), capture_output=True, text=True, timeout=120)
+    done = subprocess.run(words, input=json.dumps(given), capture_output=True, text=True, timeout=SECONDS)
     assert done.returncode == 0, done.stderr
     return json.loads(done.stdout)
 

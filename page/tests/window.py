@@ -1,18 +1,30 @@
 """A page in Chromium, driven by Selenium."""
 
-import time
 from functools import cached_property
 
 from selenium import webdriver
+from selenium.common.exceptions import WebDriverException
 from selenium.webdriver.chrome.options import Options
 from selenium.webdriver.chrome.service import Service
 from selenium.webdriver.common.by import By
 
 from command import run
+from processes import SECONDS, until
 
-SECONDS = 60
 # In every width a window may have: a telephone, half a screen, a screen.
 WIDTHS, THEMES = [380, 800, 1600], ["light", "dark"]
+
+
+def started(options, tries=5):
+    """A browser. On a busy machine it may not be ready in the time that its driver gives it, and its
+    port may be taken by then."""
+    while True:
+        tries -= 1
+        try:
+            return webdriver.Chrome(service=Service("/usr/bin/chromedriver"), options=options)
+        except WebDriverException:
+            if tries == 0:
+                raise
 
 
 def start():
@@ -21,8 +33,8 @@ def start():
     for word in ("--headless=new", "--no-sandbox", "--disable-gpu", "--disable-dev-shm-usage"):
         options.add_argument(word)
     options.set_capability("goog:loggingPrefs", {"browser": "ALL"})
-    driver = webdriver.Chrome(service=Service("/usr/bin/chromedriver"), options=options)
-    driver.set_page_load_timeout(2 * SECONDS)
+    driver = started(options)
+    driver.set_page_load_timeout(SECONDS)
     driver.set_script_timeout(SECONDS)
     return driver
 
@@ -73,12 +85,9 @@ class Page:
         return self.text(".selected .number")
 
     def wait(self, script, *values):
-        until = time.monotonic() + SECONDS
-        while time.monotonic() < until:
-            if found := self.run(script, *values):
-                return found
-            time.sleep(0.05)
-        raise AssertionError(f"never true: {script}")
+        found = []
+        assert until(lambda: found.append(self.run(script, *values)) or found[-1]), f"never true: {script}"
+        return found[-1]
 
     def wait_for_frame(self):
         """Waits until the page has been drawn again."""
@@ -89,6 +98,6 @@ class Page:
 def make(program, place, log, *words):
     """The page of a log."""
     target = place / f"{log.name}{''.join(words)}.html"
-    done = run(log, "--program", program, "-o", target, *words, timeout=600)
+    done = run(log, "--program", program, "-o", target, *words)
     assert done.returncode == 0, done.stderr
     return target

@@ -7,6 +7,7 @@ import subprocess
 import sys
 
 import sessions
+from processes import SECONDS
 from trials import COMMAND, HASTY, SERVER, TOP, check, is_clean, named, run
 from usage import put
 
@@ -39,7 +40,7 @@ def page_shows_what_is_written(program, place):
     command, pattern = example()
     hasty = [sys.executable, HASTY, "--program", program]
     setting = scripts(place, {"lspcheck-replay": hasty, "pylsp": [*SERVER, "characters"]})
-    done = subprocess.run(command, shell=True, cwd=TOP, env=setting, capture_output=True, text=True, timeout=60)
+    done = subprocess.run(command, shell=True, cwd=TOP, env=setting, capture_output=True, text=True, timeout=SECONDS)
     assert done.returncode == 1 and re.fullmatch(pattern, done.stdout), done
     assert check(program, TOP / "examples/after-an-emoji.log") == "yes"
 
@@ -51,7 +52,7 @@ def readme_shows_what_pylsp_does(program, place):
         return
     command, pattern = example()
     setting = scripts(place, {"lspcheck-replay": [sys.executable, COMMAND, "--program", program]})
-    done = subprocess.run(command, shell=True, cwd=TOP, env=setting, capture_output=True, text=True, timeout=300)
+    done = subprocess.run(command, shell=True, cwd=TOP, env=setting, capture_output=True, text=True, timeout=SECONDS)
     assert done.returncode == 1 and re.fullmatch(pattern, done.stdout), done
 
 

@@ -8,11 +8,13 @@ import sys
 import time
 
 import sessions
+from processes import SECONDS, SIGNALS, is_running, until, with_signals
 from trials import COMMAND, HASTY, SERVER, named, run, run_waiting
 from usage import put, small_session
 
-# The speed: this many messages and a search, in at most this many seconds.
-MESSAGES, SECONDS = 500, 60
+# The speed: this many messages and a search, in at most this many seconds on an idle machine, and ten
+# times as many on a busy one.
+MESSAGES, MOST = 500, 60
 
 
 def says_that_the_server_ended(program, place):
@@ -40,9 +42,10 @@ def waits_no_longer_than_it_says(program, place):
         begun = time.monotonic()
         done = run(program, log, fault, options=["--wait", 1.5])
         refuses_first(done, 'python\\S* gave no answer in 1.5 seconds to editor 1 event 1 request 1 "initialize"')
-        # The patience at the end of a server, and what a busy machine needs.
-        assert time.monotonic() - begun < 40, fault
-    done, seconds = run_waiting(program, log, "silent=4")
+        # Ten times its patience at the end of a server, and what a busy machine needs.
+        assert time.monotonic() - begun < 100, fault
+    question = 'to the question "textDocument/formatting"'
+    done, seconds = run_waiting(program, log, "silent=4", is_wanted=lambda done, _: question in done.stderr)
     refuses_first(done, f'python\\S* gave no answer in {seconds} seconds to the question "textDocument/formatting"')
 
 
@@ -59,46 +62,28 @@ def is_not_held_up(program, place):
     refuses_first(done, "yes sends bytes that are not frames: a header part is too long ")
 
 
-def is_running(process):
-    """Whether a process runs, and is not only waited for."""
-    try:
-        with open(f"/proc/{process}/stat") as file:
-            return file.read().rpartition(")")[2].split()[0] != "Z"
-    except FileNotFoundError:
-        return False
-
-
-def with_signals():
-    """Signals end this process, even if the caller of the tests ignores them."""
-    for number in (signal.SIGINT, signal.SIGTERM, signal.SIGHUP):
-        signal.signal(number, signal.SIG_DFL)
-
-
 def leaves_no_process(program, place):
     """Each server starts a process of its own. They end with the command, however that ends."""
     log = put(place, small_session().end())
-    for number in (None, signal.SIGINT, signal.SIGTERM, signal.SIGHUP):
+    for number in (None, *SIGNALS):
         children = place / f"children-{number}"
-        words = ["lose=2", f"child={children}", *(["slow=0.5"] if number else [])]
-        command = [sys.executable, HASTY, "--program", program, "--write", place / "new.log", log, *SERVER, *words]
+        # With a signal, three servers run, and none of them answers.
+        words = ["lose=2", f"child={children}", *(["mute=textDocument/formatting"] if number else [])]
+        options = ["--wait", SECONDS, "--program", program, "--write", place / "new.log"]
+        command = [sys.executable, HASTY, *options, log, *SERVER, *words]
         outputs = {"stdout": subprocess.DEVNULL, "stderr": subprocess.PIPE}
         process = subprocess.Popen(list(map(str, command)), preexec_fn=with_signals, **outputs)
         if number is None:
-            assert process.wait(60) == 1, process.stderr.read()
+            assert process.wait(SECONDS) == 1, process.stderr.read()
         else:
-            end = time.monotonic() + 30
-            while not (children.exists() and children.read_text()) and time.monotonic() < end:
-                time.sleep(0.05)
-            time.sleep(0.3)
+            assert until(lambda: children.exists() and children.read_text().count("\n") == 3)
             process.send_signal(number)
-            assert process.wait(20) == -number, process.stderr.read()
+            assert process.wait(SECONDS) == -number, process.stderr.read()
             assert process.stderr.read().decode() == f"lspcheck-replay: stopped by {number.name}\n"
             assert not (place / "new.log").exists()
         started = [int(it) for it in children.read_text().split()]
         assert len(started) >= 2, started
-        end = time.monotonic() + 5
-        while any(map(is_running, started)) and time.monotonic() < end:
-            time.sleep(0.05)
+        until(lambda: not any(map(is_running, started)), 60)
         running = [it for it in started if is_running(it)]
         for it in running:
             os.kill(it, signal.SIGKILL)
@@ -114,7 +99,7 @@ def is_fast(program, place):
     begun = time.monotonic()
     done = run(program, log, "slow=0.02", "lose=320", command=COMMAND)
     assert len(named(done)) == 1, done
-    assert time.monotonic() - begun < SECONDS, time.monotonic() - begun
+    assert time.monotonic() - begun < 10 * MOST, time.monotonic() - begun
 
 
 TESTS = [says_that_the_server_ended, waits_no_longer_than_it_says, is_not_held_up, leaves_no_process]

@@ -7,11 +7,12 @@ import sys
 from concurrent.futures import ThreadPoolExecutor
 from pathlib import Path
 
+from processes import SECONDS
+
 HERE = Path(__file__).resolve().parent
 TOP = HERE.parent.parent
 COMMAND, HASTY = TOP / "replay/lspcheck-replay", HERE / "hasty.py"
 SERVER = [sys.executable, "-IS", HERE / "server.py"]
-SECONDS = 300
 # How many trials run at a time.
 WIDTH = 4
 
@@ -26,12 +27,13 @@ def run(program, log, *faults, options=(), command=HASTY, server=SERVER, **how):
     return subprocess.run([str(it) for it in words], **how)
 
 
-def run_waiting(program, log, *faults):
-    """The same with `--wait`, for a server that leaves something unanswered after its first answer.
-    On a busy machine that one may take long, so the time grows until it comes. Also the time."""
-    for seconds in (2, 8, 32):
+def run_waiting(program, log, *faults, is_wanted):
+    """The same with `--wait`, for a server that leaves something unanswered. On a busy machine other
+    answers may take long, too, so the time grows until the result is the one that is wanted. Also the
+    time."""
+    for seconds in (2, 8, 32, 128):
         done = run(program, log, *faults, options=["--wait", seconds])
-        if 'request 1 "initialize"' not in done.stderr:
+        if is_wanted(done, seconds):
             break
     return done, seconds
 

@@ -5,13 +5,13 @@ import os
 import re
 import shutil
 import subprocess
-import sys
 import threading
 
 import sessions
 from expected import messages_of
 from logs import frame, notification, request, result, snapshot
-from trials import COMMAND, HASTY, SERVER, TOP, check, run, run_waiting
+from processes import quoted
+from trials import COMMAND, TOP, check, run, run_waiting
 
 URI = "file:///old/folder/a%20b.py"
 AT_THE_END = ('"shutdown"', '"exit"')
@@ -85,10 +85,11 @@ def answers_faults_of_files(program, place):
 def ends_quietly_where_its_reader_is_gone(program, place):
     log = put(place, small_session().end())
     for options in (["--help"], ["--version"], []):
-        words = [sys.executable, HASTY, "--program", program, *options, log, *SERVER]
-        piped = f"{{ sleep 0.5; {' '.join(map(str, words))}; echo $? >&2; }} | true"
-        done = subprocess.run(["bash", "-c", piped], capture_output=True, text=True, timeout=60)
-        assert done.stderr == "141\n", (options, done)
+        reader, writer = os.pipe()
+        os.close(reader)
+        done = run(program, log, options=options, capture_output=False, stdout=writer, stderr=-1)
+        os.close(writer)
+        assert (done.returncode, done.stderr) == (141, ""), (options, done)
 
 
 def reads_standard_input(program, place):
@@ -113,7 +114,7 @@ def says_that_the_log_changed(program, place):
     """A log that is still being written: what was judged and what is read would differ."""
     log = put(place, small_session().end())
     writes = place / "writes"
-    writes.write_text(f'#!/bin/sh\n[ "$1" != check ] || printf x >> {log}\nexec {program} "$@"\n')
+    writes.write_text(f'#!/bin/sh\n[ "$1" != check ] || printf x >> {quoted(log)}\nexec {quoted(program)} "$@"\n')
     writes.chmod(0o755)
     refuses(run(writes, log), 2, "session.log: it changed while it was read: try again")
 
@@ -218,16 +219,18 @@ def cuts_long_answers(program, place):
 
 def lists_what_is_not_answered(program, place):
     log = put(place, small_session().end())
-    done, _ = run_waiting(program, log, "mute=textDocument/hover")
+    answers = "answers 2 same 2 became-error 0 became-result 0\n"
+    done, _ = run_waiting(program, log, "mute=textDocument/hover", is_wanted=lambda done, _: answers in done.stdout)
     assert done.returncode == 0, done
-    assert "answers 2 same 2 became-error 0 became-result 0\n" in done.stdout, done.stdout
+    assert answers in done.stdout, done.stdout
     assert re.search(r'^unanswered editor 6 event \d+ request 2 "textDocument/hover"$', done.stdout, re.M), done.stdout
     session = small_session()
     for _ in range(4):
         session.ask(URI)
-    done, seconds = run_waiting(program, put(place, session.end()), "mute=textDocument/hover")
     # The third request without an answer is the last that is waited for.
     where = f"editor 10 event {session.numbers[10]} request 5"
+    log = put(place, session.end())
+    done, seconds = run_waiting(program, log, "mute=textDocument/hover", is_wanted=lambda done, _: where in done.stderr)
     refuses(done, 2, f'gave no answer in {seconds} seconds to {where} "textDocument/hover"')
 
 

@@ -7,6 +7,8 @@ import shutil
 import subprocess
 from pathlib import Path
 
+from processes import SECONDS
+
 TOP = Path(__file__).resolve().parent.parent.parent
 PAGES = [
     "README.md",
@@ -17,7 +19,6 @@ PAGES = [
     "docs/RULES.md",
     "docs/IN_A_TEST_SUITE.md",
 ]
-SECONDS = 60
 
 
 def shell(trial, line, **how):

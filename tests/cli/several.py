@@ -1,16 +1,16 @@
 """`check` of several files: the line of each, the worst status, names, faults, and what is open; and
 `--compared`, of one file too."""
 
+import contextlib
 import os
 import re
 import resource
 import subprocess
-import time
 
 import programs
 import sessions
+from processes import SECONDS, until
 
-SECONDS = 60
 READ_FAULT = b"lspcheck: read fault\n"
 WRITE_FAULT = b"lspcheck: write fault\n"
 
@@ -232,10 +232,17 @@ def try_one_open(trial):
 
 def opened_by(process, path):
     """What a process has open, once it has opened this."""
-    end = time.monotonic() + SECONDS
     opened = []
-    while path not in opened and time.monotonic() < end:
-        opened = [path.with_name(os.path.basename(os.readlink(it))) for it in os.scandir(f"/proc/{process}/fd")]
+
+    def has_opened():
+        opened.clear()
+        for it in os.scandir(f"/proc/{process}/fd"):
+            # One that was just closed is gone.
+            with contextlib.suppress(FileNotFoundError):
+                opened.append(path.with_name(os.path.basename(os.readlink(it))))
+        return path in opened
+
+    until(has_opened)
     return opened
 
 

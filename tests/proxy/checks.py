@@ -8,7 +8,8 @@ import subprocess
 import time
 from pathlib import Path
 
-from session import PROXY, PYTHON, SECONDS, SERVER, TRACED, Editor, sent, snapshot, until
+from processes import SECONDS, until
+from session import PROXY, PYTHON, SERVER, TRACED, Editor, sent, snapshot
 
 HERE = Path(__file__).resolve().parent
 
@@ -16,6 +17,9 @@ TITLE = b"file:///a"
 
 # What is reported of a text whose line ends alone differ.
 LINE_ENDS = "no 702 snapshot 1 event 5, line ends alone"
+
+# How many seconds at most it takes to report a few violations, on a busy machine.
+MOST = 60
 
 
 def checked(place, program, *options, **how):
@@ -73,7 +77,7 @@ def tells_each(place, program):
     found = heads(editor, 3)
     yield "another violation", found[2:] == ["no 404 editor 5 event 10"], found
     seconds = time.monotonic() - begun
-    yield "in a moment", seconds < SECONDS / 2, seconds
+    yield "in a moment", seconds < MOST, seconds
     yield "the session continues", editor.quit() == 0, editor.words()
     copy, = editor.logs.glob("*.explain")
     yield "is next to the log, too", copy.read_text() == editor.words(), copy.read_text()
@@ -190,6 +194,6 @@ TESTS = {
     "check: no lspcheck": without_program(""),
     "check: lspcheck ends": without_program("#!/bin/sh\nexit 3\n"),
     "check: lspcheck doesn't read": without_program(
-        '#!/bin/sh\necho $$ >> "$0.pids"\nexec sleep 600\n'
+        '#!/bin/sh\necho $$ >> "$0.pids"\nexec sleep 6000\n'
     ),
 }

@@ -10,7 +10,8 @@ import time
 from datetime import datetime, timedelta, timezone
 from pathlib import Path
 
-from session import PROXY, PYTHON, SECONDS, SERVER, TRACED, Editor, until
+from processes import SECONDS, until
+from session import PROXY, PYTHON, SERVER, TRACED, Editor
 
 sys.path.insert(0, str(PROXY.parent))
 import proxy_log  # noqa: E402
@@ -72,7 +73,7 @@ def editor_dies(place):
 
 def child_stays(place):
     """A process that the server started keeps its output open."""
-    editor = Editor(place, server=["sh", "-c", "sleep 600 & echo $!; cat; echo end"])
+    editor = Editor(place, server=["sh", "-c", "sleep 6000 & echo $!; cat; echo end"])
     child = int(editor.process.stdout.readline())
     editor.write(b"begin\n")
     editor.process.stdin.close()
@@ -151,6 +152,10 @@ def no_session(place):
         yield "what it writes is passed on", run.stdout == b"clangd version\n", run
         until((place / "logs").is_dir)
         yield "no log", not list((place / "logs").iterdir()), list((place / "logs").iterdir())
+    closed = ["sh", "-c", 'exec "$@" <&-', "sh", PROXY, place / "logs", "cat"]
+    run = subprocess.run(closed, **how)
+    found = run.returncode, run.stdout, run.stderr
+    yield "a standard input that is closed", found == (0, b"", b""), run
     editor = Editor(place, server=["no-such-server"])
     missing = "proxy: no-such-server: No such file or directory\n"
     found = editor.wait(), editor.words()

@@ -4,7 +4,8 @@ import os
 import sys
 import time
 
-from session import PROXY, SECONDS, Editor, snapshot
+from processes import SECONDS
+from session import PROXY, Editor, snapshot
 
 sys.path.insert(0, str(PROXY.parent))
 import proxy_snapshots  # noqa: E402

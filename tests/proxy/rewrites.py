@@ -12,7 +12,8 @@ import sys
 import threading
 import time
 
-from session import PROMPT, PROXY, QUIET, TIMES, TOGETHER, Editor, put, sent, until
+from processes import until
+from session import PROMPT, PROXY, QUIET, TIMES, TOGETHER, Editor, put, sent
 
 sys.path.insert(0, str(PROXY.parent))
 import proxy_files  # noqa: E402

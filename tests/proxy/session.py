@@ -10,13 +10,11 @@ import time
 from pathlib import Path
 from typing import NamedTuple
 
+from processes import SECONDS, until
+
 PROXY = Path(__file__).resolve().parent.parent.parent / "recorders/proxy"
 TRACED = Path(__file__).resolve().parent / "traced.py"
 PYTHON = "/usr/bin/python3" if os.path.exists("/usr/bin/python3") else sys.executable
-
-# After how many seconds a test that waits for something gives up. On an idle machine it comes
-# within two, so only what never comes takes this long.
-SECONDS = 120
 
 # How long the proxy waits after a save, in seconds.
 QUIET = 1
@@ -54,16 +52,6 @@ while True:
         sys.stdout.write(f"Content-Length: {len(answer)}\r\n\r\n{answer}")
         sys.stdout.flush()
 """
-
-
-def until(condition, seconds=SECONDS):
-    """Waits until something holds; whether it does."""
-    end = time.monotonic() + seconds
-    while not condition():
-        if time.monotonic() > end:
-            return False
-        time.sleep(0.02)
-    return True
 
 
 class Heard(NamedTuple):

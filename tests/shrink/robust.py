@@ -7,13 +7,13 @@ import shutil
 import signal
 import subprocess
 import sys
-import time
 from pathlib import Path
 
 import programs
 from cases import INITIALIZED, URI, chatter, head, listed, sent
 from logs import changed, edit, frame, opened, request, result
-from scripts import SCRIPT, SECONDS, SETTING, command, put, run
+from processes import SECONDS, is_running, quoted, until, with_signals
+from scripts import SCRIPT, SETTING, command, put, run
 
 EXAMPLE = Path(__file__).resolve().parent.parent.parent / "examples/wrong-column.log"
 INITIALIZE_OF_EXAMPLE = (
@@ -125,12 +125,12 @@ def script(place, lines, name="stand-in"):
 def says_what_is_wrong_with_the_program(program, place):
     answers(run(place / "none", EXAMPLE), 1, "none: there is no such program")
     answers(run(script(place, "echo other 1.0"), EXAMPLE), 1, "this program is not lspcheck")
-    memory = script(place, f'case "$*" in "explain --quiet") exit 4;; esac\nexec {program} "$@"')
+    memory = script(place, f'case "$*" in "explain --quiet") exit 4;; esac\nexec {quoted(program)} "$@"')
     answers(run(memory, EXAMPLE), 4, "lspcheck explain: it ended with status 4")
     # Without --program, it is the one on the PATH.
     folder = place / "bin"
     folder.mkdir()
-    script(folder, f'exec {program} "$@"', "lspcheck")
+    script(folder, f'exec {quoted(program)} "$@"', "lspcheck")
     setting = {**SETTING, "PATH": f"{folder}:{os.environ['PATH']}"}
     done = subprocess.run([sys.executable, SCRIPT, EXAMPLE], capture_output=True, env=setting)
     assert (done.returncode, done.stdout, done.stderr) == (0, small_example(program), b""), done
@@ -141,14 +141,9 @@ def slow(program, place, tries):
     count = place / "count"
     count.write_text("")
     count.with_name("count.slow").unlink(missing_ok=True)
-    lines = f'echo >> {count}\n[ "$(wc -l < {count})" -le {tries} ] || {{ echo $$ > {count}.slow; exec sleep 60; }}'
-    return script(place, f'case "$1" in explain) {lines};; esac\nexec {program} "$@"'), count
-
-
-def with_signals():
-    """Signals end this process, even if the caller of the tests ignores them."""
-    for number in (signal.SIGINT, signal.SIGTERM, signal.SIGHUP):
-        signal.signal(number, signal.SIG_DFL)
+    name = quoted(count)
+    lines = f'echo >> {name}\n[ "$(wc -l < {name})" -le {tries} ] || {{ echo $$ > {name}.slow; exec sleep 600; }}'
+    return script(place, f'case "$1" in explain) {lines};; esac\nexec {quoted(program)} "$@"'), count
 
 
 def start(program, *words):
@@ -157,9 +152,8 @@ def start(program, *words):
 
 
 def wait_until_slow(count):
-    end, slow = time.monotonic() + SECONDS, count.with_name("count.slow")
-    while not (slow.exists() and slow.read_text()) and time.monotonic() < end:
-        time.sleep(0.01)
+    slow = count.with_name("count.slow")
+    assert until(lambda: slow.exists() and slow.read_text().endswith("\n"))
 
 
 def writes_the_smallest_so_far(program, place):
@@ -178,7 +172,7 @@ def writes_the_smallest_so_far(program, place):
         assert found[1] == INITIALIZE_OF_EXAMPLE, found[1]
         assert "file:///tmp/lspwork-e/cpp/small.c" in found[-1], found[-1]
         left = int(count.with_name("count.slow").read_text())
-        assert not Path(f"/proc/{left}").exists(), left
+        assert until(lambda: not is_running(left), 60), left
 
 
 def writes_nothing_before_it_has_something(program, place):
@@ -208,7 +202,7 @@ def on_terminal(program, *words):
 
 
 def tells_a_terminal_how_far_it_is(program, place):
-    stand_in = script(place, f'case "$1" in explain) sleep 0.2;; esac\nexec {program} "$@"')
+    stand_in = script(place, f'case "$1" in explain) sleep 0.2;; esac\nexec {quoted(program)} "$@"')
     small, shown = on_terminal(stand_in, EXAMPLE)
     assert small == small_example(program)
     line = rb"\rshrink: 42,025 bytes, now [\d,]+, \d+ tried"

@@ -5,9 +5,10 @@ import subprocess
 import sys
 from pathlib import Path
 
+from processes import SECONDS
+
 SCRIPT = Path(__file__).resolve().parent.parent.parent / "recorders/shrink"
 SETTING = {name: it for name, it in os.environ.items() if not name.startswith("PYTHON")}
-SECONDS = 300
 
 
 def command(program, *words):

@@ -3,7 +3,7 @@ use Rattle.std.specs.Prelude.{◌≡◌, ◌≤◌, ℕ, List, length, take, sli
 use Rattle.std.specs.Prelude.{Err, option_map, unwrap_or}
 use Rattle.lsp_types.specs.declared.position.Encoding.{Encoding}
 use Rattle.lsp_text.specs.Edits.{Edit, changed, applied}
-use Rattle.lsp_docs.specs.Calls.{Call, opens, changes, closes, saves, shows, Text}
+use Rattle.lsp_docs.specs.Calls.{Call, changes, Text}
 use Rattle.lsp_docs.specs.Documents.{Version, held, Terms}
 use Rattle.lsp_docs.specs.State.{early_rule}
 use Rattle.lsp_docs.specs.declared.tried.Tried as code
@@ -48,10 +48,7 @@ AreTriedOn limit enc (Some v) cs tried = AreTried limit enc v.text cs tried
 -- the same of the changes of a call after these calls, where no rule on the call as a whole refuses
 -- it
 abbrev pub IsTried : Terms → List Call → Call → Option Made → Type 0
-IsTried terms before (opens uri number text) tried = Unit {0}
 IsTried terms before (changes enc kind uri number cs) tried =
     early_rule kind number cs (held terms uri before) ≡ None
     → AreTriedOn terms.limit enc (held terms uri before) cs tried
-IsTried terms before (closes uri) tried = Unit {0}
-IsTried terms before (saves uri text) tried = Unit {0}
-IsTried terms before (shows uri number text) tried = Unit {0}
+IsTried terms before _ tried = Unit {0}

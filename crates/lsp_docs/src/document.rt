@@ -11,8 +11,8 @@ ghost use Rattle.lsp_docs.specs.Documents.{versioned};
 ghost use Rattle.lsp_docs.specs.Snapshots.{last_of};
 ghost use Rattle.lsp_docs.specs.Rules.{show_rule, text_at};
 ghost use Rattle.lsp_docs.specs.Stored.{answer_of};
+ghost use Rattle.lsp_docs.specs.State.{due_rule, early_rule, rule_with};
 ghost use Rattle.lsp_types.specs.Fault.{IsRule, Names};
-ghost use Rattle.lsp_docs.specs.State.{early_rule, rule_with};
 ghost use Rattle.lsp_docs.specs.Tried.{AreTried, tried_in};
 
 use crate::history::History;
@@ -69,6 +69,7 @@ impl<S: TextStore> Document<S> {
     /// it. Where no version is kept, one change is made in the held store itself, which a refused
     /// change leaves as it is. What was tried in a copy that is refused is put there, and what the
     /// changes found.
+    #[inline(always)]
     pub(crate) fn change(
         &mut self,
         terms: Terms,
@@ -125,6 +126,47 @@ impl<S: TextStore> Document<S> {
             }
             return Ok(());
         }
+        self.change_copy(terms, encoding, version, changes, due, tried, found)
+    }
+
+    /// Makes the changes in a copy, which replaces the held store if no text that is due
+    /// contradicts it. What is large stays out of the frame of `change`, where it is rarely needed.
+    #[inline(never)]
+    fn change_copy(
+        &mut self,
+        terms: Terms,
+        encoding: Encoding,
+        version: i32,
+        changes: &[Change],
+        due: Option<&Texts>,
+        tried: &mut Option<Tried<S>>,
+        found: &mut Findings,
+    ) -> Result<(), Fault>
+        ensures found { OnOk result (found.new
+            ≡ findings terms.limit encoding (S.content self.old.held.store)
+            (edits_of changes.now)) }
+        ensures version { OnOk result (self.new.held.version ≡ version) }
+        ensures store { OnOk result
+            (applied terms.limit encoding (S.content self.old.held.store) (edits_of changes.now)
+            ≡ Ok (S.content self.new.held.store)) }
+        ensures kept { OnOk result (length self.old.kept ≤ terms.kept
+            → self.new.kept ≡ last_of terms.kept (self.old.kept
+            ++ versioned self.old.held.version (S.content self.old.held.store) ∷ [])) }
+        ensures accepted { OnOk result
+            (due_rule terms.line_ends (unwrap_or (option_copied due.entry) [])
+            (applied terms.limit encoding (S.content self.old.held.store) (edits_of changes.now))
+            ≡ None) }
+        ensures rule { IfErr result
+            (Names (due_rule terms.line_ends (unwrap_or (option_copied due.entry) [])
+            (applied terms.limit encoding (S.content self.old.held.store)
+            (edits_of changes.now)))) }
+        ensures tried { IfErr result (λ fault. IsRule fault
+            → AreTried terms.limit encoding (S.content self.old.held.store) (edits_of changes.now)
+            (tried_in S.content tried.new)) }
+        ensures err { OnErr result ((self.new.kept ≡ self.old.kept)
+            × (versioned self.new.held.version (S.content self.new.held.store)
+            ≡ versioned self.old.held.version (S.content self.old.held.store))) }
+    {
         let alloc = self.kept.alloc();
         let held = &self.held;
         let changed = held.changed(alloc, terms.limit, encoding, changes, tried, found)?;

@@ -30,11 +30,10 @@ use Rattle.lsp_facts.specs.Fact.{Fact}
 use Rattle.lsp_facts.specs.EventFacts.{log_facts}
 use Rattle.lsp_facts.proofs.OneFacts.{one_facts}
 use Rattle.lsp_facts.proofs.SomeFacts.{some_facts}
-use Rattle.lsp_explain.specs.Explained.{all_explanation, causes, is_cause, Breach, Explained}
-use Rattle.lsp_explain.specs.Explained.{Explains, IsWritten, breach, breach_at, breaches}
-use Rattle.lsp_explain.specs.Explained.{end_explained, event_of, first_breach, noted_explanation}
-use Rattle.lsp_explain.specs.Explained.{SomeExplanation, OneExplanation, SomeExplanationOfAll}
-use Rattle.lsp_explain.specs.Explained.{OneExplanationOfAll}
+use Rattle.lsp_explain.specs.Explained.{all_explanation, SomeExplanationOfAll, OneExplanationOfAll}
+use Rattle.lsp_explain.specs.Explained.{causes, noted_explanation, SomeExplanation, OneExplanation}
+use Rattle.lsp_explain.specs.Explained.{is_cause, Explained, IsWritten, end_explained, first_breach}
+use Rattle.lsp_explain.specs.Explained.{Breach, Explains, breach, breach_at, breaches, event_of}
 use Rattle.lsp_explain.specs.Traced.{setter_at, traced}
 
 -- ---- an event that offends

@@ -22,11 +22,10 @@ use Rattle.lsp_verdict.proofs.LookBackLemmas.{first_of-snoc}
 use Rattle.lsp_replay.specs.declared.heard.EventPlace.{EventPlace}
 use Rattle.lsp_explain.specs.Asking.{Numbered, numbered_as}
 use Rattle.lsp_explain.specs.History.{last_ones, step_of}
-use Rattle.lsp_explain.specs.Renames.{AreRenames, Move, Moves, RenamesBy, RenamesIn, creations_in}
-use Rattle.lsp_explain.specs.Renames.{call_by, each_move, most_moves, moves}
-use Rattle.lsp_explain.specs.Renames.{moves_at, moves_by, moves_in, moves_view}
-use Rattle.lsp_explain.specs.Renames.{notifies_files, or_none, renamed_at, renamed_by, renamed_held}
-use Rattle.lsp_explain.specs.Renames.{renames, renames_in, tells_files, uris_at}
+use Rattle.lsp_explain.specs.Renames.{Move, creations_in, notifies_files, renamed_held, tells_files}
+use Rattle.lsp_explain.specs.Renames.{AreRenames, most_moves, moves_view, renamed_at, renamed_by}
+use Rattle.lsp_explain.specs.Renames.{Moves, RenamesBy, RenamesIn, each_move, moves_at, renames_in}
+use Rattle.lsp_explain.specs.Renames.{call_by, moves, moves_by, moves_in, or_none, renames, uris_at}
 use Rattle.lsp_explain.specs.Openings.{names_view}
 use Rattle.lsp_explain.specs.declared.trail.renames.Move as held
 use Rattle.lsp_explain.specs.declared.trail.renames.Renames.{Renames}

@@ -40,10 +40,9 @@ use Rattle.lsp_docs.specs.Documents.{Terms}
 use Rattle.lsp_explain.specs.Asking.{Numbered, numbered_as, sents, Reply, asks, asks_by, leads}
 use Rattle.lsp_explain.specs.Asking.{leads_by, message_kept, most_replies, numbered, replies}
 use Rattle.lsp_explain.specs.Asking.{reply_by, reply_of}
-use Rattle.lsp_explain.specs.SessionNotes.{Misused, has_method, misuse_at, misuse_in}
-use Rattle.lsp_explain.specs.SessionNotes.{misused_views, misuses, misuses_after, with_misuse}
-use Rattle.lsp_explain.specs.SessionNotes.{AreNotes, NotesBy, abrupt_by, older_held, older_in}
-use Rattle.lsp_explain.specs.SessionNotes.{older_of}
+use Rattle.lsp_explain.specs.SessionNotes.{Misused, has_method, misuse_at, misuse_in, misused_views}
+use Rattle.lsp_explain.specs.SessionNotes.{misuses, misuses_after, with_misuse, AreNotes, NotesBy}
+use Rattle.lsp_explain.specs.SessionNotes.{abrupt_by, older_held, older_in, older_of}
 use Rattle.lsp_explain.specs.declared.trail.misuses.Misused as code
 use Rattle.lsp_explain.specs.declared.trail.notes.Notes.{Notes}
 use Rattle.lsp_explain.specs.History.{kept_as, last_ones}

@@ -1,9 +1,6 @@
 -- What is told of an event that offends, and the facts on it with the events that brought it.
-use Rattle.std.specs.Prelude.{map, ◌==◌, codes, if◌then◌else◌}
-use Rattle.std.proofs.Common.{◌≡◌, ◌<◌, ℕ, Bool, false, List, [], ◌++◌, Option, sym, ap}
-use Rattle.std.proofs.Common.{◌∙◌, arith, ◌+◌, ◌^◌, ◌∷◌, length, Some, refl, Bor, subst}
-use Rattle.std.proofs.Common.{append_assoc}
-use Rattle.std.proofs.lemmas.Bool.Decides.{nat_tests}
+use Rattle.std.proofs.Common.{◌≡◌, ◌<◌, ℕ, Bool, List, [], ◌++◌, Option, sym, ap, ◌∙◌, arith, ◌+◌}
+use Rattle.std.proofs.Common.{◌^◌, ◌∷◌, length, Some, refl, Bor, subst, append_assoc}
 use Rattle.std.proofs.lemmas.List.{length-map}
 use Rattle.lsp_docs.specs.Documents.{Terms}
 use Rattle.lsp_docs.specs.State as docs
@@ -26,7 +23,6 @@ use Rattle.lsp_verdict.proofs.EventCounts.{count_few}
 use Rattle.lsp_verdict.proofs.ExactCounts.{capped_is}
 use Rattle.lsp_verdict.proofs.Offences.Steps.{kept-refused}
 use Rattle.lsp_replay.specs.Lines.{place_of}
-use Rattle.lsp_replay.specs.declared.heard.EventPlace.{EventPlace}
 use Rattle.lsp_replay.specs.Standing.{Holds}
 use Rattle.lsp_replay.specs.Streams.{decoder_of}
 use Rattle.lsp_replay.specs.Telling.{HasFate, IsSeen, ShowsFault, Stood, rule_of}
@@ -35,28 +31,14 @@ use Rattle.lsp_replay.specs.declared.seen.Fate.{Fate}
 use Rattle.lsp_replay.specs.declared.seen.Fate.TheVariants as fates
 use Rattle.lsp_replay.specs.declared.seen.Seen.{Seen}
 use Rattle.lsp_replay.proofs.Seeing.{events-push}
-use Rattle.lsp_facts.specs.Fact.{Fact, cited, detail_lines, event_line}
+use Rattle.lsp_facts.specs.Fact.{Fact, detail_lines, event_line}
 use Rattle.lsp_facts.specs.EventFacts.{AreFacts}
 use Rattle.lsp_text.specs.Counted.{Counted}
-use Rattle.lsp_explain.specs.History.{KeptCall}
-use Rattle.lsp_explain.specs.Marking.{agreed, recent}
-use Rattle.lsp_explain.specs.Traced.{apart_facts, document_traced, setter_at, traced, AreTraced}
-use Rattle.lsp_explain.specs.declared.suspects.Until.{Until}
+use Rattle.lsp_explain.specs.Traced.{setter_at, traced, AreTraced}
 use Rattle.lsp_explain.specs.ExplainRuns.{TellsOf, rests_held}
 use Rattle.lsp_explain.specs.Explained.{place_in}
 use Rattle.lsp_explain.specs.Trails.{StandsAfter, IsTrail}
 use Rattle.lsp_explain.specs.declared.trail.Past.{Past}
-
--- under another rule than 702 no snapshot that differs is named
-pub names_no_texts : (done : List KeptCall) (ps qs : List EventPlace) (until : Until) (rule : ℕ)
-    → (rule ≡ 702 → ⊥) → document_traced done ps until rule ≡ document_traced done qs until rule
-names_no_texts done ps qs until rule other =
-    let is : (rule == 702) ≡ false = grind (arith, nat_tests) in
-    let apart : List Fact = apart_facts (agreed done) until (recent done) in
-    ap (λ (b : Bool). if b then map (cited (codes "snapshot")) ps ++ apart
-    else (if rule == 608 then apart else [])) is
-    ∙ sym (ap (λ (b : Bool). if b then map (cited (codes "snapshot")) qs ++ apart
-    else (if rule == 608 then apart else [])) is)
 
 -- ---- what is told of an event that offends
 

@@ -1,7 +1,6 @@
 -- The methods of LSP 3.17: which have requests, which notifications, and which side sends them. The
 -- list is that of the standard's meta model, in its order.
-use Rattle.std.specs.Prelude.{◌≡◌, ℕ, List, [], ◌∷◌, map, if◌then◌else◌, Option, Some, None}
-use Rattle.std.specs.Prelude.{codes}
+use Rattle.std.specs.Prelude.{◌≡◌, ℕ, List, [], ◌∷◌, map, if◌then◌else◌, Option, Some, None, codes}
 use Rattle.std.specs.Str.{bytes_eq}
 use Rattle.lsp_types.specs.declared.side.Side.TheVariants.{Editor, Server}
 use Rattle.lsp_explain.specs.declared.trail.standard_methods.MethodUse.{MethodUse}

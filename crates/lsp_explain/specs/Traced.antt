@@ -197,36 +197,33 @@ setter_at terms before event =
 
 -- the snapshots that differ from the text of a call after these, by their places: of those that
 -- wait for its version the ones with another text, or it is one itself, of this place
-abbrev pub differing : Terms → List Call → List KeptCall → EventPlace → Call → List EventPlace
-differing terms before done p (opens uri number text) =
-    refuting terms before (opens uri number text) (waiting_for number done)
-differing terms before done p (changes enc kind uri number edits) =
-    refuting terms before (changes enc kind uri number edits) (waiting_for number done)
-differing terms before done p (shows uri number text) = p ∷ []
-differing terms before done p _ = []
+abbrev pub differing : Terms → List Call → List KeptCall → EventPlace → Call → Until
+    → List EventPlace
+differing terms before done p call (until.Message own number) =
+    refuting terms before call (waiting_for number done)
+differing terms before done p call (until.Version number) = p ∷ []
+differing terms before done p call until.Held = []
 
--- the snapshot that was found equal, and the messages that can have made the texts differ
-abbrev pub apart_facts : Option VersionEvent → Until → List VersionEvent → List Fact
-apart_facts equal until done = option_to_list
+-- the snapshot that was found equal
+abbrev pub equal_facts : Option VersionEvent → List Fact
+equal_facts equal = option_to_list
     (option_map (λ (s : VersionEvent). version_by (codes "equal") s.version s.place) equal)
-    ++ suspect_facts equal until done
 
--- 702: these snapshots; and with 608 this
-abbrev pub texts_traced : List EventPlace → List Fact → ℕ → List Fact
-texts_traced snapshots apart rule =
-    if rule == rules.SNAPSHOT_DIFFERS then map (cited (codes "snapshot")) snapshots ++ apart
-    else (if rule == rules.SAVED_TEXT_DIFFERS then apart else [])
+-- and the messages that can have made the texts differ, after these steps of a document
+abbrev pub apart_facts : List KeptCall → Until → List Fact
+apart_facts done limit =
+    equal_facts (agreed done) ++ suspect_facts (agreed done) limit (recent done)
 
-abbrev pub document_traced : List KeptCall → List EventPlace → Until → ℕ → List Fact
-document_traced done snapshots until rule =
-    texts_traced snapshots (apart_facts (agreed done) until (recent done)) rule
-
--- what brought texts apart, where a call, the event of this place, breaks this rule after these
+-- what brought texts apart, where a call, the event of this place, breaks this rule after these:
+-- under 702 the snapshots that differ come first
 abbrev pub apart_traced : Terms → List Event → EventPlace → ℕ → Call → List Fact
 apart_traced terms before p rule call =
-    document_traced (steps terms (uri_of call) before)
-    (differing terms (calls (kept_of terms before)) (steps terms (uri_of call) before) p call)
-    (until_of p call) rule
+    let done = steps terms (uri_of call) before in
+    let limit = until_of p call in
+    if rule == rules.SNAPSHOT_DIFFERS
+    then map (cited (codes "snapshot"))
+    (differing terms (calls (kept_of terms before)) done p call limit) ++ apart_facts done limit
+    else (if rule == rules.SAVED_TEXT_DIFFERS then apart_facts done limit else [])
 
 -- the events that brought such a call, with what is said about a document that is not open
 abbrev pub call_traced : Terms → List Event → EventPlace → ℕ → Call → List Fact

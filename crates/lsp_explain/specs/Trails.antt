@@ -22,7 +22,7 @@ pub record IsTrail (terms : Terms) (t : Trail) (events : List Event) : Type 0 wh
   pub opened : AreOpenings terms t.openings events
   pub said : IsConversation terms t.said events
 
--- one more kept call is taken over, or none
+-- with one more kept call, or none
 pub record Keeps (more : Option KeptCall) (marks : Marks) (openings : Openings) (next : Marks)
     (behind : Openings) : Type 0 where
   pub marked : (calls : List KeptCall) → MarkedBy marks.map.entries calls

@@ -1,14 +1,12 @@
 //! The notes on a session, which change no verdict.
-ghost use Rattle.std.specs.Prelude.{◌≡◌, ◌++◌, List, OnOk, map, option_map};
-ghost use Rattle.std.specs.Prelude.{string_bytes};
+ghost use Rattle.std.specs.Prelude.{◌≡◌, ◌++◌, List, OnOk, map, option_map, string_bytes};
 ghost use Rattle.lsp_explain.specs.SessionNotes.{misused_views};
 ghost use Rattle.lsp_explain.specs.Openings.{names_view, on_view};
 ghost use Rattle.lsp_verdict.specs.Event.{Event};
 ghost use Rattle.lsp_verdict.specs.Given.{verdict_view};
 ghost use Rattle.lsp_explain.specs.Notes as spec;
-ghost use Rattle.lsp_explain.specs.Notes.{misuse_line, name_notes};
-ghost use Rattle.lsp_explain.specs.Notes.{noticed, old_name_notes, note_lines, notes_by};
-ghost use Rattle.lsp_explain.specs.Notes.{uncompared, unshown_line};
+ghost use Rattle.lsp_explain.specs.Notes.{misuse_line, name_notes, noticed, old_name_notes};
+ghost use Rattle.lsp_explain.specs.Notes.{note_lines, notes_by, uncompared, unshown_line};
 ghost use Rattle.lsp_explain.specs.Trails.{StandsAfter, terms_in};
 
 use crate::trace::push_earlier;

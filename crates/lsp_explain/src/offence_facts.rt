@@ -86,15 +86,13 @@ fn push_event(
         → string_bytes lines.new ≡ string_bytes lines.old
         ++ event_line offence.now.event offence.now.who offence.now.number (raw_view raw.entry)) }
 {
-    let event = offence.event;
-    let by = offence.who;
-    let number = offence.number;
+    let place = place_in(offence);
     match raw {
         Raw::Content { content, .. } => match spoken {
-            Some(spoken) => push_message_event(lines, event, by, number, &spoken.message),
-            None => push_content_event(lines, event, by, number, content),
+            Some(spoken) => push_message_event(lines, place, &spoken.message),
+            None => push_content_event(lines, place, content),
         },
-        _ => push_bare_event(lines, event, by, number),
+        _ => push_bare_event(lines, place),
     }
 }
 

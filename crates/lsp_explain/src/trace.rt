@@ -162,13 +162,29 @@ fn trace_call(
         (call_view call.entry)) }
 {
     let marks = &past.trail.marks;
-    let uri = call.uri();
-    let until = until_of(place, call);
-    if rule != rules::SNAPSHOT_DIFFERS {
-        return trace_document(facts, marks, uri, &[], until, rule);
+    let (uri, until) = (call.uri(), until_of(place, call));
+    if rule == rules::SNAPSHOT_DIFFERS {
+        let snapshots = differing(past, until, place, call, tried)?;
+        push_snapshots(facts, snapshots.as_slice())?;
+        return trace_texts(facts, marks, uri, until);
     }
-    let snapshots = differing(past, place, call, tried)?;
-    trace_document(facts, marks, uri, snapshots.as_slice(), until, rule)
+    if rule == rules::SAVED_TEXT_DIFFERS {
+        return trace_texts(facts, marks, uri, until);
+    }
+    Ok(())
+}
+
+/// Adds the snapshot that was found equal of the document of this URI, and the messages that can
+/// have made the texts differ.
+fn trace_texts(facts: &mut Facts, marks: &Marks, uri: &str, until: Until) -> Result<()>
+    ensures { OnOk result ((terms : Terms) (before : List Event)
+        → AreMarks terms marks.now.map.entries before
+        → facts.new ≡ facts.old ++ spec.apart_facts (steps terms uri.now before) until) }
+{
+    let equal = marks.agreed(uri);
+    let setters = marks.setters(uri)?;
+    push_equal(facts, equal)?;
+    push_suspects(facts, equal, until, setters.as_slice())
 }
 
 /// By which message the text came about that differs.
@@ -187,6 +203,7 @@ fn until_of(place: EventPlace, call: Call<'_>) -> Until
 /// version the ones with another text, or it is one itself.
 fn differing(
     past: Past<'_>,
+    until: Until,
     place: EventPlace,
     call: Call<'_>,
     tried: Option<&Tried<Lined>>,
@@ -199,62 +216,18 @@ fn differing(
         → snapshots.items ≡ spec.differing (terms_in past.entry)
         (calls (kept_of (terms_in past.entry) before))
         (steps (terms_in past.entry) (uri_of (call_view call.entry)) before) place
-        (call_view call.entry)) }
+        (call_view call.entry) until) }
 {
     let Past { held, trail } = past;
-    let (docs, marks) = (&held.docs, &trail.marks);
-    match call {
-        Call::Opens { uri, version, .. } => {
-            refuting(docs, call, tried, marks.waiting(uri, version))
+    let docs = &held.docs;
+    match until {
+        Until::Message { version, .. } => {
+            let waiting = trail.marks.waiting(call.uri(), version);
+            refuting(docs, call, tried, waiting)
         }
-        Call::Changes { uri, version, .. } => {
-            refuting(docs, call, tried, marks.waiting(uri, version))
-        }
-        Call::Shows { .. } => Ok(Vec::from_slice(docs.alloc(), &[place])?),
-        _ => Ok(Vec::new(docs.alloc())),
+        Until::Version(_) => Ok(Vec::from_slice(docs.alloc(), &[place])?),
+        Until::Held => Ok(Vec::new(docs.alloc())),
     }
-}
-
-/// Adds to the facts on a call on the document of this URI.
-fn trace_document(
-    facts: &mut Facts,
-    marks: &Marks,
-    uri: &str,
-    snapshots: &[EventPlace],
-    until: Until,
-    rule: u16,
-) -> Result<()>
-    ensures { OnOk result ((terms : Terms) (before : List Event)
-        → AreMarks terms marks.now.map.entries before
-        → facts.new ≡ facts.old
-        ++ spec.document_traced (steps terms uri.now before) snapshots.now until rule) }
-{
-    let equal = marks.agreed(uri);
-    let setters = marks.setters(uri)?;
-    push_texts(facts, equal, setters.as_slice(), snapshots, until, rule)
-}
-
-/// Adds the snapshots that differ, the one that was found equal, and the messages that can have
-/// made the texts differ.
-fn push_texts(
-    facts: &mut Facts,
-    equal: Option<VersionEvent>,
-    setters: &[VersionEvent],
-    snapshots: &[EventPlace],
-    until: Until,
-    rule: u16,
-) -> Result<()>
-    ensures { OnOk result (facts.new ≡ facts.old ++ spec.texts_traced snapshots.now
-        (spec.apart_facts equal until setters.now) rule) }
-{
-    if rule == rules::SNAPSHOT_DIFFERS {
-        push_snapshots(facts, snapshots)?;
-        return push_apart(facts, equal, setters, until);
-    }
-    if rule == rules::SAVED_TEXT_DIFFERS {
-        return push_apart(facts, equal, setters, until);
-    }
-    Ok(())
 }
 
 fn push_snapshots(facts: &mut Facts, snapshots: &[EventPlace]) -> Result<()>
@@ -266,19 +239,14 @@ fn push_snapshots(facts: &mut Facts, snapshots: &[EventPlace]) -> Result<()>
     Ok(())
 }
 
-/// Adds the snapshot that was found equal, and the messages that can have made the texts differ.
-fn push_apart(
-    facts: &mut Facts,
-    equal: Option<VersionEvent>,
-    setters: &[VersionEvent],
-    until: Until,
-) -> Result<()>
-    ensures { OnOk result (facts.new ≡ facts.old ++ spec.apart_facts equal until setters.now) }
+/// Adds the snapshot that was found equal, if one was.
+fn push_equal(facts: &mut Facts, equal: Option<VersionEvent>) -> Result<()>
+    ensures { OnOk result (facts.new ≡ facts.old ++ spec.equal_facts equal) }
 {
-    if let Some(VersionEvent { place, version, .. }) = equal {
-        facts.version_by("equal", version, place)?;
+    match equal {
+        Some(VersionEvent { place, version, .. }) => facts.version_by("equal", version, place),
+        None => Ok(()),
     }
-    push_suspects(facts, equal, until, setters)
 }
 
 /// Adds to the facts on a message of a side that breaks this rule, 301 to 504, under 401 to 412 the

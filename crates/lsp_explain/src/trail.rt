@@ -66,7 +66,7 @@ impl Trail {
         }
     }
 
-    /// Takes over the next event. One that offends leaves nothing to keep, and one that says
+    /// Keeps the next event. One that offends leaves nothing to keep, and one that says
     /// something of a document leaves the session as it is.
     ///
     /// # Errors
@@ -88,11 +88,17 @@ impl Trail {
             return Ok(());
         };
         let place = EventPlace::last(&held.counts, seen.raw.who());
-        self.said.renames.keep_call(place, call)?;
-        keep_step(&mut self.marks, &mut self.openings, place, call.uri(), step)
+        self.said.renames.keep_call(&place, call)?;
+        keep_step(
+            &mut self.marks,
+            &mut self.openings,
+            &place,
+            call.uri(),
+            &step,
+        )
     }
 
-    /// Takes over a message that is kept and says nothing of a document.
+    /// Adds a message that is kept and says nothing of a document.
     #[inline(always)]
     fn keep_message(
         &mut self,
@@ -122,16 +128,16 @@ impl Trail {
     }
 }
 
-/// Takes over what a kept event, that of this place, does to the document of a URI.
+/// Adds what a kept event, that of this place, does to the document of a URI.
 #[inline(always)]
 fn keep_step(
     marks: &mut Marks,
     openings: &mut Openings,
-    place: EventPlace,
+    place: &EventPlace,
     uri: &str,
-    step: Step,
+    step: &Step,
 ) -> Result<()>
-    ensures { OnOk result (Keeps (Some (kept_call uri.now place step)) marks.old openings.old
+    ensures { OnOk result (Keeps (Some (kept_call uri.now place.now step.now)) marks.old openings.old
         marks.new openings.new) }
 {
     marks.keep(place, uri, step)?;

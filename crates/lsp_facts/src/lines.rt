@@ -5,6 +5,7 @@ ghost use Rattle.lsp_facts.specs.Fact.{fact_lines};
 ghost use Rattle.lsp_facts.specs.Fact as spec;
 
 use crate::facts::{Facts, push_facts};
+use lsp_replay::EventPlace;
 use lsp_rpc::{Memory, Message, Result, RpcFault, read, words_of};
 use lsp_verdict::{Who, who_name};
 use std::fmt::Write;
@@ -35,17 +36,12 @@ fn push_usual(lines: &mut String, usual: &str) -> Result<()>
 ///
 /// # Errors
 /// `Memory` where memory was refused.
-pub fn push_message_event(
-    lines: &mut String,
-    event: u64,
-    by: Who,
-    number: u64,
-    message: &Message,
-) -> Result<()>
+pub fn push_message_event(lines: &mut String, place: EventPlace, message: &Message) -> Result<()>
     ensures { OnOk result (string_bytes lines.new ≡ string_bytes lines.old
-        ++ spec.message_event event by number (message_view message.now)) }
+        ++ spec.message_event place.event place.who place.number (message_view message.now)) }
 {
-    let name = who_name(by);
+    let EventPlace { event, who, number } = place;
+    let name = who_name(who);
     let words = words_of(*lines.allocator(), message)?;
     writeln!(lines, "event {event} {name} {number} {words}")?;
     Ok(())
@@ -56,34 +52,23 @@ pub fn push_message_event(
 ///
 /// # Errors
 /// `Memory` where memory was refused.
-pub fn push_content_event(
-    lines: &mut String,
-    event: u64,
-    by: Who,
-    number: u64,
-    content: &[u8],
-) -> Result<()>
+pub fn push_content_event(lines: &mut String, place: EventPlace, content: &[u8]) -> Result<()>
     ensures { OnOk result (string_bytes lines.new ≡ string_bytes lines.old
-        ++ spec.content_event event by number (spec.content_message content.now)) }
+        ++ spec.content_event place.event place.who place.number
+        (spec.content_message content.now)) }
 {
     match read(*lines.allocator(), content) {
-        Ok(message) => push_owned_event(lines, event, by, number, message),
-        Err(RpcFault::Rule(_)) => push_bare_event(lines, event, by, number),
+        Ok(message) => push_owned_event(lines, place, message),
+        Err(RpcFault::Rule(_)) => push_bare_event(lines, place),
         Err(RpcFault::Memory) => Err(Memory),
     }
 }
 
-fn push_owned_event(
-    lines: &mut String,
-    event: u64,
-    by: Who,
-    number: u64,
-    message: Message,
-) -> Result<()>
+fn push_owned_event(lines: &mut String, place: EventPlace, message: Message) -> Result<()>
     ensures { OnOk result (string_bytes lines.new ≡ string_bytes lines.old
-        ++ spec.message_event event by number (message_view message)) }
+        ++ spec.message_event place.event place.who place.number (message_view message)) }
 {
-    push_message_event(lines, event, by, number, &message)
+    push_message_event(lines, place, &message)
 }
 
 /// Adds the line of an event without words: its number, from 1, whose it is, and its number among
@@ -91,11 +76,12 @@ fn push_owned_event(
 ///
 /// # Errors
 /// `Memory` where memory was refused.
-pub fn push_bare_event(lines: &mut String, event: u64, by: Who, number: u64) -> Result<()>
+pub fn push_bare_event(lines: &mut String, place: EventPlace) -> Result<()>
     ensures { OnOk result (string_bytes lines.new
-        ≡ string_bytes lines.old ++ spec.bare_event event by number) }
+        ≡ string_bytes lines.old ++ spec.bare_event place.event place.who place.number) }
 {
-    let name = who_name(by);
+    let EventPlace { event, who, number } = place;
+    let name = who_name(who);
     writeln!(lines, "event {event} {name} {number}")?;
     Ok(())
 }

@@ -29,6 +29,7 @@ pub(crate) fn wrong_member(alloc: Global, message: &Message) -> Result<Option<St
 }
 
 /// The member of the result of `initialize` that does not have its shape.
+#[tactic(auto, unfolding(crate::specs::Members::result_rows))]
 pub(crate) fn wrong_result(alloc: Global, answer: &Value) -> Result<Option<String>>
     ensures { Finds result (spec.wrong_result (view answer.now)) }
 {
@@ -36,6 +37,7 @@ pub(crate) fn wrong_result(alloc: Global, answer: &Value) -> Result<Option<Strin
 }
 
 /// The same of the params of a method of this name.
+#[tactic(auto, unfolding(crate::specs::Members::parts))]
 fn wrong_params(alloc: Global, method: &str, params: Option<&Value>) -> Result<Option<String>>
     ensures { Finds result
         (spec.wrong_by spec.parts method.now (option_map (λ v. view v.now) params.entry)) }

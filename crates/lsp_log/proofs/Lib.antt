@@ -22,3 +22,4 @@ pub mod Callers
 mod Rows
 pub mod FirstLines
 pub mod Written
+pub mod Theorems

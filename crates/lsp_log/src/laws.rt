@@ -1,4 +1,6 @@
 //! Laws of logs, each the contract of a function that does nothing.
+#![tactic(auto, using(crate::proofs::Theorems::laws))]
+
 ghost use Rattle.lsp_log.specs.Laws.{SomeLog, OneLog, RecordsComeFirst, WrittenIsRead, OnePlace};
 
 /// All bytes are the log of some format, or none, and of some records, with some fault or none.

@@ -1,8 +1,7 @@
 -- Several bytes of a text at once: which of them end a run of plain ones, and the run.
 use Rattle.std.proofs.Common.{◌≡◌, ℕ, suc, ◌+◌, ◌*◌, ◌%◌, ◌^◌, ◌<◌, ◌≤◌, Bool, true, false, not}
-use Rattle.std.proofs.Common.{◌||◌, ◌==◌, lt_of_not-le}
-use Rattle.std.proofs.Common.{ltb, cond, eqb, List, [], ◌∷◌, map, length, drop, replicate, refl}
-use Rattle.std.proofs.Common.{sym, ap, ap₂, ◌∙◌, arith}
+use Rattle.std.proofs.Common.{◌||◌, ◌==◌, lt_of_not-le, ltb, cond, eqb, List, [], ◌∷◌, map, length}
+use Rattle.std.proofs.Common.{drop, replicate, refl, sym, ap, ap₂, ◌∙◌, arith}
 use Rattle.std.proofs.lemmas.Bool.{eq-eqb, ne_eqb}
 use Rattle.std.proofs.lemmas.List.{length-map}
 use Rattle.std.proofs.lemmas.List.Folds.{prefix_len-append}

@@ -1,7 +1,6 @@
 -- Which of several bytes are no digits, and the number that digits are.
-use Rattle.std.proofs.Common.{◌≡◌, ◌||◌, ◌%◌, ◌^◌}
-use Rattle.std.proofs.Common.{ℕ, Bool, true, false, not, cond, ltb, List, [], ◌∷◌}
-use Rattle.std.proofs.Common.{map, length, replicate, refl, ap, ap₂, ◌∙◌, arith}
+use Rattle.std.proofs.Common.{◌≡◌, ◌||◌, ◌%◌, ◌^◌, ℕ, Bool, true, false, not, cond, ltb, List, []}
+use Rattle.std.proofs.Common.{◌∷◌, map, length, replicate, refl, ap, ap₂, ◌∙◌, arith}
 use Rattle.std.proofs.lemmas.Bool.Decides.{nat_tests}
 use Rattle.std.proofs.lemmas.List.{length-map}
 use Rattle.std.proofs.lemmas.Simd.{zip2_splat, zip2_splat_left, mask_l-mod}

@@ -10,8 +10,7 @@ use Rattle.json.specs.Word.{is_operator, is_space}
 use Rattle.json.specs.Run.{is_plain}
 use Rattle.json.specs.Lex.{Lexeme, token, comma, colon, quote, backslash, operator, space, other}
 use Rattle.json.specs.Lex.{class, operator_lexeme, string_token, Mode, between, in_string, lex_byte}
-use Rattle.json.specs.Lex.{lex}
-use Rattle.json.specs.Lex.{Place, fresh, after_value, after_comma, after_key, begins_colon}
+use Rattle.json.specs.Lex.{lex, Place, fresh, after_value, after_comma, after_key, begins_colon}
 use Rattle.json.specs.Lex.{may_begin, may_close, if_allowed, punctuate}
 
 -- ---- lexemes

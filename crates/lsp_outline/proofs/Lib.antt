@@ -4,7 +4,6 @@ pub mod Editing
 pub mod Meaning
 pub mod ShortNumerals
 pub mod Lexing
-pub mod Spaces
 pub mod Blocks
 pub mod NumberBlocks
 pub mod DigitBlocks

@@ -1,10 +1,8 @@
 -- Integers below zero, and the range of integers of 32 bits.
-use Rattle.std.proofs.Common.{◌≡◌, ◌==◌, ◌-◌, ◌<◌, ◌^◌, ℕ, ℤ, zero, suc, pos, negsuc}
-use Rattle.std.proofs.Common.{List, drop}
+use Rattle.std.proofs.Common.{◌≡◌, ◌==◌, ◌-◌, ◌<◌, ◌^◌, ℕ, ℤ, zero, suc, pos, negsuc, List, drop}
 use Rattle.std.proofs.Common.{get_or, length, Bool, true, false, nat_lt, if◌then◌else◌, Option}
-use Rattle.std.proofs.Common.{Some}
-use Rattle.std.proofs.Common.{None, option_and_then, codes, refl, sym, ap, subst, ◌∙◌, arith, w32}
-use Rattle.std.proofs.Common.{◌-ℤ◌, to_z, of_z}
+use Rattle.std.proofs.Common.{Some, None, option_and_then, codes, refl, sym, ap, subst, ◌∙◌, arith}
+use Rattle.std.proofs.Common.{w32, ◌-ℤ◌, to_z, of_z}
 use Rattle.std.proofs.lemmas.Bool.{and_parts}
 use Rattle.std.proofs.lemmas.Bool.Decides.{nat_tests}
 use Rattle.std.proofs.lemmas.Int.{ints, to_z_pos, to_z-of_z}

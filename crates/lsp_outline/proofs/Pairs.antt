@@ -10,8 +10,7 @@ use Rattle.std.specs.Int.{w64, to_le_bytes, from_le_bytes}
 use Rattle.std.specs.List.{list_all}
 use Rattle.json.specs.Token as token_of
 use Rattle.json.specs.Text.{content}
-use Rattle.json.specs.Lex.{lex, between, token, colon}
-use Rattle.json.specs.Lex.{punctuate}
+use Rattle.json.specs.Lex.{lex, between, token, colon, punctuate}
 use Rattle.json.specs.Json.{read_key}
 use Rattle.lsp_outline.proofs.Lexing.{key_first}
 use Rattle.serde_json.specs.Data.{Data, null, boolean, number, string, array, object}
@@ -20,8 +19,7 @@ use Rattle.serde_json.proofs.Views.{get_member-put, get_member-put_other}
 use Rattle.lsp_rpc.specs.Params.{if_given, position_at, span_at}
 use Rattle.lsp_rpc.specs.Shape.{as_integer, unless_null}
 use Rattle.lsp_types.specs.declared.position.Span.{Span}
-use Rattle.lsp_outline.proofs.Walking.{object_value, no_members_yet, member_turn, last_member}
-use Rattle.lsp_outline.proofs.Walking.{byte}
+use Rattle.lsp_outline.proofs.Walking.{object_value, no_members_yet, member_turn, last_member, byte}
 use Rattle.lsp_outline.specs.Places.{KeepsBoth, KeepsPosition, KeepsRange}
 use Rattle.lsp_outline.specs.Walk.{IsKey, IsValue, Stand, line_key, character_key}
 use Rattle.lsp_outline.specs.Walk.{start_key, end_key}

@@ -11,8 +11,7 @@ use Rattle.json.proofs.Grammar.{value-begin_array, value-begin_object, items_end
 use Rattle.json.proofs.Grammar.{items_more, members_end, members_more}
 use Rattle.serde_json.specs.Data.{Data, array, object, Items, no_items, item, Members}
 use Rattle.serde_json.specs.Data.{no_members, put}
-use Rattle.serde_json.specs.Read.{of_json, of_items, of_members, converted, max_depth}
-use Rattle.serde_json.specs.Read.{read}
+use Rattle.serde_json.specs.Read.{of_json, of_items, of_members, converted, max_depth, read}
 
 pub some_of : {A : Type 0} (o : Option A) → is_some o ≡ true → (a : A) × (o ≡ Some a)
 some_of None h = absurd (cc)

@@ -1,6 +1,5 @@
 -- Values, items and members between two places of a text.
-use Rattle.std.proofs.Common.{◌≡◌, ℤ, ℕ, suc, ◌+◌, ◌-◌, ◌<◌, ◌≤◌, ◌==◌, ◌||◌, Bool, true, false}
-use Rattle.std.proofs.Common.{cond}
+use Rattle.std.proofs.Common.{◌≡◌, ℕ, suc, ◌+◌, ◌-◌, ◌<◌, ◌≤◌, ◌==◌, ◌||◌, Bool, true, false, cond}
 use Rattle.std.proofs.Common.{List, [], ◌∷◌, ◌++◌, length, take, drop, get_or, Option, Some, None}
 use Rattle.std.proofs.Common.{option_map, add-zero, lt_of_not-le, refl, sym, ap, ap₂, subst, ◌∙◌}
 use Rattle.std.proofs.Common.{arith}
@@ -29,7 +28,6 @@ use Rattle.serde_json.specs.Read.{of_json, of_items, of_members, converted, numb
 use Rattle.serde_json.specs.Read.{read}
 use Rattle.lsp_outline.specs.declared.walk.Kind.TheVariants as kinds
 use Rattle.lsp_outline.specs.Walk.{kind_at, tokens_from, part, IsText, IsNumeral, IsNatural}
-use Rattle.lsp_outline.specs.Walk.{IsInteger}
 use Rattle.lsp_outline.specs.Walk.{IsLiteral, IsValue, AreItems, AreMembers, SomeItems, IsKey}
 use Rattle.lsp_outline.proofs.Lexing.{lex_operator, lex_quote, key_first, string_first}
 use Rattle.lsp_outline.proofs.Lexing.{object_first, array_first, object_last, array_last}
@@ -204,12 +202,6 @@ pub numeral_value : (d : List ℕ) (from end n : ℕ) → IsNatural d from end n
     → IsValue depth d from end (tree.number (tree.unsigned n))
 numeral_value d from end n is depth =
     natural_value depth d from end (tree.unsigned n) is.numeral is.value
-    (numeral_kind d from end is.numeral)
-
-pub integer_value : (d : List ℕ) (from end : ℕ) (z : ℤ) (is : IsInteger d from end z) (depth : ℕ)
-    → IsValue depth d from end (tree.number is.read)
-integer_value d from end z is depth =
-    natural_value depth d from end is.read is.numeral is.value
     (numeral_kind d from end is.numeral)
 
 named : (d : List ℕ) (from : ℕ) (name : List ℕ) → starts_with nat_eq (drop from d) name ≡ true

@@ -53,8 +53,7 @@ call_in method (Some id) = option_map (λ own. request own method None) id
 abbrev pub response_in : Option Ident → Bool → Option ℤ → Option Message
 response_in id true None = Some (response id (result null))
 response_in id false (Some code) = Some (response id (error code))
-response_in id true (Some code) = None
-response_in id false None = None
+response_in _ _ _ = None
 
 -- the message has these params; null stands for none
 abbrev pub HasParams : Message → Option Data → Type 0
@@ -85,7 +84,5 @@ pub record SaysSo (results : Results) (side : Side) (ms : Members) (left : Messa
 
 -- whether the message has a result, whose value is left out of its outline
 abbrev pub lacks_result : Message → Bool
-lacks_result (request id method params) = false
-lacks_result (notification method params) = false
 lacks_result (response id (result value)) = true
-lacks_result (response id (error code)) = false
+lacks_result _ = false

@@ -51,15 +51,7 @@ act_in methods.DidChange told =
     option_and_then (λ d. all_three did_change d.uri d.version told.changes) told.document
 act_in methods.DidClose told = option_and_then (λ d. option_map did_close d.uri) told.document
 act_in methods.DidSave told = option_and_then (λ d. both did_save d.uri told.text) told.document
-act_in methods.Initialize told = None
-act_in methods.Initialized told = None
-act_in methods.Shutdown told = None
-act_in methods.Exit told = None
-act_in methods.Cancel told = None
-act_in methods.Progress told = None
-act_in methods.Register told = None
-act_in methods.Early told = None
-act_in methods.Other told = None
+act_in _ told = None
 
 -- what the params mean by the method by which they were read, if they were
 abbrev pub meant_by : Option Told → Option Data → Option Act

@@ -1,5 +1,5 @@
 -- What lies between two places of a JSON text.
-use Rattle.std.specs.Prelude.{◌≡◌, ℕ, ℤ, ◌+◌, ◌-◌, ◌<◌, ◌≤◌, ◌==◌, ◌||◌, List, length, take, drop}
+use Rattle.std.specs.Prelude.{◌≡◌, ℕ, ◌+◌, ◌-◌, ◌<◌, ◌≤◌, ◌==◌, ◌||◌, List, length, take, drop}
 use Rattle.std.specs.Prelude.{get_or, Bool, true, false, not, ◌&&◌, cond, nat_lt, Some, is_some, nat_eq}
 use Rattle.std.specs.Prelude.{[], ◌∷◌, ◌++◌}
 use Rattle.std.specs.Char.{is_ascii_digit}
@@ -11,21 +11,18 @@ use Rattle.json.specs.Word.{ends_word, is_operator, is_space}
 use Rattle.json.specs.Print.{IsNumber}
 use Rattle.json.specs.Lex.{lex, between, in_string, Place, fresh, after_value, may_begin, punctuate}
 use Rattle.json.specs.Json.{value, items, members, parse_map, read_key}
-use Rattle.serde_json.specs.Data.{Num, unsigned, Data, null, boolean, number, string, array, object}
+use Rattle.serde_json.specs.Data.{unsigned, Data, null, number, array, object}
 use Rattle.serde_json.specs.Data.{Items, Members, no_members}
 use Rattle.serde_json.specs.Read.{of_json, of_items, of_members, converted, number_of}
-use Rattle.lsp_rpc.specs.Shape.{as_integer}
 use Rattle.lsp_outline.specs.declared.walk.Kind.{Kind}
 use Rattle.lsp_outline.specs.declared.walk.Kind.TheVariants as kinds
 
 -- the kind of a value, as far as params are judged
 abbrev pub kind_of : Data → Kind
 kind_of null = kinds.Null
-kind_of (boolean b) = kinds.Plain
-kind_of (number n) = kinds.Plain
-kind_of (string s) = kinds.Plain
 kind_of (array ds) = kinds.Structure
 kind_of (object ms) = kinds.Structure
+kind_of _ = kinds.Plain
 
 -- the kind of a value that begins with this byte
 abbrev pub kind_at : ℕ → Kind
@@ -65,13 +62,6 @@ pub record IsNumeral (d : List ℕ) (from end : ℕ) : Type 0 where
 pub record IsNatural (d : List ℕ) (from end n : ℕ) : Type 0 where
   pub numeral : IsNumeral d from end
   pub value : number_of (part d from end) ≡ Some (unsigned n)
-
--- an integer of 32 bits, of this value
-pub record IsInteger (d : List ℕ) (from end : ℕ) (z : ℤ) : Type 0 where
-  pub numeral : IsNumeral d from end
-  pub read : Num
-  pub value : number_of (part d from end) ≡ Some read
-  pub small : as_integer (number read) ≡ Some z
 
 -- at most nine digits, none or more, that write this
 pub record AreFewDigits (d : List ℕ) (from end n : ℕ) : Type 0 where
@@ -168,10 +158,8 @@ is_fault x next after =
 
 -- the same of each byte of a block, with the blocks that begin one and two bytes later
 abbrev pub fault_lanes : List ℕ → List ℕ → List ℕ → List Bool
-fault_lanes [] ys zs = []
-fault_lanes (x ∷ xs) [] zs = []
-fault_lanes (x ∷ xs) (y ∷ ys) [] = []
 fault_lanes (x ∷ xs) (y ∷ ys) (z ∷ zs) = is_fault x y z ∷ fault_lanes xs ys zs
+fault_lanes _ _ _ = []
 
 -- no number begins there with a zero before more digits, and no comma stands there
 pub record NumberMayBegin (d : List ℕ) (at : ℕ) : Type 0 where

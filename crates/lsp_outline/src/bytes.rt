@@ -1,6 +1,5 @@
 //! The bytes of a JSON text, and what comes between its lexemes (RFC 8259, section 2).
-ghost use Rattle.std.specs.Prelude.{◌≡◌, ◌+◌, ◌≤◌, ◌||◌, length, drop, get_or, false, true, IsTrue};
-ghost use Rattle.std.specs.List.{prefix_len};
+ghost use Rattle.std.specs.Prelude.{◌≡◌, ◌≤◌, ◌||◌, length, drop, get_or, false, true, IsTrue};
 ghost use Rattle.json.specs.Word.{is_operator, is_space};
 ghost use Rattle.json.specs.Lex.{lex, between};
 
@@ -27,20 +26,6 @@ pub(crate) fn is_delimiter(byte: u8) -> bool
     (byte == b',') | (byte == b']') | (byte == b'}') | is_space(byte)
 }
 
-/// Where the space ends that stands there.
-#[inline(always)]
-fn after_spaces(bytes: &[u8], from: usize) -> usize
-    requires { from ≤ length bytes.now }
-    ensures value { result ≡ from + prefix_len is_space (drop from bytes.now) }
-    ensures within { result ≤ length bytes.now }
-{
-    let mut at = from;
-    'spaces: while at < bytes.len() && is_space(bytes[at]) {
-        at += 1;
-    }
-    at
-}
-
 /// The first place from there on where no space stands.
 #[inline(always)]
 pub(crate) fn spaces_end(bytes: &[u8], from: usize) -> usize
@@ -50,5 +35,9 @@ pub(crate) fn spaces_end(bytes: &[u8], from: usize) -> usize
     ensures forward { from ≤ result }
     ensures within { result ≤ length bytes.now }
 {
-    after_spaces(bytes, from)
+    let mut at = from;
+    'spaces: while at < bytes.len() && is_space(bytes[at]) {
+        at += 1;
+    }
+    at
 }

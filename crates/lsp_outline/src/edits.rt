@@ -9,7 +9,7 @@ ghost use Rattle.lsp_rpc.specs.View.{change_view, changes_view};
 ghost use Rattle.lsp_outline.specs.Walk.{IsValue, AreItems};
 
 use crate::bytes::{byte_at, spaces_end};
-use crate::members::{Gathered, integer_at, object_at, object_into, skipped, uinteger_at};
+use crate::members::{Gathered, integer_at, keep, object_at, object_into, skipped, uinteger_at};
 use crate::numbers::digit_at;
 use crate::positions::range_at;
 use crate::walk::{literal_end, string_copy};
@@ -45,16 +45,8 @@ impl Gathered for PositionParts {
         depth: usize,
     ) -> Option<usize> {
         match name {
-            "line" => {
-                let (line, end) = uinteger_at(text, from)?;
-                self.line = Some(line);
-                Some(end)
-            }
-            "character" => {
-                let (column, end) = uinteger_at(text, from)?;
-                self.column = Some(column);
-                Some(end)
-            }
+            "line" => keep!(self.line = Some(uinteger_at(text, from))),
+            "character" => keep!(self.column = Some(uinteger_at(text, from))),
             _ => skipped(text, from, depth),
         }
     }
@@ -104,16 +96,8 @@ impl Gathered for SpanParts {
         depth: usize,
     ) -> Option<usize> {
         match name {
-            "start" => {
-                let (first, end) = position_at(alloc, text, from, depth)?;
-                self.first = Some(first);
-                Some(end)
-            }
-            "end" => {
-                let (second, end) = position_at(alloc, text, from, depth)?;
-                self.second = Some(second);
-                Some(end)
-            }
+            "start" => keep!(self.first = Some(position_at(alloc, text, from, depth))),
+            "end" => keep!(self.second = Some(position_at(alloc, text, from, depth))),
             _ => skipped(text, from, depth),
         }
     }
@@ -256,21 +240,11 @@ impl Gathered for ChangeParts {
         depth: usize,
     ) -> Option<usize> {
         match name {
-            "range" => {
-                let (span, end) = span_unless_null_at(alloc, text, from, depth, &mut self.tries)?;
-                self.span = span;
-                Some(end)
-            }
-            "text" => {
-                let (copy, end) = string_copy(alloc, text, from)?;
-                self.text = Some(copy);
-                Some(end)
-            }
-            "rangeLength" => {
-                let (range_length, end) = integer_unless_null_at(text, from)?;
-                self.range_length = range_length;
-                Some(end)
-            }
+            "range" => keep!(
+                self.span = span_unless_null_at(alloc, text, from, depth, &mut self.tries)
+            ),
+            "text" => keep!(self.text = Some(string_copy(alloc, text, from))),
+            "rangeLength" => keep!(self.range_length = integer_unless_null_at(text, from)),
             _ => skipped(text, from, depth),
         }
     }

@@ -40,6 +40,23 @@ pub(crate) trait Gathered: Drop {
             × ((ms : Members) → gathers ms self.old → gathers (put name.now d ms) self.new)) };
 }
 
+/// Keeps what is read of a member in its field, and gives where its value ends. `None` where it is
+/// not as wanted.
+macro_rules! keep {
+    ($parts:ident.$field:ident = Some($read:expr)) => {{
+        let (value, end) = $read?;
+        $parts.$field = Some(value);
+        Some(end)
+    }};
+    ($parts:ident.$field:ident = $read:expr) => {{
+        let (value, end) = $read?;
+        $parts.$field = value;
+        Some(end)
+    }};
+}
+
+pub(crate) use keep;
+
 /// Gathers the members of the object whose brace is just before that place, and gives its end.
 #[inline(always)]
 fn rest_of_object<T: Gathered>(
@@ -175,21 +192,10 @@ pub(crate) fn integer_at(text: &str, from: usize) -> Option<(i32, usize)>
         × (as_integer d ≡ Some r.0)) }
 {
     if byte_at(text.as_bytes(), from) == b'-' {
-        return below_zero_at(text, from);
+        return negative_at(text.as_bytes(), from);
     }
     let (n, end) = uinteger_at(text, from)?;
     Some((n as i32, end))
-}
-
-/// The integer below zero that begins there, and where it ends.
-#[inline(never)]
-fn below_zero_at(text: &str, from: usize) -> Option<(i32, usize)>
-    requires { from ≤ length text.now }
-    ensures { IfSome result (λ r. (d : Data) × ((depth : ℕ) → IsValue depth text.now from r.1 d)
-        × (as_integer d ≡ Some r.0)) }
-{
-    let (n, end) = negative_at(text.as_bytes(), from)?;
-    Some((n, end))
 }
 
 /// The id that begins there, a string or an integer of 32 bits, and where it ends.

@@ -13,7 +13,9 @@ ghost use Rattle.lsp_rpc.specs.Shape.{as_integer, holds_of, is_string, member};
 ghost use Rattle.lsp_rpc.specs.View.{message_view};
 
 use crate::bytes::{byte_at, spaces_end};
-use crate::members::{Gathered, given_text, id_at, integer_at, object_at, object_into, skipped};
+use crate::members::{
+    Gathered, given_text, id_at, integer_at, keep, object_at, object_into, skipped,
+};
 use crate::params::{Told, params_at};
 use crate::walk::{MAX_DEPTH, literal_end, string_copy, string_end};
 use lsp_rpc::{Answer, Id, Message, Method, notification_method, request_method};
@@ -90,11 +92,7 @@ impl Gathered for ErrorParts {
         depth: usize,
     ) -> Option<usize> {
         match name {
-            "code" => {
-                let (code, end) = integer_at(text, from)?;
-                self.code = Some(code);
-                Some(end)
-            }
+            "code" => keep!(self.code = Some(integer_at(text, from))),
             "message" => {
                 let end = string_passed(text, from, depth)?;
                 self.has_message = true;
@@ -174,32 +172,18 @@ impl Gathered for MessageParts {
                 self.has_version = true;
                 Some(end)
             }
-            "method" => {
-                let (method, end) = string_copy(alloc, text, from)?;
-                self.method = Some(method);
-                Some(end)
-            }
-            "id" => {
-                let (id, end) = id_or_null_at(alloc, text, from)?;
-                self.id = Some(id);
-                Some(end)
-            }
+            "method" => keep!(self.method = Some(string_copy(alloc, text, from))),
+            "id" => keep!(self.id = Some(id_or_null_at(alloc, text, from))),
             "params" => {
                 let method = reads_by(self.reads, self.method.as_ref(), self.id.is_some());
-                let (told, end) = params_at(alloc, method, text, from, depth)?;
-                self.told = told;
-                Some(end)
+                keep!(self.told = params_at(alloc, method, text, from, depth))
             }
             "result" => {
                 let end = skipped(text, from, depth)?;
                 self.has_result = true;
                 Some(end)
             }
-            "error" => {
-                let (code, end) = error_at(alloc, text, from, depth)?;
-                self.error = Some(code);
-                Some(end)
-            }
+            "error" => keep!(self.error = Some(error_at(alloc, text, from, depth))),
             _ => skipped(text, from, depth),
         }
     }

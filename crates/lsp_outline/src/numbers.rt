@@ -1,14 +1,13 @@
 //! The numbers that numerals of JSON write, as `serde_json` reads them.
-ghost use Rattle.std.specs.Prelude.{◌≡◌, ◌⊎◌, ◌+◌, ◌<◌, ◌≤◌, ◌==◌, drop, get_or, length, not};
+ghost use Rattle.std.specs.Prelude.{◌≡◌, ◌⊎◌, ℕ, ◌+◌, ◌<◌, ◌≤◌, ◌==◌, drop, get_or, length, not};
 ghost use Rattle.std.specs.Prelude.{◌^◌, slice_index, Some, true, false, IsTrue, IfSome, is_some};
 ghost use Rattle.std.specs.Char.{is_ascii_digit};
 ghost use Rattle.std.specs.List.{prefix_len};
 ghost use Rattle.json.specs.Run.{is_no_digit};
-ghost use Rattle.serde_json.specs.Data.{Num, number, unsigned};
+ghost use Rattle.serde_json.specs.Data.{Data, Num, number, unsigned};
 ghost use Rattle.serde_json.specs.Read.{number_of, number_from};
 ghost use Rattle.lsp_rpc.specs.Shape.{as_integer};
-ghost use Rattle.lsp_outline.specs.Walk.{IsNumeral, IsNatural, IsInteger, AreFewDigits};
-ghost use Rattle.lsp_outline.specs.Walk.{MayEndNumber};
+ghost use Rattle.lsp_outline.specs.Walk.{IsNumeral, IsNatural, IsValue, AreFewDigits, MayEndNumber};
 
 use crate::bytes::{byte_at, is_delimiter};
 use crate::runs::{Run, near_run_end, run_end};
@@ -304,9 +303,11 @@ fn negative_of(digits: &[u8]) -> Option<i32>
 }
 
 /// The integer below zero and of 32 bits that begins there, and where it ends.
+#[inline(never)]
 pub(crate) fn negative_at(bytes: &[u8], from: usize) -> Option<(i32, usize)>
     requires { from ≤ length bytes.now }
-    ensures { IfSome result (λ r. IsInteger bytes.now from r.1 r.0) }
+    ensures { IfSome result (λ r. (d : Data) × ((depth : ℕ) → IsValue depth bytes.now from r.1 d)
+        × (as_integer d ≡ Some r.0)) }
 {
     let end = number_end(bytes, from)?;
     let n = negative_of(&bytes[from..end])?;

@@ -17,7 +17,7 @@ ghost use Rattle.lsp_types.specs.Fault.{Names};
 ghost use Rattle.lsp_types.specs.declared.rules.TheConstants as rules;
 
 use crate::message::{MessageParts, Reads, parts_of_text, put_message};
-use crate::params::{Told, act_by, put_by};
+use crate::params::{Told, put_by};
 use lsp_rpc::{Act, Answer, Message, Method, Spoken, method_of, read, take_act, words_of};
 use lsp_types::{Fault, Side};
 use std::alloc::Global;
@@ -49,21 +49,6 @@ fn has_result(message: &Message) -> bool
     }
 }
 
-/// What the text means as a call of this method, whose params are not read or came before it.
-fn act_otherwise(alloc: Global, method: Method, text: &str) -> Option<Act>
-    ensures { IfSome result (λ act. (ms : Members) → read_text text.now ≡ Some (object ms)
-        → Means ms method (act_view act)) }
-{
-    match method.plain_act() {
-        Some(act) => Some(act),
-        None => {
-            let mut again = MessageParts::reading(Reads::OfMethod(method));
-            parts_of_text(alloc, text, &mut again)?;
-            act_by(method, again.told.take())
-        }
-    }
-}
-
 /// Puts what the text means as a call of this method, whose params are not read or came before it,
 /// in the place of another act.
 #[inline(never)]
@@ -71,8 +56,13 @@ fn put_otherwise(alloc: Global, method: Method, text: &str, act: &mut Act) -> Op
     ensures { IfSome result (λ _. (ms : Members) → read_text text.now ≡ Some (object ms)
         → Means ms method (act_view act.new)) }
 {
-    *act = act_otherwise(alloc, method, text)?;
-    Some(())
+    if let Some(plain) = method.plain_act() {
+        *act = plain;
+        return Some(());
+    }
+    let mut again = MessageParts::reading(Reads::OfMethod(method));
+    parts_of_text(alloc, text, &mut again)?;
+    put_by(act, method, again.told.take())
 }
 
 /// Puts what the text means as a call of this method, of whose params this was told, in the place

@@ -17,7 +17,7 @@ ghost use Rattle.lsp_rpc.specs.View.{act_view, changes_view};
 use crate::bytes::byte_at;
 use crate::edits::changes_at;
 use crate::members::{
-    Gathered, id_at, object_at, object_into, skipped, text_unless_null_at, uinteger_at,
+    Gathered, id_at, keep, object_at, object_into, skipped, text_unless_null_at, uinteger_at,
 };
 use crate::walk::{kind_at, string_copy};
 use lsp_rpc::{Act, Id, Method};
@@ -56,21 +56,13 @@ impl Gathered for DocumentParts {
         depth: usize,
     ) -> Option<usize> {
         match name {
-            "uri" => {
-                let (uri, end) = string_copy(alloc, text, from)?;
-                self.uri = Some(uri);
-                Some(end)
-            }
+            "uri" => keep!(self.uri = Some(string_copy(alloc, text, from))),
             "version" => {
                 let (version, end) = uinteger_at(text, from)?;
                 self.version = Some(version as i32);
                 Some(end)
             }
-            "text" => {
-                let (copy, end) = string_copy(alloc, text, from)?;
-                self.text = Some(copy);
-                Some(end)
-            }
+            "text" => keep!(self.text = Some(string_copy(alloc, text, from))),
             _ => skipped(text, from, depth),
         }
     }
@@ -111,22 +103,9 @@ impl Gathered for ParamsParts {
         depth: usize,
     ) -> Option<usize> {
         match name {
-            "textDocument" => {
-                let mut document = DocumentParts::none();
-                let end = object_into(alloc, text, from, depth, &mut document)?;
-                self.document = Some(document);
-                Some(end)
-            }
-            "contentChanges" => {
-                let (changes, end) = changes_at(alloc, text, from, depth)?;
-                self.changes = Some(changes);
-                Some(end)
-            }
-            "text" => {
-                let (copy, end) = text_unless_null_at(alloc, text, from)?;
-                self.text = copy;
-                Some(end)
-            }
+            "textDocument" => keep!(self.document = Some(object_at(alloc, text, from, depth))),
+            "contentChanges" => keep!(self.changes = Some(changes_at(alloc, text, from, depth))),
+            "text" => keep!(self.text = text_unless_null_at(alloc, text, from)),
             _ => skipped(text, from, depth),
         }
     }
@@ -237,16 +216,8 @@ impl Gathered for IdParts {
         depth: usize,
     ) -> Option<usize> {
         match name {
-            "id" => {
-                let (id, end) = id_at(alloc, text, from)?;
-                self.id = Some(id);
-                Some(end)
-            }
-            "token" => {
-                let (token, end) = id_at(alloc, text, from)?;
-                self.token = Some(token);
-                Some(end)
-            }
+            "id" => keep!(self.id = Some(id_at(alloc, text, from))),
+            "token" => keep!(self.token = Some(id_at(alloc, text, from))),
             _ => skipped(text, from, depth),
         }
     }
@@ -313,21 +284,6 @@ fn params_end(text: &str, from: usize, depth: usize) -> Option<usize>
 pub(crate) struct Told {
     method: Method,
     act: Act,
-}
-
-/// What it means, where it was read by this method.
-#[inline(always)]
-pub(crate) fn act_by(method: Method, told: Option<Told>) -> Option<Act>
-    ensures { IfSome result (λ act. (params : Option Data)
-        → meant_by told params ≡ act_told told
-        → meaning method (option_and_then unless_null params) ≡ Some (act_view act)) }
-{
-    let told = told?;
-    if told.method == method {
-        Some(told.act)
-    } else {
-        None
-    }
 }
 
 /// Puts what it means in the place of another act, where it was read by this method.

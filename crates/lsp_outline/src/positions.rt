@@ -1,7 +1,6 @@
 //! Positions and ranges as most programs write them: two members, in either order, without space.
 ghost use Rattle.std.specs.Prelude.{◌≡◌, ◌∷◌, ◌+◌, ◌<◌, ◌≤◌, ℕ, length, take, drop, IsTrue, IfSome};
-ghost use Rattle.std.specs.Int.{to_le_bytes};
-ghost use Rattle.std.specs.Int.{w64};
+ghost use Rattle.std.specs.Int.{to_le_bytes, w64};
 ghost use Rattle.std.specs.Prelude.{pos, Some};
 ghost use Rattle.serde_json.specs.Data.{Data};
 ghost use Rattle.lsp_rpc.specs.Shape.{as_integer};

@@ -1,11 +1,10 @@
 //! Skipping JSON values of which at most the kind is needed.
-ghost use Rattle.std.specs.Prelude.{◌≡◌, ◌∷◌, ◌+◌, ◌<◌, ◌≤◌, ℕ, List, drop, length, get_or, false, IsTrue};
+ghost use Rattle.std.specs.Prelude.{◌≡◌, ◌∷◌, ◌+◌, ◌<◌, ◌≤◌, ℕ, List, drop, length, get_or, false};
 ghost use Rattle.std.specs.Prelude.{Some, IfSome, string_bytes};
 ghost use Rattle.json.specs.Lex.{lex, between, colon, begins_colon};
 ghost use Rattle.serde_json.specs.Data.{Data, string, Items, Members};
 ghost use Rattle.lsp_outline.specs.Walk.{kind_of, kind_at, IsLiteral, IsValue, AreItems};
-ghost use Rattle.lsp_outline.specs.Walk.{AreMembers};
-ghost use Rattle.lsp_outline.specs.Walk.{SomeItems, IsKey};
+ghost use Rattle.lsp_outline.specs.Walk.{AreMembers, SomeItems, IsKey};
 ghost use Rattle.lsp_rpc.specs.Shape.{is_structure_or_null};
 
 use crate::bytes::{byte_at, is_delimiter, spaces_end};

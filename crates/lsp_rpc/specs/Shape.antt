@@ -1,7 +1,7 @@
 -- The tests that the rules on a message are made of. An absent member is `None`.
 use Rattle.std.specs.Prelude.{ℕ, ℤ, pos, negsuc, ◌^◌, ◌-◌, ◌&&◌, ◌||◌, List, Bool, true, false, int_lt, int_le, if◌then◌else◌, Option, Some, None, is_some, unwrap_or, option_map, option_and_then}
 use Rattle.std.specs.Str.{bytes_eq}
-use Rattle.serde_json.specs.Data.{Data, null, boolean, number, string, array, object}
+use Rattle.serde_json.specs.Data.{Data, number, string}
 use Rattle.serde_json.specs.Find.{get, as_null, as_number, as_str, as_array, as_object, as_i64}
 use Rattle.lsp_rpc.specs.Ident as ident
 use Rattle.lsp_rpc.specs.Ident.{Ident}
@@ -38,12 +38,9 @@ as_integer d = option_and_then small (option_and_then as_i64 (as_number d))
 
 -- an integer or a string
 abbrev pub as_id : Data → Option Ident
-as_id null = None
-as_id (boolean b) = None
 as_id (number n) = option_map ident.number (as_integer (number n))
 as_id (string s) = Some (ident.text s)
-as_id (array ds) = None
-as_id (object ms) = None
+as_id _ = None
 
 -- the test holds of what is there
 abbrev pub holds_of : (Data → Bool) → Option Data → Bool

@@ -30,33 +30,6 @@ fn id_of(value: Value) -> Result<Id, BrokenRule>
     id_in(value).ok_or(BrokenRule(rules::BAD_ID))
 }
 
-/// The method, where there is one. Rule 204: it is not a string.
-fn method_of(method: Option<Value>) -> Result<Option<String>, BrokenRule>
-    ensures ok { IfOk result (λ name.
-        option_map view method ≡ option_map (λ s. string (string_bytes s)) name) }
-    ensures rule { IsLeast (least_broken
-        ((
-          rules.METHOD_NOT_STRING,
-          not (holds_unless_absent shape.is_string (option_map view method)),
-        ) ∷ [])) result }
-{
-    match method {
-        Some(Value::String(name)) => Ok(Some(name)),
-        Some(_) => Err(BrokenRule(rules::METHOD_NOT_STRING)),
-        None => Ok(None),
-    }
-}
-
-/// The id of a call, where there is one. Rule 205: it is neither an integer nor a string.
-fn call_id(id: Option<Value>) -> Result<Option<Id>, BrokenRule>
-    ensures ok { IfOk result (λ own.
-        option_map id_view own ≡ option_and_then as_id (option_map view id)) }
-    ensures rule { IsLeast (least_broken
-        ((rules.BAD_ID, not (holds_unless_absent is_id (option_map view id))) ∷ [])) result }
-{
-    id.map(id_of).transpose()
-}
-
 /// The id of a response, `None` where it is null. Rule 205: it is none of an integer, a string and
 /// null. Rule 207: there is no id.
 fn response_id(id: Option<Value>) -> Result<Option<Id>, BrokenRule>
@@ -138,7 +111,7 @@ fn call_of(method: String, id: Option<Value>, params: Option<Value>) -> Result<M
         )
         ∷ [])) result }
 {
-    let id = call_id(id)?;
+    let id = id.map(id_of).transpose()?;
     let params = params_of(params)?;
     Ok(match id {
         Some(id) => Message::Request { id, method, params },
@@ -194,10 +167,13 @@ fn versioned_method(
           not (holds_unless_absent shape.is_string (option_map view method)),
         ) ∷ [])) result }
 {
-    if has_version(version) {
-        method_of(method)
-    } else {
-        Err(BrokenRule(rules::BAD_JSONRPC_VERSION))
+    if !has_version(version) {
+        return Err(BrokenRule(rules::BAD_JSONRPC_VERSION));
+    }
+    match method {
+        Some(Value::String(name)) => Ok(Some(name)),
+        Some(_) => Err(BrokenRule(rules::METHOD_NOT_STRING)),
+        None => Ok(None),
     }
 }
 

@@ -11,6 +11,8 @@ ghost use Rattle.lsp_rpc.specs.Outline.{without_params};
 ghost use Rattle.lsp_rpc.specs.Shape.{as_id};
 ghost use Rattle.lsp_rpc.specs.View.{act_view, lent_view, message_view, texts_view};
 ghost use Rattle.lsp_types.specs.declared.rules.TheConstants as rules;
+ghost use Rattle.lsp_types.specs.declared.side.Side.{Side};
+ghost use Rattle.lsp_rpc.specs.declared.methods.Method.{Method};
 
 use crate::act::Act;
 use crate::documents::{did_change_of, did_close_of, did_open_of, did_save_of};
@@ -62,68 +64,17 @@ impl Method {
     }
 }
 
-/// The method of the editor's requests of this name.
-fn editor_request(name: &str) -> Method
-    ensures { (params : Option Data)
-        → spec.act_by spec.editor_requests name.now params ≡ meaning result params }
-{
-    match name {
-        "initialize" => Method::Initialize,
-        "shutdown" => Method::Shutdown,
-        _ => Method::Other,
-    }
-}
-
-/// The method of the editor's notifications of this name.
-fn editor_notification(name: &str) -> Method
-    ensures { (params : Option Data)
-        → spec.act_by spec.editor_notifications name.now params ≡ meaning result params }
-{
-    match name {
-        "textDocument/didChange" => Method::DidChange,
-        "textDocument/didOpen" => Method::DidOpen,
-        "textDocument/didClose" => Method::DidClose,
-        "textDocument/didSave" => Method::DidSave,
-        "$/cancelRequest" => Method::Cancel,
-        "initialized" => Method::Initialized,
-        "exit" => Method::Exit,
-        _ => Method::Other,
-    }
-}
-
-/// The method of the server's requests of this name.
-fn server_request(name: &str) -> Method
-    ensures { (params : Option Data)
-        → spec.act_by spec.server_requests name.now params ≡ meaning result params }
-{
-    match name {
-        "window/showMessageRequest" => Method::Early,
-        "client/registerCapability" => Method::Register,
-        _ => Method::Other,
-    }
-}
-
-/// The method of the server's notifications of this name.
-fn server_notification(name: &str) -> Method
-    ensures { (params : Option Data)
-        → spec.act_by spec.server_notifications name.now params ≡ meaning result params }
-{
-    match name {
-        "$/progress" => Method::Progress,
-        "$/cancelRequest" => Method::Cancel,
-        "window/showMessage" | "window/logMessage" | "telemetry/event" => Method::Early,
-        _ => Method::Other,
-    }
-}
-
 /// The method of the side's requests of this name.
 pub fn request_method(side: Side, name: &str) -> Method
     ensures { (params : Option Data)
         → spec.act_by (spec.requests side) name.now params ≡ meaning result params }
 {
-    match side {
-        Side::Editor => editor_request(name),
-        Side::Server => server_request(name),
+    match (side, name) {
+        (Side::Editor, "initialize") => Method::Initialize,
+        (Side::Editor, "shutdown") => Method::Shutdown,
+        (Side::Server, "window/showMessageRequest") => Method::Early,
+        (Side::Server, "client/registerCapability") => Method::Register,
+        _ => Method::Other,
     }
 }
 
@@ -132,9 +83,18 @@ pub fn notification_method(side: Side, name: &str) -> Method
     ensures { (params : Option Data)
         → spec.act_by (spec.notifications side) name.now params ≡ meaning result params }
 {
-    match side {
-        Side::Editor => editor_notification(name),
-        Side::Server => server_notification(name),
+    match (side, name) {
+        (Side::Editor, "textDocument/didChange") => Method::DidChange,
+        (Side::Editor, "textDocument/didOpen") => Method::DidOpen,
+        (Side::Editor, "textDocument/didClose") => Method::DidClose,
+        (Side::Editor, "textDocument/didSave") => Method::DidSave,
+        (Side::Editor, "initialized") => Method::Initialized,
+        (Side::Editor, "exit") => Method::Exit,
+        (Side::Server, "$/progress") => Method::Progress,
+        (Side::Server, "window/showMessage" | "window/logMessage" | "telemetry/event") =>
+            Method::Early,
+        (_, "$/cancelRequest") => Method::Cancel,
+        _ => Method::Other,
     }
 }
 
@@ -211,38 +171,33 @@ fn act_by(alloc: Global, method: Method, params: Option<Cow<'_, Value>>) -> Resu
     }
 }
 
-/// What a request of the side means by its params.
-fn request_act(
-    alloc: Global,
-    side: Side,
-    name: &str,
-    params: Option<Cow<'_, Value>>,
-) -> Result<Act, Fault>
-    ensures { Gives act_view rules.BAD_METHOD_PARAMS result
-        (spec.act_by (spec.requests side) name.now (option_map lent_view params.entry)) }
+/// The params of a message, lent.
+fn lent_params(message: &Message) -> Option<Cow<'_, Value>>
+    ensures { (side : Side) (method : Method) → IsMethod side (message_view message.now) method
+        → spec.act_at side (message_view message.now)
+        ≡ meaning method (option_map lent_view result) }
 {
-    act_by(alloc, request_method(side, name), params)
+    match message {
+        Message::Request { params, .. } => params.as_ref().map(Cow::Borrowed),
+        Message::Notification { params, .. } => params.as_ref().map(Cow::Borrowed),
+        Message::Response { .. } => None,
+    }
 }
 
-/// What a notification of the side means by its params.
-fn notification_act(
-    alloc: Global,
-    side: Side,
-    name: &str,
-    params: Option<Cow<'_, Value>>,
-) -> Result<Act, Fault>
-    ensures { Gives act_view rules.BAD_METHOD_PARAMS result
-        (spec.act_by (spec.notifications side) name.now (option_map lent_view params.entry)) }
+/// The params of a message, taken out of it.
+fn take_params(message: &mut Message) -> Option<Cow<'static, Value>>
+    ensures taken { (side : Side) (method : Method)
+        → IsMethod side (message_view message.old) method
+        → spec.act_at side (message_view message.old)
+        ≡ meaning method (option_map lent_view result) }
+    ensures left { message_view message.new ≡ without_params (message_view message.old) }
 {
-    act_by(alloc, notification_method(side, name), params)
-}
-
-/// Takes the params out of their message.
-fn take_params(params: &mut Option<Value>) -> Option<Cow<'static, Value>>
-    ensures taken { option_map lent_view result ≡ option_map view params.old }
-    ensures left { params.new ≡ None }
-{
-    match params.take() {
+    let params = match message {
+        Message::Request { params, .. } => params.take(),
+        Message::Notification { params, .. } => params.take(),
+        Message::Response { .. } => None,
+    };
+    match params {
         Some(params) => Some(Cow::Owned(params)),
         None => None,
     }
@@ -259,17 +214,7 @@ pub fn act_of(alloc: Global, message: &Message, side: Side) -> Result<Act, Fault
     ensures { Gives act_view
         rules.BAD_METHOD_PARAMS result (spec.act_at side (message_view message.now)) }
 {
-    match message {
-        Message::Request { method, params, .. } => {
-            let params = params.as_ref().map(Cow::Borrowed);
-            request_act(alloc, side, method.as_str(), params)
-        }
-        Message::Notification { method, params } => {
-            let params = params.as_ref().map(Cow::Borrowed);
-            notification_act(alloc, side, method.as_str(), params)
-        }
-        Message::Response { .. } => Ok(Act::Other),
-    }
+    act_by(alloc, method_of(side, message), lent_params(message))
 }
 
 /// What [`act_of`] gives, with the texts moved out of the message. The message loses its params,
@@ -279,15 +224,6 @@ pub fn take_act(alloc: Global, message: &mut Message, side: Side) -> Result<Act,
         rules.BAD_METHOD_PARAMS result (spec.act_at side (message_view message.old)) }
     ensures rest { message_view message.new ≡ without_params (message_view message.old) }
 {
-    match message {
-        Message::Request { method, params, .. } => {
-            let params = take_params(params);
-            request_act(alloc, side, method.as_str(), params)
-        }
-        Message::Notification { method, params } => {
-            let params = take_params(params);
-            notification_act(alloc, side, method.as_str(), params)
-        }
-        Message::Response { .. } => Ok(Act::Other),
-    }
+    let method = method_of(side, message);
+    act_by(alloc, method, take_params(message))
 }

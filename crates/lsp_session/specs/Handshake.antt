@@ -6,7 +6,7 @@ use Rattle.std.specs.List.{list_any}
 use Rattle.std.specs.Option.{option_or}
 use Rattle.serde_json.specs.Data.{Data}
 use Rattle.lsp_rpc.specs.Ident.{Ident}
-use Rattle.lsp_rpc.specs.Message.{Message, request, notification, response, result, error}
+use Rattle.lsp_rpc.specs.Message.{Message, response, result}
 use Rattle.lsp_rpc.specs.Act.{Act, Offer}
 use Rattle.lsp_types.specs.declared.side.Side.{Side}
 use Rattle.lsp_types.specs.declared.side.Side.TheVariants.{Editor}
@@ -21,9 +21,8 @@ use Rattle.lsp_session.specs.Sent.{offer_of, request_by, sends}
 -- ---- the open `initialize`
 
 abbrev pub initialize_at : Option (Ident × List ℕ) → Option Offer → Option Initialize
-initialize_at None offer = None
-initialize_at (Some asked) None = None
 initialize_at (Some asked) (Some offer) = Some (record { id = asked.0; offer = offer })
+initialize_at _ _ = None
 
 -- the `initialize` of the editor that the message is
 abbrev pub initialize_by : Sent → Option Initialize
@@ -46,10 +45,8 @@ pub record Settled : Type 0 where
   pub value : Data
 
 abbrev pub result_of : Message → Option Data
-result_of (request id method params) = None
-result_of (notification method params) = None
 result_of (response id (result value)) = Some value
-result_of (response id (error code)) = None
+result_of _ = None
 
 -- the offer of the `initialize` with this id
 abbrev pub offer_to : Option Ident → List Initialize → Option Offer
@@ -57,9 +54,8 @@ offer_to named [] = None
 offer_to named (i ∷ rest) = if names named i.id then Some i.offer else offer_to named rest
 
 abbrev pub settled_at : Option Offer → Option Data → Option Settled
-settled_at None value = None
-settled_at (Some offer) None = None
 settled_at (Some offer) (Some value) = Some (record { offer = offer; value = value })
+settled_at _ _ = None
 
 -- the message, where it answers one of these by a result
 abbrev pub settled_among : List Initialize → Side → Message → Option Settled

@@ -14,9 +14,8 @@ pub record Sent : Type 0 where
 
 abbrev pub same_side : Side → Side → Bool
 same_side Editor Editor = true
-same_side Editor Server = false
-same_side Server Editor = false
 same_side Server Server = true
+same_side _ _ = false
 
 abbrev pub other_side : Side → Side
 other_side Editor = Server
@@ -25,21 +24,18 @@ other_side Server = Editor
 -- ---- what a message is
 
 abbrev pub is_response : Message → Bool
-is_response (request id method params) = false
-is_response (notification method params) = false
 is_response (response id reply) = true
+is_response _ = false
 
 -- the id and the method of a request
 abbrev pub request_of : Message → Option (Ident × List ℕ)
 request_of (request id method params) = Some (id, method)
-request_of (notification method params) = None
-request_of (response id reply) = None
+request_of _ = None
 
 -- the id in a response
 abbrev pub response_id : Message → Option Ident
-response_id (request id method params) = None
-response_id (notification method params) = None
 response_id (response id reply) = id
+response_id _ = None
 
 -- ---- what it means
 
@@ -69,9 +65,8 @@ cancel_of _ = None
 
 -- the id in a notification that cancels
 abbrev pub notified_cancel : Message → Act → Option Ident
-notified_cancel (request id method params) act = None
 notified_cancel (notification method params) act = cancel_of act
-notified_cancel (response id reply) act = None
+notified_cancel _ act = None
 
 -- ---- what it does to the requests of a side
 

@@ -146,10 +146,14 @@ impl Session {
 
     /// The requests of this side that wait for their response.
     pub fn pending(&self, side: Side) -> &Pending
-        ensures { (before : List Sent) → Stands self.now before
+        ensures state { result.now ≡ by_state.open_of side self.now }
+        ensures open { (before : List Sent) → Stands self.now before
             → result.now ≡ open_requests side before }
     {
-        self.asked_by(side)
+        match side {
+            Side::Editor => &self.editor,
+            Side::Server => &self.server,
+        }
     }
 
     /// What is missing if the session ends here: 303 where a request of the editor, cancelled or
@@ -200,20 +204,23 @@ impl Session {
     /// What the open `initialize` offers that the message answers by a result, and that result;
     /// `None` for other messages.
     pub fn settled<'a>(&'a self, side: Side, message: &'a Message) -> Option<(&'a Offer, &'a Value)>
-        ensures { (before : List Sent) → Stands self.now before
+        ensures state { option_map (λ s. settled_view s.0.now s.1.now) result
+            ≡ handshake.settled_among self.now.initializes side (message_view message.now) }
+        ensures settled { (before : List Sent) → Stands self.now before
             → option_map (λ s. settled_view s.0.now s.1.now) result
             ≡ handshake.settled_among (handshake.open_initializes before) side
             (message_view message.now) }
     {
-        self.settled_by(side, message)
-    }
-
-    fn asked_by(&self, side: Side) -> &Pending
-        ensures { result.now ≡ by_state.open_of side self.now }
-    {
-        match side {
-            Side::Editor => &self.editor,
-            Side::Server => &self.server,
+        match (side, message, &self.initialize) {
+            (
+                Side::Server,
+                Message::Response {
+                    id: Some(id),
+                    answer: Answer::Result(value),
+                },
+                Some(initialize),
+            ) if same_id(id, &initialize.id) => Some((&initialize.offer, value)),
+            _ => None,
         }
     }
 
@@ -234,7 +241,7 @@ impl Session {
     {
         match message {
             Message::Request { id, .. } => {
-                if self.asked_by(side).contains(id) {
+                if self.pending(side).contains(id) {
                     Some(rules::ID_ALREADY_OPEN)
                 } else {
                     None
@@ -345,28 +352,9 @@ impl Session {
             (handshake.settled_among self.now.initializes side (message_view message.now)) other
             ≡ None) }
     {
-        match self.settled_by(side, message) {
+        match self.settled(side, message) {
             Some((offer, value)) => Ok(Some(agree(self.alloc, offer, value)?)),
             None => Ok(None),
-        }
-    }
-
-    /// The offer of the open `initialize`, and the result that answers it, where the message is
-    /// that.
-    fn settled_by<'a>(&'a self, side: Side, message: &'a Message) -> Option<(&'a Offer, &'a Value)>
-        ensures { option_map (λ s. settled_view s.0.now s.1.now) result
-            ≡ handshake.settled_among self.now.initializes side (message_view message.now) }
-    {
-        match (side, message, &self.initialize) {
-            (
-                Side::Server,
-                Message::Response {
-                    id: Some(id),
-                    answer: Answer::Result(value),
-                },
-                Some(initialize),
-            ) if same_id(id, &initialize.id) => Some((&initialize.offer, value)),
-            _ => None,
         }
     }
 

@@ -24,7 +24,7 @@ use Rattle.lsp_survey.specs.Notes.{sides_failed, sides_of, sides_read}
 use Rattle.lsp_survey.specs.declared.losses.Losses.{Losses}
 use Rattle.lsp_survey.specs.declared.notes.note.Notes as code_notes
 use Rattle.lsp_survey.specs.declared.notes.sides.Sides.{Sides}
-use Rattle.lsp_survey.proofs.Noting.{notes_stay, nothing_said}
+use Rattle.lsp_survey.proofs.Noting.{if_same, if_some, notes_stay, nothing_said}
 use Rattle.lsp_survey.proofs.PassedSteps.{fault_passes, kept_passes}
 use Rattle.lsp_survey.proofs.SidesSteps.{sides_pushed}
 use Rattle.lsp_verdict.specs.Event.{calls, Event, fault, message, sent_in, snapshot}
@@ -52,11 +52,7 @@ breaks_at : (o : Option ℕ) (malformed : Option Message) (answers : Bool)
     ≡ breaks_by o malformed answers
 breaks_at None malformed answers = refl
 breaks_at (Some rule) malformed answers =
-    by_test (breaks_handshake (asks malformed) rule || answers)
-  where
-    by_test : (b : Bool) → is_some (if b then Some rule else None) ≡ b
-    by_test true = refl
-    by_test false = refl
+    if_some (breaks_handshake (asks malformed) rule || answers) rule
 
 pub broken_pushed : (terms : Terms) (notes : List Noted) (n : Noted)
     → is_some (first_of (broken_by terms) (notes ++ n ∷ []))
@@ -71,19 +67,8 @@ broken_pushed terms notes n =
 
 unheard_at : (o : Option ℕ) (e : Event)
     → is_some (if is_initialized_by e then o else None) ≡ unheard_with o e
-unheard_at None e = by_test (is_initialized_by e)
-  where
-    no_rule : Option ℕ
-    no_rule = None
-
-    by_test : (b : Bool) → is_some (if b then no_rule else no_rule) ≡ false
-    by_test true = refl
-    by_test false = refl
-unheard_at (Some rule) e = by_test (is_initialized_by e)
-  where
-    by_test : (b : Bool) → is_some (if b then Some rule else None) ≡ b
-    by_test true = refl
-    by_test false = refl
+unheard_at None e = ap is_some (if_same (is_initialized_by e) None)
+unheard_at (Some rule) e = if_some (is_initialized_by e) rule
 
 pub unheard_pushed : (terms : Terms) (notes : List Noted) (n : Noted)
     → is_unheard terms (notes ++ n ∷ [])

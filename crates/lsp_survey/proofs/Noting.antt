@@ -23,6 +23,21 @@ use Rattle.lsp_survey.specs.Notes.{held_by, AreAfter, Leaves, PutsSpelling, Sets
 use Rattle.lsp_survey.specs.Notes.{lost_among, spelling_in}
 use Rattle.lsp_survey.specs.declared.notes.note.Spelling.{Spelling}
 
+-- ---- choices
+
+pub if_same : {A : Type 0} (b : Bool) (x : A) → (if b then x else x) ≡ x
+if_same true x = refl
+if_same false x = refl
+
+if_of : {A B : Type 0} (f : A → B) (b : Bool) (x y : A)
+    → f (if b then x else y) ≡ (if b then f x else f y)
+if_of f true x y = refl
+if_of f false x y = refl
+
+pub if_some : (b : Bool) (n : ℕ) → is_some (if b then Some n else None) ≡ b
+if_some true n = refl
+if_some false n = refl
+
 -- ---- a map with what it holds under one URI changed
 
 -- this is held under the URI, and under every other what was
@@ -55,13 +70,7 @@ module _ {D R : Type 0} (f : D → R) (w : Option D) (es new : List (String Glob
       → KeepsOthers string_eq (λ key. bytes_eq uri (string_bytes key)) es new
       → PutsUnder uri (option_map f w) (held_by f es) (held_by f new)
   puts uri at keeps u = ap (option_map f) (puts_by string_bytes w es new uri at keeps u)
-      ∙ by_test (bytes_eq uri u)
-    where
-      by_test : (b : Bool)
-          → option_map f (if b then w else lookup (λ key. bytes_eq u (string_bytes key)) es)
-          ≡ (if b then option_map f w else held_by f es u)
-      by_test true = refl
-      by_test false = refl
+      ∙ if_of (option_map f) (bytes_eq uri u) w (lookup (λ key. bytes_eq u (string_bytes key)) es)
 
   -- the same under a key that bears the URI
   pub puts-key : (key : String Global) (uri : List ℕ) → string_bytes key ≡ uri
@@ -78,12 +87,7 @@ module _ {D R : Type 0} (f : D → R) (w : Option D) (es new : List (String Glob
 pub some_put : {X : Type 0} (u uri : List ℕ) (o : Option X) (old : List (String Global × X))
     → is_some (if bytes_eq uri u then o else held_by (λ x. x) old u)
     ≡ (if bytes_eq uri u then is_some o else has_uri old u)
-some_put u uri o old = by_test (bytes_eq uri u)
-  where
-    by_test : (b : Bool) → is_some (if b then o else held_by (λ x. x) old u)
-        ≡ (if b then is_some o else has_uri old u)
-    by_test true = refl
-    by_test false = refl
+some_put u uri o old = if_of is_some (bytes_eq uri u) o (held_by (λ x. x) old u)
 
 -- ---- what is noted of a spelling
 
@@ -142,12 +146,8 @@ pub notes_stay : (call : Call) (notes : List (Vec ℕ Global × Spelling))
     → left_lost None false call ≡ None → AreAfter (Some call) notes notes
 notes_stay call notes stays uri =
     sym (ap (λ (o : Option Bool). unwrap_or (if bytes_eq uri (uri_of call) then o else None)
-    (is_noted notes uri)) stays ∙ by_test (bytes_eq uri (uri_of call)))
-  where
-    by_test : (own : Bool) → unwrap_or (if own then None else None) (is_noted notes uri)
-        ≡ is_noted notes uri
-    by_test true = refl
-    by_test false = refl
+    (is_noted notes uri)) stays
+    ∙ ap (λ o. unwrap_or o (is_noted notes uri)) (if_same (bytes_eq uri (uri_of call)) None))
 
 pub kept_leaves : (call : Call) → renews call ≡ false → left_lost None false call ≡ None
 kept_leaves call is = ap (λ (b : Bool). if b then Some false else None) is

@@ -47,22 +47,18 @@ asked lines = record { completeness = Ignored; listing = Every; lines = Some lin
 one_piece : (lines : Lines) (terms : Terms) (before : List Heard) (h : Heard) (rest : List Piece)
     → event_said (asked lines) terms before h ++ bytes_of rest
     ≡ bytes_of (cons_option (shown_at lines terms (notes_of before) h.note) rest)
-one_piece lines terms before h rest =
-    by_offence (offence_at terms (notes_of before) h.note)
-    (line_at lines (heard_events before) h.note.event) refl
+one_piece lines terms before h rest = by_offence (offence_at terms (notes_of before) h.note)
   where
-    by_offence : (o : Option Offence) (line : Option (List ℕ))
-        → line ≡ line_at lines (heard_events before) h.note.event
-        → said_by (asked lines) (heard_events before) h.note.event o ++ bytes_of rest
+    by_line : (line : Option (List ℕ))
+        → unwrap_or line [] ++ bytes_of rest ≡ bytes_of (cons_option (option_map kept_line line) rest)
+    by_line None = refl
+    by_line (Some line) = refl
+
+    by_offence : (o : Option Offence) → said_by (asked lines) before h o ++ bytes_of rest
         ≡ bytes_of (cons_option (option_or (option_map offending o)
         (option_map kept_line (line_at lines (heard_events before) h.note.event))) rest)
-    by_offence (Some o) line is = ap (λ w. w ++ bytes_of rest) (append-nil (offence_lines o))
-    by_offence None None is =
-        ap (λ (l : Option (List ℕ)). unwrap_or l [] ++ bytes_of rest) (sym is)
-        ∙ ap (λ (l : Option (List ℕ)). bytes_of (cons_option (option_map kept_line l) rest)) is
-    by_offence None (Some line) is =
-        ap (λ (l : Option (List ℕ)). unwrap_or l [] ++ bytes_of rest) (sym is)
-        ∙ ap (λ (l : Option (List ℕ)). bytes_of (cons_option (option_map kept_line l) rest)) is
+    by_offence (Some o) = ap (λ w. w ++ bytes_of rest) (append-nil (offence_lines o))
+    by_offence None = by_line (line_at lines (heard_events before) h.note.event)
 
 said_shown : (lines : Lines) (terms : Terms) (rests : Rests) (before hs : List Heard)
     (out : List ℕ) → SaysAll (survey_run (asked lines)) terms rests before hs out

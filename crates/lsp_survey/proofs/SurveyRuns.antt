@@ -129,7 +129,7 @@ module _ (completeness : Completeness) (listing : Listing) where
   one_listed terms before h rest = by_offence (offence_at terms (notes_of before) h.note)
     where
       by_offence : (o : Option Offence)
-          → said_by asked (heard_events before) h.note.event o ++ lines_of listing rest
+          → said_by asked before h o ++ lines_of listing rest
           ≡ lines_of listing (cons_option o rest)
       by_offence None = refl
       by_offence (Some o) = sym (lines_append listing (o ∷ []) rest)

@@ -3,7 +3,7 @@ use Rattle.std.proofs.Common.{ℕ, List, Option, refl, ◌≡◌, ◌<◌, ◌^�
 use Rattle.std.proofs.Common.{◌++◌, length, Some, None, sym, ap, subst, ◌∙◌, append-nil}
 use Rattle.std.proofs.Common.{append_assoc, arith, length-append}
 use Rattle.std.specs.List.{cons_option}
-use Rattle.std.specs.Prelude.{◌||◌, is_some, map, not, option_map, unwrap_or}
+use Rattle.std.specs.Prelude.{◌||◌, map, not, option_map, unwrap_or}
 use Rattle.std.proofs.Math.Bool.{or-true}
 use Rattle.std.proofs.lemmas.List.{length-map, map-append}
 use Rattle.lsp_frame.specs.Bounds.{Bounds}
@@ -34,7 +34,6 @@ use Rattle.lsp_survey.specs.Lost.{follows_at, may_lose}
 use Rattle.lsp_survey.specs.Reported.{IsTally, closing, count_line, is_every, lines_of}
 use Rattle.lsp_survey.specs.Reported.{verdict_lines}
 use Rattle.lsp_survey.specs.SessionEnds.{ends_held, ends_of}
-use Rattle.lsp_replay.specs.Lines.{shown_line}
 use Rattle.lsp_survey.specs.SurveyRun.{event_said, has_lines, said_by, survey_run}
 use Rattle.lsp_survey.specs.declared.offence_count.OffenceCount.{OffenceCount}
 use Rattle.lsp_survey.specs.declared.survey.Options.{Options}
@@ -81,21 +80,12 @@ module _ (terms : Terms) (before : List Heard) (h : Heard) where
       ++ cons_option (option_map (offence_by terms notes h.note) o) []) is
 
   -- what is said of it
-  said_on : (options : Options) (rule : Option ℕ) → rule_of terms before h ≡ rule
+  pub said_on : (options : Options) (rule : Option ℕ) → rule_of terms before h ≡ rule
       → said_by options before h (option_map (offence_by terms notes h.note) rule)
       ≡ event_said options terms before h
   said_on options rule is =
       ap (λ (o : Option ℕ). said_by options before h
       (option_map (offence_by terms notes h.note) o)) (sym is)
-
-  pub kept_said : (options : Options) → rule_of terms before h ≡ None
-      → shown_line options.lines before h ≡ event_said options terms before h
-  kept_said options is = said_on options None is
-
-  pub offence_said : (options : Options) (rule : ℕ) → rule_of terms before h ≡ Some rule
-      → lines_of options.listing (offence_by terms notes h.note rule ∷ [])
-      ≡ event_said options terms before h
-  offence_said options rule is = said_on options (Some rule) is
 
   -- the offence that is listed is the one that is defined
   pub offence_is : (rule : ℕ) (late : Bool) (o : Offence) → rule_of terms before h ≡ Some rule
@@ -112,17 +102,13 @@ module _ (terms : Terms) (before : List Heard) (h : Heard) where
       }
 
   -- its lines may want memory
-  wants_on : (options : Options) (rule : Option ℕ) → rule_of terms before h ≡ rule
+  pub wants_on : (options : Options) (rule : Option ℕ) → rule_of terms before h ≡ rule
       → has_lines options (option_map (offence_by terms notes h.note) rule) ≡ true
       → (survey_run options).wants terms before h ≡ true
   wants_on options rule is has =
       let noted = may_lose h.raw (rule_of terms before h) in
       ap (λ (o : Option ℕ). noted || has_lines options
       (option_map (offence_by terms notes h.note) o)) is ∙ ap (λ b. noted || b) has ∙ or-true noted
-
-  pub kept_wants : (options : Options) → rule_of terms before h ≡ None
-      → is_some options.lines ≡ true → (survey_run options).wants terms before h ≡ true
-  kept_wants options is has = wants_on options None is has
 
   pub offence_wants : (options : Options) (rule : ℕ) (o : Offence)
       → rule_of terms before h ≡ Some rule → o ≡ offence_by terms notes h.note rule

@@ -78,11 +78,7 @@ fn list(listed: &mut Vec<Offence>, counts: &Counts, rule: Option<u16>, by: Who) 
 fn rest_rule(inside: bool) -> Option<u16>
     ensures { result ≡ rest_rule inside }
 {
-    if inside {
-        Some(rules::STREAM_ENDS_INSIDE_FRAME)
-    } else {
-        None
-    }
+    inside.then_some(rules::STREAM_ENDS_INSIDE_FRAME)
 }
 
 /// What is missing from a session, by its rule, where it must be complete and no stream of it ends

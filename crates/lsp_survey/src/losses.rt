@@ -218,9 +218,9 @@ impl Losses {
         follows
     }
 
-    /// Whether an offence of this message by this rule follows from a message that was passed over,
-    /// since it answers a request or wants `initialized` before it, or from the broken frames of the
-    /// other side.
+    /// Whether an offence of this message by this rule follows from the broken frames of the other
+    /// side, or from a message that was passed over: it answers a request, or wants `initialized`
+    /// before it.
     fn message_follows(&self, side: Side, rule: u16, message: &Message) -> bool
         ensures { (terms : Terms) (before : List Noted) (event : Event)
             → AreLosses terms self.now before → IsMessageOf side (message_view message.now) event
@@ -248,13 +248,9 @@ impl Losses {
             → HoldsSent session.now terms before
             → result ≡ follows_of terms before rule on_lost late }
     {
-        if wants_handshake(rule) && self.is_handshake_lost(session) {
-            return true;
-        }
-        if wants_text(rule) && on_lost {
-            return true;
-        }
-        late
+        (wants_handshake(rule) && self.is_handshake_lost(session))
+            || (wants_text(rule) && on_lost)
+            || late
     }
 
     /// Whether an event of the handshake was refused, and no answer has settled it.

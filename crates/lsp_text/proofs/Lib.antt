@@ -46,6 +46,7 @@ pub mod PartLines
 pub mod Rests
 pub mod Patches
 pub mod SameEnds
+pub mod CutEnds
 pub mod WindowEnds
 pub mod WindowPlaces
 pub mod WindowPatches

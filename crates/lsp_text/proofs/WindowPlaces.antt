@@ -26,7 +26,8 @@ use Rattle.lsp_text.proofs.PartPlaces.{amount-units, place-front, offset-inside}
 use Rattle.lsp_text.proofs.PartPlaces.{no_offset-inside, units-inside}
 use Rattle.lsp_text.proofs.PartPlaces.{FallsIn}
 use Rattle.lsp_text.proofs.PlainTexts.{units_le_bytes}
-use Rattle.lsp_text.proofs.WindowEnds.{front_of, back_of, shown, boundary_behind}
+use Rattle.lsp_text.proofs.CutEnds.{boundary_behind}
+use Rattle.lsp_text.proofs.WindowEnds.{front_of, back_of, shown}
 
 -- ---- units
 

@@ -69,20 +69,8 @@ fn offset_from_nearer(line: &str, encoding: Encoding, column: u32, width: u32) -
         (IsOffset encoding line.now column) }
 {
     if column < width - column {
-        offset_past_blocks(line, encoding, column)
-    } else {
-        offset_from_end(line, encoding, column, width)
+        return offset_past_blocks(line, encoding, column);
     }
-}
-
-/// The same, counted from the end.
-fn offset_from_end(line: &str, encoding: Encoding, column: u32, width: u32) -> Option<usize>
-    requires wide { encoding ≢ Encoding.Utf8 }
-    requires width { width ≡ units encoding (chars line.now) }
-    requires within { column ≤ width }
-    ensures { MatchOption result (place_in_line encoding (chars line.now) column ≡ None)
-        (IsOffset encoding line.now column) }
-{
     let skipped = skip_to_end(line, encoding, column, width);
     let (_, rest) = line.split_at(skipped.bytes);
     let offset = offset_past_blocks(rest, encoding, skipped.left)?;

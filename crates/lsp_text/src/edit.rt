@@ -68,7 +68,7 @@ pub(crate) fn edit(
 }
 
 /// Lends the line that a position falls in, and counts its bytes.
-fn read_at<'a>(lines: &'a Lines, position: Position, steps: &mut Steps) -> LentLine<'a>
+pub(crate) fn read_at<'a>(lines: &'a Lines, position: Position, steps: &mut Steps) -> LentLine<'a>
     ensures value { IsLentLine lines.now (line_number (chars lines.now) position) result }
     ensures counted { steps.new
         ≡ raised steps.old (line_bytes (chars lines.now) (line_number (chars lines.now) position)) }
@@ -79,14 +79,14 @@ fn read_at<'a>(lines: &'a Lines, position: Position, steps: &mut Steps) -> LentL
 /// Where a position lies in a text: the bytes before its place, and how far the text goes, if it
 /// lies past the end.
 #[derive(Clone, Copy)]
-struct Spotted {
-    offset: usize,
+pub(crate) struct Spotted {
+    pub(crate) offset: usize,
     extent: Option<Extent>,
 }
 
 /// Where a position lies that falls in a lent line, or `None` where it lies inside a character.
 #[inline(always)]
-fn find_in(
+pub(crate) fn find_in(
     lines: &Lines,
     line: &LentLine<'_>,
     encoding: Encoding,

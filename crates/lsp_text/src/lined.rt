@@ -38,16 +38,13 @@ mod patch;
 mod tree;
 mod window;
 
-ghost use Rattle.std.specs.Prelude.{◌≡◌, ◌*◌, length, IfOk, OnOk, OnErr, IfErr};
-ghost use Rattle.std.specs.Prelude.{MatchOption, None, Ok};
+ghost use Rattle.std.specs.Prelude.{◌≡◌, ◌*◌, length, IfOk, OnOk, OnErr, IfErr, Ok};
 ghost use Rattle.std.specs.Str.{chars};
 ghost use Rattle.lsp_text.specs.Edits.{replaced, limited, IsFaultOf};
-ghost use Rattle.lsp_text.specs.Places.{place_of};
 ghost use Rattle.lsp_text.specs.Steps.{RisesWithin, touched};
-ghost use Rattle.lsp_text.specs.Offsets.{IsTextOffset};
 ghost use Rattle.lsp_text.specs.Findings.{noted, found_in};
 
-use crate::edit::edit;
+use crate::edit::{edit, find_in, read_at};
 use crate::findings::Findings;
 use crate::store::{Place, TextStore};
 use lines::{Lines, Steps};
@@ -96,10 +93,11 @@ impl TextStore for Lined {
     }
 
     fn resolve(&self, encoding: Encoding, position: Position) -> Result<Place, Fault> {
-        match offset_of(&self.lines, encoding, position) {
+        let line = read_at(&self.lines, position, &mut Steps::none());
+        match find_in(&self.lines, &line, encoding, position) {
             None => Err(Fault::Rule(rules::POSITION_INSIDE_CHARACTER)),
-            Some(offset) => Ok(Place {
-                chars: self.lines.chars_before(offset),
+            Some(spotted) => Ok(Place {
+                chars: self.lines.chars_before(spotted.offset),
             }),
         }
     }
@@ -207,17 +205,4 @@ impl TextStore for Lined {
             steps: Steps::none(),
         })
     }
-}
-
-/// The bytes before a position, or `None` where it lies inside a character.
-fn offset_of(lines: &Lines, encoding: Encoding, position: Position) -> Option<usize>
-    ensures { MatchOption result (place_of encoding (chars lines.now) position ≡ None)
-        (IsTextOffset encoding lines.now position) }
-{
-    let number = lines.number_of(position);
-    let line = lines.peek(number);
-    if number < position.line as u64 {
-        return Some(lines.byte_len() as usize);
-    }
-    line.offset_of(encoding, position.column)
 }

@@ -295,12 +295,7 @@ pub(crate) fn sums_in<T: Part>(parts: &[T]) -> Sums
     requires fits { length (joined (map T.text parts.now)) < 2 ^ 64 }
     ensures { result ≡ sums_of (joined (map T.text parts.now)) }
 {
-    let mut sums = Sums {
-        ends: 0,
-        bytes: 0,
-        chars: 0,
-        utf16: 0,
-    };
+    let mut sums = Sums::none();
     for part in parts {
         sums = sums.with(part.sums());
     }

@@ -21,3 +21,4 @@ pub mod OpenAtEnd
 pub mod Completing
 pub mod RunsJudged
 pub mod Offences
+pub mod Theorems

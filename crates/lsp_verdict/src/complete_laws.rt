@@ -1,4 +1,6 @@
 //! Laws about the verdict if the session must be complete.
+#![tactic(auto, using(crate::proofs::Theorems::complete_laws))]
+
 ghost use Rattle.lsp_verdict.specs.Laws.{CompleteMeansEnded, EndedMeansComplete, LackIsNamed};
 ghost use Rattle.lsp_verdict.specs.Laws.{CompleteMeansFault, OneCompleteVerdict};
 ghost use Rattle.lsp_verdict.specs.Laws.{SomeCompleteVerdict};

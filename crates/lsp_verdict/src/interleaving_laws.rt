@@ -1,5 +1,7 @@
 //! Laws of sessions in which each side sends the same messages in the same order, however the
 //! events of the two sides interleave. Each is the contract of a function that does nothing.
+#![tactic(auto, using(crate::proofs::Theorems::interleaving_laws))]
+
 ghost use Rattle.lsp_verdict.specs.Interleaving.{
   BothYesAgree,
   HandshakeInTurn,

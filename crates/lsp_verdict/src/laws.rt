@@ -1,4 +1,6 @@
 //! Laws about the definitions. Each is the contract of a function that does nothing.
+#![tactic(auto, using(crate::proofs::Theorems::laws))]
+
 ghost use Rattle.lsp_verdict.specs.Laws.{FormatOneKeepsReport, FormatOneKeepsVerdict};
 ghost use Rattle.lsp_verdict.specs.Laws.{BadLogMeansFault, KeptMeansYes, NoNamesTheFirst};
 ghost use Rattle.lsp_verdict.specs.Laws.{YesMeansKept, CutsDontMatter, CutsLeaveVerdict};

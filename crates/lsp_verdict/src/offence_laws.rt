@@ -1,5 +1,7 @@
 //! Laws about the list of offences of a session. Each is the contract of a function that does
 //! nothing.
+#![tactic(auto, using(crate::proofs::Theorems::offence_laws))]
+
 ghost use Rattle.lsp_verdict.specs.Laws.{AllAreKept, FirstListed, KeptAreOthers, KeptOffendNowhere};
 ghost use Rattle.lsp_verdict.specs.Laws.{ListedOffend, NothingListed, OneSurvey, SomeSurvey};
 ghost use Rattle.lsp_verdict.specs.Laws.{SurveyAgrees};

@@ -79,7 +79,7 @@ impl Conversation {
         self.since
     }
 
-    /// Takes over a message that is kept and says nothing of a document, the event of this place,
+    /// Adds a message that is kept and says nothing of a document, the event of this place,
     /// which was read from this content, and after which the session is in this phase, and the
     /// handshake is settled or is not.
     ///
@@ -115,7 +115,7 @@ impl Conversation {
     }
 }
 
-/// Takes over which request a message sends or answers, of the editor's and of the server's.
+/// Keeps which request a message sends or answers, of the editor's and of the server's.
 fn exchange(
     editor: &mut Exchange,
     server: &mut Exchange,

@@ -83,17 +83,18 @@ impl Mark {
 
     /// Marks what the event of this place does to the document, which it doesn't close.
     #[inline(never)]
-    pub(crate) fn step(&mut self, alloc: Global, place: EventPlace, step: Step) -> Result<()>
-        requires { is_closing step ≡ false }
-        ensures { OnOk result (mark_view self.new ≡ stepped place step (mark_view self.old)) }
+    pub(crate) fn step(&mut self, alloc: Global, place: &EventPlace, step: &Step) -> Result<()>
+        requires { is_closing step.now ≡ false }
+        ensures { OnOk result (mark_view self.new
+            ≡ stepped place.now step.now (mark_view self.old)) }
     {
-        match step {
-            Step::Reaches { version, .. } => self.reach(place, version),
+        match *step {
+            Step::Reaches { version, .. } => self.reach(*place, version),
             Step::Shows(version, Match::Equal) => {
-                self.compare(place, version);
+                self.compare(*place, version);
                 Ok(())
             }
-            Step::Shows(version, Match::Waits) => add(&mut self.waiting, alloc, version, place),
+            Step::Shows(version, Match::Waits) => add(&mut self.waiting, alloc, version, *place),
             Step::Shows(_, Match::Missed) => Ok(()),
             Step::Closes => Ok(()),
         }

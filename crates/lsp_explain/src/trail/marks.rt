@@ -84,11 +84,11 @@ impl Marks {
     /// # Errors
     /// `Memory` where memory was refused; nothing is then known of the marks.
     #[inline(always)]
-    pub(crate) fn keep(&mut self, place: EventPlace, uri: &str, step: Step) -> Result<()>
-        ensures { OnOk result (StepsOn uri.now place step self.old.map.entries
+    pub(crate) fn keep(&mut self, place: &EventPlace, uri: &str, step: &Step) -> Result<()>
+        ensures { OnOk result (StepsOn uri.now place.now step.now self.old.map.entries
             self.new.map.entries) }
     {
-        match step {
+        match *step {
             Step::Closes => {
                 close(&mut self.map, uri);
                 Ok(())
@@ -101,9 +101,9 @@ impl Marks {
 
     /// Marks the same of a step that doesn't close the document.
     #[inline(always)]
-    fn touch(&mut self, place: EventPlace, uri: &str, step: Step) -> Result<()>
-        requires { is_closing step ≡ false }
-        ensures { OnOk result (StepsOn uri.now place step self.old.map.entries
+    fn touch(&mut self, place: &EventPlace, uri: &str, step: &Step) -> Result<()>
+        requires { is_closing step.now ≡ false }
+        ensures { OnOk result (StepsOn uri.now place.now step.now self.old.map.entries
             self.new.map.entries) }
     {
         let Some(at) = find(&self.map, self.last, uri) else {
@@ -141,10 +141,10 @@ fn is_at(map: &MarkMap, at: usize, uri: &str) -> bool
 
 /// Marks what the event of this place does to the document there, which has this URI.
 #[inline(always)]
-fn touch_at(map: &mut MarkMap, at: usize, uri: &str, place: EventPlace, step: Step) -> Result<()>
+fn touch_at(map: &mut MarkMap, at: usize, uri: &str, place: &EventPlace, step: &Step) -> Result<()>
     requires here { IsAt map.old.entries uri.now at }
-    requires open { is_closing step ≡ false }
-    ensures { OnOk result (StepsOn uri.now place step map.old.entries map.new.entries) }
+    requires open { is_closing step.now ≡ false }
+    ensures { OnOk result (StepsOn uri.now place.now step.now map.old.entries map.new.entries) }
 {
     let alloc = *map.allocator();
     let mark = map.get_index_mut(at).unwrap();
@@ -152,10 +152,10 @@ fn touch_at(map: &mut MarkMap, at: usize, uri: &str, place: EventPlace, step: St
 }
 
 /// Marks the same of a document of which nothing is marked.
-fn touch_first(map: &mut MarkMap, uri: &str, place: EventPlace, step: Step) -> Result<()>
+fn touch_first(map: &mut MarkMap, uri: &str, place: &EventPlace, step: &Step) -> Result<()>
     requires none { marked_in map.old.entries uri.now ≡ unmarked }
-    requires open { is_closing step ≡ false }
-    ensures { OnOk result (StepsOn uri.now place step map.old.entries map.new.entries) }
+    requires open { is_closing step.now ≡ false }
+    ensures { OnOk result (StepsOn uri.now place.now step.now map.old.entries map.new.entries) }
 {
     let alloc = *map.allocator();
     let mut mark = Mark::new(alloc);

@@ -45,7 +45,7 @@ impl Notes {
         self.older_encoding.as_ref().map(|name| name.as_str())
     }
 
-    /// Takes over a message that is kept, the event of this place, before and after which the
+    /// Adds a message that is kept, the event of this place, before and after which the
     /// session is in these phases, and after which the handshake is settled or is not.
     ///
     /// # Errors
@@ -69,7 +69,7 @@ impl Notes {
         note_misuse(&mut self.misuses, place, side, message)
     }
 
-    /// Takes over what a message answers, after which the handshake is settled or is not.
+    /// Keeps what a message answers, after which the handshake is settled or is not.
     fn keep_answer(&mut self, message: &Message, done: bool) -> Result<()>
         ensures misuses { self.new.misuses ≡ self.old.misuses }
         ensures abrupt { self.new.abrupt_exit ≡ self.old.abrupt_exit }

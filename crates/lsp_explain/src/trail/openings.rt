@@ -119,15 +119,15 @@ impl Openings {
         others(alloc, self.changed.as_slice(), self.shown.as_slice())
     }
 
-    /// Takes over what a kept event, that of this place, does to the document of a URI.
+    /// Adds what a kept event, that of this place, does to the document of a URI.
     ///
     /// # Errors
     /// `Memory` where memory was refused; nothing is then known of what is held.
     #[inline(always)]
-    pub(crate) fn keep(&mut self, place: EventPlace, uri: &str, step: Step) -> Result<()>
-        ensures { OnOk result (OpensBy (kept_call uri.now place step) self.old self.new) }
+    pub(crate) fn keep(&mut self, place: &EventPlace, uri: &str, step: &Step) -> Result<()>
+        ensures { OnOk result (OpensBy (kept_call uri.now place.now step.now) self.old self.new) }
     {
-        match step {
+        match *step {
             Step::Reaches { opens: true, .. } => push(&mut self.opened, MOST_OPENINGS, uri, place),
             Step::Reaches { opens: false, .. } => add(&mut self.changed, uri),
             Step::Closes => push(&mut self.closed, MOST_CLOSINGS, uri, place),
@@ -167,12 +167,18 @@ fn last_in<'a>(held: &'a [DocumentEvent], uri: &str) -> Option<&'a DocumentEvent
 }
 
 /// Adds a message after the others, of which the last ones stay.
-fn push(held: &mut VecDeque<DocumentEvent>, most: usize, uri: &str, place: EventPlace) -> Result<()>
+fn push(
+    held: &mut VecDeque<DocumentEvent>,
+    most: usize,
+    uri: &str,
+    place: &EventPlace,
+) -> Result<()>
     requires { 0 < most }
-    ensures { OnOk result (Holds most (on_document uri.now place ∷ []) held.old.items
+    ensures { OnOk result (Holds most (on_document uri.now place.now ∷ []) held.old.items
         held.new.items) }
 {
     let uri = String::from_str(*held.allocator(), uri)?;
+    let place = *place;
     push_within(held, most, DocumentEvent { uri, place })
 }
 

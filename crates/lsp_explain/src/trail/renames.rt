@@ -64,7 +64,7 @@ impl Renames {
         self.renamed.as_ref()
     }
 
-    /// Takes over a message that is kept and says nothing of a document, read from this content.
+    /// Adds a message that is kept and says nothing of a document, read from this content.
     ///
     /// # Errors
     /// `Memory` where memory was refused.
@@ -84,10 +84,10 @@ impl Renames {
     /// # Errors
     /// `Memory` where memory was refused.
     #[inline(always)]
-    pub(crate) fn keep_call(&mut self, place: EventPlace, call: Call<'_>) -> Result<()>
+    pub(crate) fn keep_call(&mut self, place: &EventPlace, call: Call<'_>) -> Result<()>
         ensures moves { self.new.moves ≡ self.old.moves }
         ensures renamed { OnOk result (renamed_held self.new ≡ option_or (renamed_held self.old)
-            (spec.renamed_by place (moves_view self.old.moves.items) (call_view call.entry))) }
+            (spec.renamed_by place.now (moves_view self.old.moves.items) (call_view call.entry))) }
     {
         if self.moves.is_empty() {
             return Ok(());
@@ -97,10 +97,10 @@ impl Renames {
 
     /// The same where something is held about files.
     #[inline(never)]
-    fn find(&mut self, place: EventPlace, call: Call<'_>) -> Result<()>
+    fn find(&mut self, place: &EventPlace, call: Call<'_>) -> Result<()>
         ensures moves { self.new.moves ≡ self.old.moves }
         ensures renamed { OnOk result (renamed_held self.new ≡ option_or (renamed_held self.old)
-            (spec.renamed_by place (moves_view self.old.moves.items) (call_view call.entry))) }
+            (spec.renamed_by place.now (moves_view self.old.moves.items) (call_view call.entry))) }
     {
         if self.renamed.is_some() {
             return Ok(());
@@ -114,17 +114,18 @@ impl Renames {
 /// after these moves.
 fn renamed_by(
     moves: &VecDeque<Move>,
-    place: EventPlace,
+    place: &EventPlace,
     call: Call<'_>,
 ) -> Result<Option<DocumentEvent>>
     ensures { IfOk result (λ found. option_map on_view found
-        ≡ spec.renamed_by place (moves_view moves.now.items) (call_view call.entry)) }
+        ≡ spec.renamed_by place.now (moves_view moves.now.items) (call_view call.entry)) }
 {
     let uri = call.uri();
     if !is_edit(call) || !is_gone(moves, uri) {
         return Ok(None);
     }
     let uri = String::from_str(*moves.allocator(), uri)?;
+    let place = *place;
     Ok(Some(DocumentEvent { uri, place }))
 }
 

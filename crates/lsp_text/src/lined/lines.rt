@@ -99,12 +99,12 @@ impl Lines {
         ensures counted { steps.new ≡ raised steps.old (line_bytes (chars self.now) i) }
     {
         let line = self.peek(i);
-        steps.add(line.len());
+        steps.add(line.after - line.start);
         line
     }
 
     /// Lends a line and its end, uncounted.
-    pub(super) fn peek(&self, i: u64) -> LentLine<'_>
+    fn peek(&self, i: u64) -> LentLine<'_>
         requires { i < length (lines_of (chars self.now)) }
         ensures { IsLentLine self.now i result }
     {
@@ -240,14 +240,6 @@ pub(crate) struct LentLine<'a> {
 }
 
 impl<'a> LentLine<'a> {
-    /// The bytes of the line and its end.
-    pub(crate) fn len(&self) -> usize
-        requires { self.now.start ≤ self.now.after }
-        ensures { result ≡ self.now.after - self.now.start }
-    {
-        self.after - self.start
-    }
-
     /// The bytes of the text before a column of the line, or `None` where it lies inside a
     /// character.
     #[inline(always)]

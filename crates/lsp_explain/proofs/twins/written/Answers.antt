@@ -1,7 +1,6 @@
-use Rattle.std.specs.Prelude.{IfOk}
+use Rattle.std.specs.Prelude.{IfOk, ℤ}
 use Rattle.std.proofs.Common.{◌≡◌, Option, sym, subst, w32}
 use Rattle.std.proofs.lemmas.Int.{to_z-of_z}
-use Rattle.std.specs.Prelude.{ℤ}
 use mir.Val.{SFits}
 use Rattle.lsp_explain.proofs.Written.{written_err, written_ok}
 use Rattle.lsp_explain.proofs.twins.written.Goals as goal

@@ -9,7 +9,8 @@ returns-in-Ok c =
     let named = message_named c.args.content.now _ c.in-Ok.ensures.ok in
     subst
     (λ said. OnOk c.push_owned_event.result (string_bytes c.push_owned_event.new.lines
-    ≡ string_bytes c.args.lines.now ++ content_event c.args.event c.args.by c.args.number said))
+    ≡ string_bytes c.args.lines.now ++ content_event c.args.place.event c.args.place.who
+    c.args.place.number said))
     (sym named) c.push_owned_event.ensures
 
 pub returns-in-Err-Rule : goal.returns-in-Err-Rule
@@ -18,5 +19,6 @@ returns-in-Err-Rule c =
     let named = none_named c.args.content.now c.in-Err-Rule.field-0-0 refused in
     subst
     (λ said. OnOk c.push_bare_event.result (string_bytes c.push_bare_event.new.lines
-    ≡ string_bytes c.args.lines.now ++ content_event c.args.event c.args.by c.args.number said))
+    ≡ string_bytes c.args.lines.now ++ content_event c.args.place.event c.args.place.who
+    c.args.place.number said))
     (sym named) c.push_bare_event.ensures

@@ -1,6 +1,5 @@
-use Rattle.std.proofs.Common.{◌≡◌, ◌+◌, ◌-◌, ◌<◌, ◌++◌, length, take, drop, get_or, Some, sym}
-use Rattle.std.proofs.Common.{ℕ, string_bytes}
-use Rattle.std.proofs.Common.{subst, lt_of_not-le, arith}
+use Rattle.std.proofs.Common.{◌≡◌, ◌+◌, ◌-◌, ◌<◌, ◌++◌, length, take, drop, get_or, Some, sym, ℕ}
+use Rattle.std.proofs.Common.{string_bytes, subst, lt_of_not-le, arith}
 use Rattle.std.proofs.lemmas.List.{get_or_past}
 use Rattle.std.proofs.lemmas.Str.{IsUtf8-drop}
 use Rattle.std.specs.Char.{encode_utf8}

@@ -1,9 +1,6 @@
 use Rattle.std.proofs.Common.{◌∙◌, arith, map}
-use Rattle.lsp_text.proofs.PartSteps.{sums_of-nil, counted_at_most, sums_before_at_most, sums_next}
+use Rattle.lsp_text.proofs.PartSteps.{counted_at_most, sums_before_at_most, sums_next}
 use Rattle.lsp_text.proofs.part.sums_in.Goals as goal
-
-pub loop-part-init : goal.loop-part-init
-loop-part-init g c = sums_of-nil
 
 pub with-sums-requires-clause-these : goal.with-sums-requires-clause-these
 with-sums-requires-clause-these g c = sums_before_at_most (map g.T.Part.text c.args.parts.now) c.loop-part.part-index c.loop-part.sums c.requires.parts c.loop-part.invariant

@@ -1,9 +1,8 @@
-use Rattle.std.proofs.Common.{◌≡◌, [], ◌∷◌, List, ℕ, None, length, subst, sym}
-use Rattle.std.proofs.lemmas.List.{length-map}
+use Rattle.std.proofs.Common.{◌≡◌, [], ◌∷◌, List, None, subst, sym}
 use Rattle.lsp_text.specs.Changes.{edit_of, edits_of}
 use Rattle.lsp_text.specs.Edits.{Edit}
-use Rattle.lsp_docs.specs.Tried.{AreTried, IsMade}
-use Rattle.lsp_docs.proofs.Trying.{one_edit, tried_all, tried_none}
+use Rattle.lsp_docs.specs.Tried.{AreTried}
+use Rattle.lsp_docs.proofs.Trying.{one_edit, tried_none}
 use Rattle.lsp_docs.proofs.document.Document.change.Goals as goal
 
 -- a lone change, which is made in the held text itself
@@ -16,14 +15,3 @@ returns-in-Err-clause-tried g c = λ rule early.
     subst (λ (es : List Edit). AreTried c.args.terms.limit c.args.encoding t es None) (sym one)
     (tried_none c.args.terms.limit c.args.encoding t (edit_of edit) c.in-Err.fault
     c.in-Err.ensures.fault rule)
-
--- all are made, and a snapshot refutes the text
-pub returns-then-refutes-clause-tried : goal.returns-then-refutes-clause-tried
-returns-then-refutes-clause-tried g c = λ rule early.
-    let content = g.S.TextStore.content in
-    let t = content c.args.self.now.held.store in
-    let made = content c.in_ok-changed.changed in
-    let cs = edits_of c.args.changes.now in
-    let all : length cs ≡ length c.args.changes.now = length-map c.args.changes.now edit_of in
-    subst (λ (n : ℕ). IsMade c.args.terms.limit c.args.encoding t cs n made) all
-    (tried_all c.args.terms.limit c.args.encoding t made cs c.in_ok-changed.ensures.ok)

@@ -12,8 +12,8 @@ use Rattle.lsp_explain.proofs.trail.marks.touch_at.Goals as goal
 pub returns : goal.returns
 returns c =
     let uri = c.args.uri.now in
-    let p = c.args.place in
-    let step = c.args.step in
+    let p = c.args.place.now in
+    let step = c.args.step.now in
     let (key, was, at, own, there) = c.requires.here in
     let now = c.step.new.self in
     let old = c.args.map.now in

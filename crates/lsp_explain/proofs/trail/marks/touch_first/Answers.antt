@@ -7,8 +7,8 @@ use Rattle.lsp_explain.proofs.trail.marks.touch_first.Goals as goal
 pub returns : goal.returns
 returns c =
     let uri = c.args.uri.now in
-    let p = c.args.place in
-    let step = c.args.step in
+    let p = c.args.place.now in
+    let step = c.args.step.now in
     let mark = c.step.new.self in
     let old = c.args.map.now.entries in
     let new = c.insert.new.self.entries in

@@ -9,5 +9,5 @@ pub returns : goal.returns
 returns c = on_ok_weaker c.push_within.result (λ more ons are.
     held-push on_view c.args.most c.args.held.now.items c.push_within.new.held.items _ ons
     c.requires more are
-    ∙ ap (λ uri. last_ones c.args.most (ons ++ on_document uri c.args.place ∷ []))
+    ∙ ap (λ uri. last_ones c.args.most (ons ++ on_document uri c.args.place.now ∷ []))
     c.in_ok-uri.ensures.ok) c.push_within.ensures

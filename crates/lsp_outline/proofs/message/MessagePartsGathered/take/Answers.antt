@@ -1,162 +1,54 @@
-use Rattle.std.proofs.Common.{Some, codes, option_map, string_bytes, refl, sym, ap}
-use Rattle.std.specs.Prelude.{is_some}
+use Rattle.std.proofs.Common.{Some, codes, string_bytes, ap, arith}
 use Rattle.std.proofs.lemmas.Option.{IfSome_then}
 use Rattle.serde_json.specs.Data.{object, string}
-use Rattle.lsp_rpc.specs.Reading.{code_of}
-use Rattle.lsp_rpc.specs.Shape.{is_structure_or_null, holds_unless_absent}
-use Rattle.lsp_outline.specs.Outlined.{id_in}
-use Rattle.lsp_outline.specs.Told.{meant_by}
-use Rattle.lsp_outline.proofs.Editing.{last_of, stays, beside}
+use Rattle.serde_json.proofs.Views.{get_member-put}
+use Rattle.lsp_outline.proofs.Editing.{members}
 use Rattle.lsp_outline.proofs.Negatives.{code_passed}
 use Rattle.lsp_outline.proofs.message.MessagePartsGathered.take.Goals as goal
 
 pub returns-in_ok-end-in-jsonrpc : goal.returns-in_ok-end-in-jsonrpc
 returns-in_ok-end-in-jsonrpc c =
-    let k = c.args.name.now in
-    let d = string (codes "2.0") in
-    let is = c.in-jsonrpc.is in (
-      d,
-      c.in_ok-end-in-jsonrpc.ensures c.args.depth,
-      (λ ms h. record {
-        version = last_of (λ o. o) (codes "jsonrpc") k d ms _ is refl;
-        method = beside (λ o. o) (codes "method") (codes "jsonrpc") k d ms _ refl is h.method;
-        id = beside (option_map id_in) (codes "id") (codes "jsonrpc") k d ms _ refl is h.id;
-        params = beside (holds_unless_absent is_structure_or_null) (codes "params")
-            (codes "jsonrpc") k d ms _ refl is h.params;
-        told = beside (meant_by c.args.self.now.told) (codes "params") (codes "jsonrpc") k d ms _
-            refl is h.told;
-        result = beside is_some (codes "result") (codes "jsonrpc") k d ms _ refl is h.result;
-        error = beside (option_map code_of) (codes "error") (codes "jsonrpc") k d ms _ refl is
-            h.error;
-      }),
-    )
+    let version = string (codes "2.0") in
+    (version, c.in_ok-end-in-jsonrpc.ensures c.args.depth, λ ms h. grind (arith, members))
 
-pub returns-in_ok-method-in-method : goal.returns-in_ok-method-in-method
-returns-in_ok-method-in-method c =
-    let k = c.args.name.now in
-    let d = string (string_bytes c.in_ok-method-in-method.method) in
-    let is = c.in-method.is in (
-      d,
-      c.in_ok-method-in-method.ensures c.args.depth,
-      (λ ms h. record {
-        version = beside (λ o. o) (codes "jsonrpc") (codes "method") k d ms _ refl is h.version;
-        method = last_of (λ o. o) (codes "method") k d ms _ is refl;
-        id = beside (option_map id_in) (codes "id") (codes "method") k d ms _ refl is h.id;
-        params = beside (holds_unless_absent is_structure_or_null) (codes "params") (codes "method")
-            k d ms _ refl is h.params;
-        told = beside (meant_by c.args.self.now.told) (codes "params") (codes "method") k d ms _
-            refl is h.told;
-        result = beside is_some (codes "result") (codes "method") k d ms _ refl is h.result;
-        error = beside (option_map code_of) (codes "error") (codes "method") k d ms _ refl is
-            h.error;
-      }),
-    )
+pub returns-in_ok-value-in-method : goal.returns-in_ok-value-in-method
+returns-in_ok-value-in-method c =
+    let text = string (string_bytes c.in_ok-value-in-method.value) in
+    (text, c.in_ok-value-in-method.ensures c.args.depth, λ ms h. grind (arith, members))
 
-pub returns-in_ok-id-in-id : goal.returns-in_ok-id-in-id
-returns-in_ok-id-in-id c =
-    let k = c.args.name.now in
-    let read = c.in_ok-id-in-id.ensures in
-    let d = read.0 in
-    let is = c.in-id.is in (
-      d,
-      read.1 c.args.depth,
-      (λ ms h. record {
-        version = beside (λ o. o) (codes "jsonrpc") (codes "id") k d ms _ refl is h.version;
-        method = beside (λ o. o) (codes "method") (codes "id") k d ms _ refl is h.method;
-        id = last_of (option_map id_in) (codes "id") k d ms _ is (ap Some read.2);
-        params = beside (holds_unless_absent is_structure_or_null) (codes "params") (codes "id") k d
-            ms _ refl is h.params;
-        told = beside (meant_by c.args.self.now.told) (codes "params") (codes "id") k d ms _
-            refl is h.told;
-        result = beside is_some (codes "result") (codes "id") k d ms _ refl is h.result;
-        error = beside (option_map code_of) (codes "error") (codes "id") k d ms _ refl is h.error;
-      }),
-    )
+pub returns-in_ok-value-in-id : goal.returns-in_ok-value-in-id
+returns-in_ok-value-in-id c =
+    let read = c.in_ok-value-in-id.ensures in
+    (read.0, read.1 c.args.depth, λ ms h. grind (arith, members))
 
-pub returns-in_ok-told-in-params : goal.returns-in_ok-told-in-params
-returns-in_ok-told-in-params c =
-    let k = c.args.name.now in
-    let read = c.in_ok-told-in-params.ensures in
-    let d = read.0 in
-    let is = c.in-params.is in (
-      d,
-      read.1,
-      (λ ms h. record {
-        version = beside (λ o. o) (codes "jsonrpc") (codes "params") k d ms _ refl is h.version;
-        method = beside (λ o. o) (codes "method") (codes "params") k d ms _ refl is h.method;
-        id = beside (option_map id_in) (codes "id") (codes "params") k d ms _ refl is h.id;
-        params = last_of (holds_unless_absent is_structure_or_null) (codes "params") k d ms _ is
-            read.2;
-        told = last_of (meant_by c.in_ok-told-in-params.told) (codes "params") k d ms _ is read.3;
-        result = beside is_some (codes "result") (codes "params") k d ms _ refl is h.result;
-        error = beside (option_map code_of) (codes "error") (codes "params") k d ms _ refl is
-            h.error;
-      }),
-    )
+pub returns-in_ok-value-in-params : goal.returns-in_ok-value-in-params
+returns-in_ok-value-in-params c =
+    let read = c.in_ok-value-in-params.ensures in
+    (read.0, read.1, λ ms h. grind (arith, members))
 
 pub returns-in_ok-end-in-result : goal.returns-in_ok-end-in-result
 returns-in_ok-end-in-result c =
-    let k = c.args.name.now in
     let read = c.in_ok-end-in-result.ensures in
-    let d = read.0 in
-    let is = c.in-result.is in (
-      d,
-      read.1,
-      (λ ms h. record {
-        version = beside (λ o. o) (codes "jsonrpc") (codes "result") k d ms _ refl is h.version;
-        method = beside (λ o. o) (codes "method") (codes "result") k d ms _ refl is h.method;
-        id = beside (option_map id_in) (codes "id") (codes "result") k d ms _ refl is h.id;
-        params = beside (holds_unless_absent is_structure_or_null) (codes "params") (codes "result")
-            k d ms _ refl is h.params;
-        told = beside (meant_by c.args.self.now.told) (codes "params") (codes "result") k d ms _
-            refl is h.told;
-        result = last_of is_some (codes "result") k d ms _ is refl;
-        error = beside (option_map code_of) (codes "error") (codes "result") k d ms _ refl is
-            h.error;
-      }),
-    )
+    (read.0, read.1, λ ms h. grind (arith, members))
 
-pub returns-in_ok-code-in-error : goal.returns-in_ok-code-in-error
-returns-in_ok-code-in-error c =
-    let k = c.args.name.now in
-    let read = c.in_ok-code-in-error.ensures in
-    let d = object read.0 in
-    let is = c.in-error.is in (
-      d,
+pub returns-in_ok-value-in-error : goal.returns-in_ok-value-in-error
+returns-in_ok-value-in-error c =
+    let read = c.in_ok-value-in-error.ensures in
+    let passed = ap Some (code_passed (object read.0) _ read.2) in (
+      object read.0,
       read.1,
-      (λ ms h. record {
-        version = beside (λ o. o) (codes "jsonrpc") (codes "error") k d ms _ refl is h.version;
-        method = beside (λ o. o) (codes "method") (codes "error") k d ms _ refl is h.method;
-        id = beside (option_map id_in) (codes "id") (codes "error") k d ms _ refl is h.id;
-        params = beside (holds_unless_absent is_structure_or_null) (codes "params") (codes "error")
-            k d ms _ refl is h.params;
-        told = beside (meant_by c.args.self.now.told) (codes "params") (codes "error") k d ms _
-            refl is h.told;
-        result = beside is_some (codes "result") (codes "error") k d ms _ refl is h.result;
-        error = last_of (option_map code_of) (codes "error") k d ms _ is
-            (ap Some (code_passed (object read.0) _ read.2));
-      }),
+      λ ms h. record {
+        version = grind (arith, members);
+        method = grind (arith, members);
+        id = grind (arith, members);
+        params = grind (arith, members);
+        told = grind (arith, members);
+        result = grind (arith, members);
+        error = rw (c.in-error.is, get_member-put) passed;
+      },
     )
 
 pub returns-in_default : goal.returns-in_default
 returns-in_default c =
-    let k = c.args.name.now in
-    let other = c.in_default in
     IfSome_then c.skipped-in_default.result c.skipped-in_default.ensures
-    (λ end read. let d = read.0 in (
-      d,
-      read.1,
-      (λ ms h. record {
-        version = stays (λ o. o) (codes "jsonrpc") k d ms _ (λ e. other.not-jsonrpc (sym e))
-            h.version;
-        method = stays (λ o. o) (codes "method") k d ms _ (λ e. other.not-method (sym e)) h.method;
-        id = stays (option_map id_in) (codes "id") k d ms _ (λ e. other.not-id (sym e)) h.id;
-        params = stays (holds_unless_absent is_structure_or_null) (codes "params") k d ms _
-            (λ e. other.not-params (sym e)) h.params;
-        told = stays (meant_by c.args.self.now.told) (codes "params") k d ms _
-            (λ e. other.not-params (sym e)) h.told;
-        result = stays is_some (codes "result") k d ms _ (λ e. other.not-result (sym e)) h.result;
-        error = stays (option_map code_of) (codes "error") k d ms _ (λ e. other.not-error (sym e))
-            h.error;
-      }),
-    ))
+    (λ end read. (read.0, read.1, λ ms h. grind (arith, members)))

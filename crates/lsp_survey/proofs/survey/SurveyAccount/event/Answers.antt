@@ -1,12 +1,12 @@
 use Rattle.std.specs.Prelude.{◌||◌}
-use Rattle.std.proofs.Common.{◌∙◌, ◌++◌, ◌∷◌, [], ap, refl, string_bytes, subst}
+use Rattle.std.proofs.Common.{◌∙◌, ◌++◌, ◌∷◌, [], None, Some, ap, refl, string_bytes, subst}
 use Rattle.lsp_replay.specs.Telling.{HasFate}
 use Rattle.lsp_replay.proofs.AllHeard.{kept_seen}
 use Rattle.lsp_replay.proofs.Wanting.{on_err}
 use Rattle.lsp_survey.specs.Reported.{lines_of}
 use Rattle.lsp_survey.specs.SurveyRun.{event_said, has_lines}
-use Rattle.lsp_survey.proofs.SurveySteps.{kept_said, kept_tally, kept_wants, offence_is}
-use Rattle.lsp_survey.proofs.SurveySteps.{offence_said, offence_tally, offence_wants}
+use Rattle.lsp_survey.proofs.SurveySteps.{kept_tally, offence_is, offence_tally, offence_wants}
+use Rattle.lsp_survey.proofs.SurveySteps.{said_on, wants_on}
 use Rattle.lsp_verdict.specs.Heard.{notes_of}
 use Rattle.lsp_verdict.specs.Offences.{Offence, offence_at}
 use Rattle.lsp_survey.proofs.survey.SurveyAccount.event.Goals as goal
@@ -23,7 +23,7 @@ returns-in_default c = record {
       record {
         said = event_said old.options terms before h;
         added = c.in_ok-push_kept_line.ensures.shown terms before h seen rule
-            ∙ ap (λ w. string_bytes c.args.text.now ++ w) (kept_said terms before h old.options rule);
+            ∙ ap (λ w. string_bytes c.args.text.now ++ w) (said_on terms before h old.options None rule);
         is = λ rests fits. refl;
         goes = (
           refl,
@@ -45,7 +45,7 @@ returns-in_err-follows-clause-memory c =
 pub returns-in_err-push_kept_line-clause-memory : goal.returns-in_err-push_kept_line-clause-memory
 returns-in_err-push_kept_line-clause-memory c =
     on_err c.from_residual-in_err-push_kept_line.result (λ terms before h stands seen.
-    kept_wants terms before h c.args.self.now.options
+    wants_on terms before h c.args.self.now.options None
     (kept_seen terms before h c.args.seen.now.fate c.in_default.not-Offends seen.fate)
     c.in_err-push_kept_line.ensures.memory)
 
@@ -73,7 +73,7 @@ returns-clause-says c = λ terms before h stands seen.
           ∙ ap (λ (o : Offence). string_bytes c.args.text.now
           ++ lines_of old.options.listing (o ∷ [])) is
           ∙ ap (λ w. string_bytes c.args.text.now ++ w)
-          (offence_said terms before h old.options c.in-Offends.rule breaks);
+          (said_on terms before h old.options (Some c.in-Offends.rule) breaks);
       is = λ rests fits. refl;
       goes = (
         refl,

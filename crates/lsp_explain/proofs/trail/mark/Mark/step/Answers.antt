@@ -12,5 +12,5 @@ returns-in-Reaches c =
     let reached = simp to_z-of_z at c.reach.ensures in
     on_ok_weaker c.reach.result (λ is.
     subst (λ (step : Step). mark_view c.reach.new.self
-    ≡ stepped c.args.place step (mark_view c.args.self.now)) (sym c.in-Reaches.is)
+    ≡ stepped c.args.place.now step (mark_view c.args.self.now)) (sym c.in-Reaches.is)
     (is c.in-Reaches.opens)) reached

@@ -2,7 +2,7 @@ use Rattle.std.proofs.Common.{ℕ, ◌+◌, length, take, ap, ◌∙◌}
 use Rattle.std.specs.Option.{option_map}
 use Rattle.std.specs.Str.{chars}
 use Rattle.lsp_text.proofs.Widths.{place_past_skipped, offset_past_skipped}
-use Rattle.lsp_text.proofs.columns.offset_from_end.Goals as goal
+use Rattle.lsp_text.proofs.columns.offset_from_nearer.Goals as goal
 
 pub returns-in_err-offset : goal.returns-in_err-offset
 returns-in_err-offset c =

@@ -1,5 +1,0 @@
-use Rattle.lsp_verdict.proofs.Completing as proved
-use Rattle.lsp_verdict.proofs.complete_laws.some_complete_verdict.Goals as goal
-
-pub returns : goal.returns
-returns c = proved.some_complete_verdict

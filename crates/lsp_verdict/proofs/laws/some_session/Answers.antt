@@ -1,5 +1,0 @@
-use Rattle.lsp_verdict.proofs.Sessions as proved
-use Rattle.lsp_verdict.proofs.laws.some_session.Goals as goal
-
-pub returns : goal.returns
-returns c = proved.some_session

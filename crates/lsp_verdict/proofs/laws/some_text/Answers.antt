@@ -1,5 +1,0 @@
-use Rattle.lsp_verdict.proofs.Logs.Text as proved
-use Rattle.lsp_verdict.proofs.laws.some_text.Goals as goal
-
-pub returns : goal.returns
-returns c = proved.some_text

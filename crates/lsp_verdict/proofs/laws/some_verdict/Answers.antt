@@ -1,5 +1,0 @@
-use Rattle.lsp_verdict.proofs.Logs as proved
-use Rattle.lsp_verdict.proofs.laws.some_verdict.Goals as goal
-
-pub returns : goal.returns
-returns c = proved.some_verdict

@@ -1,5 +1,0 @@
-use Rattle.lsp_verdict.proofs.Offences.Offending as proved
-use Rattle.lsp_verdict.proofs.offence_laws.kept_are_others.Goals as goal
-
-pub returns : goal.returns
-returns c = proved.kept_are_others

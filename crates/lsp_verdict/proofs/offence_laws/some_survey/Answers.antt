@@ -1,5 +1,0 @@
-use Rattle.lsp_verdict.proofs.Offences.Surveying as proved
-use Rattle.lsp_verdict.proofs.offence_laws.some_survey.Goals as goal
-
-pub returns : goal.returns
-returns c = proved.some_survey
