@@ -111,6 +111,11 @@ def snapshot_event(version, uri, text):
     return Event("T", text, version, uri.decode())
 
 
+def json_value(content):
+    """The JSON value of a content. `-0` is no integer."""
+    return json.loads(content, parse_int=lambda digits: -0.0 if digits == "-0" else int(digits))
+
+
 def integer(value):
     """Whether a value is an integer of 32 bits."""
     return type(value) is int and -(2**31) <= value < 2**31
@@ -257,7 +262,7 @@ class Redaction:
         if event.side == "T":
             return self.documents.shows(event.uri, event.version, event.content.decode())
         try:
-            message = json.loads(event.content)
+            message = json_value(event.content)
         except ValueError:
             return None
         method, params = message.get("method"), message.get("params")
@@ -372,7 +377,7 @@ class Redaction:
         """What stays of a message, as JSON text."""
         if rule in BROKEN:
             return BROKEN[rule]
-        value = json.loads(content)
+        value = json_value(content)
         kept = {"jsonrpc": "2.0"}
         if "id" in value:
             kept["id"] = 0 if rule == 209 else self.name(value["id"])

@@ -6,12 +6,10 @@ use Rattle.lsp_frame.specs.Bounds.{Bounds}
 use Rattle.lsp_frame.specs.Sink.{canonical}
 use Rattle.lsp_log.specs.Log.{Record, chunk, shown}
 use Rattle.lsp_types.specs.declared.side.Side.{Side}
-use Rattle.lsp_verdict.specs.Event as event
-use Rattle.lsp_verdict.specs.Event.{Event}
 use Rattle.lsp_verdict.specs.Placed.{Raw, content, broken, show}
 use Rattle.lsp_redact.specs.Broken.{Replaces}
 use Rattle.lsp_redact.specs.Characters.{shown_text}
-use Rattle.lsp_redact.specs.Kept.{Kept, message, snapshot, kept_of}
+use Rattle.lsp_redact.specs.Kept.{Kept, message, snapshot}
 use Rattle.lsp_redact.specs.Messages.{content_of}
 use Rattle.lsp_redact.specs.Names.{Names, shown_uri}
 

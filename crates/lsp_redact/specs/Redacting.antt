@@ -70,10 +70,10 @@ SaysOf most terms before h (Some rule) out =
 
 -- a fault of the frames is not written, and ends the run as its verdict; any other offence is
 abbrev pub EndsBy : Raw → Option Verdict → Outcome → Type 0
-EndsBy (content side bytes) no outcome = outcome ≡ Done
+EndsBy (content side bytes) refusal outcome = outcome ≡ Done
 EndsBy (broken side rule) None outcome = ⊥
 EndsBy (broken side rule) (Some v) outcome = IsJudged v outcome
-EndsBy (show number uri text) no outcome = outcome ≡ Done
+EndsBy (show number uri text) refusal outcome = outcome ≡ Done
 
 -- ---- the end
 
