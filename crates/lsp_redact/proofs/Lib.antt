@@ -1,3 +1,4 @@
-pub mod Characters
-pub mod Apart
 pub mod Texts
+pub mod ShownCharacters
+pub mod KeptApart
+pub mod TextLaws

@@ -11,9 +11,14 @@ use Rattle.lsp_types.specs.declared.position.Encoding.{Encoding}
 use Rattle.lsp_types.specs.declared.position.Encoding.TheVariants.{Utf8}
 use Rattle.lsp_types.specs.declared.position.Position.{Position}
 use Rattle.lsp_types.specs.declared.position.Span.{Span}
+use Rattle.lsp_types.specs.declared.rules.TheConstants as rules
 use Rattle.lsp_text.specs.Lines.{Line, before_end, before_line, ended_line, is_feed, is_return}
 use Rattle.lsp_text.specs.Lines.{lines_of, put_before, spelled, starts_with_feed, text_of}
 use Rattle.lsp_text.specs.Places.{place_at, place_in, place_in_line, place_of, units, units_of_char}
+use Rattle.lsp_text.specs.SameText.{compared, is_nothing, with_feeds, without_last_feed}
+use Rattle.lsp_types.specs.declared.line_ends.LineEnds.{LineEnds}
+use Rattle.lsp_types.specs.declared.line_ends.LineEnds.TheVariants.{Exact, Ignored}
+use Rattle.std.specs.Prelude.{◌&&◌}
 use Rattle.lsp_text.specs.Edits.{Edit, and_then, applied, changed, limited, replaced, splice, spliced}
 
 -- a map of characters that keeps what rules read of them
@@ -21,6 +26,7 @@ pub record KeepsTexts (r : ℕ → ℕ) : Type 0 where
   pub feed : (c : ℕ) → is_feed (r c) ≡ is_feed c
   pub carriage : (c : ℕ) → is_return (r c) ≡ is_return c
   pub same_units : (enc : Encoding) (c : ℕ) → units_of_char enc (r c) ≡ units_of_char enc c
+  pub own_feed : r 10 ≡ 10
 
 -- ---- lines
 
@@ -139,8 +145,9 @@ limited-by r false rule t = refl
 limited-map : (r : ℕ → ℕ) → KeepsTexts r → (limit : ℕ) (t : List ℕ)
     → limited limit (map r t) ≡ made_by r (limited limit t)
 limited-map r keeps limit t =
-    ap (λ (n : ℕ). cond (nat_lt limit n) (Err _) (Ok (map r t))) (units-map r keeps Utf8 t)
-    ∙ limited-by r (nat_lt limit (units Utf8 t)) _ t
+    ap (λ (n : ℕ). cond (nat_lt limit n) (Err rules.DOCUMENT_OVER_LIMIT)
+    (Ok (map r t))) (units-map r keeps Utf8 t)
+    ∙ limited-by r (nat_lt limit (units Utf8 t)) rules.DOCUMENT_OVER_LIMIT t
 
 reversed-by : (r : ℕ → ℕ) (b : Bool) (rule : ℕ) (made other : Result (List ℕ) ℕ)
     → other ≡ made_by r made → cond b (Err rule) other ≡ made_by r (cond b (Err rule) made)
@@ -152,7 +159,8 @@ spliced-map : (r : ℕ → ℕ) → KeepsTexts r → (t : List ℕ) (a b : Optio
 spliced-map r keeps t None b s limit = refl
 spliced-map r keeps t (Some a) None s limit = refl
 spliced-map r keeps t (Some a) (Some b) s limit =
-    reversed-by r (nat_lt b a) _ (limited limit (splice t a b s)) _
+    reversed-by r (nat_lt b a) rules.RANGE_REVERSED (limited limit (splice t a b s))
+    (limited limit (splice (map r t) a b (map r s)))
     (ap (limited limit) (splice-map r t a b s) ∙ limited-map r keeps limit (splice t a b s))
 
 pub changed-map : (r : ℕ → ℕ) → KeepsTexts r → (enc : Encoding) (t : List ℕ) (span : Option Span)
@@ -186,3 +194,51 @@ applied-map r keeps limit enc t (c ∷ cs) =
     (changed-map r keeps enc t c.span c.text limit)
     ∙ then-map r (changed enc t c.span c.text limit) (λ u. applied limit enc u cs)
     (λ u. applied limit enc u (map (edit_by r) cs)) (λ u. applied-map r keeps limit enc u cs)
+
+-- ---- what is compared
+
+feeds_by : (r : ℕ → ℕ) → KeepsTexts r → (first carriage : Bool) (c : ℕ) (rest : List ℕ)
+    → cond first (map r rest) (cond carriage 10 (r c) ∷ map r rest)
+    ≡ map r (cond first rest (cond carriage 10 c ∷ rest))
+feeds_by r keeps true carriage c rest = refl
+feeds_by r keeps false true c rest = ap (λ (x : ℕ). x ∷ map r rest) (sym keeps.own_feed)
+feeds_by r keeps false false c rest = refl
+
+with_feeds-map : (r : ℕ → ℕ) → KeepsTexts r → (t : List ℕ)
+    → with_feeds (map r t) ≡ map r (with_feeds t)
+with_feeds-map r keeps [] = refl
+with_feeds-map r keeps (c ∷ t) =
+    ap (λ (b : Bool). cond (b && starts_with_feed (map r t)) (with_feeds (map r t))
+    (cond b 10 (r c) ∷ with_feeds (map r t))) (keeps.carriage c)
+    ∙ (ap (λ (b : Bool). cond (is_return c && b) (with_feeds (map r t))
+    (cond (is_return c) 10 (r c) ∷ with_feeds (map r t))) (starts-map r keeps t)
+    ∙ (ap (λ (fed : List ℕ). cond (is_return c && starts_with_feed t) fed
+    (cond (is_return c) 10 (r c) ∷ fed)) (with_feeds-map r keeps t)
+    ∙ feeds_by r keeps (is_return c && starts_with_feed t) (is_return c) c (with_feeds t)))
+
+nothing-map : (r : ℕ → ℕ) (t : List ℕ) → is_nothing (map r t) ≡ is_nothing t
+nothing-map r [] = refl
+nothing-map r (c ∷ t) = refl
+
+last_by : (r : ℕ → ℕ) (last : Bool) (c : ℕ) (rest : List ℕ)
+    → cond last [] (r c ∷ map r rest) ≡ map r (cond last [] (c ∷ rest))
+last_by r true c rest = refl
+last_by r false c rest = refl
+
+without_last-map : (r : ℕ → ℕ) → KeepsTexts r → (t : List ℕ)
+    → without_last_feed (map r t) ≡ map r (without_last_feed t)
+without_last-map r keeps [] = refl
+without_last-map r keeps (c ∷ t) =
+    ap (λ (b : Bool). cond (b && is_nothing (map r t)) [] (r c ∷ without_last_feed (map r t)))
+    (keeps.feed c)
+    ∙ (ap (λ (b : Bool). cond (is_feed c && b) [] (r c ∷ without_last_feed (map r t)))
+    (nothing-map r t)
+    ∙ (ap (λ (rest : List ℕ). cond (is_feed c && is_nothing t) [] (r c ∷ rest))
+    (without_last-map r keeps t)
+    ∙ last_by r (is_feed c && is_nothing t) c (without_last_feed t)))
+
+pub compared-map : (r : ℕ → ℕ) → KeepsTexts r → (ends : LineEnds) (t : List ℕ)
+    → compared ends (map r t) ≡ map r (compared ends t)
+compared-map r keeps Exact t = refl
+compared-map r keeps Ignored t =
+    ap without_last_feed (with_feeds-map r keeps t) ∙ without_last-map r keeps (with_feeds t)

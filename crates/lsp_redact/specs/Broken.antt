@@ -16,10 +16,10 @@ broken_content rule =
     else (if rule == rules.METHOD_NOT_STRING then codes "{\"jsonrpc\":\"2.0\",\"method\":null}"
     else (if rule == rules.BAD_ID then codes "{\"id\":[],\"jsonrpc\":\"2.0\"}"
     else (if rule == rules.BAD_PARAMS
-        then codes "{\"jsonrpc\":\"2.0\",\"method\":\"\",\"params\":0}"
+    then codes "{\"jsonrpc\":\"2.0\",\"method\":\"\",\"params\":0}"
     else (if rule == rules.NOT_A_MESSAGE then codes "{\"jsonrpc\":\"2.0\"}"
     else (if rule == rules.BAD_ERROR_OBJECT
-        then codes "{\"error\":null,\"id\":0,\"jsonrpc\":\"2.0\"}"
+    then codes "{\"error\":null,\"id\":0,\"jsonrpc\":\"2.0\"}"
     else []))))))
 
 -- a call of the same method without params; a request has the id 0

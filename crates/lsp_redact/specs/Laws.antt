@@ -1,13 +1,18 @@
 -- Laws of logs with their words replaced.
-use Rattle.std.specs.Prelude.{◌≡◌, ℕ, ◌≤◌, List, length, map, Option, Some, None}
+use Rattle.std.specs.Prelude.{◌≡◌, ℕ, ◌≤◌, List, length, map, Option, Some, None, Result, Ok, Err}
 use Rattle.lsp_extract.specs.Normal.{IsOnEvents}
 use Rattle.lsp_frame.specs.Bounds.{Bounds, IsInRange}
 use Rattle.lsp_session.specs.Entry.{Entry}
+use Rattle.lsp_text.specs.Edits.{Edit, applied}
+use Rattle.lsp_text.specs.Places.{units}
+use Rattle.lsp_text.specs.SameText.{SameText, compared}
+use Rattle.lsp_types.specs.declared.line_ends.LineEnds.{LineEnds}
+use Rattle.lsp_types.specs.declared.position.Encoding.{Encoding}
 use Rattle.lsp_types.specs.declared.side.Side.{Side}
 use Rattle.lsp_verdict.specs.Outcome.{IsVerdict}
 use Rattle.lsp_verdict.specs.Verdict.{Document, Summary, Verdict, yes, no, bad_log}
 use Rattle.lsp_verdict.specs.declared.outcome.Outcome.{Outcome}
-use Rattle.lsp_redact.specs.Characters.{kind_of, shown_text}
+use Rattle.lsp_redact.specs.Characters.{first_other, kind_of, shown_text}
 use Rattle.lsp_redact.specs.Names.{Names, shown_id, shown_method, shown_uri}
 use Rattle.lsp_redact.specs.Redacted.{IsRedacted}
 use Rattle.lsp_redact.specs.declared.characters.Kind.{Kind}
@@ -73,3 +78,37 @@ abbrev pub KindsDecide : Type 0
 KindsDecide = (a b : List ℕ) → map kind_of a ≡ map kind_of b
     → map (λ c. left_of (kind_of c) c) a ≡ map (λ c. left_of (kind_of c) c) b
     → shown_text None a ≡ shown_text None b
+
+-- **A text that is shown has as many units in each encoding.**
+abbrev pub UnitsStay : Type 0
+UnitsStay = (apart : Option ℕ) (enc : Encoding) (text : List ℕ)
+    → units enc (shown_text apart text) ≡ units enc text
+
+-- a change of a text that is shown
+abbrev pub shown_edit : Option ℕ → Edit → Edit
+shown_edit apart c =
+    record { span = c.span; range_length = c.range_length; text = shown_text apart c.text }
+
+-- the text that changes make, shown, or the rule that refuses them
+abbrev pub shown_made : Option ℕ → Result (List ℕ) ℕ → Result (List ℕ) ℕ
+shown_made apart (Ok text) = Ok (shown_text apart text)
+shown_made apart (Err rule) = Err rule
+
+-- **Changes that are shown make of a text that is shown what they make of the text**, shown, or the
+-- same rule refuses them: positions denote the same places.
+abbrev pub EditsStay : Type 0
+EditsStay = (apart : Option ℕ) (limit : ℕ) (enc : Encoding) (text : List ℕ) (edits : List Edit)
+    → applied limit enc (shown_text apart text) (map (shown_edit apart) edits)
+    ≡ shown_made apart (applied limit enc text edits)
+
+-- **Texts that are the same are shown by texts that are the same.**
+abbrev pub SameTextsStay : Type 0
+SameTextsStay = (apart : Option ℕ) (ends : LineEnds) (a b : List ℕ) → SameText ends a b
+    → SameText ends (shown_text apart a) (shown_text apart b)
+
+-- **And two that are not by two that are not**, where the character stays apart at which they first
+-- differ.
+abbrev pub OtherTextsStay : Type 0
+OtherTextsStay = (ends : LineEnds) (a b : List ℕ) → (SameText ends a b → ⊥)
+    → SameText ends (shown_text (first_other (compared ends a) (compared ends b)) a)
+    (shown_text (first_other (compared ends a) (compared ends b)) b) → ⊥

@@ -46,11 +46,7 @@ fn compared(alloc: Global, text: &str, line_ends: LineEnds) -> Result<String>
 
 /// The character by which two texts stay apart: that of the editor's own text where the two first
 /// differ, as they are compared.
-fn apart_in(
-    alloc: Global,
-    texts: &TwoTexts<'_, Lined>,
-    line_ends: LineEnds,
-) -> Result<Option<char>>
+fn apart_in(alloc: Global, texts: &TwoTexts<'_, Lined>, line_ends: LineEnds) -> Result<Option<char>>
     ensures { IfOk result (λ apart. apart ≡ spec.apart_in line_ends (seen_texts texts.now)) }
 {
     let by_messages = texts.by_messages.to_text(alloc)?;

@@ -61,12 +61,7 @@ impl Redaction {
     }
 
     /// The params of a `didChange`.
-    pub(crate) fn changed(
-        &mut self,
-        uri: &str,
-        version: i32,
-        changes: &[Change],
-    ) -> Result<Value>
+    pub(crate) fn changed(&mut self, uri: &str, version: i32, changes: &[Change]) -> Result<Value>
         ensures { IfOk result (λ shown. Writes self.old self.new (uri_names uri.now)
             (λ n. changed_data n self.old.apart uri.now version (changes_view changes.now))
             (view shown)) }

@@ -13,7 +13,9 @@ ghost use Rattle.serde_json.specs.View.{view};
 
 use crate::copies::{copy_act, copy_given_id};
 use lsp_replay::Seen;
-use lsp_rpc::{Act, Answer, Id, Message, Picked, Result, RpcFault, Side, Spoken, copy_id, picked_of};
+use lsp_rpc::{
+    Act, Answer, Id, Message, Picked, Result, RpcFault, Side, Spoken, copy_id, picked_of,
+};
 use lsp_verdict::Raw;
 use serde_json::Value;
 use std::alloc::Global;
@@ -25,25 +27,15 @@ pub(crate) enum Reply {
     Picks(Picked),
     /// Any other result, of which nothing is read.
     Nothing,
-    Error {
-        code: i32,
-    },
+    Error { code: i32 },
 }
 
 /// What is kept of a message apart from what it means (JSON-RPC 2.0, sections 4 and 5).
 #[derive(Drop)]
 pub(crate) enum Head {
-    Request {
-        id: Id,
-        method: String,
-    },
-    Notification {
-        method: String,
-    },
-    Response {
-        id: Option<Id>,
-        reply: Reply,
-    },
+    Request { id: Id, method: String },
+    Notification { method: String },
+    Response { id: Option<Id>, reply: Reply },
 }
 
 /// What is kept of an event that is no fault.

@@ -1,6 +1,7 @@
 //! Laws of logs with their words replaced, each the contract of a function that does nothing.
-ghost use Rattle.lsp_redact.specs.Laws.{KindsDecide, OneRedacted, RedactedKeepsVerdict};
-ghost use Rattle.lsp_redact.specs.Laws.{SomeRedacted};
+ghost use Rattle.lsp_redact.specs.Laws.{EditsStay, KindsDecide, OneRedacted, OtherTextsStay};
+ghost use Rattle.lsp_redact.specs.Laws.{RedactedKeepsVerdict, SameTextsStay, SomeRedacted};
+ghost use Rattle.lsp_redact.specs.Laws.{UnitsStay};
 
 /// Every byte sequence has a log that is its own with its words replaced.
 pub fn some_redacted()
@@ -21,4 +22,24 @@ pub fn redacted_keeps_verdict()
 /// Of a text, what is written depends on the kinds of its characters alone.
 pub fn kinds_decide()
     ensures { KindsDecide }
+{}
+
+/// A text has as many units in each encoding as before.
+pub fn units_stay()
+    ensures { UnitsStay }
+{}
+
+/// The same changes make the same of it, or the same rule refuses them.
+pub fn edits_stay()
+    ensures { EditsStay }
+{}
+
+/// Texts that are the same stay the same, up to line ends or with them.
+pub fn same_texts_stay()
+    ensures { SameTextsStay }
+{}
+
+/// Two texts that are not stay apart, by the character at which they first differ.
+pub fn other_texts_stay()
+    ensures { OtherTextsStay }
 {}

@@ -22,5 +22,8 @@ mod redacting;
 mod redaction;
 mod run;
 
-pub use laws::{kinds_decide, one_redacted, redacted_keeps_verdict, some_redacted};
+pub use laws::{
+    edits_stay, kinds_decide, one_redacted, other_texts_stay, redacted_keeps_verdict,
+    same_texts_stay, some_redacted, units_stay,
+};
 pub use run::run_redact;

@@ -33,11 +33,7 @@ impl Redaction {
                 uri,
                 version,
                 changes,
-            } => Ok(Some(self.changed(
-                uri.as_str(),
-                *version,
-                changes.as_slice(),
-            )?)),
+            } => Ok(Some(self.changed(uri.as_str(), *version, changes.as_slice())?)),
             Act::DidClose { uri } => Ok(Some(self.closed(uri.as_str())?)),
             Act::DidSave { uri, text } => Ok(Some(self.saved(uri.as_str(), text.as_ref())?)),
             _ => Ok(None),

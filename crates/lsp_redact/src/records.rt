@@ -48,12 +48,7 @@ fn push_piece(text: &mut String, side: Side, piece: &str) -> Result<()>
 
 /// Adds a content as its canonical frame (LSP 3.17, "Base Protocol"), in records of its side, each
 /// of which has this many characters but for the last.
-pub(crate) fn push_content(
-    text: &mut String,
-    side: Side,
-    content: &str,
-    most: usize,
-) -> Result<()>
+pub(crate) fn push_content(text: &mut String, side: Side, content: &str, most: usize) -> Result<()>
     requires { 0 < most }
     ensures { OnOk result (string_bytes text.new ≡ string_bytes text.old
         ++ flat_map spelling (content_records most side content.now)) }

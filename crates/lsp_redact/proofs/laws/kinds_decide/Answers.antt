@@ -1,4 +1,4 @@
-use Rattle.lsp_redact.proofs.Characters as proved
+use Rattle.lsp_redact.proofs.ShownCharacters as proved
 use Rattle.lsp_redact.proofs.laws.kinds_decide.Goals as goal
 
 pub returns : goal.returns

@@ -2,11 +2,13 @@
 use Rattle.std.proofs.Common.{◌≡◌, ℕ, ◌<◌, ◌≤◌, Bool, true, false, List, [], ◌∷◌, map, refl, sym, ap}
 use Rattle.std.proofs.Common.{◌∙◌, arith, Option, Some, None, subst}
 use Rattle.std.specs.Prelude.{nat_lt, nat_le}
-use Rattle.std.proofs.lemmas.Bool.{cond_both, ltb-true, ltb-false}
+use Rattle.std.proofs.lemmas.Bool.{cond_both, ltb-true, ltb-false, ne_eqb}
 use Rattle.std.proofs.lemmas.Bool.Decides.{nat_tests}
 use Rattle.lsp_types.specs.declared.position.Encoding.{Encoding}
 use Rattle.lsp_types.specs.declared.position.Encoding.TheVariants.{Utf8, Utf16, Utf32}
+use Rattle.lsp_text.specs.Lines.{is_feed, is_return}
 use Rattle.lsp_text.specs.Places.{units, units_of_char}
+use Rattle.lsp_redact.proofs.Texts.{KeepsTexts}
 use Rattle.lsp_redact.specs.Characters.{ascii_kind, kind_of, is_apart, lies, one_of, shown_as}
 use Rattle.lsp_redact.specs.Characters.{shown_by, shown_text}
 use Rattle.lsp_redact.specs.Laws.{KindsDecide, left_of}
@@ -150,3 +152,35 @@ units-shown_text enc apart (c ∷ text) = omega (
   units-shown_as enc apart c,
   units-shown_text enc apart text,
 )
+
+-- ---- line ends
+
+no_mark : (c : ℕ) → 48 ≤ c → (is_feed c ≡ false) × (is_return c ≡ false)
+no_mark c h = (ne_eqb c 10 (λ e. omega (arith, e, h)), ne_eqb c 13 (λ e. omega (arith, e, h)))
+
+-- neither the character nor what it is shown by ends a line, or they are one
+feed_shown : (k : Kind) (apart : Bool) (c : ℕ) → IsOf k c
+    → (is_feed (one_of (shown_by k) apart c) ≡ is_feed c)
+    × (is_return (one_of (shown_by k) apart c) ≡ is_return c)
+feed_shown Small true c h = let m : (is_feed c ≡ false) × (is_return c ≡ false) = no_mark c h.0 in (sym m.0, sym m.1)
+feed_shown Small false c h = let m : (is_feed c ≡ false) × (is_return c ≡ false) = no_mark c h.0 in (sym m.0, sym m.1)
+feed_shown Capital true c h = let m : (is_feed c ≡ false) × (is_return c ≡ false) = no_mark c h.0 in (sym m.0, sym m.1)
+feed_shown Capital false c h = let m : (is_feed c ≡ false) × (is_return c ≡ false) = no_mark c h.0 in (sym m.0, sym m.1)
+feed_shown Digit true c h = let m : (is_feed c ≡ false) × (is_return c ≡ false) = no_mark c h.0 in (sym m.0, sym m.1)
+feed_shown Digit false c h = let m : (is_feed c ≡ false) × (is_return c ≡ false) = no_mark c h.0 in (sym m.0, sym m.1)
+feed_shown TwoBytes true c h = let m : (is_feed c ≡ false) × (is_return c ≡ false) = no_mark c (omega (arith, h.0)) in (sym m.0, sym m.1)
+feed_shown TwoBytes false c h = let m : (is_feed c ≡ false) × (is_return c ≡ false) = no_mark c (omega (arith, h.0)) in (sym m.0, sym m.1)
+feed_shown ThreeBytes true c h = let m : (is_feed c ≡ false) × (is_return c ≡ false) = no_mark c (omega (arith, h.0)) in (sym m.0, sym m.1)
+feed_shown ThreeBytes false c h = let m : (is_feed c ≡ false) × (is_return c ≡ false) = no_mark c (omega (arith, h.0)) in (sym m.0, sym m.1)
+feed_shown FourBytes true c h = let m : (is_feed c ≡ false) × (is_return c ≡ false) = no_mark c (omega (arith, h.0)) in (sym m.0, sym m.1)
+feed_shown FourBytes false c h = let m : (is_feed c ≡ false) × (is_return c ≡ false) = no_mark c (omega (arith, h.0)) in (sym m.0, sym m.1)
+feed_shown Other apart c h = (refl, refl)
+
+-- **what rules read of a text stays where its characters are shown by others**
+pub keeps_texts : (apart : Option ℕ) → KeepsTexts (shown_as apart)
+keeps_texts apart = record {
+  feed = λ c. (feed_shown (kind_of c) (is_apart apart c) c (kind_range c)).0;
+  carriage = λ c. (feed_shown (kind_of c) (is_apart apart c) c (kind_range c)).1;
+  same_units = λ enc c. units-shown_as enc apart c;
+  own_feed = refl;
+}

@@ -71,7 +71,7 @@ apart_by apart (d ∷ a) [] is differ h = none_some _ _ (sym h)
 apart_by apart [] (c ∷ b) is differ h = none_some _ _ h
 apart_by apart (d ∷ a) (c ∷ b) is differ h =
     elim (cases_eq d c) [
-      inl same ↦
+      | inl same ↦
           let test : eqb d c ≡ true = eq-eqb d c same in
           apart_by apart a b
           (ap (λ (t : Bool). cond t (first_other a b) (Some c)) (sym test) ∙ is)
