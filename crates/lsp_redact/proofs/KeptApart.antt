@@ -86,8 +86,8 @@ apart_by apart (d ∷ a) (c ∷ b) is differ h =
           ∙ (front_same _ _ _ _ h ∙ ap (λ (o : Option ℕ). shown_as o c) (sym is_c)))
     ]
 
--- **two texts that differ are shown by two that do**, where the character that is kept apart is that
--- of the second text at the first difference
+-- **two texts that differ are shown by two that do**, where the character that is kept apart is
+-- that of the second text at the first difference
 pub kept_apart : (a b : List ℕ) → (a ≡ b → ⊥)
     → shown_text (first_other a b) a ≡ shown_text (first_other a b) b → ⊥
 kept_apart a b differ h = apart_by (first_other a b) a b refl differ h

@@ -1,5 +1,5 @@
 -- Laws of logs with their words replaced.
-use Rattle.std.specs.Prelude.{◌≡◌, ℕ, ◌≤◌, List, length, map, Option, Some, None, Result, Ok, Err}
+use Rattle.std.specs.Prelude.{◌≡◌, ℕ, ◌≤◌, List, length, map, Option, Some, None}
 use Rattle.lsp_extract.specs.Normal.{IsOnEvents}
 use Rattle.lsp_frame.specs.Bounds.{Bounds, IsInRange}
 use Rattle.lsp_session.specs.Entry.{Entry}
@@ -15,6 +15,7 @@ use Rattle.lsp_verdict.specs.declared.outcome.Outcome.{Outcome}
 use Rattle.lsp_redact.specs.Characters.{first_other, kind_of, shown_text}
 use Rattle.lsp_redact.specs.Names.{Names, shown_id, shown_method, shown_uri}
 use Rattle.lsp_redact.specs.Redacted.{IsRedacted}
+use Rattle.lsp_redact.specs.ShownEdits.{shown_edit, shown_made}
 use Rattle.lsp_redact.specs.declared.characters.Kind.{Kind}
 use Rattle.lsp_redact.specs.declared.characters.Kind.TheVariants.{Other}
 
@@ -83,16 +84,6 @@ KindsDecide = (a b : List ℕ) → map kind_of a ≡ map kind_of b
 abbrev pub UnitsStay : Type 0
 UnitsStay = (apart : Option ℕ) (enc : Encoding) (text : List ℕ)
     → units enc (shown_text apart text) ≡ units enc text
-
--- a change of a text that is shown
-abbrev pub shown_edit : Option ℕ → Edit → Edit
-shown_edit apart c =
-    record { span = c.span; range_length = c.range_length; text = shown_text apart c.text }
-
--- the text that changes make, shown, or the rule that refuses them
-abbrev pub shown_made : Option ℕ → Result (List ℕ) ℕ → Result (List ℕ) ℕ
-shown_made apart (Ok text) = Ok (shown_text apart text)
-shown_made apart (Err rule) = Err rule
 
 -- **Changes that are shown make of a text that is shown what they make of the text**, shown, or the
 -- same rule refuses them: positions denote the same places.

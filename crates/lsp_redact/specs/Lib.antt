@@ -10,4 +10,6 @@ pub mod Broken
 pub mod Records
 pub mod Redacting
 pub mod Redacted
+pub mod ShownEdits
+pub mod ShownCalls
 pub mod Laws

@@ -2,6 +2,7 @@
 ghost use Rattle.lsp_redact.specs.Laws.{EditsStay, KindsDecide, OneRedacted, OtherTextsStay};
 ghost use Rattle.lsp_redact.specs.Laws.{RedactedKeepsVerdict, SameTextsStay, SomeRedacted};
 ghost use Rattle.lsp_redact.specs.Laws.{UnitsStay};
+ghost use Rattle.lsp_redact.specs.ShownCalls.{DocumentRulesStay, HeldTextsStay};
 
 /// Every byte sequence has a log that is its own with its words replaced.
 pub fn some_redacted()
@@ -42,4 +43,15 @@ pub fn same_texts_stay()
 /// Two texts that are not stay apart, by the character at which they first differ.
 pub fn other_texts_stay()
     ensures { OtherTextsStay }
+{}
+
+/// What is held of a document after calls is what was held of it, by its other name, with its
+/// characters replaced.
+pub fn held_texts_stay()
+    ensures { HeldTextsStay }
+{}
+
+/// A call breaks the rule on documents that it broke, unless that says that two texts differ.
+pub fn document_rules_stay()
+    ensures { DocumentRulesStay }
 {}
