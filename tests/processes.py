@@ -1,7 +1,9 @@
 """How the tests start programs, and wait for what these do."""
 
 import shlex
+import shutil
 import signal
+import sys
 import time
 from pathlib import Path
 
@@ -9,6 +11,12 @@ from pathlib import Path
 SECONDS = 600
 
 SIGNALS = (signal.SIGINT, signal.SIGTERM, signal.SIGHUP)
+
+
+def need_rt(script):
+    """Ends a script, with a line, if there is no rt to compile or prove with."""
+    if shutil.which("rt") is None:
+        sys.exit(f"{script}: there is no rt on the PATH: see 'Get the program' in README.md")
 
 
 def with_signals():

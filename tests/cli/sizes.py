@@ -121,6 +121,20 @@ def many_snapshots(count=1000):
     return b"".join(log), yes((3 + count, 1), (3 * count, 2 * count), [line])
 
 
+def many_misfits(count=66):
+    """Documents that are changed up to a column past their end, with a length of which most lies
+    there: the first 64 of them are noted."""
+    log, past_ends, lengths = [START], [], []
+    for number in range(count):
+        uri, event = f"file:///{number}", f"event {3 * number + 5} editor {3 * number + 4}"
+        change = {**replaced((0, 1), (0, 9), ""), "rangeLength": 8}
+        log += [did_open(uri, 1, "ab"), did_change(uri, 2, [change]), did_close(uri)]
+        past_ends.append(f"note past-end 0 9 length 2 {event}")
+        lengths.append(f"note range-length 8 length 1 {event}")
+    notes = ["note nothing-compared", *past_ends[:64], *lengths[:64], "notes 129"]
+    return b"".join(log), yes((3 * count + 2, 1), (0, 0), notes)
+
+
 def units(text):
     """How many units of UTF-16 a text has."""
     return len(text.encode("utf-16-le")) // 2
@@ -218,6 +232,8 @@ def small():
     ]:
         yield name, ["check"], log, 0, report, b""
         yield name, ["normal"], log, 0, log, b""
+    log, report = many_misfits()
+    yield "many documents that are noted", ["explain"], log, 0, report, b""
     for count in [1000, 100_000]:
         log, report, text = long_document(count)
         yield f"a document of {count} lines", ["check"], log, 0, report, b""

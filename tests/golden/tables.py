@@ -50,6 +50,7 @@ TEMPLATES = {
     "CHG": '{"jsonrpc":"2.0","method":"textDocument/didChange","params":{"textDocument":'
     '{"uri":"file:///a","version":@},"contentChanges":[*]}}',
     "REP": '{"range":{"start":{"line":@,"character":@},"end":{"line":@,"character":@}},"text":@}',
+    "LEN": '{"range":{"start":{"line":@,"character":@},"end":{"line":@,"character":@}},"rangeLength":@,"text":@}',
     "FULL": '{"text":@}',
     "CLOSE": '{"jsonrpc":"2.0","method":"textDocument/didClose","params":{"textDocument":{"uri":"file:///a"}}}',
     "SAVE": '{"jsonrpc":"2.0","method":"textDocument/didSave","params":{"textDocument":{"uri":"file:///a"},"text":@}}',

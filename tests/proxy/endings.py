@@ -22,14 +22,11 @@ def ends(method, number, status, line):
 
     def trial(place):
         editor = Editor(place).start()
-        begun, before = time.time(), time.monotonic()
+        begun = time.time()
         editor.tell(method, [number])
-        found = editor.ended()
-        is_whole, seconds = editor.has_recorded(), time.monotonic() - before
-        yield "the status", found == status, found
-        yield "the log is whole then", is_whole or seconds >= SECONDS, seconds
-        editor.wait()
+        found = editor.wait()
         ended = time.time()
+        yield "the status", found == status, found
         log, = editor.logs.glob("*.log")
         text = log.with_suffix(".exit").read_text()
         form = rf"{line}\ntime (\d{{4}}-\d\d-\d\dT\d\d:\d\d:\d\d)[+-]\d{{4}}\n"
@@ -43,10 +40,26 @@ def ends(method, number, status, line):
     return trial
 
 
-def told_to_end(place):
-    """A signal to the proxy goes to the server, after the editor's last bytes."""
+def recorder_is_late(place):
+    """The proxy ends when its recorder has ended."""
     editor = Editor(place).start()
-    editor.tell("large", "x" * 2_000_000)
+    recorder = editor.recorder()
+    os.kill(recorder, signal.SIGSTOP)
+    editor.ask("shutdown")
+    editor.tell("exit")
+    time.sleep(1)
+    waits = editor.process.poll() is None
+    os.kill(recorder, signal.SIGCONT)
+    yield "it waits", waits and editor.ended() == 0 and editor.has_recorded(), editor.words()
+    yield "the log is whole", editor.log().endswith(b'"exit"}\n'), editor.log()[-100:]
+
+
+def told_to_end(place):
+    """A signal to the proxy goes to the server, after the editor's last bytes, even if the server
+    takes its time to read them."""
+    editor = Editor(place).start()
+    editor.tell("sleep", [1])
+    editor.tell("large", "x" * 150_000)
     editor.tell("note", ["last"])
     editor.process.terminate()
     yield "the status", editor.wait() == 128 + signal.SIGTERM, editor.words()
@@ -184,6 +197,7 @@ TESTS = {
     "end: a status": ends("leave", 3, 3, "status 3"),
     "end: a signal": ends("die", signal.SIGSEGV, 139, "signal 11"),
     "end: killed": ends("die", signal.SIGKILL, 137, "signal 9"),
+    "end: the recorder is late": recorder_is_late,
     "end: told to": told_to_end,
     "end: told to as a group": group_told_to_end,
     "end: the editor dies": editor_dies,

@@ -368,10 +368,11 @@ def folder_replaced(place):
         written = watch.add(os.fsencode(folder / "a.c"))
         for count, text in enumerate(("two", "three"), 1):
             remove(folder)
-            until(lambda: written in watch.others)
+            is_lost = until(lambda: written in watch.others)
             folder.mkdir()
             put(folder / "a.c", text)
             until(lambda: len(written.for_save) >= count)
+            yield f"text {text} of a folder that is {way}", is_lost, written.for_save
             shutil.rmtree(place / "other", ignore_errors=True)
         yield f"both texts of a folder that is {way}", len(written.for_save) == 2, written.for_save
 

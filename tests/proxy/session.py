@@ -29,9 +29,9 @@ PROMPT, TOGETHER = 150_000_000, 20_000_000
 # How many times as long the proxy of a test waits, until the machine is fast enough for the test.
 TIMES = (1, 2, 4, 8, 16, 32)
 
-# A server that answers each request, ends at `exit`, and dies when it is asked to.
+# A server that answers each request, ends at `exit`, and sleeps or dies when it is asked to.
 SERVER = r"""
-import json, os, sys
+import json, os, sys, time
 while True:
     size = 0
     while line := sys.stdin.buffer.readline().strip():
@@ -42,6 +42,8 @@ while True:
     method = message["method"]
     if method == "exit":
         sys.exit(0)
+    if method == "sleep":
+        time.sleep(message["params"][0])
     if method == "die":
         os.kill(os.getpid(), message["params"][0])
     if method == "leave":

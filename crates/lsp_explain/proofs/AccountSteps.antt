@@ -24,8 +24,9 @@ use Rattle.lsp_verdict.specs.declared.verdict.Verdict as code
 use Rattle.lsp_explain.specs.ExplainRuns.{AllStands, FirstStands, TellsOf, SaysCauses, SaysFirst}
 use Rattle.lsp_explain.specs.ExplainRuns.{all_run, cause_at, explain_run, first_lines, has_cause}
 use Rattle.lsp_explain.specs.ExplainRuns.{may_keep}
-use Rattle.lsp_explain.specs.Explained.{cause_lines, is_cause, Breach, breach}
-use Rattle.lsp_explain.specs.Notes.{noticed, note_lines, notes_by}
+use Rattle.lsp_explain.specs.Explained.{cause_lines, is_cause, Breach, breach, noticed_by}
+use Rattle.lsp_explain.specs.Misfits.{AreMisfits, found_kept}
+use Rattle.lsp_explain.specs.Notes.{note_lines, notes_by}
 use Rattle.lsp_explain.specs.Trails.{IsTrail}
 use Rattle.lsp_explain.specs.declared.run.FirstOffence.{FirstOffence}
 use Rattle.lsp_explain.specs.declared.run_all.AllCauses.{AllCauses}
@@ -78,9 +79,10 @@ module _ (terms : Terms) (before : List Heard) (h : Heard) where
     -- an event that is kept says nothing
     pub first_kept : rule_of terms before h ≡ None
         → IsTrail terms next.trail (heard_events (before ++ h ∷ []))
+        → AreMisfits next.misfits (found_kept terms (heard_events (before ++ h ∷ [])))
         → Says (explain_run account.completeness) terms before h Fits old old
         (FirstStands next terms (before ++ h ∷ [])) GoOn
-    first_kept kept trail = record {
+    first_kept kept trail misfits = record {
       said = [];
       added = sym (append-nil old);
       is = λ rests fits. subst (λ (o : Option ℕ). SaysFirst rests terms
@@ -89,6 +91,7 @@ module _ (terms : Terms) (before : List Heard) (h : Heard) where
         ap is_some kept,
         record {
           trail = trail;
+          misfits = misfits;
           clean = first_after terms before h stands.clean ∙ none_is terms before h kept;
         },
       );
@@ -99,19 +102,22 @@ module _ (terms : Terms) (before : List Heard) (h : Heard) where
         (mid new : List ℕ) → boxed.value ≡ Judged given → rule_of terms before h ≡ Some rule
         → verdict_view given ≡ no_by events h.note.event rule
         → TellsOf terms before h rule Fits old mid
-        → new ≡ mid ++ note_lines (notes_by (verdict_view given) (noticed terms events))
+        → new ≡ mid ++ note_lines (notes_by (verdict_view given)
+        (noticed_by terms events (breach before h rule ∷ [])))
         → Says (explain_run account.completeness) terms before h Fits old new Stands
         (Stop boxed)
     first_told Stands rule given boxed mid new is_boxed offends verdict told noted =
         let e = told.e in
-        let notes : Verdict → List ℕ = λ v. note_lines (notes_by v (noticed terms events)) in
+        let own = breach before h rule in
+        let notes : Verdict → List ℕ = λ v. note_lines
+        (notes_by v (noticed_by terms events (own ∷ []))) in
         record {
-          said = first_lines terms before e;
+          said = first_lines terms own e;
           added = noted ∙ ap (λ w. w ++ notes (verdict_view given)) told.added
               ∙ append_assoc old (cause_lines e) (notes (verdict_view given))
               ∙ ap (λ v. old ++ (cause_lines e ++ notes v)) (verdict ∙ sym told.no_is);
           is = λ rests fits. subst (λ (o : Option ℕ). SaysFirst rests terms
-              (option_map (breach before h) o) (first_lines terms before e)) (sym offends)
+              (option_map (breach before h) o) (first_lines terms own e)) (sym offends)
               (e, told.explains rests fits, refl);
           goes = (
             ap is_some offends,

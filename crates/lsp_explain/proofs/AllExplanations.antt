@@ -48,18 +48,16 @@ said_nos explained = map (λ (e : Explained). e.no) explained
 
 -- ---- events
 
-filter_map : {A B : Type 0} (f : A → B) (p : B → Bool) (q : A → Bool) → ((x : A) → p (f x) ≡ q x)
-    → (xs : List A) → filter p (map f xs) ≡ map f (filter q xs)
-filter_map f p q same [] = refl
-filter_map {A} {B} f p q same (x ∷ xs) = by_test (q x) (same x) (filter_map f p q same xs)
+filter_map : {A B : Type 0} (f : A → B) (p : B → Bool) (xs : List A)
+    → filter p (map f xs) ≡ map f (filter (λ x. p (f x)) xs)
+filter_map f p [] = refl
+filter_map f p (x ∷ xs) = by_test (p (f x)) (filter_map f p xs)
   where
-    by_test : (b : Bool) → p (f x) ≡ b → filter p (map f xs) ≡ map f (filter q xs)
-        → (if p (f x) then f x ∷ filter p (map f xs) else filter p (map f xs))
-        ≡ map f (if b then x ∷ filter q xs else filter q xs)
-    by_test true is h = ap (λ (t : Bool). if t then f x ∷ filter p (map f xs) else filter p
-        (map f xs)) is ∙ ap (λ (w : List B). f x ∷ w) h
-    by_test false is h = ap (λ (t : Bool). if t then f x ∷ filter p (map f xs) else filter p
-        (map f xs)) is ∙ h
+    by_test : (b : Bool) → filter p (map f xs) ≡ map f (filter (λ x. p (f x)) xs)
+        → (if b then f x ∷ filter p (map f xs) else filter p (map f xs))
+        ≡ map f (if b then x ∷ filter (λ x. p (f x)) xs else filter (λ x. p (f x)) xs)
+    by_test true h = ap (λ (w : List _). f x ∷ w) h
+    by_test false h = h
 
 zip_nos : (rests : Rests) (terms : Terms) (found : List Breach) (said : List Explained)
     → AllZip (Explains rests terms) found said → said_nos said ≡ nos (map (offence_of terms) found)
@@ -77,8 +75,7 @@ causes_nos : (terms : Terms) (hs : List Heard)
     ≡ nos (shown_of false (offences terms (notes_of hs)))
 causes_nos terms hs =
     ap nos (sym (ap (shown_of false) (offences_are terms hs)
-    ∙ filter_map (offence_of terms) (λ (o : Offence). not o.follows) (is_cause terms)
-    (λ b. refl) (breaches terms hs)))
+    ∙ filter_map (offence_of terms) (λ (o : Offence). not o.follows) (breaches terms hs)))
 
 -- ---- the end
 

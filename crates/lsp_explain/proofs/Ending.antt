@@ -47,8 +47,8 @@ use Rattle.lsp_facts.specs.EventFacts.{flaw_facts}
 use Rattle.lsp_explain.specs.ExplainRuns.{flaw_held, rests_held, all_run, end_verdict, ends_said}
 use Rattle.lsp_explain.specs.ExplainRuns.{explain_run, flaw_at}
 use Rattle.lsp_explain.specs.Explained.{all_closing, cause_lines, Explained, end_explained}
-use Rattle.lsp_explain.specs.Explained.{explanation, flaw_lines, said_of}
-use Rattle.lsp_explain.specs.Notes.{noticed, note_lines, notes_by}
+use Rattle.lsp_explain.specs.Explained.{explanation, flaw_lines, noticed_by, said_of}
+use Rattle.lsp_explain.specs.Notes.{note_lines, notes_by}
 
 -- ---- what is listed of the end says nothing of a side whose frames have a fault
 
@@ -164,20 +164,20 @@ module _ (completeness : Completeness) (terms : Terms) (heard : List Heard) (e :
   abbrev first_end : Option (ℕ × LogCode) → List Fact → List Verdict → List Explained → List ℕ
   first_end fault flaw ends said =
       explanation (map by_itself ends) (take 1 said) (bad_log_of fault) flaw (summary terms all)
-      ++ note_lines (notes_by (end_verdict terms heard fault ends) (noticed terms all))
+      ++ note_lines (notes_by (end_verdict terms heard fault ends) (noticed_by terms all []))
 
   pub first_closes : (given : code.Verdict) (old mid new : List ℕ)
       → (mid ≡ old ++ explanation (map by_itself told)
       (take 1 (ends_said terms heard (rests_held e) told)) (bad_log_of (flaw_of end))
       (flaw_held e end) (summary terms all))
       × (verdict_view given ≡ end_verdict terms heard (flaw_of end) told)
-      → new ≡ mid ++ note_lines (notes_by (verdict_view given) (noticed terms all))
+      → new ≡ mid ++ note_lines (notes_by (verdict_view given) (noticed_by terms all []))
       → Closes (explain_run completeness) terms heard (IsEnd e end heard) old new (Judged given)
   first_closes given old mid new (first, verdict) last =
       let plain = explanation (map by_itself told)
       (take 1 (ends_said terms heard (rests_held e) told)) (bad_log_of (flaw_of end))
       (flaw_held e end) (summary terms all) in
-      let notes : Verdict → List ℕ = λ v. note_lines (notes_by v (noticed terms all)) in
+      let notes : Verdict → List ℕ = λ v. note_lines (notes_by v (noticed_by terms all [])) in
       let v = end_verdict terms heard (flaw_of end) told in
       record {
         said = plain ++ notes v;
@@ -244,18 +244,16 @@ module _ (completeness : Completeness) (terms : Terms) (heard : List Heard) (e :
 
 -- ---- what is listed
 
--- the first of it is the first end
-pub first_listed : (o : code_offence.Offence) (os : List code_offence.Offence) (ends : List Verdict)
-    → map offence_view (o ∷ os) ≡ map by_itself ends
-    → (vs : List Verdict) × (ends ≡ (offence_view o).no ∷ vs)
-first_listed o os [] is = absurd (cc is)
-first_listed o os (v ∷ vs) is =
-    let same : offence_view o ≡ by_itself v = cc is in
-    (vs, ap (λ (x : Verdict). x ∷ vs) (sym (ap (λ (x : Offence). x.no) same)))
-
-pub none_listed : (ends : List Verdict) → [] ≡ map by_itself ends → ends ≡ []
-none_listed [] is = refl
-none_listed (v ∷ vs) is = absurd (cc is)
+-- it is the ends
+pub nos_are : (os : List code_offence.Offence) (vs : List Verdict)
+    → map offence_view os ≡ map by_itself vs → map (λ o. (offence_view o).no) os ≡ vs
+nos_are [] [] is = refl
+nos_are [] (v ∷ vs) is = absurd (cc is)
+nos_are (o ∷ os) [] is = absurd (cc is)
+nos_are (o ∷ os) (v ∷ vs) is =
+    let first : offence_view o ≡ by_itself v = cc is in
+    let later : map offence_view os ≡ map by_itself vs = cc is in
+    λ i. ap (λ (x : Offence). x.no) first i ∷ nos_are os vs later i
 
 pub first_some : {A : Type 0} (xs : List A) (o : A) → Some o ≡ slice_get xs 0
     → (os : List A) × (xs ≡ o ∷ os)
@@ -308,15 +306,15 @@ module _ (completeness : Completeness) (terms : Terms) (heard : List Heard) (e :
       → (new ≡ old ++ explains) × (v ≡ end_verdict terms heard (flaw_of end) ends)
   ending_none v bad old mid new none bad_is (said, verdict) faulty =
       let flaw = flaw_lines (bad_log_of (flaw_of end)) (flaw_held e end) in
-      let empty = none_listed ends none in (
+      let empty = nos_are [] ends none in (
         faulty ∙ ap (λ w. w ++ flaw) said
             ∙ append_assoc old (report (first_verdict [] bad s)) flaw
             ∙ ap (λ (b : Option Verdict). old ++ (report (first_verdict [] b s) ++ flaw)) bad_is
             ∙ ap (λ (vs : List Verdict). old ++ explanation (map by_itself vs)
             (take 1 (ends_said terms heard (rests_held e) vs)) (bad_log_of (flaw_of end))
-            (flaw_held e end) s) (sym empty),
+            (flaw_held e end) s) empty,
         verdict ∙ ap (λ (b : Option Verdict). first_verdict [] b s) bad_is
-            ∙ ap (λ (vs : List Verdict). end_verdict terms heard (flaw_of end) vs) (sym empty),
+            ∙ ap (λ (vs : List Verdict). end_verdict terms heard (flaw_of end) vs) empty,
       )
 
   -- something is
@@ -328,7 +326,7 @@ module _ (completeness : Completeness) (terms : Terms) (heard : List Heard) (e :
       → v ≡ (offence_view o).no
       → (new ≡ old ++ explains) × (v ≡ end_verdict terms heard (flaw_of end) ends)
   ending_some o os own v old new listed same said verdict =
-      let first = first_listed o os ends listed in
+      let first = nos_are (o ∷ os) ends listed in
       let no = (offence_view o).no in
       let e_said : Explained = end_explained (rests_held e) (numbered terms (heard_events heard)) no
       in (
@@ -337,54 +335,37 @@ module _ (completeness : Completeness) (terms : Terms) (heard : List Heard) (e :
             ∙ ap (λ w. old ++ (report no ++ w)) (sym (append-nil (said_of e_said)))
             ∙ ap (λ (vs : List Verdict). old ++ explanation (map by_itself vs)
             (take 1 (ends_said terms heard (rests_held e) vs)) (bad_log_of (flaw_of end))
-            (flaw_held e end) s) (sym first.1),
-        verdict ∙ ap (λ (vs : List Verdict). end_verdict terms heard (flaw_of end) vs)
-            (sym first.1),
+            (flaw_held e end) s) first,
+        verdict ∙ ap (λ (vs : List Verdict). end_verdict terms heard (flaw_of end) vs) first,
       )
 
 -- one more of what is listed is said
-pub ends_more : (terms own : Terms) (heard : List Heard) (rests : Rests)
-    (xs : List code_offence.Offence) (i : ℕ) (x : code_offence.Offence) (old mid new : List ℕ)
-    → own ≡ terms → slice_get xs i ≡ Some x
+pub ends_more : (explained : Verdict → Explained) (xs : List code_offence.Offence) (i : ℕ)
+    (x : code_offence.Offence) (old mid new : List ℕ) → slice_get xs i ≡ Some x
     → mid ≡ old ++ flat_map cause_lines
-    (ends_said terms heard rests (map (λ o. (offence_view o).no) (take i xs)))
-    → new ≡ mid ++ cause_lines (end_explained rests (numbered own (heard_events heard))
-    (offence_view x).no)
+    (map explained (map (λ o. (offence_view o).no) (take i xs)))
+    → new ≡ mid ++ cause_lines (explained (offence_view x).no)
     → new ≡ old ++ flat_map cause_lines
-    (ends_said terms heard rests (map (λ o. (offence_view o).no) (take (i + 1) xs)))
-ends_more terms own heard rests xs i x old mid new same at said more =
+    (map explained (map (λ o. (offence_view o).no) (take (i + 1) xs)))
+ends_more explained xs i x old mid new at said more =
     let no : code_offence.Offence → Verdict = λ o. (offence_view o).no in
-    let explained : Verdict → Explained =
-    end_explained rests (numbered terms (heard_events heard)) in
-    let here = ends_said terms heard rests (map no (take i xs)) in
+    let here = map explained (map no (take i xs)) in
     let one = cause_lines (explained (no x)) in
-    more ∙ ap (λ (t : Terms). mid ++ cause_lines (end_explained rests
-    (numbered t (heard_events heard)) (no x))) same
-    ∙ ap (λ w. w ++ one) said
+    more ∙ ap (λ w. w ++ one) said
     ∙ append_assoc old (flat_map cause_lines here) one
     ∙ ap (λ w. old ++ (flat_map cause_lines here ++ w)) (sym (append-nil one))
     ∙ ap (λ w. old ++ w) (sym (flat_map-append cause_lines here (explained (no x) ∷ [])))
     ∙ ap (λ w. old ++ flat_map cause_lines w)
     (sym (map-append explained (map no (take i xs)) (no x ∷ [])))
-    ∙ ap (λ vs. old ++ flat_map cause_lines (ends_said terms heard rests vs))
-    (sym (map_one no xs i x at))
+    ∙ ap (λ vs. old ++ flat_map cause_lines (map explained vs)) (sym (map_one no xs i x at))
 
 -- what is said of all that is listed
-pub nos_listed : (terms : Terms) (heard : List Heard) (rests : Rests)
-    (xs : List code_offence.Offence) (ends : List Verdict) (old new : List ℕ)
+pub nos_listed : (own terms : Terms) (heard : List Heard) (rests : Rests)
+    (xs : List code_offence.Offence) (ends : List Verdict) (old new : List ℕ) → own ≡ terms
     → map offence_view xs ≡ map by_itself ends
     → new ≡ old ++ flat_map cause_lines
-    (ends_said terms heard rests (map (λ o. (offence_view o).no) xs))
+    (ends_said own heard rests (map (λ o. (offence_view o).no) xs))
     → new ≡ old ++ flat_map cause_lines (ends_said terms heard rests ends)
-nos_listed terms heard rests xs ends old new are said =
-    said ∙ ap (λ vs. old ++ flat_map cause_lines (ends_said terms heard rests vs)) (nos xs ends are)
-  where
-    nos : (os : List code_offence.Offence) (vs : List Verdict)
-        → map offence_view os ≡ map by_itself vs → map (λ o. (offence_view o).no) os ≡ vs
-    nos [] [] is = refl
-    nos [] (v ∷ vs) is = absurd (cc is)
-    nos (o ∷ os) [] is = absurd (cc is)
-    nos (o ∷ os) (v ∷ vs) is =
-        let first : offence_view o ≡ by_itself v = cc is in
-        let later : map offence_view os ≡ map by_itself vs = cc is in
-        λ i. ap (λ (x : Offence). x.no) first i ∷ nos os vs later i
+nos_listed own terms heard rests xs ends old new same are said =
+    said
+    ∙ (λ i. old ++ flat_map cause_lines (ends_said (same i) heard rests (nos_are xs ends are i)))

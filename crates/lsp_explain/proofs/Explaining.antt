@@ -1,6 +1,6 @@
 -- The events of a log that offend, and what is explained of them.
 use Rattle.std.proofs.Common.{ℕ, List, Option, sym, ◌∙◌, subst, ◌≡◌, [], ◌∷◌, ◌++◌, Some, None}
-use Rattle.std.proofs.Common.{refl, ap, append-nil, append_assoc, false}
+use Rattle.std.proofs.Common.{refl, ap, append-nil, append_assoc}
 use Rattle.std.specs.Prelude.{map, option_map, is_some}
 use Rattle.std.specs.List.{AllZip, cons_option, flat_map}
 use Rattle.std.proofs.lemmas.List.{map-append}
@@ -27,6 +27,7 @@ use Rattle.lsp_facts.specs.EventFacts.{flaw_facts, log_facts}
 use Rattle.lsp_log.specs.Log.{Record}
 use Rattle.lsp_log.specs.Place.{place_of}
 use Rattle.lsp_log.specs.declared.fault.LogCode.{LogCode}
+use Rattle.lsp_replay.proofs.TextRuns.{no_none}
 use Rattle.lsp_replay.specs.Run.{IsTold, Run, SaysAll, Tail}
 use Rattle.lsp_replay.specs.Telling.{rule_of}
 use Rattle.lsp_survey.specs.SessionEnds.{ends_of}
@@ -222,10 +223,6 @@ module _ (pick : Terms → List Heard → List Breach) (wanted : List Explained 
 
 -- ---- events at which a run does not stop
 
-pub none_broken : (o : Option ℕ) → is_some o ≡ false → o ≡ None
-none_broken None none = refl
-none_broken (Some rule) none = absurd (cc none)
-
 -- where it stops at the first that offends, none of those does
 pub clean_all : (run : Run) → ((terms : Terms) (before : List Heard) (h : Heard)
     → run.stops terms before h ≡ is_some (rule_of terms before h)) → (terms : Terms)
@@ -235,5 +232,5 @@ clean_all run stops terms rests before [] out is = refl
 clean_all run stops terms rests before (h ∷ hs) out (said, left, is, own, goes, later) =
     ap (λ (o : Option ℕ). cons_option (option_map (breach before h) o)
     (each_from (breach_at terms) (before ++ h ∷ []) hs))
-    (none_broken (rule_of terms before h) (sym (stops terms before h) ∙ goes))
+    (no_none (rule_of terms before h) (sym (stops terms before h) ∙ goes))
     ∙ clean_all run stops terms rests (before ++ h ∷ []) hs left later

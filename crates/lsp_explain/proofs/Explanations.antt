@@ -30,8 +30,8 @@ use Rattle.lsp_explain.specs.ExplainRuns.{first_lines, flaw_at}
 use Rattle.lsp_explain.specs.Explained.{BeginsExplanation, Breach, Explained, Explains}
 use Rattle.lsp_explain.specs.Explained.{IsExplanation, WritesExplanation, before_first, breach}
 use Rattle.lsp_explain.specs.Explained.{breach_at, breaches, explanation, first_breach}
-use Rattle.lsp_explain.specs.Explained.{noticed_before, said_of}
-use Rattle.lsp_explain.specs.Notes.{Noticed, noticed, note_lines, notes_by}
+use Rattle.lsp_explain.specs.Explained.{noticed_before, noticed_by, said_of}
+use Rattle.lsp_explain.specs.Notes.{Noticed, note_lines, notes_by}
 use Rattle.lsp_explain.proofs.Explaining.{breaches-first, offence_of, offences_are, written_verdict}
 use Rattle.lsp_explain.proofs.Explaining.{clean_all, explained_told}
 use Rattle.lsp_explain.proofs.OneExplanation.{some_explanation}
@@ -98,12 +98,13 @@ module _ (completeness : Completeness) where
       lists = sym (ap (λ w. w ++ map by_itself ends)
           (offences_are terms p.heard ∙ ap (map (offence_of terms)) all))
 
-      noticed_is : noticed_before terms p.heard ≡ noticed terms (heard_events x.first)
+      noticed_is : noticed_before terms p.heard
+          ≡ noticed_by terms (heard_events x.first) (own ∷ [])
       noticed_is = ap (λ (bs : List Breach).
-          noticed terms (heard_events (before_first bs p.heard))) all
+          noticed_by terms (heard_events (before_first bs p.heard)) bs) all
 
       said_here : (e : Explained) → Explains p.tail.rests terms own e
-          → x.last ≡ first_lines terms x.first e → Due own_no out
+          → x.last ≡ first_lines terms own e → Due own_no out
       unfolding explained_told
       said_here e explains last = record {
         found = found;
@@ -160,8 +161,8 @@ module _ (completeness : Completeness) where
         let found : List Offence = map by_itself ends in
         let explained : List Explained = take 1 (ends_said terms p.heard p.tail.rests ends) in
         let v : Verdict = end_verdict terms p.heard p.tail.fault ends in
-        let noticed_is : noticed_before terms p.heard ≡ noticed terms (heard_events p.heard) =
-        ap (λ (bs : List Breach). noticed terms (heard_events (before_first bs p.heard))) none in
+        let noticed_is : noticed_before terms p.heard ≡ noticed_by terms (heard_events p.heard) [] =
+        ap (λ (bs : List Breach). noticed_by terms (heard_events (before_first bs p.heard)) bs) none in
         let judged = x.closes.1 in (
           judged.0,
           judged.1,

@@ -1,8 +1,8 @@
 -- What the kept events do, the last ones of a list, and the documents that were opened, closed,
 -- changed and shown, with one more.
 use Rattle.std.specs.Prelude.{◌-◌, drop, length, map, nat_lt, not, option_map, reverse}
-use Rattle.std.specs.Prelude.{if◌then◌else◌, is_some, string_bytes, ◌||◌, String}
-use Rattle.std.specs.List.{find, take_while, cons_option, fold, list_any}
+use Rattle.std.specs.Prelude.{if◌then◌else◌, is_some, String}
+use Rattle.std.specs.List.{find, take_while, cons_option, fold}
 use Rattle.std.specs.Option.{option_or}
 use Rattle.std.proofs.Common.{◌≡◌, ◌<◌, ◌+◌, ℕ, Bool, true, false, List, [], ◌∷◌, ◌++◌, Bor, Option}
 use Rattle.std.proofs.Common.{Some, None, refl, sym, ap, ◌∙◌, arith, append-nil}
@@ -13,7 +13,8 @@ use Rattle.std.proofs.lemmas.List.Folds.{find-append}
 use Rattle.std.proofs.lemmas.List.Sums.{take_while-cons, fold-append}
 use Rattle.std.proofs.lemmas.List.Elements.{filter_map-append}
 use Rattle.std.specs.Global.{Global}
-use Rattle.std.specs.Str.{bytes_eq}
+use Rattle.indexmap.proofs.ReorderLemmas.{map-reverse}
+use Rattle.lsp_docs.proofs.Others.{find-map}
 use Rattle.lsp_docs.specs.Documents.{Terms}
 use Rattle.lsp_verdict.specs.Event.{Event}
 use Rattle.lsp_verdict.specs.Offences.{kept_of, rule_at}
@@ -24,7 +25,7 @@ use Rattle.lsp_explain.specs.History.{last_ones, last_that, since_last, with_roo
 use Rattle.lsp_explain.specs.History.{each_kept, kept_as, OnDocument, is_change, is_closing}
 use Rattle.lsp_explain.specs.History.{is_opening, is_showing}
 use Rattle.lsp_explain.specs.declared.trail.step.Step.{Step}
-use Rattle.lsp_explain.specs.Openings.{OpenedBy, OpensBy, Touches, has_name, most_closings}
+use Rattle.lsp_explain.specs.Openings.{OpenedBy, OpensBy, Touches, most_closings}
 use Rattle.lsp_explain.specs.Openings.{most_openings, names_view, touched, with_name}
 use Rattle.lsp_explain.specs.declared.trail.openings.Openings.{Openings}
 
@@ -96,25 +97,7 @@ last_of_parts p first second all x y is_x is_y whole =
 -- it is seen as the last one of those that are seen
 last_seen : {A B : Type 0} (view : A → B) (p : B → Bool) (xs : List A)
     → option_map view (last_that (λ x. p (view x)) xs) ≡ last_that p (map view xs)
-last_seen view p xs = found (reverse xs) ∙ ap (find p) (turned xs)
-  where
-    found : (ys : List _) → option_map view (find (λ x. p (view x)) ys) ≡ find p (map view ys)
-    found [] = refl
-    found (y ∷ ys) = by_test (p (view y)) (found ys)
-      where
-        by_test : (b : Bool) → option_map view (find (λ x. p (view x)) ys) ≡ find p (map view ys)
-            → option_map view (if b then Some y else find (λ x. p (view x)) ys)
-            ≡ (if b then Some (view y) else find p (map view ys))
-        by_test true is = refl
-        by_test false is = is
-
-    turned : (ys : List _) → map view (reverse ys) ≡ reverse (map view ys)
-    turned [] = refl
-    turned (y ∷ ys) =
-        ap (map view) (reverse-append (y ∷ []) ys)
-        ∙ map-append view (reverse ys) (y ∷ [])
-        ∙ ap (λ (l : List _). l ++ view y ∷ []) (turned ys)
-        ∙ sym (reverse-append (view y ∷ []) (map view ys))
+last_seen view p xs = sym (find-map p view (reverse xs)) ∙ ap (find p) (map-reverse view xs)
 
 -- the same in two parts
 pub last_held : {A B : Type 0} (view : A → B) (p : B → Bool) (first second all : List A)
@@ -172,14 +155,6 @@ pub doing-push : (kind : Step → Bool) (calls : List KeptCall) (k : KeptCall)
 doing-push kind calls k = filter_map-append _ calls (k ∷ [])
 
 -- ---- the documents that were opened, closed, changed and shown, with one kept call more
-
--- one of those that are held has the URI
-pub held_name : (uri : List ℕ) (names : List (String Global))
-    → list_any (λ name. bytes_eq (string_bytes name) uri) names
-    ≡ has_name uri (names_view names)
-held_name uri [] = refl
-held_name uri (name ∷ names) =
-    ap (λ b. bytes_eq (string_bytes name) uri || b) (held_name uri names)
 
 -- the first documents of these, and of those behind them
 touched-more : (ons more : List OnDocument) (old new : List (String Global))

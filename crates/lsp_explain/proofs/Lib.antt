@@ -11,6 +11,8 @@ pub mod SaidFacts
 pub mod Methods
 pub mod Standard
 pub mod Quiet
+pub mod DocumentNoting
+pub mod Misfitting
 pub mod Trails
 pub mod Ending
 pub mod Comparing

@@ -48,21 +48,13 @@ agree a b to from name = by_answer (use_among b name) refl
     by_answer None is = by_none (use_among a name) refl is
     by_answer (Some has) is = from name has is ∙ sym is
 
-table_in : AreIn standard table
-unfolding standard table use_among
-table_in = refl
-
-standard_in : AreIn table standard
-unfolding standard table use_among
-standard_in = refl
-
 pub methods_have_rows : MethodsHaveRows
-unfolding use_of
-methods_have_rows = found table standard standard_in
+unfolding use_of use_among standard table
+methods_have_rows = found table standard refl
 
 pub rows_are_standard : RowsAreStandard
-unfolding use_of
-rows_are_standard = found standard table table_in
+unfolding use_of use_among standard table
+rows_are_standard = found standard table refl
 
 -- **what the table says is what has the method**
 pub use_is : (name : List ℕ) → use_among table name ≡ use_of name

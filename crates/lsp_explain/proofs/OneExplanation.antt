@@ -263,13 +263,6 @@ module _ (pick : Terms → List Heard → List Breach) (wanted : List Explained 
             (flaw_of limits log x) (sum_of limits x)) same ∙ sym q.3,
       )
 
-  both_say : IsInRange limits → (x y : Parts) (v w : Verdict) (out other : List ℕ)
-      → AreParts limits log x → AreParts limits log y → Says x v out → Says y w other
-      → (v ≡ w) × (out ≡ other)
-  both_say sizes x y v w out other p q first second =
-      says_one y v w out other
-      (subst (λ z. Says z v out) (one_parts limits sizes log x y p q) first) second
-
   -- what is written says so of the parts of the log
   parts_say : (v : Verdict) (out : List ℕ)
       → IsWritten pick wanted write completeness limits log v out
@@ -305,7 +298,8 @@ module _ (pick : Terms → List Heard → List Breach) (wanted : List Explained 
   one_written sizes v w out other p q =
       let first = parts_say v out p in
       let second = parts_say w other q in
-      both_say sizes first.0 second.0 v w out other first.1 second.1 first.2 second.2
+      says_one second.0 v w out other (subst (λ x. Says x v out)
+      (one_parts limits sizes log first.0 second.0 first.1 second.1) first.2) second.2
 
   some_written : ((terms : Terms) (heard : List Heard)
       → AllByRecursion (Offends terms) (breaches terms heard)

@@ -3,7 +3,8 @@ use Rattle.std.specs.Prelude.{◌&&◌, not, if◌then◌else◌, is_some, optio
 use Rattle.std.specs.Prelude.{option_to_list, unwrap_or}
 use Rattle.std.specs.Option.{option_or}
 use Rattle.std.proofs.Common.{◌≡◌, Bool, true, false, List, [], ◌∷◌, ◌++◌, Option, Some, None}
-use Rattle.std.proofs.Common.{inr, refl, sym, ap, ◌∙◌, append-nil, subst}
+use Rattle.std.proofs.Common.{arith, inr, refl, sym, ap, ◌∙◌, append-nil, subst}
+use Rattle.std.proofs.lemmas.Bool.Decides.{nat_tests}
 use Rattle.std.proofs.lemmas.List.Elements.{filter_map-append}
 use Rattle.lsp_docs.proofs.Entries.{is_some-mapped}
 use Rattle.lsp_docs.specs.Calls.{Call}
@@ -11,13 +12,15 @@ use Rattle.lsp_docs.specs.Documents.{Terms}
 use Rattle.lsp_replay.specs.Lines.{place_of}
 use Rattle.lsp_replay.specs.declared.heard.EventPlace.{EventPlace}
 use Rattle.lsp_rpc.specs.Ident.{Ident, id_view}
-use Rattle.lsp_rpc.specs.Message.{Message, notification}
+use Rattle.lsp_rpc.specs.Message.{Message}
 use Rattle.lsp_rpc.specs.Outline.{outline, without_params}
 use Rattle.lsp_rpc.specs.Params.{act_at}
 use Rattle.lsp_session.proofs.Steps.{option_or-none}
 use Rattle.lsp_session.specs.Handshake.{Settled, first_settled, is_done, is_empty, open_initializes}
 use Rattle.lsp_session.specs.Handshake.{phase, was_sent}
 use Rattle.lsp_session.specs.Sent.{Sent, answered_from, is_exit, is_initialized, is_shutdown}
+use Rattle.lsp_session.specs.Requests.{names}
+use Rattle.lsp_session.specs.Sent.{same_side}
 use Rattle.lsp_session.specs.Negotiation.{agreed_at, encoding, sync_kind}
 use Rattle.lsp_session.specs.State.{State, state_of}
 use Rattle.lsp_session.specs.declared.phase.Phase.{Phase}
@@ -77,20 +80,10 @@ done_kept : (a b : List Sent) → state_of a ≡ state_of b → is_done a ≡ is
 done_kept a b same = sym (agrees a) ∙ ap (λ (s : State). is_some s.agreed) same ∙ agrees b
 
 leads_none : (p : EventPlace) (own : Phase) → leads p own own ≡ None
-leads_none p phases.Fresh = refl
-leads_none p phases.Waiting = refl
-leads_none p phases.Answered = refl
-leads_none p phases.Ready = refl
-leads_none p phases.Stopping = refl
-leads_none p phases.Exited = refl
+leads_none p own = grind (arith, nat_tests)
 
 abrupt_none : (p : EventPlace) (own : Phase) → abrupt p own own ≡ None
-abrupt_none p phases.Fresh = refl
-abrupt_none p phases.Waiting = refl
-abrupt_none p phases.Answered = refl
-abrupt_none p phases.Ready = refl
-abrupt_none p phases.Stopping = refl
-abrupt_none p phases.Exited = refl
+abrupt_none p own = grind (arith, nat_tests)
 
 -- **what a session keeps stays**
 quiet_state : (terms : Terms) (events : List Event) (m : Sent) (enc : Encoding) (kind : SyncKind)
@@ -106,26 +99,19 @@ quiet_state terms events m enc kind call kept_now means says =
 
 -- ---- what is kept
 
+neither : (b : Bool) → (let none : Option Ident = None in if b then none else none) ≡ None
+neither true = refl
+neither false = refl
+
 module _ (p : EventPlace) (side : Side) (said : Message) (heard : IsOnDocument side said) where
   asks_none : (own : Side) (id : Ident) → asks own id p side said ≡ None
-  asks_none own id = ap (asks own id p side) heard.is ∙ by_sides own side
-    where
-      by_sides : (own by : Side)
-          → asks own id p by (notification heard.method heard.params) ≡ None
-      by_sides Editor Editor = refl
-      by_sides Editor Server = refl
-      by_sides Server Editor = refl
-      by_sides Server Server = refl
+  asks_none own id =
+      ap (asks own id p side) heard.is
+      ∙ ap (λ o. if names o id then Some (Some p) else (if names o id then Some None else None))
+      (neither (same_side own side))
 
   answers_none : (own : Side) → answered_from own side said ≡ None
-  answers_none own = ap (answered_from own side) heard.is ∙ by_sides own side
-    where
-      by_sides : (own by : Side)
-          → answered_from own by (notification heard.method heard.params) ≡ None
-      by_sides Editor Editor = refl
-      by_sides Editor Server = refl
-      by_sides Server Editor = refl
-      by_sides Server Server = refl
+  answers_none own = ap (answered_from own side) heard.is ∙ neither (same_side own side)
 
   exchanges_none : (own : Side) (e : Exchange) → Exchanges own p side said e e
   exchanges_none own e = record {

@@ -1,7 +1,7 @@
 -- What is said of an event that offends, by what was seen of it.
-use Rattle.std.specs.Prelude.{◌⊎◌, ℤ, codes, if◌then◌else◌, nat_lt, option_and_then}
+use Rattle.std.specs.Prelude.{◌⊎◌, ℤ, if◌then◌else◌, nat_lt, option_and_then}
 use Rattle.std.specs.Option.{option_or}
-use Rattle.std.proofs.Common.{◌≡◌, ◌<◌, ◌≤◌, ◌∷◌, ◌++◌, [], ℕ, Bool, Bor, List, Option, Some, None}
+use Rattle.std.proofs.Common.{◌≡◌, ◌<◌, ◌≤◌, ◌++◌, [], ℕ, Bool, Bor, List, Option, Some, None}
 use Rattle.std.proofs.Common.{append-nil, arith, false, inl, inr, refl, sym, ap, ◌∙◌, subst, true}
 use Rattle.std.proofs.lemmas.Bool.Decides.{nat_tests}
 use Rattle.std.proofs.lemmas.Option.{same_Some}
@@ -14,31 +14,27 @@ use Rattle.lsp_rpc.specs.Act.{Act}
 use Rattle.lsp_rpc.specs.Message.{Message, request, notification, response}
 use Rattle.lsp_rpc.specs.Outline.{outline, without_params}
 use Rattle.lsp_rpc.specs.View.{message_view}
-use Rattle.lsp_rpc.specs.Words.{response_id_text}
 use Rattle.lsp_rpc.specs.declared.act.Spoken.{Spoken}
 use Rattle.lsp_session.proofs.LeastRuleLemmas.{rules_end}
-use Rattle.lsp_session.specs.Handshake.{Settled, open_initializes, phase, settled_among}
+use Rattle.lsp_session.specs.Handshake.{open_initializes, settled_among}
 use Rattle.lsp_session.specs.OpenInitialize.{Initialize}
 use Rattle.lsp_session.specs.Rules.{rule_after}
 use Rattle.lsp_session.specs.Sent.{Sent}
-use Rattle.lsp_types.specs.declared.rules.TheConstants as rules
 use Rattle.lsp_types.specs.declared.side.Side.{Side}
 use Rattle.lsp_verdict.specs.Event.{Event, call_at, calls, message, fault, sent_in, snapshot}
 use Rattle.lsp_verdict.specs.Heard.{Rests, rest_of}
 use Rattle.lsp_verdict.specs.Given.{raw_view}
-use Rattle.lsp_verdict.specs.Offences.{is_within, kept_of, said_at}
+use Rattle.lsp_verdict.specs.Offences.{kept_of, said_at}
 use Rattle.lsp_verdict.specs.Placed.{Raw, Reads, broken, content}
-use Rattle.lsp_verdict.specs.Report.{line}
 use Rattle.lsp_verdict.specs.Verdict.{document_rule, offence}
 use Rattle.lsp_verdict.specs.declared.raw.Raw as lent
 use Rattle.lsp_verdict.specs.declared.raw.Raw.TheVariants as lents
 use Rattle.lsp_verdict.specs.declared.verdict.Who.{Who}
 use Rattle.lsp_facts.specs.EventFacts.{content_facts, AreCallFacts, AreFacts, AreFactsBy}
-use Rattle.lsp_facts.specs.EventFacts.{early_facts, frame_facts, front_facts, id_in, register_facts}
-use Rattle.lsp_facts.specs.EventFacts.{session_facts, settled_facts}
-use Rattle.lsp_facts.specs.Fact.{Fact, bare_event, content_event, event_line, in_phase}
-use Rattle.lsp_facts.specs.Fact.{message_event}
+use Rattle.lsp_facts.specs.EventFacts.{frame_facts, front_facts, id_in, session_facts}
+use Rattle.lsp_facts.specs.Fact.{Fact, bare_event, content_event, event_line, message_event}
 use Rattle.lsp_facts.proofs.SomeFacts.{id_in-outline, message_named, same_line}
+use Rattle.lsp_explain.proofs.SessionSteps.{alike}
 use Rattle.lsp_explain.specs.Asking.{Numbered, numbered}
 use Rattle.lsp_explain.specs.Traced.{AreTraced, said_traced, session_trace, setter_at, traced}
 
@@ -161,7 +157,7 @@ bare_settles opens side (response id reply) = refl
 module _ (rule : ℕ) (m : Sent) (side : Side) (said : Message) (by : m.side ≡ side)
     (same : outline m.message ≡ outline said) where
   same_id : id_in said ≡ id_in m.message
-  same_id = id_in-outline said ∙ sym (ap id_in same) ∙ sym (id_in-outline m.message)
+  same_id = alike id_in m.message said id_in-outline same
 
   -- what is traced of it
   pub trace_heard : (before : List Numbered)
@@ -174,24 +170,12 @@ module _ (rule : ℕ) (m : Sent) (side : Side) (said : Message) (by : m.side ≡
       → (open_initializes before ≡ []) ⊎ (said ≡ without_params m.message)
       → session_facts rule before (record { side = side; message = said; act = act })
       ≡ session_facts rule before m
-  session_heard before act means has_value =
-      λ i. facts (line (codes "id" ∷ response_id_text (same_id i) ∷ [])) (sym means i)
-      (settles has_value i)
+  session_heard before act means has_value = rw (same_id, ← means, settles has_value) refl
     where
-      facts : Fact → Act → Option Settled → List Fact
-      facts id does settled =
-          if is_within rules.RESPONSE_TO_NO_OPEN_REQUEST rules.ID_ALREADY_OPEN rule then id ∷ []
-          else (if is_within rules.EDITOR_BEFORE_INITIALIZE rules.SERVER_WHILE_INITIALIZE_OPEN rule
-          then early_facts rule before does ++ in_phase (phase before) ∷ []
-          else (if is_within rules.BAD_INITIALIZE_RESULT rules.ENCODING_OUTSIDE_PROFILE rule
-          then settled_facts settled else register_facts does))
-
       settles : (open_initializes before ≡ []) ⊎ (said ≡ without_params m.message)
           → settled_among (open_initializes before) side said
           ≡ settled_among (open_initializes before) m.side m.message
-      settles (inl none) =
-          ap (λ (l : List Initialize). settled_among l side said) none
-          ∙ sym (ap (λ (l : List Initialize). settled_among l m.side m.message) none)
+      settles (inl none) = rw none refl
       settles (inr bare) =
           (λ i. settled_among (open_initializes before) (sym by i) (bare i))
           ∙ bare_settles (open_initializes before) m.side m.message

@@ -1,11 +1,10 @@
 -- What is kept of requests and phases, and for the notes, with one message more.
-use Rattle.std.specs.Prelude.{if◌then◌else◌, ◌⊎◌, ◌&&◌, ◌||◌, not, string_bytes, option_and_then}
+use Rattle.std.specs.Prelude.{if◌then◌else◌, ◌⊎◌, ◌&&◌, not, option_and_then}
 use Rattle.std.specs.Prelude.{unwrap_or, is_some, map, option_map, option_to_list}
 use Rattle.std.specs.Option.{option_or}
 use Rattle.std.proofs.Common.{◌≡◌, Bool, true, false, Option, Some, None, refl, ℕ, List, [], ◌∷◌}
 use Rattle.std.proofs.Common.{◌++◌, inl, inr, sym, ap, ◌∙◌, append-nil, subst}
-use Rattle.std.specs.List.{cons_option, filter_map, list_any}
-use Rattle.std.specs.Str.{bytes_eq}
+use Rattle.std.specs.List.{cons_option, filter_map}
 use Rattle.std.proofs.lemmas.List.{map-append}
 use Rattle.std.proofs.lemmas.List.Elements.{filter_map-append}
 use Rattle.std.proofs.lemmas.Option.{same_Some}
@@ -40,10 +39,9 @@ use Rattle.lsp_docs.specs.Documents.{Terms}
 use Rattle.lsp_explain.specs.Asking.{Numbered, numbered_as, sents, Reply, asks, asks_by, leads}
 use Rattle.lsp_explain.specs.Asking.{leads_by, message_kept, most_replies, numbered, replies}
 use Rattle.lsp_explain.specs.Asking.{reply_by, reply_of}
-use Rattle.lsp_explain.specs.SessionNotes.{Misused, has_method, misuse_at, misuse_in, misused_views}
+use Rattle.lsp_explain.specs.SessionNotes.{Misused, misuse_at, misuse_in, misused_views}
 use Rattle.lsp_explain.specs.SessionNotes.{misuses, misuses_after, with_misuse, AreNotes, NotesBy}
 use Rattle.lsp_explain.specs.SessionNotes.{abrupt_by, older_held, older_in, older_of}
-use Rattle.lsp_explain.specs.declared.trail.misuses.Misused as code
 use Rattle.lsp_explain.specs.declared.trail.notes.Notes.{Notes}
 use Rattle.lsp_explain.specs.History.{kept_as, last_ones}
 use Rattle.lsp_explain.specs.Renames.{RenamesBy, RenamesIn, call_by}
@@ -64,19 +62,12 @@ or_if false x o = refl
 
 -- ---- what is kept for the notes, with one message more
 
-pub filter_map-snoc : {A X : Type 0} (f : A → Option X) (xs : List A) (x : A)
-    → filter_map f (xs ++ x ∷ []) ≡ filter_map f xs ++ cons_option (f x) []
-filter_map-snoc f xs x = filter_map-append f xs (x ∷ [])
+-- what is asked of a message apart from its params and its result is the same of both
+pub alike : {X : Type 0} (f : Message → X) (m said : Message) → ((w : Message) → f w ≡ f (outline w))
+    → outline m ≡ outline said → f said ≡ f m
+alike f m said each same = each said ∙ sym (ap f same) ∙ sym (each m)
 
 -- ---- calls that are misused
-
--- one of those that are held has the method
-pub held_named : (name : List ℕ) (items : List code.Misused)
-    → list_any (λ (x : code.Misused). bytes_eq (string_bytes x.method) name) items
-    ≡ has_method name (misused_views items)
-held_named name [] = refl
-held_named name (x ∷ xs) =
-    ap (λ b. bytes_eq (string_bytes x.method) name || b) (held_named name xs)
 
 pub misuse-outline : (p : EventPlace) (side : Side) (m : Message)
     → misuse_in p side m ≡ misuse_in p side (outline m)
@@ -93,7 +84,7 @@ misuses_after-push found (y ∷ ys) x = misuses_after-push (with_misuse found (S
 misuses-push : (said : List Numbered) (m : Numbered)
     → misuses (said ++ m ∷ []) ≡ with_misuse (misuses said) (misuse_at m)
 misuses-push said m =
-    ap (misuses_after []) (filter_map-snoc misuse_at said m) ∙ by_one (misuse_at m)
+    ap (misuses_after []) (filter_map-append misuse_at said (m ∷ [])) ∙ by_one (misuse_at m)
   where
     by_one : (o : Option Misused)
         → misuses_after [] (filter_map misuse_at said ++ cons_option o [])
@@ -108,8 +99,8 @@ misuse_more : (p : EventPlace) (m : Sent) (said : Message) (before : List Number
 misuse_more p m said before old new same are more =
     more
     ∙ ap (λ (w : List Misused). with_misuse w (misuse_in p m.side said)) are
-    ∙ ap (with_misuse (misuses before)) (misuse-outline p m.side said
-    ∙ sym (ap (misuse_in p m.side) same) ∙ sym (misuse-outline p m.side m.message))
+    ∙ ap (with_misuse (misuses before))
+    (alike (misuse_in p m.side) m.message said (misuse-outline p m.side) same)
     ∙ sym (misuses-push before (numbered_as p m))
 
 -- ---- the older `offsetEncoding`
@@ -254,14 +245,6 @@ as_list (Some x) = refl
 module _ (side : Side) (p : EventPlace) (m : Sent) (said : Message)
     (same : outline m.message ≡ outline said)
   where
-    same_asks : (id : Ident) → asks side id p m.side said ≡ asks side id p m.side m.message
-    same_asks id = asks-outline side id p m.side said ∙ sym (ap (asks side id p m.side) same)
-        ∙ sym (asks-outline side id p m.side m.message)
-
-    same_answered : answered_from side m.side said ≡ answered_from side m.side m.message
-    same_answered = answered-outline side m.side said ∙ sym (ap (answered_from side m.side) same)
-        ∙ sym (answered-outline side m.side m.message)
-
     exchanged : (old new : Exchange) (before : List Numbered) → IsExchange side old before
         → Exchanges side p m.side said old new
         → IsExchange side new (before ++ numbered_as p m ∷ [])
@@ -270,19 +253,21 @@ module _ (side : Side) (p : EventPlace) (m : Sent) (said : Message)
           more.asked k
           ∙ ap (λ (o : Option (Option EventPlace)).
           unwrap_or o (place_in old.asked (id_view k)))
-          (same_asks (id_view k))
+          (alike (asks side (id_view k) p m.side) m.message said
+          (asks-outline side (id_view k) p m.side) same)
           ∙ ap (unwrap_or (asks side (id_view k) p m.side m.message)) (is.asked_is k)
-          ∙ sym (ap (last_or None) (filter_map-snoc (asks_by side (id_view k)) before
-          (numbered_as p m)) ∙ last_behind None (filter_map (asks_by side (id_view k)) before)
+          ∙ sym (ap (last_or None) (filter_map-append (asks_by side (id_view k)) before
+          (numbered_as p m ∷ [])) ∙ last_behind None (filter_map (asks_by side (id_view k)) before)
           (asks side (id_view k) p m.side m.message));
       replies_are =
           more.replies (replies side before) is.replies_are
           ∙ ap (λ (o : Option Ident). last_ones most_replies
-          (replies side before ++ option_to_list (reply_of p o))) same_answered
+          (replies side before ++ option_to_list (reply_of p o)))
+          (alike (answered_from side m.side) m.message said (answered-outline side m.side) same)
           ∙ ap (λ (l : List Reply). last_ones most_replies (replies side before ++ l))
           (as_list (reply_of p (answered_from side m.side m.message)))
           ∙ ap (last_ones most_replies)
-          (sym (filter_map-snoc (reply_by side) before (numbered_as p m)));
+          (sym (filter_map-append (reply_by side) before (numbered_as p m ∷ [])));
     }
 
 -- ---- one event more

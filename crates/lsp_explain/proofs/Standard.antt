@@ -1,6 +1,6 @@
 -- A message that says something of a document is a notification, sent as LSP 3.17 defines it, and
 -- says nothing of files.
-use Rattle.std.specs.Prelude.{codes, if◌then◌else◌, option_and_then, option_map}
+use Rattle.std.specs.Prelude.{if◌then◌else◌, option_and_then, option_map}
 use Rattle.std.specs.Str.{bytes_eq}
 use Rattle.std.proofs.Common.{◌≡◌, ◌⊎◌, ◌∙◌, ℕ, Bool, true, false, List, [], ◌∷◌, Option, Some, None}
 use Rattle.std.proofs.Common.{inl, inr, refl, sym, ap, subst}
@@ -63,22 +63,6 @@ plain_params : (shape : Data → Option Act)
 plain_params shape each None act e = absurd cc
 plain_params shape each (Some d) act e = each d act e
 
-open_right : notification_misuse Editor (codes "textDocument/didOpen") ≡ None
-unfolding use_of use_among standard
-open_right = refl
-
-change_right : notification_misuse Editor (codes "textDocument/didChange") ≡ None
-unfolding use_of use_among standard
-change_right = refl
-
-close_right : notification_misuse Editor (codes "textDocument/didClose") ≡ None
-unfolding use_of use_among standard
-close_right = refl
-
-save_right : notification_misuse Editor (codes "textDocument/didSave") ≡ None
-unfolding use_of use_among standard
-save_right = refl
-
 cancels : (params : Option Data) (act : Act) → option_and_then cancel_at params ≡ Some act
     → IsPlain act
 cancels = plain_params cancel_at (λ d act e. plain_id cancel (λ id enc kind. refl) _ act e)
@@ -88,17 +72,18 @@ progresses : (params : Option Data) (act : Act) → option_and_then progress_at 
 progresses = plain_params progress_at (λ d act e. plain_id progress (λ id enc kind. refl) _ act e)
 
 right_rows : (side : Side) → AreRight side (notifications side)
+unfolding use_of use_among standard
 right_rows Editor = (
   λ params act e. inl (plain initialized act (λ enc kind. refl) e),
   (
     λ params act e. inl (plain exit act (λ enc kind. refl) e),
     (
-      λ params act e. inr (open_right, refl),
+      λ params act e. inr (refl, refl),
       (
-        λ params act e. inr (change_right, refl),
+        λ params act e. inr (refl, refl),
         (
-          λ params act e. inr (close_right, refl),
-          (λ params act e. inr (save_right, refl), (λ params act e. inl (cancels params act e), tt)),
+          λ params act e. inr (refl, refl),
+          (λ params act e. inr (refl, refl), (λ params act e. inl (cancels params act e), tt)),
         ),
       ),
     ),

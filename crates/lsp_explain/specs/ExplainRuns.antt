@@ -1,6 +1,6 @@
 -- What is said where the verdict on a log is explained, or all that is wrong with it.
-use Rattle.std.specs.Prelude.{◌≡◌, ◌||◌, ℕ, List, [], ◌++◌, map, take, filter, Bool, false, true}
-use Rattle.std.specs.Prelude.{not, is_some, Option, Some, None}
+use Rattle.std.specs.Prelude.{◌≡◌, ◌||◌, ℕ, List, [], ◌∷◌, ◌++◌, map, take, filter, Bool, false}
+use Rattle.std.specs.Prelude.{true, not, is_some, Option, Some, None}
 use Rattle.std.specs.List.{AllZip, cons_option, flat_map}
 use Rattle.lsp_docs.specs.Documents.{Terms}
 use Rattle.lsp_log.specs.declared.fault.LogCode.{LogCode}
@@ -24,7 +24,9 @@ use Rattle.lsp_facts.specs.EventFacts.{flaw_facts}
 use Rattle.lsp_explain.specs.Asking.{numbered}
 use Rattle.lsp_explain.specs.Explained.{all_closing, cause_lines, is_cause, Breach, Explained}
 use Rattle.lsp_explain.specs.Explained.{Explains, breach_at, end_explained, explanation, breach}
-use Rattle.lsp_explain.specs.Notes.{noticed, note_lines, notes_by}
+use Rattle.lsp_explain.specs.Explained.{noticed_by}
+use Rattle.lsp_explain.specs.Misfits.{AreMisfits, found_kept}
+use Rattle.lsp_explain.specs.Notes.{note_lines, notes_by}
 use Rattle.lsp_explain.specs.Trails.{IsTrail}
 use Rattle.lsp_explain.specs.declared.run.FirstOffence.{FirstOffence}
 use Rattle.lsp_explain.specs.declared.run_all.AllCauses.{AllCauses}
@@ -32,15 +34,16 @@ use Rattle.lsp_explain.specs.declared.run_all.AllCauses.{AllCauses}
 -- ---- an event that offends
 
 -- what is said about it, and the notes on the messages before it
-abbrev pub first_lines : Terms → List Heard → Explained → List ℕ
-first_lines terms before e =
-    cause_lines e ++ note_lines (notes_by e.no (noticed terms (heard_events before)))
+abbrev pub first_lines : Terms → Breach → Explained → List ℕ
+first_lines terms b e =
+    cause_lines e ++ note_lines (notes_by e.no
+    (noticed_by terms (heard_events b.before) (b ∷ [])))
 
 -- where an event offends, this is said
 abbrev pub SaysFirst : Rests → Terms → Option Breach → List ℕ → Type 0
 SaysFirst rests terms None out = out ≡ []
 SaysFirst rests terms (Some b) out =
-    (e : Explained) × Explains rests terms b e × (out ≡ first_lines terms b.before e)
+    (e : Explained) × Explains rests terms b e × (out ≡ first_lines terms b e)
 
 -- the cause that an event is after these, if it is one
 abbrev pub cause_at : Terms → List Heard → Heard → List Breach
@@ -76,7 +79,7 @@ end_explanation terms heard rests fault flaw ends =
     explanation (map by_itself ends) (take 1 (ends_said terms heard rests ends))
     (bad_log_of fault) flaw (summary terms (heard_events heard))
     ++ note_lines (notes_by (end_verdict terms heard fault ends)
-    (noticed terms (heard_events heard)))
+    (noticed_by terms (heard_events heard) []))
 
 -- what is said of the ends, and what closes the explanation
 abbrev pub all_end : Terms → List Heard → Rests → Option (ℕ × LogCode) → List Fact → List Verdict
@@ -136,6 +139,7 @@ all_run completeness = record {
 -- **the account of `explain` stands for these events**, none of which offends
 pub record FirstStands (a : FirstOffence) (terms : Terms) (heard : List Heard) : Type 0 where
   pub trail : IsTrail terms a.trail (heard_events heard)
+  pub misfits : AreMisfits a.misfits (found_kept terms (heard_events heard))
   pub clean : first_no terms (heard_events heard) ≡ None
 
 -- **that of `explain --all`**, which may offend

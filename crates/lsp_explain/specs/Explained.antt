@@ -10,6 +10,7 @@ use Rattle.lsp_types.specs.declared.rules.TheConstants as rules
 use Rattle.lsp_docs.specs.Documents.{Terms}
 use Rattle.lsp_log.specs.Log.{Record, IsLog}
 use Rattle.lsp_log.specs.declared.fault.LogCode.{LogCode}
+use Rattle.lsp_verdict.specs.Event.{Event}
 use Rattle.lsp_verdict.specs.Heard.{Heard, Rests, notes_of, raws_of, rest_of}
 use Rattle.lsp_verdict.specs.LookBack.{each_of}
 use Rattle.lsp_verdict.specs.Offences.{Offence, IsNoted, events_of, kept_of, rule_at, follows}
@@ -30,6 +31,7 @@ use Rattle.lsp_verdict.specs.declared.outcome.RunFault.TheVariants as faults
 use Rattle.lsp_facts.specs.EventFacts.{AreFacts, side_by, log_facts, front_facts}
 use Rattle.lsp_facts.specs.Fact.{Fact, detail_lines, event_line, end_event}
 use Rattle.lsp_replay.specs.declared.heard.EventPlace.{EventPlace}
+use Rattle.lsp_explain.specs.Misfits.{Found, found_kept, found_refuted}
 use Rattle.lsp_explain.specs.Notes.{Noticed, noticed, note_lines, notes_by}
 use Rattle.lsp_explain.specs.Traced.{AreTraced, lack_traced, setter_at, traced}
 use Rattle.lsp_explain.specs.Asking.{Numbered, numbered}
@@ -123,10 +125,22 @@ abbrev pub before_first : List Breach → List Heard → List Heard
 before_first [] heard = heard
 before_first (b ∷ found) heard = b.before
 
--- what the notes are on of them
+-- what the changes find of the first that offends, if they can be made and a snapshot refutes them
+abbrev pub first_refuted : Terms → List Breach → List Found
+first_refuted terms [] = []
+first_refuted terms (b ∷ found) =
+    found_refuted terms (events_of (notes_of b.before)) b.here.note.event b.rule
+
+-- what the notes are on, where these are the events before the first that offends, and those that
+-- offend
+abbrev pub noticed_by : Terms → List Event → List Breach → Noticed
+noticed_by terms before found =
+    noticed terms before (found_kept terms before ++ first_refuted terms found)
+
 abbrev pub noticed_before : Terms → List Heard → Noticed
 noticed_before terms heard =
-    noticed terms (events_of (notes_of (before_first (breaches terms heard) heard)))
+    noticed_by terms (events_of (notes_of (before_first (breaches terms heard) heard)))
+    (breaches terms heard)
 
 -- **what is written of these events**: the explanation, and after it the notes on the messages
 -- before the first event that offends

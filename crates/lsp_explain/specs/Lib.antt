@@ -9,6 +9,8 @@ pub mod Conversations
 pub mod Traced
 pub mod Trails
 pub mod Compared
+pub mod DocumentNotes
+pub mod Misfits
 pub mod Notes
 pub mod ExplainRuns
 pub mod Explained

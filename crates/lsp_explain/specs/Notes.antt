@@ -8,6 +8,7 @@ use Rattle.lsp_docs.specs.Documents.{Terms}
 use Rattle.lsp_explain.specs.Asking.{Numbered, numbered, sents}
 use Rattle.lsp_explain.specs.SessionNotes.{Misused, misuses, abrupt_exit, older_encoding}
 use Rattle.lsp_explain.specs.History.{OnDocument}
+use Rattle.lsp_explain.specs.Misfits.{Found, misfit_notes}
 use Rattle.lsp_explain.specs.Renames.{renamed}
 use Rattle.lsp_explain.specs.Openings.{unshown}
 use Rattle.lsp_verdict.specs.Event.{Event}
@@ -71,14 +72,20 @@ abbrev pub old_name_notes : Option OnDocument → List Fact
 old_name_notes found = option_to_list (option_map
     (λ (x : OnDocument). line (codes "note renamed" ∷ quoted x.uri ∷ place_words x.place)) found)
 
--- what the notes are on: messages, and the documents that were changed and have no snapshot
+-- what the notes are on: messages, the documents that were changed and have no snapshot, and what
+-- changes found
 pub record Noticed : Type 0 where
   pub said : List Numbered
   pub unshown : List (List ℕ)
+  pub found : List Found
 
--- what these events have of it
-abbrev pub noticed : Terms → List Event → Noticed
-noticed terms events = record { said = numbered terms events; unshown = unshown terms events }
+-- what these events have of it, whose changes found this
+abbrev pub noticed : Terms → List Event → List Found → Noticed
+noticed terms events found = record {
+  said = numbered terms events;
+  unshown = unshown terms events;
+  found = found;
+}
 
 -- **the notes on these**, with this verdict
 abbrev pub notes_by : Verdict → Noticed → List Fact
@@ -87,6 +94,7 @@ notes_by v n =
     ++ name_notes (other_name (older_encoding (sents n.said)) (encoding (sents n.said)))
     ++ old_name_notes (renamed n.said)
     ++ uncompared v n.unshown
+    ++ misfit_notes n.found
 
 -- how many there are, if there are any
 abbrev pub count_line : ℕ → List ℕ

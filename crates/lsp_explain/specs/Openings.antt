@@ -73,16 +73,12 @@ touched ons = fold (λ names (on : OnDocument). with_name names on.uri) [] ons
 abbrev pub others : List (List ℕ) → List (List ℕ) → List (List ℕ)
 others names known = filter (λ uri. not (has_name uri known)) names
 
--- the same, where all the others are known
-abbrev pub unshown_of : List (List ℕ) → List (List ℕ) → List (List ℕ)
-unshown_of changed shown =
-    if nat_lt (length shown) most_touched then others changed shown else []
-
 -- **the documents that were changed and have no snapshot**, where fewer than 64 have one
 abbrev pub unshown : Terms → List Event → List (List ℕ)
 unshown terms events =
-    unshown_of (touched (doing is_change (kept_calls terms events)))
-    (touched (doing is_showing (kept_calls terms events)))
+    let shown = touched (doing is_showing (kept_calls terms events)) in
+    if nat_lt (length shown) most_touched
+    then others (touched (doing is_change (kept_calls terms events))) shown else []
 
 -- ---- what is held of them
 

@@ -165,14 +165,12 @@ closing_facts (closing.Last p) = cited (codes "closed") p ∷ []
 closing_facts closing.Never = line (codes "opened" ∷ codes "never" ∷ []) ∷ []
 closing_facts closing.Forgotten = []
 
-abbrev pub unopened_facts : Terms → List Event → List ℕ → List Fact
-unopened_facts terms before uri =
-    closing_facts (closing_of uri (closings terms before)) ++ similar_facts terms before uri
-
 -- **what is said about the document of this URI, where a call on it breaks this rule**
 abbrev pub unopened_traced : Terms → List Event → ℕ → List ℕ → List Fact
 unopened_traced terms before rule uri =
-    if rule == rules.DOCUMENT_NOT_OPEN then unopened_facts terms before uri else []
+    if rule == rules.DOCUMENT_NOT_OPEN
+    then closing_facts (closing_of uri (closings terms before)) ++ similar_facts terms before uri
+    else []
 
 -- ---- what is added to the facts on an offence, read off all events before it
 

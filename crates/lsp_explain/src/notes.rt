@@ -4,26 +4,37 @@ ghost use Rattle.lsp_explain.specs.SessionNotes.{misused_views};
 ghost use Rattle.lsp_explain.specs.Openings.{names_view, on_view};
 ghost use Rattle.lsp_verdict.specs.Event.{Event};
 ghost use Rattle.lsp_verdict.specs.Given.{verdict_view};
+ghost use Rattle.lsp_explain.specs.Misfits.{AreMisfits, Found};
 ghost use Rattle.lsp_explain.specs.Notes as spec;
 ghost use Rattle.lsp_explain.specs.Notes.{misuse_line, name_notes, noticed, old_name_notes};
 ghost use Rattle.lsp_explain.specs.Notes.{note_lines, notes_by, uncompared, unshown_line};
 ghost use Rattle.lsp_explain.specs.Trails.{StandsAfter, terms_in};
+
+mod document_notes;
+mod misfits;
 
 use crate::trace::push_earlier;
 use crate::trail::{DocumentEvent, Misuse, Misused, Past};
 use lsp_facts::{Facts, push_facts};
 use lsp_rpc::{Encoding, Result};
 use lsp_verdict::{Verdict, encoding_name};
+pub(crate) use misfits::Misfits;
 use std::fmt::Write;
 
 /// Adds the notes on the messages that were heard, each on a line, and how many they are.
 ///
 /// # Errors
 /// `Memory` where memory was refused.
-pub(crate) fn push_notes(lines: &mut String, past: Past<'_>, verdict: &Verdict) -> Result<()>
-    ensures { OnOk result ((before : List Event) → StandsAfter past.entry before
+pub(crate) fn push_notes(
+    lines: &mut String,
+    past: Past<'_>,
+    misfits: &Misfits,
+    verdict: &Verdict,
+) -> Result<()>
+    ensures { OnOk result ((before : List Event) (found : List Found)
+        → StandsAfter past.entry before → AreMisfits misfits.now found
         → string_bytes lines.new ≡ string_bytes lines.old ++ note_lines
-        (notes_by (verdict_view verdict.now) (noticed (terms_in past.entry) before))) }
+        (notes_by (verdict_view verdict.now) (noticed (terms_in past.entry) before found))) }
 {
     let Past { held, trail } = past;
     let heard = &trail.said.notes;
@@ -36,6 +47,7 @@ pub(crate) fn push_notes(lines: &mut String, past: Past<'_>, verdict: &Verdict) 
     push_name(&mut notes, name)?;
     push_renamed(&mut notes, renamed)?;
     push_uncompared(&mut notes, verdict, unshown.as_slice())?;
+    misfits.push(&mut notes)?;
     push_counted(lines, &notes)
 }
 

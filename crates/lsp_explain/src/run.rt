@@ -16,7 +16,7 @@ ghost use Rattle.lsp_explain.specs.ExplainRuns.{ends_said, explain_run};
 ghost use Rattle.lsp_explain.specs.Explained.{WritesExplanation, explanation};
 ghost use Rattle.lsp_explain.specs.Trails.{IsTrail};
 
-use crate::notes::push_notes;
+use crate::notes::{Misfits, push_notes};
 use crate::offence_facts::{push_end, push_flaw, push_offence};
 use crate::trail::{Past, Trail};
 use lsp_frame::{Limits, Sink, Source};
@@ -51,6 +51,7 @@ pub fn run_explain<R: Source, W: Sink>(
     let mut account = FirstOffence {
         completeness,
         trail: Trail::new(alloc),
+        misfits: Misfits::new(alloc),
     };
     pass(alloc, reader, writer, limits, &mut account)
 }
@@ -60,6 +61,7 @@ pub fn run_explain<R: Source, W: Sink>(
 pub(crate) struct FirstOffence {
     completeness: Completeness,
     trail: Trail,
+    misfits: Misfits,
 }
 
 impl Account for FirstOffence {
@@ -75,6 +77,7 @@ impl Account for FirstOffence {
     fn event(&mut self, held: &Events<Lined>, seen: &Seen<'_>, text: &mut String) -> Result<Flow> {
         let Fate::Offends { rule, tried } = seen.fate else {
             self.trail.keep(held, seen)?;
+            self.misfits.note_kept(held, seen)?;
             return Ok(Flow::GoOn);
         };
         let trail = &self.trail;
@@ -82,7 +85,8 @@ impl Account for FirstOffence {
         let offence = last_offence(&held.counts, seen.raw, rule, false);
         let verdict = offence.verdict();
         push_offence(text, past, &offence, seen, tried)?;
-        push_notes(text, past, &verdict)?;
+        self.misfits.note_refuted(held, seen, rule)?;
+        push_notes(text, past, &self.misfits, &verdict)?;
         let boxed = Box::new(*text.allocator(), Outcome::Judged(verdict))?;
         Ok(Flow::Stop(boxed))
     }
@@ -97,7 +101,7 @@ impl Account for FirstOffence {
         let trail = &self.trail;
         let past = Past { held, trail };
         let verdict = push_ending(text, past, log, end, self.completeness)?;
-        push_notes(text, past, &verdict)?;
+        push_notes(text, past, &self.misfits, &verdict)?;
         Ok(Outcome::Judged(verdict))
     }
 }

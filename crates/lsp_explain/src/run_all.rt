@@ -2,16 +2,16 @@
 ghost use Rattle.std.specs.Prelude.{◌≡◌, ◌++◌, [], List, OnOk, map, string_bytes};
 ghost use Rattle.std.specs.List.{flat_map};
 ghost use Rattle.lsp_docs.specs.Documents.{Terms};
-ghost use Rattle.lsp_replay.specs.Telling.{Stood};
 ghost use Rattle.lsp_survey.specs.Reported.{IsTally};
+ghost use Rattle.lsp_verdict.specs.Event.{Event};
 ghost use Rattle.lsp_verdict.specs.Given.{offence_view};
-ghost use Rattle.lsp_verdict.specs.Heard.{Heard, heard_events};
 ghost use Rattle.lsp_verdict.specs.Offences.{Offence as SpecOffence};
 ghost use Rattle.lsp_verdict.specs.Runs.{ports};
 ghost use Rattle.lsp_verdict.specs.declared.completeness.Completeness.{Completeness};
-ghost use Rattle.lsp_explain.specs.ExplainRuns.{AllStands, rests_held, all_run, ends_said};
-ghost use Rattle.lsp_explain.specs.Explained.{ExplainsAll, cause_lines};
-ghost use Rattle.lsp_explain.specs.Trails.{IsTrail};
+ghost use Rattle.lsp_explain.specs.Asking.{numbered};
+ghost use Rattle.lsp_explain.specs.ExplainRuns.{AllStands, rests_held, all_run};
+ghost use Rattle.lsp_explain.specs.Explained.{ExplainsAll, cause_lines, end_explained};
+ghost use Rattle.lsp_explain.specs.Trails.{StandsAfter, terms_in};
 
 use crate::offence_facts::{push_end, push_flaw, push_offence};
 use crate::trail::{Past, Trail};
@@ -73,35 +73,28 @@ impl AllCauses {
             trail: Trail::new(alloc),
         }
     }
+}
 
-    /// Explains and counts what is listed of the end of a session.
-    fn explain_ends(
-        &mut self,
-        held: &Events<Lined>,
-        log: &LogEvents,
-        listed: &[Offence],
-        text: &mut String,
-    ) -> Result<()>
-        ensures completeness { self.new.completeness ≡ self.old.completeness }
-        ensures losses { self.new.losses ≡ self.old.losses }
-        ensures trail { self.new.trail ≡ self.old.trail }
-        ensures tally { OnOk result ((found : List SpecOffence) → IsTally self.old.tally found
-            → IsTally self.new.tally (found ++ map offence_view listed.now)) }
-        ensures said { OnOk result ((terms : Terms) (heard : List Heard)
-            → IsTrail terms self.old.trail (heard_events heard)
-            → Stood terms held.now.session held.now.docs held.now.counts heard
-            → string_bytes text.new ≡ string_bytes text.old ++ flat_map cause_lines
-            (ends_said terms heard (rests_held log.now)
-            (map (λ o. (offence_view o).no) listed.now))) }
-    {
-        for offence in listed {
-            self.tally.add(offence);
-            let trail = &self.trail;
-            let past = Past { held, trail };
-            push_end(text, past, log, offence)?;
-        }
-        Ok(())
+/// Explains and counts what is listed of the end of a session. The past is of all its events.
+fn explain_ends(
+    tally: &mut OffenceCount,
+    past: Past<'_>,
+    log: &LogEvents,
+    listed: &[Offence],
+    text: &mut String,
+) -> Result<()>
+    ensures tally { OnOk result ((found : List SpecOffence) → IsTally tally.old found
+        → IsTally tally.new (found ++ map offence_view listed.now)) }
+    ensures said { OnOk result ((before : List Event) → StandsAfter past.entry before
+        → string_bytes text.new ≡ string_bytes text.old ++ flat_map cause_lines
+        (map (end_explained (rests_held log.now) (numbered (terms_in past.entry) before))
+        (map (λ o. (offence_view o).no) listed.now))) }
+{
+    for offence in listed {
+        tally.add(offence);
+        push_end(text, past, log, offence)?;
     }
+    Ok(())
 }
 
 impl Account for AllCauses {
@@ -139,7 +132,9 @@ impl Account for AllCauses {
         text: &mut String,
     ) -> Result<Outcome> {
         let SessionEnd { listed, bad } = session_end(held, log, end, self.completeness)?;
-        self.explain_ends(held, log, listed.as_slice(), text)?;
+        let trail = &self.trail;
+        let past = Past { held, trail };
+        explain_ends(&mut self.tally, past, log, listed.as_slice(), text)?;
         let verdict = self.tally.push_verdict(held, bad, text)?;
         push_flaw(text, log, end)?;
         self.tally.push_count(text)?;

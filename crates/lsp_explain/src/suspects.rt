@@ -65,14 +65,8 @@ fn count_cleared(rank: u64, setters: &[VersionEvent]) -> usize
 {
     setters
         .iter()
-        .take_while(|setter| is_cleared(rank, setter))
+        .take_while(|setter| setter.rank <= rank)
         .count()
-}
-
-fn is_cleared(rank: u64, setter: &VersionEvent) -> bool
-    ensures { result ≡ spec.is_cleared rank setter.now }
-{
-    setter.rank <= rank
 }
 
 /// Those of the messages that come no later than the one by which the text came about.

@@ -24,10 +24,7 @@ fn number_of(alloc: Global, text: &str) -> Result<Option<Id>>
     ensures { IfOk result
         (λ twin. option_map id_view twin ≡ spec.twin (text_id text.now)) }
 {
-    match written(alloc, text)? {
-        Some(number) => Ok(Some(Id::Number(number))),
-        None => Ok(None),
-    }
+    Ok(written(alloc, text)?.map(Id::Number))
 }
 
 /// The integer that is written so, without a zero in front, a plus or a minus before 0.

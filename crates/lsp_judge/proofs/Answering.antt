@@ -8,6 +8,7 @@ use Rattle.lsp_frame.specs.Bounds.{Bounds, IsInRange}
 use Rattle.lsp_frame.specs.declared.format.Format.{Format}
 use Rattle.lsp_docs.specs.Documents.{terms_of}
 use Rattle.lsp_log.specs.Log.{Record}
+use Rattle.lsp_log.specs.declared.fault.LogCode.{LogCode}
 use Rattle.lsp_types.specs.declared.memory.Memory.{Memory}
 use Rattle.lsp_judge.specs.declared.ruling.Ruling.{Ruling}
 use Rattle.lsp_judge.specs.declared.ruling.Ruling.TheVariants as rulings
@@ -30,7 +31,7 @@ use Rattle.lsp_verdict.specs.Placed.{IsSession}
 use Rattle.lsp_judge.specs.Judging.{AnswersEnd, KeepsAnswer}
 use Rattle.lsp_judge.specs.Standing.{IfRefused, verdict_in, HasOffence, State, Stands, WasRefused}
 use Rattle.lsp_judge.specs.Standing.{is_given}
-use Rattle.lsp_verdict.specs.Verdict.{Verdict, Summary, yes, no, bad_log, summary, first_no}
+use Rattle.lsp_verdict.specs.Verdict.{Verdict, Summary, yes, no, bad_log, summary, first_no, no_by}
 use Rattle.lsp_verdict.proofs.Completing.{some_complete_final, are_complete, complete_no}
 use Rattle.lsp_verdict.proofs.Completing.{complete_yes, one_complete_verdict}
 use Rattle.lsp_verdict.proofs.Logs.{some_final, one_verdict}
@@ -76,6 +77,14 @@ no_given (no r w n k) rule who number event e =
     let whose : who ≡ w = cc e in
     (n, k, ap (λ x. no x w n k) (sym rules) ∙ ap (λ x. no rule x n k) (sym whose))
 no_given (bad_log n c) rule who number event e = absurd cc
+
+-- an event that offends is no fault of the log
+pub no_fault : (limits : Bounds) (format : Format) (rs : List Record) (at : ℕ) (code : LogCode)
+    → HasOffence limits format rs (bad_log at code) → ⊥
+no_fault limits format rs at code o =
+    let n = names_first (terms_of limits format) o.1.events o.0 o.1.offends in
+    let same : bad_log at code ≡ as_given (no_by n.before n.event n.rule) = o.2 ∙ ap as_given n.is in
+    absurd cc
 
 pub ok_at : {X E : Type 0} (r : Result X E) (x : X) (P : X → Type 0) → r ≡ Ok x → IfOk r P → P x
 ok_at r x P e p = subst (λ s. IfOk s P) e p

@@ -1,7 +1,8 @@
 -- The events of records, heard one by one, and for which records a judge stands.
 use Rattle.std.proofs.Common.{◌≡◌, List, [], ◌∷◌, ◌++◌, Some, None, subst, ◌∙◌, Option, refl, sym}
 use Rattle.std.proofs.Common.{ap}
-use Rattle.std.specs.Prelude.{option_map}
+use Rattle.std.specs.Prelude.{IfSome, option_map}
+use Rattle.std.proofs.lemmas.Option.{IfSome_then}
 use Rattle.lsp_frame.specs.Bounds.{Bounds, IsInRange}
 use Rattle.lsp_frame.specs.declared.format.Format.{Format}
 use Rattle.lsp_session.specs.State as session
@@ -12,7 +13,7 @@ use Rattle.lsp_replay.specs.Standing.{Keeps as KeepsOne, Follows}
 use Rattle.lsp_replay.specs.Streams as frames
 use Rattle.lsp_replay.proofs.Following.{follows_on}
 use Rattle.lsp_verdict.specs.Event.{Event}
-use Rattle.lsp_verdict.specs.Given.{as_given, offence_view}
+use Rattle.lsp_verdict.specs.Given.{as_given}
 use Rattle.lsp_verdict.specs.Outcome.{Offends}
 use Rattle.lsp_verdict.specs.Placed.{Raw, Placed, Reads, IsSession}
 use Rattle.lsp_verdict.specs.Verdict.{Verdict, first_no, no_at}
@@ -27,7 +28,6 @@ use Rattle.lsp_verdict.proofs.Sessions.{some_session, same_session}
 use Rattle.lsp_judge.specs.Standing.{HasHeard, IsHearing, AreHeard, IsNoAt, verdict_in, Rules}
 use Rattle.lsp_judge.specs.Standing.{State, IsOpen, HasOffence, StandsBy, Stands}
 use Rattle.lsp_judge.specs.declared.ruling.Ruling.{Ruling}
-use Rattle.lsp_judge.specs.declared.ruling.Ruling.TheVariants.{No, BadLog, Memory}
 
 -- ---- one more event
 
@@ -58,35 +58,28 @@ pub record OffendsAfter (limits : Bounds) (format : Format) (records : List Reco
   pub offends : no_at (terms_of limits format) before event ≡ Some verdict
   pub is : given ≡ as_given verdict
 
-abbrev pub Stops : Bounds → Format → List Record → List Event → Ruling → Type 0
-Stops limits format records before (No o) =
-    OffendsAfter limits format records before (offence_view o).no
-Stops limits format records before (BadLog number code) = ⊥
-Stops limits format records before Memory = Unit {0}
-
 -- the next event offends
 module _ (limits : Bounds) (format : Format) (m : session.State) (d : docs.State) (c : Counts)
     (records : List Record) (past later : List Raw) (before : List Event)
     (has : HasHeard (terms_of limits format) m d c past before) where
-  pub stops : (raw : Raw) (ruling : Ruling) → Placed limits records (past ++ raw ∷ later)
-      → IsNoAt d.terms before (Reads raw) ruling → Stops limits format records before ruling
-  stops raw (No o) placed (event, reads, named) =
+  stops : (raw : Raw) (ruling : Ruling) → Placed limits records (past ++ raw ∷ later)
+      → IsNoAt d.terms before (Reads raw) ruling
+      → IfSome (verdict_in ruling) (OffendsAfter limits format records before)
+  stops raw ruling placed named = IfSome_then (verdict_in ruling) named (λ given at.
       let extra = some_list later in
       record {
-        event = event;
+        event = at.0;
         later = extra.0;
-        verdict = named.0;
+        verdict = at.2.0;
         session = (
           past ++ raw ∷ later,
           placed,
-          lists_join past (raw ∷ later) before (event ∷ extra.0) has.read (reads, extra.1),
+          lists_join past (raw ∷ later) before (at.0 ∷ extra.0) has.read (at.1, extra.1),
         );
         clean = subst (λ (t : Terms). first_no t before ≡ None) has.by has.follows.clean;
-        offends = subst (λ (t : Terms). no_at t before event ≡ Some named.0) has.by named.1;
-        is = named.2;
-      }
-  stops raw (BadLog number code) placed named = named
-  stops raw Memory placed named = tt
+        offends = subst (λ (t : Terms). no_at t before at.0 ≡ Some at.2.0) has.by at.2.1;
+        is = at.2.2;
+      })
 
 -- so an event of the records offends
 pub offends_in : (limits : Bounds) (format : Format) (records : List Record) (before : List Event)
@@ -100,14 +93,6 @@ offends_in limits format records before given o =
           o.offends;
     }
 
-stops_rules : (limits : Bounds) (format : Format) (records : List Record) (before : List Event)
-    (ruling : Ruling) → Stops limits format records before ruling
-    → Rules limits format records ruling
-stops_rules limits format records before (No given) o =
-    (o.verdict, offends_in limits format records before (offence_view given).no o, o.is)
-stops_rules limits format records before (BadLog number code) o = o
-stops_rules limits format records before Memory o = tt
-
 -- an event of those due does
 pub stopped : (limits : Bounds) (format : Format) (s : frames.State) (m : session.State)
     (d : docs.State) (c : Counts) (records : List Record) (heard : List Event) (due later : List Raw)
@@ -115,9 +100,9 @@ pub stopped : (limits : Bounds) (format : Format) (s : frames.State) (m : sessio
     → due ≡ raw ∷ later → IsNoAt d.terms heard (Reads raw) ruling
     → Rules limits format records ruling
 stopped limits format s m d c records heard due later raw ruling h first named =
-    stops_rules limits format records heard ruling
-    (stops limits format m d c records h.past later heard h.has raw ruling
-    (subst (λ (w : List Raw). Placed limits records (h.past ++ w)) first h.stands.placed) named)
+    IfSome_then (verdict_in ruling) (stops limits format m d c records h.past later heard h.has raw
+    ruling (subst (λ (w : List Raw). Placed limits records (h.past ++ w)) first h.stands.placed) named)
+    (λ given o. (o.verdict, offends_in limits format records heard given o, o.is))
 
 -- ---- what is known once an event offends
 
@@ -200,25 +185,19 @@ new_stands s stands terms follows given = open_stands s [] stands.range given (
 pub offence_in : (s : State) (rs : List Record) (ruling : Ruling) (v : Verdict)
     → s.given ≡ Some ruling → verdict_in ruling ≡ Some v → Stands s rs
     → HasOffence s.limits s.format rs v
-offence_in s rs (No o) v e is p =
-    let same : (offence_view o).no ≡ v = cc is in
-    subst (HasOffence s.limits s.format rs) same
-    (subst (λ (o : Option Ruling). StandsBy o s rs) e p.given)
-offence_in s rs (BadLog number code) v e is p =
-    absurd (subst (λ (o : Option Ruling). StandsBy o s rs) e p.given)
-offence_in s rs Memory v e is p = absurd (subst (λ (o : Option Ruling). StandsBy o s rs) e p.given)
+offence_in s rs ruling v e is p =
+    let held = subst (λ (o : Option Ruling). StandsBy o s rs) e p.given in
+    let same : held.0 ≡ v = cc (held.1, is) in subst (HasOffence s.limits s.format rs) same held.2
 
 pub given_stays : (s : State) (rs more : List Record) (ruling : Ruling) → s.given ≡ Some ruling
     → Stands s rs → Stands s (rs ++ more)
-given_stays s rs more (No o) e p = record {
-  range = p.range;
-  given = subst (λ (o : Option Ruling). StandsBy o s (rs ++ more)) (sym e)
-      (offence_stays s.limits s.format rs more (offence_view o).no
-      (subst (λ (o : Option Ruling). StandsBy o s rs) e p.given));
-}
-given_stays s rs more (BadLog number code) e p =
-    absurd (subst (λ (o : Option Ruling). StandsBy o s rs) e p.given)
-given_stays s rs more Memory e p = absurd (subst (λ (o : Option Ruling). StandsBy o s rs) e p.given)
+given_stays s rs more ruling e p =
+    let held = subst (λ (o : Option Ruling). StandsBy o s rs) e p.given in
+    record {
+      range = p.range;
+      given = subst (λ (o : Option Ruling). StandsBy o s (rs ++ more)) (sym e)
+          (held.0, held.1, offence_stays s.limits s.format rs more held.0 held.2);
+    }
 
 pub given_verdict : (s : State) (rs more : List Record) (ruling : Ruling) (v : Verdict)
     (events : List Event) → s.given ≡ Some ruling → verdict_in ruling ≡ Some v → Stands s rs
@@ -245,10 +224,8 @@ none_verdict old rs more events s m d c e next p session =
 pub rules_offence : (limits : Bounds) (format : Format) (rs : List Record) (ruling : Ruling)
     (v : Verdict) → verdict_in ruling ≡ Some v → Rules limits format rs ruling
     → HasOffence limits format rs v
-rules_offence limits format rs (No given) v is o =
-    let same : (offence_view given).no ≡ v = cc is in subst (HasOffence limits format rs) same o
-rules_offence limits format rs (BadLog number code) v is o = absurd o
-rules_offence limits format rs Memory v is o = let same : None ≡ Some v = is in absurd cc
+rules_offence limits format rs ruling v is o =
+    subst (λ (x : Option Verdict). IfSome x (HasOffence limits format rs)) is o
 
 pub rule_verdict : (old : State) (rs more : List Record) (ruling : Ruling) (v : Verdict)
     (events : List Event) → old.given ≡ None → verdict_in ruling ≡ Some v
@@ -268,15 +245,12 @@ pub ruled_stands : (old new : State) (rs more : List Record) (ruling : Ruling) (
     → Stands new (rs ++ more)
 ruled_stands old new rs more ruling v none is limits format given rules p = record {
   range = subst IsInRange (sym limits) p.range;
-  given = subst (λ (o : Option Ruling). StandsBy o new (rs ++ more)) (sym given)
-      (by_ruling ruling is (rules (is_open old rs none p)));
+  given = subst (λ (o : Option Ruling). StandsBy o new (rs ++ more)) (sym given) (
+    v,
+    is,
+    subst (λ (f : Format). HasOffence new.limits f (rs ++ more) v) (sym format)
+        (subst (λ (b : Bounds). HasOffence b old.format (rs ++ more) v) (sym limits)
+        (rules_offence old.limits old.format (rs ++ more) ruling v is
+        (rules (is_open old rs none p)))),
+  );
 }
-  where
-    by_ruling : (r : Ruling) → verdict_in r ≡ Some v → Rules old.limits old.format (rs ++ more) r
-        → StandsBy (Some r) new (rs ++ more)
-    by_ruling (No given) named o =
-        subst (λ (f : Format). HasOffence new.limits f (rs ++ more) (offence_view given).no)
-        (sym format) (subst (λ (b : Bounds). HasOffence b old.format (rs ++ more)
-        (offence_view given).no) (sym limits) o)
-    by_ruling (BadLog number code) named o = absurd o
-    by_ruling Memory named o = let same : None ≡ Some v = named in absurd cc

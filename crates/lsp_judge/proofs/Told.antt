@@ -4,7 +4,6 @@ use Rattle.std.proofs.Common.{◌++◌, length, take, Option, Some, None, arith,
 use Rattle.std.specs.Prelude.{unwrap_or, option_map}
 use Rattle.std.specs.Option.{option_or}
 use Rattle.std.proofs.Math.Seq.{take-length, take-append_seam}
-use Rattle.std.proofs.lemmas.Option.{same_Some}
 use Rattle.std.specs.List.{AllZip}
 use Rattle.lsp_verdict.specs.Shown.{show_of, kept}
 use Rattle.lsp_verdict.proofs.Logs.{same_events, one_verdict, some_verdict}
@@ -35,7 +34,6 @@ use Rattle.lsp_replay.proofs.Seeing.{events-join}
 use Rattle.lsp_judge.specs.ShownLog.{OneShown, SomeShown}
 use Rattle.lsp_judge.specs.Standing.{verdict_in, IsNoAt}
 use Rattle.lsp_judge.specs.declared.ruling.Ruling.{Ruling}
-use Rattle.lsp_judge.specs.declared.ruling.Ruling.TheVariants.{No, BadLog, Memory}
 use Rattle.lsp_judge.specs.JudgingRun.{verdict_of}
 
 -- ---- what is due where a log is shown
@@ -83,18 +81,15 @@ kept_all terms events None false false = take-length events
 pub ruled : (terms : Terms) (events : List Event) (IsSuch : Event → Type 0) (e : Event) (rule : ℕ)
     (by : Who) (r : Ruling) → IsSuch e → offence terms events e ≡ Some rule → whose e ≡ by
     → verdict_in r ≡ Some (as_given (no_next rule by events)) → IsNoAt terms events IsSuch r
-ruled terms events IsSuch e rule by (No o) such breaks is told = (
+ruled terms events IsSuch e rule by r such breaks is told = rw told (
   e,
   such,
   (
     no_by events e rule,
     ap (option_map (no_by events e)) breaks,
-    same_Some _ _ told ∙ ap (λ w. as_given (no_next rule w events)) (sym is),
+    ap (λ w. as_given (no_next rule w events)) (sym is),
   ),
 )
-ruled terms events IsSuch e rule by (BadLog n code) such breaks is told =
-    let same = told in absurd cc
-ruled terms events IsSuch e rule by Memory such breaks is told = tt
 
 -- ---- the verdict, and the events before its place
 

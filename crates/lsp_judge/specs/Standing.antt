@@ -75,11 +75,9 @@ verdict_in Memory = None
 
 -- the ruling is the No at an event of this kind, unless memory ran out
 abbrev pub IsNoAt : Terms → List Event → (Event → Type 0) → Ruling → Type 0
-IsNoAt terms before IsSuch (No o) =
+IsNoAt terms before IsSuch ruling = IfSome (verdict_in ruling) (λ given.
     (event : Event) × IsSuch event
-    × ((v : Verdict) × (no_at terms before event ≡ Some v) × ((offence_view o).no ≡ as_given v))
-IsNoAt terms before IsSuch (BadLog number code) = ⊥
-IsNoAt terms before IsSuch Memory = Unit {0}
+    × ((v : Verdict) × (no_at terms before event ≡ Some v) × (given ≡ as_given v)))
 
 -- what is true of a verdict other than Yes
 abbrev pub IfRefused : Verdict → Type 0 → Type 0
@@ -111,9 +109,7 @@ HasOffence limits format records given =
 
 -- a ruling at the last of these records, unless memory ran out
 abbrev pub Rules : Bounds → Format → List Record → Ruling → Type 0
-Rules limits format records (No o) = HasOffence limits format records (offence_view o).no
-Rules limits format records (BadLog number code) = ⊥
-Rules limits format records Memory = Unit {0}
+Rules limits format records ruling = IfSome (verdict_in ruling) (HasOffence limits format records)
 
 -- memory was refused, once and for all calls
 abbrev pub WasRefused : Option Ruling → Type 0
@@ -127,9 +123,8 @@ is_given given = option_and_then verdict_in given
 -- memory, it stands for none
 abbrev pub StandsBy : Option Ruling → State → List Record → Type 0
 StandsBy None s records = IsOpen s records
-StandsBy (Some (No o)) s records = HasOffence s.limits s.format records (offence_view o).no
-StandsBy (Some (BadLog number code)) s records = ⊥
-StandsBy (Some Memory) s records = ⊥
+StandsBy (Some ruling) s records =
+    (v : Verdict) × (verdict_in ruling ≡ Some v) × HasOffence s.limits s.format records v
 
 -- **the judge stands for the records taken**
 pub record Stands (s : State) (records : List Record) : Type 0 where

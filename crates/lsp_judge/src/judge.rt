@@ -1,5 +1,5 @@
 //! Judges a recorded session record by record.
-ghost use Rattle.std.specs.Prelude.{◌≡◌, ◌++◌, ◌∷◌, [], ℕ, List, Option, Some, None, Ok, IfOk};
+ghost use Rattle.std.specs.Prelude.{◌≡◌, ◌++◌, ◌∷◌, [], ℕ, List, Some, None, Ok, IfOk};
 ghost use Rattle.std.specs.Prelude.{OnOk, option_map};
 ghost use Rattle.lsp_docs.specs.Documents.{terms_of};
 ghost use Rattle.lsp_log.specs.Log as log;

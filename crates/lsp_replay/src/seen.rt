@@ -56,6 +56,7 @@ pub enum Flow {
 ///
 /// # Errors
 /// `Memory` where memory was refused.
+#[inline(always)]
 pub fn push_kept_line(
     text: &mut String,
     lines: Option<Lines>,

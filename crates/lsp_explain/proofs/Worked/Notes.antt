@@ -13,16 +13,18 @@ use Rattle.serde_json.specs.Read.{number_of}
 use Rattle.lsp_verdict.specs.Event.{Event}
 use Rattle.lsp_verdict.specs.Verdict.{no, summary, yes}
 use Rattle.lsp_verdict.specs.declared.verdict.Who.TheVariants.{Editor}
-use Rattle.lsp_verdict.proofs.Worked.Templates.{terms, E, S, I1, N1, START, OPEN, REQ, SH, RN, EX, T}
+use Rattle.lsp_verdict.proofs.Worked.Templates.{terms, E, S, I1, N1, START, OPEN, CHG, REP, REQ}
+use Rattle.lsp_verdict.proofs.Worked.Templates.{SH, RN, EX, T}
 use Rattle.lsp_explain.specs.StandardMethods.{standard, use_among, use_of}
-use Rattle.lsp_explain.specs.Notes.{noticed, note_lines, notes_by}
+use Rattle.lsp_explain.specs.Explained.{noticed_by}
+use Rattle.lsp_explain.specs.Notes.{note_lines, notes_by}
 
 -- the notes after a No at what comes next, and after a Yes
 abbrev notes_before : List Event → List ℕ
-notes_before events = note_lines (notes_by (no 0 Editor 0 0) (noticed terms events))
+notes_before events = note_lines (notes_by (no 0 Editor 0 0) (noticed_by terms events []))
 
 abbrev notes_after : List Event → List ℕ
-notes_after events = note_lines (notes_by (yes (summary terms events)) (noticed terms events))
+notes_after events = note_lines (notes_by (yes (summary terms events)) (noticed_by terms events []))
 
 -- ---- calls
 
@@ -94,6 +96,43 @@ no_name : notes_before (I1 ∷ ANSWER (codes "null") ∷ N1 ∷ []) ≡ []
 unfolding value punctuate lex content word after_number number_of scan_numeral chars digits
     escape_byte use_of use_among standard
 no_name = refl
+
+-- ---- changes that do not fit their text
+
+abbrev OPENED : List Event
+OPENED = START ++ OPEN (codes "1") (codes "ab") ∷ []
+
+-- an insertion at a column of line 0
+abbrev INSERT : List ℕ → Event
+INSERT column = CHG (codes "2") (REP (codes "0") column (codes "0") column (codes "x"))
+
+-- a removal up to column 2, which is said to be so long
+abbrev REMOVE : List ℕ → Event
+REMOVE length = CHG (codes "2") (codes
+    "{\"range\":{\"start\":{\"line\":0,\"character\":0},\"end\":{\"line\":0,\"character\":2}},"
+    ++ codes "\"rangeLength\":" ++ length ++ codes ",\"text\":\"\"}")
+
+past_the_end : notes_before (OPENED ++ INSERT (codes "3") ∷ [])
+    ≡ codes "note past-end 0 3 length 2 event 5 editor 4\nnotes 1\n"
+unfolding value punctuate lex content word after_number number_of scan_numeral chars digits
+    escape_byte use_of use_among standard
+past_the_end = refl
+
+at_the_end : notes_before (OPENED ++ INSERT (codes "2") ∷ []) ≡ []
+unfolding value punctuate lex content word after_number number_of scan_numeral chars digits
+    escape_byte use_of use_among standard
+at_the_end = refl
+
+another_length : notes_before (OPENED ++ REMOVE (codes "3") ∷ [])
+    ≡ codes "note range-length 3 length 2 event 5 editor 4\nnotes 1\n"
+unfolding value punctuate lex content word after_number number_of scan_numeral chars digits
+    escape_byte use_of use_among standard
+another_length = refl
+
+its_length : notes_before (OPENED ++ REMOVE (codes "2") ∷ []) ≡ []
+unfolding value punctuate lex content word after_number number_of scan_numeral chars digits
+    escape_byte use_of use_among standard
+its_length = refl
 
 -- ---- snapshots
 

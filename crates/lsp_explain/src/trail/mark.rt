@@ -7,7 +7,7 @@ ghost use Rattle.std.specs.Map.{lookup};
 ghost use Rattle.std.specs.Ordering.{int_eq};
 ghost use Rattle.lsp_explain.specs.History.{is_closing};
 ghost use Rattle.lsp_explain.specs.Marking.{above, is_set_to, last_shown, newer, newer_of};
-ghost use Rattle.lsp_explain.specs.Marking.{next_rank, rank_of, stepped, unmarked};
+ghost use Rattle.lsp_explain.specs.Marking.{rank_of, stepped, unmarked};
 ghost use Rattle.lsp_explain.specs.Marking.{is_first_reached, mark_view, rest_of, waiting_in};
 
 use crate::trail::last_ones::push_within;
@@ -105,7 +105,7 @@ impl Mark {
         ensures { OnOk result ((first : Bool) → mark_view self.new
             ≡ stepped place (Step.Reaches version first) (mark_view self.old)) }
     {
-        let rank = next_rank(self.rank);
+        let rank = self.rank.saturating_add(1);
         let setter = VersionEvent {
             place,
             version,
@@ -150,13 +150,6 @@ impl Mark {
     }
 }
 
-/// Which version of its opening comes after the one of this rank.
-fn next_rank(rank: u64) -> u64
-    ensures { result ≡ next_rank rank }
-{
-    rank.saturating_add(1)
-}
-
 /// Which version of its opening this is by one of these messages; 0 where none of them set it.
 fn rank_of(setters: &VecDeque<VersionEvent>, version: i32) -> u64
     ensures { result ≡ rank_of version setters.now.items }
@@ -171,13 +164,7 @@ fn rank_of(setters: &VecDeque<VersionEvent>, version: i32) -> u64
 fn setter_of(setters: &VecDeque<VersionEvent>, version: i32) -> Option<&VersionEvent>
     ensures { option_map (λ s. s.now) result ≡ find (is_set_to version) setters.now.items }
 {
-    setters.iter().find(|setter| is_set_to(setter, version))
-}
-
-fn is_set_to(setter: &VersionEvent, version: i32) -> bool
-    ensures { result ≡ is_set_to version setter.now }
-{
-    setter.version == version
+    setters.iter().find(|setter| setter.version == version)
 }
 
 /// The last of the snapshots that wait for a version, which is the one of this rank.

@@ -1,16 +1,15 @@
 //! What the notes say of the messages of a session.
 ghost use Rattle.std.specs.Prelude.{◌≡◌, ◌&&◌, [], IfOk, OnOk, if◌then◌else◌, not};
 ghost use Rattle.std.specs.Prelude.{option_map, string_bytes};
-ghost use Rattle.serde_json.specs.View.{view};
 ghost use Rattle.lsp_rpc.specs.View.{message_view};
 ghost use Rattle.lsp_explain.specs.SessionNotes as spec;
 ghost use Rattle.lsp_explain.specs.SessionNotes.{AreNotes, NotesBy, older_held, older_of};
 
 use crate::trail::misuses::{Misused, note_misuse};
+use crate::trail::renames::text_at;
 use lsp_replay::EventPlace;
 use lsp_rpc::{Answer, Message, Result, Side};
 use lsp_session::Phase;
-use serde_json::Value;
 use std::alloc::Global;
 
 /// What the notes say of the messages of a session: which calls were not sent as LSP 3.17 defines
@@ -113,15 +112,7 @@ fn older_name(message: &Message) -> Option<&str>
         Message::Response {
             answer: Answer::Result(value),
             ..
-        } => older_in(value),
+        } => text_at(value, "offsetEncoding"),
         _ => None,
     }
-}
-
-/// The text of the member `offsetEncoding` of a result.
-fn older_in(value: &Value) -> Option<&str>
-    ensures { option_map (λ s. s.now) result ≡ spec.older_in (view value.now) }
-{
-    let member = value.get("offsetEncoding")?;
-    member.as_str()
 }

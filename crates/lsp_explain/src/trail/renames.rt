@@ -288,7 +288,7 @@ fn each_uri(alloc: Global, files: &[Value], name: &str) -> Result<Option<Vec<Str
 }
 
 /// The member of this name, if it is a text.
-fn text_at<'a>(value: &'a Value, name: &str) -> Option<&'a str>
+pub(crate) fn text_at<'a>(value: &'a Value, name: &str) -> Option<&'a str>
     ensures { option_map (λ text. text.now) result ≡ required name.now as_str (view value.now) }
 {
     value.get(name)?.as_str()

@@ -4,7 +4,11 @@ use Rattle.lsp_explain.proofs.run.run_explain.Goals as goal
 
 pub pass-requires : goal.pass-requires
 pass-requires g c = record {
-  begins = λ terms. record { trail = c.new.ensures terms; clean = refl };
+  begins = λ terms. record {
+    trail = c.new.ensures terms;
+    misfits = c.new-2.ensures;
+    clean = refl;
+  };
 }
 
 pub returns : goal.returns

@@ -18,7 +18,7 @@ returns c = λ before stands.
     let sent = subst (λ (ms : List Sent). Stands c.args.past.held.now.session ms)
     (sym (sents-numbered terms before)) stands.holds.sent in
     let asked = c.in_ok-facts.ensures terms before noted
-    ∙ ap (map (waiting_by said)) (c.pending.ensures (sents said) sent) in
+    ∙ ap (map (waiting_by said)) (c.pending.ensures.open (sents said) sent) in
     let phase = c.phase.ensures (sents said) sent in
     c.in_ok-push_earlier.ensures
     ∙ ap (λ (o : Option EventPlace). c.phase-2.new.self ++ place_facts (codes "since") o)

@@ -1,7 +1,8 @@
-use Rattle.std.proofs.Common.{◌≡◌, ◌++◌, string_bytes, subst}
+use Rattle.std.proofs.Common.{◌≡◌, ◌++◌, [], append-nil, string_bytes, subst, sym}
 use Rattle.lsp_docs.specs.Documents.{Terms}
 use Rattle.lsp_verdict.specs.Given.{verdict_view}
 use Rattle.lsp_verdict.specs.Heard.{heard_events}
+use Rattle.lsp_explain.specs.Misfits.{AreMisfits, found_kept}
 use Rattle.lsp_explain.specs.Notes.{noticed, note_lines, notes_by}
 use Rattle.lsp_explain.proofs.Ending.{first_closes}
 use Rattle.lsp_explain.proofs.Telling.{stands_at}
@@ -11,11 +12,13 @@ pub returns : goal.returns
 returns c = record {
   closes = λ terms heard stands stood few.
       let verdict = c.in_ok-verdict.verdict in
+      let found = found_kept terms (heard_events heard) in
       first_closes c.args.self.now.completeness terms heard c.args.log.now c.args.end verdict _ _ _
       (c.in_ok-verdict.ensures terms heard stands.trail stands.clean stood few)
       (subst (λ (t : Terms). string_bytes c.push_notes.new.lines
       ≡ string_bytes c.push_ending.new.text ++ note_lines (notes_by (verdict_view verdict)
-      (noticed t (heard_events heard)))) stood.by
-      (c.in_ok-push_notes.ensures (heard_events heard)
-      (stands_at _ terms heard stands.trail stood)));
+      (noticed t (heard_events heard) (found ++ [])))) stood.by
+      (c.in_ok-push_notes.ensures (heard_events heard) (found ++ [])
+      (stands_at _ terms heard stands.trail stood)
+      (subst (AreMisfits c.args.self.now.misfits) (sym (append-nil found)) stands.misfits)));
 }

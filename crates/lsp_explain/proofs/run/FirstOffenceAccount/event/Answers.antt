@@ -7,6 +7,7 @@ use Rattle.lsp_replay.specs.declared.seen.Fate.{Fate}
 use Rattle.lsp_verdict.specs.Given.{verdict_view}
 use Rattle.lsp_verdict.specs.Heard.{heard_events}
 use Rattle.lsp_verdict.specs.Offences.{Offence}
+use Rattle.lsp_explain.specs.Misfits.{found_kept, found_refuted}
 use Rattle.lsp_explain.specs.Notes.{noticed, note_lines, notes_by}
 use Rattle.lsp_explain.proofs.AccountSteps.{first_kept, first_told}
 use Rattle.lsp_explain.proofs.Telling.{stands_before, told_of}
@@ -20,13 +21,22 @@ returns-in_default c = record {
   says = λ terms before h stands seen.
       let rule = kept_seen terms before h c.args.seen.now.fate c.in_default.not-Offends seen.fate in
       first_kept terms before h c.args.self.now _ stands (ShowsFault c.args.seen.now.raw)
-      (string_bytes c.args.text.now) rule (c.in_ok-keep.ensures terms before h stands.trail seen);
+      (string_bytes c.args.text.now) rule (c.in_ok-keep.ensures terms before h stands.trail seen)
+      (c.in_ok-note_kept.ensures terms before h stands.misfits seen);
 }
 
 -- memory is refused
 pub returns-in_err-keep-clause-memory : goal.returns-in_err-keep-clause-memory
 returns-in_err-keep-clause-memory c =
     on_err c.from_residual.result (λ terms before h stands seen. refl)
+
+pub returns-in_err-note_kept-clause-memory : goal.returns-in_err-note_kept-clause-memory
+returns-in_err-note_kept-clause-memory c =
+    on_err c.from_residual-in_err-note_kept.result (λ terms before h stands seen. refl)
+
+pub returns-in_err-note_refuted-clause-memory : goal.returns-in_err-note_refuted-clause-memory
+returns-in_err-note_refuted-clause-memory c =
+    on_err c.from_residual-in_err-note_refuted.result (λ terms before h stands seen. refl)
 
 pub returns-in_err-push_offence-clause-memory : goal.returns-in_err-push_offence-clause-memory
 returns-in_err-push_offence-clause-memory c =
@@ -49,6 +59,8 @@ returns c = record {
       let rule = c.in-Offends.rule in
       let offence = c.last_offence-offence.result in
       let verdict = c.verdict-verdict.result in
+      let found = found_kept terms (heard_events before)
+      ++ found_refuted terms (heard_events before) h.note.event rule in
       let has = subst (λ (f : Fate). HasFate terms before h f) c.in-Offends.is seen.fate in
       let last = c.last_offence-offence.ensures before h seen.stood.counted seen.few seen.is
       seen.noted in
@@ -61,7 +73,8 @@ returns c = record {
       (c.in_ok-push_offence.ensures terms before h stands.trail))
       (subst (λ (t : Terms). string_bytes c.push_notes.new.lines
       ≡ string_bytes c.push_offence.new.text ++ note_lines (notes_by
-      (verdict_view verdict) (noticed t (heard_events before)))) seen.stood.by
-      (c.in_ok-push_notes.ensures (heard_events before)
-      (stands_before _ terms before h rule stands.trail seen.stood has.0)));
+      (verdict_view verdict) (noticed t (heard_events before) found))) seen.stood.by
+      (c.in_ok-push_notes.ensures (heard_events before) found
+      (stands_before _ terms before h rule stands.trail seen.stood has.0)
+      (c.in_ok-note_refuted.ensures terms before h stands.misfits seen has.0)));
 }

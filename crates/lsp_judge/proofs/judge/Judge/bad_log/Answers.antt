@@ -1,9 +1,10 @@
 use Rattle.std.proofs.Common.{ap, refl, sym, ◌∙◌, Some}
 use Rattle.lsp_verdict.specs.Given.{verdict_view}
 use Rattle.lsp_judge.specs.Standing.{State}
-use Rattle.lsp_verdict.specs.Verdict.{no}
-use Rattle.lsp_judge.proofs.Answering.{given_names, keeps_given, keeps_ungiven, open_none}
+use Rattle.lsp_verdict.specs.Verdict.{bad_log, no}
+use Rattle.lsp_judge.proofs.Answering.{given_names, keeps_given, keeps_ungiven, no_fault, open_none}
 use Rattle.lsp_judge.proofs.Finals.{given_final, log_final}
+use Rattle.lsp_judge.proofs.Records.{offence_in}
 use Rattle.lsp_judge.proofs.judge.Judge.bad_log.Goals as goal
 
 pub returns-in-Some-clause-keeps : goal.returns-in-Some-clause-keeps
@@ -43,3 +44,11 @@ pub returns-in-None-clause-fault : goal.returns-in-None-clause-fault
 returns-in-None-clause-fault g c = λ records at code stands e.
     let given = ap (λ (s : State). s.given) (sym c.self.view_is) ∙ c.in-None.is in
     (cc e, cc e, open_none c.args.self.now records given stands)
+
+pub returns-in-Some-clause-fault : goal.returns-in-Some-clause-fault
+returns-in-Some-clause-fault g c = λ records at code stands e.
+    let given = ap (λ (s : State). s.given) (sym c.self.view_is) ∙ c.in-Some.is in
+    let says = rw c.unwrap.ensures at c.answer.ensures.ok in
+    absurd (no_fault c.args.self.now.limits c.args.self.now.format records at code
+    (offence_in c.args.self.now records c.in-Some.ruling (bad_log at code) given
+    (says ∙ ap (λ a. Some (verdict_view a)) e) stands))

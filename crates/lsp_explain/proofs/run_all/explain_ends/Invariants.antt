@@ -1,0 +1,22 @@
+use Rattle.std.specs.List.{flat_map}
+use Rattle.std.specs.Prelude.{take}
+use Rattle.std.proofs.Common.{◌≡◌, ◌++◌, List, map, string_bytes}
+use Rattle.lsp_survey.specs.Reported.{IsTally}
+use Rattle.lsp_verdict.specs.Event.{Event}
+use Rattle.lsp_verdict.specs.Given.{offence_view}
+use Rattle.lsp_verdict.specs.Offences.{Offence}
+use Rattle.lsp_explain.specs.Asking.{numbered}
+use Rattle.lsp_explain.specs.ExplainRuns.{rests_held}
+use Rattle.lsp_explain.specs.Explained.{cause_lines, end_explained}
+use Rattle.lsp_explain.specs.Trails.{StandsAfter, terms_in}
+use Rattle.lsp_explain.proofs.run_all.explain_ends.Given as goal
+
+abbrev pub invariant-loop-offence : goal.invariant-loop-offence
+invariant-loop-offence l = record {
+  tally : (found : List Offence) → IsTally l.fn.tally found
+      → IsTally l.tally (found ++ map offence_view (take l.offence-index l.listed));
+  said : (before : List Event) → StandsAfter l.past before
+      → string_bytes l.text ≡ string_bytes l.fn.text ++ flat_map cause_lines
+      (map (end_explained (rests_held l.log) (numbered (terms_in l.past) before))
+      (map (λ o. (offence_view o).no) (take l.offence-index l.listed)));
+}
