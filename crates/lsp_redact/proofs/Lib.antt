@@ -5,3 +5,4 @@ pub mod TextLaws
 pub mod RenamedCalls
 pub mod RenamedRules
 pub mod DocumentLaws
+pub mod RenamedRequests
