@@ -11,6 +11,9 @@ import programs
 import sessions
 from processes import SECONDS, until
 
+# How many seconds a program may take for what it does at once, on a busy machine.
+MOMENT = 30
+
 READ_FAULT = b"lspcheck: read fault\n"
 WRITE_FAULT = b"lspcheck: write fault\n"
 
@@ -242,7 +245,7 @@ def opened_by(process, path):
                 opened.append(path.with_name(os.path.basename(os.readlink(it))))
         return path in opened
 
-    until(has_opened)
+    until(has_opened, MOMENT)
     return opened
 
 
