@@ -4,5 +4,8 @@ pub mod KeptApart
 pub mod TextLaws
 pub mod RenamedCalls
 pub mod RenamedRules
+pub mod RenamedDifferences
 pub mod DocumentLaws
 pub mod RenamedRequests
+pub mod Numbering
+pub mod Showing

@@ -93,7 +93,7 @@ module _ (n : Bytes → Bytes) (r : ℕ → ℕ) (names : KeepsNames n) (texts :
 
   -- ---- changes
 
-  fits-by : (kind : SyncKind) (cs : List Edit) → fits_kind kind (map (edit_by r) cs) ≡ fits_kind kind cs
+  pub fits-by : (kind : SyncKind) (cs : List Edit) → fits_kind kind (map (edit_by r) cs) ≡ fits_kind kind cs
   fits-by Nothing cs = refl
   fits-by Full [] = refl
   fits-by Full (c ∷ cs) = ap (λ (b : Bool). is_none c.span && b) (fits-by Full cs)
@@ -141,7 +141,7 @@ module _ (n : Bytes → Bytes) (r : ℕ → ℕ) (names : KeepsNames n) (texts :
   save_rule-by ends (Some t) None = λ _. refl
   save_rule-by ends (Some t) (Some v) = saved_by ends v.text t _ refl
 
-  all_after-by : (number : ℤ) (vs : List Version)
+  pub all_after-by : (number : ℤ) (vs : List Version)
       → list_all (is_after number) (map (version_by n r names texts) vs) ≡ list_all (is_after number) vs
   all_after-by number [] = refl
   all_after-by number (v ∷ vs) =
@@ -190,7 +190,7 @@ module _ (n : Bytes → Bytes) (r : ℕ → ℕ) (names : KeepsNames n) (texts :
 
   -- ---- a call
 
-  is_some-by : (h : Option Version) → is_some (option_map (version_by n r names texts) h) ≡ is_some h
+  pub is_some-by : (h : Option Version) → is_some (option_map (version_by n r names texts) h) ≡ is_some h
   is_some-by None = refl
   is_some-by (Some v) = refl
 
@@ -240,13 +240,13 @@ module _ (n : Bytes → Bytes) (r : ℕ → ℕ) (names : KeepsNames n) (texts :
   versions-by (s ∷ ss) =
       ap (λ (vs : List Version). version_by n r names texts s.version ∷ vs) (versions-by ss)
 
-  versions_of-by : (uri : Bytes) (ss : List Shown)
+  pub versions_of-by : (uri : Bytes) (ss : List Shown)
       → versions_of (n uri) (map (shown_by n r names texts) ss)
       ≡ map (version_by n r names texts) (versions_of uri ss)
   versions_of-by uri ss =
       ap (map (λ (s : Shown). s.version)) (filter-by uri ss) ∙ versions-by (filter (is_of uri) ss)
 
-  uri-by : (c : Call) → uri_of (call_by n r names texts c) ≡ n (uri_of c)
+  pub uri-by : (c : Call) → uri_of (call_by n r names texts c) ≡ n (uri_of c)
   uri-by (opens uri v t) = refl
   uri-by (changes enc kind uri v cs) = refl
   uri-by (closes uri) = refl

@@ -1,11 +1,12 @@
 -- What is said about documents, with names and characters replaced.
-use Rattle.std.specs.Prelude.{◌≡◌, ℕ, ℤ, List, map, Bool, false, Option, Some, None, option_map}
+use Rattle.std.specs.Prelude.{◌≡◌, ℕ, ℤ, List, map, Bool, true, false, Option, Some, None, option_map}
+use Rattle.std.specs.Prelude.{option_and_then}
 use Rattle.std.specs.Str.{bytes_eq}
 use Rattle.lsp_docs.specs.Calls.{Bytes, Call, opens, changes, closes, saves, shows}
 use Rattle.lsp_docs.specs.Documents.{Terms, Version, held, versioned}
 use Rattle.lsp_docs.specs.Rules.{call_rule}
-use Rattle.lsp_facts.specs.TwoTexts.{is_of_texts}
-use Rattle.lsp_redact.specs.Characters.{shown_text}
+use Rattle.lsp_facts.specs.TwoTexts.{compared, is_of_texts}
+use Rattle.lsp_redact.specs.Characters.{apart_in, shown_text}
 use Rattle.lsp_redact.specs.ShownEdits.{shown_edit}
 
 -- a map of names that shows no two of them by one
@@ -42,4 +43,18 @@ DocumentRulesStay = (shown_by : Bytes → Bytes) (apart : Option ℕ) → KeepsA
     → (terms : Terms) (before : List Call) (call : Call)
     → says_texts (call_rule terms before call) ≡ false
     → call_rule terms (map (shown_call shown_by apart) before) (shown_call shown_by apart call)
+    ≡ call_rule terms before call
+
+-- the character by which the two texts stay apart that a call after these compares
+abbrev pub apart_by : Terms → List Call → Call → Option ℕ
+apart_by terms before call = option_and_then (apart_in terms.line_ends) (compared terms before call)
+
+-- **A call that says that two texts differ says so still**, where the character stays apart at which
+-- they first differ.
+abbrev pub DifferencesStay : Type 0
+DifferencesStay = (shown_by : Bytes → Bytes) → KeepsApart shown_by
+    → (terms : Terms) (before : List Call) (call : Call)
+    → says_texts (call_rule terms before call) ≡ true
+    → call_rule terms (map (shown_call shown_by (apart_by terms before call)) before)
+    (shown_call shown_by (apart_by terms before call) call)
     ≡ call_rule terms before call

@@ -2,7 +2,7 @@
 ghost use Rattle.lsp_redact.specs.Laws.{EditsStay, KindsDecide, OneRedacted, OtherTextsStay};
 ghost use Rattle.lsp_redact.specs.Laws.{RedactedKeepsVerdict, SameTextsStay, SomeRedacted};
 ghost use Rattle.lsp_redact.specs.Laws.{UnitsStay};
-ghost use Rattle.lsp_redact.specs.ShownCalls.{DocumentRulesStay, HeldTextsStay};
+ghost use Rattle.lsp_redact.specs.ShownCalls.{DifferencesStay, DocumentRulesStay, HeldTextsStay};
 
 /// Every byte sequence has a log that is its own with its words replaced.
 pub fn some_redacted()
@@ -54,4 +54,10 @@ pub fn held_texts_stay()
 /// A call breaks the rule on documents that it broke, unless that says that two texts differ.
 pub fn document_rules_stay()
     ensures { DocumentRulesStay }
+{}
+
+/// A call that says that two texts differ says so still, where the character stays apart at which
+/// they first differ.
+pub fn differences_stay()
+    ensures { DifferencesStay }
 {}

@@ -23,7 +23,7 @@ mod redaction;
 mod run;
 
 pub use laws::{
-    document_rules_stay, edits_stay, held_texts_stay, kinds_decide, one_redacted, other_texts_stay,
-    redacted_keeps_verdict, same_texts_stay, some_redacted, units_stay,
+    differences_stay, document_rules_stay, edits_stay, held_texts_stay, kinds_decide, one_redacted,
+    other_texts_stay, redacted_keeps_verdict, same_texts_stay, some_redacted, units_stay,
 };
 pub use run::run_redact;
