@@ -9,3 +9,5 @@ pub mod DocumentLaws
 pub mod RenamedRequests
 pub mod Numbering
 pub mod Showing
+pub mod RenamedSessions
+pub mod RenamedEvents

@@ -99,7 +99,7 @@ module _ (i : Ident → Ident) (m : List ℕ → List ℕ) (params : Option Data
 
   -- ---- open requests
 
-  names-by : (o : Option Ident) (id : Ident) → names (option_map i o) (i id) ≡ names o id
+  pub names-by : (o : Option Ident) (id : Ident) → names (option_map i o) (i id) ≡ names o id
   names-by None id = refl
   names-by (Some own) id = ids.same own id
 
