@@ -11,3 +11,4 @@ pub mod Numbering
 pub mod Showing
 pub mod RenamedSessions
 pub mod RenamedEvents
+pub mod ReadBack
