@@ -12,3 +12,4 @@ pub mod Showing
 pub mod RenamedSessions
 pub mod RenamedEvents
 pub mod ReadBack
+pub mod AccountSteps

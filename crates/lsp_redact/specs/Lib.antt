@@ -9,6 +9,7 @@ pub mod Messages
 pub mod Broken
 pub mod Records
 pub mod Redacting
+pub mod Keeping
 pub mod Redacted
 pub mod ShownEdits
 pub mod ShownCalls

@@ -11,7 +11,8 @@ use Rattle.lsp_frame.specs.declared.format.Format.TheVariants.{One, Two}
 use Rattle.lsp_log.specs.Log.{Record, first_line, spelling}
 use Rattle.lsp_replay.specs.Run.{IsJudged, Run, Tail}
 use Rattle.lsp_replay.specs.Telling.{no_of, rule_of}
-use Rattle.lsp_verdict.specs.Event.{Event}
+use Rattle.lsp_types.specs.declared.side.Side.{Side}
+use Rattle.lsp_verdict.specs.Event.{Event, fault}
 use Rattle.lsp_verdict.specs.Heard.{Heard, heard_events}
 use Rattle.lsp_verdict.specs.Outcome.{is_rest}
 use Rattle.lsp_verdict.specs.Placed.{Raw, content, broken, show}
@@ -112,6 +113,10 @@ redact_run most = record {
 abbrev pub names_by : Option Kept → Names
 names_by None = no_names
 names_by (Some kept) = names_of kept
+
+-- an event that is a fault is one by this rule
+abbrev pub IsFaultOf : ℕ → Event → Type 0
+IsFaultOf rule event = (side : Side) (own : ℕ) → event ≡ fault side own → own ≡ rule
 
 -- the event that offends by this rule, of which this is kept, is added as records, whatever names
 -- the log has

@@ -11,7 +11,7 @@ ghost use Rattle.lsp_rpc.specs.Act.{Text};
 ghost use Rattle.lsp_rpc.specs.Ident.{id_view};
 ghost use Rattle.serde_json.specs.View.{view};
 
-use lsp_rpc::{Id, Method, Result, Side, notification_method, request_method};
+use lsp_rpc::{Id, Memory, Method, Result, Side, notification_method, request_method};
 use lsp_types::OrderedMap;
 use serde_json::Value;
 use std::alloc::Global;
@@ -55,7 +55,7 @@ impl Numbers {
         if let Some(number) = self.seen.get_str(name) {
             return Ok(*number);
         }
-        let number = self.seen.len() as u64 + 1;
+        let number = (self.seen.len() as u64).checked_add(1).ok_or(Memory)?;
         let name = String::from_str(self.seen.allocator(), name)?;
         self.seen.push(name, number)?;
         Ok(number)

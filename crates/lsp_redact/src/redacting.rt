@@ -1,30 +1,33 @@
 //! What is kept of a log on the way, and what is written of it once its verdict is known.
 ghost use Rattle.std.specs.Prelude.{◌≡◌, ◌++◌, ◌∷◌, ◌+◌, ◌<◌, ◌^◌, [], ℕ, List, None, OnOk, Some};
-ghost use Rattle.std.specs.Prelude.{length, map, option_map, string_bytes};
+ghost use Rattle.std.specs.Prelude.{false, length, map, option_map, string_bytes};
 ghost use Rattle.std.specs.List.{flat_map};
 ghost use Rattle.lsp_docs.specs.Documents.{Terms};
 ghost use Rattle.lsp_log.specs.Log.{spelling};
-ghost use Rattle.lsp_redact.specs.Kept.{awaits, kept_in};
+ghost use Rattle.lsp_redact.specs.Keeping.{Keeps};
+ghost use Rattle.lsp_redact.specs.Kept.{awaits};
 ghost use Rattle.lsp_redact.specs.Kept as spec;
 ghost use Rattle.lsp_redact.specs.Names.{names_in, names_of};
 ghost use Rattle.lsp_redact.specs.Naming.{Writes};
 ghost use Rattle.lsp_redact.specs.Records.{records_of};
-ghost use Rattle.lsp_redact.specs.Redacting.{AddsLast, EndsAs, EndsBy, fault_at, format_by, log_by};
-ghost use Rattle.lsp_redact.specs.Redacting.{redact_run};
+ghost use Rattle.lsp_redact.specs.Redacting.{AddsLast, EndsAs, EndsBy, IsFaultOf, fault_at};
+ghost use Rattle.lsp_redact.specs.Redacting.{format_by, log_by, redact_run};
 ghost use Rattle.lsp_redact.specs.View.{kept_view};
-ghost use Rattle.lsp_replay.specs.Run.{Tail};
-ghost use Rattle.lsp_replay.specs.Telling.{IsEnd, MaySpeak, Stood, no_of, rule_of};
+ghost use Rattle.lsp_replay.specs.Run.{IsJudged, Tail};
+ghost use Rattle.lsp_replay.specs.Telling.{IsEnd, IsSeen, MaySpeak, Stood, no_of, rule_of};
 ghost use Rattle.lsp_verdict.specs.Event.{Event};
-ghost use Rattle.lsp_verdict.specs.Given.{raw_view};
+ghost use Rattle.lsp_types.specs.declared.rules.TheConstants as rules;
+ghost use Rattle.lsp_verdict.specs.Given.{AreCounts, raw_view};
 ghost use Rattle.lsp_verdict.specs.Heard.{Heard, heard_events};
 ghost use Rattle.lsp_verdict.specs.Placed.{Reads};
-ghost use Rattle.lsp_verdict.specs.Verdict.{first_no};
+ghost use Rattle.lsp_verdict.specs.Verdict.{first_no, no_next};
 
 use crate::apart::apart_of;
 use crate::broken::broken_text;
 use crate::kept::{Kept, kept_of};
 use crate::records::{push_content, push_first_line, push_snapshot};
 use crate::redaction::Redaction;
+use lsp_docs::Docs;
 use lsp_frame::Format;
 use lsp_replay::{Account, End, Events, Fate, Flow, LogEvents, Seen, last_offence};
 use lsp_rpc::{Result, Side};
@@ -46,7 +49,11 @@ pub(crate) struct Redacting {
 
 impl Redacting {
     /// Nothing is kept yet; a record has at most this many characters.
-    pub(crate) fn new(alloc: Global, most: usize) -> Self {
+    pub(crate) fn new(alloc: Global, most: usize) -> Self
+        ensures kept { result.kept.items ≡ [] }
+        ensures awaits { result.awaits ≡ false }
+        ensures most { result.most ≡ most }
+    {
         Redacting {
             kept: Vec::new(alloc),
             awaits: false,
@@ -55,7 +62,13 @@ impl Redacting {
     }
 
     /// Keeps an event.
-    fn keep(&mut self, alloc: Global, held: &Events<Lined>, seen: &Seen<'_>) -> Result<()> {
+    fn keep(&mut self, alloc: Global, held: &Events<Lined>, seen: &Seen<'_>) -> Result<()>
+        ensures most { self.new.most ≡ self.old.most }
+        ensures keeps { OnOk result ((terms : Terms) (before : List Heard) (h : Heard)
+            → Keeps self.old terms before
+            → IsSeen held.now.session held.now.docs held.now.counts seen.now terms before h
+            → rule_of terms before h ≡ None → Keeps self.new terms (before ++ h ∷ [])) }
+    {
         if let Some(kept) = kept_of(alloc, seen, self.awaits)? {
             self.kept.push(kept)?;
         }
@@ -90,6 +103,7 @@ impl Redacting {
         ensures { OnOk result ((before : List Event) (event : Event)
             → self.now.awaits ≡ awaits before → Reads (raw_view seen.now.raw) event
             → MaySpeak before event (option_map (λ s. s.now) seen.now.spoken)
+            → IsFaultOf rule event
             → AddsLast self.now.most redaction.old redaction.new (raw_view seen.now.raw) rule
             (spec.kept_of before event) (string_bytes text.old) (string_bytes text.new)) }
     {
@@ -130,11 +144,15 @@ fn push_kept(text: &mut String, redaction: &mut Redaction, kept: &Kept, most: us
     }
 }
 
-/// The format of a log in which this many versions are kept.
-fn format_of(kept: usize) -> Format
-    ensures { result ≡ format_by kept }
+/// The format of a log of these documents.
+fn format_of(docs: &Docs<Lined>) -> Format
+    ensures { result ≡ format_by docs.now.terms.kept }
 {
-    if kept == 0 { Format::One } else { Format::Two }
+    if docs.kept() == 0 {
+        Format::One
+    } else {
+        Format::Two
+    }
 }
 
 /// How the run ends at an event that offends: a fault of the frames is not written.
@@ -153,7 +171,10 @@ fn outcome_of(held: &Events<Lined>, raw: Raw<'_>, rule: u16) -> Outcome
 }
 
 /// No by 107 at the end of a log.
-fn inside_frame(counts: &Counts, who: Who) -> Outcome {
+fn inside_frame(counts: &Counts, who: Who) -> Outcome
+    ensures { (events : List Event) → AreCounts counts.now events → length events + 1 < 2 ^ 64
+        → IsJudged (no_next rules.STREAM_ENDS_INSIDE_FRAME who events) result }
+{
     let (number, event) = counts.next(who);
     Outcome::Judged(Verdict::No {
         rule: rules::STREAM_ENDS_INSIDE_FRAME,
@@ -189,9 +210,7 @@ impl Account for Redacting {
 
     ghost run = { redact_run };
 
-    ghost stands = { λ account terms heard. (first_no terms (heard_events heard) ≡ None)
-        × (map kept_view account.kept.items ≡ kept_in (heard_events heard))
-        × (account.awaits ≡ awaits (heard_events heard)) × (0 < account.most) };
+    ghost stands = { Keeps };
 
     fn event(&mut self, held: &Events<Lined>, seen: &Seen<'_>, text: &mut String) -> Result<Flow> {
         let alloc = *text.allocator();
@@ -201,7 +220,7 @@ impl Account for Redacting {
         };
         let apart = apart_of(alloc, held, seen.call, rule, tried)?;
         let mut redaction = Redaction::new(alloc, apart);
-        self.say(text, format_of(held.docs.kept()), &mut redaction)?;
+        self.say(text, format_of(&held.docs), &mut redaction)?;
         self.say_last(text, &mut redaction, seen, rule)?;
         let outcome = outcome_of(held, seen.raw, rule);
         Ok(Flow::Stop(Box::new(alloc, outcome)?))
@@ -215,7 +234,7 @@ impl Account for Redacting {
         text: &mut String,
     ) -> Result<Outcome> {
         let mut redaction = Redaction::new(*text.allocator(), None);
-        self.say(text, format_of(held.docs.kept()), &mut redaction)?;
+        self.say(text, format_of(&held.docs), &mut redaction)?;
         Ok(outcome_at(held, log, end))
     }
 }
