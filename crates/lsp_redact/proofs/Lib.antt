@@ -13,3 +13,5 @@ pub mod RenamedSessions
 pub mod RenamedEvents
 pub mod ReadBack
 pub mod AccountSteps
+pub mod CutTexts
+pub mod KeptEvents
