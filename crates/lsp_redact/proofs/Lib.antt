@@ -15,3 +15,4 @@ pub mod ReadBack
 pub mod AccountSteps
 pub mod CutTexts
 pub mod KeptEvents
+pub mod RedactedRuns
