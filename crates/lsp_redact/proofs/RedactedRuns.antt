@@ -1,6 +1,5 @@
 -- What `redact` answers and writes follows from what a pass does.
 use Rattle.std.proofs.Common.{◌≡◌, ℕ, false, [], ◌++◌, Option, Some, None, Result, Ok, Err, refl}
-
 use Rattle.std.specs.Prelude.{IfOk, is_some}
 use Rattle.lsp_frame.specs.Bounds.{Bounds, IsInRange}
 use Rattle.lsp_replay.specs.Run.{PartPassed, Passes, IsPassed}

@@ -6,6 +6,7 @@ pub mod Numbered
 pub mod Names
 pub mod Naming
 pub mod Messages
+pub mod Shown
 pub mod Broken
 pub mod Records
 pub mod Redacting

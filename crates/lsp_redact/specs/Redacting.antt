@@ -1,7 +1,7 @@
 -- What is said of a log with its words replaced, up to its verdict.
 use Rattle.std.specs.Prelude.{◌≡◌, ◌==◌, ℕ, List, [], ◌∷◌, ◌++◌, Bool, true, false, Option, Some}
 use Rattle.std.specs.Prelude.{None, is_some, option_and_then, option_map, option_to_list}
-use Rattle.std.specs.Prelude.{if◌then◌else◌}
+use Rattle.std.specs.Prelude.{if◌then◌else◌, map}
 use Rattle.std.specs.List.{flat_map}
 use Rattle.std.specs.Option.{option_or}
 use Rattle.lsp_docs.specs.Documents.{Terms}
@@ -24,6 +24,7 @@ use Rattle.lsp_redact.specs.Kept.{Kept, kept_in, kept_of}
 use Rattle.lsp_redact.specs.Names.{Names, joined, names_in, names_of, no_names}
 use Rattle.lsp_redact.specs.Naming.{Begins, Stands}
 use Rattle.lsp_redact.specs.Records.{AreRecordsBy, records_of}
+use Rattle.lsp_redact.specs.Shown.{shown_kept}
 use Rattle.lsp_redact.specs.declared.redaction.Redaction.{Redaction}
 
 -- ---- a log
@@ -35,7 +36,8 @@ format_by kept = if kept == 0 then One else Two
 -- the first line, and what is kept of events as records
 abbrev pub log_by : ℕ → Format → Names → Option ℕ → List Kept → List ℕ
 log_by most format names apart kept =
-    first_line format ++ flat_map spelling (flat_map (records_of most names apart) kept)
+    first_line format
+    ++ flat_map spelling (flat_map (records_of most) (map (shown_kept names apart) kept))
 
 -- the same of a log that is judged by these terms
 abbrev pub log_of : ℕ → Terms → Names → Option ℕ → List Kept → List ℕ

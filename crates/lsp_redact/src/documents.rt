@@ -1,9 +1,11 @@
 //! What stays of the messages about documents, as JSON (LSP 3.17, "Text Document Synchronization").
-ghost use Rattle.std.specs.Prelude.{◌≡◌, IfOk, option_map, string_bytes};
+ghost use Rattle.std.specs.Prelude.{◌≡◌, IfOk, map, option_map, string_bytes};
+ghost use Rattle.lsp_redact.specs.Characters.{shown_bytes};
 ghost use Rattle.lsp_redact.specs.Messages.{change_data, changed_data, closed_data, opened_data};
 ghost use Rattle.lsp_redact.specs.Messages.{position_data, saved_data, span_data};
-ghost use Rattle.lsp_redact.specs.Names.{uri_names};
+ghost use Rattle.lsp_redact.specs.Names.{shown_uri, uri_names};
 ghost use Rattle.lsp_redact.specs.Naming.{Writes};
+ghost use Rattle.lsp_redact.specs.Shown.{shown_change};
 ghost use Rattle.lsp_rpc.specs.View.{change_view, changes_view};
 ghost use Rattle.serde_json.specs.View.{view};
 
@@ -31,7 +33,8 @@ impl Redaction {
     /// The params of a `didOpen`.
     pub(crate) fn opened(&mut self, uri: &str, version: i32, text: &str) -> Result<Value>
         ensures { IfOk result (λ shown. Writes self.old self.new (uri_names uri.now)
-            (λ n. opened_data n self.old.apart uri.now version text.now) (view shown)) }
+            (λ n. opened_data (shown_uri n uri.now) version
+            (shown_bytes self.old.apart text.now)) (view shown)) }
     {
         let uri = self.names.uri(uri)?;
         let text = self.text(text)?;
@@ -44,7 +47,7 @@ impl Redaction {
 
     fn change(&self, change: &Change) -> Result<Value>
         ensures { IfOk result (λ shown. view shown
-            ≡ change_data self.now.apart (change_view change.now)) }
+            ≡ change_data (shown_change self.now.apart (change_view change.now))) }
     {
         let mut members = Map::new(self.alloc);
         if let Some(place) = change.span {
@@ -63,8 +66,8 @@ impl Redaction {
     /// The params of a `didChange`.
     pub(crate) fn changed(&mut self, uri: &str, version: i32, changes: &[Change]) -> Result<Value>
         ensures { IfOk result (λ shown. Writes self.old self.new (uri_names uri.now)
-            (λ n. changed_data n self.old.apart uri.now version (changes_view changes.now))
-            (view shown)) }
+            (λ n. changed_data (shown_uri n uri.now) version
+            (map (shown_change self.old.apart) (changes_view changes.now))) (view shown)) }
     {
         let uri = self.names.uri(uri)?;
         let mut shown = Vec::new(self.alloc);
@@ -80,7 +83,7 @@ impl Redaction {
     /// The params of a `didClose`.
     pub(crate) fn closed(&mut self, uri: &str) -> Result<Value>
         ensures { IfOk result (λ shown. Writes self.old self.new (uri_names uri.now)
-            (λ n. closed_data n uri.now) (view shown)) }
+            (λ n. closed_data (shown_uri n uri.now)) (view shown)) }
     {
         let uri = self.names.uri(uri)?;
         Ok(json!(in self.alloc; {"textDocument": {"uri": uri}})?)
@@ -89,8 +92,8 @@ impl Redaction {
     /// The params of a `didSave`.
     pub(crate) fn saved(&mut self, uri: &str, text: Option<&String>) -> Result<Value>
         ensures { IfOk result (λ shown. Writes self.old self.new (uri_names uri.now)
-            (λ n. saved_data n self.old.apart uri.now
-            (option_map (λ t. string_bytes t.now) text.entry)) (view shown)) }
+            (λ n. saved_data (shown_uri n uri.now) (option_map (shown_bytes self.old.apart)
+            (option_map (λ t. string_bytes t.now) text.entry))) (view shown)) }
     {
         let mut members = Map::new(self.alloc);
         if let Some(text) = text {

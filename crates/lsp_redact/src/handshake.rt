@@ -1,10 +1,11 @@
 //! What stays of the messages of a handshake, as JSON (LSP 3.17, "Server lifecycle").
 ghost use Rattle.std.specs.Prelude.{◌≡◌, ◌∷◌, [], IfOk, map, option_map};
-ghost use Rattle.lsp_redact.specs.Messages.{encoding_data, kind_number, list, offer_data};
-ghost use Rattle.lsp_redact.specs.Messages.{offered_data, picked_data, registered_data};
+ghost use Rattle.lsp_redact.specs.Messages.{kind_number, list, offer_data, offered_data};
+ghost use Rattle.lsp_redact.specs.Messages.{picked_data, registered_data, text_data};
 ghost use Rattle.lsp_redact.specs.Names.{encoding_names, method_names, offer_names};
-ghost use Rattle.lsp_redact.specs.Names.{offered_names};
+ghost use Rattle.lsp_redact.specs.Names.{offered_names, shown_encoding, shown_method};
 ghost use Rattle.lsp_redact.specs.Naming.{Writes};
+ghost use Rattle.lsp_redact.specs.Shown.{shown_offer, shown_picked};
 ghost use Rattle.lsp_rpc.specs.View.{offer_view, picked_view, texts_view};
 ghost use Rattle.serde_json.specs.View.{view};
 
@@ -28,7 +29,8 @@ impl Redaction {
     fn encodings(&mut self, names: &[String]) -> Result<Value>
         ensures { IfOk result (λ shown. Writes self.old self.new
             (encoding_names (texts_view names.now))
-            (λ n. list (map (encoding_data n) (texts_view names.now))) (view shown)) }
+            (λ n. list (map text_data (map (shown_encoding n) (texts_view names.now))))
+            (view shown)) }
     {
         let mut shown = Vec::new(self.alloc);
         for name in names {
@@ -42,8 +44,8 @@ impl Redaction {
     fn offered(&mut self, encodings: Option<&Vec<String>>) -> Result<Value>
         ensures { IfOk result (λ shown. Writes self.old self.new
             (offered_names (option_map (λ v. texts_view v.now.items) encodings.entry))
-            (λ n. offered_data n (option_map (λ v. texts_view v.now.items) encodings.entry))
-            (view shown)) }
+            (λ n. offered_data (option_map (map (shown_encoding n))
+            (option_map (λ v. texts_view v.now.items) encodings.entry))) (view shown)) }
     {
         match encodings {
             Some(names) => {
@@ -57,8 +59,8 @@ impl Redaction {
     /// The params of an `initialize`.
     pub(crate) fn initialize(&mut self, offer: &Offer) -> Result<Value>
         ensures { IfOk result (λ shown. Writes self.old self.new
-            (offer_names (offer_view offer.now)) (λ n. offer_data n (offer_view offer.now))
-            (view shown)) }
+            (offer_names (offer_view offer.now))
+            (λ n. offer_data (shown_offer n (offer_view offer.now))) (view shown)) }
     {
         let mut members = Map::new(self.alloc);
         let capabilities = self.offered(offer.encodings.as_ref())?;
@@ -74,7 +76,7 @@ impl Redaction {
     pub(crate) fn picked(&mut self, picked: &Picked) -> Result<Value>
         ensures { IfOk result (λ shown. Writes self.old self.new
             (encoding_names ((picked_view picked.now).encoding ∷ []))
-            (λ n. picked_data n (picked_view picked.now)) (view shown)) }
+            (λ n. picked_data (shown_picked n (picked_view picked.now))) (view shown)) }
     {
         let encoding = self.names.encoding(picked.encoding.as_str())?;
         let kind = number_of(picked.kind);
@@ -88,7 +90,8 @@ impl Redaction {
     pub(crate) fn registered(&mut self, methods: &[String]) -> Result<Value>
         ensures { IfOk result (λ shown. Writes self.old self.new
             (method_names (texts_view methods.now))
-            (λ n. registered_data n (texts_view methods.now)) (view shown)) }
+            (λ n. registered_data (map (shown_method n) (texts_view methods.now)))
+            (view shown)) }
     {
         let mut shown = Vec::new(self.alloc);
         for method in methods {

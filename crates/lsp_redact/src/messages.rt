@@ -5,8 +5,9 @@ ghost use Rattle.lsp_redact.specs.Messages.{answered_data, called_members, conte
 ghost use Rattle.lsp_redact.specs.Messages.{params_of, reply_member, response_members};
 ghost use Rattle.lsp_redact.specs.Messages.{version_member};
 ghost use Rattle.lsp_redact.specs.Names.{act_names, call_names, given_names, head_names};
-ghost use Rattle.lsp_redact.specs.Names.{joined, reply_names};
+ghost use Rattle.lsp_redact.specs.Names.{joined, reply_names, shown_id, shown_method};
 ghost use Rattle.lsp_redact.specs.Naming.{Writes};
+ghost use Rattle.lsp_redact.specs.Shown.{shown_act, shown_head, shown_reply};
 ghost use Rattle.lsp_redact.specs.View.{head_view, reply_view};
 ghost use Rattle.lsp_rpc.specs.Ident.{id_view};
 ghost use Rattle.lsp_rpc.specs.View.{act_view};
@@ -22,7 +23,7 @@ impl Redaction {
     fn call(&mut self, act: &Act) -> Result<Option<Value>>
         ensures { IfOk result (λ params. Writes self.old self.new
             (act_names (call_of (act_view act.now)))
-            (λ n. params_of n self.old.apart (call_of (act_view act.now)))
+            (λ n. params_of (shown_act n self.old.apart (call_of (act_view act.now))))
             (option_map view params)) }
     {
         match act {
@@ -43,7 +44,8 @@ impl Redaction {
     /// The params that stay of a message that means this, if any do.
     fn params(&mut self, act: &Act) -> Result<Option<Value>>
         ensures { IfOk result (λ params. Writes self.old self.new (act_names (act_view act.now))
-            (λ n. params_of n self.old.apart (act_view act.now)) (option_map view params)) }
+            (λ n. params_of (shown_act n self.old.apart (act_view act.now)))
+            (option_map view params)) }
     {
         match act {
             Act::Initialize(offer) => Ok(Some(self.initialize(offer)?)),
@@ -64,7 +66,8 @@ impl Redaction {
     fn answered(&mut self, id: Option<&Id>) -> Result<Value>
         ensures { IfOk result (λ shown. Writes self.old self.new
             (given_names (option_map (λ i. id_view i.now) id.entry))
-            (λ n. answered_data n (option_map (λ i. id_view i.now) id.entry)) (view shown)) }
+            (λ n. answered_data (option_map (shown_id n)
+            (option_map (λ i. id_view i.now) id.entry))) (view shown)) }
     {
         match id {
             Some(id) => self.names.id(id),
@@ -76,7 +79,8 @@ impl Redaction {
     fn answer(&mut self, reply: &Reply) -> Result<(&'static str, Value)>
         ensures { IfOk result (λ member. Writes self.old self.new
             (reply_names (reply_view reply.now))
-            (λ n. reply_member n (reply_view reply.now)) (member.0.now, view member.1)) }
+            (λ n. reply_member (shown_reply n (reply_view reply.now)))
+            (member.0.now, view member.1)) }
     {
         match reply {
             Reply::Picks(picked) => Ok(("result", self.picked(picked)?)),
@@ -101,8 +105,11 @@ impl Redaction {
         ensures { OnOk result (Writes self.old self.new
             (joined (call_names (option_map (λ i. id_view i.now) id.entry) method.now)
             (act_names (act_view act.now)))
-            (λ n. called_members n self.old.apart (option_map (λ i. id_view i.now) id.entry)
-            method.now (act_view act.now)) (members_view members.new.entries)) }
+            (λ n. called_members
+            (option_map (shown_id n) (option_map (λ i. id_view i.now) id.entry))
+            (shown_method n method.now)
+            (params_of (shown_act n self.old.apart (act_view act.now))))
+            (members_view members.new.entries)) }
     {
         if let Some(id) = id {
             let id = self.names.id(id)?;
@@ -127,8 +134,9 @@ impl Redaction {
         ensures { OnOk result (Writes self.old self.new
             (joined (given_names (option_map (λ i. id_view i.now) id.entry))
             (reply_names (reply_view reply.now)))
-            (λ n. response_members n (option_map (λ i. id_view i.now) id.entry)
-            (reply_view reply.now)) (members_view members.new.entries)) }
+            (λ n. response_members
+            (option_map (shown_id n) (option_map (λ i. id_view i.now) id.entry))
+            (shown_reply n (reply_view reply.now))) (members_view members.new.entries)) }
     {
         let id = self.answered(id)?;
         put(members, self.alloc, "id", id)?;
@@ -141,8 +149,8 @@ impl Redaction {
     pub(crate) fn content(&mut self, head: &Head, act: &Act) -> Result<String>
         ensures { IfOk result (λ text. Writes self.old self.new
             (joined (head_names (head_view head.now)) (act_names (act_view act.now)))
-            (λ n. content_of n self.old.apart (head_view head.now) (act_view act.now))
-            (string_bytes text)) }
+            (λ n. content_of (shown_head n (head_view head.now))
+            (shown_act n self.old.apart (act_view act.now))) (string_bytes text)) }
     {
         let mut members = Map::new(self.alloc);
         let version = Value::String(String::from_str(self.alloc, "2.0")?);

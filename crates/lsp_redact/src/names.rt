@@ -3,10 +3,10 @@ ghost use Rattle.std.specs.Prelude.{◌≡◌, ◌++◌, ◌∷◌, [], List, If
 ghost use Rattle.lsp_redact.specs.Names as spec;
 ghost use Rattle.lsp_redact.specs.Names.{Names as Named, distinct, encoding_names, id_names};
 ghost use Rattle.lsp_redact.specs.Names.{method_names, number_of, shown_encoding, shown_method};
-ghost use Rattle.lsp_redact.specs.Names.{shown_uri, uri_names};
+ghost use Rattle.lsp_redact.specs.Names.{shown_id, shown_uri, uri_names};
 ghost use Rattle.lsp_redact.specs.Names.{no_names};
 ghost use Rattle.lsp_redact.specs.Naming.{Shows, Stands};
-ghost use Rattle.lsp_redact.specs.Messages.{named_data};
+ghost use Rattle.lsp_redact.specs.Messages.{id_data};
 ghost use Rattle.lsp_rpc.specs.Act.{Text};
 ghost use Rattle.lsp_rpc.specs.Ident.{id_view};
 ghost use Rattle.serde_json.specs.View.{view};
@@ -114,7 +114,7 @@ impl Names {
     /// What an id or a token is shown by: a number as it is.
     pub(crate) fn id(&mut self, id: &Id) -> Result<Value>
         ensures { IfOk result (λ shown. Shows self.old self.new (id_names (id_view id.now))
-            (λ names. named_data names (id_view id.now)) (view shown)) }
+            (λ names. id_data (shown_id names (id_view id.now))) (view shown)) }
     {
         match id {
             Id::Number(number) => Ok(Value::from(*number)),

@@ -12,6 +12,7 @@ ghost use Rattle.lsp_redact.specs.Naming.{Writes};
 ghost use Rattle.lsp_redact.specs.Records.{records_of};
 ghost use Rattle.lsp_redact.specs.Redacting.{AddsLast, EndsAs, EndsBy, IsFaultOf, fault_at};
 ghost use Rattle.lsp_redact.specs.Redacting.{format_by, log_by, redact_run};
+ghost use Rattle.lsp_redact.specs.Shown.{shown_kept};
 ghost use Rattle.lsp_redact.specs.View.{kept_view};
 ghost use Rattle.lsp_replay.specs.Run.{IsJudged, Tail};
 ghost use Rattle.lsp_replay.specs.Telling.{IsEnd, IsSeen, MaySpeak, Stood, no_of, rule_of};
@@ -124,7 +125,8 @@ fn push_kept(text: &mut String, redaction: &mut Redaction, kept: &Kept, most: us
     requires { 0 < most }
     ensures { OnOk result (Writes redaction.old redaction.new (names_of (kept_view kept.now))
         (λ n. string_bytes text.old
-        ++ flat_map spelling (records_of most n redaction.old.apart (kept_view kept.now)))
+        ++ flat_map spelling (records_of most
+        (shown_kept n redaction.old.apart (kept_view kept.now))))
         (string_bytes text.new)) }
 {
     match kept {
