@@ -16,3 +16,4 @@ pub mod AccountSteps
 pub mod CutTexts
 pub mod KeptEvents
 pub mod RedactedRuns
+pub mod ReadMessages
