@@ -137,7 +137,7 @@ pub front_by : (text : List ℕ) (s u : Chars) (most : ℕ) (r : Option ℕ) →
     → chars_rest s ≡ text → SkipsThenYields chars_steps s (most - 1) r u
     → IsFront text most (length text - length (chars_rest u))
 front_by text s u most r utf8 some starts ran =
-    by_last r ran.1.1.2 ran.2
+    by_last r ran.1.2 ran.2
   where
     xs : List ℕ
     xs = ran.0

@@ -17,3 +17,5 @@ pub mod CutTexts
 pub mod KeptEvents
 pub mod RedactedRuns
 pub mod ReadMessages
+pub mod NamesApart
+pub mod PlainEvents

@@ -2,7 +2,7 @@
 use Rattle.std.proofs.Common.{◌≡◌, ℕ, ◌+◌, ◌<◌, Bool, true, false, cond, List, [], ◌∷◌, ◌++◌, map, length}
 use Rattle.std.proofs.Common.{filter, refl, sym, ap, subst, ◌∙◌, Option, Some, None, true≢false, get_or}
 use Rattle.std.proofs.Common.{append-nil, arith, String, Global, string_bytes, inl, inr, length-append}
-use Rattle.std.proofs.Common.{◌⊎◌, ◌≤◌}
+use Rattle.std.proofs.Common.{◌⊎◌, ◌≤◌, suc}
 use Rattle.std.specs.Prelude.{not, ◌||◌}
 use Rattle.std.specs.List.{list_any, prefix_len}
 use Rattle.std.specs.Map.{lookup}
@@ -20,16 +20,16 @@ use Rattle.lsp_redact.specs.Names.{distinct, number_of}
 use Rattle.lsp_redact.specs.Numbered.{AreNumbered}
 
 -- another name than this one
-abbrev other_than : Text → Text → Bool
+abbrev pub other_than : Text → Text → Bool
 other_than name other = not (bytes_eq name other)
 
 -- it is one of these
-abbrev is_among : Text → List Text → Bool
+abbrev pub is_among : Text → List Text → Bool
 is_among name names = list_any (bytes_eq name) names
 
 -- ---- two names
 
-same_itself : (a : Text) → bytes_eq a a ≡ true
+pub same_itself : (a : Text) → bytes_eq a a ≡ true
 same_itself a = (bytes_eq-Decides a a).1 refl
 
 -- two names are the same whichever comes first
@@ -85,31 +85,33 @@ left_new (x ∷ xs) name rest h =
 left_old : (xs : List Text) (name : Text) → is_among name xs ≡ true → left_over xs (name ∷ []) ≡ []
 unfolding left_over
 left_old [] name h = absurd (true≢false (sym h))
-left_old (x ∷ xs) name h = by_first (bytes_eq name x) refl h
+left_old (x ∷ xs) name h = by_first (λ k. left_old xs name k) (bytes_eq name x) refl h
   where
-    by_rest : (b : Bool) → is_among name xs ≡ b → bytes_eq name x ≡ true
+    abbrev Old : Type 0
+    Old = is_among name xs ≡ true → left_over xs (name ∷ []) ≡ []
+
+    by_rest : Old → (b : Bool) → is_among name xs ≡ b → bytes_eq name x ≡ true
         → filter (other_than x) (left_over xs (name ∷ [])) ≡ []
-    by_rest true is same = ap (filter (other_than x)) (left_old xs name is)
-    by_rest false is same =
+    by_rest old true is same = ap (filter (other_than x)) (old is)
+    by_rest old false is same =
         ap (filter (other_than x)) (left_new xs name [] is ∙ ap (λ (zs : List Text). name ∷ zs) (left_none xs))
         ∙ ap (λ (b : Bool). cond (not b) (name ∷ []) []) (same_either x name ∙ same)
 
-    by_first : (b : Bool) → bytes_eq name x ≡ b → (b || is_among name xs) ≡ true
+    by_first : Old → (b : Bool) → bytes_eq name x ≡ b → (b || is_among name xs) ≡ true
         → filter (other_than x) (left_over xs (name ∷ [])) ≡ []
-    by_first true is h = by_rest (is_among name xs) refl is
-    by_first false is h = ap (filter (other_than x)) (left_old xs name h)
+    by_first old true is h = by_rest old (is_among name xs) refl is
+    by_first old false is h = ap (filter (other_than x)) (old h)
 
-any-distinct : (name : Text) (xs : List Text) → is_among name (distinct xs) ≡ is_among name xs
+pub any-distinct : (name : Text) (xs : List Text) → is_among name (distinct xs) ≡ is_among name xs
 any-distinct name [] = refl
-any-distinct name (x ∷ xs) = by_first (bytes_eq name x) refl
+any-distinct name (x ∷ xs) = by_first (any-distinct name xs) (bytes_eq name x) refl
   where
-    by_first : (b : Bool) → bytes_eq name x ≡ b
+    by_first : is_among name (distinct xs) ≡ is_among name xs → (b : Bool) → bytes_eq name x ≡ b
         → (b || is_among name (filter (other_than x) (distinct xs))) ≡ (b || is_among name xs)
-    by_first true is = refl
-    by_first false is =
+    by_first rest true is = refl
+    by_first rest false is =
         any-filter_same (bytes_eq name) (other_than x) true
-        (λ k same. differs_other x name k is same) (distinct xs)
-        ∙ any-distinct name xs
+        (λ k same. differs_other x name k is same) (distinct xs) ∙ rest
 
 -- ---- one more name
 
@@ -144,13 +146,16 @@ one_more n k h = omega (arith, h)
 prefix_found : (name : Text) (ds zs : List Text) → is_among name ds ≡ true
     → prefix_len (other_than name) (ds ++ zs) ≡ prefix_len (other_than name) ds
 prefix_found name [] zs h = absurd (true≢false (sym h))
-prefix_found name (d ∷ ds) zs h = by_first (bytes_eq name d) refl h
+prefix_found name (d ∷ ds) zs h =
+    by_first (λ k. prefix_found name ds zs k) (bytes_eq name d) h
   where
-    by_first : (b : Bool) → bytes_eq name d ≡ b → (b || is_among name ds) ≡ true
+    by_first : (is_among name ds ≡ true
+        → prefix_len (other_than name) (ds ++ zs) ≡ prefix_len (other_than name) ds)
+        → (b : Bool) → (b || is_among name ds) ≡ true
         → cond (not b) (1 + prefix_len (other_than name) (ds ++ zs)) 0
         ≡ cond (not b) (1 + prefix_len (other_than name) ds) 0
-    by_first true is h = refl
-    by_first false is h = ap (λ (n : ℕ). 1 + n) (prefix_found name ds zs h)
+    by_first rest true h = refl
+    by_first rest false h = ap (λ (n : ℕ). 1 + n) (rest h)
 
 prefix_past : (name : Text) (ds zs : List Text) → is_among name ds ≡ false
     → prefix_len (other_than name) (ds ++ name ∷ zs) ≡ length ds
@@ -216,12 +221,14 @@ found_later name e es number other found =
 pub found_there : (name : Text) (es : List Entry) (number : ℕ)
     → lookup (is_text name) es ≡ Some number → IsFound name es number
 found_there name [] number h = absurd cc
-found_there name (e ∷ es) number h = by_first (bytes_eq name (string_bytes e.0)) refl h
+found_there name (e ∷ es) number h =
+    by_first (λ k. found_there name es number k) (bytes_eq name (string_bytes e.0)) refl h
   where
-    by_first : (b : Bool) → bytes_eq name (string_bytes e.0) ≡ b
+    by_first : (lookup (is_text name) es ≡ Some number → IsFound name es number)
+        → (b : Bool) → bytes_eq name (string_bytes e.0) ≡ b
         → cond b (Some e.1) (lookup (is_text name) es) ≡ Some number
         → IsFound name (e ∷ es) number
-    by_first true is h =
+    by_first rest true is h =
         let place : prefix_len (other_than name) (names_in (e ∷ es)) ≡ 0 =
         ap (λ (b : Bool). cond (not b) (1 + prefix_len (other_than name) (names_in es)) 0) is in
         let same : e.1 ≡ number = cc h in
@@ -230,18 +237,19 @@ found_there name (e ∷ es) number h = by_first (bytes_eq name (string_bytes e.0
           within = omega (arith, place);
           is = sym same ∙ ap (λ (n : ℕ). get_or (numbers_in (e ∷ es)) n 0) (sym place);
         }
-    by_first false is h = found_later name e es number is (found_there name es number h)
+    by_first rest false is h = found_later name e es number is (rest h)
 
 pub not_found : (name : Text) (es : List Entry) → lookup (is_text name) es ≡ None
     → is_among name (names_in es) ≡ false
 not_found name [] h = refl
-not_found name (e ∷ es) h = by_first (bytes_eq name (string_bytes e.0)) refl h
+not_found name (e ∷ es) h =
+    by_first (λ k. not_found name es k) (bytes_eq name (string_bytes e.0)) h
   where
-    by_first : (b : Bool) → bytes_eq name (string_bytes e.0) ≡ b
-        → cond b (Some e.1) (lookup (is_text name) es) ≡ None
+    by_first : (lookup (is_text name) es ≡ None → is_among name (names_in es) ≡ false)
+        → (b : Bool) → cond b (Some e.1) (lookup (is_text name) es) ≡ None
         → (b || is_among name (names_in es)) ≡ false
-    by_first true is h = absurd cc
-    by_first false is h = not_found name es h
+    by_first rest true h = absurd cc
+    by_first rest false h = rest h
 
 -- ---- the number of a name
 

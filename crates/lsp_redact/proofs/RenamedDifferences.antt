@@ -85,30 +85,35 @@ module _ (n : Bytes → Bytes) (r : ℕ → ℕ) (names : KeepsNames n) (texts :
         → IsOther ends (map r v.text) (map r u)
         → list_any (differs ends (shown v)) (map shown ws) ≡ true
     any_still [] u h other = absurd cc
-    any_still (w ∷ ws) u h other = by_number (is_at v.number w) refl h
+    any_still (w ∷ ws) u h other =
+        by_number (λ found. any_still ws u found other) (is_at v.number w) refl h
       where
-        later : first_other ends v.text (texts_at v.number ws) ≡ Some u
+        abbrev More : Type 0
+        More = first_other ends v.text (texts_at v.number ws) ≡ Some u
+            → list_any (differs ends (shown v)) (map shown ws) ≡ true
+
+        later : More → first_other ends v.text (texts_at v.number ws) ≡ Some u
             → list_any (differs ends (shown v)) (map shown (w ∷ ws)) ≡ true
-        later found =
-            ap (λ (b : Bool). differs ends (shown v) (shown w) || b) (any_still ws u found other)
+        later more found =
+            ap (λ (b : Bool). differs ends (shown v) (shown w) || b) (more found)
             ∙ or-true (differs ends (shown v) (shown w))
 
-        by_text : (b : Bool) → is_at v.number w ≡ true
+        by_text : More → (b : Bool) → is_at v.number w ≡ true
             → cond b (Some w.text) (first_other ends v.text (texts_at v.number ws)) ≡ Some u
             → list_any (differs ends (shown v)) (map shown (w ∷ ws)) ≡ true
-        by_text true at found =
+        by_text more true at found =
             let same : w.text ≡ u = cc found in
             ap (λ (b : Bool). b || list_any (differs ends (shown v)) (map shown ws))
             (differs_still w at (λ e. other (e ∙ ap (λ (t : Text). compared_text ends (map r t)) same)))
-        by_text false at found = later found
+        by_text more false at found = later more found
 
-        by_number : (b : Bool) → is_at v.number w ≡ b
+        by_number : More → (b : Bool) → is_at v.number w ≡ b
             → first_other ends v.text
             (map (λ (x : Version). x.text) (cond b (w ∷ filter (is_at v.number) ws)
             (filter (is_at v.number) ws))) ≡ Some u
             → list_any (differs ends (shown v)) (map shown (w ∷ ws)) ≡ true
-        by_number true at found = by_text (is_other ends v.text w.text) at found
-        by_number false at found = later found
+        by_number more true at found = by_text more (is_other ends v.text w.text) at found
+        by_number more false at found = later more found
 
     version_still : (ws : List Version) → version_rule ends ws v ≡ Some rule
         → Differ (option_map (two_texts v.text) (first_other ends v.text (texts_at v.number ws)))
@@ -192,14 +197,17 @@ module _ (n : Bytes → Bytes) (r : ℕ → ℕ) (names : KeepsNames n) (texts :
         → IsOther ends (map r u) (map r s.text)
         → list_any (λ w. differs ends w (shown s)) (map shown vs) ≡ true
     found_still [] u h other = absurd cc
-    found_still (v ∷ vs) u h other = by_test (differs ends v s) refl h
+    found_still (v ∷ vs) u h other =
+        by_test (λ found. found_still vs u found other) (differs ends v s) refl h
       where
-        by_test : (b : Bool) → differs ends v s ≡ b
+        by_test : (option_map (λ (x : Version). x.text) (find (differs_from ends s) vs) ≡ Some u
+            → list_any (λ w. differs ends w (shown s)) (map shown vs) ≡ true)
+            → (b : Bool) → differs ends v s ≡ b
             → option_map (λ (x : Version). x.text) (cond b (Some v) (find (differs_from ends s) vs))
             ≡ Some u
             → (differs ends (shown v) (shown s)
             || list_any (λ w. differs ends w (shown s)) (map shown vs)) ≡ true
-        by_test true is found =
+        by_test more true is found =
             let same : v.text ≡ u = cc found in
             let numbers : int_eq v.number s.number ≡ true =
             (and_parts (int_eq v.number s.number) (not (same_text ends v.text s.text)) is).0 in
@@ -207,8 +215,8 @@ module _ (n : Bytes → Bytes) (r : ℕ → ℕ) (names : KeepsNames n) (texts :
             (ap (λ (b : Bool). b && not (same_text ends (map r v.text) (map r s.text))) numbers
             ∙ not_same ends (map r v.text) (map r s.text)
             (λ e. other (ap (λ (t : Text). compared_text ends (map r t)) (sym same) ∙ e)))
-        by_test false is found =
-            ap (λ (b : Bool). differs ends (shown v) (shown s) || b) (found_still vs u found other)
+        by_test more false is found =
+            ap (λ (b : Bool). differs ends (shown v) (shown s) || b) (more found)
             ∙ or-true (differs ends (shown v) (shown s))
 
   show_still : (number : ℤ) (t : Text) (vs : List Version) (h : Option Version)

@@ -2,15 +2,19 @@
 use Rattle.std.proofs.Common.{◌≡◌, ℕ, ◌<◌, ◌≤◌, Bool, true, false, List, [], ◌∷◌, map, refl, sym, ap}
 use Rattle.std.proofs.Common.{◌∙◌, arith, Option, Some, None, subst}
 use Rattle.std.specs.Prelude.{nat_lt, nat_le}
-use Rattle.std.proofs.lemmas.Bool.{cond_both, ltb-true, ltb-false, ne_eqb}
+use Rattle.std.proofs.Common.{IsUtf8}
+use Rattle.std.specs.Prelude.{chars}
+use Rattle.std.proofs.lemmas.Bool.{and_from, cond_both, ltb-true, ltb-false, ne_eqb}
 use Rattle.std.proofs.lemmas.Bool.Decides.{nat_tests}
+use Rattle.std.proofs.lemmas.Str.{chars-encodes}
+use lib.Utf8.{low_scalar, scalar, scalars}
 use Rattle.lsp_types.specs.declared.position.Encoding.{Encoding}
 use Rattle.lsp_types.specs.declared.position.Encoding.TheVariants.{Utf8, Utf16, Utf32}
 use Rattle.lsp_text.specs.Lines.{is_feed, is_return}
 use Rattle.lsp_text.specs.Places.{units, units_of_char}
 use Rattle.lsp_redact.proofs.Texts.{KeepsTexts}
 use Rattle.lsp_redact.specs.Characters.{ascii_kind, kind_of, is_apart, lies, one_of, shown_as}
-use Rattle.lsp_redact.specs.Characters.{shown_by, shown_text}
+use Rattle.lsp_redact.specs.Characters.{shown_by, shown_bytes, shown_text}
 use Rattle.lsp_redact.specs.Laws.{KindsDecide, left_of}
 use Rattle.lsp_redact.specs.declared.characters.Kind.{Kind}
 use Rattle.lsp_redact.specs.declared.characters.Kind.TheVariants.{Small, Capital, Digit, Other}
@@ -184,3 +188,36 @@ keeps_texts apart = record {
   same_units = λ enc c. units-shown_as enc apart c;
   own_feed = refl;
 }
+
+-- ---- UTF-8
+
+scalar_by : (k : Kind) (apart : Bool) (c : ℕ) → IsOf k c → scalar (one_of (shown_by k) apart c) ≡ true
+scalar_by Small true c h = refl
+scalar_by Small false c h = refl
+scalar_by Capital true c h = refl
+scalar_by Capital false c h = refl
+scalar_by Digit true c h = refl
+scalar_by Digit false c h = refl
+scalar_by TwoBytes true c h = refl
+scalar_by TwoBytes false c h = refl
+scalar_by ThreeBytes true c h = refl
+scalar_by ThreeBytes false c h = refl
+scalar_by FourBytes true c h = refl
+scalar_by FourBytes false c h = refl
+scalar_by Other apart c h = low_scalar c (omega (arith, h))
+
+-- what a text is shown by are characters that UTF-8 has
+pub scalars-shown_text : (apart : Option ℕ) (text : List ℕ) → scalars (shown_text apart text) ≡ true
+scalars-shown_text apart [] = refl
+scalars-shown_text apart (c ∷ text) =
+    and_from _ _ (scalar_by (kind_of c) (is_apart apart c) c (kind_range c))
+    (scalars-shown_text apart text)
+
+pub chars-shown_bytes : (apart : Option ℕ) (text : List ℕ)
+    → chars (shown_bytes apart text) ≡ map (shown_as apart) (chars text)
+chars-shown_bytes apart text =
+    chars-encodes (shown_text apart (chars text)) (scalars-shown_text apart (chars text))
+
+pub IsUtf8-shown_bytes : (apart : Option ℕ) (text : List ℕ) → IsUtf8 (shown_bytes apart text)
+IsUtf8-shown_bytes apart text =
+    (shown_text apart (chars text), (scalars-shown_text apart (chars text), refl))

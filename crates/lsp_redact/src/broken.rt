@@ -4,7 +4,7 @@ ghost use Rattle.lsp_redact.specs.Broken as spec;
 ghost use Rattle.lsp_redact.specs.Broken.{Replaces};
 ghost use Rattle.lsp_rpc.specs.View.{message_view};
 ghost use Rattle.lsp_types.specs.declared.side.Side.{Side};
-ghost use Rattle.lsp_verdict.specs.Placed.{IsRefused};
+ghost use Rattle.lsp_rpc.specs.Params.{IsRefused};
 ghost use Rattle.serde_json.specs.View.{view};
 
 use lsp_rpc::{Message, Result, RpcFault, read};
