@@ -19,3 +19,5 @@ pub mod RedactedRuns
 pub mod ReadMessages
 pub mod NamesApart
 pub mod PlainEvents
+pub mod ReadParams
+pub mod ReadActs
