@@ -212,6 +212,11 @@ ids_apart names few = record { same = same }
 
 -- ---- encodings
 
+-- one that the rules do not know
+abbrev pub other_encoding : Names → Text → Text
+other_encoding names x =
+    mapped names.encodings (λ n. codes "encoding-" ++ decimal (number_of names.encodings n)) x
+
 abbrev pub encoding_by : Names → Text → Text
 encoding_by names x =
     cond (is_encoding x) x
@@ -269,28 +274,25 @@ encoding_same : (names : Names) → length names.encodings < 2 ^ 64 → (a b : T
     → bytes_eq (encoding_by names a) (encoding_by names b) ≡ bytes_eq a b
 encoding_same names few a b = by_tests (is_encoding a) refl (is_encoding b) refl
   where
-    abbrev other : Text → Text
-    other x =
-        mapped names.encodings (λ n. codes "encoding-" ++ decimal (number_of names.encodings n)) x
-
-    mixed : (x y : Text) → is_encoding x ≡ true → x ≡ other y → ⊥
+    mixed : (x y : Text) → is_encoding x ≡ true → x ≡ other_encoding names y → ⊥
     mixed x y known is = no_u names y (ap (λ (z : Text). get_or z 0 0) (sym is) ∙ starts_u x known)
 
     unlike : (x y : Text) → is_encoding x ≡ true → is_encoding y ≡ false → x ≡ y → ⊥
     unlike x y yes no is = true≢false (sym yes ∙ ap is_encoding is ∙ no)
 
     by_tests : (x : Bool) → is_encoding a ≡ x → (y : Bool) → is_encoding b ≡ y
-        → bytes_eq (cond x a (other a)) (cond y b (other b)) ≡ bytes_eq a b
+        → bytes_eq (cond x a (other_encoding names a)) (cond y b (other_encoding names b))
+        ≡ bytes_eq a b
     by_tests true of_a true of_b = refl
     by_tests false of_a false of_b =
         mapped_apart names.encodings
         (λ n. codes "encoding-" ++ decimal (number_of names.encodings n))
         (encodings_apart names few) a b
     by_tests true of_a false of_b =
-        same_tests a (other b) a b (λ is. absurd (mixed a b of_a is))
+        same_tests a (other_encoding names b) a b (λ is. absurd (mixed a b of_a is))
         (λ is. absurd (unlike a b of_a of_b is))
     by_tests false of_a true of_b =
-        same_tests (other a) b a b (λ is. absurd (mixed b a of_b (sym is)))
+        same_tests (other_encoding names a) b a b (λ is. absurd (mixed b a of_b (sym is)))
         (λ is. absurd (unlike b a of_b of_a (sym is)))
 
 -- an encoding that the rules do not know names none

@@ -87,17 +87,16 @@ unfolding left_over
 left_old [] name h = absurd (true≢false (sym h))
 left_old (x ∷ xs) name h = by_first (λ k. left_old xs name k) (bytes_eq name x) refl h
   where
-    abbrev Old : Type 0
-    Old = is_among name xs ≡ true → left_over xs (name ∷ []) ≡ []
-
-    by_rest : Old → (b : Bool) → is_among name xs ≡ b → bytes_eq name x ≡ true
+    by_rest : (is_among name xs ≡ true → left_over xs (name ∷ []) ≡ []) → (b : Bool)
+        → is_among name xs ≡ b → bytes_eq name x ≡ true
         → filter (other_than x) (left_over xs (name ∷ [])) ≡ []
     by_rest old true is same = ap (filter (other_than x)) (old is)
     by_rest old false is same =
         ap (filter (other_than x)) (left_new xs name [] is ∙ ap (λ (zs : List Text). name ∷ zs) (left_none xs))
         ∙ ap (λ (b : Bool). cond (not b) (name ∷ []) []) (same_either x name ∙ same)
 
-    by_first : Old → (b : Bool) → bytes_eq name x ≡ b → (b || is_among name xs) ≡ true
+    by_first : (is_among name xs ≡ true → left_over xs (name ∷ []) ≡ []) → (b : Bool)
+        → bytes_eq name x ≡ b → (b || is_among name xs) ≡ true
         → filter (other_than x) (left_over xs (name ∷ [])) ≡ []
     by_first old true is h = by_rest old (is_among name xs) refl is
     by_first old false is h = ap (filter (other_than x)) (old h)

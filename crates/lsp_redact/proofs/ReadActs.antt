@@ -369,16 +369,13 @@ module _ (names : Names) (apart : Option ℕ) where
         by_test (bytes_eq method row.method) refl h
         (λ k. rows_read rows kept.1 params x k)
       where
-        abbrev Read : Type 0
-        Read = IsSmallAct x × (IsGoodAct (shown x)
-            → act_by (row ∷ rows) (shown_method names method) (params_of (shown x))
-            ≡ Some (shown x))
-
         by_test : (b : Bool) → bytes_eq method row.method ≡ b
             → cond b (row.act params) (act_by rows method params) ≡ Some x
             → (act_by rows method params ≡ Some x → IsSmallAct x × (IsGoodAct (shown x)
             → act_by rows (shown_method names method) (params_of (shown x)) ≡ Some (shown x)))
-            → Read
+            → IsSmallAct x × (IsGoodAct (shown x)
+            → act_by (row ∷ rows) (shown_method names method) (params_of (shown x))
+            ≡ Some (shown x))
         by_test true is own rest =
             let found = kept.0.read params x own in (
               found.0,

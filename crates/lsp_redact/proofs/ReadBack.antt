@@ -22,7 +22,6 @@ use Rattle.serde_json.specs.Read.{max_depth, number_of, of_items, of_json, of_me
 use Rattle.serde_json.specs.Written.{comma_if, compact_text, items_outline, items_text}
 use Rattle.serde_json.specs.Written.{members_outline, members_text, number_text, outline}
 use Rattle.serde_json.proofs.Numbers.{number_of-decimal, number_of-negative}
-use Rattle.serde_json.proofs.Reading.{whole}
 use Rattle.serde_json.proofs.Texts.{print-outline}
 use Rattle.lsp_rpc.specs.Reading.{IsJson}
 
@@ -140,6 +139,11 @@ text_tokens : (d : Data) → IsWritable d → tokens (compact_text d) ≡ json_t
 text_tokens d h =
     ap tokens (sym (print-outline d))
     ∙ tokens-print (json_tokens (outline d)) (ArePrintable-json_tokens (outline d) (has_numbers d h))
+
+-- what a whole text is read as, by what its tokens are
+abbrev whole : Option (json.Json × List Token) → Option Data
+whole o = option_and_then of_json
+    (option_and_then (λ (p : json.Json × List Token). json.if_last p.0 p.1) o)
 
 -- **it is read back**
 pub read_back : (d : Data) → IsWritable d → depth d ≤ max_depth → read (compact_text d) ≡ Some d

@@ -88,17 +88,16 @@ module _ (n : Bytes → Bytes) (r : ℕ → ℕ) (names : KeepsNames n) (texts :
     any_still (w ∷ ws) u h other =
         by_number (λ found. any_still ws u found other) (is_at v.number w) refl h
       where
-        abbrev More : Type 0
-        More = first_other ends v.text (texts_at v.number ws) ≡ Some u
-            → list_any (differs ends (shown v)) (map shown ws) ≡ true
-
-        later : More → first_other ends v.text (texts_at v.number ws) ≡ Some u
+        later : (first_other ends v.text (texts_at v.number ws) ≡ Some u
+            → list_any (differs ends (shown v)) (map shown ws) ≡ true)
+            → first_other ends v.text (texts_at v.number ws) ≡ Some u
             → list_any (differs ends (shown v)) (map shown (w ∷ ws)) ≡ true
         later more found =
             ap (λ (b : Bool). differs ends (shown v) (shown w) || b) (more found)
             ∙ or-true (differs ends (shown v) (shown w))
 
-        by_text : More → (b : Bool) → is_at v.number w ≡ true
+        by_text : (first_other ends v.text (texts_at v.number ws) ≡ Some u
+            → list_any (differs ends (shown v)) (map shown ws) ≡ true) → (b : Bool) → is_at v.number w ≡ true
             → cond b (Some w.text) (first_other ends v.text (texts_at v.number ws)) ≡ Some u
             → list_any (differs ends (shown v)) (map shown (w ∷ ws)) ≡ true
         by_text more true at found =
@@ -107,7 +106,8 @@ module _ (n : Bytes → Bytes) (r : ℕ → ℕ) (names : KeepsNames n) (texts :
             (differs_still w at (λ e. other (e ∙ ap (λ (t : Text). compared_text ends (map r t)) same)))
         by_text more false at found = later more found
 
-        by_number : More → (b : Bool) → is_at v.number w ≡ b
+        by_number : (first_other ends v.text (texts_at v.number ws) ≡ Some u
+            → list_any (differs ends (shown v)) (map shown ws) ≡ true) → (b : Bool) → is_at v.number w ≡ b
             → first_other ends v.text
             (map (λ (x : Version). x.text) (cond b (w ∷ filter (is_at v.number) ws)
             (filter (is_at v.number) ws))) ≡ Some u
