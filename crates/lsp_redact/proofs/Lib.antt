@@ -21,3 +21,4 @@ pub mod NamesApart
 pub mod PlainEvents
 pub mod ReadParams
 pub mod ReadActs
+pub mod WrittenLogs
