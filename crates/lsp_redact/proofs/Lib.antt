@@ -18,7 +18,7 @@ pub mod KeptEvents
 pub mod RedactedRuns
 pub mod ReadMessages
 pub mod NamesApart
-pub mod PlainEvents
+pub mod LikeEvents
 pub mod ReadParams
 pub mod ReadActs
 pub mod WrittenLogs
