@@ -66,9 +66,9 @@ IsLike before (snapshot uri number text) (fault by own) = ⊥
 -- event by event, after the second ones before
 abbrev pub AreLike : List Event → List Event → List Event → Type 0
 AreLike before [] [] = Unit {0}
-AreLike before (a ∷ as) (b ∷ bs) = IsLike before a b × AreLike (before ++ b ∷ []) as bs
-AreLike before (a ∷ as) [] = ⊥
-AreLike before [] (b ∷ bs) = ⊥
+AreLike before (a ∷ us) (b ∷ vs) = IsLike before a b × AreLike (before ++ b ∷ []) us vs
+AreLike before (a ∷ us) [] = ⊥
+AreLike before [] (b ∷ vs) = ⊥
 
 -- ---- what of a message is read
 
@@ -365,28 +365,28 @@ pub none_heard : HaveSameResult [] []
 none_heard = record { state = refl; called = refl; counted = λ by. refl; size = refl }
 
 -- **the first event that offends is the same**
-pub first_like : (terms : Terms) (past before as bs : List Event) → HaveSameResult past before
-    → AreLike before as bs → first_from (no_at terms) past as ≡ first_from (no_at terms) before bs
+pub first_like : (terms : Terms) (past before us vs : List Event) → HaveSameResult past before
+    → AreLike before us vs → first_from (no_at terms) past us ≡ first_from (no_at terms) before vs
 first_like terms past before [] [] h like = refl
-first_like terms past before (a ∷ as) [] h like = absurd like
-first_like terms past before [] (b ∷ bs) h like = absurd like
-first_like terms past before (a ∷ as) (b ∷ bs) h like =
-    ap (λ (o : Option Verdict). option_or o (first_from (no_at terms) (past ++ a ∷ []) as))
+first_like terms past before (a ∷ us) [] h like = absurd like
+first_like terms past before [] (b ∷ vs) h like = absurd like
+first_like terms past before (a ∷ us) (b ∷ vs) h like =
+    ap (λ (o : Option Verdict). option_or o (first_from (no_at terms) (past ++ a ∷ []) us))
     (no_same past before h terms a b like.0)
     ∙ ap (option_or (no_at terms before b))
-    (first_like terms (past ++ a ∷ []) (before ++ b ∷ []) as bs
+    (first_like terms (past ++ a ∷ []) (before ++ b ∷ []) us vs
     (same_on past before h a b like.0) like.1)
 
 -- **and they have the same result**
-pub same_like : (past before as bs : List Event) → HaveSameResult past before
-    → AreLike before as bs → HaveSameResult (past ++ as) (before ++ bs)
+pub same_like : (past before us vs : List Event) → HaveSameResult past before
+    → AreLike before us vs → HaveSameResult (past ++ us) (before ++ vs)
 same_like past before [] [] h like =
     subst (λ (xs : List Event). HaveSameResult xs (before ++ [])) (sym (append-nil past))
     (subst (HaveSameResult past) (sym (append-nil before)) h)
-same_like past before (a ∷ as) [] h like = absurd like
-same_like past before [] (b ∷ bs) h like = absurd like
-same_like past before (a ∷ as) (b ∷ bs) h like =
-    subst (λ (xs : List Event). HaveSameResult xs (before ++ b ∷ bs))
-    (append_assoc past (a ∷ []) as)
-    (subst (HaveSameResult ((past ++ a ∷ []) ++ as)) (append_assoc before (b ∷ []) bs)
-    (same_like (past ++ a ∷ []) (before ++ b ∷ []) as bs (same_on past before h a b like.0) like.1))
+same_like past before (a ∷ us) [] h like = absurd like
+same_like past before [] (b ∷ vs) h like = absurd like
+same_like past before (a ∷ us) (b ∷ vs) h like =
+    subst (λ (xs : List Event). HaveSameResult xs (before ++ b ∷ vs))
+    (append_assoc past (a ∷ []) us)
+    (subst (HaveSameResult ((past ++ a ∷ []) ++ us)) (append_assoc before (b ∷ []) vs)
+    (same_like (past ++ a ∷ []) (before ++ b ∷ []) us vs (same_on past before h a b like.0) like.1))

@@ -134,8 +134,8 @@ pub record AreShownApart (names : List Text) (shown : Text → Text) : Type 0 wh
 
 not_both : (names : List Text) (a b : Text) → is_among a names ≡ true → is_among b names ≡ false
     → a ≡ b → ⊥
-not_both names a b yes no same =
-    true≢false (sym yes ∙ ap (λ (x : Text). is_among x names) same ∙ no)
+not_both names a b of_a of_b same =
+    true≢false (sym of_a ∙ ap (λ (x : Text). is_among x names) same ∙ of_b)
 
 pub mapped_apart : (names : List Text) (shown : Text → Text) → AreShownApart names shown
     → (a b : Text) → bytes_eq (mapped names shown a) (mapped names shown b) ≡ bytes_eq a b
@@ -235,15 +235,15 @@ known_is : (x : Text) → is_encoding x ≡ true
 known_is x h =
     elim (cases_Bool (bytes_eq x (codes "utf-8"))) [
       | inl is ↦ inl ((bytes_eq-Decides x (codes "utf-8")).0 is)
-      | inr no ↦ elim (cases_Bool (bytes_eq x (codes "utf-16"))) [
+      | inr first ↦ elim (cases_Bool (bytes_eq x (codes "utf-16"))) [
         | inl is ↦ inr (inl ((bytes_eq-Decides x (codes "utf-16")).0 is))
-        | inr no2 ↦ elim (cases_Bool (bytes_eq x (codes "utf-32"))) [
+        | inr second ↦ elim (cases_Bool (bytes_eq x (codes "utf-32"))) [
           | inl is ↦ inr (inr ((bytes_eq-Decides x (codes "utf-32")).0 is))
-          | inr no3 ↦ absurd (true≢false (sym h
+          | inr third ↦ absurd (true≢false (sym h
               ∙ ap (λ (b : Bool). b || list_any (bytes_eq x)
-              (codes "utf-16" ∷ codes "utf-32" ∷ [])) no
-              ∙ ap (λ (b : Bool). b || list_any (bytes_eq x) (codes "utf-32" ∷ [])) no2
-              ∙ ap (λ (b : Bool). b || false) no3))
+              (codes "utf-16" ∷ codes "utf-32" ∷ [])) first
+              ∙ ap (λ (b : Bool). b || list_any (bytes_eq x) (codes "utf-32" ∷ [])) second
+              ∙ ap (λ (b : Bool). b || false) third))
         ]
       ]
     ]
@@ -278,7 +278,7 @@ encoding_same names few a b = by_tests (is_encoding a) refl (is_encoding b) refl
     mixed x y known is = no_u names y (ap (λ (z : Text). get_or z 0 0) (sym is) ∙ starts_u x known)
 
     unlike : (x y : Text) → is_encoding x ≡ true → is_encoding y ≡ false → x ≡ y → ⊥
-    unlike x y yes no is = true≢false (sym yes ∙ ap is_encoding is ∙ no)
+    unlike x y of_x of_y is = true≢false (sym of_x ∙ ap is_encoding is ∙ of_y)
 
     by_tests : (x : Bool) → is_encoding a ≡ x → (y : Bool) → is_encoding b ≡ y
         → bytes_eq (cond x a (other_encoding names a)) (cond y b (other_encoding names b))
@@ -313,7 +313,7 @@ unknown_other names x h =
     elim (cases_Bool (is_encoding (mapped names.encodings
     (λ n. codes "encoding-" ++ decimal (number_of names.encodings n)) x))) [
       | inl is ↦ absurd (no_u names x (starts_u _ is))
-      | inr no ↦ no
+      | inr unknown ↦ unknown
     ]
 
 pub keeps_encodings : (names : Names) → length names.encodings < 2 ^ 64

@@ -177,17 +177,17 @@ IsSmallAct _ = Unit {0}
 pub method_tested : (names : Names) (method known : Text) → is_known known ≡ true
     → ((rest : Text) → bytes_eq (codes "method/" ++ rest) known ≡ false)
     → bytes_eq (shown_method names method) known ≡ bytes_eq method known
-method_tested names method known is_one other =
+method_tested names method known is_one unlike =
     elim (cases_Bool (is_known method)) [
-      | inl yes ↦ ap (λ (b : Bool). bytes_eq (cond b method
-          (codes "method/" ++ decimal (number_of names.methods method))) known) yes
-      | inr no ↦
+      | inl own ↦ ap (λ (b : Bool). bytes_eq (cond b method
+          (codes "method/" ++ decimal (number_of names.methods method))) known) own
+      | inr unknown ↦
           ap (λ (b : Bool). bytes_eq (cond b method
-          (codes "method/" ++ decimal (number_of names.methods method))) known) no
-          ∙ other (decimal (number_of names.methods method))
+          (codes "method/" ++ decimal (number_of names.methods method))) known) unknown
+          ∙ unlike (decimal (number_of names.methods method))
           ∙ sym (elim (cases_Bool (bytes_eq method known)) [
             | inl same ↦ absurd (true≢false (sym is_one
-                ∙ ap is_known (sym ((bytes_eq-Decides method known).0 same)) ∙ no))
+                ∙ ap is_known (sym ((bytes_eq-Decides method known).0 same)) ∙ unknown))
             | inr differ ↦ differ
           ])
     ]
@@ -324,8 +324,8 @@ module _ (names : Names) (apart : Option ℕ) where
     row_kept : (row : Row) → is_known row.method ≡ true
         → ((rest : Text) → bytes_eq (codes "method/" ++ rest) row.method ≡ false)
         → IsReadBy row.act → IsKeptRow method row
-    row_kept row known other read = record {
-      tested = method_tested names method row.method known other;
+    row_kept row known unlike read = record {
+      tested = method_tested names method row.method known unlike;
       read = read;
     }
 
