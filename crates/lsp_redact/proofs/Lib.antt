@@ -22,3 +22,4 @@ pub mod LikeEvents
 pub mod ReadParams
 pub mod ReadActs
 pub mod WrittenLogs
+pub mod ShownEvents
