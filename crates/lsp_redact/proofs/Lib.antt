@@ -23,3 +23,4 @@ pub mod ReadParams
 pub mod ReadActs
 pub mod WrittenLogs
 pub mod ShownEvents
+pub mod GoodShown

@@ -312,7 +312,7 @@ unknown_other : (names : Names) (x : Text) → is_encoding x ≡ false
 unknown_other names x h =
     elim (cases_Bool (is_encoding (mapped names.encodings
     (λ n. codes "encoding-" ++ decimal (number_of names.encodings n)) x))) [
-      | inl is ↦ absurd (no_u names x (starts_u _ is))
+      | inl is ↦ absurd (no_u names x (starts_u (other_encoding names x) is))
       | inr unknown ↦ unknown
     ]
 

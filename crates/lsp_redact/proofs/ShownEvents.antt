@@ -51,12 +51,14 @@ use Rattle.lsp_redact.proofs.Showing.{joined-assoc}
 pub record AreFew (names : Names) : Type 0 where
   pub uris : length names.uris < 2 ^ 64
   pub ids : length names.ids < 2 ^ 64
+  pub methods : length names.methods < 2 ^ 64
   pub encodings : length names.encodings < 2 ^ 64
 
 -- these are among the names of a log
 pub record AreAmong (names own : Names) : Type 0 where
   pub uris : AllByRecursion (λ (x : Text). is_among x names.uris ≡ true) own.uris
   pub ids : AllByRecursion (λ (x : Text). is_among x names.ids ≡ true) own.ids
+  pub methods : AllByRecursion (λ (x : Text). is_among x names.methods ≡ true) own.methods
   pub encodings : AllByRecursion (λ (x : Text). is_among x names.encodings ≡ true) own.encodings
 
 -- ---- results
@@ -151,6 +153,7 @@ among_middle : (own front back : Names) → AreAmong (joined front (joined own b
 among_middle own front back = record {
   uris = in_middle front.uris own.uris back.uris;
   ids = in_middle front.ids own.ids back.ids;
+  methods = in_middle front.methods own.methods back.methods;
   encodings = in_middle front.encodings own.encodings back.encodings;
 }
 
@@ -228,10 +231,12 @@ module _ (names : Names) (apart : Option ℕ) where
   joined_among a b h =
       let uris = both_among (λ (x : Text). is_among x names.uris ≡ true) a.uris b.uris h.uris in
       let ids = both_among (λ (x : Text). is_among x names.ids ≡ true) a.ids b.ids h.ids in
+      let methods = both_among (λ (x : Text). is_among x names.methods ≡ true) a.methods b.methods
+      h.methods in
       let encodings = both_among (λ (x : Text). is_among x names.encodings ≡ true) a.encodings
       b.encodings h.encodings in (
-        record { uris = uris.0; ids = ids.0; encodings = encodings.0 },
-        record { uris = uris.1; ids = ids.1; encodings = encodings.1 },
+        record { uris = uris.0; ids = ids.0; methods = methods.0; encodings = encodings.0 },
+        record { uris = uris.1; ids = ids.1; methods = methods.1; encodings = encodings.1 },
       )
 
   -- ---- what a message means
@@ -383,7 +388,9 @@ pub names_among : (ks : List Kept) (front back : Names)
     → AllByRecursion (λ (k : Kept). AreAmong (joined front (joined (names_in ks) back)) (names_of k)) ks
 names_among [] front back = tt
 names_among (k ∷ ks) front back = (
-  among_middle (names_of k) front (joined (names_in ks) back),
+  subst (λ (all : Names). AreAmong all (names_of k))
+      (ap (joined front) (sym (joined-assoc (names_of k) (names_in ks) back)))
+      (among_middle (names_of k) front (joined (names_in ks) back)),
   subst (λ (all : Names). AllByRecursion (λ (x : Kept). AreAmong all (names_of x)) ks)
       (joined-assoc front (names_of k) (joined (names_in ks) back)
       ∙ ap (joined front) (sym (joined-assoc (names_of k) (names_in ks) back)))
