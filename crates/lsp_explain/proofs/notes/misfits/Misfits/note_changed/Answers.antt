@@ -17,14 +17,14 @@ use Rattle.lsp_explain.proofs.Misfitting.{misfits_kept, none_quiet, quiet_by, to
 use Rattle.lsp_explain.proofs.notes.misfits.Misfits.note_changed.Goals as goal
 
 -- it says nothing of a document
-pub returns-in_default-call : goal.returns-in_default-call
-returns-in_default-call c = λ terms before h are seen fate.
+pub returns-in_default : goal.returns-in_default
+returns-in_default c = λ terms before h are seen fate.
     let m = c.args.self.now in
     let has = subst (λ (f : Fate). HasFate terms before h f) fate seen.fate in
     let place = place_of (heard_events before) h.note.event in
     misfits_kept terms before h m are m place _ has.0 refl
     (ap (option_and_then (call_found terms place (calls (kept_before terms before))))
-    (sym seen.says ∙ ap (option_map call_view) c.in_default-call.is))
+    (sym seen.says ∙ ap (option_map call_view) c.in_default.is))
     (quiet_by m _ none_quiet)
 
 pub returns : goal.returns
