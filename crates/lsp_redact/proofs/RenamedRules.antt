@@ -97,7 +97,8 @@ module _ (n : Bytes → Bytes) (r : ℕ → ℕ) (names : KeepsNames n) (texts :
   fits-by Nothing cs = refl
   fits-by Full [] = refl
   fits-by Full (c ∷ cs) = ap (λ (b : Bool). is_none c.span && b) (fits-by Full cs)
-  fits-by Incremental cs = refl
+  fits-by Incremental [] = refl
+  fits-by Incremental (c ∷ cs) = ap (λ (b : Bool). true && b) (fits-by Incremental cs)
 
   text_rule-by : (ends : LineEnds) (waits : List Version) (number : ℤ) (made : Result Text ℕ)
       → Stays (text_rule ends waits number made)
