@@ -118,7 +118,7 @@ one_of_these (k ∷ ks) all x h =
     by_first (λ more. one_of_these ks all.1 x more) (bytes_eq x k) refl h
   where
     by_first : (list_any (bytes_eq x) ks ≡ true → IsUtf8 x) → (b : Bool) → bytes_eq x k ≡ b
-        → cond b true (list_any (bytes_eq x) ks) ≡ true → IsUtf8 x
+        → (b || list_any (bytes_eq x) ks) ≡ true → IsUtf8 x
     by_first rest true is h = subst IsUtf8 (sym ((bytes_eq-Decides x k).0 is)) all.0
     by_first rest false is h = rest h
 

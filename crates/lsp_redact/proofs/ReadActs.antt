@@ -37,12 +37,12 @@ use Rattle.lsp_redact.proofs.ReadParams.{did_save_back, initialize_back, progres
 
 -- ---- what a shape finds
 
-and_then_some : {A B : Type 0} (f : A → Option B) (o : Option A) (b : B)
+pub and_then_some : {A B : Type 0} (f : A → Option B) (o : Option A) (b : B)
     → option_and_then f o ≡ Some b → (a : A) × (o ≡ Some a) × (f a ≡ Some b)
 and_then_some f None b h = absurd cc
 and_then_some f (Some a) b h = (a, refl, h)
 
-map_some : {A B : Type 0} (f : A → B) (o : Option A) (b : B) → option_map f o ≡ Some b
+pub map_some : {A B : Type 0} (f : A → B) (o : Option A) (b : B) → option_map f o ≡ Some b
     → (a : A) × (o ≡ Some a) × (b ≡ f a)
 map_some f None b h = absurd cc
 map_some f (Some a) b h = (a, refl, sym (the_same (f a) b h))
@@ -82,7 +82,7 @@ abbrev pub IsSmallIdIf : Option Ident → Type 0
 IsSmallIdIf None = Unit {0}
 IsSmallIdIf (Some id) = IsSmallId id
 
-id_small : (d : Data) (id : Ident) → as_id d ≡ Some id → IsSmallId id
+pub id_small : (d : Data) (id : Ident) → as_id d ≡ Some id → IsSmallId id
 id_small null id h = absurd cc
 id_small (boolean b) id h = absurd cc
 id_small (number n) id h =
