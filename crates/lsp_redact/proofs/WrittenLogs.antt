@@ -91,14 +91,14 @@ put_twice Server a b (chunk Server c ∷ rs) =
 put_twice Editor a b (chunk Server c ∷ rs) = refl
 put_twice Server a b (chunk Editor c ∷ rs) = refl
 
-abbrev parts : ℕ → Side → List ℕ → List Record
+abbrev pub parts : ℕ → Side → List ℕ → List Record
 parts most side cs = map (chunk side) (map encode_utf8_all (cut most cs))
 
-parts_none : (most : ℕ) (side : Side) → parts most side [] ≡ []
+pub parts_none : (most : ℕ) (side : Side) → parts most side [] ≡ []
 parts_none most side =
     ap (λ (ps : List (List ℕ)). map (chunk side) (map encode_utf8_all ps)) (cut_none most)
 
-parts_some : (most : ℕ) (side : Side) (cs : List ℕ) → 1 ≤ most → 1 ≤ length cs
+pub parts_some : (most : ℕ) (side : Side) (cs : List ℕ) → 1 ≤ most → 1 ≤ length cs
     → parts most side cs
     ≡ chunk side (encode_utf8_all (take most cs)) ∷ parts most side (drop most cs)
 parts_some most side cs full some =
