@@ -24,3 +24,6 @@ pub mod ReadActs
 pub mod WrittenLogs
 pub mod ShownEvents
 pub mod GoodShown
+pub mod DueEvents
+pub mod WithinDues
+pub mod ShownSessions

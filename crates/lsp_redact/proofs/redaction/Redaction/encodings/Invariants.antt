@@ -4,7 +4,7 @@ use Rattle.serde_json.specs.View.{view}
 use Rattle.lsp_redact.specs.Messages.{text_data}
 use Rattle.lsp_redact.specs.Names.{encoding_names, shown_encoding}
 use Rattle.lsp_redact.specs.Naming.{Writes}
-use Rattle.lsp_redact.proofs.handshake.Redaction.encodings.Given as goal
+use Rattle.lsp_redact.proofs.redaction.Redaction.encodings.Given as goal
 
 abbrev pub invariant-loop-name : goal.invariant-loop-name
 invariant-loop-name l =
