@@ -30,7 +30,7 @@ same_texts : (a b : TwoTexts) → (let o : Option TwoTexts = Some a in o) ≡ So
 same_texts a b h = cc
 
 -- the two texts that a call compares stay apart
-still_apart : (shown_by : Bytes → Bytes) (names : KeepsNames shown_by) (terms : Terms)
+pub still_apart : (shown_by : Bytes → Bytes) (names : KeepsNames shown_by) (terms : Terms)
     (before : List Call) (call : Call) (rule : ℕ) (of : is_of_texts rule ≡ true)
     → call_rule terms before call ≡ Some rule
     → DifferStill shown_by (shown_as (apart_by terms before call)) names

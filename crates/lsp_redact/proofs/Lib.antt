@@ -27,3 +27,5 @@ pub mod GoodShown
 pub mod DueEvents
 pub mod WithinDues
 pub mod ShownSessions
+pub mod RenamedOffences
+pub mod ShownOffences

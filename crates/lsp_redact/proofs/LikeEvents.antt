@@ -132,7 +132,7 @@ like_left before s false is =
       state = first.1 ∙ second.1;
     }
 
-like_event : (before : List Event) (e : Event) → IsLike before (event_left before e) e
+pub like_event : (before : List Event) (e : Event) → IsLike before (event_left before e) e
 like_event before (message s) = like_left (sent_in before) s (awaits before) refl
 like_event before (fault side rule) = (refl, refl)
 like_event before (snapshot uri number text) = (refl, refl, refl)
@@ -176,7 +176,7 @@ module _ (past before : List Event) (h : HaveSameResult past before) where
   kind_same : sync_kind (sent_in past) ≡ sync_kind (sent_in before)
   kind_same = ap (option_map (λ (a : Agreed). a.kind)) agreed_same
 
-  call_same : (a b : Event) → IsLike before a b → call_at past a ≡ call_at before b
+  pub call_same : (a b : Event) → IsLike before a b → call_at past a ≡ call_at before b
   call_same (message a) (message b) like =
       ap (λ (enc : Option Encoding). call_of (unwrap_or enc Utf16)
       (unwrap_or (sync_kind (sent_in past)) Nothing) a.act) encoding_same
@@ -208,7 +208,7 @@ module _ (past before : List Event) (h : HaveSameResult past before) where
       ap (option_and_then (call_rule terms (calls past))) (call_same a b like)
       ∙ ap (λ (cs : List Call). option_and_then (call_rule terms cs) (call_at before b)) h.called
 
-  offence_same : (terms : Terms) (a b : Event) → IsLike before a b
+  pub offence_same : (terms : Terms) (a b : Event) → IsLike before a b
       → offence terms past a ≡ offence terms before b
   offence_same terms (message a) (message b) like =
       ap (λ (o : Option ℕ). option_or o (option_and_then (call_rule terms (calls past))

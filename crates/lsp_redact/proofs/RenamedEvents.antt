@@ -237,7 +237,7 @@ module _ (u : Bytes → Bytes) (i : Ident → Ident) (m e t : Text → Text) (r 
   abbrev pub sent_to : Sent → Sent
   sent_to s = sent_as i m e (λ own. None) value (act_by u i m e t) ids encodings acts values s
 
-  abbrev call_to : Call → Call
+  abbrev pub call_to : Call → Call
   call_to c = call_by u r uris texts c
 
   -- **an event with names and characters replaced**
@@ -342,7 +342,7 @@ module _ (u : Bytes → Bytes) (i : Ident → Ident) (m e t : Text → Text) (r 
 
   -- ---- offences
 
-  rule_in-by : (before : List Event) (s : Sent)
+  pub rule_in-by : (before : List Event) (s : Sent)
       → rule_after (sent_in (map event_by before)) (sent_to s) ≡ rule_after (sent_in before) s
   rule_in-by before s =
       ap (λ (ss : List Sent). rule_after ss (sent_to s)) (sent_in-by before)
