@@ -29,3 +29,4 @@ pub mod WithinDues
 pub mod ShownSessions
 pub mod RenamedOffences
 pub mod ShownOffences
+pub mod WrittenVerdicts
