@@ -30,3 +30,4 @@ pub mod ShownSessions
 pub mod RenamedOffences
 pub mod ShownOffences
 pub mod WrittenVerdicts
+pub mod ReadSessions
