@@ -31,3 +31,4 @@ pub mod RenamedOffences
 pub mod ShownOffences
 pub mod WrittenVerdicts
 pub mod ReadSessions
+pub mod SummaryNames

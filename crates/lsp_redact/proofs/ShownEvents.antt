@@ -160,10 +160,10 @@ among_middle own front back = record {
 module _ (names : Names) (apart : Option ℕ) where
   -- ---- names that are among those of the log
 
-  uri_shown : (uri : Text) → is_among uri names.uris ≡ true → shown_uri names uri ≡ uri_by names uri
+  pub uri_shown : (uri : Text) → is_among uri names.uris ≡ true → shown_uri names uri ≡ uri_by names uri
   uri_shown uri h = sym (mapped_shown names.uris (shown_uri names) uri h)
 
-  id_shown : (id : Ident) → AreAmong names (id_names id) → shown_id names id ≡ id_by names id
+  pub id_shown : (id : Ident) → AreAmong names (id_names id) → shown_id names id ≡ id_by names id
   id_shown (ident.number z) h = refl
   id_shown (ident.text t) h =
       ap ident.text (sym (mapped_shown names.ids (λ x. decimal (number_of names.ids x)) t h.ids.0))

@@ -93,7 +93,7 @@ module _ (names : Names) (few : AreFew names) (apart : Option ℕ) where
         (keeps_texts apart) (maps_texts apart) (keeps_picks names) terms by_names
         (first_like terms [] [] by_names es none_heard (like_events [] es) ∙ clean)
 
-    abbrev summary_to : Summary → Summary
+    abbrev pub summary_to : Summary → Summary
     summary_to s =
         summary_by (uri_by names) (id_by names) (shown_method names) (encoding_by names)
         (shown_bytes apart) (shown_as apart) (value_by names) (keeps_uris names few)
