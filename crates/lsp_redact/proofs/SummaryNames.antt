@@ -1,7 +1,7 @@
 -- The names in the result of a session are among those of its log, so each is shown by its number.
 use Rattle.std.proofs.Common.{◌≡◌, ℕ, Bool, true, false, cond, List, [], ◌∷◌, ◌++◌, map, Option, Some, None}
 use Rattle.std.proofs.Common.{refl, sym, ap, subst, ◌∙◌}
-use Rattle.std.proofs.Math.Seq.{map-append}
+use Rattle.std.proofs.lemmas.List.{map-append}
 use Rattle.std.specs.List.{AllByRecursion}
 use Rattle.lsp_docs.specs.Calls.{Bytes, Call, changes, closes, opens, saves, shows}
 use Rattle.lsp_docs.specs.Documents.{Held, Terms, Version, as_held, documents, held_entry, held_since}
@@ -34,14 +34,14 @@ use Rattle.lsp_redact.proofs.ShownSessions.{AllAmong, NoFaults, summary_to}
 module _ (names : Names) (few : AreFew names) (apart : Option ℕ) where
   -- ---- calls
 
-  IsCallAmong : Call → Type 0
+  abbrev IsCallAmong : Call → Type 0
   IsCallAmong (opens uri number t) = is_among uri names.uris ≡ true
   IsCallAmong (changes enc kind uri number cs) = Unit {0}
   IsCallAmong (closes uri) = Unit {0}
   IsCallAmong (saves uri t) = Unit {0}
   IsCallAmong (shows uri number t) = Unit {0}
 
-  AreCallsAmong : List Call → Type 0
+  abbrev AreCallsAmong : List Call → Type 0
   AreCallsAmong cs = AllByRecursion IsCallAmong cs
 
   meant_among : (enc : Encoding) (kind : SyncKind) (x : Act) (cs : List Call)
@@ -117,7 +117,7 @@ module _ (names : Names) (few : AreFew names) (apart : Option ℕ) where
 
   -- ---- requests
 
-  IsAskedAmong : Message → Type 0
+  abbrev IsAskedAmong : Message → Type 0
   IsAskedAmong (spoken.request id method params) = AreAmong names (id_names id)
   IsAskedAmong (spoken.notification method params) = Unit {0}
   IsAskedAmong (spoken.response id reply) = Unit {0}
@@ -131,7 +131,7 @@ module _ (names : Names) (few : AreFew names) (apart : Option ℕ) where
   head_among awaited (spoken.notification method params) h = tt
   head_among awaited (spoken.response id reply) h = tt
 
-  AreAskedAmong : List Sent → Type 0
+  abbrev AreAskedAmong : List Sent → Type 0
   AreAskedAmong sent = AllByRecursion (λ (s : Sent). IsAskedAmong s.message) sent
 
   sent_among : (before es : List Event) → NoFaults es
