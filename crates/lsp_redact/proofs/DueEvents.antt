@@ -16,7 +16,7 @@ use Rattle.lsp_verdict.specs.Placed.{IsSent, Raw, Reads, broken, content, show}
 use Rattle.lsp_redact.specs.Kept as kept
 use Rattle.lsp_redact.specs.Kept.{Kept, awaits, head_of, kept_of}
 use Rattle.lsp_redact.specs.Messages.{content_of}
-use Rattle.lsp_redact.specs.Names.{Names, act_names, head_names, joined, names_of}
+use Rattle.lsp_redact.specs.Names.{Names, act_names, head_names, joined, names_of, shown_id}
 use Rattle.lsp_redact.specs.Records.{records_of}
 use Rattle.lsp_redact.specs.Shown.{shown_act, shown_head, shown_kept}
 use Rattle.lsp_redact.proofs.GoodShown.{act_good, head_good, message_small}
@@ -58,9 +58,9 @@ module _ (names : Names) (few : AreFew names) (apart : Option ℕ) where
       → act_at side (message_from (shown_head names (head_of awaited m)) (shown_act names apart x))
       ≡ Some (shown_act names apart x))
   means side true (spoken.request id method params) x h =
-      request_means names apart side id _ method params x h
+      request_means names apart side id (shown_id names id) method params x h
   means side false (spoken.request id method params) x h =
-      request_means names apart side id _ method params x h
+      request_means names apart side id (shown_id names id) method params x h
   means side true (spoken.notification method params) x h =
       notification_means names apart side method params x h
   means side false (spoken.notification method params) x h =

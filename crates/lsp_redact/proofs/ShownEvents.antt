@@ -287,7 +287,7 @@ module _ (names : Names) (apart : Option ℕ) where
   read_event (kept.snapshot uri number text) = snapshot uri number text
 
   module _ (few : AreFew names) where
-    abbrev ids : KeepsIds (id_by names)
+    abbrev pub ids : KeepsIds (id_by names)
     ids = ids_apart names few.ids
 
     abbrev pub event_to : Event → Event

@@ -2,7 +2,7 @@
 use Rattle.std.proofs.Common.{◌≡◌, ℕ, Bool, true, false, cond, List, [], ◌∷◌, ◌++◌, map, Option, Some, None}
 use Rattle.std.proofs.Common.{refl, sym, ap, subst, ◌∙◌}
 use Rattle.std.proofs.lemmas.List.{map-append}
-use Rattle.std.specs.List.{AllByRecursion}
+use Rattle.std.specs.List.{AllByRecursion, cons_option}
 use Rattle.lsp_docs.specs.Calls.{Bytes, Call, changes, closes, opens, saves, shows}
 use Rattle.lsp_docs.specs.Documents.{Held, Terms, Version, as_held, documents, held_entry, held_since}
 use Rattle.lsp_docs.specs.Documents.{versioned}
@@ -20,7 +20,7 @@ use Rattle.lsp_types.specs.declared.position.Encoding.{Encoding}
 use Rattle.lsp_types.specs.declared.side.Side.{Side}
 use Rattle.lsp_types.specs.declared.side.Side.TheVariants.{Editor, Server}
 use Rattle.lsp_verdict.specs.Event.{Event, call_at, call_of, calls, fault, message, sent_in, snapshot}
-use Rattle.lsp_verdict.specs.LookBack.{cons_option, each_from}
+use Rattle.lsp_verdict.specs.LookBack.{each_from}
 use Rattle.lsp_verdict.specs.Verdict.{Document, Summary, document_of, open_of, summary}
 use Rattle.lsp_redact.specs.Kept.{Kept, awaits, head_of, kept_in, kept_of}
 use Rattle.lsp_redact.specs.Laws.{shown_document, shown_entry, shown_request, shown_summary}

@@ -20,17 +20,18 @@ use Rattle.lsp_redact.proofs.WrittenLogs.{Due, all_records, due_records, parts, 
 pub utf8_canonical : (bytes : List ℕ) → IsUtf8 bytes → length bytes < 2 ^ 64
     → IsUtf8 (canonical bytes)
 utf8_canonical bytes utf8 few =
-    IsUtf8-append (codes "Content-Length: ") _ (IsUtf8-are_ascii (codes "Content-Length: ") refl)
-    (IsUtf8-append (decimal (length bytes)) _
-    (IsUtf8-from_ascii (decimal (length bytes)) (IsAscii-decimal (length bytes) few))
-    (IsUtf8-append blank_line bytes (IsUtf8-are_ascii blank_line refl) utf8))
+    let name : List ℕ = codes "Content-Length: " in
+    let number : List ℕ = decimal (length bytes) in
+    IsUtf8-append (name ++ number ++ blank_line) bytes
+    (IsUtf8-append (name ++ number) blank_line
+    (IsUtf8-append name number (IsUtf8-are_ascii name refl)
+    (IsUtf8-from_ascii number (IsAscii-decimal (length bytes) few)))
+    (IsUtf8-are_ascii blank_line refl)) utf8
 
 frame_long : (bytes : List ℕ) → length bytes ≤ length (canonical bytes)
 frame_long bytes = omega (
   arith,
-  length-append (codes "Content-Length: ") (decimal (length bytes) ++ blank_line ++ bytes),
-  length-append (decimal (length bytes)) (blank_line ++ bytes),
-  length-append blank_line bytes,
+  length-append (codes "Content-Length: " ++ decimal (length bytes) ++ blank_line) bytes,
 )
 
 -- ---- its records
