@@ -3,7 +3,7 @@
 use Rattle.std.proofs.Common.{◌≡◌, ℕ, ℤ, ◌^◌, ◌<◌, ◌≤◌, Bool, true, false, cond, List, [], ◌∷◌, ◌++◌, map}
 use Rattle.std.proofs.Common.{filter, length, Option, Some, None, IsUtf8, decimal, refl, sym, ap, subst}
 use Rattle.std.proofs.Common.{◌∙◌, true≢false, arith}
-use Rattle.std.specs.Prelude.{codes, is_some, not}
+use Rattle.std.specs.Prelude.{◌||◌, codes, is_some, not}
 use Rattle.std.specs.List.{AllByRecursion, list_any}
 use Rattle.std.specs.Option.{option_map, option_and_then}
 use Rattle.std.specs.Str.{bytes_eq}
