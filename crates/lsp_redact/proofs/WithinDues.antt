@@ -1,13 +1,15 @@
 -- What is written of an event is no longer than the log that is written, and so within the limits.
-use Rattle.std.proofs.Common.{◌≡◌, ℕ, ◌+◌, ◌^◌, ◌<◌, ◌≤◌, suc, zero, List, [], ◌∷◌, ◌++◌, length, take, drop}
-use Rattle.std.proofs.Common.{IsUtf8, decimal, refl, sym, ap, subst, ◌∙◌, arith}
-use Rattle.std.specs.Prelude.{chars, codes, encode_utf8_all}
+use Rattle.std.proofs.Common.{◌≡◌, ℕ, ◌+◌, ◌/◌, ◌%◌, ◌<◌, ◌≤◌, suc, zero, List, [], ◌∷◌, ◌++◌, length, take, drop}
+use Rattle.std.proofs.Common.{Bool, true, false, cond, IsUtf8, decimal, nat_lt, refl, sym, ap, ◌∙◌, arith}
+use Rattle.std.specs.Fmt.{digit_glyph, digits, digits_onto}
+use Rattle.std.specs.Prelude.{◌==◌, chars, codes, encode_utf8_all}
 use Rattle.std.specs.List.{AllByRecursion, flat_map}
-use Rattle.std.proofs.lemmas.Fmt.{IsAscii-decimal}
+use Rattle.std.proofs.lemmas.Bool.{and_from}
+use Rattle.std.proofs.lemmas.Bool.Decides.{nat_tests}
 use Rattle.std.proofs.lemmas.Grind.{flat_map-append}
 use Rattle.std.proofs.lemmas.List.{length-append, length-drop, take-append-drop}
-use Rattle.std.proofs.lemmas.Str.{IsUtf8-append, IsUtf8-from_ascii, encodes-append, encodes-chars}
-use Rattle.json.proofs.Printed.Utf8.{IsUtf8-are_ascii}
+use Rattle.std.proofs.lemmas.Str.{IsUtf8-append, encodes-append, encodes-chars}
+use Rattle.json.proofs.Printed.Utf8.{IsUtf8-are_ascii, are_ascii}
 use Rattle.lsp_frame.specs.Header.{blank_line}
 use Rattle.lsp_frame.specs.Sink.{canonical}
 use Rattle.lsp_log.specs.Log.{Record, chunk, head_line, head_of, spelling, with_feed}
@@ -15,17 +17,43 @@ use Rattle.lsp_types.specs.declared.side.Side.{Side}
 use Rattle.lsp_redact.specs.Records.{content_records}
 use Rattle.lsp_redact.proofs.WrittenLogs.{Due, all_records, due_records, parts, parts_some, shows, speaks}
 
+-- ---- a number, however long
+
+digit_small : (d : ℕ) → d < 10 → nat_lt (digit_glyph false d) 128 ≡ true
+digit_small d less =
+    let is : nat_lt d 10 ≡ true = grind (arith, nat_tests) in
+    let small : nat_lt (48 + d) 128 ≡ true = grind (arith, nat_tests) in
+    ap (λ (b : Bool). nat_lt (cond b (48 + d) (87 + d)) 128) is ∙ small
+
+onto_ascii : (k n : ℕ) (acc : List ℕ) → are_ascii acc ≡ true
+    → are_ascii (digits_onto k 10 false n acc) ≡ true
+onto_ascii zero n acc h = h
+onto_ascii (suc k) n acc h =
+    by_test (λ more. onto_ascii k (n / 10) (digit_glyph false (n % 10) ∷ acc) more) (n / 10 == 0)
+  where
+    with_it : are_ascii (digit_glyph false (n % 10) ∷ acc) ≡ true
+    with_it = and_from _ _ (digit_small (n % 10) (omega arith)) h
+
+    by_test : (are_ascii (digit_glyph false (n % 10) ∷ acc) ≡ true
+        → are_ascii (digits_onto k 10 false (n / 10) (digit_glyph false (n % 10) ∷ acc)) ≡ true)
+        → (b : Bool) → are_ascii (cond b (digit_glyph false (n % 10) ∷ acc)
+        (digits_onto k 10 false (n / 10) (digit_glyph false (n % 10) ∷ acc))) ≡ true
+    by_test rest true = with_it
+    by_test rest false = rest with_it
+
+utf8_decimal : (n : ℕ) → IsUtf8 (decimal n)
+unfolding digits
+utf8_decimal n = IsUtf8-are_ascii (decimal n) (onto_ascii 64 n [] refl)
+
 -- ---- a frame
 
-pub utf8_canonical : (bytes : List ℕ) → IsUtf8 bytes → length bytes < 2 ^ 64
-    → IsUtf8 (canonical bytes)
-utf8_canonical bytes utf8 few =
+pub utf8_canonical : (bytes : List ℕ) → IsUtf8 bytes → IsUtf8 (canonical bytes)
+utf8_canonical bytes utf8 =
     let name : List ℕ = codes "Content-Length: " in
     let number : List ℕ = decimal (length bytes) in
     IsUtf8-append (name ++ number ++ blank_line) bytes
     (IsUtf8-append (name ++ number) blank_line
-    (IsUtf8-append name number (IsUtf8-are_ascii name refl)
-    (IsUtf8-from_ascii number (IsAscii-decimal (length bytes) few)))
+    (IsUtf8-append name number (IsUtf8-are_ascii name refl) (utf8_decimal (length bytes)))
     (IsUtf8-are_ascii blank_line refl)) utf8
 
 frame_long : (bytes : List ℕ) → length bytes ≤ length (canonical bytes)
@@ -77,9 +105,9 @@ content_long most side bytes full utf8 =
 
 -- ---- a log
 
--- a content is UTF-8, and its length is a `u64`
+-- a content is UTF-8
 abbrev pub IsSpoken : Due → Type 0
-IsSpoken (speaks side bytes) = IsUtf8 bytes × (length bytes < 2 ^ 64)
+IsSpoken (speaks side bytes) = IsUtf8 bytes
 IsSpoken (shows number uri text) = Unit {0}
 
 abbrev pub IsShort : ℕ → Due → Type 0
@@ -89,7 +117,7 @@ IsShort n (shows number uri text) = Unit {0}
 due_short : (most n : ℕ) (d : Due) → 1 ≤ most → IsSpoken d
     → length (flat_map spelling (due_records most d)) ≤ n → IsShort n d
 due_short most n (speaks side bytes) full spoken fits =
-    let utf8 : IsUtf8 (canonical bytes) = utf8_canonical bytes spoken.0 spoken.1 in (
+    let utf8 : IsUtf8 (canonical bytes) = utf8_canonical bytes spoken in (
       utf8,
       (let le : length bytes ≤ n = omega (arith, content_long most side bytes full utf8, fits) in le),
     )
