@@ -13,10 +13,11 @@ use Rattle.lsp_session.specs.Sent.{Sent}
 use Rattle.lsp_types.specs.declared.side.Side.{Side}
 use Rattle.lsp_verdict.specs.Event.{Event, fault, message, snapshot}
 use Rattle.lsp_verdict.specs.Placed.{IsSent, Raw, Reads, broken, content, show}
+use Rattle.lsp_redact.specs.Characters.{shown_text}
 use Rattle.lsp_redact.specs.Kept as kept
 use Rattle.lsp_redact.specs.Kept.{Kept, awaits, head_of, kept_of}
 use Rattle.lsp_redact.specs.Messages.{content_of}
-use Rattle.lsp_redact.specs.Names.{Names, act_names, head_names, joined, names_of, shown_id}
+use Rattle.lsp_redact.specs.Names.{Names, act_names, head_names, joined, names_of, shown_id, shown_uri}
 use Rattle.lsp_redact.specs.Records.{records_of}
 use Rattle.lsp_redact.specs.Shown.{shown_act, shown_head, shown_kept}
 use Rattle.lsp_redact.proofs.GoodShown.{act_good, head_good, message_small}
@@ -113,4 +114,5 @@ module _ (names : Names) (few : AreFew names) (apart : Option ℕ) where
   reads_shown before (fault side rule) raw k is among reads = absurd cc
   reads_shown before (snapshot uri number text) raw k is among reads =
       subst IsReadBack (same_kept (kept.snapshot uri number text) k is)
-      (ap (snapshot _ number) (sym (chars-encodes _ (scalars-shown_text apart text))))
+      (ap (λ (t : List ℕ). snapshot (shown_uri names uri) number t)
+      (sym (chars-encodes (shown_text apart text) (scalars-shown_text apart text))))

@@ -160,7 +160,7 @@ module _ (names : Names) (few : AreFew names) where
   abbrev AmongEncodings : List Text → Type 0
   AmongEncodings xs = AllByRecursion (λ (x : Text). is_among x names.encodings ≡ true) xs
 
-  uri_good : (uri : Text) → is_among uri names.uris ≡ true → IsUtf8 (shown_uri names uri)
+  pub uri_good : (uri : Text) → is_among uri names.uris ≡ true → IsUtf8 (shown_uri names uri)
   uri_good uri among =
       ascii (codes "file:///") (IsUtf8-are_ascii (codes "file:///") refl) names.uris uri few.uris among
 

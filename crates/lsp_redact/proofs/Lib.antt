@@ -32,3 +32,4 @@ pub mod ShownOffences
 pub mod WrittenVerdicts
 pub mod ReadSessions
 pub mod SummaryNames
+pub mod ShownSnapshots
