@@ -33,3 +33,4 @@ pub mod WrittenVerdicts
 pub mod ReadSessions
 pub mod SummaryNames
 pub mod ShownSnapshots
+pub mod RedactedLogs
