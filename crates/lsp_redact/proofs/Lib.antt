@@ -34,3 +34,4 @@ pub mod ReadSessions
 pub mod SummaryNames
 pub mod ShownSnapshots
 pub mod RedactedLogs
+pub mod RedactedVerdicts

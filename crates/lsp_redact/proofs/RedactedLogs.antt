@@ -201,14 +201,14 @@ module _ (limits : Bounds) (sizes : IsInRange limits) (names : Names) (few : Are
           → apart ≡ apart_at (terms_of limits format) es e rule
           → no_at (terms_of limits format) es e ≡ Some v → IsWrittenOf (kept_in es ++ k ∷ [])
           → IsVerdict limits out v
-      no_redacted e raw k rule v is own read fits offends apart_is no is_written =
+      no_redacted e raw k rule v is own read fits offends apart_is breaks is_written =
           let ks : List Kept = kept_in es ++ k ∷ [] in
           let all : AreRead ks =
           read_on (kept_in es) k are_read (reads_shown names few apart es e raw k is own read) in
           let fit : AreFit ks = fit_on (kept_in es) k are_fit (fit_one es e raw k is own fits read) in
           let at : no_at (terms_of limits format) (us (kept_in es)) (read_of k) ≡ Some v =
           no_shown names few apart (terms_of limits format) es e rule offends apart_is k sound among is
-          own ∙ no in
+          own ∙ breaks in
           let first : first_no (terms_of limits format) (us ks) ≡ Some v =
           ap (first_no (terms_of limits format)) (map-append read_of (kept_in es) (k ∷ []))
           ∙ first_of-append (no_at (terms_of limits format)) (us (kept_in es)) (read_of k ∷ [])
