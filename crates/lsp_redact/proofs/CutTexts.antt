@@ -59,9 +59,11 @@ one_on text front rest cs c later h is =
 -- those that an iterator gives go on
 gone_on : (text front cs xs : List ℕ) (s t : Chars) → IsInTwo text front (chars_rest s) cs
     → Yields chars_steps s xs t → (more : List ℕ) × IsInTwo text more (chars_rest t) (cs ++ xs)
-gone_on text front cs [] s t h y =
-    (front, subst (λ (u : Chars). IsInTwo text front (chars_rest u) (cs ++ [])) y
-    (subst (IsInTwo text front (chars_rest s)) (sym (append-nil cs)) h))
+gone_on text front cs [] s t h y = (
+  front,
+  subst (λ (u : Chars). IsInTwo text front (chars_rest u) (cs ++ [])) y
+      (subst (IsInTwo text front (chars_rest s)) (sym (append-nil cs)) h),
+)
 gone_on text front cs (x ∷ xs) s t h y =
     let one = one_on text front (chars_rest s) cs x (chars_rest y.0) h y.1.0 in
     let rest = gone_on text (front ++ encode x) (cs ++ x ∷ []) xs y.0 t one y.2 in

@@ -130,21 +130,49 @@ ascii front utf8 names x few among =
 methods_utf8 : AllByRecursion IsUtf8 known_methods
 methods_utf8 = (
   IsUtf8-are_ascii (codes "initialize") refl,
-  (IsUtf8-are_ascii (codes "shutdown") refl,
-      (IsUtf8-are_ascii (codes "initialized") refl,
-      (IsUtf8-are_ascii (codes "exit") refl,
-      (IsUtf8-are_ascii (codes "textDocument/didOpen") refl,
-      (IsUtf8-are_ascii (codes "textDocument/didChange") refl,
-      (IsUtf8-are_ascii (codes "textDocument/didClose") refl,
-      (IsUtf8-are_ascii (codes "textDocument/didSave") refl,
-      (IsUtf8-are_ascii (codes "$/cancelRequest") refl,
-      (IsUtf8-are_ascii (codes "window/showMessageRequest") refl,
-      (IsUtf8-are_ascii (codes "client/registerCapability") refl,
-      (IsUtf8-are_ascii (codes "$/cancelRequest") refl,
-      (IsUtf8-are_ascii (codes "$/progress") refl,
-      (IsUtf8-are_ascii (codes "window/showMessage") refl,
-      (IsUtf8-are_ascii (codes "window/logMessage") refl,
-      (IsUtf8-are_ascii (codes "telemetry/event") refl, tt))))))))))))))),
+  (
+    IsUtf8-are_ascii (codes "shutdown") refl,
+    (
+      IsUtf8-are_ascii (codes "initialized") refl,
+      (
+        IsUtf8-are_ascii (codes "exit") refl,
+        (
+          IsUtf8-are_ascii (codes "textDocument/didOpen") refl,
+          (
+            IsUtf8-are_ascii (codes "textDocument/didChange") refl,
+            (
+              IsUtf8-are_ascii (codes "textDocument/didClose") refl,
+              (
+                IsUtf8-are_ascii (codes "textDocument/didSave") refl,
+                (
+                  IsUtf8-are_ascii (codes "$/cancelRequest") refl,
+                  (
+                    IsUtf8-are_ascii (codes "window/showMessageRequest") refl,
+                    (
+                      IsUtf8-are_ascii (codes "client/registerCapability") refl,
+                      (
+                        IsUtf8-are_ascii (codes "$/cancelRequest") refl,
+                        (
+                          IsUtf8-are_ascii (codes "$/progress") refl,
+                          (
+                            IsUtf8-are_ascii (codes "window/showMessage") refl,
+                            (
+                              IsUtf8-are_ascii (codes "window/logMessage") refl,
+                              (IsUtf8-are_ascii (codes "telemetry/event") refl, tt),
+                            ),
+                          ),
+                        ),
+                      ),
+                    ),
+                  ),
+                ),
+              ),
+            ),
+          ),
+        ),
+      ),
+    ),
+  ),
 )
 
 encodings_utf8 : AllByRecursion IsUtf8 known_encodings

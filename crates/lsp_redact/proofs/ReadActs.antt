@@ -342,19 +342,35 @@ module _ (names : Names) (apart : Option ℕ) where
     notifications_kept : (side : Side) → AllByRecursion (IsKeptRow method) (notifications side)
     notifications_kept Editor = (
       row_kept _ refl (λ rest. refl) (plain_read initialized tt refl),
-      (row_kept _ refl (λ rest. refl) (plain_read exit tt refl),
-          (row_kept _ refl (λ rest. refl) did_open_read,
-          (row_kept _ refl (λ rest. refl) did_change_read,
-          (row_kept _ refl (λ rest. refl) did_close_read,
-          (row_kept _ refl (λ rest. refl) did_save_read,
-          (row_kept _ refl (λ rest. refl) cancel_read, tt)))))),
+      (
+        row_kept _ refl (λ rest. refl) (plain_read exit tt refl),
+        (
+          row_kept _ refl (λ rest. refl) did_open_read,
+          (
+            row_kept _ refl (λ rest. refl) did_change_read,
+            (
+              row_kept _ refl (λ rest. refl) did_close_read,
+              (
+                row_kept _ refl (λ rest. refl) did_save_read,
+                (row_kept _ refl (λ rest. refl) cancel_read, tt),
+              ),
+            ),
+          ),
+        ),
+      ),
     )
     notifications_kept Server = (
       row_kept _ refl (λ rest. refl) cancel_read,
-      (row_kept _ refl (λ rest. refl) progress_read,
-          (row_kept _ refl (λ rest. refl) (plain_read early tt refl),
-          (row_kept _ refl (λ rest. refl) (plain_read early tt refl),
-          (row_kept _ refl (λ rest. refl) (plain_read early tt refl), tt)))),
+      (
+        row_kept _ refl (λ rest. refl) progress_read,
+        (
+          row_kept _ refl (λ rest. refl) (plain_read early tt refl),
+          (
+            row_kept _ refl (λ rest. refl) (plain_read early tt refl),
+            (row_kept _ refl (λ rest. refl) (plain_read early tt refl), tt),
+          ),
+        ),
+      ),
     )
 
     -- the row of a method decides, and it is the same one

@@ -132,27 +132,51 @@ call_writable : (id : Option Ident) (method : Text) (params : Option Members) �
     → IsUtf8 method → AreGoodMembers params → IsWritable (called id method params)
 call_writable None method None good name ms = (
   refl,
-  (IsUtf8-are_ascii (codes "jsonrpc") refl, version_writable,
-      (IsUtf8-are_ascii (codes "method") refl, name, tt)),
+  (
+    IsUtf8-are_ascii (codes "jsonrpc") refl,
+    version_writable,
+    (IsUtf8-are_ascii (codes "method") refl, name, tt),
+  ),
 )
 call_writable None method (Some own) good name ms = (
   refl,
-  (IsUtf8-are_ascii (codes "jsonrpc") refl, version_writable,
-      (IsUtf8-are_ascii (codes "method") refl, name,
-      (IsUtf8-are_ascii (codes "params") refl, ms.0, tt))),
+  (
+    IsUtf8-are_ascii (codes "jsonrpc") refl,
+    version_writable,
+    (
+      IsUtf8-are_ascii (codes "method") refl,
+      name,
+      (IsUtf8-are_ascii (codes "params") refl, ms.0, tt),
+    ),
+  ),
 )
 call_writable (Some id) method None good name ms = (
   refl,
-  (IsUtf8-are_ascii (codes "id") refl, id_writable id good,
-      (IsUtf8-are_ascii (codes "jsonrpc") refl, version_writable,
-      (IsUtf8-are_ascii (codes "method") refl, name, tt))),
+  (
+    IsUtf8-are_ascii (codes "id") refl,
+    id_writable id good,
+    (
+      IsUtf8-are_ascii (codes "jsonrpc") refl,
+      version_writable,
+      (IsUtf8-are_ascii (codes "method") refl, name, tt),
+    ),
+  ),
 )
 call_writable (Some id) method (Some own) good name ms = (
   refl,
-  (IsUtf8-are_ascii (codes "id") refl, id_writable id good,
-      (IsUtf8-are_ascii (codes "jsonrpc") refl, version_writable,
-      (IsUtf8-are_ascii (codes "method") refl, name,
-      (IsUtf8-are_ascii (codes "params") refl, ms.0, tt)))),
+  (
+    IsUtf8-are_ascii (codes "id") refl,
+    id_writable id good,
+    (
+      IsUtf8-are_ascii (codes "jsonrpc") refl,
+      version_writable,
+      (
+        IsUtf8-are_ascii (codes "method") refl,
+        name,
+        (IsUtf8-are_ascii (codes "params") refl, ms.0, tt),
+      ),
+    ),
+  ),
 )
 
 call_depth : (id : Option Ident) (method : Text) (params : Option Members) → AreGoodMembers params
@@ -217,17 +241,28 @@ kind_small Incremental = omega arith
 picked_writable : (picked : Picked) → IsUtf8 picked.encoding → IsWritable (picked_data picked)
 picked_writable picked name = (
   refl,
-  (IsUtf8-are_ascii (codes "capabilities") refl,
-      (refl, (IsUtf8-are_ascii (codes "positionEncoding") refl, name,
-      (IsUtf8-are_ascii (codes "textDocumentSync") refl, kind_small picked.kind, tt))),
-      tt),
+  (
+    IsUtf8-are_ascii (codes "capabilities") refl,
+    (
+      refl,
+      (
+        IsUtf8-are_ascii (codes "positionEncoding") refl,
+        name,
+        (IsUtf8-are_ascii (codes "textDocumentSync") refl, kind_small picked.kind, tt),
+      ),
+    ),
+    tt,
+  ),
 )
 
 error_writable : (code : ℤ) → IsSmall code → IsWritable (error_data code)
 error_writable code fits = (
   refl,
-  (IsUtf8-are_ascii (codes "code") refl, integer_writable code fits,
-      (IsUtf8-are_ascii (codes "message") refl, IsUtf8-nil, tt)),
+  (
+    IsUtf8-are_ascii (codes "code") refl,
+    integer_writable code fits,
+    (IsUtf8-are_ascii (codes "message") refl, IsUtf8-nil, tt),
+  ),
 )
 
 answered_writable : (id : Option Ident) → IsGoodIdIf id → IsWritable (answered_data id)
@@ -245,21 +280,39 @@ response_writable : (id : Option Ident) (reply : Reply) → IsGoodIdIf id → Is
     → IsWritable (answered id reply)
 response_writable id (picks picked) good fits = (
   refl,
-  (IsUtf8-are_ascii (codes "id") refl, answered_writable id good,
-      (IsUtf8-are_ascii (codes "jsonrpc") refl, version_writable,
-      (IsUtf8-are_ascii (codes "result") refl, picked_writable picked fits, tt))),
+  (
+    IsUtf8-are_ascii (codes "id") refl,
+    answered_writable id good,
+    (
+      IsUtf8-are_ascii (codes "jsonrpc") refl,
+      version_writable,
+      (IsUtf8-are_ascii (codes "result") refl, picked_writable picked fits, tt),
+    ),
+  ),
 )
 response_writable id nothing good fits = (
   refl,
-  (IsUtf8-are_ascii (codes "id") refl, answered_writable id good,
-      (IsUtf8-are_ascii (codes "jsonrpc") refl, version_writable,
-      (IsUtf8-are_ascii (codes "result") refl, tt, tt))),
+  (
+    IsUtf8-are_ascii (codes "id") refl,
+    answered_writable id good,
+    (
+      IsUtf8-are_ascii (codes "jsonrpc") refl,
+      version_writable,
+      (IsUtf8-are_ascii (codes "result") refl, tt, tt),
+    ),
+  ),
 )
 response_writable id (failed code) good fits = (
   refl,
-  (IsUtf8-are_ascii (codes "error") refl, error_writable code fits,
-      (IsUtf8-are_ascii (codes "id") refl, answered_writable id good,
-      (IsUtf8-are_ascii (codes "jsonrpc") refl, version_writable, tt))),
+  (
+    IsUtf8-are_ascii (codes "error") refl,
+    error_writable code fits,
+    (
+      IsUtf8-are_ascii (codes "id") refl,
+      answered_writable id good,
+      (IsUtf8-are_ascii (codes "jsonrpc") refl, version_writable, tt),
+    ),
+  ),
 )
 
 response_depth : (id : Option Ident) (reply : Reply) → depth (answered id reply) ≤ max_depth

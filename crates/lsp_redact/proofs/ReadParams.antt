@@ -93,15 +93,21 @@ change_back c h = change_by_parts c.span c.range_length c.text h.0 h.1
 position_writable : (p : Position) → IsGoodPosition p → IsWritable (position_data p)
 position_writable p h = (
   refl,
-  (IsUtf8-are_ascii (codes "character") refl, omega (arith, h.1),
-      (IsUtf8-are_ascii (codes "line") refl, omega (arith, h.0), tt)),
+  (
+    IsUtf8-are_ascii (codes "character") refl,
+    omega (arith, h.1),
+    (IsUtf8-are_ascii (codes "line") refl, omega (arith, h.0), tt),
+  ),
 )
 
 span_writable : (s : Span) → IsGoodSpan s → IsWritable (span_data s)
 span_writable s h = (
   refl,
-  (IsUtf8-are_ascii (codes "end") refl, position_writable s.second h.1,
-      (IsUtf8-are_ascii (codes "start") refl, position_writable s.first h.0, tt)),
+  (
+    IsUtf8-are_ascii (codes "end") refl,
+    position_writable s.second h.1,
+    (IsUtf8-are_ascii (codes "start") refl, position_writable s.first h.0, tt),
+  ),
 )
 
 change_writable_by : (span : Option Span) (length : Option ℤ) (text : Text) → IsGoodSpanIf span
@@ -110,19 +116,31 @@ change_writable_by : (span : Option Span) (length : Option ℤ) (text : Text) �
 change_writable_by None None text s l t = (refl, (IsUtf8-are_ascii (codes "text") refl, t, tt))
 change_writable_by None (Some z) text s l t = (
   refl,
-  (IsUtf8-are_ascii (codes "rangeLength") refl, integer_writable z l,
-      (IsUtf8-are_ascii (codes "text") refl, t, tt)),
+  (
+    IsUtf8-are_ascii (codes "rangeLength") refl,
+    integer_writable z l,
+    (IsUtf8-are_ascii (codes "text") refl, t, tt),
+  ),
 )
 change_writable_by (Some span) None text s l t = (
   refl,
-  (IsUtf8-are_ascii (codes "range") refl, span_writable span s,
-      (IsUtf8-are_ascii (codes "text") refl, t, tt)),
+  (
+    IsUtf8-are_ascii (codes "range") refl,
+    span_writable span s,
+    (IsUtf8-are_ascii (codes "text") refl, t, tt),
+  ),
 )
 change_writable_by (Some span) (Some z) text s l t = (
   refl,
-  (IsUtf8-are_ascii (codes "range") refl, span_writable span s,
-      (IsUtf8-are_ascii (codes "rangeLength") refl, integer_writable z l,
-      (IsUtf8-are_ascii (codes "text") refl, t, tt))),
+  (
+    IsUtf8-are_ascii (codes "range") refl,
+    span_writable span s,
+    (
+      IsUtf8-are_ascii (codes "rangeLength") refl,
+      integer_writable z l,
+      (IsUtf8-are_ascii (codes "text") refl, t, tt),
+    ),
+  ),
 )
 
 change_writable : (c : Change) → IsGoodChange c → IsWritable (change_data c)
@@ -235,23 +253,55 @@ offer_writable None None ts id = (
 )
 offer_writable None (Some token) ts id = (
   refl,
-  (IsUtf8-are_ascii (codes "capabilities") refl, (refl, tt),
-      (IsUtf8-are_ascii (codes "workDoneToken") refl, id_writable token id, tt)),
+  (
+    IsUtf8-are_ascii (codes "capabilities") refl,
+    (refl, tt),
+    (IsUtf8-are_ascii (codes "workDoneToken") refl, id_writable token id, tt),
+  ),
 )
 offer_writable (Some names) None ts id = (
   refl,
-  (IsUtf8-are_ascii (codes "capabilities") refl,
-      (refl, (IsUtf8-are_ascii (codes "general") refl,
-      (refl, (IsUtf8-are_ascii (codes "positionEncodings") refl,
-      items_writable text_data IsUtf8 (λ t good. good) names ts, tt)), tt)), tt),
+  (
+    IsUtf8-are_ascii (codes "capabilities") refl,
+    (
+      refl,
+      (
+        IsUtf8-are_ascii (codes "general") refl,
+        (
+          refl,
+          (
+            IsUtf8-are_ascii (codes "positionEncodings") refl,
+            items_writable text_data IsUtf8 (λ t good. good) names ts,
+            tt,
+          ),
+        ),
+        tt,
+      ),
+    ),
+    tt,
+  ),
 )
 offer_writable (Some names) (Some token) ts id = (
   refl,
-  (IsUtf8-are_ascii (codes "capabilities") refl,
-      (refl, (IsUtf8-are_ascii (codes "general") refl,
-      (refl, (IsUtf8-are_ascii (codes "positionEncodings") refl,
-      items_writable text_data IsUtf8 (λ t good. good) names ts, tt)), tt)),
-      (IsUtf8-are_ascii (codes "workDoneToken") refl, id_writable token id, tt)),
+  (
+    IsUtf8-are_ascii (codes "capabilities") refl,
+    (
+      refl,
+      (
+        IsUtf8-are_ascii (codes "general") refl,
+        (
+          refl,
+          (
+            IsUtf8-are_ascii (codes "positionEncodings") refl,
+            items_writable text_data IsUtf8 (λ t good. good) names ts,
+            tt,
+          ),
+        ),
+        tt,
+      ),
+    ),
+    (IsUtf8-are_ascii (codes "workDoneToken") refl, id_writable token id, tt),
+  ),
 )
 
 offer_low : (encodings : Option (List Text)) (token : Option Ident)
@@ -285,20 +335,49 @@ params_good exit h = tt
 params_good (did_open uri version text) h = (
   _,
   refl,
-  (refl, (IsUtf8-are_ascii (codes "textDocument") refl,
-      (refl, (IsUtf8-are_ascii (codes "text") refl, h.2,
-      (IsUtf8-are_ascii (codes "uri") refl, h.0,
-      (IsUtf8-are_ascii (codes "version") refl, integer_writable version h.1, tt)))), tt)),
+  (
+    refl,
+    (
+      IsUtf8-are_ascii (codes "textDocument") refl,
+      (
+        refl,
+        (
+          IsUtf8-are_ascii (codes "text") refl,
+          h.2,
+          (
+            IsUtf8-are_ascii (codes "uri") refl,
+            h.0,
+            (IsUtf8-are_ascii (codes "version") refl, integer_writable version h.1, tt),
+          ),
+        ),
+      ),
+      tt,
+    ),
+  ),
   (let flat : depth (integer version) ≡ 0 = integer_flat version in omega arith),
 )
 params_good (did_change uri version changes) h = (
   _,
   refl,
-  (refl, (IsUtf8-are_ascii (codes "contentChanges") refl,
+  (
+    refl,
+    (
+      IsUtf8-are_ascii (codes "contentChanges") refl,
       items_writable change_data IsGoodChange change_writable changes h.2,
-      (IsUtf8-are_ascii (codes "textDocument") refl,
-      (refl, (IsUtf8-are_ascii (codes "uri") refl, h.0,
-      (IsUtf8-are_ascii (codes "version") refl, integer_writable version h.1, tt))), tt))),
+      (
+        IsUtf8-are_ascii (codes "textDocument") refl,
+        (
+          refl,
+          (
+            IsUtf8-are_ascii (codes "uri") refl,
+            h.0,
+            (IsUtf8-are_ascii (codes "version") refl, integer_writable version h.1, tt),
+          ),
+        ),
+        tt,
+      ),
+    ),
+  ),
   (let flat : depth (integer version) ≡ 0 = integer_flat version in
       let low : items_depth (items_of (map change_data changes)) ≤ 3 =
       items_low change_data IsGoodChange 3 change_low changes in
@@ -307,23 +386,44 @@ params_good (did_change uri version changes) h = (
 params_good (did_close uri) h = (
   _,
   refl,
-  (refl, (IsUtf8-are_ascii (codes "textDocument") refl,
-      (refl, (IsUtf8-are_ascii (codes "uri") refl, h, tt)), tt)),
+  (
+    refl,
+    (
+      IsUtf8-are_ascii (codes "textDocument") refl,
+      (refl, (IsUtf8-are_ascii (codes "uri") refl, h, tt)),
+      tt,
+    ),
+  ),
   omega arith,
 )
 params_good (did_save uri None) h = (
   _,
   refl,
-  (refl, (IsUtf8-are_ascii (codes "textDocument") refl,
-      (refl, (IsUtf8-are_ascii (codes "uri") refl, h.0, tt)), tt)),
+  (
+    refl,
+    (
+      IsUtf8-are_ascii (codes "textDocument") refl,
+      (refl, (IsUtf8-are_ascii (codes "uri") refl, h.0, tt)),
+      tt,
+    ),
+  ),
   omega arith,
 )
 params_good (did_save uri (Some text)) h = (
   _,
   refl,
-  (refl, (IsUtf8-are_ascii (codes "text") refl, h.1,
-      (IsUtf8-are_ascii (codes "textDocument") refl,
-      (refl, (IsUtf8-are_ascii (codes "uri") refl, h.0, tt)), tt))),
+  (
+    refl,
+    (
+      IsUtf8-are_ascii (codes "text") refl,
+      h.1,
+      (
+        IsUtf8-are_ascii (codes "textDocument") refl,
+        (refl, (IsUtf8-are_ascii (codes "uri") refl, h.0, tt)),
+        tt,
+      ),
+    ),
+  ),
   omega arith,
 )
 params_good (cancel id) h = (
@@ -342,8 +442,14 @@ params_good early h = tt
 params_good (register methods) h = (
   _,
   refl,
-  (refl, (IsUtf8-are_ascii (codes "registrations") refl,
-      items_writable registration_data IsUtf8 registration_writable methods h, tt)),
+  (
+    refl,
+    (
+      IsUtf8-are_ascii (codes "registrations") refl,
+      items_writable registration_data IsUtf8 registration_writable methods h,
+      tt,
+    ),
+  ),
   (let low : items_depth (items_of (map registration_data methods)) ≤ 1 =
       items_low registration_data IsUtf8 1 (λ t. omega arith) methods in
       omega arith),

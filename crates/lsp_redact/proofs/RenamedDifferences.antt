@@ -228,30 +228,30 @@ module _ (n : Bytes → Bytes) (r : ℕ → ℕ) (names : KeepsNames n) (texts :
       elim (show_breaks ends number t vs (Some v) rule e) [
         | inl late ↦ absurd (not_by 701 refl late)
         | inr found ↦ (
-          let s : Version = versioned number t in
-          let other : IsOther ends (map r found.1) (map r t) =
-          differ (two_texts found.1 t) (ap (recorded t) found.2) in
-          let any : list_any (λ w. differs ends w (shown s)) (map shown (vs ++ v ∷ [])) ≡ true =
-          found_still s (vs ++ v ∷ []) found.1 found.2 other in
-          let rows : (list_any (λ w. differs ends w (shown s)) (map shown vs)
-          || differs ends (shown v) (shown s)) ≡ true =
-          ap (λ (b : Bool). list_any (λ w. differs ends w (shown s)) (map shown vs) || b)
-          (sym (or-false (differs ends (shown v) (shown s))))
-          ∙ sym (list_any-append (λ w. differs ends w (shown s)) (map shown vs) (shown v ∷ []))
-          ∙ ap (list_any (λ w. differs ends w (shown s))) (sym (map-append shown vs (v ∷ [])))
-          ∙ any in
-          let first = row_left (list_all (is_after number) vs && int_lt number v.number) rule 701 _
-          (not_by 701 refl) e in
-          ap (λ (b : Bool). cond (b && int_lt number v.number) (Some rules.LATE_SNAPSHOT)
-          (cond (list_any (λ w. differs ends w (shown s)) (map shown vs)
-          || differs ends (shown v) (shown s)) (Some rules.SNAPSHOT_DIFFERS) None))
-          (all_after-by n r names texts number vs)
-          ∙ ap (λ (b : Bool). cond b (Some rules.LATE_SNAPSHOT)
-          (cond (list_any (λ w. differs ends w (shown s)) (map shown vs)
-          || differs ends (shown v) (shown s)) (Some rules.SNAPSHOT_DIFFERS) None)) first.0
-          ∙ ap (λ (b : Bool). cond b (Some rules.SNAPSHOT_DIFFERS) None) rows
-          ∙ some_number 702 rule (sym found.0)
-        )
+            let s : Version = versioned number t in
+            let other : IsOther ends (map r found.1) (map r t) =
+            differ (two_texts found.1 t) (ap (recorded t) found.2) in
+            let any : list_any (λ w. differs ends w (shown s)) (map shown (vs ++ v ∷ [])) ≡ true =
+            found_still s (vs ++ v ∷ []) found.1 found.2 other in
+            let rows : (list_any (λ w. differs ends w (shown s)) (map shown vs)
+            || differs ends (shown v) (shown s)) ≡ true =
+            ap (λ (b : Bool). list_any (λ w. differs ends w (shown s)) (map shown vs) || b)
+            (sym (or-false (differs ends (shown v) (shown s))))
+            ∙ sym (list_any-append (λ w. differs ends w (shown s)) (map shown vs) (shown v ∷ []))
+            ∙ ap (list_any (λ w. differs ends w (shown s))) (sym (map-append shown vs (v ∷ [])))
+            ∙ any in
+            let first = row_left (list_all (is_after number) vs && int_lt number v.number) rule 701 _
+            (not_by 701 refl) e in
+            ap (λ (b : Bool). cond (b && int_lt number v.number) (Some rules.LATE_SNAPSHOT)
+            (cond (list_any (λ w. differs ends w (shown s)) (map shown vs)
+            || differs ends (shown v) (shown s)) (Some rules.SNAPSHOT_DIFFERS) None))
+            (all_after-by n r names texts number vs)
+            ∙ ap (λ (b : Bool). cond b (Some rules.LATE_SNAPSHOT)
+            (cond (list_any (λ w. differs ends w (shown s)) (map shown vs)
+            || differs ends (shown v) (shown s)) (Some rules.SNAPSHOT_DIFFERS) None)) first.0
+            ∙ ap (λ (b : Bool). cond b (Some rules.SNAPSHOT_DIFFERS) None) rows
+            ∙ some_number 702 rule (sym found.0)
+            )
       ]
 
 module _ (n : Bytes → Bytes) (r : ℕ → ℕ) (names : KeepsNames n) (texts : KeepsTexts r)

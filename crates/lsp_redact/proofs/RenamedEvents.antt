@@ -120,43 +120,95 @@ module _ (u : Bytes → Bytes) (i : Ident → Ident) (m e t : Text → Text) (id
 
   kind-by : (x : Act) → IsOfKind x
   kind-by (initialize offer) = record {
-    initializes = refl; initializeds = refl; shutdowns = refl; exits = refl; earlies = refl;
+    initializes = refl;
+    initializeds = refl;
+    shutdowns = refl;
+    exits = refl;
+    earlies = refl;
   }
   kind-by initialized = record {
-    initializes = refl; initializeds = refl; shutdowns = refl; exits = refl; earlies = refl;
+    initializes = refl;
+    initializeds = refl;
+    shutdowns = refl;
+    exits = refl;
+    earlies = refl;
   }
   kind-by shutdown = record {
-    initializes = refl; initializeds = refl; shutdowns = refl; exits = refl; earlies = refl;
+    initializes = refl;
+    initializeds = refl;
+    shutdowns = refl;
+    exits = refl;
+    earlies = refl;
   }
   kind-by exit = record {
-    initializes = refl; initializeds = refl; shutdowns = refl; exits = refl; earlies = refl;
+    initializes = refl;
+    initializeds = refl;
+    shutdowns = refl;
+    exits = refl;
+    earlies = refl;
   }
   kind-by (did_open uri number text) = record {
-    initializes = refl; initializeds = refl; shutdowns = refl; exits = refl; earlies = refl;
+    initializes = refl;
+    initializeds = refl;
+    shutdowns = refl;
+    exits = refl;
+    earlies = refl;
   }
   kind-by (did_change uri number cs) = record {
-    initializes = refl; initializeds = refl; shutdowns = refl; exits = refl; earlies = refl;
+    initializes = refl;
+    initializeds = refl;
+    shutdowns = refl;
+    exits = refl;
+    earlies = refl;
   }
   kind-by (did_close uri) = record {
-    initializes = refl; initializeds = refl; shutdowns = refl; exits = refl; earlies = refl;
+    initializes = refl;
+    initializeds = refl;
+    shutdowns = refl;
+    exits = refl;
+    earlies = refl;
   }
   kind-by (did_save uri text) = record {
-    initializes = refl; initializeds = refl; shutdowns = refl; exits = refl; earlies = refl;
+    initializes = refl;
+    initializeds = refl;
+    shutdowns = refl;
+    exits = refl;
+    earlies = refl;
   }
   kind-by (cancel id) = record {
-    initializes = refl; initializeds = refl; shutdowns = refl; exits = refl; earlies = refl;
+    initializes = refl;
+    initializeds = refl;
+    shutdowns = refl;
+    exits = refl;
+    earlies = refl;
   }
   kind-by (progress token) = record {
-    initializes = refl; initializeds = refl; shutdowns = refl; exits = refl; earlies = refl;
+    initializes = refl;
+    initializeds = refl;
+    shutdowns = refl;
+    exits = refl;
+    earlies = refl;
   }
   kind-by early = record {
-    initializes = refl; initializeds = refl; shutdowns = refl; exits = refl; earlies = refl;
+    initializes = refl;
+    initializeds = refl;
+    shutdowns = refl;
+    exits = refl;
+    earlies = refl;
   }
   kind-by (register names) = record {
-    initializes = refl; initializeds = refl; shutdowns = refl; exits = refl; earlies = refl;
+    initializes = refl;
+    initializeds = refl;
+    shutdowns = refl;
+    exits = refl;
+    earlies = refl;
   }
   kind-by other = record {
-    initializes = refl; initializeds = refl; shutdowns = refl; exits = refl; earlies = refl;
+    initializes = refl;
+    initializeds = refl;
+    shutdowns = refl;
+    exits = refl;
+    earlies = refl;
   }
 
   has_token-by : (own : Option Ident) (token : Ident)

@@ -228,6 +228,6 @@ module _ (names : Names) (few : AreFew names) (apart : Option ℕ) where
       sym (λ i. record (summary terms es) {
         documents = documents_shown terms (calls es) (calls_among [] es sound among) i;
         requests = (map-append (shown_request names) (open_of Editor es) (open_of Server es)
-        ∙ (λ j. editor j ++ server j)
-        ∙ sym (map-append request_to (open_of Editor es) (open_of Server es))) i;
+            ∙ (λ j. editor j ++ server j)
+            ∙ sym (map-append request_to (open_of Editor es) (open_of Server es))) i;
       })
